@@ -1,0 +1,8 @@
+//! The command line of `bp`, over any world and any output.
+#![tactic(auto)]
+
+mod commands;
+mod status;
+
+pub use commands::command;
+pub use status::Status;

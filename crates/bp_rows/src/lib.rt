@@ -1,0 +1,9 @@
+//! Tests that cross crates: commands over a world in memory, with what each must print.
+#![tactic(auto)]
+
+#[cfg(test)]
+mod straight;
+#[cfg(test)]
+mod words;
+#[cfg(test)]
+mod world;
