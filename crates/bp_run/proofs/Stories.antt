@@ -1,6 +1,7 @@
 -- What holds of every story.
 use Rattle.std.proofs.Common.{◌≡◌, ℕ, zero, suc, ◌+◌, ◌<◌, ◌≤◌, Bool, true, false, not, ◌&&◌, ◌==◌, nat_eq, nat_lt, List, [], ◌∷◌, ◌++◌, length, refl, sym, ap, ◌∙◌, append_assoc, append-nil, Option, Some, None, Result, Ok, Err, if◌then◌else◌, option_and_then, bytes_eq, arith, option_map}
 use Rattle.std.specs.List.{list_any}
+use Rattle.std.proofs.lemmas.Grind.{flat_map-append}
 use Rattle.std.proofs.lemmas.Bool.{eqb-true, eq-eqb}
 use Rattle.std.proofs.lemmas.Slice.Eq.{bytes_eq-Decides}
 use Rattle.js_data.specs.Event.{PlainEvent}
@@ -22,6 +23,7 @@ use Rattle.bp_run.specs.Settling.Entry.{The_top}
 use Rattle.bp_run.specs.Choosing.{Choice, choice, reach}
 use Rattle.bp_run.specs.Story.{Next, next, next_unless, next_choice, next_chosen, next_idle, step, move, may_come, is_over, if_selected, if_ended, over_with, line_of_choice, after_record, story_from, story, is_complete, alone_from, alone, weight_after}
 use Rattle.bp_run.specs.Story.Next.{Ends, Selects, Waits}
+use Rattle.bp_run.specs.Text.{whole_line, lines_text, text}
 use Rattle.bp_run.proofs.Growing.{Grown, grown_settle}
 
 pub and_then_if : {A B : Type 0} (b : Bool) (g : A → Option B) (x : A) (d : B) → option_and_then g (if b then Some x else None) ≡ Some d → (b ≡ true) × (g x ≡ Some d)
@@ -280,3 +282,39 @@ story_prefix l o (r ∷ rs) qs c d h =
     let b = bound (story_from l o (rs ++ qs)) (after_record l o c r (rs ++ qs)) d h in
     let s = story_prefix l o rs qs b.0 d b.2 in
     (s.0, ap (λ (x : Option (Configuration _)). option_and_then (story_from l o rs) x) (after_less l o c b.0 r rs qs b.1) ∙ s.1, s.2, s.3)
+
+follows_not : {O S : Type 0} (l : Code O S) (o : PlainOptions) (rs qs : List Record) (v : Verdict) (r : Record) (x : Option (Configuration O)) →
+    ((c : Configuration O) → story_from l o (rs ++ End v ∷ r ∷ qs) c ≡ None) → option_and_then (story_from l o (rs ++ End v ∷ r ∷ qs)) x ≡ None
+follows_not l o rs qs v r None h = refl
+follows_not l o rs qs v r (Some c) h = h c
+
+-- nothing follows the record of the end
+pub nothing_after : {O S : Type 0} (l : Code O S) (o : PlainOptions) (rs qs : List Record) (v : Verdict) (r : Record) (c : Configuration O) →
+    story_from l o (rs ++ End v ∷ r ∷ qs) c ≡ None
+unfolding story_from after_record
+nothing_after l o [] qs v r c = refl
+nothing_after l o (s ∷ rs) qs v r c = follows_not l o rs qs v r (after_record l o c s (rs ++ End v ∷ r ∷ qs)) (nothing_after l o rs qs v r)
+
+pub nothing_follows : {O S : Type 0} (l : Code O S) (o : PlainOptions) (rs qs : List Record) (v : Verdict) (r : Record) → story l o (rs ++ End v ∷ r ∷ qs) ≡ None
+unfolding story
+nothing_follows l o rs qs v r = nothing_after l o rs qs v r (initial l o.injectors)
+
+-- the text of fewer records is a prefix of that of more
+prefix_of : {O S : Type 0} (l : Code O S) (o : PlainOptions) (rs : List Record) (c m : Configuration O) (t : List ℕ) (more : List Line) →
+    story l o rs ≡ Some m → c.lines ≡ m.lines ++ more → lines_text c.lines ≡ t → (front : List ℕ) × (rest : List ℕ) × (text l o rs ≡ Some front) × (t ≡ front ++ rest)
+unfolding text lines_text
+prefix_of l o rs c m t more h k e =
+    (lines_text m.lines, lines_text more, ap (λ (x : Option (Configuration _)). option_map (λ y. lines_text y.lines) x) h,
+    sym e ∙ ap (λ (x : List Line). lines_text x) k ∙ flat_map-append whole_line m.lines more)
+
+printed_at : {O : Type 0} (x : Option (Configuration O)) (t : List ℕ) → option_map (λ c. lines_text c.lines) x ≡ Some t → (c : Configuration O) × (x ≡ Some c) × (lines_text c.lines ≡ t)
+printed_at None t h = absurd (cc)
+printed_at (Some c) t h = (c, refl, cc)
+
+pub text_prefix : {O S : Type 0} (l : Code O S) (o : PlainOptions) (rs qs : List Record) (t : List ℕ) → text l o (rs ++ qs) ≡ Some t →
+    (front : List ℕ) × (rest : List ℕ) × (text l o rs ≡ Some front) × (t ≡ front ++ rest)
+unfolding text story
+text_prefix l o rs qs t h =
+    let p = printed_at (story l o (rs ++ qs)) t h in
+    let s = story_prefix l o rs qs (initial l o.injectors) p.0 p.1 in
+    prefix_of l o rs p.0 s.0 t s.2 s.1 s.3 p.2

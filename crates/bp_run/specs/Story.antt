@@ -1,5 +1,5 @@
 -- Transitions, and the runs that a list of records tells.
-use Rattle.std.specs.Prelude.{ℕ, zero, suc, ◌+◌, ◌*◌, Bool, true, false, not, ◌&&◌, ◌==◌, nat_lt, nat_eq, List, [], ◌∷◌, ◌++◌, length, Option, Some, None, Result, Ok, Err, filter, if◌then◌else◌, option_and_then, remove, count_by}
+use Rattle.std.specs.Prelude.{ℕ, zero, suc, ◌+◌, ◌*◌, Bool, true, false, not, ◌&&◌, ◌==◌, nat_lt, nat_eq, List, [], ◌∷◌, ◌++◌, length, Option, Some, None, Result, Ok, Err, filter, if◌then◌else◌, option_and_then, remove, count_by, IsTrue}
 use Rattle.std.specs.List.{list_any}
 use Rattle.js_data.specs.Event.{PlainEvent, event_weight}
 use Rattle.bp_log.specs.Options.{PlainOptions}
@@ -137,11 +137,14 @@ story_from l o (r ∷ rs) c = option_and_then (story_from l o rs) (after_record 
 unfoldable pub story : {Origin Set : Type 0} → Code Origin Set → PlainOptions → List Record → Option (Configuration Origin)
 story l o records = story_from l o records (initial l o.injectors)
 
--- whether the last record, and no earlier one that is followed by nothing, is the end
+-- whether the last record is the end
 abbrev pub is_complete : List Record → Bool
 is_complete [] = false
 is_complete (End v ∷ []) = true
 is_complete (r ∷ rs) = is_complete rs
+
+abbrev pub Complete : List Record → Type 0
+Complete records = IsTrue (is_complete records)
 
 -- the run without injectors: at most the options' number of steps, then the end
 unfoldable pub alone_from : {Origin Set : Type 0} → Code Origin Set → PlainOptions → ℕ → Configuration Origin → List Record
