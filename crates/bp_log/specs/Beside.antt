@@ -1,0 +1,17 @@
+-- What is asked of the machine that runs.
+use Rattle.std.specs.Prelude.{ℕ, ◌≤◌}
+
+pub record PlainBeside : Type 0 where
+  pub workers : ℕ
+  pub slice : ℕ
+
+-- the numbers are in their ranges
+pub record AreBeside (b : PlainBeside) : Type 0 where
+  pub some_workers : 1 ≤ b.workers
+  pub workers : b.workers ≤ 64
+  pub some_slice : 1 ≤ b.slice
+  pub slice : b.slice ≤ 1_000_000_000
+
+-- where nothing is said
+abbrev pub default_beside : PlainBeside
+default_beside = record { workers = 4; slice = 10_000 }

@@ -1,0 +1,23 @@
+-- What is asked of a run.
+use Rattle.std.specs.Prelude.{ℕ, ◌≤◌}
+use Rattle.bp_log.specs.declared.options.Strategy.{Strategy}
+use Rattle.bp_log.specs.declared.options.Strategy.TheVariants.{Simple}
+
+pub record PlainOptions : Type 0 where
+  pub strategy : Strategy
+  pub seed : ℕ
+  pub budget : ℕ
+  pub steps : ℕ
+  pub injectors : ℕ
+
+-- the numbers are in their ranges
+pub record AreOptions (o : PlainOptions) : Type 0 where
+  pub some_budget : 1 ≤ o.budget
+  pub budget : o.budget ≤ 1_000_000_000
+  pub some_steps : 1 ≤ o.steps
+  pub steps : o.steps ≤ 1_000_000
+  pub injectors : o.injectors ≤ 16
+
+-- where nothing is said
+abbrev pub default_options : PlainOptions
+default_options = record { strategy = Simple; seed = 0; budget = 1_000_000; steps = 100_000; injectors = 0 }

@@ -1,0 +1,23 @@
+//! What is asked of a run, what is recorded of it and what it prints: the types.
+#![tactic(auto)]
+
+pub mod beside;
+pub mod header;
+pub mod item;
+pub mod options;
+pub mod record;
+pub mod trace;
+pub mod verdict;
+
+pub use beside::Beside;
+pub use header::Header;
+pub use item::Item;
+pub use options::{Options, Strategy};
+pub use record::{Record, Records};
+pub use trace::{Line, Lines};
+pub use verdict::{Place, Verdict};
+
+use std::alloc::AllocError;
+
+/// Want of memory.
+pub type Memory = AllocError;

@@ -1,0 +1,122 @@
+//! What is asked of a run.
+ghost use Rattle.std.specs.Prelude.{◌≡◌, SomeIff};
+ghost use Rattle.bp_log.specs.Options.{PlainOptions, AreOptions, default_options};
+
+use std::alloc::AllocError;
+use std::marker::Model;
+
+/// How one of several selectable events is chosen.
+#[derive(Debug, Clone, Copy, PartialEq, Eq)]
+pub enum Strategy {
+    /// Among all of them.
+    Simple,
+    /// Among the first such event of each b-thread.
+    Ordered,
+    /// Among those that are requested with the greatest priority.
+    Priority,
+}
+
+/// What is asked of a run. Contracts see it as the record of its five parts.
+///
+/// Its type keeps that the budget is 1 to 1,000,000,000, the steps are 1 to 1,000,000, and the
+/// injectors are at most 16.
+#[derive(Debug)]
+pub struct Options {
+    strategy: Strategy,
+    seed: u64,
+    budget: u64,
+    steps: u32,
+    injectors: u32,
+}
+
+impl Model for Options {
+    ghost use Rattle.bp_log.specs.Options.{PlainOptions, AreOptions};
+
+    ghost Value = { PlainOptions };
+
+    ghost view = { λ o. record { strategy = o.strategy; seed = o.seed; budget = o.budget; steps = o.steps; injectors = o.injectors } };
+
+    ghost invariant = { λ o. AreOptions (record { strategy = o.strategy; seed = o.seed; budget = o.budget; steps = o.steps; injectors = o.injectors }) };
+
+    ghost inverse = { λ p. record { strategy = p.strategy; seed = p.seed; budget = p.budget; steps = p.steps; injectors = p.injectors } };
+}
+
+impl Clone for Options {
+    fn clone(&self) -> Result<Options, AllocError> {
+        Ok(*self)
+    }
+}
+
+impl Copy for Options {}
+
+impl Options {
+    /// These options, or `None` exactly where a number is out of its range. Takes no memory.
+    pub fn new(strategy: Strategy, seed: u64, budget: u64, steps: u32, injectors: u32) -> Option<Options>
+        ensures { let plain : PlainOptions = record { strategy = strategy; seed = seed; budget = budget; steps = steps; injectors = injectors } in
+            SomeIff result (AreOptions plain) plain }
+    {
+        let budget_fits = 1 <= budget && budget <= 1_000_000_000;
+        let steps_fit = 1 <= steps && steps <= 1_000_000;
+        if !budget_fits || !steps_fit || injectors > 16 {
+            return None;
+        }
+        Some(Options {
+            strategy,
+            seed,
+            budget,
+            steps,
+            injectors,
+        })
+    }
+
+    /// The strategy `simple`, seed 0, a budget of 1,000,000, 100,000 steps and no injector.
+    pub fn defaults() -> Options
+        ensures { result ≡ default_options }
+    {
+        Options {
+            strategy: Strategy::Simple,
+            seed: 0,
+            budget: 1_000_000,
+            steps: 100_000,
+            injectors: 0,
+        }
+    }
+
+    /// How one of several selectable events is chosen.
+    pub fn strategy(&self) -> Strategy
+        ensures { result ≡ self.now.strategy }
+    {
+        self.strategy
+    }
+
+    /// The seed of the random choice.
+    pub fn seed(&self) -> u64
+        ensures { result ≡ self.now.seed }
+    {
+        self.seed
+    }
+
+    /// How many nodes a b-thread may begin between two synchronisation points.
+    pub fn budget(&self) -> u64
+        ensures budget { result ≡ self.now.budget }
+        ensures within { AreOptions self.now }
+    {
+        self.budget
+    }
+
+    /// How many transitions the run may make.
+    pub fn steps(&self) -> u32
+        ensures steps { result ≡ self.now.steps }
+        ensures within { AreOptions self.now }
+    {
+        self.steps
+    }
+
+    /// How many injectors there are.
+    pub fn injectors(&self) -> u32
+        ensures injectors { result ≡ self.now.injectors }
+        ensures within { AreOptions self.now }
+    {
+        self.injectors
+    }
+}
