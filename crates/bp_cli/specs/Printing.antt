@@ -1,6 +1,7 @@
 -- What a command prints, and what it asks of the world.
 use Rattle.std.specs.Prelude.{◌≡◌, ◌⊎◌, ℕ, List, [], ◌∷◌, ◌++◌, Option, Some, None, IfSome, IsSomeAnd}
-use Rattle.bp_base.specs.Outside.{Holdings, Appends, AppendsPrefix}
+use Rattle.bp_base.specs.Worlds.{Holdings}
+use Rattle.bp_base.specs.Pieces.{Appends, AppendsFront}
 use Rattle.js_tree.specs.Straight.{Straight, IsFirstForm}
 use Rattle.bp_run.specs.Straight.{straight_code, defaults}
 use Rattle.bp_run.specs.Story.{alone}
@@ -22,7 +23,7 @@ PrintsRun before after bytes =
 -- the bytes are a straight script, and what was printed is a prefix of the text of its run
 abbrev pub PrintsPart : Option (List ℕ) → Option (List ℕ) → List ℕ → Type 0
 PrintsPart before after bytes =
-    (script : List Straight) × IsFirstForm bytes script × IsSomeAnd (text_of_run script) (λ t. AppendsPrefix before t after)
+    (script : List Straight) × IsFirstForm bytes script × IsSomeAnd (text_of_run script) (λ t. AppendsFront before t after)
 
 -- the bytes are no straight script
 abbrev pub IsRefused : List ℕ → Type 0

@@ -1,6 +1,6 @@
 // The command.
 ghost use Rattle.std.specs.Prelude.{◌≡◌, ◌⊎◌, ◌<◌, ◌≤◌, length, map, Some, None, IsErrOf, IfOk, IfSome, IfNone, IsSome, IsSomeAnd, option_copied, string_bytes, vec_len};
-ghost use Rattle.bp_base.specs.Outside.{Rose};
+ghost use Rattle.bp_base.specs.Counts.{Rose};
 ghost use Rattle.bp_cli.specs.Command.{command_of, is_name, note_of};
 ghost use Rattle.bp_cli.specs.Printing.{OfHeld, PrintsRun, PrintsPart, IsRefused, AsksAtMost};
 
@@ -53,7 +53,6 @@ fn bytes_of<W: World>(alloc: Global, world: &mut W, name: &str) -> Result<Vec<u8
     ensures cause { IsErrOf result ReadError.Fault → Rose (W.read_faults world.old) (W.read_faults world.new) }
     ensures asks { AsksAtMost (Some name.now) (W.asked world.old) (W.asked world.new) }
     ensures holds { W.holds world.new ≡ W.holds world.old }
-    ensures writes { W.write_faults world.new ≡ W.write_faults world.old }
 {
     let mut input = match world.open(name) {
         Ok(input) => input,
