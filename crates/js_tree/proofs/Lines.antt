@@ -3,7 +3,7 @@ use Rattle.std.proofs.Common.{◌≡◌, ℕ, zero, suc, ◌+◌, ◌-◌, ◌<�
 use Rattle.std.specs.Prelude.{Option, Some, None, is_some, option_map, option_and_then, codes}
 use Rattle.js_data.specs.Event.{PlainEvent}
 use Rattle.js_tree.specs.Straight.{Point, IsAsked, IsPoint, EachPoint, parts_text, point_text, points_text}
-use Rattle.js_tree.specs.Reading.{after, asked, request_lead, wait_lead, block_lead, point_of, point_from, points_or, points_from}
+use Rattle.js_tree.specs.Reading.{after, asked, request_lead, wait_lead, block_lead, point_of, parts_from, point_from, points_or, points_from}
 use Rattle.js_tree.proofs.Steps.{after-sound, after-at, asked_then, asked-sound, asked-at, option_case}
 
 abbrev close : List ℕ
@@ -68,7 +68,7 @@ no_request (Some y) b true rest = refl
 no_request (Some y) b false rest = refl
 
 pub point-at : (r w b : Option PlainEvent) (rest : List ℕ) → IsAsked r → IsAsked w → IsAsked b → point_from (line_then r w b rest) ≡ Some (point_of r w b, rest)
-unfolding point_from
+unfolding point_from parts_from
 point-at r w b rest hr hw hb =
     let first : asked request_lead (line_then r w b rest) ≡ (r, wait_then w b (is_some r) rest) =
       asked-at request_lead r (wait_then w b (is_some r) rest) hr (no_request w b (is_some r) rest) in
@@ -87,7 +87,7 @@ point_last r w b bytes p h = elim (option_case (after close bytes)) [
       rw (← same) (refl, after-sound close bytes x.0 x.1) ]
 
 pub point-sound : (bytes : List ℕ) (p : Point × List ℕ) → point_from bytes ≡ Some p → IsPoint p.0 × (bytes ≡ line_then p.0.request p.0.wait_for p.0.block p.1)
-unfolding point_from
+unfolding point_from parts_from
 point-sound bytes p h =
     let r = asked request_lead bytes in
     let w = asked (wait_lead (is_some r.0)) r.1 in
@@ -176,3 +176,26 @@ line_longer p = omega arith
 pub points_longer : (ps : List Point) → length ps ≤ length (points_text ps)
 points_longer [] = omega arith
 points_longer (p ∷ ps) = omega (arith, points_longer ps, line_longer p, length-append (point_text p) (points_text ps))
+
+-- ---- the same, where lines are counted up
+
+down : (most i : ℕ) → i < most → most - i ≡ suc (most - (i + 1))
+down most i h = omega arith
+
+pub counted-end : (most i : ℕ) (done : List Point) (bytes : List ℕ) → i < most → after sync bytes ≡ None → points_from (most - i) done bytes ≡ option_map (λ rest. (done, rest)) (after close bytes)
+counted-end most i done bytes h e = rw (down most i h) (points-end (most - (i + 1)) done bytes e)
+
+pub counted-none : (most i : ℕ) (done : List Point) (bytes line : List ℕ) → i < most → after sync bytes ≡ Some line → point_from line ≡ None → points_from (most - i) done bytes ≡ None
+counted-none most i done bytes line h e k = rw (down most i h) (points-none (most - (i + 1)) done bytes line e k)
+
+pub counted-step : (most i : ℕ) (done : List Point) (bytes line rest : List ℕ) (p : Point) → i < most → after sync bytes ≡ Some line → point_from line ≡ Some (p, rest) → points_from (most - i) done bytes ≡ points_from (most - (i + 1)) (done ++ p ∷ []) rest
+counted-step most i done bytes line rest p h e k = rw (down most i h) (points-step (most - (i + 1)) done bytes line (p, rest) e k)
+
+pub counted-all : (most i : ℕ) (done : List Point) (bytes : List ℕ) → most ≤ i → points_from (most - i) done bytes ≡ None
+counted-all most i done bytes h = let e : most - i ≡ zero = omega arith in rw e (points-zero done bytes)
+
+-- ---- the parts of a point, one after another
+
+pub parts_read : (bytes x y z : List ℕ) (r w b : Option PlainEvent) → asked request_lead bytes ≡ (r, x) → asked (wait_lead (is_some r)) x ≡ (w, y) → asked (block_lead (is_some r || is_some w)) y ≡ (b, z) → parts_from bytes ≡ (point_of r w b, z)
+unfolding parts_from
+parts_read bytes x y z r w b first second third = rw (first, second, third) refl

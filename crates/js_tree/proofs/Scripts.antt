@@ -1,6 +1,7 @@
 -- B-threads and scripts: what is read is what was written, and so no two scripts have one text.
-use Rattle.std.proofs.Common.{◌≡◌, ℕ, zero, suc, ◌+◌, ◌<◌, ◌≤◌, List, [], ◌∷◌, ◌++◌, length, append_assoc, append-nil, length-append, arith, sym, ap, ◌∙◌, refl, ◌⊎◌, inl, inr}
+use Rattle.std.proofs.Common.{◌≡◌, ◌==◌, true, false, ℕ, zero, suc, ◌+◌, ◌-◌, ◌<◌, ◌≤◌, List, [], ◌∷◌, ◌++◌, length, append_assoc, append-nil, length-append, arith, sym, ap, ◌∙◌, refl, ◌⊎◌, inl, inr}
 use Rattle.std.specs.Prelude.{Option, Some, None, option_map, option_and_then, codes}
+use Rattle.std.proofs.lemmas.Bool.{eqb-true}
 use Rattle.js_tree.specs.Straight.{Point, Straight, IsThread, EachThread, IsStraight, IsFirstForm, points_text, thread_text, straight_text}
 use Rattle.js_tree.specs.Reading.{between, thread_of, points_from, thread_from, threads_from}
 use Rattle.js_tree.proofs.Steps.{between-at, between-sound, option_case}
@@ -105,6 +106,31 @@ threads-sound (suc most) done (b ∷ bytes) s h = elim (option_case (thread_from
       let more = threads-sound most (done ++ t.0.0 ∷ []) t.0.1 s (sym (threads-step most done b bytes t.0 t.1) ∙ h) in
       let read = thread-sound (b ∷ bytes) t.0 t.1 in
       (t.0.0 ∷ more.0, more.1 ∙ append_assoc done (t.0.0 ∷ []) more.0, (read.0, more.2), read.1 ∙ ap (λ (x : List ℕ). thread_text t.0.0 ++ x) more.3, omega (arith, more.4)) ]
+
+-- ---- the same, where b-threads are counted up
+
+down : (most i : ℕ) → i < most → most - i ≡ suc (most - (i + 1))
+down most i h = omega arith
+
+pub counted-none : (most i : ℕ) (done : List Straight) (bytes : List ℕ) → i < most → (bytes ≡ [] → ⊥) → thread_from bytes ≡ None → threads_from (most - i) done bytes ≡ None
+counted-none most i done [] h n e = absurd (n refl)
+counted-none most i done (b ∷ bytes) h n e = rw (down most i h) (threads-none (most - (i + 1)) done b bytes e)
+
+pub counted-step : (most i : ℕ) (done : List Straight) (bytes rest : List ℕ) (t : Straight) → i < most → (bytes ≡ [] → ⊥) → thread_from bytes ≡ Some (t, rest) → threads_from (most - i) done bytes ≡ threads_from (most - (i + 1)) (done ++ t ∷ []) rest
+counted-step most i done [] rest t h n e = absurd (n refl)
+counted-step most i done (b ∷ bytes) rest t h n e = rw (down most i h) (threads-step (most - (i + 1)) done b bytes (t, rest) e)
+
+pub counted-all : (most i : ℕ) (done : List Straight) (bytes : List ℕ) → most ≤ i → (bytes ≡ [] → ⊥) → threads_from (most - i) done bytes ≡ None
+counted-all most i done [] h n = absurd (n refl)
+counted-all most i done (b ∷ bytes) h n = let e : most - i ≡ zero = omega arith in rw e (threads-zero done b bytes)
+
+pub is_empty : (bytes : List ℕ) → (length bytes == 0) ≡ true → bytes ≡ []
+is_empty [] h = refl
+is_empty (b ∷ bytes) h = absurd (omega (arith, eqb-true (length (b ∷ bytes)) 0 h))
+
+pub is_not_empty : (bytes : List ℕ) → (length bytes == 0) ≡ false → bytes ≡ [] → ⊥
+is_not_empty [] h e = cc
+is_not_empty (b ∷ bytes) h e = cc
 
 -- ---- the first form
 

@@ -165,3 +165,7 @@ pub after_other : (xs bytes : List ℕ) → pointwise nat_eq (take (length xs) b
 after_other [] bytes h = absurd (cc)
 after_other (x ∷ xs) [] h = refl
 after_other (x ∷ xs) (b ∷ bytes) h = other_cons b x xs bytes (b == x) refl h (after_other xs bytes)
+
+pub named_read : (bytes : List ℕ) → 1 ≤ length (front bytes) → length (front bytes) ≤ 64 → named bytes ≡ Some (front bytes, drop (length (front bytes)) bytes)
+unfolding named
+named_read bytes some few = rw (le-leb 1 (length (front bytes)) some, le-leb (length (front bytes)) 64 few) refl

@@ -55,16 +55,24 @@ asked left bytes = asked_or bytes (between left (codes "\")") bytes)
 abbrev pub point_of : Option PlainEvent → Option PlainEvent → Option PlainEvent → Point
 point_of r w b = record { request = r; wait_for = w; block = b }
 
--- the rest of a point's line
-unfoldable pub point_from : List ℕ → Option (Point × List ℕ)
-point_from bytes =
+-- the parts of a point
+unfoldable pub parts_from : List ℕ → Point × List ℕ
+parts_from bytes =
     let r = asked request_lead bytes in
     let w = asked (wait_lead (is_some r.0)) r.1 in
     let b = asked (block_lead (is_some r.0 || is_some w.0)) w.1 in
-    option_map (λ rest. (point_of r.0 w.0 b.0, rest)) (after (codes "});\n") b.1)
+    (point_of r.0 w.0 b.0, b.1)
+
+-- the rest of a point's line
+unfoldable pub point_from : List ℕ → Option (Point × List ℕ)
+point_from bytes = let p = parts_from bytes in option_map (λ rest. (p.0, rest)) (after (codes "});\n") p.1)
+
+-- these points, where the line that ends a b-thread is next
+abbrev pub points_end : List Point → List ℕ → Option (List Point × List ℕ)
+points_end done bytes = option_map (λ rest. (done, rest)) (after (codes "});\n") bytes)
 
 abbrev pub points_or : List Point → List ℕ → (List ℕ → Option (List Point × List ℕ)) → Option (List ℕ) → Option (List Point × List ℕ)
-points_or done bytes f None = option_map (λ rest. (done, rest)) (after (codes "});\n") bytes)
+points_or done bytes f None = points_end done bytes
 points_or done bytes f (Some line) = f line
 
 -- at most so many lines with the one that ends the b-thread, behind the points that are read

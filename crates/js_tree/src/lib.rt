@@ -2,9 +2,9 @@
 #![tactic(auto)]
 
 mod laws;
-
+mod reading;
 mod straight;
 
 pub use laws::one_script;
-
+pub use reading::{FormFault, read_script};
 pub use straight::{Point, Points, Script, Straight};
