@@ -1,9 +1,9 @@
 -- The lines of points: what is read is what was written.
-use Rattle.std.proofs.Common.{◌≡◌, ℕ, zero, suc, ◌+◌, ◌-◌, ◌<◌, ◌≤◌, Bool, true, false, ◌||◌, List, [], ◌∷◌, ◌++◌, length, append_assoc, append-nil, length-append, arith, sym, ap, ◌∙◌, refl, ◌⊎◌, inl, inr}
-use Rattle.std.specs.Prelude.{Option, Some, None, is_some, option_map, option_and_then, codes}
+use Rattle.std.proofs.Common.{◌≡◌, ℕ, zero, suc, ◌+◌, ◌-◌, ◌<◌, ◌≤◌, Bool, true, false, ◌||◌, List, [], ◌∷◌, ◌++◌, length, append_assoc, append-nil, length-append, arith, sym, ap, ◌∙◌, refl, inl, inr}
+use Rattle.std.specs.Prelude.{Option, Some, None, is_some, option_map, codes}
 use Rattle.js_data.specs.Event.{PlainEvent}
 use Rattle.js_tree.specs.Straight.{Point, IsAsked, IsPoint, EachPoint, parts_text, point_text, points_text}
-use Rattle.js_tree.specs.Reading.{after, asked, request_lead, wait_lead, block_lead, point_of, parts_from, point_from, points_or, points_from}
+use Rattle.js_tree.specs.Reading.{after, asked, request_lead, wait_lead, block_lead, point_of, parts_from, point_from, points_from}
 use Rattle.js_tree.proofs.Steps.{after-sound, after-at, asked_then, asked-sound, asked-at, option_case}
 
 abbrev close : List ℕ
@@ -71,20 +71,21 @@ pub point-at : (r w b : Option PlainEvent) (rest : List ℕ) → IsAsked r → I
 unfolding point_from parts_from
 point-at r w b rest hr hw hb =
     let first : asked request_lead (line_then r w b rest) ≡ (r, wait_then w b (is_some r) rest) =
-      asked-at request_lead r (wait_then w b (is_some r) rest) hr (no_request w b (is_some r) rest) in
+    asked-at request_lead r (wait_then w b (is_some r) rest) hr (no_request w b (is_some r) rest) in
     let second : asked (wait_lead (is_some r)) (wait_then w b (is_some r) rest) ≡ (w, block_then b (is_some r || is_some w) rest) =
-      asked-at (wait_lead (is_some r)) w (block_then b (is_some r || is_some w) rest) hw (no_wait b (is_some r) (is_some r || is_some w) rest) in
+    asked-at (wait_lead (is_some r)) w (block_then b (is_some r || is_some w) rest) hw (no_wait b (is_some r) (is_some r || is_some w) rest) in
     let third : asked (block_lead (is_some r || is_some w)) (block_then b (is_some r || is_some w) rest) ≡ (b, close ++ rest) =
-      asked-at (block_lead (is_some r || is_some w)) b (close ++ rest) hb (no_block (is_some r || is_some w) rest) in
+    asked-at (block_lead (is_some r || is_some w)) b (close ++ rest) hb (no_block (is_some r || is_some w) rest) in
     rw (first, second, third) (ap (λ (o : Option (List ℕ)). option_map (λ x. (point_of r w b, x)) o) (after-at close rest))
 
 point_last : (r w b : Option PlainEvent) (bytes : List ℕ) (p : Point × List ℕ) → option_map (λ rest. (point_of r w b, rest)) (after close bytes) ≡ Some p → (point_of r w b ≡ p.0) × (bytes ≡ close ++ p.1)
 point_last r w b bytes p h = elim (option_case (after close bytes)) [
-    inl e ↦ let k : None ≡ Some p = rw e at h in absurd (cc)
-    | inr x ↦
+  | inl e ↦ let k : None ≡ Some p = rw e at h in absurd (cc)
+  | inr x ↦
       let k : Some (point_of r w b, x.0) ≡ Some p = rw x.1 at h in
       let same : (point_of r w b, x.0) ≡ p = cc in
-      rw (← same) (refl, after-sound close bytes x.0 x.1) ]
+      rw (← same) (refl, after-sound close bytes x.0 x.1)
+]
 
 pub point-sound : (bytes : List ℕ) (p : Point × List ℕ) → point_from bytes ≡ Some p → IsPoint p.0 × (bytes ≡ line_then p.0.request p.0.wait_for p.0.block p.1)
 unfolding point_from parts_from
@@ -98,7 +99,8 @@ point-sound bytes p h =
     let last = point_last r.0 w.0 b.0 b.1 p h in
     rw (← last.0) (
       record { request = first.0; wait_for = second.0; block = third.0 },
-      first.1 ∙ ap (λ (x : List ℕ). asked_then request_lead r.0 x) (second.1 ∙ ap (λ (x : List ℕ). asked_then (wait_lead (is_some r.0)) w.0 x) (third.1 ∙ ap (λ (x : List ℕ). asked_then (block_lead (is_some r.0 || is_some w.0)) b.0 x) last.1)))
+      first.1 ∙ ap (λ (x : List ℕ). asked_then request_lead r.0 x) (second.1 ∙ ap (λ (x : List ℕ). asked_then (wait_lead (is_some r.0)) w.0 x) (third.1 ∙ ap (λ (x : List ℕ). asked_then (block_lead (is_some r.0 || is_some w.0)) b.0 x) last.1)),
+    )
 
 -- ---- the lines of a b-thread
 
@@ -134,9 +136,9 @@ points-at (p ∷ ps) done (suc most) rest h fits =
     let tail = points_text ps ++ (close ++ rest) in
     let line = line_then p.request p.wait_for p.block tail in
     let begins : points_text (p ∷ ps) ++ (close ++ rest) ≡ sync ++ line =
-      append_assoc (point_text p) (points_text ps) (close ++ rest) ∙ line_at p tail in
+    append_assoc (point_text p) (points_text ps) (close ++ rest) ∙ line_at p tail in
     let reads : point_from line ≡ Some (p, tail) =
-      point-at p.request p.wait_for p.block tail h.0.request h.0.wait_for h.0.block in
+    point-at p.request p.wait_for p.block tail h.0.request h.0.wait_for h.0.block in
     ap (λ (x : List ℕ). points_from (suc most) done x) begins
     ∙ points-step most done (sync ++ line) line (p, tail) (after-at sync line) reads
     ∙ points-at ps (done ++ p ∷ []) most rest h.1 (omega arith)
@@ -144,30 +146,36 @@ points-at (p ∷ ps) done (suc most) rest h fits =
 
 ends : (done : List Point) (bytes : List ℕ) (t : List Point × List ℕ) → option_map (λ rest. (done, rest)) (after close bytes) ≡ Some t → (t.0 ≡ done) × (bytes ≡ close ++ t.1)
 ends done bytes t h = elim (option_case (after close bytes)) [
-    inl e ↦ let k : None ≡ Some t = rw e at h in absurd (cc)
-    | inr x ↦
+  | inl e ↦ let k : None ≡ Some t = rw e at h in absurd (cc)
+  | inr x ↦
       let k : Some (done, x.0) ≡ Some t = rw x.1 at h in
       let same : (done, x.0) ≡ t = cc in
-      rw (← same) (refl, after-sound close bytes x.0 x.1) ]
+      rw (← same) (refl, after-sound close bytes x.0 x.1)
+]
 
 pub points-sound : (most : ℕ) (done : List Point) (bytes : List ℕ) (t : List Point × List ℕ) → points_from most done bytes ≡ Some t → (qs : List Point) × (t.0 ≡ done ++ qs) × EachPoint qs × (bytes ≡ points_text qs ++ (close ++ t.1))
 points-sound zero done bytes t h = let k : None ≡ Some t = sym (points-zero done bytes) ∙ h in absurd (cc)
 points-sound (suc most) done bytes t h = elim (option_case (after sync bytes)) [
-    inl e ↦
+  | inl e ↦
       let last = ends done bytes t (sym (points-end most done bytes e) ∙ h) in
       ([], last.0 ∙ sym (append-nil done), tt, last.1)
-    | inr line ↦ elim (option_case (point_from line.0)) [
-        inl e ↦ let k : None ≡ Some t = sym (points-none most done bytes line.0 line.1 e) ∙ h in absurd (cc)
-        | inr p ↦
-          let more = points-sound most (done ++ p.0.0 ∷ []) p.0.1 t (sym (points-step most done bytes line.0 p.0 line.1 p.1) ∙ h) in
-          let read = point-sound line.0 p.0 p.1 in
-          let tail = points_text more.0 ++ (close ++ t.1) in
-          (p.0.0 ∷ more.0, more.1 ∙ append_assoc done (p.0.0 ∷ []) more.0, (read.0, more.2),
-            after-sound sync bytes line.0 line.1
-            ∙ ap (λ (x : List ℕ). sync ++ x) read.1
-            ∙ sym (line_at p.0.0 p.0.1)
-            ∙ ap (λ (x : List ℕ). point_text p.0.0 ++ x) more.3
-            ∙ sym (append_assoc (point_text p.0.0) (points_text more.0) (close ++ t.1))) ] ]
+  | inr line ↦ elim (option_case (point_from line.0)) [
+    | inl e ↦ let k : None ≡ Some t = sym (points-none most done bytes line.0 line.1 e) ∙ h in absurd (cc)
+    | inr p ↦
+        let more = points-sound most (done ++ p.0.0 ∷ []) p.0.1 t (sym (points-step most done bytes line.0 p.0 line.1 p.1) ∙ h) in
+        let read = point-sound line.0 p.0 p.1 in
+        let tail = points_text more.0 ++ (close ++ t.1) in (
+          p.0.0 ∷ more.0,
+          more.1 ∙ append_assoc done (p.0.0 ∷ []) more.0,
+          (read.0, more.2),
+          after-sound sync bytes line.0 line.1
+              ∙ ap (λ (x : List ℕ). sync ++ x) read.1
+              ∙ sym (line_at p.0.0 p.0.1)
+              ∙ ap (λ (x : List ℕ). point_text p.0.0 ++ x) more.3
+              ∙ sym (append_assoc (point_text p.0.0) (points_text more.0) (close ++ t.1)),
+        )
+  ]
+]
 
 line_longer : (p : Point) → 1 ≤ length (point_text p)
 line_longer p = omega arith

@@ -1,8 +1,8 @@
 -- B-threads and scripts: what is read is what was written, and so no two scripts have one text.
-use Rattle.std.proofs.Common.{◌≡◌, ◌==◌, true, false, ℕ, zero, suc, ◌+◌, ◌-◌, ◌<◌, ◌≤◌, List, [], ◌∷◌, ◌++◌, length, append_assoc, append-nil, length-append, arith, sym, ap, ◌∙◌, refl, ◌⊎◌, inl, inr}
-use Rattle.std.specs.Prelude.{Option, Some, None, option_map, option_and_then, codes}
+use Rattle.std.proofs.Common.{◌≡◌, ◌==◌, true, false, ℕ, zero, suc, ◌+◌, ◌-◌, ◌<◌, ◌≤◌, List, [], ◌∷◌, ◌++◌, length, append_assoc, append-nil, length-append, arith, sym, ap, ◌∙◌, refl, inl, inr}
+use Rattle.std.specs.Prelude.{Some, None, option_map, codes}
 use Rattle.std.proofs.lemmas.Bool.{eqb-true}
-use Rattle.js_tree.specs.Straight.{Point, Straight, IsThread, EachThread, IsStraight, IsFirstForm, points_text, thread_text, straight_text}
+use Rattle.js_tree.specs.Straight.{Point, Straight, IsThread, EachThread, IsFirstForm, points_text, thread_text, straight_text}
 use Rattle.js_tree.specs.Reading.{between, thread_of, points_from, thread_from, threads_from}
 use Rattle.js_tree.proofs.Steps.{between-at, between-sound, option_case}
 use Rattle.js_tree.proofs.Lines.{points-at, points-sound, points_longer}
@@ -31,28 +31,30 @@ pub thread-at : (t : Straight) (rest : List ℕ) → IsThread t → thread_from 
 thread-at t rest h =
     let lines = points_text t.points ++ (close ++ rest) in
     let room : length t.points < length lines =
-      omega (arith, points_longer t.points, length-append (points_text t.points) (close ++ rest), length-append close rest) in
+    omega (arith, points_longer t.points, length-append (points_text t.points) (close ++ rest), length-append close rest) in
     let named : between head middle (head ++ (t.name ++ (middle ++ lines))) ≡ Some (t.name, lines) =
-      between-at head (codes ", function() {\n") t.name lines h.name in
+    between-at head (codes ", function() {\n") t.name lines h.name in
     ap (λ (x : List ℕ). thread_from x) (lines_at t rest)
     ∙ thread_read (head ++ (t.name ++ (middle ++ lines))) (t.name, lines) (t.points, rest) named (points-at t.points [] (length lines) rest h.points room)
 
 thread_last : (n : List ℕ × List ℕ) (t : Straight × List ℕ) → option_map (λ p. (thread_of n.0 p.0, p.1)) (points_from (length n.1) [] n.1) ≡ Some t → (p : List Point × List ℕ) × (points_from (length n.1) [] n.1 ≡ Some p) × ((thread_of n.0 p.0, p.1) ≡ t)
 thread_last n t h = elim (option_case (points_from (length n.1) [] n.1)) [
-    inl e ↦ let k : None ≡ Some t = rw e at h in absurd (cc)
-    | inr p ↦
+  | inl e ↦ let k : None ≡ Some t = rw e at h in absurd (cc)
+  | inr p ↦
       let k : Some (thread_of n.0 p.0.0, p.0.1) ≡ Some t = rw p.1 at h in
       let same : (thread_of n.0 p.0.0, p.0.1) ≡ t = cc in
-      (p.0, p.1, same) ]
+      (p.0, p.1, same)
+]
 
 thread_inside : (bytes : List ℕ) (t : Straight × List ℕ) → thread_from bytes ≡ Some t → (n : List ℕ × List ℕ) × (p : List Point × List ℕ) × (between head middle bytes ≡ Some n) × (points_from (length n.1) [] n.1 ≡ Some p) × ((thread_of n.0 p.0, p.1) ≡ t)
 unfolding thread_from
 thread_inside bytes t h = elim (option_case (between head middle bytes)) [
-    inl e ↦ let k : None ≡ Some t = rw e at h in absurd (cc)
-    | inr n ↦
+  | inl e ↦ let k : None ≡ Some t = rw e at h in absurd (cc)
+  | inr n ↦
       let k : option_map (λ p. (thread_of n.0.0 p.0, p.1)) (points_from (length n.0.1) [] n.0.1) ≡ Some t = rw n.1 at h in
       let last = thread_last n.0 t k in
-      (n.0, last.0, n.1, last.1, last.2) ]
+      (n.0, last.0, n.1, last.1, last.2)
+]
 
 read_text : (bytes : List ℕ) (n : List ℕ × List ℕ) (p : List Point × List ℕ) → between head middle bytes ≡ Some n → points_from (length n.1) [] n.1 ≡ Some p → IsThread (thread_of n.0 p.0) × (bytes ≡ thread_text (thread_of n.0 p.0) ++ p.1)
 read_text bytes n p e h =
@@ -101,11 +103,12 @@ threads-sound most done [] s h =
     ([], same ∙ sym (append-nil done), tt, refl, omega arith)
 threads-sound zero done (b ∷ bytes) s h = let k : None ≡ Some s = sym (threads-zero done b bytes) ∙ h in absurd (cc)
 threads-sound (suc most) done (b ∷ bytes) s h = elim (option_case (thread_from (b ∷ bytes))) [
-    inl e ↦ let k : None ≡ Some s = sym (threads-none most done b bytes e) ∙ h in absurd (cc)
-    | inr t ↦
+  | inl e ↦ let k : None ≡ Some s = sym (threads-none most done b bytes e) ∙ h in absurd (cc)
+  | inr t ↦
       let more = threads-sound most (done ++ t.0.0 ∷ []) t.0.1 s (sym (threads-step most done b bytes t.0 t.1) ∙ h) in
       let read = thread-sound (b ∷ bytes) t.0 t.1 in
-      (t.0.0 ∷ more.0, more.1 ∙ append_assoc done (t.0.0 ∷ []) more.0, (read.0, more.2), read.1 ∙ ap (λ (x : List ℕ). thread_text t.0.0 ++ x) more.3, omega (arith, more.4)) ]
+      (t.0.0 ∷ more.0, more.1 ∙ append_assoc done (t.0.0 ∷ []) more.0, (read.0, more.2), read.1 ∙ ap (λ (x : List ℕ). thread_text t.0.0 ++ x) more.3, omega (arith, more.4))
+]
 
 -- ---- the same, where b-threads are counted up
 

@@ -1,6 +1,6 @@
 -- The steps of the reader: what each reads stands in front, and what stands in front is read.
-use Rattle.std.proofs.Common.{◌≡◌, ℕ, zero, suc, ◌+◌, ◌-◌, ◌<◌, ◌≤◌, Bool, true, false, ◌&&◌, ◌||◌, ◌==◌, nat_le, List, [], ◌∷◌, ◌++◌, length, take, drop, append_assoc, arith, sym, ap, ◌∙◌, refl, cond}
-use Rattle.std.specs.Prelude.{Option, Some, None, is_some, option_map, option_and_then, codes}
+use Rattle.std.proofs.Common.{◌≡◌, ℕ, ◌≤◌, Bool, true, false, ◌&&◌, ◌==◌, nat_le, List, [], ◌∷◌, ◌++◌, length, take, drop, sym, ap, ◌∙◌, refl}
+use Rattle.std.specs.Prelude.{Option, Some, None, option_map, option_and_then, codes}
 use Rattle.std.specs.List.{list_all}
 use Rattle.std.specs.Cmp.Lexicographic.{pointwise}
 use Rattle.std.specs.Prelude.{nat_eq}
@@ -58,7 +58,7 @@ front-rest bytes = (front_both bytes).1
 pub take_front : (bytes : List ℕ) → take (length (front bytes)) bytes ≡ front bytes
 take_front bytes =
     let e : take (length (front bytes)) bytes ≡ take (length (front bytes)) (front bytes ++ drop (length (front bytes)) bytes) =
-      ap (λ (xs : List ℕ). take (length (front bytes)) xs) (sym (front-rest bytes)) in
+    ap (λ (xs : List ℕ). take (length (front bytes)) xs) (sym (front-rest bytes)) in
     e ∙ take-append_seam (front bytes) (drop (length (front bytes)) bytes)
 
 -- a quote ends a name
@@ -93,26 +93,29 @@ option_case (Some x) = inr (x, refl)
 
 between_last : (right : List ℕ) (n m : List ℕ × List ℕ) → option_map (λ rest. (n.0, rest)) (after right n.1) ≡ Some m → (n.0 ≡ m.0) × (n.1 ≡ right ++ m.1)
 between_last right n m h = elim (option_case (after right n.1)) [
-    inl e ↦ let k : None ≡ Some m = rw e at h in absurd (cc)
-    | inr r ↦
+  | inl e ↦ let k : None ≡ Some m = rw e at h in absurd (cc)
+  | inr r ↦
       let k : Some (n.0, r.0) ≡ Some m = rw r.1 at h in
       let same : (n.0, r.0) ≡ m = cc in
-      rw (← same) (refl, after-sound right n.1 r.0 r.1) ]
+      rw (← same) (refl, after-sound right n.1 r.0 r.1)
+]
 
 pub between-sound : (left right bytes : List ℕ) (m : List ℕ × List ℕ) → between left right bytes ≡ Some m → IsName m.0 × (bytes ≡ left ++ (m.0 ++ (right ++ m.1)))
 unfolding between
 between-sound left right bytes m h = elim (option_case (after left bytes)) [
-    inl e ↦ let k : None ≡ Some m = rw e at h in absurd (cc)
-    | inr r ↦
+  | inl e ↦ let k : None ≡ Some m = rw e at h in absurd (cc)
+  | inr r ↦
       let k : option_and_then (λ n. option_map (λ after_it. (n.0, after_it)) (after right n.1)) (named r.0) ≡ Some m = rw r.1 at h in
       elim (option_case (named r.0)) [
-        inl e ↦ let j : None ≡ Some m = rw e at k in absurd (cc)
+        | inl e ↦ let j : None ≡ Some m = rw e at k in absurd (cc)
         | inr n ↦
-          let j : option_map (λ after_it. (n.0.0, after_it)) (after right n.0.1) ≡ Some m = rw n.1 at k in
-          let last = between_last right n.0 m j in
-          let inside = named-sound r.0 n.0 n.1 in
-          let name : IsName m.0 = rw last.0 at inside.0 in
-          (name, after-sound left bytes r.0 r.1 ∙ ap (λ (xs : List ℕ). left ++ xs) (inside.1 ∙ rw (last.0, last.1) refl)) ] ]
+            let j : option_map (λ after_it. (n.0.0, after_it)) (after right n.0.1) ≡ Some m = rw n.1 at k in
+            let last = between_last right n.0 m j in
+            let inside = named-sound r.0 n.0 n.1 in
+            let name : IsName m.0 = rw last.0 at inside.0 in
+            (name, after-sound left bytes r.0 r.1 ∙ ap (λ (xs : List ℕ). left ++ xs) (inside.1 ∙ rw (last.0, last.1) refl))
+      ]
+]
 
 pub between-at : (left right name rest : List ℕ) → IsName name → between left (34 ∷ right) (left ++ (name ++ (34 ∷ right ++ rest))) ≡ Some (name, rest)
 unfolding between

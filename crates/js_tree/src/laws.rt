@@ -5,5 +5,4 @@ ghost use Rattle.js_tree.specs.Straight.{Straight, IsFirstForm};
 /// No two straight scripts have one text.
 pub fn one_script()
     ensures { (bytes : List ℕ) (a b : List Straight) → IsFirstForm bytes a → IsFirstForm bytes b → a ≡ b }
-{
-}
+{}

@@ -8,3 +8,6 @@ mod straight;
 pub use laws::one_script;
 pub use reading::{FormFault, read_script};
 pub use straight::{Point, Points, Script, Straight};
+
+#[cfg(test)]
+mod tests;

@@ -139,14 +139,22 @@ fn asked<'a>(
 fn wait_lead(later: bool) -> &'static [u8]
     ensures { result.now ≡ wait_lead later }
 {
-    if later { b", waitFor: bp.Event(\"" } else { b"waitFor: bp.Event(\"" }
+    if later {
+        b", waitFor: bp.Event(\""
+    } else {
+        b"waitFor: bp.Event(\""
+    }
 }
 
 /// What stands before the event that is blocked.
 fn block_lead(later: bool) -> &'static [u8]
     ensures { result.now ≡ block_lead later }
 {
-    if later { b", block: bp.Event(\"" } else { b"block: bp.Event(\"" }
+    if later {
+        b", block: bp.Event(\""
+    } else {
+        b"block: bp.Event(\""
+    }
 }
 
 /// The parts of a point, and what comes after them.
@@ -216,7 +224,12 @@ fn points<'a>(
 fn thread<'a>(alloc: Global, bytes: &'a [u8]) -> Result<Option<(Straight, &'a [u8])>, Memory>
     ensures { IfOk result (λ o. option_map (λ t. (t.0, t.1.now)) o ≡ thread_from bytes.now) }
 {
-    let head = between(alloc, b"bp.registerBThread(\"", b"\", function() {\n", bytes)?;
+    let head = between(
+        alloc,
+        b"bp.registerBThread(\"",
+        b"\", function() {\n",
+        bytes,
+    )?;
     let Some((name, lines)) = head else {
         return Ok(None);
     };

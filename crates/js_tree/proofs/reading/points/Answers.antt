@@ -1,4 +1,4 @@
-use Rattle.std.proofs.Common.{◌≡◌, ◌-◌, [], sym, ◌∙◌}
+use Rattle.std.proofs.Common.{◌≡◌, sym, ◌∙◌}
 use Rattle.std.specs.Prelude.{Some, None, codes}
 use Rattle.js_tree.specs.Reading.{after, point_from}
 use Rattle.js_tree.proofs.Lines.{counted-end, counted-none, counted-step, counted-all}
@@ -28,7 +28,7 @@ loop-line-preserved c =
     let line : after (codes "  bp.sync({") bytes ≡ Some inside = sym (rw c.in-Some.is at c.after.ensures) in
     let read : point_from inside ≡ Some (c.in-Some-2.next, c.in-Some-2.end.now) = sym (rw c.in-Some-2.is at c.in_ok-next.ensures) in
     rw c.in_ok-push.ensures.items
-      (sym (counted-step c.args.most c.loop-line.line c.loop-line.points.items bytes inside c.in-Some-2.end.now c.in-Some-2.next c.loop-line-test.true line read) ∙ c.loop-line.invariant)
+    (sym (counted-step c.args.most c.loop-line.line c.loop-line.points.items bytes inside c.in-Some-2.end.now c.in-Some-2.next c.loop-line-test.true line read) ∙ c.loop-line.invariant)
 
 pub returns : goal.returns
 returns c =

@@ -22,7 +22,7 @@ loop-number-preserved c =
     let read : thread_from bytes ≡ Some (c.in-Some.next, c.in-Some.end.now) = sym (rw c.in-Some.is at c.in_ok-next.ensures) in
     let filled : bytes ≡ [] → ⊥ = is_not_empty bytes (sym c.is_empty.ensures ∙ c.if-is_empty.false) in
     rw c.in_ok-push.ensures.items
-      (sym (counted-step c.args.most c.loop-number.number c.loop-number.threads.items bytes c.in-Some.end.now c.in-Some.next c.loop-number-test.true filled read) ∙ c.loop-number.invariant)
+    (sym (counted-step c.args.most c.loop-number.number c.loop-number.threads.items bytes c.in-Some.end.now c.in-Some.next c.loop-number-test.true filled read) ∙ c.loop-number.invariant)
 
 pub returns-then-is_empty-2 : goal.returns-then-is_empty-2
 returns-then-is_empty-2 c =
