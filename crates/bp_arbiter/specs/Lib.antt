@@ -1,0 +1,3 @@
+pub mod Straight
+pub mod Standing
+pub mod Floor

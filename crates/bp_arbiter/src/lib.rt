@@ -1,0 +1,12 @@
+//! The run of a program: what is selected, who goes on, and what is recorded and printed of it.
+//!
+//! So far it runs straight scripts alone, whose b-threads are lists of synchronisation points.
+#![tactic(auto)]
+
+mod floor;
+mod script;
+mod thread;
+
+pub use floor::Floor;
+pub use script::{Point, Points, Script, Straight};
+pub use thread::Thread;
