@@ -1,3 +1,7 @@
 pub mod Deciding
 pub mod Changes
 pub mod Loops
+pub mod Searching
+pub mod Distinct
+pub mod Selecting
+pub mod Nexts

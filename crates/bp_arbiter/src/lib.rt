@@ -3,10 +3,13 @@
 //! So far it runs straight scripts alone, whose b-threads are lists of synchronisation points.
 #![tactic(auto)]
 
+mod choosing;
 mod floor;
+mod next;
 mod script;
 mod thread;
 
 pub use floor::Floor;
+pub use next::{Next, Selection};
 pub use script::{Point, Points, Script, Straight};
 pub use thread::Thread;
