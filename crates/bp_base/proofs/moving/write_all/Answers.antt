@@ -1,6 +1,5 @@
-use Rattle.std.proofs.Common.{ℕ, ◌≤◌, ◌-◌, length, take, drop, arith, rules, length-drop, length-take}
+use Rattle.std.proofs.Common.{ℕ, ◌≤◌, ◌-◌, length, arith, length-drop, length-take}
 use Rattle.std.proofs.lemmas.Result.{err_from_is_err_and}
-use Rattle.bp_base.specs.Pieces.{Appends}
 use Rattle.bp_base.proofs.Appending.{take-part, appends-on, appends_front}
 use Rattle.bp_base.proofs.moving.write_all.Goals as goal
 

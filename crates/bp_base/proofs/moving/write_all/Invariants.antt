@@ -1,4 +1,4 @@
-use Rattle.std.proofs.Common.{ℕ, ◌≤◌, ◌-◌, length, take}
+use Rattle.std.proofs.Common.{◌≤◌, ◌-◌, length, take}
 use Rattle.bp_base.specs.Pieces.{Appends}
 use Rattle.bp_base.proofs.moving.write_all.Given as goal
 
