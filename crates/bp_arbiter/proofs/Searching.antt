@@ -4,7 +4,7 @@ use Rattle.std.specs.List.{list_any}
 use Rattle.std.proofs.Math.Seq.{drop-cons}
 use Rattle.js_data.specs.Event.{PlainEvent}
 use Rattle.bp_run.specs.Events.{same_event}
-use Rattle.bp_arbiter.specs.declared.script.Straight.{Straight}
+use Rattle.js_tree.specs.declared.straight.Straight.{Straight}
 use Rattle.bp_arbiter.specs.declared.thread.Thread.{Thread}
 use Rattle.bp_arbiter.specs.Standing.{requested_by, is_free, is_blocked, is_reached, number_if, reached_from}
 

@@ -5,8 +5,8 @@ use Rattle.bp_run.specs.Events.{same_event}
 use Rattle.bp_run.specs.Bodies.{Code, Part, Statement, Outcome, Effect}
 use Rattle.bp_run.specs.Bodies.Outcome.{Stopped, Ended}
 use Rattle.bp_run.specs.Bodies.Effect.{Register}
-use Rattle.bp_arbiter.specs.declared.script.Point.{Point}
-use Rattle.bp_arbiter.specs.declared.script.Straight.{Straight}
+use Rattle.js_tree.specs.declared.straight.Point.{Point}
+use Rattle.js_tree.specs.declared.straight.Straight.{Straight}
 
 -- whether this is the event, if there is one
 abbrev pub is_in : Option PlainEvent → PlainEvent → Bool

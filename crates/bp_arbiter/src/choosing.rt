@@ -3,9 +3,10 @@ ghost use Rattle.std.specs.Prelude.{◌≡◌, IfOk, option_copied};
 ghost use Rattle.bp_arbiter.specs.Standing.{is_blocked, first_free, has_another, reached_from};
 
 use crate::thread::same;
-use crate::{Straight, Thread};
+use crate::Thread;
 use bp_log::Memory;
 use js_data::Event;
+use js_tree::Straight;
 use std::alloc::Global;
 
 /// Whether some b-thread blocks the event.

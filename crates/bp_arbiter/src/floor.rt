@@ -8,9 +8,10 @@ ghost use Rattle.bp_run.specs.Settling.{unless_over, with_effect, with_end, turn
 ghost use Rattle.bp_arbiter.specs.Straight.{straight_code};
 ghost use Rattle.bp_arbiter.specs.Floor.{standing, configuration_of, pair_of, run_by, IsInRange};
 
-use crate::{Straight, Thread};
+use crate::Thread;
 use bp_log::{Line, Memory, Verdict};
 use js_data::Text;
+use js_tree::Straight;
 use std::alloc::Global;
 use std::mem;
 

@@ -6,10 +6,9 @@
 mod choosing;
 mod floor;
 mod next;
-mod script;
+mod step;
 mod thread;
 
 pub use floor::Floor;
 pub use next::{Next, Selection};
-pub use script::{Point, Points, Script, Straight};
 pub use thread::Thread;

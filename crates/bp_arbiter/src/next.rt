@@ -11,9 +11,10 @@ ghost use Rattle.bp_arbiter.specs.Standing.{has_another};
 ghost use Rattle.bp_arbiter.specs.Following.{drawn_after, next_of};
 
 use crate::choosing::{first_free, has_another, reached};
-use crate::{Floor, Straight};
+use crate::Floor;
 use bp_log::{Memory, Options, Verdict};
 use js_data::Event;
+use js_tree::Straight;
 use std::alloc::Global;
 
 /// The greatest weight of a run.

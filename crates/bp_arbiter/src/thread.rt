@@ -4,7 +4,7 @@ ghost use Rattle.bp_run.specs.Events.{same_event};
 ghost use Rattle.bp_arbiter.specs.Straight.{is_in, points_of};
 ghost use Rattle.bp_arbiter.specs.Standing.{point_of, requested_by, blocks, is_reached};
 
-use crate::{Point, Straight};
+use js_tree::{Point, Straight};
 use js_data::{Event, Text};
 
 /// A b-thread that was registered.
