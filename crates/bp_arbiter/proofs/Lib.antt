@@ -5,3 +5,4 @@ pub mod Searching
 pub mod Distinct
 pub mod Selecting
 pub mod Nexts
+pub mod Steps
