@@ -107,12 +107,12 @@ rest_entries None (n ∷ ns) h = omega arith
 pub restless : {O : Type 0} (p : Pair O) → at_rest p ≡ false → 0 < length p.entries
 restless p h = rest_entries p.c.verdict p.entries h
 
-settled : {O S : Type 0} (l : Code O S) (n : ℕ) (p : Pair O) → at_rest p ≡ true → settle_in l n p ≡ p.c
+pub settled : {O S : Type 0} (l : Code O S) (n : ℕ) (p : Pair O) → at_rest p ≡ true → settle_in l n p ≡ p.c
 unfolding settle_in
 settled l zero p h = refl
 settled l (suc n) p h = rw (settle_in, h) refl
 
-unsettled : {O S : Type 0} (l : Code O S) (n : ℕ) (p : Pair O) → at_rest p ≡ false → settle_in l (suc n) p ≡ settle_in l n (turn l p)
+pub unsettled : {O S : Type 0} (l : Code O S) (n : ℕ) (p : Pair O) → at_rest p ≡ false → settle_in l (suc n) p ≡ settle_in l n (turn l p)
 unfolding settle_in
 unsettled l n p h = rw (settle_in, h) refl
 

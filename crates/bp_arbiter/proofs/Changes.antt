@@ -1,0 +1,28 @@
+-- B-threads as the definitions see them, one by one.
+use Rattle.std.proofs.Common.{◌≡◌, ℕ, zero, suc, ◌+◌, ◌<◌, Bool, true, false, List, [], ◌∷◌, ◌++◌, length, map, set, get_or, refl, sym, ap, ◌∙◌, arith, Option, Some, None, slice_get}
+use Rattle.bp_run.specs.Configuration.{Thread as Standing, change}
+use Rattle.bp_log.specs.declared.trace.Line.{Line}
+use Rattle.bp_log.specs.declared.trace.Line.TheVariants.{Done}
+use Rattle.bp_run.specs.Settling.{Pair, Entry, with_end}
+use Rattle.bp_run.specs.Settling.Entry.{Runs}
+use Rattle.bp_arbiter.specs.declared.thread.Thread.{Thread}
+use Rattle.bp_arbiter.specs.Floor.{standing}
+
+-- a change of one b-thread
+pub change-set : (f : Standing ℕ → Standing ℕ) (ts : List Thread) (i : ℕ) (d u : Thread) → i < length ts → standing u ≡ f (standing (get_or ts i d)) →
+    map standing (set ts i u) ≡ change f i (map standing ts)
+change-set f [] i d u h e = absurd (omega arith)
+change-set f (t ∷ ts) zero d u h e = ap (λ (s : Standing ℕ). s ∷ map standing ts) e
+change-set f (t ∷ ts) (suc i) d u h e = ap (λ (r : List (Standing ℕ)). standing t ∷ r) (change-set f ts i d u (omega arith) e)
+
+-- the b-thread of a number
+pub get-standing : (ts : List Thread) (i : ℕ) (d t : Thread) → i < length ts → t ≡ get_or ts i d → slice_get (map standing ts) i ≡ Some (standing t)
+get-standing [] i d t h e = absurd (omega arith)
+get-standing (u ∷ ts) zero d t h e = ap (λ (s : Thread). Some (standing s)) (sym e)
+get-standing (u ∷ ts) (suc i) d t h e = get-standing ts i d t (omega arith) e
+
+-- a b-thread ended, with its line
+pub finished : (p : Pair ℕ) (n : ℕ) (t : Standing ℕ) (threads : List (Standing ℕ)) (lines : List Line) → slice_get p.c.threads n ≡ Some t →
+    threads ≡ change (λ s. record s { ended = true }) n p.c.threads → lines ≡ p.c.lines ++ Done t.name ∷ [] →
+    record p { c = record p.c { threads = threads; lines = lines } } ≡ with_end (Runs n) p
+finished p n t threads lines h k m = rw (k, m, h) refl

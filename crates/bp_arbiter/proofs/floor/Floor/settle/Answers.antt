@@ -1,0 +1,26 @@
+use Rattle.std.proofs.Common.{◌≡◌, ◌∙◌, ℕ, [], map, ap, sym}
+use Rattle.bp_run.specs.Settling.{Pair, Entry, turn}
+use Rattle.bp_run.specs.Settling.Entry.{Runs}
+use Rattle.bp_arbiter.specs.Straight.{straight_code}
+use Rattle.bp_arbiter.specs.Floor.{pair_of}
+use Rattle.bp_arbiter.proofs.Loops.{settle_over, settle_nobody, settle_once, empty_wave, some_wave}
+use Rattle.bp_arbiter.proofs.floor.Floor.settle.Goals as goal
+use Rattle.bp_arbiter.proofs.floor.Floor.settle.Goals.{then-is_some-via-then-is_some, then-is_some-via-else-is_some+then-is_empty}
+
+pub returns-then-is_some : goal.returns-then-is_some
+returns-then-is_some c =
+    let p = pair_of c.args.self.now in
+    elim c.then-is_some.branch [
+      | then-is_some-via-then-is_some w ↦ sym (settle_over (straight_code c.args.script.now) p (sym w.if-is_some.ensures))
+      | then-is_some-via-else-is_some+then-is_empty w ↦
+        sym (settle_nobody (straight_code c.args.script.now) p (empty_wave c.args.self.now.wave.items c.args.self.now.wave.len c.args.self.now.wave.ok.0 w.if-is_empty.ensures))
+    ]
+
+pub returns : goal.returns
+returns c =
+    let l = straight_code c.args.script.now in
+    let p = pair_of c.args.self.now in
+    let turned = c.in_ok-turn.ensures.turned in
+    let nobody : (turn l p).entries ≡ [] = sym (ap (λ (q : Pair ℕ). q.entries) turned) ∙ ap (λ ns. map Runs ns) c.in_ok-turn.ensures.nobody in
+    ap (λ (q : Pair ℕ). q.c) turned
+    ∙ sym (settle_once l p (sym c.if-is_some.ensures) (some_wave c.args.self.now.wave.items c.args.self.now.wave.len c.args.self.now.wave.ok.0 c.if-is_empty.ensures) nobody)

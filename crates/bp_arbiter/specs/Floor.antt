@@ -1,0 +1,39 @@
+-- The configuration that a floor stands for, with what is to be run in it.
+use Rattle.std.specs.Prelude.{ℕ, suc, ◌<◌, List, [], length, map, None, All}
+use Rattle.bp_run.specs.Configuration.{Configuration, Thread as Standing, below}
+use Rattle.bp_run.specs.Settling.{Pair, Entry, unless_over, with_part, part_of, body_of}
+use Rattle.bp_run.specs.Settling.Entry.{Runs}
+use Rattle.js_tree.specs.declared.straight.Straight.{Straight}
+use Rattle.bp_arbiter.specs.Straight.{straight_code}
+use Rattle.bp_arbiter.specs.declared.thread.Thread.{Thread}
+use Rattle.bp_arbiter.specs.declared.floor.Floor.{Floor}
+
+-- the b-thread at a place of the script has the origin after that place
+abbrev pub standing : Thread → Standing ℕ
+standing t = record { name = t.name; origin = suc t.place; replies = t.replies.items; ended = t.ended }
+
+-- nothing waits in the queue, and every injector is still read
+abbrev pub configuration_of : Floor → Configuration ℕ
+configuration_of f =
+    record {
+      threads = map standing f.threads.items;
+      queue = [];
+      drawn = f.drawn;
+      reading = below f.injectors;
+      bad = None;
+      transitions = f.transitions;
+      weight = f.weight;
+      lines = f.lines.items;
+      verdict = f.verdict;
+    }
+
+abbrev pub pair_of : Floor → Pair ℕ
+pair_of f = record { c = configuration_of f; entries = map Runs f.wave.items }
+
+-- those that are to be run are registered
+abbrev pub IsInRange : Floor → Type 0
+IsInRange f = All (λ n. n < length f.threads.items) f.wave.items
+
+-- the b-thread of this number runs and is merged
+abbrev pub run_by : List Straight → ℕ → Pair ℕ → Pair ℕ
+run_by script n p = unless_over (with_part (Runs n) (part_of (straight_code script) (body_of (straight_code script) p.c (Runs n)))) p

@@ -1,0 +1,4 @@
+pub mod Straight
+pub mod Standing
+pub mod Floor
+pub mod Following

@@ -1,0 +1,165 @@
+//! The configuration of a run, and how it changes.
+ghost use Rattle.std.specs.Prelude.{◌≡◌, ◌<◌, ◌∷◌, [], suc, length, map, OnOk, IfOk, true};
+ghost use Rattle.bp_log.specs.declared.verdict.Place.TheVariants.{Top};
+ghost use Rattle.bp_run.specs.Bodies.Effect.{Register};
+ghost use Rattle.bp_run.specs.Configuration.{empty, change};
+ghost use Rattle.bp_run.specs.Settling.Entry.{The_top, Runs};
+ghost use Rattle.bp_run.specs.Settling.{unless_over, with_effect, with_end, turn, settle, initial};
+ghost use Rattle.bp_arbiter.specs.Straight.{straight_code};
+ghost use Rattle.bp_arbiter.specs.Floor.{standing, configuration_of, pair_of, run_by, IsInRange};
+
+use crate::Thread;
+use bp_log::{Line, Memory, Verdict};
+use js_data::Text;
+use js_tree::Straight;
+use std::alloc::Global;
+use std::mem;
+
+/// How many b-threads can be registered in a run.
+const MOST_THREADS: usize = 4096;
+
+/// A configuration, and the numbers of the b-threads that are to be run in it.
+#[derive(Debug, Drop)]
+pub struct Floor {
+    /// The b-threads, in the order in which they registered.
+    pub threads: Vec<Thread>,
+    /// How many words were drawn.
+    pub drawn: u64,
+    /// How many injectors there are.
+    pub injectors: u32,
+    /// How many transitions were made.
+    pub transitions: u32,
+    /// The weight of the run so far.
+    pub weight: u64,
+    /// The lines so far.
+    pub lines: Vec<Line>,
+    /// The verdict, if there is one.
+    pub verdict: Option<Verdict>,
+    /// The b-threads that are to be run, in order.
+    pub wave: Vec<usize>,
+}
+
+/// Marks the b-thread of this number as ended.
+fn end_thread(threads: &mut [Thread], number: usize)
+    requires { number < length threads.old }
+    ensures ended { map standing threads.new ≡ change (λ t. record t { ended = true }) number (map standing threads.old) }
+    ensures length { length threads.new ≡ length threads.old }
+{
+    threads[number].ended = true;
+}
+
+impl Floor {
+    /// The empty configuration.
+    pub(crate) fn empty(alloc: Global, injectors: u32) -> Floor
+        ensures { pair_of result ≡ record { c = empty injectors; entries = [] } }
+    {
+        Floor {
+            threads: Vec::new(alloc),
+            drawn: 0,
+            injectors,
+            transitions: 0,
+            weight: 0,
+            lines: Vec::new(alloc),
+            verdict: None,
+            wave: Vec::new(alloc),
+        }
+    }
+
+    /// Registers a b-thread, which is then to be run.
+    fn register(&mut self, alloc: Global, name: &Text, place: usize) -> Result<(), Memory>
+        ensures registered { OnOk result (pair_of self.new ≡ unless_over (with_effect Top (Register name.now (suc place))) (pair_of self.old)) }
+        ensures in_range { OnOk result (IsInRange self.old → IsInRange self.new) }
+    {
+        if self.verdict.is_some() {
+            return Ok(());
+        }
+        let number = self.threads.len();
+        if number == MOST_THREADS {
+            self.verdict = Some(Verdict::Threads);
+            return Ok(());
+        }
+        self.threads.push(Thread {
+            name: name.copy()?,
+            place,
+            replies: Vec::new(alloc),
+            ended: false,
+        })?;
+        self.wave.push(number)?;
+        Ok(())
+    }
+
+    /// The configuration after the top level, with the b-threads that it registered.
+    fn opened(alloc: Global, script: &[Straight], injectors: u32) -> Result<Floor, Memory>
+        ensures opened { IfOk result (λ f. pair_of f ≡ turn (straight_code script.now) (record { c = empty injectors; entries = The_top ∷ [] })) }
+        ensures in_range { IfOk result IsInRange }
+    {
+        let mut floor = Floor::empty(alloc, injectors);
+        for (place, straight) in script.iter().enumerate() {
+            floor.register(alloc, &straight.name, place)?;
+        }
+        Ok(floor)
+    }
+
+    /// Ends a b-thread, with its line.
+    fn finish(&mut self, number: usize) -> Result<(), Memory>
+        requires { number < length self.old.threads.items }
+        ensures finished { OnOk result (pair_of self.new ≡ with_end (Runs number) (pair_of self.old)) }
+        ensures length { OnOk result (length self.new.threads.items ≡ length self.old.threads.items) }
+        ensures wave { self.new.wave ≡ self.old.wave }
+    {
+        let name = self.threads[number].name.copy()?;
+        self.lines.push(Line::Done(name))?;
+        end_thread(&mut self.threads, number);
+        Ok(())
+    }
+
+    /// Merges what a b-thread did: it stands at a point, or it came to its end.
+    fn merge(&mut self, script: &[Straight], number: usize) -> Result<(), Memory>
+        requires { number < length self.old.threads.items }
+        ensures merged { OnOk result (pair_of self.new ≡ run_by script.now number (pair_of self.old)) }
+        ensures length { OnOk result (length self.new.threads.items ≡ length self.old.threads.items) }
+        ensures wave { self.new.wave ≡ self.old.wave }
+    {
+        if self.verdict.is_some() {
+            return Ok(());
+        }
+        if self.threads[number].stands(script) {
+            return Ok(());
+        }
+        self.finish(number)
+    }
+
+    /// Runs and merges the b-threads that are to be run, in order. No further one is then to be run.
+    fn turn(&mut self, alloc: Global, script: &[Straight]) -> Result<(), Memory>
+        requires { IsInRange self.old }
+        ensures turned { OnOk result (pair_of self.new ≡ turn (straight_code script.now) (pair_of self.old)) }
+        ensures nobody { OnOk result (self.new.wave.items ≡ []) }
+    {
+        let wave = mem::replace(&mut self.wave, Vec::new(alloc));
+        for number in &wave {
+            self.merge(script, *number)?;
+        }
+        Ok(())
+    }
+
+    /// Runs b-threads until nobody is to be run, or there is a verdict.
+    pub(crate) fn settle(&mut self, alloc: Global, script: &[Straight]) -> Result<(), Memory>
+        requires { IsInRange self.old }
+        ensures { OnOk result (configuration_of self.new ≡ settle (straight_code script.now) (pair_of self.old)) }
+    {
+        if self.verdict.is_some() || self.wave.is_empty() {
+            return Ok(());
+        }
+        self.turn(alloc, script)?;
+        Ok(())
+    }
+
+    /// The initial configuration of a script.
+    pub fn open(alloc: Global, script: &[Straight], injectors: u32) -> Result<Floor, Memory>
+        ensures { IfOk result (λ f. configuration_of f ≡ initial (straight_code script.now) injectors) }
+    {
+        let mut floor = Floor::opened(alloc, script, injectors)?;
+        floor.settle(alloc, script)?;
+        Ok(floor)
+    }
+}

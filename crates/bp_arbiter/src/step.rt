@@ -1,0 +1,84 @@
+//! Transitions, and the end of a run.
+ghost use Rattle.std.specs.Prelude.{◌≡◌, ◌<◌, ◌≤◌, ◌+◌, ◌∷◌, ◌++◌, ◌^◌, [], length, map, All, OnOk, None};
+ghost use Rattle.bp_run.specs.Configuration.{change};
+ghost use Rattle.bp_run.specs.Settling.Entry.{Runs};
+ghost use Rattle.bp_run.specs.Story.{touch_all, weight_after, step, move, over_with};
+ghost use Rattle.bp_arbiter.specs.Straight.{straight_code};
+ghost use Rattle.bp_arbiter.specs.Floor.{standing, configuration_of, pair_of, IsInRange};
+
+use crate::{Floor, Thread};
+use bp_log::{Line, Memory, Verdict};
+use js_data::Event;
+use js_tree::Straight;
+use std::alloc::Global;
+
+/// Gives the event to the b-thread of this number.
+fn give(threads: &mut [Thread], number: usize, event: &Event) -> Result<(), Memory>
+    requires { number < length threads.old }
+    ensures { OnOk result (map standing threads.new ≡ change (λ t. record t { replies = t.replies ++ event.now ∷ [] }) number (map standing threads.old)) }
+{
+    threads[number].replies.push(event.copy()?)?;
+    Ok(())
+}
+
+/// Gives the event to the b-threads of these numbers.
+fn give_all(threads: &mut [Thread], numbers: &[usize], event: &Event) -> Result<(), Memory>
+    requires { All (λ n. n < length threads.old) numbers.now }
+    ensures { OnOk result (map standing threads.new ≡ touch_all event.now (map Runs numbers.now) (map standing threads.old)) }
+{
+    for number in numbers {
+        give(threads, *number, event)?;
+    }
+    Ok(())
+}
+
+impl Floor {
+    /// Makes a transition, before anything runs.
+    fn step(&mut self, event: &Event, drawn: u64, reached: Vec<usize>) -> Result<(), Memory>
+        requires in_range { All (λ n. n < length self.old.threads.items) reached.items }
+        requires transitions { self.old.transitions + 1 < 2 ^ 32 }
+        requires light { weight_after (configuration_of self.old) event.now (map Runs reached.items) ≤ 16_777_216 }
+        ensures stepped { OnOk result (pair_of self.new ≡ record {
+            c = step (configuration_of self.old) (record { event = event.now; place = None; drawn = drawn }) (map Runs reached.items);
+            entries = map Runs reached.items }) }
+        ensures in_range { OnOk result (IsInRange self.new) }
+    {
+        let weight = self.weight_after(event, reached.len());
+        self.lines.push(Line::Event(event.copy()?))?;
+        give_all(&mut self.threads, &reached, event)?;
+        self.transitions += 1;
+        self.weight = weight;
+        self.drawn = drawn;
+        self.wave = reached;
+        Ok(())
+    }
+
+    /// Makes the transition of an event that is selected, and runs what it moves.
+    pub(crate) fn advance(
+        &mut self,
+        alloc: Global,
+        script: &[Straight],
+        event: &Event,
+        drawn: u64,
+        reached: Vec<usize>,
+    ) -> Result<(), Memory>
+        requires in_range { All (λ n. n < length self.old.threads.items) reached.items }
+        requires transitions { self.old.transitions + 1 < 2 ^ 32 }
+        requires light { weight_after (configuration_of self.old) event.now (map Runs reached.items) ≤ 16_777_216 }
+        ensures { OnOk result (configuration_of self.new
+            ≡ move (straight_code script.now) (configuration_of self.old) (record { event = event.now; place = None; drawn = drawn }) (map Runs reached.items)) }
+    {
+        self.step(event, drawn, reached)?;
+        self.settle(alloc, script)?;
+        Ok(())
+    }
+
+    /// Ends the run with this verdict.
+    pub(crate) fn end(&mut self, verdict: &Verdict) -> Result<(), Memory>
+        ensures { OnOk result (configuration_of self.new ≡ over_with (configuration_of self.old) verdict.now) }
+    {
+        self.lines.push(Line::Verdict(verdict.copy()?))?;
+        self.verdict = Some(verdict.copy()?);
+        Ok(())
+    }
+}
