@@ -3,13 +3,14 @@ use Rattle.std.specs.Prelude.{◌≡◌, ◌⊎◌, ℕ, List, [], ◌∷◌, �
 use Rattle.bp_base.specs.Worlds.{Holdings}
 use Rattle.bp_base.specs.Pieces.{Appends, AppendsFront}
 use Rattle.js_tree.specs.Straight.{Straight, IsFirstForm}
-use Rattle.bp_run.specs.Straight.{straight_code, defaults}
+use Rattle.bp_arbiter.specs.Straight.{straight_code}
+use Rattle.bp_log.specs.Options.{default_options}
 use Rattle.bp_run.specs.Story.{alone}
 use Rattle.bp_run.specs.Text.{text}
 
 -- the text of the one run of a straight script
 abbrev pub text_of_run : List Straight → Option (List ℕ)
-text_of_run script = text (straight_code script) defaults (alone (straight_code script) defaults)
+text_of_run script = text (straight_code script) default_options (alone (straight_code script) defaults)
 
 -- P of the bytes that the world holds under this name, where it tells what it holds
 abbrev pub OfHeld : Option Holdings → Option (List ℕ) → (List ℕ → Type 0) → Type 0

@@ -2,7 +2,7 @@
 ghost use Rattle.std.specs.Prelude.{◌≡◌, ◌⊎◌, string_bytes};
 ghost use Rattle.bp_cli.specs.Command.{note_of};
 
-use js_value::Text;
+use js_data::Text;
 use std::alloc::Global;
 
 /// What a command ends with: the code for the system, from 0 to 10, and the note for standard error, which may be empty.
