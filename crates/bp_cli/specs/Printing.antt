@@ -10,7 +10,7 @@ use Rattle.bp_run.specs.Text.{text}
 
 -- the text of the one run of a straight script
 abbrev pub text_of_run : List Straight → Option (List ℕ)
-text_of_run script = text (straight_code script) default_options (alone (straight_code script) defaults)
+text_of_run script = text (straight_code script) default_options (alone (straight_code script) default_options)
 
 -- P of the bytes that the world holds under this name, where it tells what it holds
 abbrev pub OfHeld : Option Holdings → Option (List ℕ) → (List ℕ → Type 0) → Type 0
