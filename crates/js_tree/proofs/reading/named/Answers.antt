@@ -9,4 +9,4 @@ text_of-requires c =
 pub returns-in_ok-text_of-clause-name : goal.returns-in_ok-text_of-clause-name
 returns-in_ok-text_of-clause-name c =
     rw (c.in_ok-text_of.ensures, c.split_at.ensures.front, c.split_at.ensures.back, c.front_len-len.ensures.len, take_front c.args.bytes.now)
-      (sym (named_read c.args.bytes.now (omega (arith, c.front_len-len.ensures.len)) (omega (arith, c.front_len-len.ensures.len))))
+    (sym (named_read c.args.bytes.now (omega (arith, c.front_len-len.ensures.len)) (omega (arith, c.front_len-len.ensures.len))))
