@@ -2,7 +2,6 @@
 use Rattle.std.proofs.Common.{◌≡◌, ℕ, ◌+◌, ◌-◌, ◌≤◌, List, ◌++◌, length, take, drop, append_assoc, take-append-drop, length-drop, arith, sym, ap, ◌∙◌, subst, refl}
 use Rattle.std.specs.Prelude.{Option, Some, None}
 use Rattle.std.proofs.Math.Seq.{take-add, take-append_seam}
-
 use Rattle.std.proofs.lemmas.List.{take-take, drop-drop, length-take-le, take_all}
 use Rattle.bp_base.specs.Pieces.{Gives, Appends, AppendsFront}
 
@@ -34,8 +33,8 @@ front_of xs ys n e = rw (← e) (take-append_seam xs ys)
 pub copied_front : (left bytes buffer copy : List ℕ) (at n : ℕ) → left ≡ drop at bytes → copy ≡ take n (take (length bytes - at) (drop at bytes)) → n ≤ length (take (length bytes - at) (drop at bytes)) → left ≡ take n (copy ++ drop n buffer) ++ drop (at + n) bytes
 copied_front left bytes buffer copy at n e k h =
     let whole : take (length bytes - at) (drop at bytes) ≡ drop at bytes =
-      take_all (length bytes - at) (drop at bytes) (omega (arith, length-drop at bytes)) in
+    take_all (length bytes - at) (drop at bytes) (omega (arith, length-drop at bytes)) in
     let fits : n ≤ length (drop at bytes) = rw whole at h in
     let front : take n (take n (drop at bytes) ++ drop n buffer) ≡ take n (drop at bytes) =
-      front_of (take n (drop at bytes)) (drop n buffer) n (length-take-le n (drop at bytes) fits) in
+    front_of (take n (drop at bytes)) (drop n buffer) n (length-take-le n (drop at bytes) fits) in
     rw (e, k, whole, front, ← drop-drop n at bytes) (sym (take-append-drop n (drop at bytes)))

@@ -60,7 +60,8 @@ impl Source for MemorySource {
 
     fn read(&mut self, into: &mut [u8]) -> Result<usize, Failed>
         ensures within { IfOk result (λ n. n ≤ length into.old) }
-        ensures given { IfOk result (λ n. Gives (Some self.old.left) (take n into.new) (Some self.new.left)) }
+        ensures given { IfOk result
+            (λ n. Gives (Some self.old.left) (take n into.new) (Some self.new.left)) }
         ensures end { 0 < length into.old → IfOk result (λ n. n ≡ 0 → self.old.left ≡ []) }
         ensures failed { OnErr result (self.new.left ≡ self.old.left) }
         ensures cause { OnErr result (Rose self.old.faults self.new.faults) }
@@ -133,7 +134,6 @@ impl MemorySink {
     {
         self.bytes.as_slice()
     }
-
 }
 
 impl Sink for MemorySink {
@@ -147,7 +147,8 @@ impl Sink for MemorySink {
         ensures within { IfOk result (λ n. n ≤ length bytes.now) }
         ensures some { 0 < length bytes.now → IfOk result (λ n. 0 < n) }
         ensures empty { length bytes.now ≡ 0 → result ≡ Ok 0 }
-        ensures appended { IfOk result (λ n. Appends (Some self.old.written) (take n bytes.now) (Some self.new.written)) }
+        ensures appended { IfOk result
+            (λ n. Appends (Some self.old.written) (take n bytes.now) (Some self.new.written)) }
         ensures failed { OnErr result (self.new.written ≡ self.old.written) }
         ensures cause { OnErr result (Rose self.old.faults self.new.faults) }
         ensures counts { self.old.faults ≤ self.new.faults }

@@ -1,5 +1,6 @@
 //! The system's files and streams: the trusted edge. They tell nothing of content or of names.
 ghost use Rattle.std.specs.Prelude.{◌≡◌};
+
 use crate::{Failed, Sink, Source, World, WorldError};
 use std::fs::{self, File};
 use std::io::{Read, Write};

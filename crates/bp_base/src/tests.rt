@@ -53,8 +53,14 @@ fn a_world_opens_what_it_holds(rt: HostRuntime) -> Result<(), Fail> {
     assert_eq!(rt; world.held("a"), Some(b"new".as_slice()));
     assert_eq!(rt; world.held("b"), None);
     let mut input = world.open("a")?;
-    assert_eq!(rt; read_all(alloc, &mut input, 9).err(), Some(ReadError::Fault));
-    assert_eq!(rt; read_all(alloc, &mut input, 9)?.as_slice(), b"new".as_slice());
+    assert_eq!(rt;
+        read_all(alloc, &mut input, 9).err(),
+        Some(ReadError::Fault)
+    );
+    assert_eq!(rt;
+        read_all(alloc, &mut input, 9)?.as_slice(),
+        b"new".as_slice()
+    );
     world.close_input(input);
     assert_eq!(rt; world.open("b").err(), Some(WorldError::Failed));
     assert_eq!(rt; world.open("a").err(), Some(WorldError::Failed));
@@ -67,7 +73,10 @@ fn a_file_of_the_system_is_read(rt: HostRuntime) -> Result<(), Fail> {
     fs::write(&rt, NAME, "bytes")?;
     let mut world = FileWorld::new(rt.clone()?);
     let mut input = world.open(NAME)?;
-    assert_eq!(rt; read_all(alloc, &mut input, 9)?.as_slice(), b"bytes".as_slice());
+    assert_eq!(rt;
+        read_all(alloc, &mut input, 9)?.as_slice(),
+        b"bytes".as_slice()
+    );
     world.close_input(input);
     fs::remove_file(&rt, NAME)?;
     assert_eq!(rt; world.open(NAME).err(), Some(WorldError::Failed));

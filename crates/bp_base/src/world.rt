@@ -31,12 +31,12 @@ impl Model for MemoryWorld {
     ghost use Rattle.bp_base.specs.Shelf.{entries_of};
 
     ghost view = { λ w. record {
-        room = w.room;
-        held = entries_of w.held;
-        failing = entries_of w.failing;
-        asked = map string_bytes w.asked.items;
-        calls = w.calls;
-        read_faults = w.read_faults
+      room = w.room;
+      held = entries_of w.held;
+      failing = entries_of w.failing;
+      asked = map string_bytes w.asked.items;
+      calls = w.calls;
+      read_faults = w.read_faults;
     } };
 }
 
@@ -59,7 +59,8 @@ impl MemoryWorld {
 
     /// Holds these bytes under the name, in place of what was there.
     pub fn hold(&mut self, name: String, bytes: Vec<u8>) -> Result<(), Memory>
-        ensures sets { OnOk result (Sets (under self.old.held) (string_bytes name) bytes.items (under self.new.held)) }
+        ensures sets { OnOk result
+            (Sets (under self.old.held) (string_bytes name) bytes.items (under self.new.held)) }
         ensures rest { self.new ≡ record self.old { held = self.new.held } }
         ensures err { OnErr result (self.new ≡ self.old) }
     {
@@ -70,7 +71,8 @@ impl MemoryWorld {
 
     /// Lets the calls with these numbers fail, of each input of that name that is opened from now on.
     pub fn fail(&mut self, name: String, calls: Vec<u64>) -> Result<(), Memory>
-        ensures sets { OnOk result (Sets (under self.old.failing) (string_bytes name) calls.items (under self.new.failing)) }
+        ensures sets { OnOk result
+            (Sets (under self.old.failing) (string_bytes name) calls.items (under self.new.failing)) }
         ensures rest { self.new ≡ record self.old { failing = self.new.failing } }
         ensures err { OnErr result (self.new ≡ self.old) }
     {

@@ -10,7 +10,12 @@ asked_code = coded_option event_code
 
 abbrev pub point_code : Coded Point
 point_code =
-    code_by (Option PlainEvent × (Option PlainEvent × Option PlainEvent)) (coded× asked_code (coded× asked_code asked_code)) (λ p. (p.request, (p.wait_for, p.block))) (λ t. record { request = t.0; wait_for = t.1.0; block = t.1.1 }) (λ _. refl)
+    code_by
+    (Option PlainEvent × (Option PlainEvent × Option PlainEvent))
+    (coded× asked_code (coded× asked_code asked_code))
+    (λ p. (p.request, (p.wait_for, p.block)))
+    (λ t. record { request = t.0; wait_for = t.1.0; block = t.1.1 })
+    (λ _. refl)
 
 abbrev pub points_code : Coded (List Point)
 points_code = coded_list point_code

@@ -26,7 +26,9 @@ named bytes =
 -- a name between these bytes and those
 unfoldable pub between : List ℕ → List ℕ → List ℕ → Option (List ℕ × List ℕ)
 between left right bytes =
-    option_and_then (λ rest. option_and_then (λ n. option_map (λ after_it. (n.0, after_it)) (after right n.1)) (named rest)) (after left bytes)
+    option_and_then
+    (λ rest. option_and_then (λ n. option_map (λ after_it. (n.0, after_it)) (after right n.1)) (named rest))
+    (after left bytes)
 
 -- what stands before the name of the event that a point requests, waits for or blocks; a later part has a comma
 -- and a space in front
@@ -71,7 +73,8 @@ point_from bytes = let p = parts_from bytes in option_map (λ rest. (p.0, rest))
 abbrev pub points_end : List Point → List ℕ → Option (List Point × List ℕ)
 points_end done bytes = option_map (λ rest. (done, rest)) (after (codes "});\n") bytes)
 
-abbrev pub points_or : List Point → List ℕ → (List ℕ → Option (List Point × List ℕ)) → Option (List ℕ) → Option (List Point × List ℕ)
+abbrev pub points_or :
+    List Point → List ℕ → (List ℕ → Option (List Point × List ℕ)) → Option (List ℕ) → Option (List Point × List ℕ)
 points_or done bytes f None = points_end done bytes
 points_or done bytes f (Some line) = f line
 
@@ -79,14 +82,18 @@ points_or done bytes f (Some line) = f line
 unfoldable pub points_from : ℕ → List Point → List ℕ → Option (List Point × List ℕ)
 points_from zero done bytes = None
 points_from (suc most) done bytes =
-    points_or done bytes (λ line. option_and_then (λ p. points_from most (done ++ p.0 ∷ []) p.1) (point_from line)) (after (codes "  bp.sync({") bytes)
+    points_or done bytes
+    (λ line. option_and_then (λ p. points_from most (done ++ p.0 ∷ []) p.1) (point_from line))
+    (after (codes "  bp.sync({") bytes)
 
 abbrev pub thread_of : List ℕ → List Point → Straight
 thread_of name points = record { name = name; points = points }
 
 unfoldable pub thread_from : List ℕ → Option (Straight × List ℕ)
 thread_from bytes =
-    option_and_then (λ n. option_map (λ p. (thread_of n.0 p.0, p.1)) (points_from (length n.1) [] n.1)) (between (codes "bp.registerBThread(\"") (codes "\", function() {\n") bytes)
+    option_and_then
+    (λ n. option_map (λ p. (thread_of n.0 p.0, p.1)) (points_from (length n.1) [] n.1))
+    (between (codes "bp.registerBThread(\"") (codes "\", function() {\n") bytes)
 
 -- at most so many b-threads, behind those that are read
 unfoldable pub threads_from : ℕ → List Straight → List ℕ → Option (List Straight)

@@ -62,7 +62,10 @@ joined (part ∷ next ∷ parts) = part ++ codes ", " ++ joined (next ∷ parts)
 
 abbrev pub parts_text : Point → List ℕ
 parts_text point =
-    joined (part_text (codes "request") point.request ++ part_text (codes "waitFor") point.wait_for ++ part_text (codes "block") point.block)
+    joined
+    (part_text (codes "request") point.request
+    ++ part_text (codes "waitFor") point.wait_for
+    ++ part_text (codes "block") point.block)
 
 -- the line of a point
 abbrev pub point_text : Point → List ℕ

@@ -7,7 +7,12 @@ use Rattle.js_tree.specs.PointCodes.{points_code}
 
 abbrev pub thread_code : Coded Straight
 thread_code =
-    code_by (List ℕ × List Point) (coded× (coded_list coded_ℕ) points_code) (λ s. (s.name, s.points)) (λ t. record { name = t.0; points = t.1 }) (λ _. refl)
+    code_by
+    (List ℕ × List Point)
+    (coded× (coded_list coded_ℕ) points_code)
+    (λ s. (s.name, s.points))
+    (λ t. record { name = t.0; points = t.1 })
+    (λ _. refl)
 
 abbrev pub script_code : Coded (List Straight)
 script_code = coded_list thread_code

@@ -10,7 +10,7 @@ returns-clause-given c =
     let n = c.min-count.result in
     let left : c.args.self.now.left ≡ drop at bytes = sym (ap (λ (s : Supply). s.left) c.self.view_is) in
     let copy : c.copy_from_slice.new.self ≡ take n (take (length bytes - at) (drop at bytes)) =
-      rw c.deref.ensures.value at c.copy_from_slice.ensures.after in
+    rw c.deref.ensures.value at c.copy_from_slice.ensures.after in
     let count : n ≡ min (length c.args.into.now) (length (take (length bytes - at) (drop at bytes))) =
-      rw c.deref.ensures.value at c.min-count.ensures in
+    rw c.deref.ensures.value at c.min-count.ensures in
     copied_front c.args.self.now.left bytes c.args.into.now c.copy_from_slice.new.self at n left copy (omega arith)
