@@ -3,14 +3,7 @@ use Rattle.std.specs.Prelude.{◌≡◌, ◌⊎◌, ℕ, List, [], ◌∷◌, �
 use Rattle.bp_base.specs.Worlds.{Holdings}
 use Rattle.bp_base.specs.Pieces.{Appends, AppendsFront}
 use Rattle.js_tree.specs.Straight.{Straight, IsFirstForm}
-use Rattle.bp_arbiter.specs.Straight.{straight_code}
-use Rattle.bp_log.specs.Options.{default_options}
-use Rattle.bp_run.specs.Story.{alone}
-use Rattle.bp_run.specs.Text.{text}
-
--- the text of the one run of a straight script
-abbrev pub text_of_run : List Straight → Option (List ℕ)
-text_of_run script = text (straight_code script) default_options (alone (straight_code script) default_options)
+use Rattle.bp_arbiter.specs.Straight.{text_alone}
 
 -- P of the bytes that the world holds under this name, where it tells what it holds
 abbrev pub OfHeld : Option Holdings → Option (List ℕ) → (List ℕ → Type 0) → Type 0
@@ -19,12 +12,12 @@ OfHeld holds name P = IfSome holds (λ held. IsSomeAnd name (λ n. IsSomeAnd (he
 -- the bytes are a straight script, and what was printed is the text of its run
 abbrev pub PrintsRun : Option (List ℕ) → Option (List ℕ) → List ℕ → Type 0
 PrintsRun before after bytes =
-    (script : List Straight) × IsFirstForm bytes script × IsSomeAnd (text_of_run script) (λ t. Appends before t after)
+    (script : List Straight) × IsFirstForm bytes script × IsSomeAnd (text_alone script) (λ t. Appends before t after)
 
 -- the bytes are a straight script, and what was printed is a prefix of the text of its run
 abbrev pub PrintsPart : Option (List ℕ) → Option (List ℕ) → List ℕ → Type 0
 PrintsPart before after bytes =
-    (script : List Straight) × IsFirstForm bytes script × IsSomeAnd (text_of_run script) (λ t. AppendsFront before t after)
+    (script : List Straight) × IsFirstForm bytes script × IsSomeAnd (text_alone script) (λ t. AppendsFront before t after)
 
 -- the bytes are no straight script
 abbrev pub IsRefused : List ℕ → Type 0

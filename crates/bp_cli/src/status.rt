@@ -1,6 +1,5 @@
 // How a command ends.
-ghost use Rattle.std.specs.Prelude.{◌≡◌, ◌⊎◌, string_bytes};
-ghost use Rattle.bp_cli.specs.Command.{note_of};
+ghost use Rattle.std.specs.Prelude.{◌≡◌, ◌⊎◌, []};
 
 use js_data::Text;
 use std::alloc::Global;
