@@ -6,3 +6,4 @@ pub mod Distinct
 pub mod Selecting
 pub mod Nexts
 pub mod Steps
+pub mod Runs

@@ -6,9 +6,12 @@
 mod choosing;
 mod floor;
 mod next;
+mod pick;
+mod runner;
 mod step;
 mod thread;
 
 pub use floor::Floor;
 pub use next::{Next, Selection};
+pub use runner::{Picked, Runner};
 pub use thread::Thread;
