@@ -4,3 +4,4 @@ pub mod Law
 pub mod Ordered
 pub mod Reading
 pub mod Texts
+mod Examples
