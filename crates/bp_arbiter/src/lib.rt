@@ -5,6 +5,7 @@
 
 mod choosing;
 mod floor;
+mod lines;
 mod next;
 mod pick;
 mod runner;
@@ -12,6 +13,7 @@ mod step;
 mod thread;
 
 pub use floor::Floor;
+pub use lines::{PrintError, line_of, print};
 pub use next::{Next, Selection};
 pub use runner::{Picked, Runner};
 pub use thread::Thread;
