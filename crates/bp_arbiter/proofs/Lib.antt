@@ -7,3 +7,4 @@ pub mod Selecting
 pub mod Nexts
 pub mod Steps
 pub mod Runs
+pub mod Printing

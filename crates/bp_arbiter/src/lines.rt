@@ -1,10 +1,10 @@
 //! Lines of the trace as text, and their printing.
-ghost use Rattle.std.specs.Prelude.{◌≡◌, ◌≤◌, ◌++◌, IfOk, OnOk, IsErrOf, decimal, codes};
+ghost use Rattle.std.specs.Prelude.{◌≡◌, ◌≤◌, ◌++◌, IfOk, OnOk, OnErr, IsErrOf, decimal, codes};
 ghost use Rattle.bp_base.specs.Counts.{Rose};
 ghost use Rattle.bp_base.specs.Pieces.{Appends, AppendsFront};
 ghost use Rattle.js_data.specs.Faults.{fault_name};
 ghost use Rattle.js_data.specs.JsonText.{quoted_text};
-ghost use Rattle.bp_run.specs.Text.{place_text, verdict_text, line_text, whole_line};
+ghost use Rattle.bp_run.specs.Text.{place_text, verdict_text, line_text, whole_line, lines_text};
 
 use bp_base::{Failed, Sink, write_all};
 use bp_log::{Line, Memory, Place, Verdict};
@@ -157,12 +157,26 @@ fn whole_line_of(alloc: Global, line: &Line) -> Result<Text, Memory>
 /// appended, and after `Memory` nothing.
 pub fn print<K: Sink>(alloc: Global, line: &Line, sink: &mut K) -> Result<(), PrintError>
     ensures whole { OnOk result (Appends (K.written sink.old) (whole_line line.now) (K.written sink.new)) }
-    ensures front { IsErrOf result PrintError.Write → AppendsFront (K.written sink.old) (whole_line line.now) (K.written sink.new) }
+    ensures front { OnErr result (AppendsFront (K.written sink.old) (whole_line line.now) (K.written sink.new)) }
     ensures nothing { IsErrOf result PrintError.Memory → K.written sink.new ≡ K.written sink.old }
     ensures cause { IsErrOf result PrintError.Write → Rose (K.faults sink.old) (K.faults sink.new) }
     ensures counts { K.faults sink.old ≤ K.faults sink.new }
 {
     let text = whole_line_of(alloc, line)?;
     write_all(sink, text.as_str().as_bytes())?;
+    Ok(())
+}
+
+/// Prints lines of the trace, one after another. After a refusal a part of their text, from its
+/// front, was appended.
+pub(crate) fn print_lines<K: Sink>(alloc: Global, lines: &[Line], sink: &mut K) -> Result<(), PrintError>
+    ensures whole { OnOk result (Appends (K.written sink.old) (lines_text lines.now) (K.written sink.new)) }
+    ensures front { OnErr result (AppendsFront (K.written sink.old) (lines_text lines.now) (K.written sink.new)) }
+    ensures cause { IsErrOf result PrintError.Write → Rose (K.faults sink.old) (K.faults sink.new) }
+    ensures counts { K.faults sink.old ≤ K.faults sink.new }
+{
+    for line in lines {
+        print(alloc, line, sink)?;
+    }
     Ok(())
 }

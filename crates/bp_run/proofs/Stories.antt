@@ -130,11 +130,11 @@ only_from l o (suc n) (Sel e ∷ rest) c d i t f h k =
     let more = move_transitions l c ch r in
     only_from l o n rest (move l c ch r) d (move_reading l c ch r ∙ i) (omega (arith, less, more)) (omega (arith, less, more)) s k)
 
-initial_transitions : {O S : Type 0} (l : Code O S) (n : ℕ) → (initial l n).transitions ≡ 0
+pub initial_transitions : {O S : Type 0} (l : Code O S) (n : ℕ) → (initial l n).transitions ≡ 0
 unfolding initial
 initial_transitions l n = (grown_settle l (record { c = empty n; entries = The_top ∷ [] })).transitions
 
-initial_reading : {O S : Type 0} (l : Code O S) → (initial l 0).reading ≡ []
+pub initial_reading : {O S : Type 0} (l : Code O S) → (initial l 0).reading ≡ []
 unfolding initial
 initial_reading l = (grown_settle l (record { c = empty 0; entries = The_top ∷ [] })).reading
 
