@@ -8,3 +8,4 @@ pub mod Nexts
 pub mod Steps
 pub mod Runs
 pub mod Printing
+pub mod Ahead

@@ -4,3 +4,4 @@ pub mod Floor
 pub mod Following
 pub mod Picking
 pub mod Stand
+pub mod Faults

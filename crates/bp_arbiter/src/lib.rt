@@ -9,6 +9,7 @@ mod lines;
 mod next;
 mod pick;
 mod runner;
+mod running;
 mod step;
 mod thread;
 
@@ -16,4 +17,5 @@ pub use floor::Floor;
 pub use lines::{PrintError, line_of, print};
 pub use next::{Next, Selection};
 pub use runner::{Picked, Runner};
+pub use running::{RunFault, run};
 pub use thread::Thread;
