@@ -1,6 +1,7 @@
 -- How far a run is on the way to its end.
 use Rattle.std.proofs.Common.{◌≡◌, ℕ, zero, suc, ◌+◌, ◌-◌, ◌<◌, ◌≤◌, Bool, true, false, List, [], ◌∷◌, ◌++◌, length, take, drop, refl, ap, sym, ◌∙◌, subst, append_assoc, append-nil, length-append, add-one, arith, Option, Some, None, option_map, IsSomeAnd}
 use Rattle.bp_base.specs.Pieces.{Appends, AppendsFront}
+use Rattle.bp_base.proofs.Appending.{appends-on}
 use Rattle.bp_log.specs.Options.{PlainOptions, default_options}
 use Rattle.bp_log.specs.declared.record.Record.{Record}
 use Rattle.bp_log.specs.declared.record.Record.TheVariants.{In, Bad, Eof, Sel, End}
@@ -191,3 +192,79 @@ stepped script rs c p old new a e k t =
     stepped_left script rs c a.left p new a.fuel a.within a.reading a.goes_on
     (told_is (story l default_options rs) c (λ d. Takes (stand script default_options rs false) (next l default_options d) p new) a.story_is (subst K e k))
     (told_is (story l default_options rs) c (λ d. told new ≡ Some (after_next l d (next l default_options d))) a.story_is (subst T e t))
+
+-- the lines of a runner are those of its story
+pub lines_are : (script : List Straight) (rs : List Record) (c : Configuration ℕ) (s : Stand) (v : List Line) → s ≡ stand script default_options rs false →
+    story (straight_code script) default_options rs ≡ Some c → (s.broken ≡ false → IsSomeAnd (told s) (λ d. v ≡ d.lines)) → v ≡ c.lines
+lines_are script rs c s v e h k =
+    told_is (told s) c (λ d. v ≡ d.lines) (ap (λ (x : Stand). told x) e ∙ h) (k (ap (λ (x : Stand). x.broken) e))
+
+front_more : (a b : Option (List ℕ)) (x rest : List ℕ) → AppendsFront a x b → AppendsFront a (x ++ rest) b
+front_more a b x rest h = front_in a a b [] x rest (x ++ rest) refl (appends_nothing a) h
+
+-- nothing was printed yet
+pub printed_nothing : (script : List Straight) (a : Option (List ℕ)) → IsSomeAnd (text_alone script) (λ t. AppendsFront a t a)
+printed_nothing script a =
+    let f = ahead_first script in
+    some_text script [] (alone (straight_code script) default_options) (initial (straight_code script) 0) (λ t. AppendsFront a t a) refl f.story_is
+    (λ rest. front_at a a [] (lines_text (initial (straight_code script) 0).lines ++ rest) (lines_text (initial (straight_code script) 0).lines ++ rest) refl (appends_nothing a))
+
+-- a front of the first lines was printed
+pub printed_first : (script : List Straight) (a b : Option (List ℕ)) (v : List Line) → v ≡ (initial (straight_code script) 0).lines → AppendsFront a (lines_text v) b →
+    IsSomeAnd (text_alone script) (λ t. AppendsFront a t b)
+printed_first script a b v e h =
+    let f = ahead_first script in
+    some_text script [] (alone (straight_code script) default_options) (initial (straight_code script) 0) (λ t. AppendsFront a t b) refl f.story_is
+    (λ rest. front_more a b (lines_text (initial (straight_code script) 0).lines) rest (subst (λ (x : List Line). AppendsFront a (lines_text x) b) e h))
+
+-- the lines of a story on the way were printed
+pub printed_so_far : (script : List Straight) (rs : List Record) (c : Configuration ℕ) (a b : Option (List ℕ)) → Ahead script rs c → Appends a (lines_text c.lines) b →
+    IsSomeAnd (text_alone script) (λ t. AppendsFront a t b)
+printed_so_far script rs c a b w h =
+    some_text script rs (alone_from (straight_code script) default_options w.left c) c (λ t. AppendsFront a t b) w.goes_on w.story_is
+    (λ rest. front_at a b (lines_text c.lines) rest (lines_text c.lines ++ rest) refl h)
+
+seam : (xs ys : List Line) → drop (length xs) (xs ++ ys) ≡ ys
+seam [] ys = refl
+seam (x ∷ xs) ys = seam xs ys
+
+-- what is new since the lines before
+pub news : (old new added : List Line) (v w : List Line) → v ≡ old → w ≡ new → new ≡ old ++ added → drop (length v) w ≡ added
+news old new added v w h k e = rw (h, k, e) (seam old added)
+
+pub fewer : (old new added : List Line) (v w : List Line) → v ≡ old → w ≡ new → new ≡ old ++ added → length v ≤ length w
+fewer old new added v w h k e = rw (h, k, e) (let l = length-append old added in omega (arith, l))
+
+-- and a front of the lines of a step
+pub printed_part : (script : List Straight) (rs : List Record) (c : Configuration ℕ) (p : Picked) (new : Stand) (a b d : Option (List ℕ)) (s : List Line) → (x : Stepped script rs c p new) → s ≡ x.added →
+    Appends a (lines_text c.lines) b → AppendsFront b (lines_text s) d → IsSomeAnd (text_alone script) (λ t. AppendsFront a t d)
+printed_part script rs c p new a b d s x e h k =
+    some_text script new.records x.rest x.d (λ t. AppendsFront a t d) x.goes_on x.story_is
+    (λ rest.
+    let split : lines_text (x.d).lines ++ rest ≡ lines_text c.lines ++ (lines_text x.added ++ rest) =
+        ap (λ (ls : List Line). lines_text ls ++ rest) x.lines
+        ∙ ap (λ (t : List ℕ). t ++ rest) (lines_text-append c.lines x.added)
+        ∙ append_assoc (lines_text c.lines) (lines_text x.added) rest in
+    front_in a b d (lines_text c.lines) (lines_text x.added) rest (lines_text (x.d).lines ++ rest) split h (subst (λ (ls : List Line). AppendsFront b (lines_text ls) d) e k))
+
+-- the lines of a step were printed
+pub printed_on : (script : List Straight) (rs : List Record) (c : Configuration ℕ) (p : Picked) (new : Stand) (a b d : Option (List ℕ)) (s : List Line) → (x : Stepped script rs c p new) → s ≡ x.added →
+    Appends a (lines_text c.lines) b → Appends b (lines_text s) d → Appends a (lines_text (x.d).lines) d
+printed_on script rs c p new a b d s x e h k =
+    let split : lines_text (x.d).lines ≡ lines_text c.lines ++ lines_text x.added = ap (λ (ls : List Line). lines_text ls) x.lines ∙ lines_text-append c.lines x.added in
+    rw split (appends-on a b d (lines_text c.lines) (lines_text x.added) h (subst (λ (ls : List Line). Appends b (lines_text ls) d) e k))
+
+-- all was printed
+pub printed_all : (script : List Straight) (rs : List Record) (c : Configuration ℕ) (p : Picked) (new : Stand) (a b d : Option (List ℕ)) (s : List Line) → (x : Stepped script rs c p new) → s ≡ x.added → p ≡ Over →
+    Appends a (lines_text c.lines) b → Appends b (lines_text s) d → IsSomeAnd (text_alone script) (λ t. Appends a t d)
+printed_all script rs c p new a b d s x e o h k =
+    all_text script new.records x.d (λ t. Appends a t d) (x.over o) x.story_is (printed_on script rs c p new a b d s x e h k)
+
+-- fewer records are to come
+pub falls : (script : List Straight) (rs : List Record) (c : Configuration ℕ) (p : Picked) (new : Stand) → Stepped script rs c p new →
+    length (alone (straight_code script) default_options) - length new.records < length (alone (straight_code script) default_options) - length rs
+falls script rs c p new x =
+    let m = x.more in
+    let n : length new.records + length x.rest ≡ length (alone (straight_code script) default_options) =
+        sym (length-append new.records x.rest) ∙ ap (λ (es : List Record). length es) x.goes_on in
+    omega (arith, m, n)
