@@ -6,3 +6,6 @@ pub mod Distinct
 pub mod Selecting
 pub mod Nexts
 pub mod Steps
+pub mod Runs
+pub mod Printing
+pub mod Ahead

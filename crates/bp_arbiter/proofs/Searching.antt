@@ -1,6 +1,8 @@
 -- Steps of the searches over b-threads.
-use Rattle.std.proofs.Common.{◌≡◌, ℕ, suc, ◌+◌, ◌<◌, Bool, true, false, not, ◌&&◌, ◌||◌, List, [], ◌∷◌, ◌++◌, length, drop, get_or, refl, ap, sym, ◌∙◌, add-one, append_assoc, append-nil, Option, Some, None, find, filter_map}
+use Rattle.std.proofs.Common.{◌≡◌, ℕ, suc, ◌+◌, ◌<◌, ◌≤◌, arith, Bool, true, false, not, ◌&&◌, ◌||◌, List, [], ◌∷◌, ◌++◌, length, drop, get_or, refl, ap, sym, ◌∙◌, add-one, append_assoc, append-nil, Option, Some, None, find, filter_map}
+use Rattle.std.specs.Prelude.{All}
 use Rattle.std.specs.List.{list_any}
+use Rattle.std.proofs.lemmas.List.Elements.{All-append, All-cons, All-nil}
 use Rattle.std.proofs.Math.Seq.{drop-cons}
 use Rattle.js_data.specs.Event.{PlainEvent}
 use Rattle.bp_run.specs.Events.{same_event}
@@ -35,3 +37,17 @@ reached_step script e ts i t old new whole h k m w =
     ∙ append_assoc old (number_if (is_reached script e t) i) (reached_from script e (i + 1) (drop (i + 1) ts))
     ∙ ap (λ (n : ℕ). old ++ (number_if (is_reached script e t) i ++ reached_from script e n (drop (i + 1) ts))) (add-one i)
     ∙ sym (ap (λ (us : List Thread). old ++ reached_from script e i us) (drop_is ts i t h k)) ∙ w
+
+in_range_at : (n bound : ℕ) (b : Bool) → n < bound → All (λ k. k < bound) (number_if b n)
+in_range_at n bound true h = All-cons (λ k. k < bound) n [] h (All-nil (λ k. k < bound))
+in_range_at n bound false h = All-nil (λ k. k < bound)
+
+reached_within : (script : List Straight) (e : PlainEvent) (n bound : ℕ) (ts : List Thread) → n + length ts ≤ bound → All (λ k. k < bound) (reached_from script e n ts)
+reached_within script e n bound [] h = All-nil (λ k. k < bound)
+reached_within script e n bound (t ∷ ts) h =
+    All-append (λ k. k < bound) (number_if (is_reached script e t) n) (reached_from script e (suc n) ts)
+    (in_range_at n bound (is_reached script e t) (omega (arith, h))) (reached_within script e (suc n) bound ts (omega (arith, h)))
+
+-- those that an event reaches are registered
+pub reached_in_range : (script : List Straight) (e : PlainEvent) (ts : List Thread) (xs : List ℕ) → xs ≡ reached_from script e 0 ts → All (λ k. k < length ts) xs
+reached_in_range script e ts xs h = rw h (reached_within script e 0 (length ts) ts (omega arith))

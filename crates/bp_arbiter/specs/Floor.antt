@@ -1,5 +1,5 @@
 -- The configuration that a floor stands for, with what is to be run in it.
-use Rattle.std.specs.Prelude.{ℕ, suc, ◌<◌, List, [], length, map, None, All}
+use Rattle.std.specs.Prelude.{◌≡◌, ℕ, suc, ◌<◌, List, [], length, map, None, All}
 use Rattle.bp_run.specs.Configuration.{Configuration, Thread as Standing, below}
 use Rattle.bp_run.specs.Settling.{Pair, Entry, unless_over, with_part, part_of, body_of}
 use Rattle.bp_run.specs.Settling.Entry.{Runs}
@@ -37,3 +37,7 @@ IsInRange f = All (λ n. n < length f.threads.items) f.wave.items
 -- the b-thread of this number runs and is merged
 abbrev pub run_by : List Straight → ℕ → Pair ℕ → Pair ℕ
 run_by script n p = unless_over (with_part (Runs n) (part_of (straight_code script) (body_of (straight_code script) p.c (Runs n)))) p
+
+-- no transition was made and no word drawn
+abbrev pub IsCountedAs : Floor → Floor → Type 0
+IsCountedAs old new = (new.transitions ≡ old.transitions) × (new.drawn ≡ old.drawn)

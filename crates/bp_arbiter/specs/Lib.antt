@@ -2,3 +2,6 @@ pub mod Straight
 pub mod Standing
 pub mod Floor
 pub mod Following
+pub mod Picking
+pub mod Stand
+pub mod Faults

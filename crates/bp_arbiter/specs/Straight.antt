@@ -5,6 +5,9 @@ use Rattle.bp_run.specs.Events.{same_event}
 use Rattle.bp_run.specs.Bodies.{Code, Part, Statement, Outcome, Effect}
 use Rattle.bp_run.specs.Bodies.Outcome.{Stopped, Ended}
 use Rattle.bp_run.specs.Bodies.Effect.{Register}
+use Rattle.bp_run.specs.Story.{alone}
+use Rattle.bp_run.specs.Text.{text}
+use Rattle.bp_log.specs.Options.{default_options}
 use Rattle.js_tree.specs.declared.straight.Point.{Point}
 use Rattle.js_tree.specs.declared.straight.Straight.{Straight}
 
@@ -46,3 +49,7 @@ straight_code script =
       has = λ s e. Ok (is_in s e);
       word = λ n. 0;
     }
+
+-- what is printed for a script with the default options
+abbrev pub text_alone : List Straight → Option (List ℕ)
+text_alone script = text (straight_code script) default_options (alone (straight_code script) default_options)

@@ -6,7 +6,7 @@ ghost use Rattle.bp_run.specs.Configuration.{empty, change};
 ghost use Rattle.bp_run.specs.Settling.Entry.{The_top, Runs};
 ghost use Rattle.bp_run.specs.Settling.{unless_over, with_effect, with_end, turn, settle, initial};
 ghost use Rattle.bp_arbiter.specs.Straight.{straight_code};
-ghost use Rattle.bp_arbiter.specs.Floor.{standing, configuration_of, pair_of, run_by, IsInRange};
+ghost use Rattle.bp_arbiter.specs.Floor.{standing, configuration_of, pair_of, run_by, IsInRange, IsCountedAs};
 
 use crate::Thread;
 use bp_log::{Line, Memory, Verdict};
@@ -51,7 +51,8 @@ fn end_thread(threads: &mut [Thread], number: usize)
 impl Floor {
     /// The empty configuration.
     pub(crate) fn empty(alloc: Global, injectors: u32) -> Floor
-        ensures { pair_of result ≡ record { c = empty injectors; entries = [] } }
+        ensures empty { pair_of result ≡ record { c = empty injectors; entries = [] } }
+        ensures counts { (result.transitions ≡ 0) × (result.drawn ≡ 0) }
     {
         Floor {
             threads: Vec::new(alloc),
@@ -69,6 +70,7 @@ impl Floor {
     fn register(&mut self, alloc: Global, name: &Text, place: usize) -> Result<(), Memory>
         ensures registered { OnOk result (pair_of self.new ≡ unless_over (with_effect Top (Register name.now (suc place))) (pair_of self.old)) }
         ensures in_range { OnOk result (IsInRange self.old → IsInRange self.new) }
+        ensures counts { IsCountedAs self.old self.new }
     {
         if self.verdict.is_some() {
             return Ok(());
@@ -92,6 +94,7 @@ impl Floor {
     fn opened(alloc: Global, script: &[Straight], injectors: u32) -> Result<Floor, Memory>
         ensures opened { IfOk result (λ f. pair_of f ≡ turn (straight_code script.now) (record { c = empty injectors; entries = The_top ∷ [] })) }
         ensures in_range { IfOk result IsInRange }
+        ensures counts { IfOk result (λ f. (f.transitions ≡ 0) × (f.drawn ≡ 0)) }
     {
         let mut floor = Floor::empty(alloc, injectors);
         for (place, straight) in script.iter().enumerate() {
@@ -106,6 +109,7 @@ impl Floor {
         ensures finished { OnOk result (pair_of self.new ≡ with_end (Runs number) (pair_of self.old)) }
         ensures length { OnOk result (length self.new.threads.items ≡ length self.old.threads.items) }
         ensures wave { self.new.wave ≡ self.old.wave }
+        ensures counts { IsCountedAs self.old self.new }
     {
         let name = self.threads[number].name.copy()?;
         self.lines.push(Line::Done(name))?;
@@ -119,6 +123,7 @@ impl Floor {
         ensures merged { OnOk result (pair_of self.new ≡ run_by script.now number (pair_of self.old)) }
         ensures length { OnOk result (length self.new.threads.items ≡ length self.old.threads.items) }
         ensures wave { self.new.wave ≡ self.old.wave }
+        ensures counts { IsCountedAs self.old self.new }
     {
         if self.verdict.is_some() {
             return Ok(());
@@ -134,6 +139,7 @@ impl Floor {
         requires { IsInRange self.old }
         ensures turned { OnOk result (pair_of self.new ≡ turn (straight_code script.now) (pair_of self.old)) }
         ensures nobody { OnOk result (self.new.wave.items ≡ []) }
+        ensures counts { IsCountedAs self.old self.new }
     {
         let wave = mem::replace(&mut self.wave, Vec::new(alloc));
         for number in &wave {
@@ -145,7 +151,8 @@ impl Floor {
     /// Runs b-threads until nobody is to be run, or there is a verdict.
     pub(crate) fn settle(&mut self, alloc: Global, script: &[Straight]) -> Result<(), Memory>
         requires { IsInRange self.old }
-        ensures { OnOk result (configuration_of self.new ≡ settle (straight_code script.now) (pair_of self.old)) }
+        ensures settled { OnOk result (configuration_of self.new ≡ settle (straight_code script.now) (pair_of self.old)) }
+        ensures counts { IsCountedAs self.old self.new }
     {
         if self.verdict.is_some() || self.wave.is_empty() {
             return Ok(());
@@ -156,7 +163,8 @@ impl Floor {
 
     /// The initial configuration of a script.
     pub fn open(alloc: Global, script: &[Straight], injectors: u32) -> Result<Floor, Memory>
-        ensures { IfOk result (λ f. configuration_of f ≡ initial (straight_code script.now) injectors) }
+        ensures initial { IfOk result (λ f. configuration_of f ≡ initial (straight_code script.now) injectors) }
+        ensures counts { IfOk result (λ f. (f.transitions ≡ 0) × (f.drawn ≡ 0)) }
     {
         let mut floor = Floor::opened(alloc, script, injectors)?;
         floor.settle(alloc, script)?;

@@ -5,10 +5,17 @@
 
 mod choosing;
 mod floor;
+mod lines;
 mod next;
+mod pick;
+mod runner;
+mod running;
 mod step;
 mod thread;
 
 pub use floor::Floor;
+pub use lines::{PrintError, line_of, print};
 pub use next::{Next, Selection};
+pub use runner::{Picked, Runner};
+pub use running::{RunFault, run};
 pub use thread::Thread;

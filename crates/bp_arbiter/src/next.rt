@@ -1,5 +1,5 @@
 //! What comes next in a run.
-ghost use Rattle.std.specs.Prelude.{◌≡◌, ◌<◌, ◌+◌, ◌-◌, ◌*◌, ◌^◌, min, length, map, None, IfOk};
+ghost use Rattle.std.specs.Prelude.{◌≡◌, ◌<◌, ◌≤◌, ◌+◌, ◌-◌, ◌*◌, ◌^◌, min, length, map, None, IfOk};
 ghost use Rattle.js_data.specs.Event.{event_weight};
 ghost use Rattle.bp_log.specs.declared.options.Strategy.TheVariants.{Simple};
 ghost use Rattle.bp_run.specs.Settling.Entry.{Runs};
@@ -8,7 +8,7 @@ ghost use Rattle.bp_run.specs.Story.{next, next_idle, next_chosen, weight_after}
 ghost use Rattle.bp_arbiter.specs.Straight.{straight_code};
 ghost use Rattle.bp_arbiter.specs.Floor.{configuration_of};
 ghost use Rattle.bp_arbiter.specs.Standing.{has_another};
-ghost use Rattle.bp_arbiter.specs.Following.{drawn_after, next_of};
+ghost use Rattle.bp_arbiter.specs.Following.{drawn_after, next_of, IsWithin};
 
 use crate::choosing::{first_free, has_another, reached};
 use crate::Floor;
@@ -66,7 +66,8 @@ impl Floor {
     /// How many words are drawn after this event was chosen: one more, if there was another one.
     fn drawn_after(&self, script: &[Straight], event: &Event) -> u64
         requires { self.now.drawn + 1 < 2 ^ 64 }
-        ensures { result ≡ drawn_after self.now.drawn (has_another script.now self.now.threads.items event.now) }
+        ensures few { result ≤ self.now.drawn + 1 }
+        ensures drawn { result ≡ drawn_after self.now.drawn (has_another script.now self.now.threads.items event.now) }
     {
         if has_another(&self.threads, script, event) {
             self.drawn + 1
@@ -77,7 +78,8 @@ impl Floor {
 
     /// This event is chosen: it is selected, unless the weight of the run would pass its limit.
     fn chosen(&self, alloc: Global, script: &[Straight], event: &Event, drawn: u64) -> Result<Next, Memory>
-        ensures { let choice : Choice = record { event = event.now; place = None; drawn = drawn } in
+        ensures within { drawn ≤ self.now.drawn + 1 → IfOk result (IsWithin self.now) }
+        ensures chosen { let choice : Choice = record { event = event.now; place = None; drawn = drawn } in
             IfOk result (λ n. next_of n ≡ next_chosen (configuration_of self.now) choice (reach (straight_code script.now) (configuration_of self.now) event.now)) }
     {
         let reached = reached(alloc, &self.threads, script, event)?;
@@ -96,7 +98,8 @@ impl Floor {
     pub fn next(&self, alloc: Global, script: &[Straight], options: &Options) -> Result<Next, Memory>
         requires simple { options.now.strategy ≡ Simple }
         requires drawn { self.now.drawn + 1 < 2 ^ 64 }
-        ensures { IfOk result (λ n. next_of n ≡ next (straight_code script.now) options.now (configuration_of self.now)) }
+        ensures next { IfOk result (λ n. next_of n ≡ next (straight_code script.now) options.now (configuration_of self.now)) }
+        ensures within { IfOk result (IsWithin self.now) }
     {
         if let Some(verdict) = &self.verdict {
             return Ok(Next::Ends(verdict.copy()?));

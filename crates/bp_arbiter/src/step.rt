@@ -4,7 +4,7 @@ ghost use Rattle.bp_run.specs.Configuration.{change};
 ghost use Rattle.bp_run.specs.Settling.Entry.{Runs};
 ghost use Rattle.bp_run.specs.Story.{touch_all, weight_after, step, move, over_with};
 ghost use Rattle.bp_arbiter.specs.Straight.{straight_code};
-ghost use Rattle.bp_arbiter.specs.Floor.{standing, configuration_of, pair_of, IsInRange};
+ghost use Rattle.bp_arbiter.specs.Floor.{standing, configuration_of, pair_of, IsInRange, IsCountedAs};
 
 use crate::{Floor, Thread};
 use bp_log::{Line, Memory, Verdict};
@@ -42,6 +42,8 @@ impl Floor {
             c = step (configuration_of self.old) (record { event = event.now; place = None; drawn = drawn }) (map Runs reached.items);
             entries = map Runs reached.items }) }
         ensures in_range { OnOk result (IsInRange self.new) }
+        ensures transitions { OnOk result (self.new.transitions ≡ self.old.transitions + 1) }
+        ensures drawn { OnOk result (self.new.drawn ≡ drawn) }
     {
         let weight = self.weight_after(event, reached.len());
         self.lines.push(Line::Event(event.copy()?))?;
@@ -65,7 +67,9 @@ impl Floor {
         requires in_range { All (λ n. n < length self.old.threads.items) reached.items }
         requires transitions { self.old.transitions + 1 < 2 ^ 32 }
         requires light { weight_after (configuration_of self.old) event.now (map Runs reached.items) ≤ 16_777_216 }
-        ensures { OnOk result (configuration_of self.new
+        ensures transitions { OnOk result (self.new.transitions ≡ self.old.transitions + 1) }
+        ensures drawn { OnOk result (self.new.drawn ≡ drawn) }
+        ensures moved { OnOk result (configuration_of self.new
             ≡ move (straight_code script.now) (configuration_of self.old) (record { event = event.now; place = None; drawn = drawn }) (map Runs reached.items)) }
     {
         self.step(event, drawn, reached)?;
@@ -75,7 +79,8 @@ impl Floor {
 
     /// Ends the run with this verdict.
     pub(crate) fn end(&mut self, verdict: &Verdict) -> Result<(), Memory>
-        ensures { OnOk result (configuration_of self.new ≡ over_with (configuration_of self.old) verdict.now) }
+        ensures over { OnOk result (configuration_of self.new ≡ over_with (configuration_of self.old) verdict.now) }
+        ensures counts { IsCountedAs self.old self.new }
     {
         self.lines.push(Line::Verdict(verdict.copy()?))?;
         self.verdict = Some(verdict.copy()?);

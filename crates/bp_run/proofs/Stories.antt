@@ -2,7 +2,7 @@
 use Rattle.std.proofs.Common.{◌≡◌, ℕ, zero, suc, ◌+◌, ◌<◌, ◌≤◌, Bool, true, false, not, ◌&&◌, ◌==◌, nat_eq, nat_lt, List, [], ◌∷◌, ◌++◌, length, refl, sym, ap, ◌∙◌, append_assoc, append-nil, Option, Some, None, Result, Ok, Err, if◌then◌else◌, option_and_then, bytes_eq, arith, option_map}
 use Rattle.std.specs.List.{list_any}
 use Rattle.std.proofs.lemmas.Grind.{flat_map-append}
-use Rattle.std.proofs.lemmas.Bool.{eqb-true, eq-eqb}
+use Rattle.std.proofs.lemmas.Bool.{eqb-true, eq-eqb, ltb-false}
 use Rattle.std.proofs.lemmas.Slice.Eq.{bytes_eq-Decides}
 use Rattle.js_data.specs.Event.{PlainEvent}
 use Rattle.bp_log.specs.Options.{PlainOptions}
@@ -130,11 +130,11 @@ only_from l o (suc n) (Sel e ∷ rest) c d i t f h k =
     let more = move_transitions l c ch r in
     only_from l o n rest (move l c ch r) d (move_reading l c ch r ∙ i) (omega (arith, less, more)) (omega (arith, less, more)) s k)
 
-initial_transitions : {O S : Type 0} (l : Code O S) (n : ℕ) → (initial l n).transitions ≡ 0
+pub initial_transitions : {O S : Type 0} (l : Code O S) (n : ℕ) → (initial l n).transitions ≡ 0
 unfolding initial
 initial_transitions l n = (grown_settle l (record { c = empty n; entries = The_top ∷ [] })).transitions
 
-initial_reading : {O S : Type 0} (l : Code O S) → (initial l 0).reading ≡ []
+pub initial_reading : {O S : Type 0} (l : Code O S) → (initial l 0).reading ≡ []
 unfolding initial
 initial_reading l = (grown_settle l (record { c = empty 0; entries = The_top ∷ [] })).reading
 
@@ -185,11 +185,11 @@ waits_not l o c i h = unless_not_waits l o c c.verdict i h
 abbrev pub Completes : {O S : Type 0} → Code O S → PlainOptions → List Record → Configuration O → Type 0
 Completes {O} l o rs c = (d : Configuration O) × (story_from l o rs c ≡ Some d) × (is_complete rs ≡ true)
 
-story_sel : {O S : Type 0} (l : Code O S) (o : PlainOptions) (c : Configuration O) (ch : Choice) (r : List Entry) (rs : List Record) → next l o c ≡ Selects ch r → story_from l o (Sel ch.event ∷ rs) c ≡ story_from l o rs (move l c ch r)
+pub story_sel : {O S : Type 0} (l : Code O S) (o : PlainOptions) (c : Configuration O) (ch : Choice) (r : List Entry) (rs : List Record) → next l o c ≡ Selects ch r → story_from l o (Sel ch.event ∷ rs) c ≡ story_from l o rs (move l c ch r)
 unfolding story_from after_record
 story_sel l o c ch r rs h = rw (h, same_refl ch.event) refl
 
-story_end : {O S : Type 0} (l : Code O S) (o : PlainOptions) (c : Configuration O) (v : Verdict) → next l o c ≡ Ends v → story_from l o (End v ∷ []) c ≡ Some (over_with c v)
+pub story_end : {O S : Type 0} (l : Code O S) (o : PlainOptions) (c : Configuration O) (v : Verdict) → next l o c ≡ Ends v → story_from l o (End v ∷ []) c ≡ Some (over_with c v)
 unfolding story_from after_record
 story_end l o c v h = rw (h, verdict_refl v) refl
 
@@ -227,7 +227,7 @@ record_grown false c e m h g = absurd (cc)
 same_lines : {O : Type 0} (c : Configuration O) → (more : List Line) × (c.lines ≡ c.lines ++ more)
 same_lines c = ([], sym (append-nil c.lines))
 
-move_lines : {O S : Type 0} (l : Code O S) (c : Configuration O) (ch : Choice) (r : List Entry) → (more : List Line) × ((move l c ch r).lines ≡ c.lines ++ more)
+pub move_lines : {O S : Type 0} (l : Code O S) (c : Configuration O) (ch : Choice) (r : List Entry) → (more : List Line) × ((move l c ch r).lines ≡ c.lines ++ more)
 unfolding step
 move_lines l c ch r =
     let g = grown_settle l (record { c = step c ch r; entries = r }) in
@@ -318,3 +318,51 @@ text_prefix l o rs qs t h =
     let p = printed_at (story l o (rs ++ qs)) t h in
     let s = story_prefix l o rs qs (initial l o.injectors) p.0 p.1 in
     prefix_of l o rs p.0 s.0 t s.2 s.1 s.3 p.2
+
+-- an event is selected only where the weight of the run stays within its limit
+light_at : {O : Type 0} (c : Configuration O) (d ch : Choice) (s r : List Entry) (b : Bool) → nat_lt 16777216 (weight_after c d.event s) ≡ b →
+    (if b then Ends verdict.Weight else Selects d s) ≡ Selects ch r → weight_after c ch.event r ≤ 16777216
+light_at c d ch s r true h k = absurd (cc)
+light_at c d ch s r false h k =
+    let same : weight_after c d.event s ≡ weight_after c ch.event r = cc in
+    let few = ltb-false 16777216 (weight_after c d.event s) h in
+    omega (arith, same, few)
+
+chosen_light : {O : Type 0} (c : Configuration O) (d ch : Choice) (s : Result (List Entry) Verdict) (r : List Entry) → next_chosen c d s ≡ Selects ch r → weight_after c ch.event r ≤ 16777216
+chosen_light c d ch (Err v) r h = absurd (cc)
+chosen_light c d ch (Ok s) r h = light_at c d ch s r (nat_lt 16777216 (weight_after c d.event s)) refl h
+
+steps_light : {O : Type 0} (c : Configuration O) (n : ℕ) (d ch : Choice) (s : Result (List Entry) Verdict) (r : List Entry) (b : Bool) →
+    (if b then Ends (verdict.Steps n) else next_chosen c d s) ≡ Selects ch r → weight_after c ch.event r ≤ 16777216
+steps_light c n d ch s r true h = absurd (cc)
+steps_light c n d ch s r false h = chosen_light c d ch s r h
+
+choice_light : {O S : Type 0} (l : Code O S) (n : ℕ) (c : Configuration O) (x : Result (Option Choice) Verdict) (ch : Choice) (r : List Entry) → next_choice l n c x ≡ Selects ch r → weight_after c ch.event r ≤ 16777216
+choice_light l n c (Err v) ch r h = absurd (cc)
+choice_light l n c (Ok None) ch r h = absurd (idle_not c c.bad ch r h)
+choice_light l n c (Ok (Some d)) ch r h = steps_light c n d ch (reach l c d.event) r (nat_eq c.transitions n) h
+
+unless_light : {O S : Type 0} (l : Code O S) (o : PlainOptions) (c : Configuration O) (v : Option Verdict) (ch : Choice) (r : List Entry) → next_unless l o c v ≡ Selects ch r → weight_after c ch.event r ≤ 16777216
+unless_light l o c (Some v) ch r h = absurd (cc)
+unless_light l o c None ch r h = choice_light l o.steps c (choice l o.strategy c) ch r h
+
+pub selects_light : {O S : Type 0} (l : Code O S) (o : PlainOptions) (c : Configuration O) (ch : Choice) (r : List Entry) → next l o c ≡ Selects ch r → weight_after c ch.event r ≤ 16777216
+unfolding next
+selects_light l o c ch r h = unless_light l o c c.verdict ch r h
+
+on_at : {O S : Type 0} (l : Code O S) (o : PlainOptions) (rs qs : List Record) (x : Option (Configuration O)) (m : Configuration O) → option_and_then (story_from l o rs) x ≡ Some m →
+    ((c : Configuration O) → story_from l o rs c ≡ Some m → story_from l o (rs ++ qs) c ≡ story_from l o qs m) → option_and_then (story_from l o (rs ++ qs)) x ≡ story_from l o qs m
+on_at l o rs qs None m h k = absurd (cc)
+on_at l o rs qs (Some c) m h k = k c h
+
+-- a story that is not complete goes on
+pub story_on : {O S : Type 0} (l : Code O S) (o : PlainOptions) (rs qs : List Record) (c m : Configuration O) → story_from l o rs c ≡ Some m → is_complete rs ≡ false →
+    story_from l o (rs ++ qs) c ≡ story_from l o qs m
+unfolding story_from after_record
+story_on l o [] qs c m h k = let e : c ≡ m = cc in ap (λ (x : Configuration _). story_from l o qs x) e
+story_on l o (In j e ∷ rs) qs c m h k = on_at l o rs qs (if may_come c j && nat_lt (length c.queue) 16384 then Some (queued e c) else None) m h (λ d g. story_on l o rs qs d m g k)
+story_on l o (Bad j n ∷ rs) qs c m h k = on_at l o rs qs _ m h (λ d g. story_on l o rs qs d m g k)
+story_on l o (Eof j ∷ rs) qs c m h k = on_at l o rs qs _ m h (λ d g. story_on l o rs qs d m g k)
+story_on l o (Sel e ∷ rs) qs c m h k = on_at l o rs qs (if_selected l c e (next l o c)) m h (λ d g. story_on l o rs qs d m g k)
+story_on l o (End v ∷ []) qs c m h k = absurd (cc)
+story_on l o (End v ∷ r ∷ rs) qs c m h k = absurd (cc)

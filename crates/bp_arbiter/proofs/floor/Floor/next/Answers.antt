@@ -12,28 +12,28 @@ use Rattle.bp_arbiter.specs.Floor.{configuration_of}
 use Rattle.bp_arbiter.proofs.Nexts.{next_over, next_nothing, next_steps, next_chooses, differ}
 use Rattle.bp_arbiter.proofs.floor.Floor.next.Goals as goal
 
-pub returns-in-Some : goal.returns-in-Some
-returns-in-Some c =
+pub returns-in-Some-clause-next : goal.returns-in-Some-clause-next
+returns-in-Some-clause-next c =
     ap (λ (v : Verdict). Ends v) c.in_ok-copy.ensures
     ∙ next_over c.args.script.now c.args.options.now (configuration_of c.args.self.now) c.in-Some.verdict c.in-Some.is
 
-pub returns-in_default-first_free : goal.returns-in_default-first_free
-returns-in_default-first_free c =
+pub returns-in_default-first_free-clause-next : goal.returns-in_default-first_free-clause-next
+returns-in_default-first_free-clause-next c =
     let f = c.args.self.now in
     c.idle.ensures
     ∙ next_nothing c.args.script.now c.args.options.now f.threads.items (configuration_of f) None c.requires.simple refl refl c.in_default.is refl
     (c.in_default-first_free.ensures ∙ ap (λ (ts : List Thread). first_free c.args.script.now ts) c.deref.ensures.value) refl
 
-pub returns-then-self-steps : goal.returns-then-self-steps
-returns-then-self-steps c =
+pub returns-then-self-steps-clause-next : goal.returns-then-self-steps-clause-next
+returns-then-self-steps-clause-next c =
     let f = c.args.self.now in
     ap (λ (n : ℕ). Ends (verdict.Steps n)) c.steps-then-self-steps.ensures.steps
     ∙ next_steps c.args.script.now c.args.options.now f.threads.items (configuration_of f) c.in-Some-first_free.event.now c.requires.simple refl refl c.in_default.is
     (c.in-Some-first_free.ensures ∙ ap (λ (ts : List Thread). first_free c.args.script.now ts) c.deref.ensures.value)
     (c.if-self-steps.true ∙ c.steps.ensures.steps)
 
-pub returns : goal.returns
-returns c =
+pub returns-clause-next : goal.returns-clause-next
+returns-clause-next c =
     let f = c.args.self.now in
     let l = straight_code c.args.script.now in
     let e = c.in-Some-first_free.event.now in
@@ -41,5 +41,5 @@ returns c =
     let eq : next l c.args.options.now (configuration_of f) ≡ next_chosen (configuration_of f) (record { event = e; place = None; drawn = c.drawn_after-drawn.result }) (reach l (configuration_of f) e) =
         next_chooses c.args.script.now c.args.options.now f.threads.items (configuration_of f) e c.requires.simple refl refl c.in_default.is
         (c.in-Some-first_free.ensures ∙ ap (λ (ts : List Thread). first_free c.args.script.now ts) c.deref.ensures.value) left
-        ∙ ap (λ (d : ℕ). next_chosen (configuration_of f) (record { event = e; place = None; drawn = d }) (reach l (configuration_of f) e)) (sym c.drawn_after-drawn.ensures) in
-    subst (λ (x : Next). IfOk c.chosen.result (λ n. next_of n ≡ x)) (sym eq) c.chosen.ensures
+        ∙ ap (λ (d : ℕ). next_chosen (configuration_of f) (record { event = e; place = None; drawn = d }) (reach l (configuration_of f) e)) (sym c.drawn_after-drawn.ensures.drawn) in
+    subst (λ (x : Next). IfOk c.chosen.result (λ n. next_of n ≡ x)) (sym eq) c.chosen.ensures.chosen

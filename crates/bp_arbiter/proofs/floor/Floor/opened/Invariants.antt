@@ -11,4 +11,6 @@ invariant-loop-place l = record {
   effects : with_effects Top (registrations l.place (drop l.place l.script)) (pair_of l.floor)
       ≡ with_effects Top (registrations 0 l.script) (record { c = empty l.injectors; entries = [] });
   in_range : IsInRange l.floor;
+  transitions : l.floor.transitions ≡ 0;
+  drawn : l.floor.drawn ≡ 0;
 }

@@ -7,8 +7,8 @@ use Rattle.bp_arbiter.proofs.Loops.{settle_over, settle_nobody, settle_once, emp
 use Rattle.bp_arbiter.proofs.floor.Floor.settle.Goals as goal
 use Rattle.bp_arbiter.proofs.floor.Floor.settle.Goals.{then-is_some-via-then-is_some, then-is_some-via-else-is_some+then-is_empty}
 
-pub returns-then-is_some : goal.returns-then-is_some
-returns-then-is_some c =
+pub returns-then-is_some-clause-settled : goal.returns-then-is_some-clause-settled
+returns-then-is_some-clause-settled c =
     let p = pair_of c.args.self.now in
     elim c.then-is_some.branch [
       | then-is_some-via-then-is_some w ↦ sym (settle_over (straight_code c.args.script.now) p (sym w.if-is_some.ensures))
@@ -16,8 +16,8 @@ returns-then-is_some c =
         sym (settle_nobody (straight_code c.args.script.now) p (empty_wave c.args.self.now.wave.items c.args.self.now.wave.len c.args.self.now.wave.ok.0 w.if-is_empty.ensures))
     ]
 
-pub returns : goal.returns
-returns c =
+pub returns-clause-settled : goal.returns-clause-settled
+returns-clause-settled c =
     let l = straight_code c.args.script.now in
     let p = pair_of c.args.self.now in
     let turned = c.in_ok-turn.ensures.turned in

@@ -10,5 +10,6 @@ loop-number-init c =
     record {
       turned = rw (wave, fresh) refl;
       in_range = rw wave c.requires;
+      counts = (refl, refl);
       nobody = fresh;
     }
