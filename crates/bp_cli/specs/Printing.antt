@@ -2,7 +2,8 @@
 use Rattle.std.specs.Prelude.{◌≡◌, ◌⊎◌, ℕ, List, [], ◌∷◌, ◌++◌, Option, Some, None, IfSome, IsSomeAnd}
 use Rattle.bp_base.specs.Worlds.{Holdings}
 use Rattle.bp_base.specs.Pieces.{Appends, AppendsFront}
-use Rattle.js_tree.specs.Straight.{Straight, IsFirstForm}
+use Rattle.js_tree.specs.Straight.{IsFirstForm}
+use Rattle.js_tree.specs.declared.straight.Straight.{Straight}
 use Rattle.bp_arbiter.specs.Straight.{text_alone}
 
 -- P of the bytes that the world holds under this name, where it tells what it holds
