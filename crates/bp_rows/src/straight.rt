@@ -1,9 +1,11 @@
 // Straight scripts: what each prints, and what becomes of it where a call fails.
 
 use crate::world::{Fails, NONE, run, run_with};
+use std::alloc::Global;
 use std::test::Fail;
 
 /// A script and what it prints.
+#[derive(Clone, Copy)]
 struct Case {
     script: &'static str,
     trace: &'static str,
@@ -69,7 +71,7 @@ const SMALL: [Case; 7] = [
 fn scripts_print_their_traces(rt: HostRuntime) -> Result<(), Fail> {
     let examples = [HOT_AND_COLD, CROSSING, VENDING_MACHINE];
     for (number, case) in examples.iter().chain(SMALL.iter()).enumerate() {
-        let ran = run(&rt, case.script.as_bytes())?;
+        let ran = run(&rt, rt.alloc(), case.script.as_bytes())?;
         assert_eq!(rt; ran.code, 0, "case {number}");
         assert!(rt; ran.note.is_empty(), "case {number}");
         assert_eq!(rt; ran.printed.as_slice(), case.trace.as_bytes(), "case {number}");
@@ -106,7 +108,7 @@ fn other_scripts_are_refused(rt: HostRuntime) -> Result<(), Fail> {
         "bp.registerBThread(\"A\", function() {\n  bp.sync({, block: bp.Event(\"x\")});\n});\n",
     ];
     for (number, script) in cases.iter().enumerate() {
-        let ran = run(&rt, script.as_bytes())?;
+        let ran = run(&rt, rt.alloc(), script.as_bytes())?;
         assert_eq!(rt; ran.code, 2, "case {number}");
         assert_eq!(rt; ran.note.as_str(), "refused: not yet", "case {number}");
         assert!(rt; ran.printed.is_empty(), "case {number}");
@@ -115,8 +117,7 @@ fn other_scripts_are_refused(rt: HostRuntime) -> Result<(), Fail> {
 }
 
 /// A script of so many b-threads that end at once, each with a name of so many letters.
-fn many(rt: &HostRuntime, count: usize, letters: usize) -> Result<String, Fail> {
-    let alloc = rt.alloc();
+fn many(alloc: Global, count: usize, letters: usize) -> Result<String, Fail> {
     let mut script = String::new(alloc);
     for _ in 0..count {
         script.push_str("bp.registerBThread(\"")?;
@@ -138,8 +139,8 @@ fn the_form_has_limits(rt: HostRuntime) -> Result<(), Fail> {
         (4097, 1, 2),
     ];
     for (count, letters, code) in cases {
-        let script = many(&rt, count, letters)?;
-        let ran = run(&rt, script.as_str().as_bytes())?;
+        let script = many(rt.alloc(), count, letters)?;
+        let ran = run(&rt, rt.alloc(), script.as_str().as_bytes())?;
         assert_eq!(rt; ran.code, code, "{count} b-threads with {letters} letters");
     }
     Ok(())
@@ -160,7 +161,7 @@ fn a_script_has_at_most_1048576_bytes(rt: HostRuntime) -> Result<(), Fail> {
             script.push_str("  bp.sync({});\n")?;
         }
         script.push_str("});\n")?;
-        let ran = run(&rt, script.as_str().as_bytes())?;
+        let ran = run(&rt, rt.alloc(), script.as_str().as_bytes())?;
         assert_eq!(rt; script.len(), 1_048_570 + letters);
         assert_eq!(rt; ran.code, code, "{letters} letters");
     }
@@ -175,7 +176,7 @@ fn a_write_that_fails_leaves_a_prefix(rt: HostRuntime) -> Result<(), Fail> {
             output: &[number],
             ..NONE
         };
-        let ran = run_with(&rt, &["run", "script.js"], HOT_AND_COLD.script.as_bytes(), fails)?;
+        let ran = run_with(&rt, rt.alloc(), &["run", "script.js"], HOT_AND_COLD.script.as_bytes(), fails)?;
         assert_eq!(rt; ran.code, 9, "write {number}");
         assert_eq!(rt; ran.note.as_str(), "write fault", "write {number}");
         assert!(rt; ran.printed.len() < trace.len(), "write {number}");
@@ -193,7 +194,7 @@ fn a_read_that_fails_prints_nothing(rt: HostRuntime) -> Result<(), Fail> {
             input,
             output: &[],
         };
-        let ran = run_with(&rt, &["run", "script.js"], HOT_AND_COLD.script.as_bytes(), fails)?;
+        let ran = run_with(&rt, rt.alloc(), &["run", "script.js"], HOT_AND_COLD.script.as_bytes(), fails)?;
         assert_eq!(rt; ran.code, 8, "case {number}");
         assert_eq!(rt; ran.note.as_str(), "read fault", "case {number}");
         assert!(rt; ran.printed.is_empty(), "case {number}");

@@ -25,7 +25,7 @@ fn wrong_words_are_told_the_usage(rt: HostRuntime) -> Result<(), Fail> {
         &["accept", "script.js"],
     ];
     for (number, words) in cases.iter().enumerate() {
-        let ran = run_with(&rt, words, b"", NONE)?;
+        let ran = run_with(&rt, rt.alloc(), words, b"", NONE)?;
         assert_eq!(rt; ran.code, 1, "the words of case {number}");
         assert_eq!(rt; ran.note.as_str(), USAGE, "the words of case {number}");
         assert!(rt; ran.printed.is_empty(), "the words of case {number}");
@@ -36,7 +36,7 @@ fn wrong_words_are_told_the_usage(rt: HostRuntime) -> Result<(), Fail> {
 #[test]
 fn a_name_that_is_not_held_is_a_read_fault(rt: HostRuntime) -> Result<(), Fail> {
     for name in ["other.js", "-", "", "script.js "] {
-        let ran = run_with(&rt, &["run", name], b"", NONE)?;
+        let ran = run_with(&rt, rt.alloc(), &["run", name], b"", NONE)?;
         assert_eq!(rt; ran.code, 8, "the name {name}");
         assert_eq!(rt; ran.note.as_str(), "read fault", "the name {name}");
         assert!(rt; ran.printed.is_empty(), "the name {name}");

@@ -2,7 +2,10 @@
 
 use bp_base::{MemorySink, MemoryWorld};
 use bp_cli::command;
+use std::alloc::Global;
+use std::sync::Wait;
 use std::test::Fail;
+use std::thread::Threads;
 
 /// What a command did.
 #[derive(Debug, Drop)]
@@ -28,13 +31,13 @@ pub const NONE: Fails<'static> = Fails {
 };
 
 /// Runs `bp` with these words in a world that holds the script as `script.js`.
-pub fn run_with(
-    rt: &HostRuntime,
+pub fn run_with<R: Threads + Wait + Sync>(
+    rt: &R,
+    alloc: Global,
     words: &[&str],
     script: &[u8],
     fails: Fails<'_>,
 ) -> Result<Ran, Fail> {
-    let alloc = rt.alloc();
     let mut world = MemoryWorld::new(alloc, 0, fails.world.to_vec(alloc)?);
     world.hold("script.js".to_string(alloc)?, script.to_vec(alloc)?)?;
     world.fail("script.js".to_string(alloc)?, fails.input.to_vec(alloc)?)?;
@@ -52,6 +55,6 @@ pub fn run_with(
 }
 
 /// Runs the script, and no call fails.
-pub fn run(rt: &HostRuntime, script: &[u8]) -> Result<Ran, Fail> {
-    run_with(rt, &["run", "script.js"], script, NONE)
+pub fn run<R: Threads + Wait + Sync>(rt: &R, alloc: Global, script: &[u8]) -> Result<Ran, Fail> {
+    run_with(rt, alloc, &["run", "script.js"], script, NONE)
 }
