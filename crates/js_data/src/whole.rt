@@ -27,6 +27,12 @@ impl Model for Whole {
 }
 
 impl Clone for Whole {
+    ghost use Rattle.std.specs.Prelude.{◌≡◌, ⊤};
+
+    ghost is_clone = { λ w v. v ≡ w };
+
+    ghost is_infallible = { λ _. ⊤ };
+
     fn clone(&self) -> Result<Whole, AllocError> {
         Ok(*self)
     }

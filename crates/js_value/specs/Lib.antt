@@ -1,0 +1,11 @@
+pub use Rattle.js_data.specs.Whole
+pub use Rattle.js_data.specs.Capped
+pub use Rattle.js_data.specs.Data
+pub use Rattle.js_data.specs.Event
+pub use Rattle.js_data.specs.JsonText
+pub use Rattle.js_data.specs.Faults
+pub use Rattle.js_json.specs.Json
+pub mod Value
+pub mod Lists
+pub mod Views
+pub mod Codes

@@ -1,0 +1,7 @@
+//! Tests of texts, whole numbers, data, events and values, as tables.
+#![tactic(auto)]
+
+#[cfg(test)]
+mod events;
+#[cfg(test)]
+mod values;
