@@ -1,0 +1,39 @@
+-- What contracts see of an event.
+use Rattle.std.specs.Prelude.{◌≡◌, true, ℕ, ◌+◌, ◌≤◌, List, Option, Some, None}
+use Rattle.std.specs.Str.{is_utf8}
+use Rattle.js_data.specs.Data.{PlainData, data_weight, data_nesting, text_weight, IsSortedData, IsHeld}
+
+pub record PlainEvent : Type 0 where
+  pub name : List ℕ
+  pub extra : Option PlainData
+
+abbrev pub extra_weight : Option PlainData → ℕ
+extra_weight None = 0
+extra_weight (Some d) = data_weight d
+
+abbrev pub extra_nesting : Option PlainData → ℕ
+extra_nesting None = 1
+extra_nesting (Some d) = data_nesting d
+
+abbrev pub IsSortedExtra : Option PlainData → Type 0
+IsSortedExtra None = Unit {0}
+IsSortedExtra (Some d) = IsSortedData d
+
+abbrev pub event_weight : PlainEvent → ℕ
+event_weight e = 1 + text_weight e.name + extra_weight e.extra
+
+-- the name is a part with nesting 1
+abbrev pub event_nesting : PlainEvent → ℕ
+event_nesting e = 1 + extra_nesting e.extra
+
+abbrev pub IsHeldExtra : Option PlainData → Type 0
+IsHeldExtra None = Unit {0}
+IsHeldExtra (Some d) = IsHeld d
+
+-- what each event meets
+pub record IsEvent (e : PlainEvent) : Type 0 where
+  pub weight : event_weight e ≤ 1024
+  pub nesting : event_nesting e ≤ 64
+  pub sorted : IsSortedExtra e.extra
+  pub utf8 : is_utf8 e.name ≡ true
+  pub held : IsHeldExtra e.extra

@@ -1,0 +1,9 @@
+pub mod Whole
+pub mod Capped
+pub mod Data
+pub mod Lists
+pub mod Event
+pub mod JsonText
+pub mod Faults
+pub mod Views
+pub mod Codes

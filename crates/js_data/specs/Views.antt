@@ -1,0 +1,26 @@
+-- The plain form of each type that holds itself.
+use Rattle.std.specs.Prelude.{ℕ, List, map}
+use Rattle.js_data.specs.Data.{PlainData, null, truth, whole, words, list, fields, DataList, DataFields}
+pub use Rattle.js_data.specs.Lists.{data_list_of, data_fields_of}
+use Rattle.js_data.specs.declared.data.Data.{Data, fold-Data}
+use Rattle.js_data.specs.declared.data.Data.TheOpen.{Data-F}
+
+abbrev pub data_step : Data-F PlainData → PlainData
+data_step Data-F.Null = null
+data_step (Data-F.Truth b) = truth b
+data_step (Data-F.Whole n) = whole n
+data_step (Data-F.Words s) = words s
+data_step (Data-F.List v) = list (data_list_of v.items)
+data_step (Data-F.Fields v) = fields (data_fields_of v.items)
+
+abbrev pub plain_data : Data → PlainData
+plain_data = fold-Data PlainData data_step
+
+abbrev pub data_list_view : List Data → DataList
+data_list_view ds = data_list_of (map plain_data ds)
+
+abbrev pub plain_field : List ℕ × Data → List ℕ × PlainData
+plain_field f = (f.0, plain_data f.1)
+
+abbrev pub data_fields_view : List (List ℕ × Data) → DataFields
+data_fields_view fs = data_fields_of (map plain_field fs)
