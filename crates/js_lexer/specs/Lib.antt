@@ -1,0 +1,7 @@
+pub mod Bytes
+pub mod Gaps
+pub mod Words
+pub mod Numbers
+pub mod Literals
+pub mod Front
+pub mod Cut
