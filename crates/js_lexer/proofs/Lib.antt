@@ -1,1 +1,3 @@
 mod Worked
+pub mod Lines
+pub mod Digits

@@ -41,14 +41,13 @@ open_front : front (codes "'abc") ≡ refused OpenText 0
 open_front = refl
 
 literal_front : front (codes "'a\\n' ") ≡ token (Words (97 ∷ (10 ∷ []))) 5
+unfolding encode
 literal_front = refl
 
-pair_escape : escape (codes "uD83D\\uDE00") ≡ Some (11, 240 ∷ (159 ∷ (152 ∷ (128 ∷ []))))
-unfolding encode
+pair_escape : escape (codes "uD83D\\uDE00") ≡ Some (11, Some 0x1_F600)
 pair_escape = refl
 
-braced : escape (codes "u{0001F600}'") ≡ Some (11, 240 ∷ (159 ∷ (152 ∷ (128 ∷ []))))
-unfolding encode
+braced : escape (codes "u{0001F600}'") ≡ Some (11, Some 0x1_F600)
 braced = refl
 
 lone_escape : escape (codes "uD83D\\n") ≡ None

@@ -4,4 +4,5 @@ pub mod Words
 pub mod Numbers
 pub mod Literals
 pub mod Front
+pub mod Found
 pub mod Cut

@@ -2,6 +2,10 @@
 #![tactic(auto)]
 
 pub mod token;
+pub mod bytes;
+pub mod gaps;
+pub mod literals;
+pub mod numbers;
 pub mod words;
 
-pub use token::{Kind, LexFault, Token};
+pub use token::{Flaw, Kind, LexFault, Stop, Token};
