@@ -1,7 +1,8 @@
 //! Text literals and their escapes.
-ghost use Rattle.std.specs.Prelude.{◌≡◌, ◌≤◌, ◌<◌, ◌+◌, ◌*◌, ◌++◌, IsTrue, List, ℕ, ◌∷◌, drop, length, IfSome, IfOk, string_bytes};
-ghost use Rattle.js_lexer.specs.Found.{IsFound};
-ghost use Rattle.js_lexer.specs.Front.{quoted};
+ghost use Rattle.std.specs.Prelude.{◌≡◌, ◌≤◌, ◌<◌, ◌+◌, ◌*◌, ◌^◌, ◌++◌, IsTrue, OnOk, nat_eq, false, List, ℕ, ◌∷◌, drop, length, IfSome, IfOk, string_bytes};
+ghost use Rattle.js_lexer.specs.Found.{IsFound, IsRead, stuck};
+ghost use Rattle.js_lexer.specs.Bytes.{is_quote};
+ghost use Rattle.js_lexer.specs.Front.{quoted, refused};
 ghost use Rattle.js_lexer.specs.Literals.{is_break, two_digits, four_digits, is_high, is_low, paired, character, byte_escape, low_escape, second_half, unit_escape, braced_escape, unicode_escape, zero_escape, plain_escape, letter, escape, spelled, literal, plain_size};
 
 use crate::bytes::is_digit_byte;
@@ -183,5 +184,95 @@ pub fn escape_front(bytes: &[u8]) -> Option<Escape>
         b'x' => byte_escaped(behind),
         b'u' => unicode_escaped(behind),
         _ => plain_escaped(*b, bytes),
+    }
+}
+
+fn plain_front(quote: u8, bytes: &[u8]) -> usize
+    ensures size { result ≡ plain_size quote bytes.now }
+    ensures within { result ≤ length bytes.now }
+{
+    let mut size = 0;
+    for b in bytes {
+        if *b == quote || is_break_byte(*b) || *b == b'\\' {
+            return size;
+        }
+        size += 1;
+    }
+    size
+}
+
+#[tactic(auto, using(crate::proofs::Runs::plain_boundary, crate::proofs::Runs::read_run))]
+fn run_into(content: &mut String, quote: u8, rest: &str, size: usize) -> Result<usize, Stop>
+    requires quote { quote < 128 }
+    requires some { 0 < plain_size quote rest.now }
+    ensures { IsRead quote rest.now (string_bytes content.old) (string_bytes content.new) size result }
+{
+    let n = plain_front(quote, rest.as_bytes());
+    let (run, _) = rest.split_at(n);
+    content.push_str(run)?;
+    Ok(n)
+}
+
+fn spell_into(content: &mut String, character: Option<char>) -> Result<(), Memory>
+    ensures { OnOk result (string_bytes content.new ≡ string_bytes content.old ++ spelled character) }
+{
+    match character {
+        Some(c) => content.push(c),
+        None => Ok(()),
+    }
+}
+
+fn stop_at(bytes: &[u8], size: usize) -> (Flaw, usize)
+    requires { size < 2 ^ 63 }
+    ensures { refused result.0 result.1 ≡ stuck size bytes.now }
+{
+    match bytes {
+        [] => (Flaw::OpenText, 0),
+        _ => (Flaw::Escape, 1 + size),
+    }
+}
+
+#[tactic(auto, using(crate::proofs::Runs::read_escape, crate::proofs::Runs::refused_escape))]
+fn escape_into(content: &mut String, quote: u8, rest: &str, size: usize) -> Result<usize, Stop>
+    requires quote { nat_eq 92 quote ≡ false }
+    requires backslash { rest.now ≡ 92 ∷ drop 1 rest.now }
+    requires size { size < 2 ^ 62 }
+    ensures { IsRead quote rest.now (string_bytes content.old) (string_bytes content.new) size result }
+{
+    let behind = &rest.as_bytes()[1..];
+    let Some((skipped, character)) = escape_front(behind) else {
+        let (flaw, n) = stop_at(behind, size);
+        return Err(Stop::Refused(flaw, n));
+    };
+    spell_into(content, character)?;
+    Ok(1 + skipped)
+}
+
+/// The text literal from behind its quote: its content, and how many bytes it has with both quotes.
+pub fn literal_front(alloc: Global, quote: u8, text: &str) -> Result<(Kind, usize), Stop>
+    requires quote { IsTrue (is_quote quote) }
+    requires size { length text.now < 2 ^ 32 }
+    ensures { IsFound (quoted (literal quote 0 text.now)) result }
+{
+    let mut content = String::new(alloc);
+    let mut rest = text;
+    let mut size = 0;
+    'more: loop {
+        let Some(b) = rest.as_bytes().first() else {
+            return Err(Stop::Refused(Flaw::OpenText, 0));
+        };
+        if *b == quote {
+            return Ok((Kind::Words(Text::new(content)), 1 + (size + 1)));
+        }
+        if is_break_byte(*b) {
+            return Err(Stop::Refused(Flaw::OpenText, 0));
+        }
+        let step = if *b == b'\\' {
+            escape_into(&mut content, quote, rest, size)?
+        } else {
+            run_into(&mut content, quote, rest, size)?
+        };
+        rest = rest.split_at(step).1;
+        size += step;
     }
 }
