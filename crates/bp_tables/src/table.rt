@@ -1,6 +1,6 @@
 // A table of rows.
 
-ghost use Rattle.std.specs.Prelude.{◌≡◌, IsTrue};
+ghost use Rattle.std.specs.Prelude.{◌≡◌, ◌≤◌, IsTrue, IfSome, length};
 ghost use Rattle.bp_tables.specs.Keys.{entries, are_within};
 ghost use Rattle.bp_tables.specs.Found.{find_in, front_in};
 
@@ -47,7 +47,8 @@ impl<const N: usize> Table<N> {
 
     /// How many bytes the first key has with which the bytes begin. It takes no memory.
     pub fn find_front(&self, bytes: &[u8]) -> Option<usize>
-        ensures { result ≡ front_in self.now bytes.now }
+        ensures within { IfSome result (λ size. size ≤ length bytes.now) }
+        ensures size { result ≡ front_in self.now bytes.now }
     {
         for row in &self.rows {
             if bytes.starts_with(&row.key[..row.size as usize]) {

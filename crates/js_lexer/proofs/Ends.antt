@@ -4,6 +4,7 @@ use Rattle.std.specs.Str.{IsUtf8, IsCharBoundary}
 use Rattle.std.proofs.lemmas.Str.{IsCharBoundary-after_ascii}
 use Rattle.std.proofs.lemmas.Bool.Decides.{nat_tests}
 use Rattle.std.proofs.Math.Seq.{take-length}
+use Rattle.js_lexer.proofs.Tests.{and_second}
 use Rattle.js_lexer.specs.Bytes.{begins}
 use Rattle.js_lexer.specs.Numbers.{digit_value, is_digit_of, digits_size, digits_value}
 use Rattle.js_lexer.specs.Literals.{Escape, two_digits, four_digits, joined, is_high, is_low, paired, character, byte_escape, low_escape, second_half, unit_escape, braced_escape, unicode_escape, zero_escape, plain_escape, letter, letter_or, escape}
@@ -102,10 +103,6 @@ begins_at b zero [] h = cc
 begins_at b zero (x ∷ bs) h = (omega arith, grind (arith, nat_tests))
 begins_at b (suc n) [] h = cc
 begins_at b (suc n) (x ∷ bs) h = let k = begins_at b n bs h in (omega (arith, k.0), k.1)
-
-and_second : (t u : Bool) → t && u ≡ true → u ≡ true
-and_second true u h = h
-and_second false u h = cc
 
 braced_end : (u v n : ℕ) (bs : List ℕ) → n < length bs → get_or bs n 0 ≡ 125 → Ends (3 + n) (u ∷ (v ∷ bs))
 braced_end u v n bs h k = record {

@@ -1,5 +1,9 @@
 mod Worked
+pub mod Tests
 pub mod Lines
 pub mod Digits
 pub mod Ends
 pub mod Runs
+pub mod Ascii
+pub mod Fronts
+pub mod Fits

@@ -1,13 +1,8 @@
 -- The count of lines, and comments.
 use Rattle.std.proofs.Common.{◌≡◌, ℕ, zero, suc, ◌+◌, ◌-◌, ◌<◌, ◌≤◌, Bool, true, false, List, [], ◌∷◌, Option, Some, None, option_map, if◌then◌else◌, nat_eq, length, drop, codes, refl, sym, ap, ◌∙◌, add_assoc, arith}
+use Rattle.js_lexer.proofs.Tests.{if-true, if-false}
 use Rattle.js_lexer.specs.Bytes.{begins}
 use Rattle.js_lexer.specs.Gaps.{ends_line, line_ends, line_end_size, size_of_line, size_to_close}
-
-pub if-true : {A : Type 0} (t : Bool) (x y : A) → t ≡ true → (if t then x else y) ≡ x
-if-true t x y h = rw h refl
-
-pub if-false : {A : Type 0} (t : Bool) (x y : A) → t ≡ false → (if t then x else y) ≡ y
-if-false t x y h = rw h refl
 
 -- one more byte
 pub line_ends_step : (n b : ℕ) (rest bs : List ℕ) → rest ≡ b ∷ bs → 0 < n → line_ends n rest ≡ (if ends_line rest then 1 else 0) + line_ends (n - 1) bs

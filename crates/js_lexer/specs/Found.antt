@@ -1,16 +1,18 @@
 -- What the steps of the lexer answer, by what stands in front.
 use Rattle.std.specs.Prelude.{ℕ, ◌≡◌, ◌+◌, ◌<◌, ⊤, List, [], ◌∷◌, drop, Result, Ok, Err}
 use Rattle.std.specs.Str.{IsCharBoundary}
-use Rattle.js_lexer.specs.declared.token.Kind.{Kind}
+use Rattle.js_lexer.specs.declared.token.Found.{Found}
+use Rattle.js_lexer.specs.declared.token.Found.TheVariants.{Gap, Token}
 use Rattle.js_lexer.specs.declared.token.Flaw.TheVariants.{OpenText, Escape}
 use Rattle.js_lexer.specs.declared.token.Stop.{Stop}
 use Rattle.js_lexer.specs.declared.token.Stop.TheVariants.{Refused, Memory}
 use Rattle.js_lexer.specs.Literals.{behind, literal}
-use Rattle.js_lexer.specs.Front.{Piece, token, refused, quoted}
+use Rattle.js_lexer.specs.Front.{Piece, gap, token, refused, quoted}
 
--- the token that stands there, or its refusal, or want of memory
-abbrev pub IsFound : Piece → Result (Kind × ℕ) Stop → Type 0
-IsFound piece (Ok found) = piece ≡ token found.0 found.1
+-- what stands there, or its refusal, or want of memory
+abbrev pub IsFound : Piece → Result Found Stop → Type 0
+IsFound piece (Ok (Gap n)) = piece ≡ gap n
+IsFound piece (Ok (Token kind n)) = piece ≡ token kind n
 IsFound piece (Err (Refused flaw n)) = piece ≡ refused flaw n
 IsFound piece (Err Memory) = ⊤
 

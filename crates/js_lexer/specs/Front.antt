@@ -70,6 +70,10 @@ comment_or_mark bs =
     if begins bs (codes "//") then gap (size_of_line bs) else (
     if begins bs (codes "/*") then block (size_to_close (drop 2 bs)) else mark bs (front_in all_marks bs))
 
+-- white space or a line end, or else these
+abbrev pub gap_or_mark : List ℕ → Piece
+gap_or_mark bs = gap_or (blank_size bs) (gap_or (line_end_size bs) (comment_or_mark bs))
+
 -- the first of these that stands there
 abbrev pub front : List ℕ → Piece
 front [] = nothing
@@ -77,5 +81,4 @@ front (b ∷ bs) =
     if is_name_start b then token (name_kind (take (name_size (b ∷ bs)) (b ∷ bs))) (name_size (b ∷ bs)) else (
     if is_digit b then number (b ∷ bs) else (
     if is_quote b then quoted (literal b 0 bs) else (
-    if nat_eq b 96 || is_dot_digit b bs then refused Unsupported 0 else
-    gap_or (blank_size (b ∷ bs)) (gap_or (line_end_size (b ∷ bs)) (comment_or_mark (b ∷ bs))))))
+    if nat_eq b 96 || is_dot_digit b bs then refused Unsupported 0 else gap_or_mark (b ∷ bs))))

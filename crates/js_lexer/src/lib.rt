@@ -3,9 +3,10 @@
 
 pub mod token;
 pub mod bytes;
+pub mod front;
 pub mod gaps;
 pub mod literals;
 pub mod numbers;
 pub mod words;
 
-pub use token::{Flaw, Kind, LexFault, Stop, Token};
+pub use token::{Flaw, Found, Kind, LexFault, Stop, Token};

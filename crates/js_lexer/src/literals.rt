@@ -8,7 +8,7 @@ ghost use Rattle.js_lexer.specs.Literals.{is_break, two_digits, four_digits, is_
 use crate::bytes::is_digit_byte;
 use crate::gaps::is_separator;
 use crate::numbers::{digits_front, digits_number, is_digit_in, value_of};
-use crate::{Flaw, Kind, Stop};
+use crate::{Flaw, Found, Kind, Stop};
 use js_data::{Memory, Text};
 use std::alloc::Global;
 
@@ -249,7 +249,7 @@ fn escape_into(content: &mut String, quote: u8, rest: &str, size: usize) -> Resu
 }
 
 /// The text literal from behind its quote: its content, and how many bytes it has with both quotes.
-pub fn literal_front(alloc: Global, quote: u8, text: &str) -> Result<(Kind, usize), Stop>
+pub fn literal_front(alloc: Global, quote: u8, text: &str) -> Result<Found, Stop>
     requires quote { IsTrue (is_quote quote) }
     requires size { length text.now < 2 ^ 32 }
     ensures { IsFound (quoted (literal quote 0 text.now)) result }
@@ -262,7 +262,7 @@ pub fn literal_front(alloc: Global, quote: u8, text: &str) -> Result<(Kind, usiz
             return Err(Stop::Refused(Flaw::OpenText, 0));
         };
         if *b == quote {
-            return Ok((Kind::Words(Text::new(content)), 1 + (size + 1)));
+            return Ok(Found::Token(Kind::Words(Text::new(content)), 1 + (size + 1)));
         }
         if is_break_byte(*b) {
             return Err(Stop::Refused(Flaw::OpenText, 0));

@@ -4,7 +4,7 @@ ghost use Rattle.js_lexer.specs.Front.{number};
 ghost use Rattle.js_lexer.specs.Found.{IsFound};
 ghost use Rattle.js_lexer.specs.Numbers.{digit_value, is_digit_of, digits_size, digits_value, has_base, base_of, number_size, number_value, is_unsupported_end};
 
-use crate::{Flaw, Kind, Stop};
+use crate::{Flaw, Found, Kind, Stop};
 use crate::bytes::{is_digit_byte, stands_in_name};
 use js_data::Whole;
 
@@ -147,7 +147,7 @@ fn is_refused_behind(base: u8, b: u8) -> bool
 }
 
 /// The number in front, of text that begins with a digit.
-pub fn number_front(bytes: &[u8]) -> Result<(Kind, usize), Stop>
+pub fn number_front(bytes: &[u8]) -> Result<Found, Stop>
     ensures { IsFound (number bytes.now) result }
 {
     let base = base_front(bytes);
@@ -163,5 +163,5 @@ pub fn number_front(bytes: &[u8]) -> Result<(Kind, usize), Stop>
             return Err(Stop::Refused(Flaw::Character, size));
         }
     }
-    Ok((Kind::Number(whole_of(value)), size))
+    Ok(Found::Token(Kind::Number(whole_of(value)), size))
 }

@@ -74,6 +74,15 @@ pub enum Flaw {
     Unsupported,
 }
 
+/// What stands in front, before the text's end.
+#[derive(Debug, Drop)]
+pub enum Found {
+    /// White space, a line end or a comment, of so many bytes.
+    Gap(usize),
+    /// A token of so many bytes.
+    Token(Kind, usize),
+}
+
 /// Why no token is answered: what is wrong and how many bytes on, or want of memory.
 #[derive(Debug, Clone, Copy, PartialEq, Eq)]
 pub enum Stop {
