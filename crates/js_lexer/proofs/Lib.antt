@@ -7,3 +7,4 @@ pub mod Runs
 pub mod Ascii
 pub mod Fronts
 pub mod Fits
+pub mod Cutting

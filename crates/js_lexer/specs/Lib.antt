@@ -6,3 +6,4 @@ pub mod Literals
 pub mod Front
 pub mod Found
 pub mod Cut
+pub mod Lexed
