@@ -8,3 +8,4 @@ pub mod Ascii
 pub mod Fronts
 pub mod Fits
 pub mod Cutting
+pub mod Lexing

@@ -15,12 +15,12 @@ line_ends_none (suc n) [] h = refl
 line_ends_none (suc n) (b ∷ rest) h = absurd (omega arith)
 
 -- the lines of a front and of what is behind it
-pub line_ends-add : (m n : ℕ) (bs : List ℕ) → line_ends (m + n) bs ≡ line_ends m bs + line_ends n (drop m bs)
-line_ends-add zero n bs = grind arith
-line_ends-add (suc m) n [] = grind (arith, line_ends_none (suc m + n) [] refl, line_ends_none n [] refl)
-line_ends-add (suc m) n (b ∷ bs) =
+pub line_ends_add : (m n : ℕ) (bs : List ℕ) → line_ends (m + n) bs ≡ line_ends m bs + line_ends n (drop m bs)
+line_ends_add zero n bs = grind arith
+line_ends_add (suc m) n [] = grind (arith, line_ends_none (suc m + n) [] refl, line_ends_none n [] refl)
+line_ends_add (suc m) n (b ∷ bs) =
     let h : suc m + n ≡ suc (m + n) = omega arith in
-    rw (h, line_ends-add m n bs) (sym (add_assoc (if ends_line (b ∷ bs) then 1 else 0) (line_ends m bs) (line_ends n (drop m bs))))
+    rw (h, line_ends_add m n bs) (sym (add_assoc (if ends_line (b ∷ bs) then 1 else 0) (line_ends m bs) (line_ends n (drop m bs))))
 
 pub size_of_line_step : (b : ℕ) (rest bs : List ℕ) → rest ≡ b ∷ bs → line_end_size rest ≡ 0 → size_of_line rest ≡ suc (size_of_line bs)
 size_of_line_step b rest bs e h = ap size_of_line e ∙ if-true _ _ _ (ap (λ n. nat_eq n 0) (ap line_end_size (sym e) ∙ h))
