@@ -13,7 +13,7 @@ use crate::bytes::{begins_name, is_digit_byte, is_quote_byte, stands_in_name};
 use crate::gaps::{blank_front, close_front, line_end_front, line_front};
 use crate::literals::literal_front;
 use crate::numbers::number_front;
-use crate::{Flaw, Found, Kind, Stop};
+use crate::token::{Flaw, Found, Kind, Stop};
 use bp_tables::Table;
 use js_data::{Memory, Text};
 use std::alloc::Global;

@@ -8,7 +8,7 @@ ghost use Rattle.js_lexer.specs.Lexed.{IsRefusal, IsStep, StopFits, fault_of, fa
 use crate::front::front_at;
 use crate::gaps::line_ends_in;
 use crate::words::{mark_table, word_table};
-use crate::{Flaw, Found, LexFault, Stop, Token};
+use crate::token::{Flaw, Found, LexFault, Stop, Token};
 use bp_tables::Table;
 use std::alloc::Global;
 

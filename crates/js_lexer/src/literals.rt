@@ -8,7 +8,7 @@ ghost use Rattle.js_lexer.specs.Literals.{is_break, two_digits, four_digits, is_
 use crate::bytes::is_digit_byte;
 use crate::gaps::is_separator;
 use crate::numbers::{digits_front, digits_number, is_digit_in, value_of};
-use crate::{Flaw, Found, Kind, Stop};
+use crate::token::{Flaw, Found, Kind, Stop};
 use js_data::{Memory, Text};
 use std::alloc::Global;
 

@@ -4,7 +4,7 @@ ghost use Rattle.js_lexer.specs.Front.{number};
 ghost use Rattle.js_lexer.specs.Found.{IsFound};
 ghost use Rattle.js_lexer.specs.Numbers.{digit_value, is_digit_of, digits_size, digits_value, has_base, base_of, number_size, number_value, is_unsupported_end};
 
-use crate::{Flaw, Found, Kind, Stop};
+use crate::token::{Flaw, Found, Kind, Stop};
 use crate::bytes::{is_digit_byte, stands_in_name};
 use js_data::Whole;
 
