@@ -1,13 +1,13 @@
 -- Laws of cutting.
-use Rattle.std.proofs.Common.{◌≡◌, ℕ, zero, suc, ◌+◌, ◌-◌, ◌<◌, ◌≤◌, nat_lt, Bool, true, false, ◌||◌, List, [], ◌∷◌, ◌++◌, length, drop, ◌⊎◌, inl, inr, refl, sym, ap, subst, ◌∙◌, arith, append_assoc, append-nil, length-drop}
+use Rattle.std.proofs.Common.{◌≡◌, ℕ, zero, suc, ◌+◌, ◌<◌, ◌≤◌, nat_lt, Bool, true, false, ◌||◌, List, [], ◌∷◌, ◌++◌, length, drop, ◌⊎◌, inl, inr, refl, sym, ap, subst, arith, append_assoc, append-nil, length-drop}
 use Rattle.js_lexer.specs.declared.token.Kind.{Kind}
 use Rattle.js_lexer.specs.declared.token.Flaw.{Flaw}
 use Rattle.js_lexer.specs.declared.token.Token.{Token}
 use Rattle.js_lexer.specs.Gaps.{line_ends, line_of}
 use Rattle.js_lexer.specs.Front.{Piece, nothing, gap, token, refused, front}
 use Rattle.js_lexer.specs.Cut.{CutFrom, cut_end, cut_gap, cut_token, Cut, RefusedFrom, refused_here, refused_behind_gap, refused_behind_token, Refused}
-use Rattle.js_lexer.specs.Lexed.{OneCutting, OneRefusal, NeverBoth, CutOrRefused}
-use Rattle.js_lexer.proofs.Fits.{PieceFits, Sized, front-fits}
+use Rattle.js_lexer.specs.Laws.{OneCutting, OneRefusal, NeverBoth, CutOrRefused}
+use Rattle.js_lexer.proofs.Fits.{PieceFits, front-fits}
 
 -- at a place one thing stands in front
 same_gap : (p : Piece) (m n : ℕ) → p ≡ gap m → p ≡ gap n → m ≡ n

@@ -1,5 +1,5 @@
 -- Digits and their number.
-use Rattle.std.proofs.Common.{◌≡◌, ℕ, suc, ◌+◌, ◌*◌, ◌<◌, ◌≤◌, Bool, true, false, List, [], ◌∷◌, if◌then◌else◌, length, get_or, drop, drop-cons, refl, arith}
+use Rattle.std.proofs.Common.{◌≡◌, ℕ, suc, ◌+◌, ◌*◌, ◌<◌, ◌≤◌, Bool, true, false, List, [], ◌∷◌, if◌then◌else◌, length, get_or, drop, drop-cons, arith}
 use Rattle.std.proofs.Math.Nat.{mul-le-mul_right}
 use Rattle.js_lexer.specs.Numbers.{digit_value, is_digit_of, digits_value}
 

@@ -1,5 +1,5 @@
 -- Behind an escape a character begins: its last byte is ASCII.
-use Rattle.std.proofs.Common.{◌≡◌, ℕ, zero, suc, ◌+◌, ◌-◌, ◌*◌, ◌<◌, ◌≤◌, nat_eq, nat_lt, nat_le, Bool, true, false, ◌&&◌, ◌||◌, List, [], ◌∷◌, Option, Some, None, if◌then◌else◌, length, get_or, take, drop, refl, sym, ap, ◌∙◌, arith}
+use Rattle.std.proofs.Common.{◌≡◌, ℕ, zero, suc, ◌+◌, ◌-◌, ◌*◌, ◌<◌, ◌≤◌, nat_eq, nat_lt, Bool, true, false, ◌&&◌, ◌||◌, List, [], ◌∷◌, Option, Some, None, if◌then◌else◌, length, get_or, take, drop, refl, arith}
 use Rattle.std.specs.Str.{IsUtf8, IsCharBoundary}
 use Rattle.std.proofs.lemmas.Str.{IsCharBoundary-after_ascii}
 use Rattle.std.proofs.lemmas.Bool.Decides.{nat_tests}
@@ -148,6 +148,7 @@ escape-ends (b ∷ bs) e h = let k = by_letter (letter b) refl in let t : Escape
         if nat_eq b 48 then zero_escape bs else (
         if nat_eq b 120 then byte_escape (two_digits bs) else (
         if nat_eq b 117 then unicode_escape bs else plain_escape b bs))
+
     by_letter : (o : Option ℕ) → letter b ≡ o → EscapeEnds (b ∷ bs) (letter_or o rest)
     by_letter (Some c) l = one_end b bs (letter_small b c l)
     by_letter None l =

@@ -1,18 +1,17 @@
 -- What stands in front has at least one byte, and no more than there are.
-use Rattle.std.proofs.Common.{◌≡◌, ℕ, zero, suc, ◌+◌, ◌-◌, ◌*◌, ◌<◌, ◌≤◌, nat_eq, nat_lt, nat_le, Bool, true, false, ◌&&◌, ◌||◌, List, [], ◌∷◌, codes, pos, Option, Some, None, option_map, is_some, if◌then◌else◌, length, take, drop, refl, sym, ap, ◌∙◌, arith, length-drop}
+use Rattle.std.proofs.Common.{◌≡◌, ℕ, zero, suc, ◌+◌, ◌<◌, ◌≤◌, nat_eq, nat_lt, Bool, true, false, ◌&&◌, ◌||◌, List, [], ◌∷◌, codes, pos, Option, Some, None, option_map, if◌then◌else◌, length, take, drop, refl, ap, arith, length-drop}
 use Rattle.std.proofs.lemmas.List.{length-take}
 use Rattle.std.proofs.lemmas.Bool.{eqb-true}
 use Rattle.std.proofs.lemmas.Bool.Decides.{nat_tests}
-use Rattle.bp_tables.specs.Found.{find_in, front_in}
-use Rattle.js_lexer.specs.declared.token.Kind.{Kind}
-use Rattle.js_lexer.specs.declared.token.Kind.TheVariants.{Name, Word, Number, Words, Mark}
-use Rattle.js_lexer.specs.declared.token.Flaw.TheVariants.{Character, OpenText, Escape as Escape', NumberRange, Unsupported}
+use Rattle.bp_tables.specs.Found.{front_in}
+use Rattle.js_lexer.specs.declared.token.Kind.TheVariants.{Number}
+use Rattle.js_lexer.specs.declared.token.Flaw.TheVariants.{Character, NumberRange, Unsupported}
 use Rattle.js_lexer.specs.Bytes.{begins, is_digit, is_name_start, is_name_byte, is_quote}
-use Rattle.js_lexer.specs.Gaps.{blank_size, line_end_size, begins_separator, size_of_line, size_to_close}
+use Rattle.js_lexer.specs.Gaps.{blank_size, line_end_size, size_of_line, size_to_close}
 use Rattle.js_lexer.specs.Words.{all_marks}
-use Rattle.js_lexer.specs.Numbers.{digit_value, is_digit_of, digits_size, has_base, base_of, decimal_size, number_size, number_value, is_unsupported_end}
+use Rattle.js_lexer.specs.Numbers.{is_digit_of, digits_size, has_base, base_of, decimal_size, number_size, number_value, is_unsupported_end}
 use Rattle.js_lexer.specs.Literals.{Escape, is_break, escape, spelled, Literal, closed, unclosed, wrong, behind, if_escape, literal}
-use Rattle.js_lexer.specs.Front.{Piece, nothing, gap, token, refused, name_size, name_kind, number_before, number, quoted, block, mark, is_dot_digit, gap_or, comment_or_mark, gap_or_mark, front}
+use Rattle.js_lexer.specs.Front.{Piece, nothing, gap, token, refused, name_size, number_before, number, quoted, block, mark, is_dot_digit, gap_or, comment_or_mark, gap_or_mark, front}
 use Rattle.js_lexer.proofs.Tests.{and_first, and_second}
 use Rattle.js_lexer.proofs.Ascii.{pointwise_same}
 
@@ -169,6 +168,7 @@ close-within (b ∷ bs) n h = close_by (begins (b ∷ bs) (codes "*/")) refl h (
     mapped : (o : Option ℕ) → ((m : ℕ) → o ≡ Some m → m ≤ length bs) → option_map suc o ≡ Some n → n ≤ suc (length bs)
     mapped None f e = cc
     mapped (Some m) f e = let d : suc m ≡ n = cc in let i = f m refl in omega arith
+
     close_by : (t : Bool) → begins (b ∷ bs) (codes "*/") ≡ t → (if t then Some 2 else option_map suc (size_to_close bs)) ≡ Some n →
         ((m : ℕ) → size_to_close bs ≡ Some m → m ≤ length bs) → n ≤ suc (length bs)
     close_by true k e f = let d : 2 ≡ n = cc in let i = begins-within (b ∷ bs) (codes "*/") k in omega arith

@@ -1,7 +1,6 @@
 -- The loop over a text.
-use Rattle.std.proofs.Common.{◌≡◌, ℕ, ◌+◌, ◌-◌, ◌<◌, ◌≤◌, Bool, List, [], ◌∷◌, length, drop, refl, sym, ap, subst, ◌∙◌, arith, length-drop, Result, Ok, Err}
+use Rattle.std.proofs.Common.{◌≡◌, ℕ, ◌+◌, ◌<◌, ◌≤◌, Bool, List, length, drop, subst, arith, length-drop, Result, Ok, Err}
 use Rattle.std.specs.Str.{IsUtf8}
-use Rattle.js_lexer.specs.declared.token.Kind.{Kind}
 use Rattle.js_lexer.specs.declared.token.Found.{Found}
 use Rattle.js_lexer.specs.declared.token.Found.TheVariants.{Gap, Token}
 use Rattle.js_lexer.specs.declared.token.Stop.{Stop}

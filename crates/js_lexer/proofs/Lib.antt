@@ -9,3 +9,4 @@ pub mod Fronts
 pub mod Fits
 pub mod Cutting
 pub mod Lexing
+pub mod Order

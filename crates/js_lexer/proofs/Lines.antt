@@ -1,5 +1,5 @@
 -- The count of lines, and comments.
-use Rattle.std.proofs.Common.{◌≡◌, ℕ, zero, suc, ◌+◌, ◌-◌, ◌<◌, ◌≤◌, Bool, true, false, List, [], ◌∷◌, Option, Some, None, option_map, if◌then◌else◌, nat_eq, length, drop, codes, refl, sym, ap, ◌∙◌, add_assoc, arith}
+use Rattle.std.proofs.Common.{◌≡◌, ℕ, zero, suc, ◌+◌, ◌-◌, ◌<◌, true, false, List, [], ◌∷◌, Option, Some, None, option_map, if◌then◌else◌, nat_eq, length, drop, codes, refl, sym, ap, ◌∙◌, add_assoc, arith}
 use Rattle.js_lexer.proofs.Tests.{if-true, if-false}
 use Rattle.js_lexer.specs.Bytes.{begins}
 use Rattle.js_lexer.specs.Gaps.{ends_line, line_ends, line_end_size, size_of_line, size_to_close}

@@ -1,14 +1,13 @@
 -- A literal read piece by piece.
-use Rattle.std.proofs.Common.{◌≡◌, ℕ, zero, suc, ◌+◌, ◌-◌, ◌<◌, ◌≤◌, nat_eq, Bool, true, false, List, [], ◌∷◌, ◌++◌, Option, Some, None, if◌then◌else◌, length, get_or, take, drop, refl, sym, ap, ◌∙◌, append_assoc, append-nil, add_assoc, arith}
+use Rattle.std.proofs.Common.{◌≡◌, ℕ, zero, suc, ◌+◌, ◌<◌, ◌≤◌, nat_eq, Bool, true, false, List, [], ◌∷◌, ◌++◌, Some, None, length, get_or, take, drop, refl, sym, ap, ◌∙◌, append_assoc, append-nil, add_assoc, arith}
 use Rattle.std.specs.Str.{IsUtf8, IsCharBoundary}
-use Rattle.std.proofs.lemmas.Str.{IsCharBoundary-end}
 use Rattle.std.specs.List.{slice_index}
 use Rattle.std.proofs.lemmas.Bool.Decides.{nat_tests}
 use Rattle.js_lexer.specs.declared.token.Flaw.TheVariants.{Escape as Escape'}
 use Rattle.js_lexer.specs.Front.{quoted, refused}
 use Rattle.js_lexer.specs.Found.{Read, stuck}
 use Rattle.js_lexer.proofs.Ends.{escape_boundary, escape_fits}
-use Rattle.js_lexer.specs.Literals.{Escape, is_break, escape, spelled, Literal, closed, unclosed, wrong, behind, if_escape, literal, plain_size}
+use Rattle.js_lexer.specs.Literals.{Escape, is_break, escape, spelled, Literal, closed, unclosed, wrong, behind, literal, plain_size}
 
 pub behind-none : (l : Literal) → behind [] 0 l ≡ l
 behind-none (closed content n) = let h : 0 + n ≡ n = omega arith in rw h refl

@@ -5,7 +5,7 @@ use Rattle.js_lexer.specs.declared.token.Kind.TheVariants.{Name, Word, Number, W
 use Rattle.js_lexer.specs.declared.token.Flaw.TheVariants.{Character, OpenText, Escape, NumberRange, Unsupported}
 use Rattle.js_lexer.specs.Gaps.{line_of}
 use Rattle.js_lexer.specs.Literals.{escape}
-use Rattle.js_lexer.specs.Front.{nothing, gap, token, refused, front}
+use Rattle.js_lexer.specs.Front.{gap, token, refused, front}
 
 name_front : front (codes "ab$1+c") ≡ token (Name (codes "ab$1")) 4
 name_front = refl

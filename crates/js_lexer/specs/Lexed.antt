@@ -1,7 +1,6 @@
 -- What the lexer answers.
-use Rattle.std.specs.Prelude.{ℕ, ◌≡◌, ◌≤◌, ◌<◌, ◌+◌, ◌⊎◌, List, length, drop, ⊤, Result, Ok, Err}
+use Rattle.std.specs.Prelude.{ℕ, ◌≡◌, ◌≤◌, ◌<◌, ◌+◌, List, length, drop, ⊤, Result, Ok, Err}
 use Rattle.std.specs.Str.{IsUtf8, IsValidUpTo}
-use Rattle.js_lexer.specs.declared.token.Token.{Token}
 use Rattle.js_lexer.specs.declared.token.Kind.{Kind}
 use Rattle.js_lexer.specs.declared.token.Found.{Found}
 use Rattle.js_lexer.specs.declared.token.Found.TheVariants.{Gap, Token as Token'}
@@ -12,7 +11,7 @@ use Rattle.js_lexer.specs.declared.token.Flaw.{Flaw}
 use Rattle.js_lexer.specs.declared.token.Flaw.TheVariants as flaw
 use Rattle.js_lexer.specs.declared.token.LexFault.{LexFault}
 use Rattle.js_lexer.specs.declared.token.LexFault.TheVariants.{Character, OpenText, Escape, NumberRange, Unsupported, Utf8, Memory}
-use Rattle.js_lexer.specs.Cut.{Cut, Refused}
+use Rattle.js_lexer.specs.Cut.{Refused}
 
 -- the refusal of a flaw at a place
 abbrev pub fault_of : Flaw → ℕ → LexFault
@@ -60,19 +59,3 @@ IsStep bytes place (Ok (Gap n)) = GapAt bytes place n
 IsStep bytes place (Ok (Token' kind n)) = TokenAt bytes place kind n
 IsStep bytes place (Err (Refused' flaw n)) = StopAt bytes place flaw n
 IsStep bytes place (Err Memory') = ⊤
-
--- at most one list of tokens is a cutting of a text
-abbrev pub OneCutting : List ℕ → Type 0
-OneCutting bytes = (tokens others : List Token) → Cut bytes tokens → Cut bytes others → tokens ≡ others
-
--- a text is refused for one flaw at one place
-abbrev pub OneRefusal : List ℕ → Type 0
-OneRefusal bytes = (one other : Flaw) (here there : ℕ) → Refused bytes one here → Refused bytes other there → (one ≡ other) × (here ≡ there)
-
--- no text is both cut and refused
-abbrev pub NeverBoth : List ℕ → Type 0
-NeverBoth bytes = (tokens : List Token) (flaw : Flaw) (place : ℕ) → Cut bytes tokens → ¬ (Refused bytes flaw place)
-
--- each text is cut or refused
-abbrev pub CutOrRefused : List ℕ → Type 0
-CutOrRefused bytes = ((tokens : List Token) × Cut bytes tokens) ⊎ ((flaw : Flaw) × (place : ℕ) × Refused bytes flaw place)

@@ -7,3 +7,4 @@ pub mod Front
 pub mod Found
 pub mod Cut
 pub mod Lexed
+pub mod Laws

@@ -119,7 +119,13 @@ fn is_dot_and_digit(b: u8, behind: &[u8]) -> bool
 }
 
 #[tactic(auto, using(crate::proofs::Ascii::quote_boundary, crate::proofs::Ascii::behind_quote))]
-fn quoted_front(alloc: Global, quote: u8, behind: &[u8], text: &str, place: usize) -> Result<Found, Stop>
+fn quoted_front(
+    alloc: Global,
+    quote: u8,
+    behind: &[u8],
+    text: &str,
+    place: usize,
+) -> Result<Found, Stop>
     requires quote { IsTrue (is_quote quote) }
     requires size { length text.now < 2 ^ 32 }
     requires place { drop place text.now ≡ quote ∷ behind.now }
@@ -129,7 +135,14 @@ fn quoted_front(alloc: Global, quote: u8, behind: &[u8], text: &str, place: usiz
 }
 
 /// What stands in front of the bytes, which are the text's from the place on.
-pub fn front_at(alloc: Global, words: &Table<39>, marks: &Table<57>, bytes: &[u8], text: &str, place: usize) -> Result<Found, Stop>
+pub fn front_at(
+    alloc: Global,
+    words: &Table<39>,
+    marks: &Table<57>,
+    bytes: &[u8],
+    text: &str,
+    place: usize,
+) -> Result<Found, Stop>
     requires words { words.now ≡ all_words }
     requires marks { marks.now ≡ all_marks }
     requires size { length text.now < 2 ^ 32 }

@@ -15,7 +15,11 @@ pub fn blank_front(bytes: &[u8]) -> usize
     ensures size { result ≡ blank_size bytes.now }
     ensures within { result ≤ length bytes.now }
 {
-    if bytes.starts_with(b"\t") || bytes.starts_with(b"\x0b") || bytes.starts_with(b"\x0c") || bytes.starts_with(b" ") {
+    if bytes.starts_with(b"\t")
+        || bytes.starts_with(b"\x0b")
+        || bytes.starts_with(b"\x0c")
+        || bytes.starts_with(b" ")
+    {
         return 1;
     }
     if bytes.starts_with(b"\xc2\xa0") {
@@ -47,7 +51,9 @@ pub fn line_end_front(bytes: &[u8]) -> usize
 fn is_line_ended(bytes: &[u8]) -> bool
     ensures { result ≡ ends_line bytes.now }
 {
-    bytes.starts_with(b"\n") || bytes.starts_with(b"\r") && !bytes.starts_with(b"\r\n") || is_separator(bytes)
+    bytes.starts_with(b"\n")
+        || bytes.starts_with(b"\r") && !bytes.starts_with(b"\r\n")
+        || is_separator(bytes)
 }
 
 /// How many lines end in the first n bytes.

@@ -3,12 +3,13 @@ ghost use Rattle.std.specs.Prelude.{◌≡◌, ◌≤◌, ◌<◌, ◌+◌, ◌^
 ghost use Rattle.std.specs.Str.{IsUtf8};
 ghost use Rattle.js_lexer.specs.Cut.{Cut};
 ghost use Rattle.js_lexer.specs.Words.{all_words, all_marks};
-ghost use Rattle.js_lexer.specs.Lexed.{IsRefusal, IsStep, StopFits, fault_of, fault_of_stop, OneCutting, OneRefusal, NeverBoth, CutOrRefused};
+ghost use Rattle.js_lexer.specs.Lexed.{IsRefusal, IsStep, StopFits, fault_of, fault_of_stop};
+ghost use Rattle.js_lexer.specs.Laws.{OneCutting, OneRefusal, NeverBoth, CutOrRefused, TokensInOrder, LongestMark};
 
 use crate::front::front_at;
 use crate::gaps::line_ends_in;
-use crate::words::{mark_table, word_table};
 use crate::token::{Flaw, Found, LexFault, Stop, Token};
+use crate::words::{mark_table, word_table};
 use bp_tables::Table;
 use std::alloc::Global;
 
@@ -63,7 +64,13 @@ fn rest_of(text: &str, place: usize) -> &[u8]
     &text.as_bytes()[place..]
 }
 
-fn step_at(alloc: Global, words: &Table<39>, marks: &Table<57>, text: &str, place: usize) -> Result<Found, Stop>
+fn step_at(
+    alloc: Global,
+    words: &Table<39>,
+    marks: &Table<57>,
+    text: &str,
+    place: usize,
+) -> Result<Found, Stop>
     requires words { words.now ≡ all_words }
     requires marks { marks.now ≡ all_marks }
     requires size { length text.now ≤ 1048576 }
@@ -102,7 +109,13 @@ fn lex_text(alloc: Global, text: &str) -> Result<Vec<Token>, LexFault>
             Ok(Found::Token(kind, size)) => {
                 let ends = line_ends_in(rest_of(text, place), size);
                 let (from, to) = (place as u32, (place + size) as u32);
-                tokens.push(Token { kind, from, to, line, new_line })?;
+                tokens.push(Token {
+                    kind,
+                    from,
+                    to,
+                    line,
+                    new_line,
+                })?;
                 new_line = false;
                 line += ends;
                 place += size;
@@ -113,12 +126,18 @@ fn lex_text(alloc: Global, text: &str) -> Result<Vec<Token>, LexFault>
     Ok(tokens)
 }
 
-/// What is law of cutting: at most one list of tokens is a cutting of a text, a text that is refused is
-/// refused for one flaw at one place, and each text is either cut or refused, never both.
+/// Laws of cutting: at most one list of tokens is a cutting of a text, a text is refused for at most one
+/// flaw at one place, and each text is either cut or refused, never both.
 pub fn one_cutting(bytes: &[u8])
     ensures tokens { OneCutting bytes.now }
     ensures refusal { OneRefusal bytes.now }
     ensures never_both { NeverBoth bytes.now }
     ensures cut_or_refused { CutOrRefused bytes.now }
-{
-}
+{}
+
+/// Laws of tokens: they stand in order, each at its line, and names, words and marks are their bytes; and
+/// no mark with which a text begins is longer than the one that is read.
+pub fn tokens_in_order(bytes: &[u8])
+    ensures order { TokensInOrder bytes.now }
+    ensures longest { LongestMark bytes.now }
+{}

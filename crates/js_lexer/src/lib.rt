@@ -11,6 +11,6 @@ mod token;
 mod words;
 
 pub use gaps::line_at;
-pub use lexer::{lex, one_cutting};
+pub use lexer::{lex, one_cutting, tokens_in_order};
 pub use token::{Flaw, Kind, LexFault, Token};
 pub use words::{mark_table, word_table};

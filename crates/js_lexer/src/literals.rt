@@ -91,7 +91,10 @@ fn low_escaped(high: u32, bytes: &[u8]) -> Option<Escape>
         return None;
     }
     match four_hex(&bytes[2..]) {
-        Some(low) if is_low_half(low) => escaped(11, 0x1_0000 + 0x400 * (high - 0xD800) as u64 + (low - 0xDC00) as u64),
+        Some(low) if is_low_half(low) => escaped(
+            11,
+            0x1_0000 + 0x400 * (high - 0xD800) as u64 + (low - 0xDC00) as u64,
+        ),
         _ => None,
     }
 }

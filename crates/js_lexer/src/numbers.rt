@@ -4,8 +4,8 @@ ghost use Rattle.js_lexer.specs.Front.{number};
 ghost use Rattle.js_lexer.specs.Found.{IsFound};
 ghost use Rattle.js_lexer.specs.Numbers.{digit_value, is_digit_of, digits_size, digits_value, has_base, base_of, number_size, number_value, is_unsupported_end};
 
-use crate::token::{Flaw, Found, Kind, Stop};
 use crate::bytes::{is_digit_byte, stands_in_name};
+use crate::token::{Flaw, Found, Kind, Stop};
 use js_data::Whole;
 
 /// The greatest number.
@@ -74,7 +74,9 @@ fn says_base(bytes: &[u8], base: u8, small: u8, capital: u8) -> bool
     ensures test { result ≡ has_base base small capital bytes.now }
 {
     match bytes {
-        [zero, letter, digit, ..] => *zero == b'0' && (*letter == small || *letter == capital) && is_digit_in(base, *digit),
+        [zero, letter, digit, ..] => *zero == b'0'
+            && (*letter == small || *letter == capital)
+            && is_digit_in(base, *digit),
         _ => false,
     }
 }
@@ -143,7 +145,10 @@ fn whole_of(value: u64) -> Whole
 fn is_refused_behind(base: u8, b: u8) -> bool
     ensures { result ≡ is_unsupported_end base b }
 {
-    b == b'.' || b == b'_' || b == b'n' || base == 10 && (b == b'e' || b == b'E' || is_digit_byte(b))
+    b == b'.'
+        || b == b'_'
+        || b == b'n'
+        || base == 10 && (b == b'e' || b == b'E' || is_digit_byte(b))
 }
 
 /// The number in front, of text that begins with a digit.

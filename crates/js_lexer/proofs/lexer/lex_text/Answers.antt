@@ -1,5 +1,5 @@
-use Rattle.std.proofs.Common.{◌≡◌, ◌+◌, ◌||◌, nat_lt, false, arith, refl, sym, ap, subst, ◌∙◌, ℕ, List, drop}
-use Rattle.js_lexer.specs.Gaps.{line_ends, line_of}
+use Rattle.std.proofs.Common.{◌+◌, ◌||◌, nat_lt, arith, sym, ap, subst, ◌∙◌, ℕ, List}
+use Rattle.js_lexer.specs.Gaps.{line_ends}
 use Rattle.js_lexer.specs.Lexed.{IsRefusal, GapAt, TokenAt}
 use Rattle.js_lexer.specs.declared.token.LexFault.{LexFault}
 use Rattle.js_lexer.specs.declared.token.Token.{Token}

@@ -1,5 +1,5 @@
-use Rattle.std.proofs.Common.{◌≡◌, ◌++◌, Some, arith, refl, sym, ap, ◌∙◌, drop, string_bytes, length}
-use Rattle.js_lexer.specs.Literals.{escape, spelled}
+use Rattle.std.proofs.Common.{arith, refl, sym, ap, ◌∙◌, drop}
+use Rattle.js_lexer.specs.Literals.{escape}
 use Rattle.js_lexer.proofs.Ends.{escape_fits, behind_one}
 use Rattle.js_lexer.proofs.Runs.{read_escape}
 use Rattle.js_lexer.proofs.literals.escape_into.Goals as goal
