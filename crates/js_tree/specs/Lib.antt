@@ -1,0 +1,4 @@
+pub mod Straight
+pub mod PointCodes
+pub mod ThreadCodes
+pub mod Reading

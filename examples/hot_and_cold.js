@@ -1,0 +1,14 @@
+bp.registerBThread("Add hot", function() {
+  bp.sync({request: bp.Event("hot")});
+  bp.sync({request: bp.Event("hot")});
+});
+bp.registerBThread("Add cold", function() {
+  bp.sync({request: bp.Event("cold")});
+  bp.sync({request: bp.Event("cold")});
+});
+bp.registerBThread("Interleave", function() {
+  bp.sync({waitFor: bp.Event("hot"), block: bp.Event("cold")});
+  bp.sync({waitFor: bp.Event("cold"), block: bp.Event("hot")});
+  bp.sync({waitFor: bp.Event("hot"), block: bp.Event("cold")});
+  bp.sync({waitFor: bp.Event("cold"), block: bp.Event("hot")});
+});
