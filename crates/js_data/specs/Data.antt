@@ -28,6 +28,7 @@ mutual
 abbrev pub text_weight : List ℕ → ℕ
 text_weight s = 1 + length s
 
+-- one more than the parts, where the key of a field is a part as a text
 abbrev mutual
   pub data_weight : PlainData → ℕ
   data_weight null = 1
@@ -45,7 +46,7 @@ abbrev mutual
   data_fields_weight no_fields = 0
   data_fields_weight (field k d fs) = text_weight k + data_weight d + data_fields_weight fs
 
--- the keys are parts with no parts of their own
+-- 1 without parts, and else one more than the deepest part; a key has no parts
 abbrev mutual
   pub data_nesting : PlainData → ℕ
   data_nesting null = 1

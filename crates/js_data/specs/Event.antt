@@ -19,10 +19,11 @@ abbrev pub IsSortedExtra : Option PlainData → Type 0
 IsSortedExtra None = Unit {0}
 IsSortedExtra (Some d) = IsSortedData d
 
+-- one more than the name, as a text, and the data
 abbrev pub event_weight : PlainEvent → ℕ
 event_weight e = 1 + text_weight e.name + extra_weight e.extra
 
--- the name is a part with nesting 1
+-- one more than the parts: the name, with nesting 1, and the data
 abbrev pub event_nesting : PlainEvent → ℕ
 event_nesting e = 1 + extra_nesting e.extra
 
@@ -30,7 +31,8 @@ abbrev pub IsHeldExtra : Option PlainData → Type 0
 IsHeldExtra None = Unit {0}
 IsHeldExtra (Some d) = IsHeld d
 
--- what each event meets
+-- What each event meets. `utf8` and `held` say what the name and the data hold by their types: each
+-- text is UTF-8, and each number in range.
 pub record IsEvent (e : PlainEvent) : Type 0 where
   pub weight : event_weight e ≤ 1024
   pub nesting : event_nesting e ≤ 64

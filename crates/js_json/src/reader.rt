@@ -146,10 +146,7 @@ fn parts_of(alloc: Global, json: &Json) -> Result<Option<(Text, Option<Data>)>, 
     }
 }
 
-fn parts_of_items(
-    alloc: Global,
-    items: &Vec<Json>,
-) -> Result<Option<(Text, Option<Data>)>, Memory>
+fn parts_of_items(alloc: Global, items: &Vec<Json>) -> Result<Option<(Text, Option<Data>)>, Memory>
     ensures { IfOk result (λ o. option_map (λ p. record { name = p.0; extra = option_map plain_data p.1 }) o
         ≡ event_of_items (items_view items.now.items)) }
 {

@@ -37,10 +37,7 @@ fn json_of_items(alloc: Global, items: &Vec<Data>) -> Result<Vec<Json>, Memory>
 }
 
 #[cycle(json)]
-fn json_of_fields(
-    alloc: Global,
-    fields: &Vec<(Text, Data)>,
-) -> Result<Map<String, Json>, Memory>
+fn json_of_fields(alloc: Global, fields: &Vec<(Text, Data)>) -> Result<Map<String, Json>, Memory>
     ensures { IfOk result (λ m. members_view m.entries
         ≡ put_all (data_fields_view fields.now.items) no_members) }
 {

@@ -1,5 +1,5 @@
 -- How the logic stores values and sets: each as a tree of numbers that is read back.
-use Rattle.std.specs.Prelude.{◌≡◌, ℕ, zero, suc, pos, negsuc, List, true, false, refl}
+use Rattle.std.specs.Prelude.{◌≡◌, zero, suc, pos, negsuc, true, false, refl}
 use Rattle.std.proofs.Common.{ap}
 use Rattle.std.specs.Coded.{Coded, code_by}
 use base.Stored.{Gv, gnil, gnum, gcons}

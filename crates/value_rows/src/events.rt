@@ -1,18 +1,23 @@
-use js_value::{
-    Data, Event, EventError, Text, TooHeavy, Whole, copy_data, event_of, event_text, quoted,
-};
+use js_value::{Data, Event, EventError, Text, Whole, copy_data, event_of, event_text, quoted};
+use std::alloc::Global;
 use std::test::Fail;
 
-fn text(rt: &HostRuntime, s: &str) -> Result<Text, Fail> {
-    Ok(Text::new(String::from_str(rt.alloc(), s)?))
+fn text(alloc: Global, s: &str) -> Result<Text, Fail> {
+    Ok(Text::new(String::from_str(alloc, s)?))
 }
 
-// The text of the event at these bytes; `None` where they are the text of no event.
-fn back(rt: &HostRuntime, bytes: &[u8]) -> Result<Option<Text>, Fail> {
-    match event_of(rt.alloc(), bytes) {
-        Ok(event) => Ok(Some(event_text(rt.alloc(), &event)?)),
-        Err(EventError::NotEvent) => Ok(None),
-        Err(EventError::Memory) => Err(Fail::from("memory")),
+// Whether the bytes are the text of an event; its own text is then `wanted`.
+fn reads_as(alloc: Global, bytes: &[u8], wanted: &str) -> Result<bool, Fail> {
+    let event = event_of(alloc, bytes)?;
+    let found = event_text(alloc, &event)?;
+    Ok(found.as_str() == wanted)
+}
+
+// Whether the bytes are the text of no event.
+fn is_refused(alloc: Global, bytes: &[u8]) -> bool {
+    match event_of(alloc, bytes) {
+        Err(EventError::NotEvent) => true,
+        Err(EventError::Memory) | Ok(_) => false,
     }
 }
 
@@ -45,16 +50,17 @@ fn texts_read_as_events(rt: HostRuntime) -> Result<(), Fail> {
             "[\"x\",{\"a\":3,\"b\":2}]",
         ),
     ] {
-        let found = back(&rt, line.as_bytes())?.ok_or("no event")?;
-        assert_eq!(rt; found.as_str(), wanted, "{line}");
-        let again = back(&rt, wanted.as_bytes())?.ok_or("no event")?;
-        assert_eq!(rt; again.as_str(), wanted, "{wanted}");
+        assert!(rt; reads_as(rt.alloc(), line.as_bytes(), wanted)?, "{line}");
+        assert!(rt;
+            reads_as(rt.alloc(), wanted.as_bytes(), wanted)?,
+            "{wanted}"
+        );
     }
     Ok(())
 }
 
 #[test]
-fn other_texts_are_no_events(rt: HostRuntime) -> Result<(), Fail> {
+fn other_texts_are_no_events(rt: HostRuntime) {
     for line in [
         "",
         "[]",
@@ -87,95 +93,94 @@ fn other_texts_are_no_events(rt: HostRuntime) -> Result<(), Fail> {
         "[\"\u{1}\"]",
         "[\"a\nb\"]",
     ] {
-        assert!(rt; back(&rt, line.as_bytes())?.is_none(), "{line}");
+        assert!(rt; is_refused(rt.alloc(), line.as_bytes()), "{line}");
     }
-    assert!(rt; back(&rt, &[91, 34, 255, 34, 93])?.is_none(), "no UTF-8");
+    assert!(rt; is_refused(rt.alloc(), &[91, 34, 255, 34, 93]), "no UTF-8");
+}
+
+fn repeat(line: &mut String, part: &str, times: u32) -> Result<(), Fail> {
+    for _ in 0..times {
+        line.push_str(part)?;
+    }
     Ok(())
 }
 
-// `["x",[[..]]]` with this many lists, one in another.
-fn nested_line(rt: &HostRuntime, lists: u32) -> Result<String, Fail> {
-    let mut line = String::from_str(rt.alloc(), "[\"x\",")?;
-    for _ in 0..lists {
-        line.push_str("[")?;
-    }
-    for _ in 0..lists {
-        line.push_str("]")?;
-    }
+// Whether `["x",[[..]]]` with this many lists, one in another, is the text of an event.
+fn lists_are_event(alloc: Global, lists: u32) -> Result<bool, Fail> {
+    let mut line = String::from_str(alloc, "[\"x\",")?;
+    repeat(&mut line, "[", lists)?;
+    repeat(&mut line, "]", lists)?;
     line.push_str("]")?;
-    Ok(line)
+    Ok(!is_refused(alloc, line.as_bytes()))
 }
 
-// `["aa.."]` with a name of this many letters.
-fn long_line(rt: &HostRuntime, letters: u32) -> Result<String, Fail> {
-    let mut line = String::from_str(rt.alloc(), "[\"")?;
-    for _ in 0..letters {
-        line.push_str("a")?;
-    }
+// Whether `["aa.."]` with a name of this many letters is the text of an event.
+fn letters_are_event(alloc: Global, letters: u32) -> Result<bool, Fail> {
+    let mut line = String::from_str(alloc, "[\"")?;
+    repeat(&mut line, "a", letters)?;
     line.push_str("\"]")?;
-    Ok(line)
+    Ok(!is_refused(alloc, line.as_bytes()))
 }
 
 #[test]
 fn events_stay_within_their_limits(rt: HostRuntime) -> Result<(), Fail> {
     for (lists, is_event) in [(1, true), (63, true), (64, false), (200, false)] {
-        let line = nested_line(&rt, lists)?;
         assert_eq!(rt;
-            back(&rt, line.as_bytes())?.is_some(),
+            lists_are_event(rt.alloc(), lists)?,
             is_event,
             "{lists} lists"
         );
     }
-    for (letters, is_event) in [(0, true), (1022, true), (1023, false)] {
-        let line = long_line(&rt, letters)?;
+    for (letters, is_event) in [(1022, true), (1023, false)] {
         assert_eq!(rt;
-            back(&rt, line.as_bytes())?.is_some(),
+            letters_are_event(rt.alloc(), letters)?,
             is_event,
             "{letters} letters"
         );
     }
-    let line = long_line(&rt, 1022)?;
-    let heaviest = event_of(rt.alloc(), line.as_bytes())?;
-    assert_eq!(rt; heaviest.weight(), 1024);
-    let deepest = event_of(rt.alloc(), nested_line(&rt, 63)?.as_bytes())?;
-    assert_eq!(rt; deepest.nesting(), 64);
-    let heavier = Event::new(heaviest.name().copy()?, Some(Data::Null));
-    assert_eq!(rt; heavier.err(), Some(TooHeavy::Weight));
     Ok(())
 }
 
-#[test]
-fn events_are_made_and_copied(rt: HostRuntime) -> Result<(), Fail> {
-    let five = Whole::new(5).ok_or("no whole number")?;
-    let plain = Event::new(text(&rt, "go")?, None)?;
-    let full = Event::new(text(&rt, "go")?, Some(Data::Whole(five)))?;
-    assert_eq!(rt; event_text(rt.alloc(), &plain)?.as_str(), "[\"go\"]");
-    assert_eq!(rt; event_text(rt.alloc(), &full)?.as_str(), "[\"go\",5]");
-    assert!(rt; full.same(&full.copy()?), "a copy is the same");
-    assert!(rt; !full.same(&plain), "data tells events apart");
-    assert!(rt; !plain.same(&full), "data tells events apart");
-    let data = copy_data(full.data().ok_or("no data")?)?;
-    let again = Event::new(text(&rt, "go")?, Some(Data::Whole(five)))?;
-    assert!(rt; matches!(data, Data::Whole(_)), "a copy of the data");
-    assert!(rt; full.same(&again), "equal names and data");
-    let name = quoted(rt.alloc(), &text(&rt, "a\"\\\u{b}/é")?)?;
-    assert_eq!(rt; name.as_str(), "\"a\\\"\\\\\\u000b/é\"");
-    Ok(())
+fn event(alloc: Global, name: &str, number: i64) -> Result<Event, Fail> {
+    let number = Whole::new(number).ok_or("no whole number")?;
+    Ok(Event::new(text(alloc, name)?, Some(Data::Whole(number)))?)
+}
+
+// Whether the copy of this event is the other event.
+fn copies_as(alloc: Global, name: &str, number: i64, wanted: &Event) -> Result<bool, Fail> {
+    let made = event(alloc, name, number)?;
+    let copied = made.copy()?;
+    Ok(copied.same(wanted))
 }
 
 #[test]
-fn refusals_print_in_plain_words(rt: HostRuntime) -> Result<(), Fail> {
-    for (error, wanted) in [
-        (EventError::NotEvent, "not the text of an event"),
-        (EventError::Memory, "out of memory"),
-    ] {
-        assert_eq!(rt; format!(in rt.alloc(); "{error}")?.as_str(), wanted);
+fn copies_are_the_same(rt: HostRuntime) -> Result<(), Fail> {
+    let five = event(rt.alloc(), "go", 5)?;
+    for (name, number, is_same) in [("go", 5, true), ("go", 6, false), ("no", 5, false)] {
+        assert_eq!(rt;
+            copies_as(rt.alloc(), name, number, &five)?,
+            is_same,
+            "{name} {number}"
+        );
     }
-    for (error, wanted) in [
-        (TooHeavy::Weight, "the event weighs more than 1024"),
-        (TooHeavy::Nesting, "the event is nested more than 64 deep"),
-    ] {
-        assert_eq!(rt; format!(in rt.alloc(); "{error}")?.as_str(), wanted);
+    Ok(())
+}
+
+fn copies_number(event: &Event, number: i64) -> Result<bool, Fail> {
+    match copy_data(event.data().ok_or("no data")?)? {
+        Data::Whole(found) => Ok(found.get() == number),
+        _ => Ok(false),
     }
+}
+
+fn quotes_as(alloc: Global, name: &str, wanted: &str) -> Result<bool, Fail> {
+    let found = quoted(alloc, &text(alloc, name)?)?;
+    Ok(found.as_str() == wanted)
+}
+
+#[test]
+fn data_is_copied_and_names_are_quoted(rt: HostRuntime) -> Result<(), Fail> {
+    assert!(rt; copies_number(&event(rt.alloc(), "go", -7)?, -7)?);
+    assert!(rt; quotes_as(rt.alloc(), "a\"\\\u{b}/é", "\"a\\\"\\\\\\u000b/é\"")?);
     Ok(())
 }
