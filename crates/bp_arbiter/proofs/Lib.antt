@@ -3,6 +3,8 @@ pub mod Changes
 pub mod Loops
 pub mod Searching
 pub mod Distinct
+pub mod Lives
+pub mod Strategies
 pub mod Selecting
 pub mod Nexts
 pub mod Steps
