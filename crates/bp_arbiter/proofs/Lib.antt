@@ -11,3 +11,4 @@ pub mod Steps
 pub mod Runs
 pub mod Printing
 pub mod Ahead
+pub mod Rows
