@@ -3,9 +3,12 @@ pub mod Changes
 pub mod Loops
 pub mod Searching
 pub mod Distinct
+pub mod Lives
+pub mod Strategies
 pub mod Selecting
 pub mod Nexts
 pub mod Steps
 pub mod Runs
 pub mod Printing
 pub mod Ahead
+pub mod Rows

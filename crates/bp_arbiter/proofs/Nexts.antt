@@ -64,20 +64,19 @@ pub next_over : (script : List Straight) (o : PlainOptions) (c : Configuration �
 unfolding next
 next_over script o c v h = rw h refl
 
-simple : (script : List Straight) (o : PlainOptions) (ts : List Thread) (c : Configuration ℕ) (f : Option PlainEvent) → o.strategy ≡ Simple → c.threads ≡ map standing ts → c.queue ≡ [] → c.verdict ≡ None →
+next_free : (script : List Straight) (o : PlainOptions) (ts : List Thread) (c : Configuration ℕ) (f : Option PlainEvent) → c.threads ≡ map standing ts → c.queue ≡ [] → c.verdict ≡ None →
     f ≡ first_free script ts → next (straight_code script) o c ≡ next_choice (straight_code script) o.steps c (Ok (option_map (λ e. the_choice c.drawn e (has_another script ts e)) f))
 unfolding next
-simple script o ts c f s h k v e =
+next_free script o ts c f h k v e =
     let l = straight_code script in
     ap (λ (x : Option Verdict). next_unless l o c x) v
-    ∙ ap (λ (x : Strategy). next_choice l o.steps c (choice l x c)) s
     ∙ ap (λ (x : Result (Option Choice) Verdict). next_choice l o.steps c x)
-    (choice_is script ts c h k ∙ ap (λ (x : Option PlainEvent). Ok (option_map (λ y. the_choice c.drawn y (has_another script ts y)) x)) (sym e))
+    (choice_is script o.strategy ts c h k ∙ ap (λ (x : Option PlainEvent). Ok (option_map (λ y. the_choice c.drawn y (has_another script ts y)) x)) (sym e))
 
 -- nothing can be selected
-pub next_nothing : (script : List Straight) (o : PlainOptions) (ts : List Thread) (c : Configuration ℕ) (f : Option PlainEvent) → o.strategy ≡ Simple → c.threads ≡ map standing ts → c.queue ≡ [] → c.verdict ≡ None → c.bad ≡ None →
+pub next_nothing : (script : List Straight) (o : PlainOptions) (ts : List Thread) (c : Configuration ℕ) (f : Option PlainEvent) → c.threads ≡ map standing ts → c.queue ≡ [] → c.verdict ≡ None → c.bad ≡ None →
     f ≡ first_free script ts → f ≡ None → next_idle c None ≡ next (straight_code script) o c
-next_nothing script o ts c f s h k v b e n = sym (simple script o ts c None s h k v (sym n ∙ e) ∙ ap (λ (x : Option (ℕ × ℕ)). next_idle c x) b)
+next_nothing script o ts c f h k v b e n = sym (next_free script o ts c None h k v (sym n ∙ e) ∙ ap (λ (x : Option (ℕ × ℕ)). next_idle c x) b)
 
 steps_made : (n m : ℕ) (x : Next) → n ≡ m → (if nat_eq n m then Ends (verdict.Steps m) else x) ≡ Ends (verdict.Steps m)
 steps_made n m x h = rw (eq-eqb n m h) refl
@@ -86,17 +85,17 @@ steps_left : (n m : ℕ) (x : Next) (b : Bool) → nat_eq n m ≡ b → b ≡ fa
 steps_left n m x b h k = rw (h, k) refl
 
 -- something can, and all steps were made
-pub next_steps : (script : List Straight) (o : PlainOptions) (ts : List Thread) (c : Configuration ℕ) (e : PlainEvent) → o.strategy ≡ Simple → c.threads ≡ map standing ts → c.queue ≡ [] → c.verdict ≡ None →
+pub next_steps : (script : List Straight) (o : PlainOptions) (ts : List Thread) (c : Configuration ℕ) (e : PlainEvent) → c.threads ≡ map standing ts → c.queue ≡ [] → c.verdict ≡ None →
     Some e ≡ first_free script ts → c.transitions ≡ o.steps → Ends (verdict.Steps o.steps) ≡ next (straight_code script) o c
-next_steps script o ts c e s h k v f t =
-    sym (simple script o ts c (Some e) s h k v f ∙ steps_made c.transitions o.steps _ t)
+next_steps script o ts c e h k v f t =
+    sym (next_free script o ts c (Some e) h k v f ∙ steps_made c.transitions o.steps _ t)
 
 -- something can, and steps are left
-pub next_chooses : (script : List Straight) (o : PlainOptions) (ts : List Thread) (c : Configuration ℕ) (e : PlainEvent) → o.strategy ≡ Simple → c.threads ≡ map standing ts → c.queue ≡ [] → c.verdict ≡ None →
+pub next_chooses : (script : List Straight) (o : PlainOptions) (ts : List Thread) (c : Configuration ℕ) (e : PlainEvent) → c.threads ≡ map standing ts → c.queue ≡ [] → c.verdict ≡ None →
     Some e ≡ first_free script ts → nat_eq c.transitions o.steps ≡ false →
     next (straight_code script) o c ≡ next_chosen c (record { event = e; place = None; drawn = drawn_after c.drawn (has_another script ts e) }) (reach (straight_code script) c e)
-next_chooses script o ts c e s h k v f t =
-    simple script o ts c (Some e) s h k v f ∙ steps_left c.transitions o.steps _ false t refl
+next_chooses script o ts c e h k v f t =
+    next_free script o ts c (Some e) h k v f ∙ steps_left c.transitions o.steps _ false t refl
 
 differ_at : (n m : ℕ) (b : Bool) → nat_eq n m ≡ b → (n ≡ m → ⊥) → nat_eq n m ≡ false
 differ_at n m true h k = absurd (k (eqb-true n m h))

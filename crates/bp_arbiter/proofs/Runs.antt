@@ -17,7 +17,6 @@ use Rattle.bp_arbiter.specs.declared.floor.Floor.{Floor}
 use Rattle.bp_arbiter.specs.declared.runner.Picked.{Picked}
 use Rattle.bp_arbiter.specs.Stand.{Stand, told, IsIntact, picked_of, Takes}
 use Rattle.js_tree.specs.declared.straight.Straight.{Straight}
-use Rattle.bp_log.specs.declared.options.Strategy.TheVariants.{Simple}
 
 goes_at : {O S : Type 0} (l : Code O S) (o : PlainOptions) (c : Configuration O) (x : Next) → next l o c ≡ x → story_from l o (option_to_list (record_of x)) c ≡ Some (after_next l c x)
 unfolding story_from
@@ -44,12 +43,11 @@ takes s c h = rw h (takes_at s (next (straight_code s.script) s.options c))
 
 -- before the first step
 pub intact_first : (script sc : List Straight) (o : PlainOptions) (rs : List Record) (f : Floor) (n : ℕ) → configuration_of f ≡ initial (straight_code sc) n → sc ≡ script → n ≡ o.injectors → rs ≡ [] →
-    f.transitions ≡ 0 → f.drawn ≡ 0 → o.strategy ≡ Simple → IsIntact script o rs f
+    f.transitions ≡ 0 → f.drawn ≡ 0 → IsIntact script o rs f
 unfolding story story_from
-intact_first script sc o rs f n h k m e t d s =
+intact_first script sc o rs f n h k m e t d =
     record {
       story_is = rw e (ap (λ (c : Configuration ℕ). Some c) (sym (h ∙ ap (λ (x : List Straight). initial (straight_code x) n) k ∙ ap (λ (i : ℕ). initial (straight_code script) i) m)));
-      simple = s;
       transitions = rw t (omega arith);
       drawn = rw (t, d) (omega arith);
     }
@@ -69,7 +67,6 @@ intact_next script sc o rs new f g i h k p r t d =
           ap (λ (es : List Record). story (straight_code script) o es) (r ∙ ap (λ (y : Next). rs ++ option_to_list (record_of y)) e)
           ∙ goes_on (straight_code script) o rs (configuration_of f) i.story_is h
           ∙ ap (λ (c : Configuration ℕ). Some c) (sym p');
-      simple = i.simple;
       transitions = t;
       drawn = d;
     }

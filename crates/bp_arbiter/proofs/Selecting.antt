@@ -20,20 +20,9 @@ use Rattle.bp_arbiter.specs.declared.thread.Thread.{Thread}
 use Rattle.bp_arbiter.specs.Straight.{straight_code, statement_of, outcome_at, points_of, is_in}
 use Rattle.bp_arbiter.specs.Standing.{point_of, request_at, requested_by, blocks_at, blocks, reached_at, is_reached, is_blocked, is_free, first_free, has_another, number_if, reached_from}
 use Rattle.bp_arbiter.specs.Floor.{standing}
+use Rattle.bp_arbiter.proofs.Lives.{live_at, live_is}
+use Rattle.bp_arbiter.proofs.Strategies.{remaining_is}
 use Rattle.bp_arbiter.proofs.Distinct.{the_choice, another, pick, drawn_of-distinct}
-
--- a b-thread that stands at a point
-abbrev pub live_at : ℕ → List ℕ → Option Point → List (Live (Option PlainEvent))
-live_at n name None = []
-live_at n name (Some p) = record { number = n; name = name; statement = statement_of p } ∷ []
-
-live_is_at : (n : ℕ) (name : List ℕ) (b : Bool) (o : Option Point) → (if b then [] else at_stop n name (outcome_at o)) ≡ live_at n name (if b then None else o)
-live_is_at n name true o = refl
-live_is_at n name false None = refl
-live_is_at n name false (Some p) = refl
-
-live_is : (script : List Straight) (n : ℕ) (t : Thread) → live_of (straight_code script) n (standing t) ≡ live_at n t.name (point_of script t)
-live_is script n t = live_is_at n t.name t.ended (slice_get (points_of (slice_get script t.place)) (length t.replies.items))
 
 -- ---- who blocks
 
@@ -96,19 +85,22 @@ selectable_is script ts c h k =
     rw (h, k, requests_are script 0 ts, free_is script ts (distinct (filter_map (requested_by script) ts)))
     (or_nothing script (live_from (straight_code script) 0 (map standing ts)) (filter (is_free script ts) (distinct (filter_map (requested_by script) ts))))
 
-chosen_simple : (script : List Straight) (c : Configuration ℕ) (es : List PlainEvent) → chosen (straight_code script) Simple c es None ≡ drawn_of (λ n. 0) c.drawn es
-chosen_simple script c [] = refl
-chosen_simple script c (e ∷ es) = refl
+chosen_at : (script : List Straight) (s : Strategy) (c : Configuration ℕ) (es : List PlainEvent) → remaining s (live (straight_code script) c) es ≡ es →
+    chosen (straight_code script) s c es None ≡ drawn_of (λ n. 0) c.drawn es
+chosen_at script s c [] h = refl
+chosen_at script s c (e ∷ es) h = ap (λ (xs : List PlainEvent). drawn_of (λ n. 0) c.drawn xs) h
 
 -- the first free event is chosen
-pub choice_is : (script : List Straight) (ts : List Thread) (c : Configuration ℕ) → c.threads ≡ map standing ts → c.queue ≡ [] →
-    choice (straight_code script) Simple c ≡ Ok (option_map (λ e. the_choice c.drawn e (has_another script ts e)) (first_free script ts))
+pub choice_is : (script : List Straight) (s : Strategy) (ts : List Thread) (c : Configuration ℕ) → c.threads ≡ map standing ts → c.queue ≡ [] →
+    choice (straight_code script) s c ≡ Ok (option_map (λ e. the_choice c.drawn e (has_another script ts e)) (first_free script ts))
 unfolding choice
-choice_is script ts c h k =
+choice_is script s ts c h k =
+    let l = straight_code script in
+    let es = filter (is_free script ts) (distinct (filter_map (requested_by script) ts)) in
+    let all : remaining s (live l c) es ≡ es =
+        ap (λ (us : List (Standing ℕ)). remaining s (live_from l 0 us) es) h ∙ remaining_is script s ts (is_free script ts) in
     rw (selectable_is script ts c h k)
-    (ap (λ (o : Option Choice). Ok o)
-    (chosen_simple script c (filter (is_free script ts) (distinct (filter_map (requested_by script) ts)))
-    ∙ drawn_of-distinct (is_free script ts) c.drawn (filter_map (requested_by script) ts)))
+    (ap (λ (o : Option Choice). Ok o) (chosen_at script s c es all ∙ drawn_of-distinct (is_free script ts) c.drawn (filter_map (requested_by script) ts)))
 
 -- ---- whom it reaches
 

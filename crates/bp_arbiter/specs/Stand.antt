@@ -1,7 +1,6 @@
 -- What a runner stands for.
 use Rattle.std.specs.Prelude.{◌≡◌, ℕ, ◌≤◌, Bool, List, [], ◌∷◌, ◌++◌, Option, Some, None}
 use Rattle.bp_log.specs.Options.{PlainOptions}
-use Rattle.bp_log.specs.declared.options.Strategy.TheVariants.{Simple}
 use Rattle.bp_log.specs.declared.record.Record.{Record}
 use Rattle.bp_log.specs.declared.record.Record.TheVariants.{In, Bad, Eof, Sel, End}
 use Rattle.bp_run.specs.Configuration.{Configuration}
@@ -28,7 +27,6 @@ told s = story (straight_code s.script) s.options s.records
 -- the floor is the configuration of the records
 pub record IsIntact (script : List Straight) (o : PlainOptions) (records : List Record) (f : Floor) : Type 0 where
   pub story_is : story (straight_code script) o records ≡ Some (configuration_of f)
-  pub simple : o.strategy ≡ Simple
   pub transitions : f.transitions ≤ o.steps
   pub drawn : f.drawn ≤ f.transitions
 

@@ -19,3 +19,6 @@ pub use next::{Next, Selection};
 pub use runner::{Picked, Runner};
 pub use running::{RunFault, run};
 pub use thread::Thread;
+
+#[cfg(test)]
+mod tests;

@@ -1,7 +1,6 @@
 //! What comes next in a run.
 ghost use Rattle.std.specs.Prelude.{◌≡◌, ◌<◌, ◌≤◌, ◌+◌, ◌-◌, ◌*◌, ◌^◌, min, length, map, None, IfOk};
 ghost use Rattle.js_data.specs.Event.{event_weight};
-ghost use Rattle.bp_log.specs.declared.options.Strategy.TheVariants.{Simple};
 ghost use Rattle.bp_run.specs.Settling.Entry.{Runs};
 ghost use Rattle.bp_run.specs.Choosing.{Choice, reach};
 ghost use Rattle.bp_run.specs.Story.{next, next_idle, next_chosen, weight_after};
@@ -96,8 +95,7 @@ impl Floor {
 
     /// What comes next.
     pub fn next(&self, alloc: Global, script: &[Straight], options: &Options) -> Result<Next, Memory>
-        requires simple { options.now.strategy ≡ Simple }
-        requires drawn { self.now.drawn + 1 < 2 ^ 64 }
+        requires { self.now.drawn + 1 < 2 ^ 64 }
         ensures next { IfOk result (λ n. next_of n ≡ next (straight_code script.now) options.now (configuration_of self.now)) }
         ensures within { IfOk result (IsWithin self.now) }
     {

@@ -1,6 +1,5 @@
 //! One step of a run.
 ghost use Rattle.std.specs.Prelude.{◌≡◌, ◌<◌, ◌≤◌, ◌^◌, IfOk, OnOk};
-ghost use Rattle.bp_log.specs.declared.options.Strategy.TheVariants.{Simple};
 ghost use Rattle.bp_run.specs.Story.{next};
 ghost use Rattle.bp_arbiter.specs.Straight.{straight_code};
 ghost use Rattle.bp_arbiter.specs.Floor.{configuration_of};
@@ -14,7 +13,6 @@ use std::alloc::Global;
 impl Floor {
     /// Makes the next step of the run, and answers its record; none where the run waits.
     pub fn pick(&mut self, alloc: Global, script: &[Straight], options: &Options) -> Result<Option<Record>, Memory>
-        requires simple { options.now.strategy ≡ Simple }
         requires transitions { self.old.transitions ≤ options.now.steps }
         requires drawn { self.old.drawn ≤ self.old.transitions }
 

@@ -1,6 +1,5 @@
 //! A straight script that is run step by step.
 ghost use Rattle.std.specs.Prelude.{◌≡◌, ◌++◌, [], false, true, option_to_list, IfOk, OnOk, OnErr, IsSomeAnd, Some};
-ghost use Rattle.bp_log.specs.declared.options.Strategy.TheVariants.{Simple};
 ghost use Rattle.bp_run.specs.Story.{next, is_complete};
 ghost use Rattle.bp_arbiter.specs.Straight.{straight_code};
 ghost use Rattle.bp_arbiter.specs.Picking.{after_next};
@@ -53,7 +52,6 @@ impl Model for Runner {
 impl Runner {
     /// The run of a script before its first step.
     pub fn open(alloc: Global, script: Script, options: Options) -> Result<Runner, Memory>
-        requires { options.strategy ≡ Simple }
         ensures { IfOk result (λ r. r ≡ record { script = script; options = options; records = []; broken = false }) }
     {
         let floor = Floor::open(alloc, script.as_slice(), options.injectors())?;

@@ -27,6 +27,12 @@ impl Model for Beside {
 }
 
 impl Clone for Beside {
+    ghost use Rattle.std.specs.Prelude.{◌≡◌, ⊤};
+
+    ghost is_clone = { λ a b. b ≡ a };
+
+    ghost is_infallible = { λ _. ⊤ };
+
     fn clone(&self) -> Result<Beside, AllocError> {
         Ok(*self)
     }

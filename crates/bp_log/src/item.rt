@@ -13,3 +13,11 @@ pub enum Item {
     /// The end of the input; it is the last item.
     End,
 }
+
+/// Takes only what may move to another thread.
+fn is_send<T: Send>(_value: &T) {}
+
+/// An item may move to another thread.
+pub fn moves_between_threads(item: &Item) {
+    is_send(item);
+}

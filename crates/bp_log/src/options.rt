@@ -42,6 +42,12 @@ impl Model for Options {
 }
 
 impl Clone for Options {
+    ghost use Rattle.std.specs.Prelude.{◌≡◌, ⊤};
+
+    ghost is_clone = { λ a b. b ≡ a };
+
+    ghost is_infallible = { λ _. ⊤ };
+
     fn clone(&self) -> Result<Options, AllocError> {
         Ok(*self)
     }
