@@ -1,5 +1,5 @@
 -- What stands in front of a text.
-use Rattle.std.specs.Prelude.{ℕ, zero, suc, ◌+◌, nat_eq, nat_lt, Bool, ◌&&◌, ◌||◌, List, [], ◌∷◌, take, drop, codes, pos, Option, Some, None, is_some, if◌then◌else◌}
+use Rattle.std.specs.Prelude.{ℕ, zero, suc, ◌+◌, nat_eq, nat_lt, Bool, false, ◌&&◌, ◌||◌, List, [], ◌∷◌, take, drop, codes, pos, Option, Some, None, is_some, if◌then◌else◌}
 use Rattle.bp_tables.specs.Found.{find_in, front_in}
 use Rattle.js_lexer.specs.declared.token.Kind.{Kind}
 use Rattle.js_lexer.specs.declared.token.Kind.TheVariants.{Name, Word, Number, Words, Mark}
@@ -56,7 +56,7 @@ mark bs (Some n) = token (Mark (take n bs)) n
 
 -- a dot and a digit
 abbrev pub is_dot_digit : ℕ → List ℕ → Bool
-is_dot_digit b [] = nat_eq 0 1
+is_dot_digit b [] = false
 is_dot_digit b (d ∷ bs) = nat_eq b 46 && is_digit d
 
 -- a gap of so many bytes, where there are any

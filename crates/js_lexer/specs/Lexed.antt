@@ -1,12 +1,6 @@
 -- What the lexer answers.
-use Rattle.std.specs.Prelude.{ℕ, ◌≡◌, ◌≤◌, ◌<◌, ◌+◌, List, length, drop, ⊤, Result, Ok, Err}
+use Rattle.std.specs.Prelude.{ℕ, List, ⊤}
 use Rattle.std.specs.Str.{IsUtf8, IsValidUpTo}
-use Rattle.js_lexer.specs.declared.token.Kind.{Kind}
-use Rattle.js_lexer.specs.declared.token.Found.{Found}
-use Rattle.js_lexer.specs.declared.token.Found.TheVariants.{Gap, Token as Token'}
-use Rattle.js_lexer.specs.declared.token.Stop.{Stop}
-use Rattle.js_lexer.specs.declared.token.Stop.TheVariants.{Refused as Refused', Memory as Memory'}
-use Rattle.js_lexer.specs.Front.{gap, token, refused, front}
 use Rattle.js_lexer.specs.declared.token.Flaw.{Flaw}
 use Rattle.js_lexer.specs.declared.token.Flaw.TheVariants as flaw
 use Rattle.js_lexer.specs.declared.token.LexFault.{LexFault}
@@ -21,14 +15,6 @@ fault_of flaw.Escape place = Escape place
 fault_of flaw.NumberRange place = NumberRange place
 fault_of flaw.Unsupported place = Unsupported place
 
-abbrev pub fault_of_stop : ℕ → Stop → LexFault
-fault_of_stop place (Refused' flaw n) = fault_of flaw (place + n)
-fault_of_stop place Memory' = Memory
-
-abbrev pub StopFits : ℕ → Stop → Type 0
-StopFits place (Refused' flaw n) = place + n < 4_294_967_296
-StopFits place Memory' = ⊤
-
 -- bytes that are no UTF-8 are refused at the first byte that is no part of it; a text is refused at the first place that is no token
 abbrev pub IsRefusal : List ℕ → LexFault → Type 0
 IsRefusal bytes (Character place) = IsUtf8 bytes × Refused bytes flaw.Character place
@@ -38,24 +24,3 @@ IsRefusal bytes (NumberRange place) = IsUtf8 bytes × Refused bytes flaw.NumberR
 IsRefusal bytes (Unsupported place) = IsUtf8 bytes × Refused bytes flaw.Unsupported place
 IsRefusal bytes (Utf8 place) = ¬ (IsUtf8 bytes) × IsValidUpTo bytes place
 IsRefusal bytes Memory = ⊤
-
--- what stands in front at a place, within the text
-pub record GapAt (bytes : List ℕ) (place n : ℕ) : Type 0 where
-  pub is : front (drop place bytes) ≡ gap n
-  pub some : 0 < n
-  pub within : place + n ≤ length bytes
-
-pub record TokenAt (bytes : List ℕ) (place : ℕ) (kind : Kind) (n : ℕ) : Type 0 where
-  pub is : front (drop place bytes) ≡ token kind n
-  pub some : 0 < n
-  pub within : place + n ≤ length bytes
-
-pub record StopAt (bytes : List ℕ) (place : ℕ) (flaw : Flaw) (n : ℕ) : Type 0 where
-  pub is : front (drop place bytes) ≡ refused flaw n
-  pub within : place + n ≤ length bytes
-
-abbrev pub IsStep : List ℕ → ℕ → Result Found Stop → Type 0
-IsStep bytes place (Ok (Gap n)) = GapAt bytes place n
-IsStep bytes place (Ok (Token' kind n)) = TokenAt bytes place kind n
-IsStep bytes place (Err (Refused' flaw n)) = StopAt bytes place flaw n
-IsStep bytes place (Err Memory') = ⊤

@@ -4,7 +4,8 @@ pub mod Words
 pub mod Numbers
 pub mod Literals
 pub mod Front
-pub mod Found
 pub mod Cut
 pub mod Lexed
 pub mod Laws
+pub mod Found
+pub mod Steps

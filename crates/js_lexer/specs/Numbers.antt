@@ -1,5 +1,5 @@
 -- Numbers: 0, a digit from 1 to 9 and digits, and 0x, 0o, 0b (or the capital letter) with digits of that base.
-use Rattle.std.specs.Prelude.{ℕ, suc, ◌+◌, ◌-◌, ◌*◌, nat_eq, nat_le, nat_lt, Bool, ◌&&◌, ◌||◌, List, [], ◌∷◌, drop, if◌then◌else◌}
+use Rattle.std.specs.Prelude.{ℕ, suc, ◌+◌, ◌-◌, ◌*◌, nat_eq, nat_le, nat_lt, Bool, false, ◌&&◌, ◌||◌, List, [], ◌∷◌, drop, if◌then◌else◌}
 use Rattle.js_lexer.specs.Bytes.{is_digit}
 
 -- the value of a digit of up to 16, and 16 for any other byte
@@ -25,7 +25,7 @@ digits_value base value (b ∷ bs) = if is_digit_of base b then digits_value bas
 -- 0, one of two letters, and at least one digit of the base
 abbrev pub has_base : ℕ → ℕ → ℕ → List ℕ → Bool
 has_base base small capital (z ∷ (l ∷ (d ∷ bs))) = nat_eq z 48 && (nat_eq l small || nat_eq l capital) && is_digit_of base d
-has_base base small capital _ = nat_eq 0 1
+has_base base small capital _ = false
 
 -- the base that the bytes in front say
 abbrev pub base_of : List ℕ → ℕ
