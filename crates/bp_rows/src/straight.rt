@@ -74,13 +74,18 @@ fn scripts_print_their_traces(rt: HostRuntime) -> Result<(), Fail> {
         let ran = run(&rt, rt.alloc(), case.script.as_bytes())?;
         assert_eq!(rt; ran.code, 0, "case {number}");
         assert!(rt; ran.note.is_empty(), "case {number}");
-        assert_eq!(rt; ran.printed.as_slice(), case.trace.as_bytes(), "case {number}");
+        assert_eq!(rt;
+            ran.printed.as_slice(),
+            case.trace.as_bytes(),
+            "case {number}"
+        );
     }
     Ok(())
 }
 
 /// A loop, which no straight script has.
-const LOOP: &str = "bp.registerBThread(\"Add hot\", function() {\n  bp.sync({request: bp.Event(\"hot\")});\n  bp.sync({request: bp.Event(\"hot\")});\n  bp.sync({request: bp.Event(\"hot\")});\n});\nbp.registerBThread(\"Add cold\", function() {\n  bp.sync({request: bp.Event(\"cold\")});\n  bp.sync({request: bp.Event(\"cold\")});\n  bp.sync({request: bp.Event(\"cold\")});\n});\nbp.registerBThread(\"Interleave\", function() {\n  while (true) {\n    bp.sync({waitFor: bp.Event(\"hot\"), block: bp.Event(\"cold\")});\n    bp.sync({waitFor: bp.Event(\"cold\"), block: bp.Event(\"hot\")});\n  }\n});\n";
+const LOOP: &str =
+    "bp.registerBThread(\"Add hot\", function() {\n  bp.sync({request: bp.Event(\"hot\")});\n  bp.sync({request: bp.Event(\"hot\")});\n  bp.sync({request: bp.Event(\"hot\")});\n});\nbp.registerBThread(\"Add cold\", function() {\n  bp.sync({request: bp.Event(\"cold\")});\n  bp.sync({request: bp.Event(\"cold\")});\n  bp.sync({request: bp.Event(\"cold\")});\n});\nbp.registerBThread(\"Interleave\", function() {\n  while (true) {\n    bp.sync({waitFor: bp.Event(\"hot\"), block: bp.Event(\"cold\")});\n    bp.sync({waitFor: bp.Event(\"cold\"), block: bp.Event(\"hot\")});\n  }\n});\n";
 
 #[test]
 fn other_scripts_are_refused(rt: HostRuntime) -> Result<(), Fail> {
@@ -132,12 +137,7 @@ fn many(alloc: Global, count: usize, letters: usize) -> Result<String, Fail> {
 #[test]
 fn the_form_has_limits(rt: HostRuntime) -> Result<(), Fail> {
     // the number of b-threads, the letters of each name, and the status
-    let cases = [
-        (1, 64, 0),
-        (1, 65, 2),
-        (4096, 1, 0),
-        (4097, 1, 2),
-    ];
+    let cases = [(1, 64, 0), (1, 65, 2), (4096, 1, 0), (4097, 1, 2)];
     for (count, letters, code) in cases {
         let script = many(rt.alloc(), count, letters)?;
         let ran = run(&rt, rt.alloc(), script.as_str().as_bytes())?;
@@ -176,7 +176,13 @@ fn a_write_that_fails_leaves_a_prefix(rt: HostRuntime) -> Result<(), Fail> {
             output: &[number],
             ..NONE
         };
-        let ran = run_with(&rt, rt.alloc(), &["run", "script.js"], HOT_AND_COLD.script.as_bytes(), fails)?;
+        let ran = run_with(
+            &rt,
+            rt.alloc(),
+            &["run", "script.js"],
+            HOT_AND_COLD.script.as_bytes(),
+            fails,
+        )?;
         assert_eq!(rt; ran.code, 9, "write {number}");
         assert_eq!(rt; ran.note.as_str(), "write fault", "write {number}");
         assert!(rt; ran.printed.len() < trace.len(), "write {number}");
@@ -194,7 +200,13 @@ fn a_read_that_fails_prints_nothing(rt: HostRuntime) -> Result<(), Fail> {
             input,
             output: &[],
         };
-        let ran = run_with(&rt, rt.alloc(), &["run", "script.js"], HOT_AND_COLD.script.as_bytes(), fails)?;
+        let ran = run_with(
+            &rt,
+            rt.alloc(),
+            &["run", "script.js"],
+            HOT_AND_COLD.script.as_bytes(),
+            fails,
+        )?;
         assert_eq!(rt; ran.code, 8, "case {number}");
         assert_eq!(rt; ran.note.as_str(), "read fault", "case {number}");
         assert!(rt; ran.printed.is_empty(), "case {number}");
