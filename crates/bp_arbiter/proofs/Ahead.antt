@@ -75,7 +75,7 @@ unfolding text
 all_text script rs c P e h k =
     let l = straight_code script in
     let whole : text_alone script ≡ Some (lines_text c.lines) =
-        sym (ap (λ (es : List Record). text l default_options es) e) ∙ ap (λ (x : Option (Configuration ℕ)). option_map (λ y. lines_text y.lines) x) h in
+    sym (ap (λ (es : List Record). text l default_options es) e) ∙ ap (λ (x : Option (Configuration ℕ)). option_map (λ y. lines_text y.lines) x) h in
     rw whole k
 
 -- what a step leaves
@@ -109,7 +109,7 @@ stepped_end : (script : List Straight) (rs : List Record) (c : Configuration ℕ
     Stepped script rs c Over (stand script default_options (rs ++ End v ∷ []) false)
 stepped_end script rs c n v h g s =
     let e : rs ++ End v ∷ [] ≡ alone (straight_code script) default_options =
-        sym (ap (λ (x : List Record). rs ++ x) (alone_on (straight_code script) default_options n c (Ends v) h)) ∙ g in
+    sym (ap (λ (x : List Record). rs ++ x) (alone_on (straight_code script) default_options n c (Ends v) h)) ∙ g in
     record {
       stands = refl;
       d = over_with c v;
@@ -135,8 +135,8 @@ stepped_select script rs c n ch r h f w i g s =
     let more = move_transitions l c ch r in
     let added = move_lines l c ch r in
     let on : (rs ++ Sel ch.event ∷ []) ++ alone_from l default_options n m ≡ alone l default_options =
-        append_assoc rs (Sel ch.event ∷ []) (alone_from l default_options n m)
-        ∙ sym (ap (λ (x : List Record). rs ++ x) (alone_on l default_options n c (Selects ch r) h)) ∙ g in
+    append_assoc rs (Sel ch.event ∷ []) (alone_from l default_options n m)
+    ∙ sym (ap (λ (x : List Record). rs ++ x) (alone_on l default_options n c (Selects ch r) h)) ∙ g in
     record {
       stands = refl;
       d = m;
@@ -242,9 +242,9 @@ printed_part script rs c p new a b d s x e h k =
     some_text script new.records x.rest x.d (λ t. AppendsFront a t d) x.goes_on x.story_is
     (λ rest.
     let split : lines_text (x.d).lines ++ rest ≡ lines_text c.lines ++ (lines_text x.added ++ rest) =
-        ap (λ (ls : List Line). lines_text ls ++ rest) x.lines
-        ∙ ap (λ (t : List ℕ). t ++ rest) (lines_text-append c.lines x.added)
-        ∙ append_assoc (lines_text c.lines) (lines_text x.added) rest in
+    ap (λ (ls : List Line). lines_text ls ++ rest) x.lines
+    ∙ ap (λ (t : List ℕ). t ++ rest) (lines_text-append c.lines x.added)
+    ∙ append_assoc (lines_text c.lines) (lines_text x.added) rest in
     front_in a b d (lines_text c.lines) (lines_text x.added) rest (lines_text (x.d).lines ++ rest) split h (subst (λ (ls : List Line). AppendsFront b (lines_text ls) d) e k))
 
 -- the lines of a step were printed
@@ -266,5 +266,5 @@ pub falls : (script : List Straight) (rs : List Record) (c : Configuration ℕ) 
 falls script rs c p new x =
     let m = x.more in
     let n : length new.records + length x.rest ≡ length (alone (straight_code script) default_options) =
-        sym (length-append new.records x.rest) ∙ ap (λ (es : List Record). length es) x.goes_on in
+    sym (length-append new.records x.rest) ∙ ap (λ (es : List Record). length es) x.goes_on in
     omega (arith, m, n)

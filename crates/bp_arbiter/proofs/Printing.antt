@@ -43,8 +43,8 @@ pub lines_step : (a b c : Option (List ℕ)) (xs : List Line) (i : ℕ) (x : Lin
 unfolding lines_text
 lines_step a b c xs i x h e k m =
     let more : flat_map whole_line (take (i + 1) xs) ≡ flat_map whole_line (take i xs) ++ whole_line x =
-        ap (λ (r : List Line). flat_map whole_line r) (take_more xs i x h)
-        ∙ flat_map-append whole_line (take i xs) (get_or xs i x ∷ [])
-        ∙ ap (λ (r : List ℕ). flat_map whole_line (take i xs) ++ r) (append-nil (whole_line (get_or xs i x)))
-        ∙ ap (λ (y : Line). flat_map whole_line (take i xs) ++ whole_line y) (sym e) in
+    ap (λ (r : List Line). flat_map whole_line r) (take_more xs i x h)
+    ∙ flat_map-append whole_line (take i xs) (get_or xs i x ∷ [])
+    ∙ ap (λ (r : List ℕ). flat_map whole_line (take i xs) ++ r) (append-nil (whole_line (get_or xs i x)))
+    ∙ ap (λ (y : Line). flat_map whole_line (take i xs) ++ whole_line y) (sym e) in
     rw more (appends-on a b c (flat_map whole_line (take i xs)) (whole_line x) k m)

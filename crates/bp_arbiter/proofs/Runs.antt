@@ -61,7 +61,7 @@ intact_next script sc o rs new f g i h k p r t d =
     let x : Next = next (straight_code script) o (configuration_of f) in
     let e : next (straight_code sc) o (configuration_of f) ≡ x = ap (λ (s : List Straight). next (straight_code s) o (configuration_of f)) k in
     let p' : configuration_of g ≡ after_next (straight_code script) (configuration_of f) x =
-        p ∙ ap (λ (s : List Straight). after_next (straight_code s) (configuration_of f) (next (straight_code s) o (configuration_of f))) k in
+    p ∙ ap (λ (s : List Straight). after_next (straight_code s) (configuration_of f) (next (straight_code s) o (configuration_of f))) k in
     record {
       story_is =
           ap (λ (es : List Record). story (straight_code script) o es) (r ∙ ap (λ (y : Next). rs ++ option_to_list (record_of y)) e)

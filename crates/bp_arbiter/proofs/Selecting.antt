@@ -98,7 +98,7 @@ choice_is script s ts c h k =
     let l = straight_code script in
     let es = filter (is_free script ts) (distinct (filter_map (requested_by script) ts)) in
     let all : remaining s (live l c) es ≡ es =
-        ap (λ (us : List (Standing ℕ)). remaining s (live_from l 0 us) es) h ∙ remaining_is script s ts (is_free script ts) in
+    ap (λ (us : List (Standing ℕ)). remaining s (live_from l 0 us) es) h ∙ remaining_is script s ts (is_free script ts) in
     rw (selectable_is script ts c h k)
     (ap (λ (o : Option Choice). Ok o) (chosen_at script s c es all ∙ drawn_of-distinct (is_free script ts) c.drawn (filter_map (requested_by script) ts)))
 

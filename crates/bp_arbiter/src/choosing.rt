@@ -2,8 +2,8 @@
 ghost use Rattle.std.specs.Prelude.{◌≡◌, IfOk, option_copied};
 ghost use Rattle.bp_arbiter.specs.Standing.{is_blocked, first_free, has_another, reached_from};
 
-use crate::thread::same;
 use crate::Thread;
+use crate::thread::same;
 use bp_log::Memory;
 use js_data::Event;
 use js_tree::Straight;

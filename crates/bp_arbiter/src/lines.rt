@@ -169,7 +169,11 @@ pub fn print<K: Sink>(alloc: Global, line: &Line, sink: &mut K) -> Result<(), Pr
 
 /// Prints lines of the trace, one after another. After a refusal a part of their text, from its
 /// front, was appended.
-pub(crate) fn print_lines<K: Sink>(alloc: Global, lines: &[Line], sink: &mut K) -> Result<(), PrintError>
+pub(crate) fn print_lines<K: Sink>(
+    alloc: Global,
+    lines: &[Line],
+    sink: &mut K,
+) -> Result<(), PrintError>
     ensures whole { OnOk result (Appends (K.written sink.old) (lines_text lines.now) (K.written sink.new)) }
     ensures front { OnErr result (AppendsFront (K.written sink.old) (lines_text lines.now) (K.written sink.new)) }
     ensures cause { IsErrOf result PrintError.Write → Rose (K.faults sink.old) (K.faults sink.new) }

@@ -9,8 +9,8 @@ ghost use Rattle.bp_arbiter.specs.Floor.{configuration_of};
 ghost use Rattle.bp_arbiter.specs.Standing.{has_another};
 ghost use Rattle.bp_arbiter.specs.Following.{drawn_after, next_of, IsWithin};
 
-use crate::choosing::{first_free, has_another, reached};
 use crate::Floor;
+use crate::choosing::{first_free, has_another, reached};
 use bp_log::{Memory, Options, Verdict};
 use js_data::Event;
 use js_tree::Straight;
@@ -48,7 +48,8 @@ impl Floor {
     {
         event.keeps();
         let times = (movers as u64).saturating_add(1);
-        self.weight.saturating_add(event.weight().saturating_mul(times))
+        self.weight
+            .saturating_add(event.weight().saturating_mul(times))
     }
 
     /// Nothing can be selected: the run ends or waits.
@@ -76,7 +77,13 @@ impl Floor {
     }
 
     /// This event is chosen: it is selected, unless the weight of the run would pass its limit.
-    fn chosen(&self, alloc: Global, script: &[Straight], event: &Event, drawn: u64) -> Result<Next, Memory>
+    fn chosen(
+        &self,
+        alloc: Global,
+        script: &[Straight],
+        event: &Event,
+        drawn: u64,
+    ) -> Result<Next, Memory>
         ensures within { drawn ≤ self.now.drawn + 1 → IfOk result (IsWithin self.now) }
         ensures chosen { let choice : Choice = record { event = event.now; place = None; drawn = drawn } in
             IfOk result (λ n. next_of n ≡ next_chosen (configuration_of self.now) choice (reach (straight_code script.now) (configuration_of self.now) event.now)) }
@@ -94,7 +101,12 @@ impl Floor {
     }
 
     /// What comes next.
-    pub fn next(&self, alloc: Global, script: &[Straight], options: &Options) -> Result<Next, Memory>
+    pub fn next(
+        &self,
+        alloc: Global,
+        script: &[Straight],
+        options: &Options,
+    ) -> Result<Next, Memory>
         requires { self.now.drawn + 1 < 2 ^ 64 }
         ensures next { IfOk result (λ n. next_of n ≡ next (straight_code script.now) options.now (configuration_of self.now)) }
         ensures within { IfOk result (IsWithin self.now) }

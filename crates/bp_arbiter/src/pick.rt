@@ -12,7 +12,12 @@ use std::alloc::Global;
 
 impl Floor {
     /// Makes the next step of the run, and answers its record; none where the run waits.
-    pub fn pick(&mut self, alloc: Global, script: &[Straight], options: &Options) -> Result<Option<Record>, Memory>
+    pub fn pick(
+        &mut self,
+        alloc: Global,
+        script: &[Straight],
+        options: &Options,
+    ) -> Result<Option<Record>, Memory>
         requires transitions { self.old.transitions ≤ options.now.steps }
         requires drawn { self.old.drawn ≤ self.old.transitions }
 

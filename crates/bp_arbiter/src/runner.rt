@@ -76,7 +76,9 @@ impl Runner {
             return Err(AllocError);
         }
         self.broken = true;
-        let entry = self.floor.pick(alloc, self.script.as_slice(), &self.options)?;
+        let entry = self
+            .floor
+            .pick(alloc, self.script.as_slice(), &self.options)?;
         let picked = picked_by(&entry);
         keep(&mut self.records, entry)?;
         self.broken = false;

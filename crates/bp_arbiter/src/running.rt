@@ -51,7 +51,12 @@ impl From<PrintError> for RunFault {
 }
 
 /// Prints the lines from this place on.
-fn print_after<K: Sink>(alloc: Global, lines: &[Line], printed: usize, out: &mut K) -> Result<(), PrintError>
+fn print_after<K: Sink>(
+    alloc: Global,
+    lines: &[Line],
+    printed: usize,
+    out: &mut K,
+) -> Result<(), PrintError>
     requires { printed ≤ length lines.now }
     ensures whole { OnOk result (Appends (K.written out.old) (lines_text (drop printed lines.now)) (K.written out.new)) }
     ensures front { OnErr result (AppendsFront (K.written out.old) (lines_text (drop printed lines.now)) (K.written out.new)) }

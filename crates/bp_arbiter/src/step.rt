@@ -39,8 +39,9 @@ impl Floor {
         requires transitions { self.old.transitions + 1 < 2 ^ 32 }
         requires light { weight_after (configuration_of self.old) event.now (map Runs reached.items) ≤ 16_777_216 }
         ensures stepped { OnOk result (pair_of self.new ≡ record {
-            c = step (configuration_of self.old) (record { event = event.now; place = None; drawn = drawn }) (map Runs reached.items);
-            entries = map Runs reached.items }) }
+          c = step (configuration_of self.old) (record { event = event.now; place = None; drawn = drawn }) (map Runs reached.items);
+          entries = map Runs reached.items;
+        }) }
         ensures in_range { OnOk result (IsInRange self.new) }
         ensures transitions { OnOk result (self.new.transitions ≡ self.old.transitions + 1) }
         ensures drawn { OnOk result (self.new.drawn ≡ drawn) }

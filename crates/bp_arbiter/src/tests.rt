@@ -44,7 +44,8 @@ fn hot_and_cold(alloc: Global) -> Result<Script, Fail> {
     Ok(Script::new(items))
 }
 
-const TRACE: &[u8] = b"event [\"hot\"]\nevent [\"cold\"]\nevent [\"hot\"]\ndone \"Add hot\"\nevent [\"cold\"]\ndone \"Add cold\"\ndone \"Interleave\"\nverdict quiet 4\n";
+const TRACE: &[u8] =
+    b"event [\"hot\"]\nevent [\"cold\"]\nevent [\"hot\"]\ndone \"Add hot\"\nevent [\"cold\"]\ndone \"Add cold\"\ndone \"Interleave\"\nverdict quiet 4\n";
 
 #[test]
 fn prints_in_turn(rt: HostRuntime) -> Result<(), Fail> {
@@ -61,8 +62,14 @@ fn prints_the_front_where_the_output_fails(rt: HostRuntime) -> Result<(), Fail> 
     let mut fails: Vec<u64> = Vec::new(alloc);
     fails.push(3)?;
     let mut sink = MemorySink::new(alloc, 1000, fails)?;
-    assert_eq!(rt; run(alloc, hot_and_cold(alloc)?, &mut sink), Err(RunFault::Write));
-    assert_eq!(rt; sink.written(), b"event [\"hot\"]\nevent [\"cold\"]\n".as_slice());
+    assert_eq!(rt;
+        run(alloc, hot_and_cold(alloc)?, &mut sink),
+        Err(RunFault::Write)
+    );
+    assert_eq!(rt;
+        sink.written(),
+        b"event [\"hot\"]\nevent [\"cold\"]\n".as_slice()
+    );
     Ok(())
 }
 

@@ -4,8 +4,8 @@ ghost use Rattle.bp_run.specs.Events.{same_event};
 ghost use Rattle.bp_arbiter.specs.Straight.{is_in, points_of};
 ghost use Rattle.bp_arbiter.specs.Standing.{point_of, requested_by, blocks, is_reached};
 
-use js_tree::{Point, Straight};
 use js_data::{Event, Text};
+use js_tree::{Point, Straight};
 
 /// A b-thread that was registered.
 #[derive(Debug, Drop)]
@@ -45,7 +45,11 @@ impl Thread {
         if self.ended {
             return None;
         }
-        script.get(self.place)?.points.as_slice().get(self.replies.len())
+        script
+            .get(self.place)?
+            .points
+            .as_slice()
+            .get(self.replies.len())
     }
 
     /// The event that it requests now.

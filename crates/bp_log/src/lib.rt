@@ -14,10 +14,9 @@ pub use header::Header;
 pub use item::Item;
 pub use options::{Options, Strategy};
 pub use record::{Record, Records};
+use std::alloc::AllocError;
 pub use trace::{Line, Lines};
 pub use verdict::{Place, Verdict};
-
-use std::alloc::AllocError;
 
 /// Want of memory.
 pub type Memory = AllocError;

@@ -57,7 +57,13 @@ impl Copy for Options {}
 
 impl Options {
     /// These options, or `None` exactly where a number is out of its range. Takes no memory.
-    pub fn new(strategy: Strategy, seed: u64, budget: u64, steps: u32, injectors: u32) -> Option<Options>
+    pub fn new(
+        strategy: Strategy,
+        seed: u64,
+        budget: u64,
+        steps: u32,
+        injectors: u32,
+    ) -> Option<Options>
         ensures { let plain : PlainOptions = record { strategy = strategy; seed = seed; budget = budget; steps = steps; injectors = injectors } in
             SomeIff result (AreOptions plain) plain }
     {

@@ -303,9 +303,12 @@ nothing_follows l o rs qs v r = nothing_after l o rs qs v r (initial l o.injecto
 prefix_of : {O S : Type 0} (l : Code O S) (o : PlainOptions) (rs : List Record) (c m : Configuration O) (t : List ℕ) (more : List Line) →
     story l o rs ≡ Some m → c.lines ≡ m.lines ++ more → lines_text c.lines ≡ t → (front : List ℕ) × (rest : List ℕ) × (text l o rs ≡ Some front) × (t ≡ front ++ rest)
 unfolding text lines_text
-prefix_of l o rs c m t more h k e =
-    (lines_text m.lines, lines_text more, ap (λ (x : Option (Configuration _)). option_map (λ y. lines_text y.lines) x) h,
-    sym e ∙ ap (λ (x : List Line). lines_text x) k ∙ flat_map-append whole_line m.lines more)
+prefix_of l o rs c m t more h k e = (
+  lines_text m.lines,
+  lines_text more,
+  ap (λ (x : Option (Configuration _)). option_map (λ y. lines_text y.lines) x) h,
+  sym e ∙ ap (λ (x : List Line). lines_text x) k ∙ flat_map-append whole_line m.lines more,
+)
 
 printed_at : {O : Type 0} (x : Option (Configuration O)) (t : List ℕ) → option_map (λ c. lines_text c.lines) x ≡ Some t → (c : Configuration O) × (x ≡ Some c) × (lines_text c.lines ≡ t)
 printed_at None t h = absurd (cc)

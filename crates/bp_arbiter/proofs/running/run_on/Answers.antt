@@ -31,8 +31,11 @@ loop-picked-init g c =
     let counted = c.print_lines.ensures.counts in
     record {
       runner = c.requires ∙ ap (λ (rs : List Record). stand script default_options rs false) (sym none);
-      on_the_way = (c0, subst (λ (rs : List Record). Ahead script rs c0) (sym none) first,
-        subst (λ (ls : List Line). Appends (g.K.Sink.written c.args.out.now) (lines_text ls) (g.K.Sink.written c.print_lines.new.sink)) lines c.in_ok-print_lines.ensures.whole);
+      on_the_way = (
+        c0,
+        subst (λ (rs : List Record). Ahead script rs c0) (sym none) first,
+        subst (λ (ls : List Line). Appends (g.K.Sink.written c.args.out.now) (lines_text ls) (g.K.Sink.written c.print_lines.new.sink)) lines c.in_ok-print_lines.ensures.whole,
+      );
       counts = counted;
     }
 
@@ -90,11 +93,14 @@ loop-picked-preserved g c =
     let before = i.counts in
     record {
       runner = x.stands;
-      on_the_way = (x.d, x.ahead c.in_default.not-Over,
+      on_the_way = (
+        x.d,
+        x.ahead c.in_default.not-Over,
         printed_on script c.loop-picked.runner.records (i.on_the_way.0) c.in_ok-picked.picked c.step.new.self _ _ _ _ x
-        (news (i.on_the_way.0).lines (x.d).lines x.added c.lines-printed.result.now c.lines-in-loop-picked.result.now
-        (lines_are script c.loop-picked.runner.records (i.on_the_way.0) c.loop-picked.runner c.lines-printed.result.now i.runner (i.on_the_way.1).story_is c.lines-printed.ensures)
-        (lines_are script c.step.new.self.records x.d c.step.new.self c.lines-in-loop-picked.result.now x.stands x.story_is c.lines-in-loop-picked.ensures) x.lines)
-        (i.on_the_way.2) c.in_ok-print_after.ensures.whole);
+            (news (i.on_the_way.0).lines (x.d).lines x.added c.lines-printed.result.now c.lines-in-loop-picked.result.now
+            (lines_are script c.loop-picked.runner.records (i.on_the_way.0) c.loop-picked.runner c.lines-printed.result.now i.runner (i.on_the_way.1).story_is c.lines-printed.ensures)
+            (lines_are script c.step.new.self.records x.d c.step.new.self c.lines-in-loop-picked.result.now x.stands x.story_is c.lines-in-loop-picked.ensures) x.lines)
+            (i.on_the_way.2) c.in_ok-print_after.ensures.whole,
+      );
       counts = omega (arith, counted, before);
     }

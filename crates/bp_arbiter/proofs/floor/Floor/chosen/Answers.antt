@@ -27,6 +27,8 @@ returns-clause-chosen c =
     (c.len.ensures ∙ c.in_ok-reached.reached.ok.0) c.weight_after.ensures c.if-weight_after-gt-MOST_WEIGHT.false
 
 pub returns-clause-within : goal.returns-clause-within
-returns-clause-within c = λ few.
-    (reached_in_range c.args.script.now c.args.event.now c.args.self.now.threads.items c.in_ok-reached.reached.items
-    (c.in_ok-reached.ensures ∙ ap (λ (ts : List Thread). reached_from c.args.script.now c.args.event.now 0 ts) c.deref.ensures.value), few)
+returns-clause-within c = λ few. (
+  reached_in_range c.args.script.now c.args.event.now c.args.self.now.threads.items c.in_ok-reached.reached.items
+      (c.in_ok-reached.ensures ∙ ap (λ (ts : List Thread). reached_from c.args.script.now c.args.event.now 0 ts) c.deref.ensures.value),
+  few,
+)

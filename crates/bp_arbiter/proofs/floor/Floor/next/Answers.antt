@@ -39,7 +39,7 @@ returns-clause-next c =
     let e = c.in-Some-first_free.event.now in
     let left : nat_eq f.transitions c.args.options.now.steps ≡ false = differ f.transitions c.args.options.now.steps (λ k. c.if-self-steps.false (k ∙ sym c.steps.ensures.steps)) in
     let eq : next l c.args.options.now (configuration_of f) ≡ next_chosen (configuration_of f) (record { event = e; place = None; drawn = c.drawn_after-drawn.result }) (reach l (configuration_of f) e) =
-        next_chooses c.args.script.now c.args.options.now f.threads.items (configuration_of f) e refl refl c.in_default.is
-        (c.in-Some-first_free.ensures ∙ ap (λ (ts : List Thread). first_free c.args.script.now ts) c.deref.ensures.value) left
-        ∙ ap (λ (d : ℕ). next_chosen (configuration_of f) (record { event = e; place = None; drawn = d }) (reach l (configuration_of f) e)) (sym c.drawn_after-drawn.ensures.drawn) in
+    next_chooses c.args.script.now c.args.options.now f.threads.items (configuration_of f) e refl refl c.in_default.is
+    (c.in-Some-first_free.ensures ∙ ap (λ (ts : List Thread). first_free c.args.script.now ts) c.deref.ensures.value) left
+    ∙ ap (λ (d : ℕ). next_chosen (configuration_of f) (record { event = e; place = None; drawn = d }) (reach l (configuration_of f) e)) (sym c.drawn_after-drawn.ensures.drawn) in
     subst (λ (x : Next). IfOk c.chosen.result (λ n. next_of n ≡ x)) (sym eq) c.chosen.ensures.chosen

@@ -13,7 +13,7 @@ returns-then-is_some-clause-settled c =
     elim c.then-is_some.branch [
       | then-is_some-via-then-is_some w ↦ sym (settle_over (straight_code c.args.script.now) p (sym w.if-is_some.ensures))
       | then-is_some-via-else-is_some+then-is_empty w ↦
-        sym (settle_nobody (straight_code c.args.script.now) p (empty_wave c.args.self.now.wave.items c.args.self.now.wave.len c.args.self.now.wave.ok.0 w.if-is_empty.ensures))
+          sym (settle_nobody (straight_code c.args.script.now) p (empty_wave c.args.self.now.wave.items c.args.self.now.wave.len c.args.self.now.wave.ok.0 w.if-is_empty.ensures))
     ]
 
 pub returns-clause-settled : goal.returns-clause-settled

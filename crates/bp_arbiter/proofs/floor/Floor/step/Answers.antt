@@ -17,12 +17,12 @@ returns-clause-stepped c =
     let wave = c.args.reached.items in
     let new : List Thread = c.give_all.new.threads in
     let items : (with_items f.threads new).items ≡ new =
-        with_items_is f.threads new (c.give_all.auto.threads ∙ c.deref_mut.ensures.len) in
+    with_items_is f.threads new (c.give_all.auto.threads ∙ c.deref_mut.ensures.len) in
     let given : map standing (with_items f.threads new).items ≡ touch_all e (map Runs wave) (map standing f.threads.items) =
-        ap (λ (ts : List Thread). map standing ts) items
-        ∙ c.in_ok-give_all.ensures
-        ∙ ap (λ (xs : List ℕ). touch_all e (map Runs xs) (map standing c.deref_mut.result.now)) c.deref.ensures.value
-        ∙ ap (λ (ts : List Thread). touch_all e (map Runs wave) (map standing ts)) c.deref_mut.ensures.value in
+    ap (λ (ts : List Thread). map standing ts) items
+    ∙ c.in_ok-give_all.ensures
+    ∙ ap (λ (xs : List ℕ). touch_all e (map Runs xs) (map standing c.deref_mut.result.now)) c.deref.ensures.value
+    ∙ ap (λ (ts : List Thread). touch_all e (map Runs wave) (map standing ts)) c.deref_mut.ensures.value in
     stepped (configuration_of f) e c.args.drawn wave (map standing (with_items f.threads new).items) c.push.new.self.items c.weight_after-weight.result given
     (c.in_ok-push.ensures.items ∙ ap (λ (x : PlainEvent). f.lines.items ++ trace.Event x ∷ []) c.in_ok-copy.ensures)
     (light_weight (configuration_of f) e wave c.weight_after-weight.result c.len.result c.weight_after-weight.ensures (c.len.ensures ∙ c.args.reached.ok.0) c.requires.light)
