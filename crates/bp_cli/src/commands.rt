@@ -2,7 +2,7 @@
 ghost use Rattle.std.specs.Prelude.{◌≡◌, ◌⊎◌, ◌<◌, ◌≤◌, length, map, Some, None, IsErrOf, IfOk, IsSome, option_copied, string_bytes, vec_len};
 ghost use Rattle.bp_base.specs.Counts.{Rose};
 ghost use Rattle.bp_cli.specs.Command.{command_of, is_name, note_of};
-ghost use Rattle.bp_cli.specs.Printing.{OfHeld, PrintsRun, PrintsPart, IsRefused, AsksAtMost};
+ghost use Rattle.bp_cli.specs.Printing.{OfHeld, PrintsRun, PrintsPart, RunsQuiet, IsRefused, AsksAtMost};
 
 use crate::Status;
 use bp_arbiter::{RunFault, run};
@@ -77,6 +77,7 @@ fn bytes_of<W: World>(alloc: Global, world: &mut W, name: &str) -> Result<Vec<u8
 /// Runs what the words name.
 ///
 /// The words are those after the program's name. So far the one command is `run PROGRAM`, on straight scripts.
+#[tactic(auto, using(bp_quiet::proofs::Ends::ends_quiet))]
 pub fn command<R: Threads + Wait + Sync, W: World, K: Sink>(
     rt: &R,
     alloc: Global,
@@ -84,9 +85,10 @@ pub fn command<R: Threads + Wait + Sync, W: World, K: Sink>(
     world: &mut W,
     out: &mut K,
 ) -> Status
-    // At status 0 the script is straight, and the text of its one run was printed, whole.
+    // At status 0 the script is straight, the text of its one run was printed, whole, and its verdict is quiet.
     ensures prints { result.code ≡ 0 → OfHeld (W.holds world.old) (command_of (map string_bytes words.now))
         (PrintsRun (K.written out.old) (K.written out.new)) }
+    ensures quiet { result.code ≡ 0 → OfHeld (W.holds world.old) (command_of (map string_bytes words.now)) RunsQuiet }
 
     // After a write fault, and after want of memory unless nothing was printed, a prefix of that text was printed.
     ensures prints_part { result.code ≡ 9 → OfHeld (W.holds world.old) (command_of (map string_bytes words.now))
