@@ -1,0 +1,9 @@
+//! The trees that scripts spell.
+#![tactic(auto)]
+
+pub mod tree;
+
+pub use tree::{
+    AssignOp, Declarator, DeclareKind, Expr, Field, Fix, Form, Item, Name, Operator, Sign, Spot,
+    Start, Step, Stmt, StmtForm, Tree,
+};
