@@ -1,6 +1,7 @@
 //! The trees that scripts spell.
 #![tactic(auto)]
 
+pub mod build;
 pub mod tree;
 
 pub use tree::{

@@ -166,8 +166,8 @@ pub struct Declarator {
 pub enum Start {
     Nothing,
     /// The line of its first token, its word and its declarators.
-    Declaration(u32, DeclareKind, Vec<Declarator>),
-    Expression(Expr),
+    Declares(u32, DeclareKind, Vec<Declarator>),
+    Evaluates(Expr),
 }
 
 /// A statement and the line of its first token.
