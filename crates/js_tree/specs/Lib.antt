@@ -1,2 +1,6 @@
+pub mod Straight
+pub mod PointCodes
+pub mod ThreadCodes
+pub mod Reading
 pub mod Plain
 pub mod Views

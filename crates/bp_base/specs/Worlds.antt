@@ -1,0 +1,20 @@
+-- Names and what is held under them. What a world holds, and which names it was asked for, is told or not:
+-- `None` tells nothing.
+use Rattle.std.specs.Prelude.{◌≡◌, ℕ, List, [], ◌∷◌, ◌++◌, Option, Some, IfSome, IsSome}
+
+-- the bytes under each name, where there are some
+abbrev pub Holdings : Type 0
+Holdings = List ℕ → Option (List ℕ)
+
+-- the world holds something under the name, and that is what is left
+abbrev pub Opens : Option Holdings → List ℕ → Option (List ℕ) → Type 0
+Opens holds name left = IfSome holds (λ held. IsSome (held name) × (left ≡ held name))
+
+-- the name was added to those that were asked for
+abbrev pub Asks : Option (List (List ℕ)) → List ℕ → Option (List (List ℕ)) → Type 0
+Asks before name after = IfSome before (λ names. after ≡ Some (names ++ name ∷ []))
+
+-- this is now under the name, and under each other name what was there
+abbrev pub Sets : Holdings → List ℕ → List ℕ → Holdings → Type 0
+Sets before name bytes after =
+    (after name ≡ Some bytes) × ((other : List ℕ) → ¬ (other ≡ name) → after other ≡ before other)

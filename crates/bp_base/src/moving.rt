@@ -1,0 +1,82 @@
+//! Reading all that comes, and writing all that is given.
+ghost use Rattle.std.specs.Prelude.{◌≡◌, ◌<◌, ◌≤◌, [], length, vec_len, IfOk, OnOk, OnErr, IsErrOf, IfSome};
+ghost use Rattle.bp_base.specs.Counts.{Rose};
+ghost use Rattle.bp_base.specs.Pieces.{GivesSome, Appends, AppendsFront};
+
+use crate::{Failed, Sink, Source};
+use std::alloc::{AllocError, Global};
+use thiserror::Error;
+
+/// Why not all was read.
+#[derive(Clone, Copy, Debug, PartialEq, Eq, Error)]
+pub enum ReadError {
+    /// The source failed.
+    #[error("the source failed")]
+    Fault,
+    /// More bytes came than were allowed.
+    #[error("more bytes came than were allowed")]
+    TooLong,
+    /// No memory was left.
+    #[error("no memory was left")]
+    Memory,
+}
+
+impl From<AllocError> for ReadError {
+    ghost use Rattle.std.specs.Prelude.{◌≡◌};
+    ghost use Rattle.bp_base.specs.declared.moving.ReadError.TheVariants.{Memory};
+
+    ghost from_gives = { λ _ e. e ≡ Memory };
+
+    fn from(_: AllocError) -> ReadError {
+        ReadError::Memory
+    }
+}
+
+impl From<Failed> for ReadError {
+    ghost use Rattle.std.specs.Prelude.{◌≡◌};
+    ghost use Rattle.bp_base.specs.declared.moving.ReadError.TheVariants.{Fault};
+
+    ghost from_gives = { λ _ e. e ≡ Fault };
+
+    fn from(_: Failed) -> ReadError {
+        ReadError::Fault
+    }
+}
+
+/// The bytes up to the end, at most `limit` of them. After a refusal some bytes are taken.
+pub fn read_all<S: Source>(alloc: Global, source: &mut S, limit: u64) -> Result<Vec<u8>, ReadError>
+    ensures all { IfOk result (λ bytes. IfSome (S.left source.old) (λ left. bytes.items ≡ left)) }
+    ensures end { OnOk result (IfSome (S.left source.old) (λ _. S.left source.new ≡ Some [])) }
+    ensures within { IfOk result (λ bytes. vec_len bytes ≤ limit) }
+
+    ensures too_long { IsErrOf result ReadError.TooLong
+        → IfSome (S.left source.old) (λ left. limit < length left) }
+    ensures cause { IsErrOf result ReadError.Fault → Rose (S.faults source.old) (S.faults source.new) }
+    ensures taken { OnErr result (GivesSome (S.left source.old) (S.left source.new)) }
+    ensures counts { S.faults source.old ≤ S.faults source.new }
+{
+    let mut bytes = Vec::new(alloc);
+    let mut piece = [0u8; 4096];
+    while bytes.len() as u64 <= limit {
+        let count = source.read(&mut piece)?;
+        if count == 0 {
+            return Ok(bytes);
+        }
+        bytes.extend_from_slice(&piece[..count])?;
+    }
+    Err(ReadError::TooLong)
+}
+
+/// Writes the whole piece. After a refusal a part of it, from its front, was appended.
+pub fn write_all<K: Sink>(sink: &mut K, bytes: &[u8]) -> Result<(), Failed>
+    ensures whole { OnOk result (Appends (K.written sink.old) bytes.now (K.written sink.new)) }
+    ensures front { OnErr result (AppendsFront (K.written sink.old) bytes.now (K.written sink.new)) }
+    ensures cause { OnErr result (Rose (K.faults sink.old) (K.faults sink.new)) }
+    ensures counts { K.faults sink.old ≤ K.faults sink.new }
+{
+    let mut done = 0;
+    while done < bytes.len() {
+        done += sink.write(&bytes[done..])?;
+    }
+    Ok(())
+}

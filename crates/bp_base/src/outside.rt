@@ -1,0 +1,127 @@
+//! What a source, a sink and a world are.
+ghost use Rattle.std.specs.Prelude.{◌≡◌, ℕ, ◌<◌, ◌≤◌, List, [], length, take, Option, IfOk, OnOk, OnErr, IsErrOf, IfSome};
+ghost use Rattle.bp_base.specs.Counts.{Rose};
+ghost use Rattle.bp_base.specs.Pieces.{Gives, Appends};
+ghost use Rattle.bp_base.specs.Worlds.{Holdings, Opens, Asks};
+
+use std::alloc::{AllocError, AllocFailed};
+use thiserror::Error;
+
+/// No memory was left. It is answered by every call that takes memory, and says nothing else.
+pub type Memory = AllocError;
+
+/// The outside failed.
+#[derive(Clone, Copy, Debug, PartialEq, Eq, Error)]
+#[error("the outside failed")]
+pub struct Failed;
+
+/// Bytes that come a piece at a time.
+pub trait Source {
+    /// The bytes still to come, where the source tells it.
+    ghost left: { Self → Option (List ℕ) };
+
+    /// How often it has failed.
+    ghost faults: { Self → ℕ };
+
+    /// Moves bytes from the front of what is left to the front of the buffer, and says how many. That none came
+    /// into a buffer with room means that none is left.
+    fn read(&mut self, into: &mut [u8]) -> Result<usize, Failed>
+        ensures within { IfOk result (λ n. n ≤ length into.old) }
+        ensures given { IfOk result (λ n. Gives (left self.old) (take n into.new) (left self.new)) }
+        ensures end { 0 < length into.old
+            → IfOk result (λ n. n ≡ 0 → IfSome (left self.old) (λ bytes. bytes ≡ [])) }
+
+        ensures failed { OnErr result (left self.new ≡ left self.old) }
+        ensures cause { OnErr result (Rose (faults self.old) (faults self.new)) }
+        ensures counts { faults self.old ≤ faults self.new };
+}
+
+/// A place for bytes.
+pub trait Sink {
+    /// All that was written, where the sink tells it.
+    ghost written: { Self → Option (List ℕ) };
+
+    /// How often it has failed.
+    ghost faults: { Self → ℕ };
+
+    /// Appends bytes from the front of the piece, and says how many: at least one, unless the piece is empty.
+    fn write(&mut self, bytes: &[u8]) -> Result<usize, Failed>
+        ensures within { IfOk result (λ n. n ≤ length bytes.now) }
+        ensures some { 0 < length bytes.now → IfOk result (λ n. 0 < n) }
+        ensures empty { length bytes.now ≡ 0 → result ≡ Ok 0 }
+        ensures appended { IfOk result (λ n. Appends (written self.old) (take n bytes.now) (written self.new)) }
+
+        ensures failed { OnErr result (written self.new ≡ written self.old) }
+        ensures cause { OnErr result (Rose (faults self.old) (faults self.new)) }
+        ensures counts { faults self.old ≤ faults self.new };
+}
+
+/// Why nothing was opened.
+#[derive(Clone, Copy, Debug, PartialEq, Eq, Error)]
+pub enum WorldError {
+    /// There is nothing of that name, or the world failed.
+    #[error("the outside failed")]
+    Failed,
+    /// No memory was left.
+    #[error("no memory was left")]
+    Memory,
+}
+
+impl From<AllocError> for WorldError {
+    ghost use Rattle.std.specs.Prelude.{◌≡◌};
+    ghost use Rattle.bp_base.specs.declared.outside.WorldError.TheVariants.{Memory};
+
+    ghost from_gives = { λ _ e. e ≡ Memory };
+
+    fn from(_: AllocError) -> WorldError {
+        WorldError::Memory
+    }
+}
+
+impl<T: Drop> From<AllocFailed<T>> for WorldError {
+    ghost use Rattle.std.specs.Prelude.{◌≡◌};
+    ghost use Rattle.bp_base.specs.declared.outside.WorldError.TheVariants.{Memory};
+
+    ghost from_gives = { λ _ e. e ≡ Memory };
+
+    fn from(_: AllocFailed<T>) -> WorldError {
+        WorldError::Memory
+    }
+}
+
+/// Bytes under names.
+pub trait World {
+    /// What `open` answers. It may move to another thread, which may let it go.
+    type Input: Source + Send + Drop;
+
+    /// The bytes under each name, where the world tells it.
+    ghost holds: { Self → Option Holdings };
+
+    /// The names that were asked for, in order, where the world tells it.
+    ghost asked: { Self → Option (List (List ℕ)) };
+
+    /// How often reading has failed.
+    ghost read_faults: { Self → ℕ };
+
+    /// Opens what is held under the name. `Failed` is answered where nothing is, and where the world fails.
+    fn open(&mut self, name: &str) -> Result<Self::Input, WorldError>
+        ensures content { IfOk result (λ input. Opens (holds self.old) name.now (Self.Input.left input)) }
+        ensures fresh { IfOk result (λ input. Self.Input.faults input ≡ 0) }
+
+        ensures cause { IsErrOf result WorldError.Failed → Rose (read_faults self.old) (read_faults self.new) }
+        ensures counts { read_faults self.old ≤ read_faults self.new }
+
+        ensures asks { OnOk result (Asks (asked self.old) name.now (asked self.new)) }
+        ensures asks_failed { IsErrOf result WorldError.Failed
+            → Asks (asked self.old) name.now (asked self.new) }
+        ensures asks_nothing { IsErrOf result WorldError.Memory → asked self.new ≡ asked self.old }
+        ensures keeps { holds self.new ≡ holds self.old };
+
+    /// Closes an input. Where it has failed, the world's count rises.
+    fn close_input(&mut self, input: Self::Input)
+        ensures risen { 0 < Self.Input.faults input → Rose (read_faults self.old) (read_faults self.new) }
+        ensures clean { Self.Input.faults input ≡ 0 → read_faults self.new ≡ read_faults self.old }
+        ensures counts { read_faults self.old ≤ read_faults self.new }
+        ensures asked { asked self.new ≡ asked self.old }
+        ensures keeps { holds self.new ≡ holds self.old };
+}

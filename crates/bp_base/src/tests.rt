@@ -1,0 +1,91 @@
+use crate::*;
+use std::test::Fail;
+use std::{fs, io};
+
+const NAME: &str = "bp_base_test";
+
+#[test]
+fn bytes_in_memory_are_read_to_their_end(rt: HostRuntime) -> Result<(), Fail> {
+    let alloc = rt.alloc();
+    // The bytes, the calls that fail, the limit, and the answer.
+    for (fails, limit, answer) in [
+        (0, 5, Ok(5)),
+        (0, 4, Err(ReadError::TooLong)),
+        (1, 5, Err(ReadError::Fault)),
+        (2, 5, Err(ReadError::Fault)),
+        (3, 5, Ok(5)),
+    ] {
+        let fails = [fails].to_vec(alloc)?;
+        let mut source = MemorySource::new(b"hello".to_vec(alloc)?, fails);
+        let read = read_all(alloc, &mut source, limit);
+        assert_eq!(rt; read.map(|bytes| bytes.len()), answer);
+        assert_eq!(rt; source.faults(), u64::from(answer == Err(ReadError::Fault)));
+    }
+    Ok(())
+}
+
+#[test]
+fn a_sink_takes_what_it_has_room_for(rt: HostRuntime) -> Result<(), Fail> {
+    let alloc = rt.alloc();
+    let mut sink = MemorySink::new(alloc, 5, [2].to_vec(alloc)?)?;
+    for (piece, answer) in [
+        ("", Ok(())),
+        ("ab", Ok(())),
+        ("c", Err(Failed)),
+        ("", Ok(())),
+        ("cdef", Err(Failed)),
+        ("cde", Ok(())),
+    ] {
+        assert_eq!(rt; write_all(&mut sink, piece.as_bytes()), answer, "{piece}");
+    }
+    assert_eq!(rt; sink.written(), b"abcde".as_slice());
+    assert_eq!(rt; sink.faults(), 2);
+    Ok(())
+}
+
+#[test]
+fn a_world_opens_what_it_holds(rt: HostRuntime) -> Result<(), Fail> {
+    let alloc = rt.alloc();
+    let mut world = MemoryWorld::new(alloc, 0, [3].to_vec(alloc)?);
+    world.hold("a".to_string(alloc)?, b"old".to_vec(alloc)?)?;
+    world.hold("a".to_string(alloc)?, b"new".to_vec(alloc)?)?;
+    world.fail("a".to_string(alloc)?, [1].to_vec(alloc)?)?;
+    assert_eq!(rt; world.held("a"), Some(b"new".as_slice()));
+    assert_eq!(rt; world.held("b"), None);
+    let mut input = world.open("a")?;
+    assert_eq!(rt;
+        read_all(alloc, &mut input, 9).err(),
+        Some(ReadError::Fault)
+    );
+    assert_eq!(rt;
+        read_all(alloc, &mut input, 9)?.as_slice(),
+        b"new".as_slice()
+    );
+    world.close_input(input);
+    assert_eq!(rt; world.open("b").err(), Some(WorldError::Failed));
+    assert_eq!(rt; world.open("a").err(), Some(WorldError::Failed));
+    Ok(())
+}
+
+#[test]
+fn a_file_of_the_system_is_read(rt: HostRuntime) -> Result<(), Fail> {
+    let alloc = rt.alloc();
+    fs::write(&rt, NAME, "bytes")?;
+    let mut world = FileWorld::new(rt.clone()?);
+    let mut input = world.open(NAME)?;
+    assert_eq!(rt;
+        read_all(alloc, &mut input, 9)?.as_slice(),
+        b"bytes".as_slice()
+    );
+    world.close_input(input);
+    fs::remove_file(&rt, NAME)?;
+    assert_eq!(rt; world.open(NAME).err(), Some(WorldError::Failed));
+    Ok(())
+}
+
+#[test]
+fn a_stream_takes_all(rt: HostRuntime) -> Result<(), Fail> {
+    let mut sink = StreamSink::new(io::writer(&rt));
+    assert_eq!(rt; write_all(&mut sink, b"written\n"), Ok(()));
+    Ok(())
+}

@@ -1,0 +1,166 @@
+//! A world in memory. It tells all, and fails at the calls that its lists name.
+ghost use Rattle.std.specs.Prelude.{◌≡◌, ◌<◌, ◌≤◌, true, false, OnOk, OnErr, IfOk, IsErrOf, IsSomeAnd, string_bytes, option_copied, option_map};
+ghost use Rattle.bp_base.specs.Counts.{Rose, raised};
+ghost use Rattle.bp_base.specs.Worlds.{Opens, Asks, Sets};
+ghost use Rattle.bp_base.specs.Memory.{supply, under, empty_files, can_open, failing_under, asked_for};
+
+use crate::calls::Calls;
+use crate::shelf::{Entry, Shelf, find, put};
+use crate::{Memory, MemorySource, World, WorldError};
+use std::alloc::Global;
+use std::marker::Model;
+
+/// Bytes under names, in memory.
+#[derive(Debug, Drop)]
+pub struct MemoryWorld {
+    alloc: Global,
+    room: u64,
+    held: Shelf<u8>,
+    failing: Shelf<u64>,
+    asked: Vec<String>,
+    calls: Calls,
+    read_faults: u64,
+}
+
+impl Model for MemoryWorld {
+    ghost use Rattle.std.specs.Prelude.{map, string_bytes};
+    ghost use Rattle.bp_base.specs.Memory.{Files};
+
+    ghost Value = { Files };
+
+    ghost use Rattle.bp_base.specs.Shelf.{entries_of};
+
+    ghost view = { λ w. record {
+      room = w.room;
+      held = entries_of w.held;
+      failing = entries_of w.failing;
+      asked = map string_bytes w.asked.items;
+      calls = w.calls;
+      read_faults = w.read_faults;
+    } };
+}
+
+impl MemoryWorld {
+    /// A world that holds nothing, whose calls with these numbers fail, and whose outputs have room for so many
+    /// bytes each. A call that can't fail isn't counted.
+    pub fn new(alloc: Global, room: u64, fails: Vec<u64>) -> MemoryWorld
+        ensures { result ≡ empty_files room fails.items }
+    {
+        MemoryWorld {
+            alloc,
+            room,
+            held: Shelf::Empty,
+            failing: Shelf::Empty,
+            asked: Vec::new(alloc),
+            calls: Calls::new(fails),
+            read_faults: 0,
+        }
+    }
+
+    /// Holds these bytes under the name, in place of what was there.
+    pub fn hold(&mut self, name: String, bytes: Vec<u8>) -> Result<(), Memory>
+        ensures sets { OnOk result
+            (Sets (under self.old.held) (string_bytes name) bytes.items (under self.new.held)) }
+        ensures rest { self.new ≡ record self.old { held = self.new.held } }
+        ensures err { OnErr result (self.new ≡ self.old) }
+    {
+        let entry = Entry::new(self.alloc, name, bytes)?;
+        put(&mut self.held, entry);
+        Ok(())
+    }
+
+    /// Lets the calls with these numbers fail, of each input of that name that is opened from now on.
+    pub fn fail(&mut self, name: String, calls: Vec<u64>) -> Result<(), Memory>
+        ensures sets { OnOk result
+            (Sets (under self.old.failing) (string_bytes name) calls.items (under self.new.failing)) }
+        ensures rest { self.new ≡ record self.old { failing = self.new.failing } }
+        ensures err { OnErr result (self.new ≡ self.old) }
+    {
+        let entry = Entry::new(self.alloc, name, calls)?;
+        put(&mut self.failing, entry);
+        Ok(())
+    }
+
+    /// The bytes under the name. None exactly where nothing is held under it.
+    pub fn held(&self, name: &str) -> Option<&[u8]>
+        ensures { option_copied result ≡ under self.now.held name.now }
+    {
+        find(&self.held, name)
+    }
+
+    fn input(&self, name: &str) -> Result<Option<MemorySource>, Memory>
+        ensures { IfOk result (λ input. input
+            ≡ option_map (λ bytes. supply bytes (failing_under self.now name.now)) (under self.now.held name.now)) }
+    {
+        let Some(bytes) = find(&self.held, name) else {
+            return Ok(None);
+        };
+        let fails = match find(&self.failing, name) {
+            Some(fails) => fails.to_vec(self.alloc)?,
+            None => Vec::new(self.alloc),
+        };
+        Ok(Some(MemorySource::new(bytes.to_vec(self.alloc)?, fails)))
+    }
+}
+
+impl World for MemoryWorld {
+    type Input = MemorySource;
+
+    ghost use Rattle.std.specs.Prelude.{Some};
+    ghost use Rattle.bp_base.specs.Memory.{under};
+
+    ghost holds = { λ w. Some (under w.held) };
+
+    ghost asked = { λ w. Some w.asked };
+
+    ghost read_faults = { λ w. w.read_faults };
+
+    fn open(&mut self, name: &str) -> Result<MemorySource, WorldError>
+        ensures content { IfOk result (λ input. Opens (Some (under self.old.held)) name.now (Some input.left)) }
+        ensures fresh { IfOk result (λ input. input.faults ≡ 0) }
+        ensures cause { IsErrOf result WorldError.Failed → Rose self.old.read_faults self.new.read_faults }
+        ensures counts { self.old.read_faults ≤ self.new.read_faults }
+        ensures asks { OnOk result (Asks (Some self.old.asked) name.now (Some self.new.asked)) }
+        ensures asks_failed { IsErrOf result WorldError.Failed
+            → Asks (Some self.old.asked) name.now (Some self.new.asked) }
+        ensures asks_nothing { IsErrOf result WorldError.Memory → Some self.new.asked ≡ Some self.old.asked }
+        ensures keeps { Some (under self.new.held) ≡ Some (under self.old.held) }
+
+        // It fails exactly where this call is to fail or nothing is held under the name.
+        ensures opens { OnOk result (can_open self.old name.now ≡ true) }
+        ensures refuses { IsErrOf result WorldError.Failed → can_open self.old name.now ≡ false }
+        ensures input { IfOk result (λ input. IsSomeAnd (under self.old.held name.now)
+            (λ bytes. input ≡ supply bytes (failing_under self.old name.now))) }
+        ensures after { OnOk result (self.new ≡ asked_for self.old name.now) }
+        ensures after_failed { IsErrOf result WorldError.Failed → self.new
+            ≡ record (asked_for self.old name.now) { read_faults = raised self.old.read_faults } }
+        ensures after_memory { IsErrOf result WorldError.Memory → self.new ≡ self.old }
+    {
+        let input = self.input(name)?;
+        let asked = name.to_string(self.alloc)?;
+        self.asked.push(asked)?;
+        let fails = self.calls.count();
+        match input {
+            Some(input) if !fails => Ok(input),
+            _ => {
+                self.read_faults = self.read_faults.saturating_add(1);
+                Err(WorldError::Failed)
+            }
+        }
+    }
+
+    fn close_input(&mut self, input: MemorySource)
+        ensures risen { 0 < input.faults → Rose self.old.read_faults self.new.read_faults }
+        ensures clean { input.faults ≡ 0 → self.new.read_faults ≡ self.old.read_faults }
+        ensures counts { self.old.read_faults ≤ self.new.read_faults }
+        ensures asked { Some self.new.asked ≡ Some self.old.asked }
+        ensures keeps { Some (under self.new.held) ≡ Some (under self.old.held) }
+
+        ensures raised { 0 < input.faults → self.new.read_faults ≡ raised self.old.read_faults }
+        ensures rest { self.new ≡ record self.old { read_faults = self.new.read_faults } }
+    {
+        if input.faults() > 0 {
+            self.read_faults = self.read_faults.saturating_add(1);
+        }
+    }
+}
