@@ -1,0 +1,8 @@
+// Constant tables: keys of few bytes, each with a number.
+#![tactic(auto)]
+
+pub mod row;
+pub mod table;
+
+pub use row::{Row, make_row};
+pub use table::Table;

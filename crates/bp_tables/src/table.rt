@@ -1,0 +1,88 @@
+// A table of rows.
+
+ghost use Rattle.std.specs.Prelude.{◌≡◌, ◌≤◌, IsTrue, IfSome, length};
+ghost use Rattle.bp_tables.specs.Keys.{entries, are_within};
+ghost use Rattle.bp_tables.specs.Found.{find_in, front_in};
+
+use crate::Row;
+use std::marker::Model;
+
+/// N rows, which contracts see as the list of their keys and values.
+#[derive(Drop)]
+pub struct Table<const N: usize> {
+    rows: [Row; N],
+}
+
+impl<const N: usize> Model for Table<N> {
+    ghost use Rattle.std.specs.Prelude.{List, ℕ, IsTrue};
+    ghost use Rattle.bp_tables.specs.Keys.{entries, are_within};
+
+    ghost Value = { List (List ℕ × ℕ) };
+
+    ghost view = { λ t. entries t.rows };
+
+    ghost invariant = { λ t. IsTrue (are_within t.rows) };
+}
+
+impl<const N: usize> Table<N> {
+    /// The table of the rows, each of which has a key of at most 24 bytes.
+    pub fn new(rows: [Row; N]) -> Self
+        requires { IsTrue (are_within rows) }
+        ensures { result ≡ entries rows.entry }
+    {
+        Table { rows }
+    }
+
+    /// The value of the first row with the key. It takes no memory.
+    pub fn find(&self, key: &[u8]) -> Option<u16>
+        ensures { result ≡ find_in self.now key.now }
+    {
+        for row in &self.rows {
+            if &row.key[..row.size as usize] == key {
+                return Some(row.value);
+            }
+        }
+        None
+    }
+
+    /// How many bytes the first key has with which the bytes begin. It takes no memory.
+    pub fn find_front(&self, bytes: &[u8]) -> Option<usize>
+        ensures within { IfSome result (λ size. size ≤ length bytes.now) }
+        ensures size { result ≡ front_in self.now bytes.now }
+    {
+        for row in &self.rows {
+            if bytes.starts_with(&row.key[..row.size as usize]) {
+                return Some(row.size as usize);
+            }
+        }
+        None
+    }
+}
+
+/// The rows of a table, written as `key => value`.
+#[macro_export]
+macro_rules! rows {
+    ($($key:expr => $value:expr),* $(,)?) => {
+        [$($crate::make_row($key, $value)),*]
+    };
+}
+
+#[cfg(test)]
+mod tests {
+    use super::*;
+    use crate::rows;
+    use std::test::Fail;
+
+    #[test]
+    fn finds_the_first_row(rt: HostRuntime) -> Result<(), Fail> {
+        let table = Table::new(rows![b"ab" => 7, b"a" => 8, b"ab" => 9]);
+        assert_eq!(rt; table.find(b"ab"), Some(7));
+        assert_eq!(rt; table.find(b"a"), Some(8));
+        assert_eq!(rt; table.find(b"abc"), None);
+        assert_eq!(rt; table.find(b""), None);
+        assert_eq!(rt; table.find_front(b"abc"), Some(2));
+        assert_eq!(rt; table.find_front(b"acb"), Some(1));
+        assert_eq!(rt; table.find_front(b"ba"), None);
+        Ok(())
+    }
+}

@@ -1,0 +1,11 @@
+mod Worked
+pub mod Tests
+pub mod Lines
+pub mod Digits
+pub mod Ends
+pub mod Runs
+pub mod Ascii
+pub mod Fronts
+pub mod Fits
+pub mod Cutting
+pub mod Lexing

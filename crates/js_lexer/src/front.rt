@@ -1,0 +1,156 @@
+//! What stands in front of a text.
+ghost use Rattle.std.specs.Prelude.{◌≡◌, ◌≤◌, ◌<◌, ◌+◌, ◌^◌, ◌∷◌, IsTrue, IfOk, List, ℕ, length, take, drop};
+ghost use Rattle.std.specs.Str.{IsUtf8};
+ghost use Rattle.js_lexer.specs.Bytes.{is_name_start, is_quote};
+ghost use Rattle.js_lexer.specs.Found.{IsFound};
+ghost use Rattle.js_lexer.specs.Front.{Piece, gap, token, name_size, name_kind, block, mark, quoted, is_dot_digit, front, comment_or_mark, gap_or_mark};
+ghost use Rattle.js_lexer.specs.Gaps.{size_to_close};
+ghost use Rattle.js_lexer.specs.Literals.{literal};
+ghost use Rattle.js_lexer.specs.Words.{all_words, all_marks};
+ghost use Rattle.bp_tables.specs.Found.{front_in};
+
+use crate::bytes::{begins_name, is_digit_byte, is_quote_byte, stands_in_name};
+use crate::gaps::{blank_front, close_front, line_end_front, line_front};
+use crate::literals::literal_front;
+use crate::numbers::number_front;
+use crate::token::{Flaw, Found, Kind, Stop};
+use bp_tables::Table;
+use js_data::{Memory, Text};
+use std::alloc::Global;
+
+fn text_of(alloc: Global, bytes: &[u8]) -> Result<Text, Memory>
+    requires { IsUtf8 bytes.now }
+    ensures { IfOk result (λ text. text ≡ bytes.now) }
+{
+    match str::from_utf8(bytes) {
+        Ok(text) => Ok(Text::new(String::from_str(alloc, text)?)),
+        Err(_) => unreachable!(),
+    }
+}
+
+fn name_extent(bytes: &[u8]) -> usize
+    ensures size { result ≡ name_size bytes.now }
+    ensures within { result ≤ length bytes.now }
+{
+    let mut size = 0;
+    for b in bytes {
+        if !stands_in_name(*b) {
+            return size;
+        }
+        size += 1;
+    }
+    size
+}
+
+/// The word or name in front.
+
+pub fn name_front(alloc: Global, words: &Table<39>, bytes: &[u8]) -> Result<Found, Stop>
+    requires { words.now ≡ all_words }
+    ensures { IsFound (token (name_kind (take (name_size bytes.now) bytes.now)) (name_size bytes.now)) result }
+{
+    let size = name_extent(bytes);
+    let text = text_of(alloc, &bytes[..size])?;
+    let kind = if words.find(&bytes[..size]).is_some() {
+        Kind::Word(text)
+    } else {
+        Kind::Name(text)
+    };
+    Ok(Found::Token(kind, size))
+}
+
+/// The longest mark in front.
+
+pub fn mark_front(alloc: Global, marks: &Table<57>, bytes: &[u8]) -> Result<Found, Stop>
+    requires { marks.now ≡ all_marks }
+    ensures { IsFound (mark bytes.now (front_in all_marks bytes.now)) result }
+{
+    match marks.find_front(bytes) {
+        None => Err(Stop::Refused(Flaw::Character, 0)),
+        Some(size) => Ok(Found::Token(Kind::Mark(text_of(alloc, &bytes[..size])?), size)),
+    }
+}
+
+/// The comment whose first two bytes stand before these.
+pub fn block_front(bytes: &[u8]) -> Result<Found, Stop>
+    ensures { IsFound (block (size_to_close bytes.now)) result }
+{
+    match close_front(bytes) {
+        None => Err(Stop::Refused(Flaw::OpenText, 0)),
+        Some(size) => Ok(Found::Gap(2 + size)),
+    }
+}
+
+fn comment_or_mark_front(alloc: Global, marks: &Table<57>, bytes: &[u8]) -> Result<Found, Stop>
+    requires { marks.now ≡ all_marks }
+    ensures { IsFound (comment_or_mark bytes.now) result }
+{
+    if bytes.starts_with(b"//") {
+        return Ok(Found::Gap(line_front(bytes)));
+    }
+    if bytes.starts_with(b"/*") {
+        return block_front(&bytes[2..]);
+    }
+    mark_front(alloc, marks, bytes)
+}
+
+#[tactic(auto, using(crate::proofs::Fronts::gap_or_some, crate::proofs::Fronts::gap_or_none))]
+fn gap_or_mark_front(alloc: Global, marks: &Table<57>, bytes: &[u8]) -> Result<Found, Stop>
+    requires { marks.now ≡ all_marks }
+    ensures { IsFound (gap_or_mark bytes.now) result }
+{
+    let blank = blank_front(bytes);
+    if blank > 0 {
+        return Ok(Found::Gap(blank));
+    }
+    let line_end = line_end_front(bytes);
+    if line_end > 0 {
+        return Ok(Found::Gap(line_end));
+    }
+    comment_or_mark_front(alloc, marks, bytes)
+}
+
+fn is_dot_and_digit(b: u8, behind: &[u8]) -> bool
+    ensures { result ≡ is_dot_digit b behind.now }
+{
+    match behind {
+        [] => false,
+        [digit, ..] => b == b'.' && is_digit_byte(*digit),
+    }
+}
+
+#[tactic(auto, using(crate::proofs::Ascii::quote_boundary, crate::proofs::Ascii::behind_quote))]
+fn quoted_front(alloc: Global, quote: u8, behind: &[u8], text: &str, place: usize) -> Result<Found, Stop>
+    requires quote { IsTrue (is_quote quote) }
+    requires size { length text.now < 2 ^ 32 }
+    requires place { drop place text.now ≡ quote ∷ behind.now }
+    ensures { IsFound (quoted (literal quote 0 behind.now)) result }
+{
+    literal_front(alloc, quote, text.split_at(place + 1).1)
+}
+
+/// What stands in front of the bytes, which are the text's from the place on.
+pub fn front_at(alloc: Global, words: &Table<39>, marks: &Table<57>, bytes: &[u8], text: &str, place: usize) -> Result<Found, Stop>
+    requires words { words.now ≡ all_words }
+    requires marks { marks.now ≡ all_marks }
+    requires size { length text.now < 2 ^ 32 }
+    requires place { bytes.now ≡ drop place text.now }
+    requires some { 0 < length bytes.now }
+    ensures { IsFound (front bytes.now) result }
+{
+    let Some((b, behind)) = bytes.split_first() else {
+        unreachable!();
+    };
+    if begins_name(*b) {
+        return name_front(alloc, words, bytes);
+    }
+    if is_digit_byte(*b) {
+        return number_front(bytes);
+    }
+    if is_quote_byte(*b) {
+        return quoted_front(alloc, *b, behind, text, place);
+    }
+    if *b == b'`' || is_dot_and_digit(*b, behind) {
+        return Err(Stop::Refused(Flaw::Unsupported, 0));
+    }
+    gap_or_mark_front(alloc, marks, bytes)
+}

@@ -1,0 +1,4 @@
+//! Tables of tests of the front end.
+#![tactic(auto)]
+
+pub mod tokens;
