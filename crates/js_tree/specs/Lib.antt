@@ -4,3 +4,5 @@ pub mod ThreadCodes
 pub mod Reading
 pub mod Plain
 pub mod Views
+pub mod Nesting
+pub mod Endings

@@ -2,11 +2,13 @@
 #![tactic(auto)]
 
 pub mod build;
+mod ending;
 mod laws;
 mod reading;
 mod straight;
 pub mod tree;
 
+pub use ending::Ending;
 pub use laws::one_script;
 pub use reading::{FormFault, read_script};
 pub use straight::{Point, Points, Script, Straight};
