@@ -1,2 +1,5 @@
 pub mod Marks
 pub mod Steps
+pub mod Shorter
+pub mod Sound
+pub mod Complete
