@@ -3,3 +3,4 @@ pub mod Steps
 pub mod Shorter
 pub mod Sound
 pub mod Complete
+pub mod Unique
