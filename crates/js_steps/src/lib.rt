@@ -1,11 +1,13 @@
 //! Steps over tokens, and trees made from their parts.
 #![tactic(auto)]
 
+pub mod build;
 pub mod cursor;
 pub mod ends;
 mod lexeme;
 pub mod peek;
 mod sorting;
+pub mod read;
 mod stop;
 
 pub use lexeme::Lexeme;
