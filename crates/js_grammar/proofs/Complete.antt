@@ -166,7 +166,7 @@ name-none (Kind.Name t) s h = cc
 name-none _ s h = refl
 
 -- no name stands where `(` does
-paren-unnamed : (t : Token) → sort t ≡ LeftParen → named t ≡ None
+pub paren-unnamed : (t : Token) → sort t ≡ LeftParen → named t ≡ None
 unfolding named sort
 paren-unnamed t h = name-none t.kind (spot t) h
 

@@ -5,9 +5,12 @@ pub mod build;
 pub mod cursor;
 pub mod ends;
 mod lexeme;
+pub mod names;
+pub mod parts;
 pub mod peek;
 mod sorting;
 pub mod read;
+pub mod statements;
 mod stop;
 
 pub use lexeme::Lexeme;
