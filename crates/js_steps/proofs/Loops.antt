@@ -1,11 +1,13 @@
 -- Each loop of the readers is its first turn, and then the loop.
-use Rattle.std.proofs.Common.{◌≡◌, ℕ, List, [], ◌∷◌, Option, Some, None, refl}
+use Rattle.std.proofs.Common.{◌≡◌, ℕ, List, [], ◌∷◌, Option, Some, None, Bool, true, false, refl}
 use Rattle.js_lexer.specs.declared.token.Token.{Token}
 use Rattle.js_tree.specs.declared.tree.Name.{Name}
 use Rattle.js_tree.specs.declared.tree.DeclareKind.{DeclareKind}
 use Rattle.js_tree.specs.Plain.{PlainExpr, PlainField, PlainDeclarator, PlainStmt, PlainItem}
 use Rattle.js_grammar.specs.declared.sort.Sort.{Sort}
 use Rattle.js_grammar.specs.Sorts.{sort, named}
+use Rattle.js_grammar.specs.Tokens.{starts}
+use Rattle.js_steps.specs.Skipped.{first}
 use Rattle.js_grammar.specs.Reader as read
 use Rattle.js_grammar.specs.Reader.{next_turn, run, readers}
 use Rattle.js_grammar.proofs.Steps.{run-turn}
@@ -44,3 +46,19 @@ called_turn n line = run-turn (read.called_step n (readers n) line) (called_step
 pub operated_turn : (n line k : ℕ) (e : PlainExpr) (ts : List Token) →
     run (read.operated_step n (readers n) line k) e ts ≡ next_turn (run (read.operated_step n (readers n) line k)) (read.operated_step n (readers n) line k e ts)
 operated_turn n line k = run-turn (read.operated_step n (readers n) line k) (operated_step-short n line k)
+
+-- what nothing follows
+
+pub next_param_none : (xs : List Name) (ts : List Token) → starts Sort.RightParen ts ≡ false → starts Sort.Comma ts ≡ false → read.next_param xs ts ≡ None
+next_param_none xs [] h k = refl
+next_param_none xs (t ∷ ts) h k = rw (h, k) refl
+
+pub header_paren : (t : Token) (ts : List Token) → sort t ≡ Sort.LeftParen → read.header (t ∷ ts) ≡ read.and_then (read.params ts) read.arrow_after
+header_paren t ts h = rw (paren-unnamed t h, h) refl
+
+pub header_name : (t : Token) (ts : List Token) (x : Name) → named t ≡ Some x → read.header (t ∷ ts) ≡ read.arrow_after (x ∷ []) ts
+header_name t ts x h = rw h refl
+
+pub header_none : (ts : List Token) → starts Sort.LeftParen ts ≡ false → first named ts ≡ None → read.header ts ≡ None
+header_none [] h k = refl
+header_none (t ∷ ts) h k = rw (k, h) refl

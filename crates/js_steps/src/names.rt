@@ -1,6 +1,7 @@
 //! The parameters of functions.
-ghost use Rattle.std.specs.Prelude.{◌≡◌, ◌<◌, ◌∷◌, [], length, IfOk};
+ghost use Rattle.std.specs.Prelude.{◌≡◌, ◌<◌, ◌∷◌, [], length, IfOk, MatchResult};
 ghost use Rattle.js_grammar.specs.Reader.{params, header, opening, arrow_after as then_arrow};
+ghost use Rattle.js_steps.specs.declared.stop.Stop.TheVariants.{Memory};
 ghost use Rattle.js_steps.specs.Seen.{seen};
 ghost use Rattle.js_steps.specs.Parsed.{IsNames};
 
@@ -13,7 +14,7 @@ use js_tree::Name;
 use std::alloc::Global;
 
 /// Names separated by commas, and `)`.
-#[tactic(auto, using(crate::proofs::Loops::params_turn))]
+#[tactic(auto, using(crate::proofs::Loops::params_turn, crate::proofs::Loops::next_param_none))]
 pub fn parameters<'a>(alloc: Global, tokens: &'a [Lexeme]) -> Result<ReadNames<'a>, Stop>
     ensures read { IsNames (params (seen tokens.now)) result }
     ensures shorter { IfOk result (λ found. length found.rest.now < length tokens.now) }
@@ -34,7 +35,7 @@ pub fn parameters<'a>(alloc: Global, tokens: &'a [Lexeme]) -> Result<ReadNames<'
 }
 
 fn one_name(alloc: Global, name: Name) -> Result<Vec<Name>, Stop>
-    ensures { IfOk result (λ names. names.items ≡ name ∷ []) }
+    ensures { MatchResult result (λ names. names.items ≡ name ∷ []) (λ e. e ≡ Memory) }
 {
     let mut names = Vec::new(alloc);
     names.push(name)?;
@@ -53,6 +54,7 @@ fn arrow_after<'a>(found: ReadNames<'a>) -> Result<ReadNames<'a>, Stop>
 }
 
 /// The parameters of an arrow function, and `=>`.
+#[tactic(auto, using(crate::proofs::Loops::header_paren, crate::proofs::Loops::header_name, crate::proofs::Loops::header_none))]
 pub fn arrow_header<'a>(alloc: Global, tokens: &'a [Lexeme]) -> Result<ReadNames<'a>, Stop>
     ensures read { IsNames (header (seen tokens.now)) result }
     ensures shorter { IfOk result (λ found. length found.rest.now < length tokens.now) }

@@ -1,0 +1,4 @@
+//! Trees read from tokens.
+#![tactic(auto)]
+
+mod parser;
