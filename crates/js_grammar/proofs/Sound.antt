@@ -375,9 +375,11 @@ module _ (room : ℕ) (inner : Readers)
   postfix_at-sound : (t : Token) (ts : List Token) → starts_update (t ∷ ts) ≡ true → Gives (Expr (Operators 0) (t ∷ ts)) (read.postfix_at room inner t ts)
   postfix_at-sound t ts b =
       some-gives (Expr (Operators 0) (t ∷ ts)) (named t) _ (λ x h.
-      after_some-gives (λ m. ts ≡ m) (Expr (Operators 0) (t ∷ ts)) step ts _ refl (λ u s r q k.
-      (subst (λ y. Spells (Operators 0) (t ∷ y) (at 0 t.line (p.update s After x)) r) (sym q)
-      (update_after h k (step_on_line ts r u q (and-both (is_some (named t)) (starts_step ts) b).1)), omega arith)))
+      after_some-gives (λ m. ts ≡ m) (Expr (Operators 0) (t ∷ ts)) step ts _ refl (λ u s r q k. (
+        subst (λ y. Spells (Operators 0) (t ∷ y) (at 0 t.line (p.update s After x)) r) (sym q)
+            (update_after h k (step_on_line ts r u q (and-both (is_some (named t)) (starts_step ts) b).1)),
+        omega arith,
+      )))
 
   step_at-sound : (t : Token) (ts : List Token) (o : Option Step) → sign t ≡ None → step t ≡ o → Gives (Expr (Operators 0) (t ∷ ts)) (read.step_at room inner o t ts)
   step_at-sound t ts None g h =
@@ -669,5 +671,5 @@ readers-sound (suc n) =
     record {
       expr = level-sound n (readers n) i.expr i.declarators i.stmt;
       declarators = λ k ts. declared_in n (readers n) k ts (declarators-sound n (readers n) i.expr i.declarators i.stmt k ts);
-      stmt = statement-sound n (readers n) i.expr i.declarators i.stmt
+      stmt = statement-sound n (readers n) i.expr i.declarators i.stmt;
     }

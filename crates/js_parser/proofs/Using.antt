@@ -11,7 +11,7 @@ use Rattle.js_tree.specs.Plain as p
 use Rattle.js_tree.specs.Plain.{PlainExpr, at, on, PlainField, PlainDeclarator, PlainStmt}
 use Rattle.js_tree.specs.Views.{plain_expr, plain_field, plain_declarator, plain_stmt}
 use Rattle.js_grammar.specs.declared.sort.Sort.{Sort}
-use Rattle.js_grammar.specs.Sorts.{spot}
+use Rattle.js_grammar.specs.Sorts.{spot, numbered, kind_number}
 use Rattle.js_grammar.specs.Tokens.{starts, is_const}
 use Rattle.js_grammar.specs.Grammar.{Level, Operators, Assignment}
 use Rattle.js_grammar.specs.Reader as read
@@ -94,6 +94,9 @@ value_none n alone k x (t ∷ ts) h c = rw (h, c) refl
 
 pub each_none : (n line : ℕ) (k : DeclareKind) (x : Name) → read.each_at n (readers n) line k x [] ≡ None
 each_none n line k x = rw (nothing_read n) refl
+
+pub numbered_is : (t : Token) → numbered t ≡ kind_number t.kind
+numbered_is = using.numbered_is
 
 -- lists
 

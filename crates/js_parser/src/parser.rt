@@ -1,5 +1,5 @@
 //! Reads tokens by recursive descent.
-ghost use Rattle.std.specs.Prelude.{◌≡◌, ◌<◌, ◌≤◌, ◌+◌, length, IfOk};
+ghost use Rattle.std.specs.Prelude.{◌≡◌, ◌<◌, ◌≤◌, ◌+◌, ◌∷◌, length, IfOk};
 ghost use Rattle.js_tree.specs.Views.{plain_expr};
 ghost use Rattle.js_grammar.specs.Tokens.{step, is_const};
 ghost use Rattle.js_parser.specs.First.{at_first};
@@ -9,8 +9,9 @@ ghost use Rattle.js_steps.specs.Seen.{seen};
 ghost use Rattle.js_steps.specs.Parsed.{IsExpr, IsExprs, IsPerhaps, IsField, IsFields, IsDeclarator, IsDeclarators, IsStart, IsStmt, IsStmts, IsTurn};
 
 use js_grammar::Sort;
+use js_lexer::Kind;
 use js_steps::build;
-use js_steps::cursor::{begins, is_sort, key_of, line_at, member, name, next, no_tree, number, skip, spot_of, words};
+use js_steps::cursor::{begins, is_sort, key_of, line_at, member, name, next, no_tree, skip, spot_of, words};
 use js_steps::ends::{end_behind, ending_of, is_return_end};
 use js_steps::names::{arrow_header, opening_of};
 use js_steps::parts;
@@ -21,6 +22,43 @@ use js_steps::{Lexeme, Stop};
 use js_tree::{DeclareKind, Ending, Fix, Name};
 use std::alloc::Global;
 
+/// A number.
+#[tactic(auto, using(crate::proofs::Using::numbered_is))]
+fn number_at<'a>(tokens: &'a [Lexeme]) -> Result<ReadExpr<'a>, Stop>
+    ensures read { IsExpr (at_first (primary_at 0 (readers 0) Sort.Number) (seen tokens.now)) result }
+    ensures depth { IfOk result (λ found. found.depth ≡ 1) }
+    ensures shorter { IfOk result (λ found. length found.rest.now < length tokens.now) }
+{
+    let Some((token, rest)) = next(tokens) else {
+        return Err(no_tree(tokens));
+    };
+    match &token.token.kind {
+        Kind::Number(n) => Ok(build::number(token.token.line, *n, rest)),
+        _ => Err(no_tree(tokens)),
+    }
+}
+
+/// The content of a text literal.
+fn words_at<'a>(tokens: &'a [Lexeme]) -> Result<ReadExpr<'a>, Stop>
+    ensures read { IsExpr (at_first (primary_at 0 (readers 0) Sort.Words) (seen tokens.now)) result }
+    ensures depth { IfOk result (λ found. found.depth ≡ 1) }
+    ensures shorter { IfOk result (λ found. length found.rest.now < length tokens.now) }
+{
+    let line = line_at(tokens);
+    let (text, rest) = words(tokens)?;
+    Ok(build::words(line, text, rest))
+}
+
+/// A name that is used.
+fn name_at<'a>(tokens: &'a [Lexeme]) -> Result<ReadExpr<'a>, Stop>
+    ensures read { IsExpr (at_first (primary_at 0 (readers 0) Sort.Name) (seen tokens.now)) result }
+    ensures depth { IfOk result (λ found. found.depth ≡ 1) }
+    ensures shorter { IfOk result (λ found. length found.rest.now < length tokens.now) }
+{
+    let line = line_at(tokens);
+    let (name, rest) = name(tokens)?;
+    Ok(build::use_of(line, name, rest))
+}
 fn is_constant(kind: DeclareKind) -> bool
     ensures { result ≡ is_const kind }
 {
@@ -179,18 +217,9 @@ pub fn primary_of<'a>(alloc: Global, tokens: &'a [Lexeme], inner: u32) -> Result
         return Err(no_tree(tokens));
     };
     match token.sort {
-        Sort::Number => {
-            let (n, rest) = number(tokens)?;
-            Ok(build::number(token.token.line, n, rest))
-        }
-        Sort::Words => {
-            let (text, rest) = words(tokens)?;
-            Ok(build::words(token.token.line, text, rest))
-        }
-        Sort::Name => {
-            let (name, rest) = name(tokens)?;
-            Ok(build::use_of(token.token.line, name, rest))
-        }
+        Sort::Number => number_at(tokens),
+        Sort::Words => words_at(tokens),
+        Sort::Name => name_at(tokens),
         Sort::True => Ok(build::truth(token.token.line, true, rest)),
         Sort::False => Ok(build::truth(token.token.line, false, rest)),
         Sort::Null => Ok(build::null(token.token.line, rest)),
@@ -701,7 +730,7 @@ pub fn three_of<'a>(alloc: Global, line: u32, tokens: &'a [Lexeme], inner: u32) 
 #[tactic(auto, using(crate::proofs::Using::after_none))]
 pub fn each_of<'a>(alloc: Global, line: u32, kind: DeclareKind, name: Name, tokens: &'a [Lexeme], inner: u32) -> Result<ReadStmt<'a>, Stop>
     requires { inner < 200 }
-    ensures read { IsStmt (each_at inner (readers inner) line kind name.entry (seen tokens.now)) result }
+    ensures read { IsStmt (each_at inner (readers inner) line kind name (seen tokens.now)) result }
     ensures within { IfOk result (λ found. found.depth ≤ inner + 1) }
     ensures shorter { IfOk result (λ found. length found.rest.now < length tokens.now) }
 {

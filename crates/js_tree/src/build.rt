@@ -4,7 +4,7 @@ ghost use Rattle.js_tree.specs.Plain.{at, list, binary, exprs_of, on, declaratio
 ghost use Rattle.js_tree.specs.Views.{plain_expr, plain_stmt, plain_declarator, plain_start, perhaps};
 ghost use Rattle.std.specs.Prelude.{option_map};
 
-use crate::{DeclareKind, Declarator, Expr, Form, Operator, Start, Stmt, StmtForm};
+use crate::{Declarator, DeclareKind, Expr, Form, Operator, Start, Stmt, StmtForm};
 use std::alloc::{AllocError, Global};
 
 /// A list.
