@@ -75,7 +75,15 @@ pub fn number(line: u32, n: Whole, rest: &[Lexeme]) -> ReadExpr<'_>
     ensures tree { plain_expr result.tree ≡ at 0 line (p.number n) }
     ensures rest { result.rest.now ≡ rest.now }
 {
-    ReadExpr { tree: Expr { parens: 0, line, form: Form::Number(n) }, depth: 1, rest }
+    ReadExpr {
+        tree: Expr {
+            parens: 0,
+            line,
+            form: Form::Number(n),
+        },
+        depth: 1,
+        rest,
+    }
 }
 
 /// The content of a text literal.
@@ -83,7 +91,15 @@ pub fn words(line: u32, text: Text, rest: &[Lexeme]) -> ReadExpr<'_>
     ensures tree { plain_expr result.tree ≡ at 0 line (p.words text) }
     ensures rest { result.rest.now ≡ rest.now }
 {
-    ReadExpr { tree: Expr { parens: 0, line, form: Form::Words(text) }, depth: 1, rest }
+    ReadExpr {
+        tree: Expr {
+            parens: 0,
+            line,
+            form: Form::Words(text),
+        },
+        depth: 1,
+        rest,
+    }
 }
 
 /// `true` or `false`.
@@ -91,7 +107,15 @@ pub fn truth(line: u32, value: bool, rest: &[Lexeme]) -> ReadExpr<'_>
     ensures tree { plain_expr result.tree ≡ at 0 line (p.truth value) }
     ensures rest { result.rest.now ≡ rest.now }
 {
-    ReadExpr { tree: Expr { parens: 0, line, form: Form::Truth(value) }, depth: 1, rest }
+    ReadExpr {
+        tree: Expr {
+            parens: 0,
+            line,
+            form: Form::Truth(value),
+        },
+        depth: 1,
+        rest,
+    }
 }
 
 /// `null`.
@@ -99,7 +123,15 @@ pub fn null(line: u32, rest: &[Lexeme]) -> ReadExpr<'_>
     ensures tree { plain_expr result.tree ≡ at 0 line p.null }
     ensures rest { result.rest.now ≡ rest.now }
 {
-    ReadExpr { tree: Expr { parens: 0, line, form: Form::Null }, depth: 1, rest }
+    ReadExpr {
+        tree: Expr {
+            parens: 0,
+            line,
+            form: Form::Null,
+        },
+        depth: 1,
+        rest,
+    }
 }
 
 /// A name that is used.
@@ -107,7 +139,15 @@ pub fn use_of(line: u32, name: Name, rest: &[Lexeme]) -> ReadExpr<'_>
     ensures tree { plain_expr result.tree ≡ at 0 line (p.use_of name) }
     ensures rest { result.rest.now ≡ rest.now }
 {
-    ReadExpr { tree: Expr { parens: 0, line, form: Form::Use(name) }, depth: 1, rest }
+    ReadExpr {
+        tree: Expr {
+            parens: 0,
+            line,
+            form: Form::Use(name),
+        },
+        depth: 1,
+        rest,
+    }
 }
 
 /// One more pair of parentheses.
@@ -116,8 +156,20 @@ pub fn in_parens<'a>(found: ReadExpr<'_>, rest: &'a [Lexeme]) -> ReadExpr<'a>
     ensures tree { plain_expr result.tree ≡ one_more (plain_expr found.entry.tree) }
     ensures rest { result.rest.now ≡ rest.now }
 {
-    let ReadExpr { tree: Expr { parens, line, form }, depth, rest: _ } = found;
-    ReadExpr { tree: Expr { parens: parens + 1, line, form }, depth: depth + 1, rest }
+    let ReadExpr {
+        tree: Expr { parens, line, form },
+        depth,
+        rest: _,
+    } = found;
+    ReadExpr {
+        tree: Expr {
+            parens: parens + 1,
+            line,
+            form,
+        },
+        depth: depth + 1,
+        rest,
+    }
 }
 
 /// The same, with other tokens behind.
@@ -126,7 +178,11 @@ pub fn behind<'a>(found: ReadExpr<'_>, rest: &'a [Lexeme]) -> ReadExpr<'a>
     ensures depth { result.depth ≡ found.entry.depth }
     ensures rest { result.rest.now ≡ rest.now }
 {
-    let ReadExpr { tree, depth, rest: _ } = found;
+    let ReadExpr {
+        tree,
+        depth,
+        rest: _,
+    } = found;
     ReadExpr { tree, depth, rest }
 }
 
@@ -136,7 +192,15 @@ pub fn list_of(line: u32, found: ReadExprs<'_>) -> ReadExpr<'_>
     ensures tree { plain_expr result.tree ≡ at 0 line (p.list (exprs_of (map plain_expr found.entry.trees.items))) }
     ensures rest { result.rest.now ≡ found.entry.rest.now }
 {
-    ReadExpr { tree: Expr { parens: 0, line, form: Form::List(found.trees) }, depth: found.depth + 1, rest: found.rest }
+    ReadExpr {
+        tree: Expr {
+            parens: 0,
+            line,
+            form: Form::List(found.trees),
+        },
+        depth: found.depth + 1,
+        rest: found.rest,
+    }
 }
 
 /// Fields.
@@ -145,7 +209,15 @@ pub fn fields_in(line: u32, found: ReadFields<'_>) -> ReadExpr<'_>
     ensures tree { plain_expr result.tree ≡ at 0 line (p.fields (fields_of (map plain_field found.entry.trees.items))) }
     ensures rest { result.rest.now ≡ found.entry.rest.now }
 {
-    ReadExpr { tree: Expr { parens: 0, line, form: Form::Fields(found.trees) }, depth: found.depth + 1, rest: found.rest }
+    ReadExpr {
+        tree: Expr {
+            parens: 0,
+            line,
+            form: Form::Fields(found.trees),
+        },
+        depth: found.depth + 1,
+        rest: found.rest,
+    }
 }
 
 /// A function expression.
@@ -154,48 +226,110 @@ pub fn function_of<'a>(spot: Spot, names: Vec<Name>, found: ReadStmts<'a>) -> Re
     ensures tree { plain_expr result.tree ≡ at 0 spot.line (p.function spot names.items (stmts_of (map plain_stmt found.entry.trees.items))) }
     ensures rest { result.rest.now ≡ found.entry.rest.now }
 {
-    ReadExpr { tree: Expr { parens: 0, line: spot.line, form: Form::Function(spot, names, found.trees) }, depth: found.depth + 1, rest: found.rest }
+    ReadExpr {
+        tree: Expr {
+            parens: 0,
+            line: spot.line,
+            form: Form::Function(spot, names, found.trees),
+        },
+        depth: found.depth + 1,
+        rest: found.rest,
+    }
 }
 
 /// A member.
-pub fn member_of<'a>(alloc: Global, line: u32, left: ReadExpr<'_>, word: Text, rest: &'a [Lexeme]) -> Result<ReadExpr<'a>, Stop>
+pub fn member_of<'a>(
+    alloc: Global,
+    line: u32,
+    left: ReadExpr<'_>,
+    word: Text,
+    rest: &'a [Lexeme],
+) -> Result<ReadExpr<'a>, Stop>
     requires { left.depth ≤ 201 }
     ensures { IsMade (at 0 line (p.member (plain_expr left.entry.tree) word)) rest.now result }
 {
     let depth = object_depth(&left) + 1;
     let form = Form::Member(Box::new(alloc, left.tree)?, word);
-    Ok(ReadExpr { tree: Expr { parens: 0, line, form }, depth, rest })
+    Ok(ReadExpr {
+        tree: Expr {
+            parens: 0,
+            line,
+            form,
+        },
+        depth,
+        rest,
+    })
 }
 
 /// An element.
-pub fn index_of<'a>(alloc: Global, line: u32, left: ReadExpr<'_>, found: ReadExpr<'_>, rest: &'a [Lexeme]) -> Result<ReadExpr<'a>, Stop>
+pub fn index_of<'a>(
+    alloc: Global,
+    line: u32,
+    left: ReadExpr<'_>,
+    found: ReadExpr<'_>,
+    rest: &'a [Lexeme],
+) -> Result<ReadExpr<'a>, Stop>
     requires left { left.depth ≤ 200 }
     requires found { found.depth ≤ 200 }
     ensures { IsMade (at 0 line (p.index (plain_expr left.entry.tree) (plain_expr found.entry.tree))) rest.now result }
 {
     let depth = left.depth.max(found.depth) + 1;
     let form = Form::Index(Box::new(alloc, left.tree)?, Box::new(alloc, found.tree)?);
-    Ok(ReadExpr { tree: Expr { parens: 0, line, form }, depth, rest })
+    Ok(ReadExpr {
+        tree: Expr {
+            parens: 0,
+            line,
+            form,
+        },
+        depth,
+        rest,
+    })
 }
 
 /// A call.
-pub fn call_of<'a>(alloc: Global, line: u32, left: ReadExpr<'_>, found: ReadExprs<'a>) -> Result<ReadExpr<'a>, Stop>
+pub fn call_of<'a>(
+    alloc: Global,
+    line: u32,
+    left: ReadExpr<'_>,
+    found: ReadExprs<'a>,
+) -> Result<ReadExpr<'a>, Stop>
     requires left { left.depth ≤ 201 }
     requires found { found.depth ≤ 200 }
     ensures { IsMade (at 0 line (p.call (plain_expr left.entry.tree) (exprs_of (map plain_expr found.entry.trees.items)))) found.entry.rest.now result }
 {
     let depth = callee_depth(&left).max(found.depth) + 1;
     let form = Form::Call(Box::new(alloc, left.tree)?, found.trees);
-    Ok(ReadExpr { tree: Expr { parens: 0, line, form }, depth, rest: found.rest })
+    Ok(ReadExpr {
+        tree: Expr {
+            parens: 0,
+            line,
+            form,
+        },
+        depth,
+        rest: found.rest,
+    })
 }
 
 /// A unary operator and its operand.
-pub fn unary_of<'a>(alloc: Global, line: u32, sign: Sign, found: ReadExpr<'a>) -> Result<ReadExpr<'a>, Stop>
+pub fn unary_of<'a>(
+    alloc: Global,
+    line: u32,
+    sign: Sign,
+    found: ReadExpr<'a>,
+) -> Result<ReadExpr<'a>, Stop>
     requires { found.depth ≤ 200 }
     ensures { IsMade (at 0 line (p.unary sign (plain_expr found.entry.tree))) found.entry.rest.now result }
 {
     let form = Form::Unary(sign, Box::new(alloc, found.tree)?);
-    Ok(ReadExpr { tree: Expr { parens: 0, line, form }, depth: found.depth + 1, rest: found.rest })
+    Ok(ReadExpr {
+        tree: Expr {
+            parens: 0,
+            line,
+            form,
+        },
+        depth: found.depth + 1,
+        rest: found.rest,
+    })
 }
 
 /// `++` or `--` at a name.
@@ -203,48 +337,119 @@ pub fn update_of(line: u32, step: Step, fix: Fix, name: Name, rest: &[Lexeme]) -
     ensures tree { plain_expr result.tree ≡ at 0 line (p.update step fix name) }
     ensures rest { result.rest.now ≡ rest.now }
 {
-    ReadExpr { tree: Expr { parens: 0, line, form: Form::Update(step, fix, name) }, depth: 1, rest }
+    ReadExpr {
+        tree: Expr {
+            parens: 0,
+            line,
+            form: Form::Update(step, fix, name),
+        },
+        depth: 1,
+        rest,
+    }
 }
 
 /// A binary operator and its operands.
-pub fn binary_of<'a>(alloc: Global, line: u32, operator: Operator, left: ReadExpr<'_>, right: ReadExpr<'a>) -> Result<ReadExpr<'a>, Stop>
+pub fn binary_of<'a>(
+    alloc: Global,
+    line: u32,
+    operator: Operator,
+    left: ReadExpr<'_>,
+    right: ReadExpr<'a>,
+) -> Result<ReadExpr<'a>, Stop>
     requires left { left.depth ≤ 200 }
     requires right { right.depth ≤ 200 }
     ensures { IsMade (at 0 line (p.binary operator (plain_expr left.entry.tree) (plain_expr right.entry.tree))) right.entry.rest.now result }
 {
     let depth = left.depth.max(right.depth) + 1;
-    let form = Form::Binary(operator, Box::new(alloc, left.tree)?, Box::new(alloc, right.tree)?);
-    Ok(ReadExpr { tree: Expr { parens: 0, line, form }, depth, rest: right.rest })
+    let form = Form::Binary(
+        operator,
+        Box::new(alloc, left.tree)?,
+        Box::new(alloc, right.tree)?,
+    );
+    Ok(ReadExpr {
+        tree: Expr {
+            parens: 0,
+            line,
+            form,
+        },
+        depth,
+        rest: right.rest,
+    })
 }
 
 /// A test and its branches.
-pub fn conditional_of<'a>(alloc: Global, line: u32, test: ReadExpr<'_>, first: ReadExpr<'_>, second: ReadExpr<'a>) -> Result<ReadExpr<'a>, Stop>
+pub fn conditional_of<'a>(
+    alloc: Global,
+    line: u32,
+    test: ReadExpr<'_>,
+    first: ReadExpr<'_>,
+    second: ReadExpr<'a>,
+) -> Result<ReadExpr<'a>, Stop>
     requires test { test.depth ≤ 200 }
     requires first { first.depth ≤ 200 }
     requires second { second.depth ≤ 200 }
     ensures { IsMade (at 0 line (p.conditional (plain_expr test.entry.tree) (plain_expr first.entry.tree) (plain_expr second.entry.tree))) second.entry.rest.now result }
 {
     let depth = test.depth.max(first.depth.max(second.depth)) + 1;
-    let form = Form::Conditional(Box::new(alloc, test.tree)?, Box::new(alloc, first.tree)?, Box::new(alloc, second.tree)?);
-    Ok(ReadExpr { tree: Expr { parens: 0, line, form }, depth, rest: second.rest })
+    let form = Form::Conditional(
+        Box::new(alloc, test.tree)?,
+        Box::new(alloc, first.tree)?,
+        Box::new(alloc, second.tree)?,
+    );
+    Ok(ReadExpr {
+        tree: Expr {
+            parens: 0,
+            line,
+            form,
+        },
+        depth,
+        rest: second.rest,
+    })
 }
 
 /// An assignment.
-pub fn assign_of<'a>(alloc: Global, operator: AssignOp, name: Name, line: u32, found: ReadExpr<'a>) -> Result<ReadExpr<'a>, Stop>
+pub fn assign_of<'a>(
+    alloc: Global,
+    operator: AssignOp,
+    name: Name,
+    line: u32,
+    found: ReadExpr<'a>,
+) -> Result<ReadExpr<'a>, Stop>
     requires { found.depth ≤ 200 }
     ensures { IsMade (at 0 line (p.assign operator name (plain_expr found.entry.tree))) found.entry.rest.now result }
 {
     let form = Form::Assign(operator, name, Box::new(alloc, found.tree)?);
-    Ok(ReadExpr { tree: Expr { parens: 0, line, form }, depth: found.depth + 1, rest: found.rest })
+    Ok(ReadExpr {
+        tree: Expr {
+            parens: 0,
+            line,
+            form,
+        },
+        depth: found.depth + 1,
+        rest: found.rest,
+    })
 }
 
 /// An arrow function of a value.
-pub fn arrow_value_of<'a>(alloc: Global, spot: Spot, names: Vec<Name>, found: ReadExpr<'a>) -> Result<ReadExpr<'a>, Stop>
+pub fn arrow_value_of<'a>(
+    alloc: Global,
+    spot: Spot,
+    names: Vec<Name>,
+    found: ReadExpr<'a>,
+) -> Result<ReadExpr<'a>, Stop>
     requires { found.depth ≤ 200 }
     ensures { IsMade (at 0 spot.line (p.arrow_value spot names.items (plain_expr found.entry.tree))) found.entry.rest.now result }
 {
     let form = Form::ArrowValue(spot, names, Box::new(alloc, found.tree)?);
-    Ok(ReadExpr { tree: Expr { parens: 0, line: spot.line, form }, depth: found.depth + 1, rest: found.rest })
+    Ok(ReadExpr {
+        tree: Expr {
+            parens: 0,
+            line: spot.line,
+            form,
+        },
+        depth: found.depth + 1,
+        rest: found.rest,
+    })
 }
 
 /// An arrow function of a block.
@@ -253,7 +458,15 @@ pub fn arrow_block_of<'a>(spot: Spot, names: Vec<Name>, found: ReadStmts<'a>) ->
     ensures tree { plain_expr result.tree ≡ at 0 spot.line (p.arrow_block spot names.items (stmts_of (map plain_stmt found.entry.trees.items))) }
     ensures rest { result.rest.now ≡ found.entry.rest.now }
 {
-    ReadExpr { tree: Expr { parens: 0, line: spot.line, form: Form::ArrowBlock(spot, names, found.trees) }, depth: found.depth + 1, rest: found.rest }
+    ReadExpr {
+        tree: Expr {
+            parens: 0,
+            line: spot.line,
+            form: Form::ArrowBlock(spot, names, found.trees),
+        },
+        depth: found.depth + 1,
+        rest: found.rest,
+    }
 }
 
 /// No expressions.
@@ -262,7 +475,11 @@ pub fn no_exprs(alloc: Global, rest: &[Lexeme]) -> ReadExprs<'_>
     ensures depth { result.depth ≡ 0 }
     ensures rest { result.rest.now ≡ rest.now }
 {
-    ReadExprs { trees: Vec::new(alloc), depth: 0, rest }
+    ReadExprs {
+        trees: Vec::new(alloc),
+        depth: 0,
+        rest,
+    }
 }
 
 /// One more expression.
@@ -271,9 +488,17 @@ pub fn add<'a>(all: ReadExprs<'_>, found: ReadExpr<'a>) -> Result<ReadExprs<'a>,
     ensures added { Added all.entry.trees.items found.entry result }
     ensures depth { IfOk result (λ r. r.depth ≡ max all.entry.depth found.entry.depth) }
 {
-    let ReadExprs { mut trees, depth, rest: _ } = all;
+    let ReadExprs {
+        mut trees,
+        depth,
+        rest: _,
+    } = all;
     trees.push(found.tree)?;
-    Ok(ReadExprs { trees, depth: depth.max(found.depth), rest: found.rest })
+    Ok(ReadExprs {
+        trees,
+        depth: depth.max(found.depth),
+        rest: found.rest,
+    })
 }
 
 /// The same, with other tokens behind.
@@ -282,6 +507,10 @@ pub fn behind_exprs<'a>(found: ReadExprs<'_>, rest: &'a [Lexeme]) -> ReadExprs<'
     ensures depth { result.depth ≡ found.entry.depth }
     ensures rest { result.rest.now ≡ rest.now }
 {
-    let ReadExprs { trees, depth, rest: _ } = found;
+    let ReadExprs {
+        trees,
+        depth,
+        rest: _,
+    } = found;
     ReadExprs { trees, depth, rest }
 }

@@ -77,7 +77,10 @@ pub fn begins(tokens: &[Lexeme], sort: Sort) -> bool
 pub fn spot_of(token: &Token) -> Spot
     ensures { result ≡ place token.now }
 {
-    Spot { at: token.from, line: token.line }
+    Spot {
+        at: token.from,
+        line: token.line,
+    }
 }
 
 /// A name, and the tokens behind it.
@@ -89,7 +92,13 @@ pub fn name<'a>(tokens: &'a [Lexeme]) -> Result<(Name, &'a [Lexeme]), Stop>
         return Err(no_tree(tokens));
     };
     match &token.token.kind {
-        Kind::Name(text) => Ok((Name { text: text.copy()?, spot: spot_of(&token.token) }, rest)),
+        Kind::Name(text) => Ok((
+            Name {
+                text: text.copy()?,
+                spot: spot_of(&token.token),
+            },
+            rest,
+        )),
         _ => Err(no_tree(tokens)),
     }
 }

@@ -8,8 +8,8 @@ mod lexeme;
 pub mod names;
 pub mod parts;
 pub mod peek;
-mod sorting;
 pub mod read;
+mod sorting;
 pub mod statements;
 mod stop;
 

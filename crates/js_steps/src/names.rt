@@ -50,7 +50,10 @@ fn arrow_after<'a>(found: ReadNames<'a>) -> Result<ReadNames<'a>, Stop>
         return Err(no_tree(found.rest));
     }
     let rest = skip(found.rest, Sort::Arrow)?;
-    Ok(ReadNames { names: found.names, rest })
+    Ok(ReadNames {
+        names: found.names,
+        rest,
+    })
 }
 
 /// The parameters of an arrow function, and `=>`.
@@ -63,7 +66,10 @@ pub fn arrow_header<'a>(alloc: Global, tokens: &'a [Lexeme]) -> Result<ReadNames
         return arrow_after(parameters(alloc, rest)?);
     }
     let (x, rest) = name(tokens)?;
-    arrow_after(ReadNames { names: one_name(alloc, x)?, rest })
+    arrow_after(ReadNames {
+        names: one_name(alloc, x)?,
+        rest,
+    })
 }
 
 /// The parameters of a function, and `{`.
@@ -74,5 +80,8 @@ pub fn opening_of<'a>(alloc: Global, tokens: &'a [Lexeme]) -> Result<ReadNames<'
     let rest = skip(tokens, Sort::LeftParen)?;
     let found = parameters(alloc, rest)?;
     let rest = skip(found.rest, Sort::LeftBrace)?;
-    Ok(ReadNames { names: found.names, rest })
+    Ok(ReadNames {
+        names: found.names,
+        rest,
+    })
 }

@@ -9,10 +9,12 @@ ghost use Rattle.js_steps.specs.Seen.{seen};
 ghost use Rattle.js_steps.specs.Parsed.{IsMadeField, AddedField, AddedDeclarator};
 
 use crate::ends::ending_of;
-use crate::read::{ReadDeclarator, ReadDeclarators, ReadExpr, ReadField, ReadFields, ReadPerhaps, ReadStart};
+use crate::read::{
+    ReadDeclarator, ReadDeclarators, ReadExpr, ReadField, ReadFields, ReadPerhaps, ReadStart,
+};
 use crate::{Lexeme, Stop};
 use js_data::Text;
-use js_tree::{DeclareKind, Declarator, Ending, Expr, Field, Form, Name, Start};
+use js_tree::{Declarator, DeclareKind, Ending, Expr, Field, Form, Name, Start};
 use std::alloc::Global;
 
 /// The place behind the last token before the rest.
@@ -32,7 +34,14 @@ pub fn pair_of(key: Text, found: ReadExpr<'_>) -> ReadField<'_>
     ensures depth { result.depth ≡ found.entry.depth }
     ensures rest { result.rest.now ≡ found.entry.rest.now }
 {
-    ReadField { tree: Field { key, value: found.tree }, depth: found.depth, rest: found.rest }
+    ReadField {
+        tree: Field {
+            key,
+            value: found.tree,
+        },
+        depth: found.depth,
+        rest: found.rest,
+    }
 }
 
 /// A name alone, which is its own key.
@@ -41,7 +50,18 @@ pub fn field_alone(line: u32, name: Name, rest: &[Lexeme]) -> Result<ReadField<'
     ensures depth { IfOk result (λ r. r.depth ≡ 1) }
 {
     let key = name.text.copy()?;
-    Ok(ReadField { tree: Field { key, value: Expr { parens: 0, line, form: Form::Use(name) } }, depth: 1, rest })
+    Ok(ReadField {
+        tree: Field {
+            key,
+            value: Expr {
+                parens: 0,
+                line,
+                form: Form::Use(name),
+            },
+        },
+        depth: 1,
+        rest,
+    })
 }
 
 /// No fields.
@@ -50,7 +70,11 @@ pub fn no_fields(alloc: Global, rest: &[Lexeme]) -> ReadFields<'_>
     ensures depth { result.depth ≡ 0 }
     ensures rest { result.rest.now ≡ rest.now }
 {
-    ReadFields { trees: Vec::new(alloc), depth: 0, rest }
+    ReadFields {
+        trees: Vec::new(alloc),
+        depth: 0,
+        rest,
+    }
 }
 
 /// One more field.
@@ -59,9 +83,17 @@ pub fn add_field<'a>(all: ReadFields<'_>, found: ReadField<'a>) -> Result<ReadFi
     ensures added { AddedField all.entry.trees.items found.entry result }
     ensures depth { IfOk result (λ r. r.depth ≡ max all.entry.depth found.entry.depth) }
 {
-    let ReadFields { mut trees, depth, rest: _ } = all;
+    let ReadFields {
+        mut trees,
+        depth,
+        rest: _,
+    } = all;
     trees.push(found.tree)?;
-    Ok(ReadFields { trees, depth: depth.max(found.depth), rest: found.rest })
+    Ok(ReadFields {
+        trees,
+        depth: depth.max(found.depth),
+        rest: found.rest,
+    })
 }
 
 /// The same, with other tokens behind.
@@ -70,7 +102,11 @@ pub fn behind_fields<'a>(found: ReadFields<'_>, rest: &'a [Lexeme]) -> ReadField
     ensures depth { result.depth ≡ found.entry.depth }
     ensures rest { result.rest.now ≡ rest.now }
 {
-    let ReadFields { trees, depth, rest: _ } = found;
+    let ReadFields {
+        trees,
+        depth,
+        rest: _,
+    } = found;
     ReadFields { trees, depth, rest }
 }
 
@@ -81,7 +117,16 @@ pub fn declarator_of(name: Name, end: u32, found: ReadExpr<'_>) -> ReadDeclarato
     ensures rest { result.rest.now ≡ found.entry.rest.now }
 {
     let ending = ending_of(&found.tree);
-    ReadDeclarator { tree: Declarator { name, value: Some(found.tree), end }, depth: found.depth, ending, rest: found.rest }
+    ReadDeclarator {
+        tree: Declarator {
+            name,
+            value: Some(found.tree),
+            end,
+        },
+        depth: found.depth,
+        ending,
+        rest: found.rest,
+    }
 }
 
 /// A declared name without a value.
@@ -90,7 +135,16 @@ pub fn declarator_alone(name: Name, end: u32, rest: &[Lexeme]) -> ReadDeclarator
     ensures depth { result.depth ≡ 0 }
     ensures rest { result.rest.now ≡ rest.now }
 {
-    ReadDeclarator { tree: Declarator { name, value: None, end }, depth: 0, ending: Ending::Closed, rest }
+    ReadDeclarator {
+        tree: Declarator {
+            name,
+            value: None,
+            end,
+        },
+        depth: 0,
+        ending: Ending::Closed,
+        rest,
+    }
 }
 
 /// No declarators.
@@ -99,18 +153,36 @@ pub fn no_declarators(alloc: Global, rest: &[Lexeme]) -> ReadDeclarators<'_>
     ensures depth { result.depth ≡ 0 }
     ensures rest { result.rest.now ≡ rest.now }
 {
-    ReadDeclarators { trees: Vec::new(alloc), depth: 0, ending: Ending::Closed, rest }
+    ReadDeclarators {
+        trees: Vec::new(alloc),
+        depth: 0,
+        ending: Ending::Closed,
+        rest,
+    }
 }
 
 /// One more declarator.
 #[tactic(auto, using(crate::proofs::Rows::map_push_declarator, crate::proofs::Rows::deepest_push_declarator, crate::proofs::Rows::ending_push))]
-pub fn add_declarator<'a>(all: ReadDeclarators<'_>, found: ReadDeclarator<'a>) -> Result<ReadDeclarators<'a>, Stop>
+pub fn add_declarator<'a>(
+    all: ReadDeclarators<'_>,
+    found: ReadDeclarator<'a>,
+) -> Result<ReadDeclarators<'a>, Stop>
     ensures added { AddedDeclarator all.entry.trees.items found.entry result }
     ensures depth { IfOk result (λ r. r.depth ≡ max all.entry.depth found.entry.depth) }
 {
-    let ReadDeclarators { mut trees, depth, ending: _, rest: _ } = all;
+    let ReadDeclarators {
+        mut trees,
+        depth,
+        ending: _,
+        rest: _,
+    } = all;
     trees.push(found.tree)?;
-    Ok(ReadDeclarators { trees, depth: depth.max(found.depth), ending: found.ending, rest: found.rest })
+    Ok(ReadDeclarators {
+        trees,
+        depth: depth.max(found.depth),
+        ending: found.ending,
+        rest: found.rest,
+    })
 }
 
 /// The same, with other tokens behind.
@@ -119,8 +191,18 @@ pub fn behind_declarators<'a>(found: ReadDeclarators<'_>, rest: &'a [Lexeme]) ->
     ensures depth { result.depth ≡ found.entry.depth }
     ensures rest { result.rest.now ≡ rest.now }
 {
-    let ReadDeclarators { trees, depth, ending, rest: _ } = found;
-    ReadDeclarators { trees, depth, ending, rest }
+    let ReadDeclarators {
+        trees,
+        depth,
+        ending,
+        rest: _,
+    } = found;
+    ReadDeclarators {
+        trees,
+        depth,
+        ending,
+        rest,
+    }
 }
 
 /// A `for` begins with nothing.
@@ -129,7 +211,11 @@ pub fn start_nothing(rest: &[Lexeme]) -> ReadStart<'_>
     ensures depth { result.depth ≡ 0 }
     ensures rest { result.rest.now ≡ rest.now }
 {
-    ReadStart { tree: Start::Nothing, depth: 0, rest }
+    ReadStart {
+        tree: Start::Nothing,
+        depth: 0,
+        rest,
+    }
 }
 
 /// A `for` begins with a declaration.
@@ -139,7 +225,11 @@ pub fn start_declares(line: u32, kind: DeclareKind, found: ReadDeclarators<'_>) 
     ensures depth { result.depth ≡ found.entry.depth + 1 }
     ensures rest { result.rest.now ≡ found.entry.rest.now }
 {
-    ReadStart { tree: Start::Declares(line, kind, found.trees), depth: found.depth + 1, rest: found.rest }
+    ReadStart {
+        tree: Start::Declares(line, kind, found.trees),
+        depth: found.depth + 1,
+        rest: found.rest,
+    }
 }
 
 /// A `for` begins with an expression.
@@ -148,7 +238,11 @@ pub fn start_value(found: ReadExpr<'_>) -> ReadStart<'_>
     ensures depth { result.depth ≡ found.entry.depth }
     ensures rest { result.rest.now ≡ found.entry.rest.now }
 {
-    ReadStart { tree: Start::Evaluates(found.tree), depth: found.depth, rest: found.rest }
+    ReadStart {
+        tree: Start::Evaluates(found.tree),
+        depth: found.depth,
+        rest: found.rest,
+    }
 }
 
 /// No expression.
@@ -157,7 +251,11 @@ pub fn none_of(rest: &[Lexeme]) -> ReadPerhaps<'_>
     ensures depth { result.depth ≡ 0 }
     ensures rest { result.rest.now ≡ rest.now }
 {
-    ReadPerhaps { tree: None, depth: 0, rest }
+    ReadPerhaps {
+        tree: None,
+        depth: 0,
+        rest,
+    }
 }
 
 /// An expression that may be absent, and is not.
@@ -166,5 +264,9 @@ pub fn some_of(found: ReadExpr<'_>) -> ReadPerhaps<'_>
     ensures depth { result.depth ≡ found.entry.depth }
     ensures rest { result.rest.now ≡ found.entry.rest.now }
 {
-    ReadPerhaps { tree: Some(found.tree), depth: found.depth, rest: found.rest }
+    ReadPerhaps {
+        tree: Some(found.tree),
+        depth: found.depth,
+        rest: found.rest,
+    }
 }

@@ -63,7 +63,11 @@ pub fn operator_in(wanted: u8, token: &Lexeme) -> Option<Operator>
     ensures { result ≡ operator_at wanted token.now.token }
 {
     let found = operator_of(token.sort)?;
-    if level(found) == wanted { Some(found) } else { None }
+    if level(found) == wanted {
+        Some(found)
+    } else {
+        None
+    }
 }
 
 /// The unary operator that a mark is.

@@ -5,7 +5,9 @@ ghost use Rattle.js_tree.specs.Plain.{on, declarators_of, stmts_of};
 ghost use Rattle.js_tree.specs.Views.{plain_expr, plain_declarator, plain_start, plain_stmt, plain_item, perhaps};
 ghost use Rattle.js_steps.specs.Parsed.{IsMadeStmt, AddedStmt};
 
-use crate::read::{ReadDeclarators, ReadExpr, ReadItem, ReadPerhaps, ReadStart, ReadStmt, ReadStmts};
+use crate::read::{
+    ReadDeclarators, ReadExpr, ReadItem, ReadPerhaps, ReadStart, ReadStmt, ReadStmts,
+};
 use crate::{Lexeme, Stop};
 use js_tree::{DeclareKind, Item, Name, Spot, Stmt, StmtForm};
 use std::alloc::Global;
@@ -16,7 +18,11 @@ pub fn no_stmts(alloc: Global, rest: &[Lexeme]) -> ReadStmts<'_>
     ensures depth { result.depth ≡ 0 }
     ensures rest { result.rest.now ≡ rest.now }
 {
-    ReadStmts { trees: Vec::new(alloc), depth: 0, rest }
+    ReadStmts {
+        trees: Vec::new(alloc),
+        depth: 0,
+        rest,
+    }
 }
 
 /// One more statement.
@@ -25,9 +31,17 @@ pub fn add_stmt<'a>(all: ReadStmts<'_>, found: ReadStmt<'a>) -> Result<ReadStmts
     ensures added { AddedStmt all.entry.trees.items found.entry result }
     ensures depth { IfOk result (λ r. r.depth ≡ max all.entry.depth found.entry.depth) }
 {
-    let ReadStmts { mut trees, depth, rest: _ } = all;
+    let ReadStmts {
+        mut trees,
+        depth,
+        rest: _,
+    } = all;
     trees.push(found.tree)?;
-    Ok(ReadStmts { trees, depth: depth.max(found.depth), rest: found.rest })
+    Ok(ReadStmts {
+        trees,
+        depth: depth.max(found.depth),
+        rest: found.rest,
+    })
 }
 
 /// The same, with other tokens behind.
@@ -36,7 +50,11 @@ pub fn behind_stmts<'a>(found: ReadStmts<'_>, rest: &'a [Lexeme]) -> ReadStmts<'
     ensures depth { result.depth ≡ found.entry.depth }
     ensures rest { result.rest.now ≡ rest.now }
 {
-    let ReadStmts { trees, depth, rest: _ } = found;
+    let ReadStmts {
+        trees,
+        depth,
+        rest: _,
+    } = found;
     ReadStmts { trees, depth, rest }
 }
 
@@ -46,7 +64,14 @@ pub fn empty_of(line: u32, rest: &[Lexeme]) -> ReadStmt<'_>
     ensures depth { result.depth ≡ 1 }
     ensures rest { result.rest.now ≡ rest.now }
 {
-    ReadStmt { tree: Stmt { line, form: StmtForm::Empty }, depth: 1, rest }
+    ReadStmt {
+        tree: Stmt {
+            line,
+            form: StmtForm::Empty,
+        },
+        depth: 1,
+        rest,
+    }
 }
 
 /// A block.
@@ -56,17 +81,36 @@ pub fn block_of(line: u32, found: ReadStmts<'_>) -> ReadStmt<'_>
     ensures depth { result.depth ≡ found.entry.depth + 1 }
     ensures rest { result.rest.now ≡ found.entry.rest.now }
 {
-    ReadStmt { tree: Stmt { line, form: StmtForm::Block(found.trees) }, depth: found.depth + 1, rest: found.rest }
+    ReadStmt {
+        tree: Stmt {
+            line,
+            form: StmtForm::Block(found.trees),
+        },
+        depth: found.depth + 1,
+        rest: found.rest,
+    }
 }
 
 /// A declaration.
-pub fn declaration_of<'a>(line: u32, kind: DeclareKind, found: ReadDeclarators<'_>, rest: &'a [Lexeme]) -> ReadStmt<'a>
+pub fn declaration_of<'a>(
+    line: u32,
+    kind: DeclareKind,
+    found: ReadDeclarators<'_>,
+    rest: &'a [Lexeme],
+) -> ReadStmt<'a>
     requires { found.depth ≤ 200 }
     ensures tree { plain_stmt result.tree ≡ on line (p.declaration kind (declarators_of (map plain_declarator found.entry.trees.items))) }
     ensures depth { result.depth ≡ found.entry.depth + 1 }
     ensures rest { result.rest.now ≡ rest.now }
 {
-    ReadStmt { tree: Stmt { line, form: StmtForm::Declaration(kind, found.trees) }, depth: found.depth + 1, rest }
+    ReadStmt {
+        tree: Stmt {
+            line,
+            form: StmtForm::Declaration(kind, found.trees),
+        },
+        depth: found.depth + 1,
+        rest,
+    }
 }
 
 /// An expression as a statement.
@@ -76,11 +120,23 @@ pub fn expression_of<'a>(line: u32, found: ReadExpr<'_>, rest: &'a [Lexeme]) -> 
     ensures depth { result.depth ≡ found.entry.depth + 1 }
     ensures rest { result.rest.now ≡ rest.now }
 {
-    ReadStmt { tree: Stmt { line, form: StmtForm::Expression(found.tree) }, depth: found.depth + 1, rest }
+    ReadStmt {
+        tree: Stmt {
+            line,
+            form: StmtForm::Expression(found.tree),
+        },
+        depth: found.depth + 1,
+        rest,
+    }
 }
 
 /// A condition.
-pub fn if_of<'a>(alloc: Global, line: u32, test: ReadExpr<'_>, body: ReadStmt<'a>) -> Result<ReadStmt<'a>, Stop>
+pub fn if_of<'a>(
+    alloc: Global,
+    line: u32,
+    test: ReadExpr<'_>,
+    body: ReadStmt<'a>,
+) -> Result<ReadStmt<'a>, Stop>
     requires test { test.depth ≤ 200 }
     requires body { body.depth ≤ 200 }
     ensures made { IsMadeStmt (on line (p.if_alone (plain_expr test.entry.tree) (plain_stmt body.entry.tree))) body.entry.rest.now result }
@@ -88,11 +144,21 @@ pub fn if_of<'a>(alloc: Global, line: u32, test: ReadExpr<'_>, body: ReadStmt<'a
 {
     let depth = test.depth.max(body.depth) + 1;
     let form = StmtForm::If(test.tree, Box::new(alloc, body.tree)?);
-    Ok(ReadStmt { tree: Stmt { line, form }, depth, rest: body.rest })
+    Ok(ReadStmt {
+        tree: Stmt { line, form },
+        depth,
+        rest: body.rest,
+    })
 }
 
 /// A condition with an `else`.
-pub fn if_else_of<'a>(alloc: Global, line: u32, test: ReadExpr<'_>, body: ReadStmt<'_>, other: ReadStmt<'a>) -> Result<ReadStmt<'a>, Stop>
+pub fn if_else_of<'a>(
+    alloc: Global,
+    line: u32,
+    test: ReadExpr<'_>,
+    body: ReadStmt<'_>,
+    other: ReadStmt<'a>,
+) -> Result<ReadStmt<'a>, Stop>
     requires test { test.depth ≤ 200 }
     requires body { body.depth ≤ 200 }
     requires other { other.depth ≤ 200 }
@@ -100,12 +166,25 @@ pub fn if_else_of<'a>(alloc: Global, line: u32, test: ReadExpr<'_>, body: ReadSt
     ensures depth { IfOk result (λ r. r.depth ≡ max test.entry.depth (max body.entry.depth other.entry.depth) + 1) }
 {
     let depth = test.depth.max(body.depth.max(other.depth)) + 1;
-    let form = StmtForm::IfElse(test.tree, Box::new(alloc, body.tree)?, Box::new(alloc, other.tree)?);
-    Ok(ReadStmt { tree: Stmt { line, form }, depth, rest: other.rest })
+    let form = StmtForm::IfElse(
+        test.tree,
+        Box::new(alloc, body.tree)?,
+        Box::new(alloc, other.tree)?,
+    );
+    Ok(ReadStmt {
+        tree: Stmt { line, form },
+        depth,
+        rest: other.rest,
+    })
 }
 
 /// A loop.
-pub fn while_of<'a>(alloc: Global, line: u32, test: ReadExpr<'_>, body: ReadStmt<'a>) -> Result<ReadStmt<'a>, Stop>
+pub fn while_of<'a>(
+    alloc: Global,
+    line: u32,
+    test: ReadExpr<'_>,
+    body: ReadStmt<'a>,
+) -> Result<ReadStmt<'a>, Stop>
     requires test { test.depth ≤ 200 }
     requires body { body.depth ≤ 200 }
     ensures made { IsMadeStmt (on line (p.while_of (plain_expr test.entry.tree) (plain_stmt body.entry.tree))) body.entry.rest.now result }
@@ -113,11 +192,22 @@ pub fn while_of<'a>(alloc: Global, line: u32, test: ReadExpr<'_>, body: ReadStmt
 {
     let depth = test.depth.max(body.depth) + 1;
     let form = StmtForm::While(test.tree, Box::new(alloc, body.tree)?);
-    Ok(ReadStmt { tree: Stmt { line, form }, depth, rest: body.rest })
+    Ok(ReadStmt {
+        tree: Stmt { line, form },
+        depth,
+        rest: body.rest,
+    })
 }
 
 /// A loop with three parts.
-pub fn for_of<'a>(alloc: Global, line: u32, start: ReadStart<'_>, test: ReadPerhaps<'_>, next: ReadPerhaps<'_>, body: ReadStmt<'a>) -> Result<ReadStmt<'a>, Stop>
+pub fn for_of<'a>(
+    alloc: Global,
+    line: u32,
+    start: ReadStart<'_>,
+    test: ReadPerhaps<'_>,
+    next: ReadPerhaps<'_>,
+    body: ReadStmt<'a>,
+) -> Result<ReadStmt<'a>, Stop>
     requires start { start.depth ≤ 200 }
     requires test { test.depth ≤ 200 }
     requires next { next.depth ≤ 200 }
@@ -126,12 +216,28 @@ pub fn for_of<'a>(alloc: Global, line: u32, start: ReadStart<'_>, test: ReadPerh
     ensures depth { IfOk result (λ r. r.depth ≡ max start.entry.depth (max test.entry.depth (max next.entry.depth body.entry.depth)) + 1) }
 {
     let depth = start.depth.max(test.depth.max(next.depth.max(body.depth))) + 1;
-    let form = StmtForm::For(start.tree, test.tree, next.tree, Box::new(alloc, body.tree)?);
-    Ok(ReadStmt { tree: Stmt { line, form }, depth, rest: body.rest })
+    let form = StmtForm::For(
+        start.tree,
+        test.tree,
+        next.tree,
+        Box::new(alloc, body.tree)?,
+    );
+    Ok(ReadStmt {
+        tree: Stmt { line, form },
+        depth,
+        rest: body.rest,
+    })
 }
 
 /// A loop over a list.
-pub fn for_each_of<'a>(alloc: Global, line: u32, kind: DeclareKind, name: Name, list: ReadExpr<'_>, body: ReadStmt<'a>) -> Result<ReadStmt<'a>, Stop>
+pub fn for_each_of<'a>(
+    alloc: Global,
+    line: u32,
+    kind: DeclareKind,
+    name: Name,
+    list: ReadExpr<'_>,
+    body: ReadStmt<'a>,
+) -> Result<ReadStmt<'a>, Stop>
     requires list { list.depth ≤ 200 }
     requires body { body.depth ≤ 200 }
     ensures made { IsMadeStmt (on line (p.for_each kind name (plain_expr list.entry.tree) (plain_stmt body.entry.tree))) body.entry.rest.now result }
@@ -139,7 +245,11 @@ pub fn for_each_of<'a>(alloc: Global, line: u32, kind: DeclareKind, name: Name, 
 {
     let depth = list.depth.max(body.depth) + 1;
     let form = StmtForm::ForOf(kind, name, list.tree, Box::new(alloc, body.tree)?);
-    Ok(ReadStmt { tree: Stmt { line, form }, depth, rest: body.rest })
+    Ok(ReadStmt {
+        tree: Stmt { line, form },
+        depth,
+        rest: body.rest,
+    })
 }
 
 /// A `break`.
@@ -148,7 +258,14 @@ pub fn break_of(spot: Spot, rest: &[Lexeme]) -> ReadStmt<'_>
     ensures depth { result.depth ≡ 1 }
     ensures rest { result.rest.now ≡ rest.now }
 {
-    ReadStmt { tree: Stmt { line: spot.line, form: StmtForm::Break(spot) }, depth: 1, rest }
+    ReadStmt {
+        tree: Stmt {
+            line: spot.line,
+            form: StmtForm::Break(spot),
+        },
+        depth: 1,
+        rest,
+    }
 }
 
 /// A `continue`.
@@ -157,7 +274,14 @@ pub fn continue_of(spot: Spot, rest: &[Lexeme]) -> ReadStmt<'_>
     ensures depth { result.depth ≡ 1 }
     ensures rest { result.rest.now ≡ rest.now }
 {
-    ReadStmt { tree: Stmt { line: spot.line, form: StmtForm::Continue(spot) }, depth: 1, rest }
+    ReadStmt {
+        tree: Stmt {
+            line: spot.line,
+            form: StmtForm::Continue(spot),
+        },
+        depth: 1,
+        rest,
+    }
 }
 
 /// A `return` without a value.
@@ -166,7 +290,14 @@ pub fn return_nothing(spot: Spot, rest: &[Lexeme]) -> ReadStmt<'_>
     ensures depth { result.depth ≡ 1 }
     ensures rest { result.rest.now ≡ rest.now }
 {
-    ReadStmt { tree: Stmt { line: spot.line, form: StmtForm::ReturnNothing(spot) }, depth: 1, rest }
+    ReadStmt {
+        tree: Stmt {
+            line: spot.line,
+            form: StmtForm::ReturnNothing(spot),
+        },
+        depth: 1,
+        rest,
+    }
 }
 
 /// A `return` with its value.
@@ -176,7 +307,14 @@ pub fn return_of<'a>(spot: Spot, found: ReadExpr<'_>, rest: &'a [Lexeme]) -> Rea
     ensures depth { result.depth ≡ found.entry.depth + 1 }
     ensures rest { result.rest.now ≡ rest.now }
 {
-    ReadStmt { tree: Stmt { line: spot.line, form: StmtForm::Return(spot, found.tree) }, depth: found.depth + 1, rest }
+    ReadStmt {
+        tree: Stmt {
+            line: spot.line,
+            form: StmtForm::Return(spot, found.tree),
+        },
+        depth: found.depth + 1,
+        rest,
+    }
 }
 
 /// A statement that the program lists.
@@ -184,7 +322,10 @@ pub fn item_statement(found: ReadStmt<'_>) -> ReadItem<'_>
     ensures tree { plain_item result.tree ≡ p.statement (plain_stmt found.entry.tree) }
     ensures rest { result.rest.now ≡ found.entry.rest.now }
 {
-    ReadItem { tree: Item::Statement(found.tree), rest: found.rest }
+    ReadItem {
+        tree: Item::Statement(found.tree),
+        rest: found.rest,
+    }
 }
 
 /// A function declaration.
@@ -192,5 +333,8 @@ pub fn item_function(spot: Spot, name: Name, names: Vec<Name>, found: ReadStmts<
     ensures tree { plain_item result.tree ≡ p.function_of spot name names.items (stmts_of (map plain_stmt found.entry.trees.items)) }
     ensures rest { result.rest.now ≡ found.entry.rest.now }
 {
-    ReadItem { tree: Item::Function(spot, name, names, found.trees), rest: found.rest }
+    ReadItem {
+        tree: Item::Function(spot, name, names, found.trees),
+        rest: found.rest,
+    }
 }
