@@ -1,0 +1,4 @@
+pub mod Sorts
+pub mod Tokens
+pub mod Grammar
+pub mod Reader
