@@ -1,0 +1,3 @@
+mod Build
+mod ExamplesNames
+mod ExamplesCaptures

@@ -1,0 +1,5 @@
+pub mod Scopes
+pub mod Sites
+pub mod Places
+pub mod Slots
+pub mod Rules
