@@ -1,3 +1,4 @@
 mod Build
 mod ExamplesNames
 mod ExamplesCaptures
+mod ExamplesSlots
