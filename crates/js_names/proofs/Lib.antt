@@ -2,3 +2,4 @@ mod Build
 mod ExamplesNames
 mod ExamplesCaptures
 mod ExamplesSlots
+pub mod Stacks

@@ -3,3 +3,4 @@ pub mod Sites
 pub mod Places
 pub mod Slots
 pub mod Rules
+pub mod Views

@@ -1,6 +1,12 @@
 //! The rules of names.
 #![tactic(auto)]
 
+mod lookup;
 mod place;
+mod rules;
+mod scope;
 
 pub use place::{Around, Declared, NameFault, Role, What};
+pub use rules::{Seen, assigned_in, fails_capture, fails_const, fails_loop_word, fails_return, fails_unknown};
+pub use scope::{Scope, TOP};
+pub use lookup::{clashes, declared_at};

@@ -1,0 +1,21 @@
+-- What the walk over a tree holds, as the rules see it.
+use Rattle.std.specs.Prelude.{List, [], ◌∷◌}
+use Rattle.std.specs.HashMap.{get_by_text}
+use Rattle.js_names.specs.declared.scope.Scope.{Scope as Held}
+use Rattle.js_names.specs.declared.rules.Seen.{Seen}
+use Rattle.js_names.specs.Scopes.{Scope}
+use Rattle.js_names.specs.Places.{Place}
+
+abbrev pub scope_of : Held → Scope
+scope_of s = record { own = λ q. get_by_text s.own q; vars = λ q. get_by_text s.vars q; whole = s.whole; owner = s.owner }
+
+-- a stack, whose last scope is the innermost
+unfoldable pub scopes_onto : List Scope → List Held → List Scope
+scopes_onto below [] = below
+scopes_onto below (s ∷ ss) = scopes_onto (scope_of s ∷ below) ss
+
+abbrev pub scopes_of : List Held → List Scope
+scopes_of ss = scopes_onto [] ss
+
+abbrev pub place_of : Seen → Place
+place_of p = record { what = p.what; name = p.name; around = p.around; declared = p.declared; functions = p.functions.items; clashes = p.clashes }
