@@ -3,3 +3,4 @@ mod ExamplesNames
 mod ExamplesCaptures
 mod ExamplesSlots
 pub mod Stacks
+pub mod Taking

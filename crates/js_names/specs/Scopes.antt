@@ -30,7 +30,7 @@ top = 4294967295
 -- the declarations of a name
 abbrev pub named : List ℕ → List Entry → List Declared
 named q [] = []
-named q (e ∷ es) = if bytes_eq q e.name then e.declared ∷ named q es else named q es
+named q (e ∷ es) = if bytes_eq e.name q then e.declared ∷ named q es else named q es
 
 -- the first of them
 abbrev pub first : List Declared → Option Declared
@@ -54,19 +54,25 @@ abbrev pub is_present : PlainPerhaps → Bool
 is_present absent = false
 is_present (present e) = true
 
--- what `let` and `const` declare
+-- what a declarator of `let` or `const` declares
+abbrev pub own_declarator : ℕ → Bool → DeclareKind → Name → PlainPerhaps → ℕ → List Entry
+own_declarator owner direct const_word name value end = entry name Const end owner direct (is_present value) ∷ []
+own_declarator owner direct let_word name value end = entry name Let end owner direct (is_present value) ∷ []
+own_declarator owner direct var_word name value end = []
+
 abbrev pub own_declarators : ℕ → Bool → DeclareKind → PlainDeclarators → List Entry
 own_declarators owner direct kind no_declarators = []
-own_declarators owner direct const_word (declarator_in name value end ds) = entry name Const end owner direct (is_present value) ∷ own_declarators owner direct const_word ds
-own_declarators owner direct let_word (declarator_in name value end ds) = entry name Let end owner direct (is_present value) ∷ own_declarators owner direct let_word ds
-own_declarators owner direct var_word (declarator_in name value end ds) = []
+own_declarators owner direct kind (declarator_in name value end ds) = own_declarator owner direct kind name value end ++ own_declarators owner direct kind ds
 
--- what `var` declares
+-- what a declarator of `var` declares
+abbrev pub var_declarator : ℕ → Bool → DeclareKind → Name → PlainPerhaps → ℕ → List Entry
+var_declarator owner direct const_word name value end = []
+var_declarator owner direct let_word name value end = []
+var_declarator owner direct var_word name value end = entry name Var end owner direct (is_present value) ∷ []
+
 abbrev pub var_declarators : ℕ → Bool → DeclareKind → PlainDeclarators → List Entry
 var_declarators owner direct kind no_declarators = []
-var_declarators owner direct const_word (declarator_in name value end ds) = []
-var_declarators owner direct let_word (declarator_in name value end ds) = []
-var_declarators owner direct var_word (declarator_in name value end ds) = entry name Var end owner direct (is_present value) ∷ var_declarators owner direct var_word ds
+var_declarators owner direct kind (declarator_in name value end ds) = var_declarator owner direct kind name value end ++ var_declarators owner direct kind ds
 
 -- the `let` and `const` names that a statement declares for the list in which it stands
 abbrev pub own_of : ℕ → Bool → PlainStmt → List Entry
@@ -115,7 +121,7 @@ abbrev mutual
 -- the greatest end of the `var`s with a value that have this name, which are its declarators too
 abbrev pub last_end : List ℕ → ℕ → List Entry → ℕ
 last_end q end [] = end
-last_end q end (e ∷ es) = last_end q (if bytes_eq q e.name then (if e.has_value then max end e.declared.end else end) else end) es
+last_end q end (e ∷ es) = last_end q (if bytes_eq e.name q then (if e.has_value then max end e.declared.end else end) else end) es
 
 abbrev pub parameters : ℕ → List Entry → List Name → List Entry
 parameters owner vars [] = []
