@@ -4,3 +4,4 @@ mod ExamplesCaptures
 mod ExamplesSlots
 pub mod Stacks
 pub mod Taking
+pub mod Trees

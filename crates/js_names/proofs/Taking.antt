@@ -1,5 +1,5 @@
 -- Maps that take in declarations.
-use Rattle.std.proofs.Common.{◌≡◌, ℕ, ◌+◌, ◌<◌, ◌≤◌, List, [], ◌∷◌, ◌++◌, ◌∙◌, ap, refl, sym, subst, length, take, take_all, get_or, Option, Some, None, Bool, true, false, ⊎_elim, if◌then◌else◌}
+use Rattle.std.proofs.Common.{◌≡◌, ℕ, ◌+◌, ◌<◌, ◌≤◌, List, [], ◌∷◌, ◌++◌, ◌∙◌, ap, refl, sym, subst, map, length, take, take_all, get_or, Option, Some, None, Bool, true, false, ⊎_elim, if◌then◌else◌}
 use Rattle.std.proofs.Math.Bool.{cond}
 use Rattle.std.proofs.lemmas.Bool.{cases_Bool, cond-true, cond-false, true≢false}
 use Rattle.std.proofs.lemmas.Slice.Eq.{bytes_eq-Decides as bytes_decides}
@@ -14,9 +14,17 @@ use Rattle.std.specs.declared.alloc.Global.{Global}
 use Rattle.std.proofs.lemmas.List.{take_more}
 use Rattle.std.proofs.lemmas.Grind.{flat_map-append}
 use Rattle.js_names.specs.declared.place.Declared.{Declared}
-use Rattle.js_names.specs.Scopes.{Entry, first, named, one_var}
+use Rattle.js_tree.specs.declared.tree.Declarator.{Declarator}
+use Rattle.js_tree.specs.declared.tree.DeclareKind.{DeclareKind}
+use Rattle.js_tree.specs.declared.tree.Stmt.{Stmt}
+use Rattle.js_tree.specs.declared.tree.StmtForm.{StmtForm, Declaration}
+use Rattle.std.specs.Prelude.{Vec, Result, OnOk}
+use Rattle.js_tree.specs.Plain.{declarators_of, stmts_of}
+use Rattle.js_tree.specs.Views.{plain_declarator, plain_stmt}
+use Rattle.js_names.specs.Scopes.{Entry, first, named, one_var, own_declarators, var_declarators, own_of, own_of_all, vars_of_all}
 use Rattle.js_names.specs.Places.{or_else}
-use Rattle.js_names.specs.Views.{Names, merge, alone, TakesOwn, TakesVars}
+use Rattle.js_names.proofs.Trees.{with_form, declaration_is}
+use Rattle.js_names.specs.Views.{Names, merge, alone, TakesOwn, TakesVars, own_of_declarator, vars_of_declarator, own_of_stmt, vars_of_stmt}
 
 pub or_else_none : {A : Type 0} (a : Option A) → or_else a None ≡ a
 or_else_none None = refl
@@ -129,3 +137,32 @@ pub var_inserted : (m n : Names) (key : String Global) (bs name : List ℕ) (x d
     → UpdatesBy string_eq (λ k. bytes_eq (string_bytes key) (string_bytes k)) m n (Some x) → TakesVars m n (alone name d)
 var_inserted m n key bs name x d e f t u =
     var_step (get_by_text m) (get_by_text n) name x d (subst (λ b. Some x ≡ merge (get_by_text m b) (Some d)) f t) (updated m n key name x (e ∙ f) u)
+
+-- lists of a tree, as the rules see them
+
+pub own_declarators_of : (owner : ℕ) (direct : Bool) (kind : DeclareKind) (ds : List Declarator) → own_declarators owner direct kind (declarators_of (map plain_declarator ds)) ≡ flat_map (own_of_declarator owner direct kind) ds
+own_declarators_of owner direct kind [] = refl
+own_declarators_of owner direct kind (d ∷ ds) = ap (λ es. own_of_declarator owner direct kind d ++ es) (own_declarators_of owner direct kind ds)
+
+pub var_declarators_of : (owner : ℕ) (direct : Bool) (kind : DeclareKind) (ds : List Declarator) → var_declarators owner direct kind (declarators_of (map plain_declarator ds)) ≡ flat_map (vars_of_declarator owner direct kind) ds
+var_declarators_of owner direct kind [] = refl
+var_declarators_of owner direct kind (d ∷ ds) = ap (λ es. vars_of_declarator owner direct kind d ++ es) (var_declarators_of owner direct kind ds)
+
+pub own_of_stmts : (owner : ℕ) (direct : Bool) (ss : List Stmt) → own_of_all owner direct (stmts_of (map plain_stmt ss)) ≡ flat_map (own_of_stmt owner direct) ss
+own_of_stmts owner direct [] = refl
+own_of_stmts owner direct (s ∷ ss) = ap (λ es. own_of_stmt owner direct s ++ es) (own_of_stmts owner direct ss)
+
+pub vars_of_stmts : (owner : ℕ) (direct : Bool) (ss : List Stmt) → vars_of_all owner direct (stmts_of (map plain_stmt ss)) ≡ flat_map (vars_of_stmt owner direct) ss
+vars_of_stmts owner direct [] = refl
+vars_of_stmts owner direct (s ∷ ss) = ap (λ es. vars_of_stmt owner direct s ++ es) (vars_of_stmts owner direct ss)
+
+pub own_of_declaration : (owner : ℕ) (direct : Bool) (s : Stmt) (kind : DeclareKind) (v : Vec Declarator Global) (ds : List Declarator) → s.form ≡ Declaration kind v → ds ≡ v.items
+    → flat_map (own_of_declarator owner direct kind) ds ≡ own_of_stmt owner direct s
+own_of_declaration owner direct s kind v ds e d =
+    ap (flat_map (own_of_declarator owner direct kind)) d ∙ sym (own_declarators_of owner direct kind v.items) ∙ sym (ap (own_of owner direct) (with_form s (Declaration kind v) _ e (declaration_is kind v)))
+
+pub own_on_ok : {A E : Type 0} (r : Result A E) (a b : Names) (xs ys : List Entry) → xs ≡ ys → OnOk r (TakesOwn a b xs) → OnOk r (TakesOwn a b ys)
+own_on_ok r a b xs ys e h = subst (λ es. OnOk r (TakesOwn a b es)) e h
+
+pub vars_on_ok : {A E : Type 0} (r : Result A E) (a b : Names) (xs ys : List Entry) → xs ≡ ys → OnOk r (TakesVars a b xs) → OnOk r (TakesVars a b ys)
+vars_on_ok r a b xs ys e h = subst (λ es. OnOk r (TakesVars a b es)) e h
