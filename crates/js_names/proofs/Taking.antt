@@ -17,13 +17,16 @@ use Rattle.js_names.specs.declared.place.Declared.{Declared}
 use Rattle.js_tree.specs.declared.tree.Declarator.{Declarator}
 use Rattle.js_tree.specs.declared.tree.DeclareKind.{DeclareKind}
 use Rattle.js_tree.specs.declared.tree.Stmt.{Stmt}
-use Rattle.js_tree.specs.declared.tree.StmtForm.{StmtForm, Declaration}
-use Rattle.std.specs.Prelude.{Vec, Result, OnOk}
+use Rattle.js_tree.specs.declared.tree.StmtForm.{StmtForm, Declaration, Block, IfElse, For}
+use Rattle.std.specs.Prelude.{Vec, Result, Ok, Err, OnOk}
 use Rattle.js_tree.specs.Plain.{declarators_of, stmts_of}
-use Rattle.js_tree.specs.Views.{plain_declarator, plain_stmt}
-use Rattle.js_names.specs.Scopes.{Entry, first, named, one_var, own_declarators, var_declarators, own_of, own_of_all, vars_of_all}
+use Rattle.js_tree.specs.Views.{plain_declarator, plain_stmt, plain_start}
+use Rattle.js_names.specs.Scopes.{Entry, first, named, one_var, own_declarators, var_declarators, own_of, own_of_all, vars_of, vars_of_all, own_of_start, vars_of_start}
 use Rattle.js_names.specs.Places.{or_else}
-use Rattle.js_names.proofs.Trees.{with_form, declaration_is}
+use Rattle.js_names.proofs.Trees.{with_form, declaration_is, block_is, if_else_is, for_is, start_is}
+use Rattle.js_tree.specs.declared.tree.Expr.{Expr}
+use Rattle.js_tree.specs.declared.tree.Start.{Start, Declares}
+use Rattle.std.specs.declared.boxed.Box.{Box}
 use Rattle.js_names.specs.Views.{Names, merge, alone, TakesOwn, TakesVars, own_of_declarator, vars_of_declarator, own_of_stmt, vars_of_stmt}
 
 pub or_else_none : {A : Type 0} (a : Option A) → or_else a None ≡ a
@@ -166,3 +169,40 @@ own_on_ok r a b xs ys e h = subst (λ es. OnOk r (TakesOwn a b es)) e h
 
 pub vars_on_ok : {A E : Type 0} (r : Result A E) (a b : Names) (xs ys : List Entry) → xs ≡ ys → OnOk r (TakesVars a b xs) → OnOk r (TakesVars a b ys)
 vars_on_ok r a b xs ys e h = subst (λ es. OnOk r (TakesVars a b es)) e h
+
+pub own_of_head : (owner : ℕ) (b : Start) (line : ℕ) (kind : DeclareKind) (v : Vec Declarator Global) (ds : List Declarator) → b ≡ Declares line kind v → ds ≡ v.items
+    → flat_map (own_of_declarator owner false kind) ds ≡ own_of_start owner (plain_start b)
+own_of_head owner b line kind v ds e d =
+    ap (flat_map (own_of_declarator owner false kind)) d ∙ sym (own_declarators_of owner false kind v.items) ∙ sym (ap (own_of_start owner) (ap plain_start e ∙ start_is line kind v))
+
+pub vars_of_head : (owner : ℕ) (b : Start) (line : ℕ) (kind : DeclareKind) (v : Vec Declarator Global) (ds : List Declarator) → b ≡ Declares line kind v → ds ≡ v.items
+    → flat_map (vars_of_declarator owner false kind) ds ≡ vars_of_start owner (plain_start b)
+vars_of_head owner b line kind v ds e d =
+    ap (flat_map (vars_of_declarator owner false kind)) d ∙ sym (var_declarators_of owner false kind v.items) ∙ sym (ap (vars_of_start owner) (ap plain_start e ∙ start_is line kind v))
+
+pub vars_of_declaration : (owner : ℕ) (direct : Bool) (s : Stmt) (kind : DeclareKind) (v : Vec Declarator Global) (ds : List Declarator) → s.form ≡ Declaration kind v → ds ≡ v.items
+    → flat_map (vars_of_declarator owner direct kind) ds ≡ vars_of_stmt owner direct s
+vars_of_declaration owner direct s kind v ds e d =
+    ap (flat_map (vars_of_declarator owner direct kind)) d ∙ sym (var_declarators_of owner direct kind v.items) ∙ sym (ap (vars_of owner direct) (with_form s (Declaration kind v) _ e (declaration_is kind v)))
+
+pub vars_of_block : (owner : ℕ) (direct : Bool) (s : Stmt) (v : Vec Stmt Global) (ss : List Stmt) → s.form ≡ Block v → ss ≡ v.items
+    → flat_map (vars_of_stmt owner false) ss ≡ vars_of_stmt owner direct s
+vars_of_block owner direct s v ss e d =
+    ap (flat_map (vars_of_stmt owner false)) d ∙ sym (vars_of_stmts owner false v.items) ∙ sym (ap (vars_of owner direct) (with_form s (Block v) _ e (block_is v)))
+
+pub vars_of_if_else : (owner : ℕ) (direct : Bool) (s : Stmt) (test : Expr) (b o : Box Stmt Global) (x y : Stmt) → s.form ≡ IfElse test b o → x ≡ b.value → y ≡ o.value
+    → vars_of_stmt owner false x ++ vars_of_stmt owner false y ≡ vars_of_stmt owner direct s
+vars_of_if_else owner direct s test b o x y e h k =
+    ap (λ z. vars_of_stmt owner false z ++ vars_of_stmt owner false y) h ∙ ap (λ z. vars_of_stmt owner false b.value ++ vars_of_stmt owner false z) k
+    ∙ sym (ap (vars_of owner direct) (with_form s (IfElse test b o) _ e (if_else_is test b o)))
+
+pub vars_of_for : (owner : ℕ) (direct : Bool) (s : Stmt) (head : Start) (test next : Option Expr) (b : Box Stmt Global) (x : Stmt) → s.form ≡ For head test next b → x ≡ b.value
+    → vars_of_start owner (plain_start head) ++ vars_of_stmt owner false x ≡ vars_of_stmt owner direct s
+vars_of_for owner direct s head test next b x e h =
+    ap (λ z. vars_of_start owner (plain_start head) ++ vars_of_stmt owner false z) h
+    ∙ sym (ap (vars_of owner direct) (with_form s (For head test next b) _ e (for_is head test next b)))
+
+-- two steps, the second of which is the answer
+pub vars_on_ok_both : {A E : Type 0} (r : Result A E) (a b c : Names) (xs ys zs : List Entry) → xs ++ ys ≡ zs → TakesVars a b xs → OnOk r (TakesVars b c ys) → OnOk r (TakesVars a c zs)
+vars_on_ok_both (Ok x) a b c xs ys zs e h k = subst (TakesVars a c) e (vars_both a b c xs ys h k)
+vars_on_ok_both (Err x) a b c xs ys zs e h k = tt
