@@ -5,3 +5,4 @@ mod ExamplesSlots
 pub mod Stacks
 pub mod Taking
 pub mod Trees
+pub mod Making

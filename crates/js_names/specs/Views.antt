@@ -6,14 +6,15 @@ use Rattle.js_names.specs.declared.rules.Seen.{Seen}
 use Rattle.js_tree.specs.declared.tree.Declarator.{Declarator}
 use Rattle.js_tree.specs.declared.tree.DeclareKind.{DeclareKind}
 use Rattle.js_tree.specs.declared.tree.Stmt.{Stmt}
-use Rattle.js_tree.specs.Views.{plain_declarator, plain_stmt}
+use Rattle.js_tree.specs.Views.{plain_declarator, plain_stmt, plain_item}
+use Rattle.js_tree.specs.declared.tree.Item.{Item}
 use Rattle.indexmap.specs.IndexMap.{IndexMap}
 use Rattle.std.specs.declared.hash.FoldHasher.{FoldHasher}
 use Rattle.std.specs.declared.hash.BuildHasherDefault.{BuildHasherDefault}
 use Rattle.std.specs.declared.alloc.Global.{Global}
 use Rattle.std.specs.Prelude.{String}
 use Rattle.js_names.specs.declared.place.Declared.{Declared}
-use Rattle.js_names.specs.Scopes.{Scope, Entry, first, named, one_var, own_declarator, var_declarator, own_of, vars_of}
+use Rattle.js_names.specs.Scopes.{Scope, Entry, first, named, one_var, own_declarator, var_declarator, own_of, vars_of, own_of_item, vars_of_item}
 use Rattle.js_names.specs.Places.{Place, or_else}
 
 abbrev pub scope_of : Held → Scope
@@ -63,3 +64,9 @@ vars_of_stmt owner direct s = vars_of owner direct (plain_stmt s)
 -- one declaration
 abbrev pub alone : List ℕ → Declared → List Entry
 alone name declared = record { name = name; declared = declared; has_value = true } ∷ []
+
+abbrev pub own_of_tree_item : Item → List Entry
+own_of_tree_item i = own_of_item (plain_item i)
+
+abbrev pub vars_of_tree_item : Item → List Entry
+vars_of_tree_item i = vars_of_item (plain_item i)

@@ -174,7 +174,7 @@ pub fn declare_var_declarators(
 }
 
 /// Declares the `var` names of the head of a `for`.
-fn declare_start_vars(
+pub fn declare_start_vars(
     alloc: Global,
     map: &mut IndexMap<String, Declared>,
     owner: u32,
