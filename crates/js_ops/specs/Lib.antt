@@ -1,0 +1,9 @@
+pub mod Made
+pub mod Kinds
+pub mod Rules
+pub mod Operators
+pub mod DataValues
+pub mod Members
+pub mod Methods
+pub mod Making
+pub mod Answers
