@@ -1,1 +1,2 @@
+pub mod Agree
 mod Examples
