@@ -1,2 +1,5 @@
 pub mod Agree
+pub mod Converted
+pub mod Equality
+pub mod Floors
 mod Examples

@@ -1,5 +1,5 @@
 -- Methods.
-use Rattle.std.specs.Prelude.{ℕ, nat_eq, List, [], ◌∷◌, ◌++◌, flat_map, Bool, Option, Some, None, option_map, Ok, Err}
+use Rattle.std.specs.Prelude.{ℕ, nat_eq, List, [], ◌∷◌, ◌++◌, flat_map, Bool, Option, Some, None, option_map, option_and_then, Ok, Err}
 use Rattle.std.specs.List.{starts_with, ends_with}
 use Rattle.js_data.specs.declared.fault.Fault.TheVariants as fault
 use Rattle.js_value.specs.Value as v
@@ -23,10 +23,6 @@ abbrev pub of_texts : (List ℕ → List ℕ → Bool) → PlainValue → List P
 of_texts f (v.words s) (v.words t ∷ _) = Ok (v.truth (f s t))
 of_texts f _ _ = Err fault.Mistyped
 
-abbrev pub set_and : Option PlainSet → Option SetList → Option SetList
-set_and (Some s) (Some ss) = Some (v.set_in s ss)
-set_and _ _ = None
-
 -- the set of an event, a set itself, or the union of a list of such
 abbrev mutual
   pub set_of : PlainValue → Option PlainSet
@@ -37,7 +33,7 @@ abbrev mutual
 
   pub sets_of : ValueList → Option SetList
   sets_of v.no_values = Some v.no_sets
-  sets_of (v.value x vs) = set_and (set_of x) (sets_of vs)
+  sets_of (v.value x vs) = option_and_then (λ s. option_map (v.set_in s) (sets_of vs)) (set_of x)
 
 -- a method of sets is called on an event or a set
 abbrev pub called_on : PlainValue → Option PlainSet
