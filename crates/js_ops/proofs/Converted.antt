@@ -1,29 +1,40 @@
 -- Lists that are converted item by item: what is done so far, and what is left, is the whole.
-use Rattle.std.proofs.Common.{◌≡◌, ◌≤◌, ◌<◌, ◌+◌, ℕ, suc, length, drop, map, get_or, List, [], ◌∷◌, ◌++◌, Option, Some, None, option_map, refl, sym, ap, ◌∙◌, add-one, drop-cons}
-use Rattle.std.proofs.lemmas.List.{drop_all}
+use Rattle.std.proofs.Common.{◌≡◌, ◌≤◌, ◌<◌, ◌+◌, ℕ, suc, length, drop, take, map, get_or, List, [], ◌∷◌, ◌++◌, Option, Some, None, option_map, refl, sym, ap, ◌∙◌, add-one, drop-cons}
+use Rattle.std.proofs.lemmas.List.{drop_all, take_all}
 use Rattle.js_data.specs.Data as d
 use Rattle.js_data.specs.Data.{PlainData, DataList, DataFields}
 use Rattle.js_data.specs.Views.{plain_data, data_list_view, data_fields_view}
 use Rattle.js_data.specs.declared.data.Data.{Data}
 use Rattle.js_value.specs.Value as v
 use Rattle.js_value.specs.Value.{PlainValue, PlainSet, SetList}
-use Rattle.js_value.specs.Views.{plain_value, plain_set, value_list_view, value_fields_view, set_list_view}
+use Rattle.js_value.specs.Views.{plain_value, plain_value_field, plain_set, value_list_view, value_fields_view, set_list_view}
 use Rattle.js_value.specs.Lists.{value_list_of, value_fields_of}
 use Rattle.js_value.specs.declared.value.Value.{Value}
 use Rattle.js_value.specs.declared.value.SetTree.{SetTree}
 use Rattle.js_ops.specs.DataValues.{data_value, data_values, data_value_fields, value_data, values_data, fields_data}
-use Rattle.js_ops.specs.Views.{value_of_item, value_of_field}
 use Rattle.js_ops.specs.Methods.{set_of, sets_of}
 
 -- ---- data as values
 
-pub values_are : (ds : List Data) → value_list_of (map value_of_item ds) ≡ data_values (data_list_view ds)
+abbrev pub value_of_item : Data → PlainValue
+value_of_item x = data_value (plain_data x)
+
+abbrev pub value_of_field : List ℕ × Data → List ℕ × PlainValue
+value_of_field f = (f.0, data_value (plain_data f.1))
+
+values_are : (ds : List Data) → value_list_of (map value_of_item ds) ≡ data_values (data_list_view ds)
 values_are [] = refl
 values_are (x ∷ ds) = ap (v.value (value_of_item x)) (values_are ds)
 
-pub fields_are : (fs : List (List ℕ × Data)) → value_fields_of (map value_of_field fs) ≡ data_value_fields (data_fields_view fs)
+fields_are : (fs : List (List ℕ × Data)) → value_fields_of (map value_of_field fs) ≡ data_value_fields (data_fields_view fs)
 fields_are [] = refl
 fields_are (f ∷ fs) = ap (v.field f.0 (value_of_item f.1)) (fields_are fs)
+
+pub values_done : (vs : List Value) (ds : List Data) (i : ℕ) → length ds ≤ i → map plain_value vs ≡ map value_of_item (take i ds) → value_list_view vs ≡ data_values (data_list_view ds)
+values_done vs ds i h e = ap value_list_of (e ∙ ap (map value_of_item) (take_all i ds h)) ∙ values_are ds
+
+pub value_fields_done : (vs : List (List ℕ × Value)) (fs : List (List ℕ × Data)) (i : ℕ) → length fs ≤ i → map plain_value_field vs ≡ map value_of_field (take i fs) → value_fields_view vs ≡ data_value_fields (data_fields_view fs)
+value_fields_done vs fs i h e = ap value_fields_of (e ∙ ap (map value_of_field) (take_all i fs h)) ∙ fields_are fs
 
 -- ---- the item at the front of what is left
 

@@ -1,9 +1,8 @@
 //! The data of an event as a value, and the value that is data.
-ghost use Rattle.std.specs.Prelude.{◌≡◌, IfOk, map, option_map};
+ghost use Rattle.std.specs.Prelude.{◌≡◌, IfOk, option_map};
 ghost use Rattle.js_data.specs.Views.{plain_data, data_list_view, data_fields_view};
-ghost use Rattle.js_value.specs.Views.{plain_value, plain_value_field, value_list_view, value_fields_view};
-ghost use Rattle.js_ops.specs.DataValues.{data_value, value_data, values_data, fields_data};
-ghost use Rattle.js_ops.specs.Views.{value_of_item, value_of_field};
+ghost use Rattle.js_value.specs.Views.{plain_value, value_list_view, value_fields_view};
+ghost use Rattle.js_ops.specs.DataValues.{data_value, data_values, data_value_fields, value_data, values_data, fields_data};
 
 use js_value::{Data, Memory, Text, Value};
 use std::alloc::Global;
@@ -25,7 +24,7 @@ pub fn value_of_data(alloc: Global, tree: &Data) -> Result<Value, Memory>
 
 #[cycle(value_of)]
 fn values_of_data(alloc: Global, items: &Vec<Data>) -> Result<Vec<Value>, Memory>
-    ensures { IfOk result (λ v. map plain_value v.items ≡ map value_of_item items.now.items) }
+    ensures { IfOk result (λ v. value_list_view v.items ≡ data_values (data_list_view items.now.items)) }
 {
     let mut values = Vec::with_capacity(alloc, items.len())?;
     for item in items {
@@ -36,7 +35,8 @@ fn values_of_data(alloc: Global, items: &Vec<Data>) -> Result<Vec<Value>, Memory
 
 #[cycle(value_of)]
 fn fields_of_data(alloc: Global, fields: &Vec<(Text, Data)>) -> Result<Vec<(Text, Value)>, Memory>
-    ensures { IfOk result (λ v. map plain_value_field v.items ≡ map value_of_field fields.now.items) }
+    ensures { IfOk result (λ v. value_fields_view v.items
+        ≡ data_value_fields (data_fields_view fields.now.items)) }
 {
     let mut values = Vec::with_capacity(alloc, fields.len())?;
     for field in fields {
