@@ -4,6 +4,7 @@
 mod convert;
 mod kind;
 mod limits;
+mod members;
 mod numbers;
 mod op_fault;
 mod operators;
@@ -12,6 +13,7 @@ mod rules;
 mod sets;
 
 pub use kind::{Kind, kind_of};
+pub use members::{index, member};
 pub use op_fault::OpFault;
 pub use operators::{apply, unary};
 pub use rule::Rule;

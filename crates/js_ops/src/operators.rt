@@ -8,10 +8,10 @@ ghost use Rattle.js_ops.specs.Answers.{AnswersAs};
 use crate::kind::kind_of;
 use crate::limits::{made, made_whole};
 use crate::numbers::{difference, floor_quotient, product, quotient, remainder, sum};
-use crate::op_fault::OpFault;
+use crate::op_fault::{MISTYPED, OpFault};
 use crate::rule::Rule;
 use crate::rules::rule_of;
-use js_value::{Event, Fault, Op, Text, Unary, Value, text_of, truthy};
+use js_value::{Event, Op, Text, Unary, Value, text_of, truthy};
 use std::alloc::Global;
 
 // What is answered for two whole numbers; all else is the fault `type`.
@@ -23,8 +23,6 @@ macro_rules! of_wholes {
         }
     };
 }
-
-const MISTYPED: OpFault = OpFault::Fault(Fault::Mistyped);
 
 fn join(alloc: Global, left: &Value, right: &Value) -> Result<Value, OpFault>
     ensures { AnswersAs (join_of (value_text (plain_value left.now)) (value_text (plain_value right.now))) result }
