@@ -1,6 +1,6 @@
 //! Members and places.
 ghost use Rattle.std.specs.Prelude.{◌≡◌, IfOk, slice_get};
-ghost use Rattle.js_value.specs.Value.{list, whole};
+ghost use Rattle.js_value.specs.Value.{IsSortedValue, list, whole};
 ghost use Rattle.js_value.specs.Lists.{values_in};
 ghost use Rattle.js_value.specs.Views.{plain_value, value_list_view, value_fields_view};
 ghost use Rattle.js_ops.specs.Members.{member_of, list_member as member_of_list, event_member as member_of_event, index_of, place_of, field_or_undefined};
@@ -59,7 +59,15 @@ fn field(alloc: Global, fields: &Vec<(Text, Value)>, key: &Text) -> Result<Value
 ///
 /// `Fault` of `type` exactly where the kind has no such member, and `Memory`.
 pub fn member(alloc: Global, v: &Value, name: &Text) -> Result<Value, OpFault>
+    requires { IsSortedValue (plain_value v.now) }
     ensures answer { AnswersAs (member_of (plain_value v.now) name.now) result }
+    ensures sorted { IfOk result (λ x. IsSortedValue (plain_value x)) }
+{
+    any_member(alloc, v, name)
+}
+
+fn any_member(alloc: Global, v: &Value, name: &Text) -> Result<Value, OpFault>
+    ensures { AnswersAs (member_of (plain_value v.now) name.now) result }
 {
     match v {
         Value::List(items) => list_member(items, name),
@@ -94,7 +102,15 @@ fn list_place(alloc: Global, items: &Vec<Value>, n: Whole) -> Result<Value, OpFa
 /// `Fault` of `index` exactly where the place is outside of the list, of `type` exactly where the two are
 /// neither a list and a whole number nor fields and a text, and `Memory`.
 pub fn index(alloc: Global, v: &Value, at: &Value) -> Result<Value, OpFault>
+    requires { IsSortedValue (plain_value v.now) }
     ensures answer { AnswersAs (index_of (plain_value v.now) (plain_value at.now)) result }
+    ensures sorted { IfOk result (λ x. IsSortedValue (plain_value x)) }
+{
+    any_place(alloc, v, at)
+}
+
+fn any_place(alloc: Global, v: &Value, at: &Value) -> Result<Value, OpFault>
+    ensures { AnswersAs (index_of (plain_value v.now) (plain_value at.now)) result }
 {
     match (v, at) {
         (Value::List(items), Value::Whole(n)) => list_place(alloc, items, *n),

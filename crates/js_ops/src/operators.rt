@@ -57,15 +57,10 @@ fn hold_same(left: &Value, right: &Value) -> bool
     }
 }
 
-/// The value of the operator on the two values. Takes memory for a text that is joined.
-///
-/// # Errors
-///
-/// `Fault` exactly where the rule of the operator and of the two kinds says so, and `Memory`.
-pub fn apply(alloc: Global, op: Op, left: &Value, right: &Value) -> Result<Value, OpFault>
-    ensures { AnswersAs (value_of op (plain_value left.now) (plain_value right.now)) result }
+fn by_rule(alloc: Global, rule: Rule, left: &Value, right: &Value) -> Result<Value, OpFault>
+    ensures { AnswersAs (by_rule rule (plain_value left.now) (plain_value right.now)) result }
 {
-    match rule_of(op, kind_of(left), kind_of(right)) {
+    match rule {
         Rule::Sum => of_wholes!(left, right, |m, n| sum(*m, *n)),
         Rule::Join => join(alloc, left, right),
         Rule::Difference => of_wholes!(left, right, |m, n| difference(*m, *n)),
@@ -85,6 +80,23 @@ pub fn apply(alloc: Global, op: Op, left: &Value, right: &Value) -> Result<Value
     }
 }
 
+/// The value of the operator on the two values. Takes memory for a text that is joined.
+///
+/// # Errors
+///
+/// `Fault` exactly where the rule of the operator and of the two kinds says so, and `Memory`.
+pub fn apply(alloc: Global, op: Op, left: &Value, right: &Value) -> Result<Value, OpFault>
+    ensures answer { AnswersAs (value_of op (plain_value left.now) (plain_value right.now)) result }
+    ensures sorted { IfOk result (λ x. IsSortedValue (plain_value x)) }
+{
+    by_rule(
+        alloc,
+        rule_of(op, kind_of(left), kind_of(right)),
+        left,
+        right,
+    )
+}
+
 /// The value of the operator on the value. Takes no memory.
 ///
 /// # Errors
@@ -93,6 +105,13 @@ pub fn apply(alloc: Global, op: Op, left: &Value, right: &Value) -> Result<Value
 /// for a number out of range.
 pub fn unary(op: Unary, v: &Value) -> Result<Value, OpFault>
     ensures answer { AnswersAs (unary_of op (plain_value v.now)) result }
+    ensures sorted { IfOk result (λ x. IsSortedValue (plain_value x)) }
+{
+    of_one(op, v)
+}
+
+fn of_one(op: Unary, v: &Value) -> Result<Value, OpFault>
+    ensures { AnswersAs (unary_of op (plain_value v.now)) result }
 {
     match (op, v) {
         (Unary::Not, _) => Ok(Value::Truth(!truthy(v))),

@@ -1,4 +1,4 @@
-use Rattle.std.proofs.Common.{◌≡◌, ◌∙◌, ap, sym, Ok}
+use Rattle.std.proofs.Common.{◌∙◌, ap, sym, Ok}
 use Rattle.js_value.proofs.Places.{get_some, get_none}
 use Rattle.js_ops.specs.Members.{place_of}
 use Rattle.js_ops.proofs.members.value_at.Goals as goal
