@@ -1,0 +1,105 @@
+//! The data of an event as a value, and the value that is data.
+ghost use Rattle.std.specs.Prelude.{◌≡◌, IfOk, option_map};
+ghost use Rattle.js_data.specs.Views.{plain_data, data_list_view, data_fields_view};
+ghost use Rattle.js_value.specs.Views.{plain_value, value_list_view, value_fields_view};
+ghost use Rattle.js_ops.specs.DataValues.{data_value, data_values, data_value_fields, value_data, values_data, fields_data};
+
+use js_value::{Data, Memory, Text, Value};
+use std::alloc::Global;
+
+/// The data as a value. Its only error is want of memory.
+#[cycle(value_of)]
+pub fn value_of_data(alloc: Global, tree: &Data) -> Result<Value, Memory>
+    ensures { IfOk result (λ x. plain_value x ≡ data_value (plain_data tree.now)) }
+{
+    match tree {
+        Data::Null => Ok(Value::Null),
+        Data::Truth(b) => Ok(Value::Truth(*b)),
+        Data::Whole(n) => Ok(Value::Whole(*n)),
+        Data::Words(text) => Ok(Value::Words(text.copy()?)),
+        Data::List(items) => Ok(Value::List(values_of_data(alloc, items)?)),
+        Data::Fields(fields) => Ok(Value::Fields(fields_of_data(alloc, fields)?)),
+    }
+}
+
+#[cycle(value_of)]
+fn values_of_data(alloc: Global, items: &Vec<Data>) -> Result<Vec<Value>, Memory>
+    ensures { IfOk result (λ v. value_list_view v.items ≡ data_values (data_list_view items.now.items)) }
+{
+    let mut values = Vec::with_capacity(alloc, items.len())?;
+    for item in items {
+        values.push(value_of_data(alloc, item)?)?;
+    }
+    Ok(values)
+}
+
+#[cycle(value_of)]
+fn fields_of_data(alloc: Global, fields: &Vec<(Text, Data)>) -> Result<Vec<(Text, Value)>, Memory>
+    ensures { IfOk result (λ v. value_fields_view v.items
+        ≡ data_value_fields (data_fields_view fields.now.items)) }
+{
+    let mut values = Vec::with_capacity(alloc, fields.len())?;
+    for field in fields {
+        let key = field.0.copy()?;
+        values.push((key, value_of_data(alloc, &field.1)?))?;
+    }
+    Ok(values)
+}
+
+/// The data that the value is; `None` exactly where it is none. Its only error is want of memory.
+#[cycle(data_of)]
+pub fn data_of_value(alloc: Global, v: &Value) -> Result<Option<Data>, Memory>
+    ensures { IfOk result (λ o. option_map plain_data o ≡ value_data (plain_value v.now)) }
+{
+    match v {
+        Value::Null => Ok(Some(Data::Null)),
+        Value::Truth(b) => Ok(Some(Data::Truth(*b))),
+        Value::Whole(n) => Ok(Some(Data::Whole(*n))),
+        Value::Words(text) => Ok(Some(Data::Words(text.copy()?))),
+        Value::List(items) => match data_of_values(alloc, items)? {
+            None => Ok(None),
+            Some(made) => Ok(Some(Data::List(made))),
+        },
+        Value::Fields(fields) => match data_of_fields(alloc, fields)? {
+            None => Ok(None),
+            Some(made) => Ok(Some(Data::Fields(made))),
+        },
+        Value::Undefined | Value::Event(_) | Value::Set(_) | Value::Function { .. } => Ok(None),
+    }
+}
+
+#[cycle(data_of)]
+fn data_of_values(alloc: Global, items: &Vec<Value>) -> Result<Option<Vec<Data>>, Memory>
+    ensures { IfOk result (λ o. option_map (λ v. data_list_view v.items) o
+        ≡ values_data (value_list_view items.now.items)) }
+{
+    let mut made = Vec::new(alloc);
+    for item in items {
+        match data_of_value(alloc, item)? {
+            None => return Ok(None),
+            Some(tree) => made.push(tree)?,
+        }
+    }
+    Ok(Some(made))
+}
+
+#[cycle(data_of)]
+fn data_of_fields(
+    alloc: Global,
+    fields: &Vec<(Text, Value)>,
+) -> Result<Option<Vec<(Text, Data)>>, Memory>
+    ensures { IfOk result (λ o. option_map (λ v. data_fields_view v.items) o
+        ≡ fields_data (value_fields_view fields.now.items)) }
+{
+    let mut made = Vec::new(alloc);
+    for field in fields {
+        match data_of_value(alloc, &field.1)? {
+            None => return Ok(None),
+            Some(tree) => {
+                let key = field.0.copy()?;
+                made.push((key, tree))?;
+            }
+        }
+    }
+    Ok(Some(made))
+}
