@@ -1,0 +1,38 @@
+-- Tokens spell at most one tree, and what reading all of them says of it.
+use Rattle.std.proofs.Common.{◌≡◌, ◌+◌, ℕ, suc, ◌≤◌, max, List, [], ◌++◌, Option, Some, None, refl, sym, ◌∙◌, ap, subst, arith}
+use Rattle.js_lexer.specs.declared.token.Token.{Token}
+use Rattle.js_tree.specs.Plain.{PlainExpr, PlainItem}
+use Rattle.js_tree.specs.Nesting.{nesting, deepest_item}
+use Rattle.js_grammar.specs.Grammar.{Level, Spells, SpellsTree}
+use Rattle.js_grammar.specs.Trees.{IsTree, HasNoTree}
+use Rattle.js_grammar.specs.Reader as read
+use Rattle.js_grammar.specs.Reader.{Found, readers}
+use Rattle.js_grammar.proofs.Steps.{Gives}
+use Rattle.js_grammar.proofs.Sound.{AreSound, readers-sound, items-sound, AllItems}
+use Rattle.js_grammar.proofs.Complete.{spells-read, items-read}
+
+pub spelled_once : (l : Level) (ts : List Token) (e e' : PlainExpr) (r r' : List Token) → Spells l ts e r → Spells l ts e' r' → (e ≡ e') × (r ≡ r')
+spelled_once l ts e e' r r' d d' =
+    let n = max (nesting e) (nesting e') in
+    let left : (readers n).expr l ts ≡ Some (e, r) = spells-read d n (omega arith) in
+    let right : (readers n).expr l ts ≡ Some (e', r') = spells-read d' n (omega arith) in
+    let same : ◌≡◌ {A = PlainExpr × List Token} (e, r) (e', r') = cc in
+    (ap (λ (x : PlainExpr × List Token). x.0) same, ap (λ (x : PlainExpr × List Token). x.1) same)
+
+pub tree_once : (ts : List Token) (is is' : List PlainItem) → SpellsTree ts is → SpellsTree ts is' → is ≡ is'
+tree_once ts is is' d d' =
+    let n = max (deepest_item is) (deepest_item is') in
+    let left = items-read d n (omega arith) [] in
+    let right = items-read d' n (omega arith) [] in
+    let same : ◌≡◌ {A = List PlainItem × List Token} (is, []) (is', []) = cc in
+    ap (λ (x : List PlainItem × List Token). x.0) same
+
+pub tree_found : (n : ℕ) (ts : List Token) (is : List PlainItem) (r : List Token) → read.items n (readers n) ts ≡ Some (is, r) → IsTree (suc n) ts is
+tree_found n ts is r e =
+    let s = readers-sound n in
+    let all : Gives (λ x. AllItems n (readers n) s.expr s.declarators s.stmt ts x.0 x.1) (read.items n (readers n) ts) = items-sound n (readers n) s.expr s.declarators s.stmt ts in
+    let found = subst (λ (o : Found (List PlainItem)). Gives (λ x. AllItems n (readers n) s.expr s.declarators s.stmt ts x.0 x.1) o) e all in
+    record { spelled = found.spelled; within = found.fits }
+
+pub tree_missed : (n : ℕ) (ts : List Token) → read.items n (readers n) ts ≡ None → HasNoTree (suc n) ts
+tree_missed n ts e is t = let f = items-read t.spelled n t.within [] in cc

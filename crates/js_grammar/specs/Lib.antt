@@ -1,0 +1,6 @@
+pub mod Sorts
+pub mod Tokens
+pub mod Grammar
+pub mod Trees
+pub mod Unsupported
+pub mod Reader

@@ -1,0 +1,153 @@
+-- What a token is for the grammar.
+use Rattle.std.specs.Prelude.{ℕ, ℤ, nat_eq, Bool, List, [], ◌∷◌, Option, Some, None, if◌then◌else◌}
+use Rattle.bp_tables.specs.Found.{find_in}
+use Rattle.js_lexer.specs.declared.token.Kind.{Kind}
+use Rattle.js_lexer.specs.declared.token.Token.{Token}
+use Rattle.js_lexer.specs.Words.{all_words, all_marks}
+use Rattle.js_tree.specs.declared.tree.Name.{Name}
+use Rattle.js_tree.specs.declared.tree.Spot.{Spot}
+use Rattle.js_grammar.specs.declared.sort.Sort.{Sort}
+
+-- the sort of a numbered word or mark
+
+abbrev pub word_sort : Option ℕ → Sort
+word_sort None = Sort.Unsupported
+word_sort (Some n) =
+    if nat_eq n 1 then Sort.Const else if nat_eq n 2 then Sort.Let else if nat_eq n 3 then Sort.Var else if nat_eq n 4 then Sort.Function else
+    if nat_eq n 5 then Sort.Return else if nat_eq n 6 then Sort.If else if nat_eq n 7 then Sort.Else else if nat_eq n 8 then Sort.While else
+    if nat_eq n 9 then Sort.For else if nat_eq n 10 then Sort.Break else if nat_eq n 11 then Sort.Continue else if nat_eq n 12 then Sort.True else
+    if nat_eq n 13 then Sort.False else if nat_eq n 14 then Sort.Null else
+    Sort.Unsupported
+
+abbrev pub mark_sort : Option ℕ → Sort
+mark_sort None = Sort.Unsupported
+mark_sort (Some n) =
+    if nat_eq n 1 then Sort.Same else if nat_eq n 2 then Sort.NotSame else if nat_eq n 3 then Sort.Arrow else if nat_eq n 4 then Sort.Equal else
+    if nat_eq n 5 then Sort.NotEqual else if nat_eq n 6 then Sort.LessOrEqual else if nat_eq n 7 then Sort.GreaterOrEqual else if nat_eq n 8 then Sort.And else
+    if nat_eq n 9 then Sort.Or else if nat_eq n 10 then Sort.Increment else if nat_eq n 11 then Sort.Decrement else if nat_eq n 12 then Sort.AddSet else
+    if nat_eq n 13 then Sort.SubtractSet else if nat_eq n 14 then Sort.MultiplySet else if nat_eq n 15 then Sort.DivideSet else if nat_eq n 16 then Sort.RemainderSet else
+    if nat_eq n 17 then Sort.LeftBrace else if nat_eq n 18 then Sort.RightBrace else if nat_eq n 19 then Sort.LeftParen else if nat_eq n 20 then Sort.RightParen else
+    if nat_eq n 21 then Sort.LeftBracket else if nat_eq n 22 then Sort.RightBracket else if nat_eq n 23 then Sort.Dot else if nat_eq n 24 then Sort.Semicolon else
+    if nat_eq n 25 then Sort.Comma else if nat_eq n 26 then Sort.Less else if nat_eq n 27 then Sort.Greater else if nat_eq n 28 then Sort.Plus else
+    if nat_eq n 29 then Sort.Minus else if nat_eq n 30 then Sort.Star else if nat_eq n 31 then Sort.Slash else if nat_eq n 32 then Sort.Percent else
+    if nat_eq n 33 then Sort.Not else if nat_eq n 34 then Sort.Question else if nat_eq n 35 then Sort.Colon else if nat_eq n 36 then Sort.Set else
+    Sort.Unsupported
+
+abbrev pub kind_sort : Kind → Sort
+kind_sort (Kind.Name text) = Sort.Name
+kind_sort (Kind.Word text) = word_sort (find_in all_words text)
+kind_sort (Kind.Number n) = Sort.Number
+kind_sort (Kind.Words text) = Sort.Words
+kind_sort (Kind.Mark text) = mark_sort (find_in all_marks text)
+
+unfoldable pub sort : Token → Sort
+sort t = kind_sort t.kind
+
+-- where a token stands
+abbrev pub spot : Token → Spot
+spot t = record { at = t.from; line = t.line }
+
+-- what a token holds: a name, a number, the content of a text literal; a word of any kind behind a dot; a key before a colon
+
+abbrev pub kind_name : Kind → Option (List ℕ)
+kind_name (Kind.Name text) = Some text
+kind_name _ = None
+
+abbrev pub name_at : Option (List ℕ) → Spot → Option Name
+name_at None s = None
+name_at (Some x) s = Some (record { text = x; spot = s })
+
+unfoldable pub named : Token → Option Name
+named t = name_at (kind_name t.kind) (spot t)
+
+abbrev pub kind_number : Kind → Option ℤ
+kind_number (Kind.Number n) = Some n
+kind_number _ = None
+
+unfoldable pub numbered : Token → Option ℤ
+numbered t = kind_number t.kind
+
+abbrev pub kind_words : Kind → Option (List ℕ)
+kind_words (Kind.Words text) = Some text
+kind_words _ = None
+
+unfoldable pub quoted : Token → Option (List ℕ)
+quoted t = kind_words t.kind
+
+abbrev pub kind_member : Kind → Option (List ℕ)
+kind_member (Kind.Name text) = Some text
+kind_member (Kind.Word text) = Some text
+kind_member _ = None
+
+unfoldable pub member_word : Token → Option (List ℕ)
+member_word t = kind_member t.kind
+
+abbrev pub kind_key : Kind → Option (List ℕ)
+kind_key (Kind.Name text) = Some text
+kind_key (Kind.Word text) = Some text
+kind_key (Kind.Words text) = Some text
+kind_key _ = None
+
+unfoldable pub key : Token → Option (List ℕ)
+key t = kind_key t.kind
+
+-- a number for each sort
+abbrev pub code : Sort → ℕ
+code Sort.Name = 0
+code Sort.Number = 1
+code Sort.Words = 2
+code Sort.Unsupported = 3
+code Sort.Same = 4
+code Sort.NotSame = 5
+code Sort.Arrow = 6
+code Sort.Equal = 7
+code Sort.NotEqual = 8
+code Sort.LessOrEqual = 9
+code Sort.GreaterOrEqual = 10
+code Sort.And = 11
+code Sort.Or = 12
+code Sort.Increment = 13
+code Sort.Decrement = 14
+code Sort.AddSet = 15
+code Sort.SubtractSet = 16
+code Sort.MultiplySet = 17
+code Sort.DivideSet = 18
+code Sort.RemainderSet = 19
+code Sort.LeftBrace = 20
+code Sort.RightBrace = 21
+code Sort.LeftParen = 22
+code Sort.RightParen = 23
+code Sort.LeftBracket = 24
+code Sort.RightBracket = 25
+code Sort.Dot = 26
+code Sort.Semicolon = 27
+code Sort.Comma = 28
+code Sort.Less = 29
+code Sort.Greater = 30
+code Sort.Plus = 31
+code Sort.Minus = 32
+code Sort.Star = 33
+code Sort.Slash = 34
+code Sort.Percent = 35
+code Sort.Not = 36
+code Sort.Question = 37
+code Sort.Colon = 38
+code Sort.Set = 39
+code Sort.Const = 40
+code Sort.Let = 41
+code Sort.Var = 42
+code Sort.Function = 43
+code Sort.Return = 44
+code Sort.If = 45
+code Sort.Else = 46
+code Sort.While = 47
+code Sort.For = 48
+code Sort.Break = 49
+code Sort.Continue = 50
+code Sort.True = 51
+code Sort.False = 52
+code Sort.Null = 53
+
+-- the token is of the sort
+abbrev pub is : Sort → Token → Bool
+is k t = nat_eq (code k) (code (sort t))
