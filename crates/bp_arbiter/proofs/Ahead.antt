@@ -16,7 +16,7 @@ use Rattle.bp_run.specs.Story.{Next, next, move, over_with, story, story_from, i
 use Rattle.bp_run.specs.Story.Next.{Ends, Selects, Waits}
 use Rattle.bp_run.specs.Text.{text, lines_text}
 use Rattle.bp_run.proofs.Stories.{alone_is, alone_on, text_prefix, move_lines, move_transitions, move_reading, selects_steps, waits_not, initial_transitions, initial_reading}
-use Rattle.js_tree.specs.declared.straight.Straight.{Straight}
+use Rattle.js_straight.specs.declared.script.Straight.{Straight}
 use Rattle.bp_arbiter.specs.declared.runner.Picked.{Picked}
 use Rattle.bp_arbiter.specs.declared.runner.Picked.TheVariants.{Moved, Wait, Over}
 use Rattle.bp_arbiter.specs.Straight.{straight_code, text_alone}

@@ -9,7 +9,7 @@ use Rattle.bp_run.specs.Settling.{Pair, Entry, unless_at, with_effects, turn, se
 use Rattle.bp_run.specs.Settling.Entry.{The_top, Runs}
 use Rattle.bp_run.proofs.Turns.{settled, unsettled, settle-turn}
 use Rattle.bp_arbiter.specs.Straight.{straight_code, registrations}
-use Rattle.js_tree.specs.declared.straight.Straight.{Straight}
+use Rattle.js_straight.specs.declared.script.Straight.{Straight}
 
 unless_nothing : (v : Option Verdict) (p : Pair ℕ) → unless_at v (λ q. q) p ≡ p
 unless_nothing None p = refl

@@ -14,7 +14,7 @@ use Rattle.bp_run.specs.Settling.Entry.{Runs}
 use Rattle.bp_run.specs.Choosing.{Choice, choice, reach}
 use Rattle.bp_run.specs.Story.{Next, next, next_unless, next_choice, next_idle, next_chosen, weight_after, is_move}
 use Rattle.bp_run.specs.Story.Next.{Ends, Selects, Waits}
-use Rattle.js_tree.specs.declared.straight.Straight.{Straight}
+use Rattle.js_straight.specs.declared.script.Straight.{Straight}
 use Rattle.bp_arbiter.specs.declared.thread.Thread.{Thread}
 use Rattle.bp_arbiter.specs.Straight.{straight_code}
 use Rattle.bp_arbiter.specs.Standing.{first_free, has_another, reached_from}

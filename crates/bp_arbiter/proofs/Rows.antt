@@ -10,8 +10,8 @@ use Rattle.bp_run.specs.Settling.{turn, settle_in, settle, initial}
 use Rattle.bp_run.specs.Choosing.{selectable, choice, reach}
 use Rattle.bp_run.specs.Story.{step, next, after_record, story_from, story, alone_from, alone}
 use Rattle.bp_run.specs.Text.{line_text, lines_text, text}
-use Rattle.js_tree.specs.declared.straight.Point.{Point}
-use Rattle.js_tree.specs.declared.straight.Straight.{Straight}
+use Rattle.js_straight.specs.declared.script.Point.{Point}
+use Rattle.js_straight.specs.declared.script.Straight.{Straight}
 use Rattle.bp_arbiter.specs.Straight.{straight_code, text_alone}
 
 abbrev pub plain : List ℕ → PlainEvent

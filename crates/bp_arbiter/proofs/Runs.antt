@@ -16,7 +16,7 @@ use Rattle.bp_arbiter.specs.Floor.{configuration_of}
 use Rattle.bp_arbiter.specs.declared.floor.Floor.{Floor}
 use Rattle.bp_arbiter.specs.declared.runner.Picked.{Picked}
 use Rattle.bp_arbiter.specs.Stand.{Stand, told, IsIntact, picked_of, Takes}
-use Rattle.js_tree.specs.declared.straight.Straight.{Straight}
+use Rattle.js_straight.specs.declared.script.Straight.{Straight}
 
 goes_at : {O S : Type 0} (l : Code O S) (o : PlainOptions) (c : Configuration O) (x : Next) → next l o c ≡ x → story_from l o (option_to_list (record_of x)) c ≡ Some (after_next l c x)
 unfolding story_from

@@ -14,8 +14,8 @@ use Rattle.bp_run.specs.Settling.{Entry}
 use Rattle.bp_run.specs.Settling.Entry.{Runs}
 use Rattle.bp_run.specs.Choosing.{Choice, Enabled, both, blocked, free, distinct, candidates, or_queued, selectable, choice, chosen, drawn_of, remaining, touched, reach_of, reach, moves_if, without_fault}
 use Rattle.bp_run.proofs.Equality.{same_path, same_refl}
-use Rattle.js_tree.specs.declared.straight.Point.{Point}
-use Rattle.js_tree.specs.declared.straight.Straight.{Straight}
+use Rattle.js_straight.specs.declared.script.Point.{Point}
+use Rattle.js_straight.specs.declared.script.Straight.{Straight}
 use Rattle.bp_arbiter.specs.declared.thread.Thread.{Thread}
 use Rattle.bp_arbiter.specs.Straight.{straight_code, statement_of, outcome_at, points_of, is_in}
 use Rattle.bp_arbiter.specs.Standing.{point_of, request_at, requested_by, blocks_at, blocks, reached_at, is_reached, is_blocked, is_free, first_free, has_another, number_if, reached_from}

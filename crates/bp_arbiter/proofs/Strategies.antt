@@ -9,8 +9,8 @@ use Rattle.bp_run.specs.Events.{same_event}
 use Rattle.bp_run.specs.Configuration.{Live, live_from}
 use Rattle.bp_run.specs.Choosing.{distinct, is_first_of, requested_at, is_greatest, remaining}
 use Rattle.bp_run.proofs.Equality.{same_path, same_refl}
-use Rattle.js_tree.specs.declared.straight.Point.{Point}
-use Rattle.js_tree.specs.declared.straight.Straight.{Straight}
+use Rattle.js_straight.specs.declared.script.Point.{Point}
+use Rattle.js_straight.specs.declared.script.Straight.{Straight}
 use Rattle.bp_arbiter.specs.declared.thread.Thread.{Thread}
 use Rattle.bp_arbiter.specs.Straight.{straight_code, statement_of}
 use Rattle.bp_arbiter.specs.Standing.{point_of, request_at, requested_by}

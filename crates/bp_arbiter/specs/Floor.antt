@@ -3,7 +3,7 @@ use Rattle.std.specs.Prelude.{◌≡◌, ℕ, suc, ◌<◌, List, [], length, ma
 use Rattle.bp_run.specs.Configuration.{Configuration, Thread as Standing, below}
 use Rattle.bp_run.specs.Settling.{Pair, Entry, unless_over, with_part, part_of, body_of}
 use Rattle.bp_run.specs.Settling.Entry.{Runs}
-use Rattle.js_tree.specs.declared.straight.Straight.{Straight}
+use Rattle.js_straight.specs.declared.script.Straight.{Straight}
 use Rattle.bp_arbiter.specs.Straight.{straight_code}
 use Rattle.bp_arbiter.specs.declared.thread.Thread.{Thread}
 use Rattle.bp_arbiter.specs.declared.floor.Floor.{Floor}

@@ -6,7 +6,7 @@ use Rattle.bp_log.specs.declared.record.Record.TheVariants.{In, Bad, Eof, Sel, E
 use Rattle.bp_run.specs.Configuration.{Configuration}
 use Rattle.bp_run.specs.Story.{Next, story}
 use Rattle.bp_run.specs.Story.Next.{Ends, Selects, Waits}
-use Rattle.js_tree.specs.declared.straight.Straight.{Straight}
+use Rattle.js_straight.specs.declared.script.Straight.{Straight}
 use Rattle.bp_arbiter.specs.Straight.{straight_code}
 use Rattle.bp_arbiter.specs.Floor.{configuration_of}
 use Rattle.bp_arbiter.specs.declared.floor.Floor.{Floor}

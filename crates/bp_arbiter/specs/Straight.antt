@@ -8,8 +8,8 @@ use Rattle.bp_run.specs.Bodies.Effect.{Register}
 use Rattle.bp_run.specs.Story.{alone}
 use Rattle.bp_run.specs.Text.{text}
 use Rattle.bp_log.specs.Options.{default_options}
-use Rattle.js_tree.specs.declared.straight.Point.{Point}
-use Rattle.js_tree.specs.declared.straight.Straight.{Straight}
+use Rattle.js_straight.specs.declared.script.Point.{Point}
+use Rattle.js_straight.specs.declared.script.Straight.{Straight}
 
 -- whether this is the event, if there is one
 abbrev pub is_in : Option PlainEvent → PlainEvent → Bool

@@ -6,7 +6,7 @@ use crate::Thread;
 use crate::thread::same;
 use bp_log::Memory;
 use js_data::Event;
-use js_tree::Straight;
+use js_straight::Straight;
 use std::alloc::Global;
 
 /// Whether some b-thread blocks the event.

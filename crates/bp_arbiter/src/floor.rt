@@ -11,7 +11,7 @@ ghost use Rattle.bp_arbiter.specs.Floor.{standing, configuration_of, pair_of, ru
 use crate::Thread;
 use bp_log::{Line, Memory, Verdict};
 use js_data::Text;
-use js_tree::Straight;
+use js_straight::Straight;
 use std::alloc::Global;
 use std::mem;
 

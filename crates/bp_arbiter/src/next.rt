@@ -13,7 +13,7 @@ use crate::Floor;
 use crate::choosing::{first_free, has_another, reached};
 use bp_log::{Memory, Options, Verdict};
 use js_data::Event;
-use js_tree::Straight;
+use js_straight::Straight;
 use std::alloc::Global;
 
 /// The greatest weight of a run.

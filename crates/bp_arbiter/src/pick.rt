@@ -7,7 +7,7 @@ ghost use Rattle.bp_arbiter.specs.Picking.{record_of, after_next};
 
 use crate::{Floor, Next, Selection};
 use bp_log::{Memory, Options, Record};
-use js_tree::Straight;
+use js_straight::Straight;
 use std::alloc::Global;
 
 impl Floor {

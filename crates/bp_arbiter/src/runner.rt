@@ -7,7 +7,7 @@ ghost use Rattle.bp_arbiter.specs.Stand.{told, picked_of, Takes};
 
 use crate::Floor;
 use bp_log::{Line, Memory, Options, Record, Records};
-use js_tree::Script;
+use js_straight::Script;
 use std::alloc::{AllocError, Global};
 use std::marker::Model;
 
@@ -36,7 +36,7 @@ pub struct Runner {
 impl Model for Runner {
     ghost use Rattle.std.specs.Prelude.{◌≡◌, false};
     ghost use Rattle.std.specs.Coded.{codes};
-    ghost use Rattle.js_tree.specs.ThreadCodes.{script_code};
+    ghost use Rattle.js_straight.specs.ThreadCodes.{script_code};
     ghost use Rattle.bp_log.specs.contracts.record.Record as e;
     ghost use Rattle.bp_arbiter.specs.Stand.{Stand, IsIntact};
 

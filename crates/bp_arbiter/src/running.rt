@@ -10,7 +10,7 @@ use crate::lines::print_lines;
 use crate::{Picked, PrintError, Runner};
 use bp_base::Sink;
 use bp_log::{Line, Options};
-use js_tree::Script;
+use js_straight::Script;
 use std::alloc::{AllocError, Global};
 use thiserror::Error;
 

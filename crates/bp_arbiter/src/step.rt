@@ -9,7 +9,7 @@ ghost use Rattle.bp_arbiter.specs.Floor.{standing, configuration_of, pair_of, Is
 use crate::{Floor, Thread};
 use bp_log::{Line, Memory, Verdict};
 use js_data::Event;
-use js_tree::Straight;
+use js_straight::Straight;
 use std::alloc::Global;
 
 /// Gives the event to the b-thread of this number.

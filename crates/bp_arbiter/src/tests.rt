@@ -3,7 +3,7 @@ use crate::{Picked, RunFault, Runner, line_of, print, run};
 use bp_base::MemorySink;
 use bp_log::{Line, Options, Verdict};
 use js_data::{Event, Text};
-use js_tree::{Point, Points, Script, Straight};
+use js_straight::{Point, Points, Script, Straight};
 use std::alloc::Global;
 use std::test::Fail;
 

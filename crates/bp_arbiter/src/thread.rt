@@ -5,7 +5,7 @@ ghost use Rattle.bp_arbiter.specs.Straight.{is_in, points_of};
 ghost use Rattle.bp_arbiter.specs.Standing.{point_of, requested_by, blocks, is_reached};
 
 use js_data::{Event, Text};
-use js_tree::{Point, Straight};
+use js_straight::{Point, Straight};
 
 /// A b-thread that was registered.
 #[derive(Debug, Drop)]

@@ -1,6 +1,10 @@
 -- The run of a straight script ends quiet.
 use Rattle.std.proofs.Common.{◌≡◌, ℕ, zero, suc, ◌+◌, ◌<◌, ◌≤◌, List, [], ◌∷◌, ◌++◌, length, map, refl, ap, ◌∙◌, arith, Option, Some, None}
 use Rattle.js_data.specs.Event.{PlainEvent, event_weight}
+use Rattle.js_lexer.specs.declared.token.Token.{Token}
+use Rattle.js_tree.specs.Plain.{PlainItem}
+use Rattle.js_grammar.specs.Grammar.{SpellsTree}
+use Rattle.js_straight.specs.Straight.{script_of}
 use Rattle.bp_log.specs.Options.{default_options}
 use Rattle.bp_log.specs.declared.record.Record.{Record}
 use Rattle.bp_log.specs.declared.record.Record.TheVariants.{Sel, End}
@@ -11,8 +15,7 @@ use Rattle.bp_run.specs.Settling.Entry.{Runs}
 use Rattle.bp_run.specs.Story.{alone, alone_from, step}
 use Rattle.bp_run.specs.Story.Next.{Ends, Selects}
 use Rattle.bp_run.proofs.Stories.{alone_on}
-use Rattle.js_tree.specs.Straight.{EachThread, IsFirstForm, straight_text}
-use Rattle.js_tree.specs.declared.straight.Straight.{Straight}
+use Rattle.js_straight.specs.declared.script.Straight.{Straight}
 use Rattle.bp_arbiter.specs.Straight.{straight_code}
 use Rattle.bp_quiet.specs.Quiet.{EndsQuiet}
 use Rattle.bp_quiet.proofs.Places.{first_free, is_free, reached_from}
@@ -20,8 +23,9 @@ use Rattle.bp_quiet.proofs.Selecting.{picked, next_quiet, next_selects}
 use Rattle.bp_quiet.proofs.Rooms.{rooms, touched, rooms_touched}
 use Rattle.bp_quiet.proofs.Weights.{Found, found}
 use Rattle.bp_quiet.proofs.Merging.{Fine, fine_settled, fine_stepped, product}
-use Rattle.bp_quiet.proofs.Opening.{total, fine_initial}
-use Rattle.bp_quiet.proofs.Sizes.{script_size}
+use Rattle.bp_quiet.proofs.Opening.{fine_initial}
+use Rattle.bp_quiet.proofs.Spelled.{tree_size, spelled_size}
+use Rattle.bp_quiet.proofs.Sizes.{total, EachThread, Sized, script_size}
 
 abbrev Quietly : List Record → Type 0
 Quietly records = (n : ℕ) × (front : List Record) × (records ≡ front ++ End (Quiet n) ∷ [])
@@ -63,11 +67,12 @@ quiet_from script points room zero c a b f r = absurd (omega arith)
 quiet_from script points room (suc fuel) c a b f r =
     quiet_step script points room fuel c (first_free script f.ts) a b f r refl (λ less d g h. quiet_from script points less fuel d a b g h)
 
-pub ends_quiet : (bytes : List ℕ) (script : List Straight) → IsFirstForm bytes script → EndsQuiet script
+-- a script that so many tokens spell
+pub ends_quiet : (ts : List Token) (is : List PlainItem) (script : List Straight) → length ts ≤ 1048576 → SpellsTree ts is → script_of is ≡ Some script → EndsQuiet script
 unfolding alone
-ends_quiet bytes script h =
-    let size = script_size script in
-    let short : length bytes ≤ 1048576 = h.short in
-    let same : length bytes ≡ length (straight_text script) = ap (λ (t : List ℕ). length t) h.text in
-    let points : total script ≤ 69905 = omega (arith, size, short, same) in
-    quiet_from script (total script) (total script) 100001 (initial (straight_code script) 0) (h.straight).threads points (fine_initial script (h.straight).few) (omega (arith, points))
+ends_quiet ts is script short spelled h =
+    let s : Sized script (tree_size is) = script_size is script h in
+    let tokens = spelled_size spelled in
+    let size = s.points in
+    let points : total script ≤ 69905 = omega (arith, size, short, tokens) in
+    quiet_from script (total script) (total script) 100001 (initial (straight_code script) 0) s.light points (fine_initial script s.few) (omega (arith, points))

@@ -1,8 +1,10 @@
+pub mod Cut
 pub mod Places
 pub mod Selecting
+pub mod Spelled
+pub mod Sizes
 pub mod Rooms
 pub mod Weights
 pub mod Merging
 pub mod Opening
-pub mod Sizes
 pub mod Ends

@@ -8,8 +8,8 @@ use Rattle.bp_run.specs.Settling.{Pair, Entry, unless_at, unless_over, with_outc
 use Rattle.bp_run.specs.Settling.Entry.{Runs}
 use Rattle.bp_run.specs.Choosing.{Choice}
 use Rattle.bp_run.specs.Story.{step, weight_after, touch_all}
-use Rattle.js_tree.specs.declared.straight.Point.{Point}
-use Rattle.js_tree.specs.declared.straight.Straight.{Straight}
+use Rattle.js_straight.specs.declared.script.Point.{Point}
+use Rattle.js_straight.specs.declared.script.Straight.{Straight}
 use Rattle.bp_arbiter.specs.Straight.{straight_code, outcome_at, points_of}
 use Rattle.bp_arbiter.proofs.Loops.{settle_nobody, settle_once}
 use Rattle.bp_arbiter.proofs.Nexts.{weight_is}

@@ -8,11 +8,12 @@ use Rattle.bp_run.specs.Bodies.Effect.{Register}
 use Rattle.bp_run.specs.Configuration.{Configuration, Thread, empty}
 use Rattle.bp_run.specs.Settling.{Pair, Entry, unless_at, unless_over, stopped, registered, with_effect, with_effects, turn, initial}
 use Rattle.bp_run.specs.Settling.Entry.{The_top, Runs}
-use Rattle.js_tree.specs.declared.straight.Straight.{Straight}
+use Rattle.js_straight.specs.declared.script.Straight.{Straight}
 use Rattle.bp_arbiter.specs.Straight.{straight_code, registrations}
 use Rattle.bp_arbiter.proofs.Loops.{opening, initial_from}
 use Rattle.bp_arbiter.proofs.Nexts.{differ}
 use Rattle.bp_quiet.proofs.Places.{Placed, standing}
+use Rattle.bp_quiet.proofs.Sizes.{total}
 use Rattle.bp_quiet.proofs.Rooms.{rooms, room}
 use Rattle.bp_quiet.proofs.Merging.{Fine, fine_settled}
 
@@ -75,11 +76,6 @@ opened_all i (s ∷ rest) ts p h k =
     subst (λ (us : List Placed). Opened us (with_effects Top (registrations (suc i) rest) q)) (append_assoc ts (new i s ∷ []) (fresh (suc i) rest)) ih
 
 -- ---- their rooms
-
--- the number of points of a script
-abbrev pub total : List Straight → ℕ
-total [] = 0
-total (s ∷ script) = length s.points + total script
 
 rooms_shifted : (s : Straight) (script : List Straight) (i : ℕ) (rest : List Straight) → rooms (s ∷ script) (fresh (suc i) rest) ≡ rooms script (fresh i rest)
 rooms_shifted s script i [] = refl

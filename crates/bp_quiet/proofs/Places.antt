@@ -3,8 +3,8 @@ use Rattle.std.proofs.Common.{◌≡◌, ℕ, suc, Bool, true, false, not, List,
 use Rattle.std.specs.List.{list_any}
 use Rattle.js_data.specs.Event.{PlainEvent}
 use Rattle.bp_run.specs.Configuration.{Thread, standing as live_of, at_stop}
-use Rattle.js_tree.specs.declared.straight.Point.{Point}
-use Rattle.js_tree.specs.declared.straight.Straight.{Straight}
+use Rattle.js_straight.specs.declared.script.Point.{Point}
+use Rattle.js_straight.specs.declared.script.Straight.{Straight}
 use Rattle.bp_arbiter.specs.Straight.{straight_code, outcome_at, points_of}
 use Rattle.bp_arbiter.specs.Standing.{request_at, blocks_at, reached_at, number_if}
 use Rattle.bp_arbiter.proofs.Lives.{live_at}

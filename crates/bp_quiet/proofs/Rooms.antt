@@ -1,18 +1,19 @@
--- How many points lie ahead of the b-threads: each that an event moves has one fewer.
-use Rattle.std.proofs.Common.{◌≡◌, ℕ, zero, suc, ◌+◌, ◌-◌, ◌<◌, Bool, true, false, List, [], ◌∷◌, ◌++◌, length, map, refl, ap, ◌∙◌, arith, length-append, Option, Some, None, slice_get, if◌then◌else◌}
-use Rattle.std.proofs.lemmas.Option.{slice_get_within}
+-- How many points lie ahead of the b-threads at which an event can move them: each that is moved has one fewer.
+use Rattle.std.proofs.Common.{◌||◌, is_some, ◌≡◌, ℕ, zero, suc, ◌+◌, ◌-◌, ◌<◌, Bool, true, false, List, [], ◌∷◌, ◌++◌, length, map, refl, ap, ◌∙◌, arith, length-append, Option, Some, None, slice_get, if◌then◌else◌}
+use Rattle.std.specs.Prelude.{drop}
+use Rattle.bp_quiet.proofs.Sizes.{asks, asking, one_if, inside}
 use Rattle.js_data.specs.Event.{PlainEvent}
 use Rattle.bp_run.specs.Configuration.{Thread, change}
 use Rattle.bp_run.specs.Settling.Entry.{Runs}
 use Rattle.bp_run.specs.Story.{touch, touch_all}
-use Rattle.js_tree.specs.declared.straight.Point.{Point}
-use Rattle.js_tree.specs.declared.straight.Straight.{Straight}
-use Rattle.bp_arbiter.specs.Straight.{points_of}
+use Rattle.js_straight.specs.declared.script.Point.{Point}
+use Rattle.js_straight.specs.declared.script.Straight.{Straight}
+use Rattle.bp_arbiter.specs.Straight.{points_of, is_in}
 use Rattle.bp_arbiter.specs.Standing.{reached_at, number_if}
 use Rattle.bp_quiet.proofs.Places.{Placed, standing, is_reached, reached_from}
 
 abbrev pub room : List Straight → Placed → ℕ
-room script t = length (points_of (slice_get script t.place)) - length t.replies
+room script t = asking (drop (length t.replies) (points_of (slice_get script t.place)))
 
 abbrev pub rooms : List Straight → List Placed → ℕ
 rooms script [] = 0
@@ -56,29 +57,48 @@ touched_all script e (t ∷ ts) =
 
 -- ---- their rooms
 
-within_at : (e : PlainEvent) (points : List Point) (k : ℕ) (b : Bool) (o : Option Point) → slice_get points k ≡ o → reached_at e (if b then None else o) ≡ true → k < length points
-within_at e points k true o h r = absurd (cc)
-within_at e points k false None h r = absurd (cc)
-within_at e points k false (Some p) h r = slice_get_within points k p h
+asks_reached : (e : PlainEvent) (r w : Option PlainEvent) → (is_in r e || is_in w e) ≡ true → one_if (is_some r || is_some w) ≡ 1
+asks_reached e None None h = absurd (cc)
+asks_reached e None (Some x) h = refl
+asks_reached e (Some x) w h = refl
 
-room_at : (e : PlainEvent) (points : List Point) (t : Placed) (n : ℕ) (b : Bool) → (b ≡ true → length t.replies < length points) →
-    (length points - length (received e b t).replies) + length (number_if b n) ≡ length points - length t.replies
-room_at e points t n true h =
-    let k = h refl in
-    let one : length (t.replies ++ e ∷ []) ≡ length t.replies + 1 = length-append t.replies (e ∷ []) in
-    omega (arith, k, one)
-room_at e points t n false h = omega arith
+-- the point at which it stands is one less ahead, where the event reaches it
+asks_when : (e : PlainEvent) (p : Point) → reached_at e (Some p) ≡ true → asks p ≡ 1
+asks_when e p h = asks_reached e p.request p.wait_for h
 
-room_less : (e : PlainEvent) (script : List Straight) (t : Placed) (n : ℕ) (b : Bool) → (b ≡ true → length t.replies < length (points_of (slice_get script t.place))) →
+drop_one : (points : List Point) (k : ℕ) (p : Point) → slice_get points k ≡ Some p → asking (drop k points) ≡ asks p + asking (drop (suc k) points)
+drop_one [] k p h = absurd (cc)
+drop_one (q ∷ points) zero p h = ap (λ (x : Point). asks x + asking points) (inside q p h)
+drop_one (q ∷ points) (suc k) p h = drop_one points k p h
+
+room_at : (e : PlainEvent) (points : List Point) (k : ℕ) (b : Bool) (o : Option Point) → slice_get points k ≡ o → reached_at e (if b then None else o) ≡ true →
+    asking (drop (suc k) points) + 1 ≡ asking (drop k points)
+room_at e points k true o h r = absurd (cc)
+room_at e points k false None h r = absurd (cc)
+room_at e points k false (Some p) h r =
+    let one = drop_one points k p h in
+    let asked = asks_when e p r in
+    omega (arith, one, asked)
+
+room_after : (e : PlainEvent) (points : List Point) (t : Placed) (n : ℕ) (b : Bool) →
+    (b ≡ true → asking (drop (suc (length t.replies)) points) + 1 ≡ asking (drop (length t.replies) points)) →
+    asking (drop (length (received e b t).replies) points) + length (number_if b n) ≡ asking (drop (length t.replies) points)
+room_after e points t n true h =
+    let one : length (t.replies ++ e ∷ []) ≡ suc (length t.replies) = length-append t.replies (e ∷ []) ∙ omega arith in
+    ap (λ (k : ℕ). asking (drop k points) + 1) one ∙ h refl
+room_after e points t n false h = omega arith
+
+room_less : (e : PlainEvent) (script : List Straight) (t : Placed) (n : ℕ) (b : Bool) →
+    (b ≡ true → asking (drop (suc (length t.replies)) (points_of (slice_get script t.place))) + 1 ≡ room script t) →
     room script (received e b t) + length (number_if b n) ≡ room script t
-room_less e script t n true h = room_at e (points_of (slice_get script t.place)) t n true h
-room_less e script t n false h = room_at e (points_of (slice_get script t.place)) t n false h
+room_less e script t n true h = room_after e (points_of (slice_get script t.place)) t n true h
+room_less e script t n false h = room_after e (points_of (slice_get script t.place)) t n false h
 
 pub rooms_touched : (script : List Straight) (e : PlainEvent) (n : ℕ) (ts : List Placed) → rooms script (map (touched script e) ts) + length (reached_from script e n ts) ≡ rooms script ts
 rooms_touched script e n [] = refl
 rooms_touched script e n (t ∷ ts) =
     let points = points_of (slice_get script t.place) in
-    let k = room_less e script t n (is_reached script e t) (λ r. within_at e points (length t.replies) t.ended (slice_get points (length t.replies)) refl r) in
+    let k = room_less e script t n (is_reached script e t) (λ r. room_at e points (length t.replies) t.ended (slice_get points (length t.replies)) refl r) in
     let ih = rooms_touched script e (suc n) ts in
     let both = length-append (number_if (is_reached script e t) n) (reached_from script e (suc n) ts) in
     omega (arith, k, ih, both)

@@ -17,8 +17,8 @@ use Rattle.bp_run.specs.Choosing.{Choice, both, blocked, free, distinct, or_queu
 use Rattle.bp_run.specs.Story.{Next, next, next_unless, next_choice, next_idle, next_chosen, weight_after}
 use Rattle.bp_run.specs.Story.Next.{Ends, Selects}
 use Rattle.bp_run.proofs.Equality.{same_path, same_refl}
-use Rattle.js_tree.specs.declared.straight.Point.{Point}
-use Rattle.js_tree.specs.declared.straight.Straight.{Straight}
+use Rattle.js_straight.specs.declared.script.Point.{Point}
+use Rattle.js_straight.specs.declared.script.Straight.{Straight}
 use Rattle.bp_arbiter.specs.Straight.{straight_code, is_in}
 use Rattle.bp_arbiter.specs.Standing.{request_at, blocks_at, reached_at, number_if}
 use Rattle.bp_arbiter.proofs.Lives.{live_at}

@@ -4,19 +4,15 @@ use Rattle.std.specs.List.{cons_option}
 use Rattle.js_data.specs.Event.{PlainEvent, event_weight, extra_weight}
 use Rattle.js_data.specs.Data.{PlainData}
 use Rattle.bp_run.proofs.Equality.{same_refl}
-use Rattle.js_tree.specs.Straight.{IsAsked, EachPoint, EachThread}
-use Rattle.js_tree.specs.declared.straight.Point.{Point}
-use Rattle.js_tree.specs.declared.straight.Straight.{Straight}
+use Rattle.bp_quiet.proofs.Sizes.{IsAsked, EachPoint, EachThread}
+use Rattle.js_straight.specs.declared.script.Point.{Point}
+use Rattle.js_straight.specs.declared.script.Straight.{Straight}
 use Rattle.bp_arbiter.specs.Straight.{points_of}
 use Rattle.bp_arbiter.specs.Standing.{request_at, reached_at, number_if}
 use Rattle.bp_quiet.proofs.Places.{Placed, point_of, requested_by, is_reached, reached_from}
 
 asked_light : (o : Option PlainEvent) (e : PlainEvent) → IsAsked o → o ≡ Some e → event_weight e ≤ 66
-asked_light o e a h =
-    let k : IsAsked (Some e) = subst (λ (x : Option PlainEvent). IsAsked x) h a in
-    let x : extra_weight e.extra ≡ 0 = ap (λ (d : Option PlainData). extra_weight d) k.1 in
-    let n : length e.name ≤ 64 = (k.0).few in
-    omega (arith, x, n)
+asked_light o e a h = subst (λ (x : Option PlainEvent). IsAsked x) h a
 
 point_light : (points : List Point) (k : ℕ) (e : PlainEvent) → EachPoint points → request_at (slice_get points k) ≡ Some e → event_weight e ≤ 66
 point_light [] k e a h = absurd (cc)
@@ -25,7 +21,7 @@ point_light (p ∷ points) (suc k) e a h = point_light points k e a.1 h
 
 each_points : (script : List Straight) (i : ℕ) → EachThread script → EachPoint (points_of (slice_get script i))
 each_points [] i a = tt
-each_points (t ∷ script) zero a = (a.0).points
+each_points (t ∷ script) zero a = a.0
 each_points (t ∷ script) (suc i) a = each_points script i a.1
 
 standing_light : (b : Bool) (points : List Point) (k : ℕ) (e : PlainEvent) → EachPoint points → request_at (if b then None else slice_get points k) ≡ Some e → event_weight e ≤ 66

@@ -5,7 +5,7 @@ use Rattle.bp_log.specs.declared.record.Record.{Record}
 use Rattle.bp_log.specs.declared.record.Record.TheVariants.{End}
 use Rattle.bp_log.specs.declared.verdict.Verdict.TheVariants.{Quiet}
 use Rattle.bp_run.specs.Story.{alone}
-use Rattle.js_tree.specs.declared.straight.Straight.{Straight}
+use Rattle.js_straight.specs.declared.script.Straight.{Straight}
 use Rattle.bp_arbiter.specs.Straight.{straight_code}
 
 -- the last record of the run of a script says that it ended quiet

@@ -1,0 +1,3 @@
+pub mod PointCodes
+pub mod ThreadCodes
+pub mod Straight

@@ -1,4 +1,0 @@
-pub mod Steps
-pub mod Lines
-pub mod Scripts
-pub mod Examples
