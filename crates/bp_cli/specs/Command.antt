@@ -1,5 +1,11 @@
 -- The words of a command, and the notes that it ends with.
-use Rattle.std.specs.Prelude.{ℕ, Bool, true, false, ◌&&◌, ◌==◌, List, [], ◌∷◌, Option, Some, None, bytes_eq, codes, if◌then◌else◌}
+use Rattle.std.specs.Prelude.{ℕ, Bool, true, false, ◌==◌, List, [], ◌∷◌, Option, Some, None, option_map, bytes_eq, codes, if◌then◌else◌}
+use Rattle.bp_cli.specs.declared.words.Verb.{Verb}
+
+-- what is done, and to the program of which name
+pub record PlainCommand : Type 0 where
+  pub verb : Verb
+  pub name : List ℕ
 
 -- a name is `-` or doesn't begin with `-`
 abbrev pub is_name : List ℕ → Bool
@@ -7,22 +13,32 @@ is_name [] = true
 is_name (b ∷ []) = true
 is_name (b ∷ c ∷ rest) = if b == 45 then false else true
 
--- the script's name, where the words are `run` and a name
-abbrev pub command_of : List (List ℕ) → Option (List ℕ)
+abbrev pub verb_of : List ℕ → Option Verb
+verb_of word =
+    if bytes_eq word (codes "run") then Some Verb.Run
+    else if bytes_eq word (codes "accept") then Some Verb.Accept
+    else None
+
+-- `run` or `accept`, and a name
+abbrev pub command_of : List (List ℕ) → Option PlainCommand
 command_of [] = None
 command_of (word ∷ []) = None
-command_of (word ∷ name ∷ []) = if bytes_eq word (codes "run") && is_name name then Some name else None
+command_of (word ∷ name ∷ []) =
+    if is_name name then option_map (λ verb. record { verb = verb; name = name }) (verb_of word) else None
 command_of (word ∷ name ∷ other ∷ rest) = None
+
+abbrev pub name_of : Option PlainCommand → Option (List ℕ)
+name_of None = None
+name_of (Some c) = Some c.name
 
 -- what a wrong command is told
 abbrev pub usage : List ℕ
 usage = codes "usage: bp run [OPTIONS] PROGRAM [INJECTOR]... | bp replay LOG | bp accept PROGRAM | bp large N"
 
--- the note of each status
+-- the note of each status but that of a refused program
 abbrev pub note_of : ℕ → List ℕ
 note_of code =
     if code == 1 then usage
-    else if code == 2 then codes "refused: not yet"
     else if code == 8 then codes "read fault"
     else if code == 9 then codes "write fault"
     else []

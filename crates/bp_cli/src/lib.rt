@@ -3,6 +3,7 @@
 
 mod commands;
 mod status;
+mod words;
 
 pub use commands::command;
 pub use status::Status;

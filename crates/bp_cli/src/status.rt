@@ -1,6 +1,8 @@
 // How a command ends.
 ghost use Rattle.std.specs.Prelude.{◌≡◌, ◌⊎◌, []};
+ghost use Rattle.bp_script.specs.Refusals.{note_of};
 
+use bp_script::Refusal;
 use js_data::Text;
 use std::alloc::Global;
 
@@ -32,6 +34,16 @@ impl Status {
                 code,
                 note: Text::new(text),
             },
+            Err(_) => Status::plain(alloc, 10),
+        }
+    }
+
+    /// The status of a refused program with the words for it, or the one that says that memory is wanting.
+    pub(crate) fn refused(alloc: Global, refusal: &Refusal) -> Status
+        ensures { ((result.code ≡ 2) × (result.note ≡ note_of refusal.now)) ⊎ ((result.code ≡ 10) × (result.note ≡ [])) }
+    {
+        match refusal.note(alloc) {
+            Ok(note) => Status { code: 2, note },
             Err(_) => Status::plain(alloc, 10),
         }
     }

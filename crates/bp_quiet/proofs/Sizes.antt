@@ -142,9 +142,9 @@ waits_once event p = let n = asks_once (is_some p.request || true) in omega (ari
 
 part_if : (a b c x y z : Bool) (event : PlainEvent) (p q : Point) → event_weight event ≤ 66 →
     (if a then (if x then None else Some (record p { request = Some event }))
-     else if b then (if y then None else Some (record p { wait_for = Some event }))
-     else if c then (if z then None else Some (record p { block = Some event }))
-     else None) ≡ Some q → Step p q 8
+    else if b then (if y then None else Some (record p { wait_for = Some event }))
+    else if c then (if z then None else Some (record p { block = Some event }))
+    else None) ≡ Some q → Step p q 8
 part_if true b c true y z event p q w h = absurd (cc)
 part_if true b c false y z event p q w h =
     subst (λ (r : Point). Step p r 8) (inside (record p { request = Some event }) q h)
@@ -166,7 +166,7 @@ parts_step p q (field_in key e fs) h =
     let u = through (λ event. with_part key event p) (event_in e) t.value t.here in
     let v = event_size e u.value u.here in
     let first : Step p t.value 8 =
-        part_if (bytes_eq key (codes "request")) (bytes_eq key (codes "waitFor")) (bytes_eq key (codes "block")) (is_some p.request) (is_some p.wait_for) (is_some p.block) u.value p t.value v.1 u.next in
+    part_if (bytes_eq key (codes "request")) (bytes_eq key (codes "waitFor")) (bytes_eq key (codes "block")) (is_some p.request) (is_some p.wait_for) (is_some p.block) u.value p t.value v.1 u.next in
     let rest = parts_step t.value q fs t.next in
     let a = first.asked in
     let b = rest.asked in

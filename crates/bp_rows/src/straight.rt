@@ -29,7 +29,13 @@ const VENDING_MACHINE: Case = Case {
     trace: "event [\"coin\"]\ndone \"Pay\"\ndone \"Pay before choosing\"\nevent [\"tea chosen\"]\ndone \"Choose\"\nevent [\"cup down\"]\ndone \"Cup under the spout\"\nevent [\"hot water\"]\nevent [\"tea served\"]\ndone \"Brew\"\nverdict quiet 5\n",
 };
 
-const SMALL: [Case; 7] = [
+/// As in `examples/hot_and_cold.js`, with no semicolon.
+const WITHOUT_SEMICOLONS: Case = Case {
+    script: "bp.registerBThread(\"Add hot\", function() {\n  bp.sync({request: bp.Event(\"hot\")})\n  bp.sync({request: bp.Event(\"hot\")})\n})\nbp.registerBThread(\"Add cold\", function() {\n  bp.sync({request: bp.Event(\"cold\")})\n  bp.sync({request: bp.Event(\"cold\")})\n})\nbp.registerBThread(\"Interleave\", function() {\n  bp.sync({waitFor: bp.Event(\"hot\"), block: bp.Event(\"cold\")})\n  bp.sync({waitFor: bp.Event(\"cold\"), block: bp.Event(\"hot\")})\n  bp.sync({waitFor: bp.Event(\"hot\"), block: bp.Event(\"cold\")})\n  bp.sync({waitFor: bp.Event(\"cold\"), block: bp.Event(\"hot\")})\n})\n",
+    trace: HOT_AND_COLD.trace,
+};
+
+const SMALL: [Case; 11] = [
     // no b-thread
     Case {
         script: "",
@@ -65,11 +71,31 @@ const SMALL: [Case; 7] = [
         script: "bp.registerBThread(\"A\", function() {\n  bp.sync({waitFor: bp.Event(\"e\")});\n  bp.sync({request: bp.Event(\"f\")});\n});\nbp.registerBThread(\"B\", function() {\n  bp.sync({request: bp.Event(\"e\")});\n});\n",
         trace: "event [\"e\"]\ndone \"B\"\nevent [\"f\"]\ndone \"A\"\nverdict quiet 2\n",
     },
+    // blank text, comments, and no line end
+    Case {
+        script: " /* nothing */\n// at all",
+        trace: "verdict quiet 0\n",
+    },
+    // other blanks, quotes and line ends, an arrow function, and parts in another order
+    Case {
+        script: "bp.registerBThread('A',()=>{\r\n\r\nbp . sync({ block : bp.Event('y') , request : bp.Event('x') , })\r\n})",
+        trace: "event [\"x\"]\ndone \"A\"\nverdict quiet 1\n",
+    },
+    // parentheses, and texts as keys
+    Case {
+        script: "(bp.registerBThread)((\"A\"), (function() { (bp).sync(({\"request\": (bp.Event)('x')})); }));",
+        trace: "event [\"x\"]\ndone \"A\"\nverdict quiet 1\n",
+    },
+    // an escape in a name
+    Case {
+        script: "bp.registerBThread('\\x41', function() {});",
+        trace: "done \"A\"\nverdict quiet 0\n",
+    },
 ];
 
 #[test]
 fn scripts_print_their_traces(rt: HostRuntime) -> Result<(), Fail> {
-    let examples = [HOT_AND_COLD, CROSSING, VENDING_MACHINE];
+    let examples = [HOT_AND_COLD, CROSSING, VENDING_MACHINE, WITHOUT_SEMICOLONS];
     for (number, case) in examples.iter().chain(SMALL.iter()).enumerate() {
         let ran = run(&rt, rt.alloc(), case.script.as_bytes())?;
         assert_eq!(rt; ran.code, 0, "case {number}");
@@ -88,34 +114,69 @@ const LOOP: &str =
     "bp.registerBThread(\"Add hot\", function() {\n  bp.sync({request: bp.Event(\"hot\")});\n  bp.sync({request: bp.Event(\"hot\")});\n  bp.sync({request: bp.Event(\"hot\")});\n});\nbp.registerBThread(\"Add cold\", function() {\n  bp.sync({request: bp.Event(\"cold\")});\n  bp.sync({request: bp.Event(\"cold\")});\n  bp.sync({request: bp.Event(\"cold\")});\n});\nbp.registerBThread(\"Interleave\", function() {\n  while (true) {\n    bp.sync({waitFor: bp.Event(\"hot\"), block: bp.Event(\"cold\")});\n    bp.sync({waitFor: bp.Event(\"cold\"), block: bp.Event(\"hot\")});\n  }\n});\n";
 
 #[test]
-fn other_scripts_are_refused(rt: HostRuntime) -> Result<(), Fail> {
+fn scripts_that_are_not_straight_are_refused(rt: HostRuntime) -> Result<(), Fail> {
     let cases = [
         LOOP,
-        " ",
-        "\n",
-        // a line end is missing, is another one, or stands twice
-        "bp.registerBThread(\"A\", function() {\n});",
-        "bp.registerBThread(\"A\", function() {\r\n});\r\n",
-        "bp.registerBThread(\"A\", function() {\n\n});\n",
-        // blanks that are missing or stand twice
-        "bp.registerBThread(\"A\",function() {\n});\n",
-        "bp.registerBThread(\"A\", function() {\n bp.sync({});\n});\n",
-        "bp.registerBThread(\"A\", function() {\n  bp.sync({}); \n});\n",
+        // other statements
+        ";",
+        "1",
+        "let a = 1",
+        "function f() {}",
+        "bp.registerBThread('A', function() { ; });",
+        "bp.registerBThread('A', function() { if (true) bp.sync({}); });",
         // a name without letters, and one with another character
-        "bp.registerBThread(\"\", function() {\n});\n",
-        "bp.registerBThread(\"A-B\", function() {\n});\n",
-        "bp.registerBThread('A', function() {\n});\n",
-        // parts in another order, twice, or with another key
-        "bp.registerBThread(\"A\", function() {\n  bp.sync({waitFor: bp.Event(\"x\"), request: bp.Event(\"x\")});\n});\n",
-        "bp.registerBThread(\"A\", function() {\n  bp.sync({request: bp.Event(\"x\"), request: bp.Event(\"x\")});\n});\n",
-        "bp.registerBThread(\"A\", function() {\n  bp.sync({interrupt: bp.Event(\"x\")});\n});\n",
-        "bp.registerBThread(\"A\", function() {\n  bp.sync({request: bp.Event(\"x\", 1)});\n});\n",
-        "bp.registerBThread(\"A\", function() {\n  bp.sync({, block: bp.Event(\"x\")});\n});\n",
+        "bp.registerBThread('', function() {});",
+        "bp.registerBThread('A-B', function() {});",
+        "bp.registerBThread(1, function() {});",
+        // a parameter, a value as a body, and more or fewer arguments
+        "bp.registerBThread('A', function(e) {});",
+        "bp.registerBThread('A', () => bp.sync({}));",
+        "bp.registerBThread('A');",
+        "bp.registerBThread('A', function() {}, 1);",
+        "bp.registerBThread('A', function() { bp.sync({}, 1); });",
+        "bp.registerBThread('A', function() { bp.sync(); });",
+        "bp.registerBThread('A', function() { bp.sync([]); });",
+        // a part that stands twice, another key, and another value
+        "bp.registerBThread('A', function() { bp.sync({request: bp.Event('x'), request: bp.Event('x')}); });",
+        "bp.registerBThread('A', function() { bp.sync({interrupt: bp.Event('x')}); });",
+        "bp.registerBThread('A', function() { bp.sync({request: bp.Event('x', 1)}); });",
+        "bp.registerBThread('A', function() { bp.sync({request: [bp.Event('x')]}); });",
+        "bp.registerBThread('A', function() { bp.sync({waitFor: bp.all}); });",
+        "bp.registerBThread('A', function() { bp.sync({block: 1}); });",
     ];
     for (number, script) in cases.iter().enumerate() {
         let ran = run(&rt, rt.alloc(), script.as_bytes())?;
         assert_eq!(rt; ran.code, 2, "case {number}");
         assert_eq!(rt; ran.note.as_str(), "refused: not yet", "case {number}");
+        assert!(rt; ran.printed.is_empty(), "case {number}");
+    }
+    Ok(())
+}
+
+#[test]
+fn texts_that_spell_nothing_are_refused_with_their_line(rt: HostRuntime) -> Result<(), Fail> {
+    let cases: [(&[u8], &str); 16] = [
+        (b"#", "refused line 1: character"),
+        (b"\n\r\n\r#", "refused line 4: character"),
+        (b"'abc", "refused line 1: open text"),
+        (b"1\n/* \n", "refused line 2: open text"),
+        (b"\n'\\q\\1'", "refused line 2: escape"),
+        (b"9007199254740992", "refused line 1: number range"),
+        (b"let a = 1.5", "refused line 1: unsupported"),
+        (b"1;\n`a`", "refused line 2: unsupported"),
+        (b"a;\nswitch (a) {}", "refused line 2: unsupported"),
+        (b"a &\n| b", "refused line 1: unsupported"),
+        (b"({__proto__: 1})", "refused line 1: unsupported"),
+        (b"\n\xff", "refused line 2: utf-8"),
+        (b"'\xc3", "refused line 1: utf-8"),
+        (b"let a = 1 let b = 2", "refused line 1: no tree"),
+        (b"const a", "refused line 1: no tree"),
+        (b"bp.sync({)", "refused line 1: no tree"),
+    ];
+    for (number, (script, note)) in cases.iter().enumerate() {
+        let ran = run(&rt, rt.alloc(), script)?;
+        assert_eq!(rt; ran.code, 2, "case {number}");
+        assert_eq!(rt; ran.note.as_str(), *note, "case {number}");
         assert!(rt; ran.printed.is_empty(), "case {number}");
     }
     Ok(())
@@ -147,23 +208,13 @@ fn the_form_has_limits(rt: HostRuntime) -> Result<(), Fail> {
 }
 
 #[test]
-fn a_script_has_at_most_1048576_bytes(rt: HostRuntime) -> Result<(), Fail> {
+fn a_program_has_at_most_1048576_bytes(rt: HostRuntime) -> Result<(), Fail> {
     let alloc = rt.alloc();
-    // 40 bytes begin and end the b-thread, and each point has 15
-    for (letters, code) in [(6, 0), (7, 2)] {
-        let mut script = String::new(alloc);
-        script.push_str("bp.registerBThread(\"")?;
-        for _ in 0..letters {
-            script.push_str("a")?;
-        }
-        script.push_str("\", function() {\n")?;
-        for _ in 0..69_902 {
-            script.push_str("  bp.sync({});\n")?;
-        }
-        script.push_str("});\n")?;
-        let ran = run(&rt, rt.alloc(), script.as_str().as_bytes())?;
-        assert_eq!(rt; script.len(), 1_048_570 + letters);
-        assert_eq!(rt; ran.code, code, "{letters} letters");
+    for (size, code, note) in [(1_048_576, 0, ""), (1_048_577, 2, "refused: too long")] {
+        let script = vec![in alloc; b' '; size]?;
+        let ran = run(&rt, rt.alloc(), &script)?;
+        assert_eq!(rt; ran.code, code, "{size} spaces");
+        assert_eq!(rt; ran.note.as_str(), note, "{size} spaces");
     }
     Ok(())
 }

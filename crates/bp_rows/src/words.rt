@@ -8,7 +8,7 @@ const USAGE: &str =
 
 #[test]
 fn wrong_words_are_told_the_usage(rt: HostRuntime) -> Result<(), Fail> {
-    let cases: [&[&str]; 14] = [
+    let cases: [&[&str]; 15] = [
         &[],
         &[""],
         &["run"],
@@ -22,7 +22,8 @@ fn wrong_words_are_told_the_usage(rt: HostRuntime) -> Result<(), Fail> {
         &["run ", "script.js"],
         &["--help"],
         &["replay", "script.js"],
-        &["accept", "script.js"],
+        &["accept"],
+        &["accept", "--script.js"],
     ];
     for (number, words) in cases.iter().enumerate() {
         let ran = run_with(&rt, rt.alloc(), words, b"", NONE)?;

@@ -135,15 +135,27 @@ fn with_part(key: &str, event: Event, point: Point) -> Option<Point>
     } = point;
     if key == "request" {
         let request = alone(request, event)?;
-        return Some(Point { request, wait_for, block });
+        return Some(Point {
+            request,
+            wait_for,
+            block,
+        });
     }
     if key == "waitFor" {
         let wait_for = alone(wait_for, event)?;
-        return Some(Point { request, wait_for, block });
+        return Some(Point {
+            request,
+            wait_for,
+            block,
+        });
     }
     if key == "block" {
         let block = alone(block, event)?;
-        return Some(Point { request, wait_for, block });
+        return Some(Point {
+            request,
+            wait_for,
+            block,
+        });
     }
     None
 }

@@ -1,7 +1,6 @@
 //! Trees: what the text of a program spells.
 #![tactic(auto)]
 
-pub mod build;
 mod ending;
 pub mod tree;
 

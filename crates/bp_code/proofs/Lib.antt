@@ -1,0 +1,4 @@
+mod Pieces
+mod Runs
+mod Verdicts
+pub mod Accepted

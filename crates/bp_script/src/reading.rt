@@ -1,0 +1,159 @@
+//! Bytes read as a straight script.
+ghost use Rattle.std.specs.Prelude.{◌≡◌, ◌≤◌, ◌<◌, length, IfOk, IfErr};
+ghost use Rattle.js_lexer.specs.Gaps.{line_of};
+ghost use Rattle.js_lexer.specs.Lexed.{IsRefusal};
+ghost use Rattle.js_tree.specs.Views.{plain_tree};
+ghost use Rattle.bp_script.specs.Programs.{AreSpelled, AreAccepted, IsScript};
+ghost use Rattle.bp_script.specs.Faults.{IsScriptFault, IsProgramFault, fault_of_parse, fault_of_names, of_name, of_line};
+
+use crate::refusal::{Kind, Refusal, Rule};
+use js_lexer::{LexFault, lex, line_at};
+use js_names::{NameFault, check_names};
+use js_parser::{ParseFault, parse};
+use js_straight::{Script, script_of};
+use js_tree::{Name, Tree};
+use std::alloc::{AllocError, Global};
+use thiserror::Error;
+
+/// Why bytes were not read as a straight script.
+#[derive(Debug, Drop, Error)]
+pub enum ScriptFault {
+    /// They are refused.
+    #[error("the program is refused")]
+    Refused(Refusal),
+    /// No memory was left.
+    #[error("no memory was left")]
+    Memory,
+}
+
+impl From<AllocError> for ScriptFault {
+    ghost use Rattle.std.specs.Prelude.{◌≡◌};
+    ghost use Rattle.bp_script.specs.declared.reading.ScriptFault.TheVariants.{Memory};
+
+    ghost from_gives = { λ _ e. e ≡ Memory };
+
+    fn from(_: AllocError) -> ScriptFault {
+        ScriptFault::Memory
+    }
+}
+
+/// What is wrong on the line of a place.
+fn on_line(bytes: &[u8], place: u32, kind: Kind) -> ScriptFault
+    requires size { length bytes.now ≤ 1048576 }
+    requires within { place ≤ length bytes.now }
+    ensures { result ≡ ScriptFault.Refused (Refusal.OnLine (line_of bytes.now place) kind) }
+{
+    ScriptFault::Refused(Refusal::OnLine(line_at(bytes, place), kind))
+}
+
+/// The refusal of bytes that are not cut into tokens.
+fn no_tokens(bytes: &[u8], fault: LexFault) -> ScriptFault
+    requires size { length bytes.now ≤ 1048576 }
+    requires refusal { IsRefusal bytes.now fault }
+    ensures { IsProgramFault bytes.now result }
+{
+    match fault {
+        LexFault::Character(place) => on_line(bytes, place, Kind::Character),
+        LexFault::OpenText(place) => on_line(bytes, place, Kind::OpenText),
+        LexFault::Escape(place) => on_line(bytes, place, Kind::Escape),
+        LexFault::NumberRange(place) => on_line(bytes, place, Kind::NumberRange),
+        LexFault::Unsupported(place) => on_line(bytes, place, Kind::Unsupported),
+        LexFault::Utf8(place) => on_line(bytes, place, Kind::Utf8),
+        LexFault::Memory => ScriptFault::Memory,
+    }
+}
+
+/// The refusal of tokens that spell no tree.
+fn no_tree(fault: ParseFault) -> ScriptFault
+    ensures { result ≡ fault_of_parse fault }
+{
+    match fault {
+        ParseFault::Unsupported(line) => {
+            ScriptFault::Refused(Refusal::OnLine(line, Kind::Unsupported))
+        }
+        ParseFault::NoTree(line) => ScriptFault::Refused(Refusal::OnLine(line, Kind::NoTree)),
+        ParseFault::Memory => ScriptFault::Memory,
+    }
+}
+
+/// The refusal of a name that breaks a rule.
+fn of_name(rule: Rule, name: Name) -> ScriptFault
+    ensures { result ≡ of_name rule name }
+{
+    ScriptFault::Refused(Refusal::OfName(name.spot.line, rule, name.text))
+}
+
+/// The refusal of what breaks a rule, where the name is not said.
+fn of_line(kind: Kind, name: &Name) -> ScriptFault
+    ensures { result ≡ of_line kind name.now }
+{
+    ScriptFault::Refused(Refusal::OnLine(name.spot.line, kind))
+}
+
+/// The refusal of a tree that breaks a rule of names.
+fn no_names(fault: NameFault) -> ScriptFault
+    ensures { result ≡ fault_of_names fault }
+{
+    match fault {
+        NameFault::Unknown(name) => of_name(Rule::Unknown, name),
+        NameFault::Twice(name) => of_name(Rule::Twice, name),
+        NameFault::AssignConst(name) => of_name(Rule::Const, name),
+        NameFault::Capture(name) => of_name(Rule::Capture, name),
+        NameFault::LoopWord(name) => of_line(Kind::LoopWord, &name),
+        NameFault::ReturnPlace(name) => of_line(Kind::ReturnPlace, &name),
+        NameFault::Slots(name) => of_line(Kind::Slots, &name),
+        NameFault::Memory => ScriptFault::Memory,
+    }
+}
+
+/// The tree that the bytes spell, where they are at most 1,048,576.
+fn tree_of(alloc: Global, bytes: &[u8]) -> Result<Tree, ScriptFault>
+    requires { length bytes.now ≤ 1048576 }
+    ensures tree { IfOk result (λ t. AreSpelled bytes.now (plain_tree t)) }
+    ensures refused { IfErr result (IsProgramFault bytes.now) }
+{
+    let tokens = match lex(alloc, bytes) {
+        Ok(tokens) => tokens,
+        Err(fault) => return Err(no_tokens(bytes, fault)),
+    };
+    match parse(alloc, &tokens) {
+        Ok(tree) => Ok(tree),
+        Err(fault) => Err(no_tree(fault)),
+    }
+}
+
+/// The tree of an accepted program.
+///
+/// # Errors
+///
+/// `Refused` exactly where the bytes are refused so, and never as `NotStraight`; bytes are never both accepted
+/// and refused (`one_reading`).
+pub fn accept(alloc: Global, bytes: &[u8]) -> Result<Tree, ScriptFault>
+    ensures accepted { IfOk result (λ t. AreAccepted bytes.now (plain_tree t)) }
+    ensures refused { IfErr result (IsProgramFault bytes.now) }
+{
+    if bytes.len() > 1_048_576 {
+        return Err(ScriptFault::Refused(Refusal::TooLong));
+    }
+    let tree = tree_of(alloc, bytes)?;
+    match check_names(alloc, &tree) {
+        Ok(_) => Ok(tree),
+        Err(fault) => Err(no_names(fault)),
+    }
+}
+
+/// The straight script that the bytes are.
+///
+/// # Errors
+///
+/// `Refused` exactly where the bytes are refused so; bytes are never both (`one_reading`).
+pub fn read_script(alloc: Global, bytes: &[u8]) -> Result<Script, ScriptFault>
+    ensures script { IfOk result (IsScript bytes.now) }
+    ensures refused { IfErr result (IsScriptFault bytes.now) }
+{
+    let tree = accept(alloc, bytes)?;
+    match script_of(alloc, &tree)? {
+        Some(script) => Ok(script),
+        None => Err(ScriptFault::Refused(Refusal::NotStraight)),
+    }
+}

@@ -1,0 +1,13 @@
+mod Build
+mod ExamplesNames
+mod ExamplesCaptures
+mod ExamplesSlots
+pub mod Stacks
+pub mod Taking
+pub mod Trees
+pub mod Making
+pub mod Holding
+pub mod Firsts
+pub mod Adding
+pub mod Exprs
+pub mod Stmts

@@ -1,0 +1,22 @@
+//! The rules of names.
+#![tactic(auto)]
+
+mod declare;
+mod faults;
+mod first;
+mod forms;
+mod holdings;
+mod lookup;
+mod place;
+mod rules;
+mod scope;
+mod scopes;
+mod seeing;
+mod walk;
+
+pub use faults::{Names, check_names};
+pub use forms::{called_builtin, is_undefined, object_of, value_builtin};
+pub use holdings::{captured, slot_count, vars};
+pub use place::{Around, Declared, NameFault, Role, Seen, What};
+pub use rules::is_constant;
+pub use scope::TOP;

@@ -1,0 +1,10 @@
+//! Resolved programs: nodes with numbers, and names that have become slots and constants.
+#![tactic(auto)]
+
+mod builtin;
+mod node;
+mod program;
+
+pub use builtin::{Builtin, Mode, builtin_of};
+pub use node::{Body, ConstantStart, Content, Declared, Node, NodeForm, Variable};
+pub use program::Program;

@@ -1,0 +1,110 @@
+//! What a node of a resolved program is, and what functions and constants are. Parts are named by their numbers.
+
+use crate::builtin::Builtin;
+use js_data::{Text, Whole};
+use js_tree::{AssignOp, DeclareKind, Fix, Operator, Sign, Step};
+
+/// What a name stands for in its function.
+#[derive(Clone, Copy, Debug, PartialEq, Eq)]
+pub enum Variable {
+    /// A slot of the function.
+    Slot(u32),
+    /// A constant of the program.
+    Constant(u32),
+}
+
+/// A declared variable, and the number of its value, if it has one.
+#[derive(Clone, Copy, Debug)]
+pub struct Declared {
+    pub variable: Variable,
+    pub value: Option<u32>,
+}
+
+/// The form of a node, with the numbers of its parts in the order in which they begin in the text.
+#[derive(Debug, Drop)]
+pub enum NodeForm {
+    Number(Whole),
+    Words(Text),
+    Truth(bool),
+    Null,
+    Undefined,
+    Read(Variable),
+    List(Vec<u32>),
+    /// Keys and values.
+    Fields(Vec<(Text, u32)>),
+    /// `x.word`
+    Member(u32, Text),
+    /// `x[i]`
+    Index(u32, u32),
+    /// A function and the arguments.
+    Call(u32, Vec<u32>),
+    /// `x.word(..)`
+    Method(u32, Text, Vec<u32>),
+    /// A form of `bp` or `Math` with its arguments; `bp.all` and `bp.none` have none.
+    Builtin(Builtin, Vec<u32>),
+    /// `Math.floor(a / b)`, and the arguments after it.
+    FloorDivide(u32, u32, Vec<u32>),
+    Unary(Sign, u32),
+    Update(Step, Fix, Variable),
+    Binary(Operator, u32, u32),
+    /// `test ? a : b`
+    Conditional(u32, u32, u32),
+    Assign(AssignOp, Variable, u32),
+    /// The function of this number.
+    Function(u32),
+    Empty,
+    /// The variables that are not declared yet as it begins, and the statements.
+    Block(Vec<Variable>, Vec<u32>),
+    Declaration(DeclareKind, Vec<Declared>),
+    Expression(u32),
+    If(u32, u32),
+    IfElse(u32, u32, u32),
+    While(u32, u32),
+    /// `for (first; test; next) body`, with the variables that are not declared yet as it begins.
+    For(Vec<Variable>, Option<u32>, Option<u32>, Option<u32>, u32),
+    /// `for (let variable of list) body`; the variable is not declared yet as the list begins.
+    ForOf(Variable, u32, u32),
+    Break,
+    Continue,
+    ReturnNothing,
+    Return(u32),
+}
+
+/// A statement or an expression: the line of its first token, and its form.
+#[derive(Debug, Drop)]
+pub struct Node {
+    pub line: u32,
+    pub form: NodeForm,
+}
+
+/// What a call runs.
+#[derive(Debug, Drop)]
+pub enum Content {
+    Statements(Vec<u32>),
+    /// One expression, whose value is the answer.
+    OneValue(u32),
+}
+
+/// A function, or the top level. Its slots hold the parameters, then the captured values, then its other variables.
+#[derive(Debug, Drop)]
+pub struct Body {
+    pub parameters: u32,
+    pub slots: u32,
+    /// For each captured value, its slot in the function around.
+    pub captures: Vec<u32>,
+    /// The slots that are undefined as it begins; its other variables are not declared yet.
+    pub vars: Vec<u32>,
+    pub content: Content,
+    pub line: u32,
+}
+
+/// What a constant is before the program runs.
+#[derive(Clone, Copy, Debug, PartialEq, Eq)]
+pub enum ConstantStart {
+    /// The function of this number.
+    OfFunction(u32),
+    /// A `let` or `const`.
+    Undeclared,
+    /// A `var`.
+    Unset,
+}

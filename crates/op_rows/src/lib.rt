@@ -1,0 +1,15 @@
+//! Tables of tests of the operators.
+#![tactic(auto)]
+
+#[cfg(test)]
+mod equality;
+#[cfg(test)]
+mod kinds;
+#[cfg(test)]
+mod limits;
+#[cfg(test)]
+mod numbers;
+#[cfg(test)]
+mod parts;
+#[cfg(test)]
+mod words;
