@@ -29,7 +29,11 @@ fn accepted_programs_are_told_so(rt: HostRuntime) -> Result<(), Fail> {
         )?;
         assert_eq!(rt; ran.code, 0, "case {number}");
         assert!(rt; ran.note.is_empty(), "case {number}");
-        assert_eq!(rt; ran.printed.as_slice(), b"accepted\n", "case {number}");
+        assert_eq!(rt;
+            ran.printed.as_slice(),
+            b"accepted\n".as_slice(),
+            "case {number}"
+        );
     }
     Ok(())
 }

@@ -32,7 +32,7 @@ const VENDING_MACHINE: Case = Case {
 /// As in `examples/hot_and_cold.js`, with no semicolon.
 const WITHOUT_SEMICOLONS: Case = Case {
     script: "bp.registerBThread(\"Add hot\", function() {\n  bp.sync({request: bp.Event(\"hot\")})\n  bp.sync({request: bp.Event(\"hot\")})\n})\nbp.registerBThread(\"Add cold\", function() {\n  bp.sync({request: bp.Event(\"cold\")})\n  bp.sync({request: bp.Event(\"cold\")})\n})\nbp.registerBThread(\"Interleave\", function() {\n  bp.sync({waitFor: bp.Event(\"hot\"), block: bp.Event(\"cold\")})\n  bp.sync({waitFor: bp.Event(\"cold\"), block: bp.Event(\"hot\")})\n  bp.sync({waitFor: bp.Event(\"hot\"), block: bp.Event(\"cold\")})\n  bp.sync({waitFor: bp.Event(\"cold\"), block: bp.Event(\"hot\")})\n})\n",
-    trace: HOT_AND_COLD.trace,
+    trace: "event [\"hot\"]\nevent [\"cold\"]\nevent [\"hot\"]\ndone \"Add hot\"\nevent [\"cold\"]\ndone \"Add cold\"\ndone \"Interleave\"\nverdict quiet 4\n",
 };
 
 const SMALL: [Case; 11] = [
