@@ -813,7 +813,7 @@ mod tests {
             let text = nested(rt.alloc(), front, times, middle, back)?;
             let found = shown(rt.alloc(), text.as_str().as_bytes())?;
             assert_ne!(rt; found.as_str(), "NoTree(1)", "{front}{middle}{back}");
-            let text = nested(rt.alloc(), front, times + 1, middle, back)?;
+            let text = nested(rt.alloc(), front, times.saturating_add(1), middle, back)?;
             let found = shown(rt.alloc(), text.as_str().as_bytes())?;
             assert_eq!(rt; found.as_str(), "NoTree(1)", "{front}{middle}{back}");
         }
