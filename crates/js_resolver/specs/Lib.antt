@@ -5,3 +5,4 @@ pub mod Nodes
 pub mod Emits
 pub mod Resolved
 pub mod Starts
+pub mod Parts
