@@ -1,0 +1,8 @@
+mod Build
+mod ExamplesNames
+mod ExamplesCaptures
+mod ExamplesSlots
+pub mod Stacks
+pub mod Taking
+pub mod Trees
+pub mod Making

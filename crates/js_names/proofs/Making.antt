@@ -1,0 +1,37 @@
+-- Scopes that are made from maps.
+use Rattle.std.proofs.Common.{◌≡◌, ℕ, List, [], ◌∷◌, ◌++◌, ◌∙◌, ap, refl, sym, map, Bool, true, false}
+use Rattle.std.specs.Str.{bytes_eq}
+use Rattle.std.specs.List.{flat_map}
+use Rattle.std.specs.Map.{lookup}
+use Rattle.std.specs.Prelude.{string_bytes}
+use Rattle.std.specs.HashMap.{get_by_text}
+use Rattle.js_tree.specs.declared.tree.Item.{Item}
+use Rattle.js_tree.specs.Views.{plain_item}
+use Rattle.js_names.specs.Scopes.{Entry, first, named, one_var, scope_with, own_of_item, vars_of_item}
+use Rattle.js_names.specs.Places.{or_else}
+use Rattle.js_names.specs.Views.{Names, merge, TakesOwn, TakesVars, scope_of, own_of_tree_item, vars_of_tree_item}
+
+-- a map that was empty has what it took in
+own_from_empty : (a b : Names) (xs : List Entry) → a.entries ≡ [] → TakesOwn a b xs → (q : List ℕ) → get_by_text b q ≡ first (named q xs)
+own_from_empty a b xs e t q = t q ∙ ap (λ es. or_else (lookup (λ k. bytes_eq q (string_bytes k)) es) (first (named q xs))) e
+
+vars_from_empty : (a b : Names) (xs : List Entry) → a.entries ≡ [] → TakesVars a b xs → (q : List ℕ) → get_by_text b q ≡ one_var (named q xs)
+vars_from_empty a b xs e t q = t q ∙ ap (λ es. merge (lookup (λ k. bytes_eq q (string_bytes k)) es) (one_var (named q xs))) e
+
+-- two maps that were empty make a scope
+pub scope_made : (a own b vars : Names) (xs ys : List Entry) (w : Bool) (o : ℕ) → a.entries ≡ [] → b.entries ≡ [] → TakesOwn a own xs → TakesVars b vars ys
+    → scope_of (record { own = own; vars = vars; whole = w; owner = o }) ≡ scope_with xs ys w o
+scope_made a own b vars xs ys w o d e t u = λ i. record {
+  own = λ q. own_from_empty a own xs d t q i;
+  vars = λ q. vars_from_empty b vars ys e u q i;
+  whole = w;
+  owner = o;
+}
+
+pub own_of_tree : (is : List Item) → flat_map own_of_tree_item is ≡ flat_map own_of_item (map plain_item is)
+own_of_tree [] = refl
+own_of_tree (i ∷ is) = ap (λ es. own_of_tree_item i ++ es) (own_of_tree is)
+
+pub vars_of_tree : (is : List Item) → flat_map vars_of_tree_item is ≡ flat_map vars_of_item (map plain_item is)
+vars_of_tree [] = refl
+vars_of_tree (i ∷ is) = ap (λ es. vars_of_tree_item i ++ es) (vars_of_tree is)

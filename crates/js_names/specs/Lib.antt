@@ -1,0 +1,6 @@
+pub mod Scopes
+pub mod Sites
+pub mod Places
+pub mod Slots
+pub mod Rules
+pub mod Views

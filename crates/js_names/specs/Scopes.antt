@@ -1,0 +1,162 @@
+-- Scopes: which names a block, a function and the program declare.
+use Rattle.std.specs.Prelude.{ℕ, Bool, true, false, max, List, [], ◌∷◌, ◌++◌, Option, Some, None, if◌then◌else◌}
+use Rattle.std.specs.Str.{bytes_eq}
+use Rattle.std.specs.List.{flat_map}
+use Rattle.js_tree.specs.declared.tree.Name.{Name}
+use Rattle.js_tree.specs.declared.tree.DeclareKind.{DeclareKind}
+use Rattle.js_tree.specs.declared.tree.DeclareKind.TheVariants.{Const as const_word, Let as let_word, Var as var_word}
+use Rattle.js_tree.specs.Plain.{PlainPerhaps, absent, present, PlainDeclarators, no_declarators, declarator_in, PlainStart, nothing, declared, started, PlainStmt, on, PlainStmtForm, empty, block, declaration, expression, if_alone, if_else, while_of, for_of_three, for_each, break_of, continue_of, return_nothing, return_of, PlainStmts, no_stmts, stmt_in, PlainItem, statement, function_of}
+use Rattle.js_names.specs.declared.place.Role.{Role}
+use Rattle.js_names.specs.declared.place.Role.TheVariants.{Parameter, Const, Let, Var, Function}
+use Rattle.js_names.specs.declared.place.Declared.{Declared}
+
+-- a name with its declaration, and whether the declarator has a value
+pub record Entry : Type 0 where
+  pub name : List ℕ
+  pub declared : Declared
+  pub has_value : Bool
+
+-- a scope: what its own names are, what the `var`s in it declare, whether it is a whole function's or the program's, and the function that it belongs to
+pub record Scope : Type 0 where
+  pub own : List ℕ → Option Declared
+  pub vars : List ℕ → Option Declared
+  pub whole : Bool
+  pub owner : ℕ
+
+-- the place of the top level, as that of a function: a text is shorter, so no function begins there
+abbrev pub top : ℕ
+top = 4294967295
+
+-- the declarations of a name
+abbrev pub named : List ℕ → List Entry → List Declared
+named q [] = []
+named q (e ∷ es) = if bytes_eq e.name q then e.declared ∷ named q es else named q es
+
+-- the first of them
+abbrev pub first : List Declared → Option Declared
+first [] = None
+first (d ∷ ds) = Some d
+
+-- the `var`s of one name are one variable: the first, which stands directly in the body only where it is alone
+abbrev pub one_var : List Declared → Option Declared
+one_var [] = None
+one_var (d ∷ []) = Some d
+one_var (d ∷ e ∷ ds) = Some (record d { direct = false })
+
+abbrev pub scope_with : List Entry → List Entry → Bool → ℕ → Scope
+scope_with own vars whole owner = record { own = λ q. first (named q own); vars = λ q. one_var (named q vars); whole = whole; owner = owner }
+
+abbrev pub entry : Name → Role → ℕ → ℕ → Bool → Bool → Entry
+entry name role end owner direct has_value =
+    record { name = name.text; declared = record { role = role; place = name.spot.at; end = end; owner = owner; direct = direct }; has_value = has_value }
+
+abbrev pub is_present : PlainPerhaps → Bool
+is_present absent = false
+is_present (present e) = true
+
+-- what a declarator of `let` or `const` declares
+abbrev pub own_declarator : ℕ → Bool → DeclareKind → Name → PlainPerhaps → ℕ → List Entry
+own_declarator owner direct const_word name value end = entry name Const end owner direct (is_present value) ∷ []
+own_declarator owner direct let_word name value end = entry name Let end owner direct (is_present value) ∷ []
+own_declarator owner direct var_word name value end = []
+
+abbrev pub own_declarators : ℕ → Bool → DeclareKind → PlainDeclarators → List Entry
+own_declarators owner direct kind no_declarators = []
+own_declarators owner direct kind (declarator_in name value end ds) = own_declarator owner direct kind name value end ++ own_declarators owner direct kind ds
+
+-- what a declarator of `var` declares
+abbrev pub var_declarator : ℕ → Bool → DeclareKind → Name → PlainPerhaps → ℕ → List Entry
+var_declarator owner direct const_word name value end = []
+var_declarator owner direct let_word name value end = []
+var_declarator owner direct var_word name value end = entry name Var end owner direct (is_present value) ∷ []
+
+abbrev pub var_declarators : ℕ → Bool → DeclareKind → PlainDeclarators → List Entry
+var_declarators owner direct kind no_declarators = []
+var_declarators owner direct kind (declarator_in name value end ds) = var_declarator owner direct kind name value end ++ var_declarators owner direct kind ds
+
+-- the `let` and `const` names that a statement declares for the list in which it stands
+abbrev pub own_of : ℕ → Bool → PlainStmt → List Entry
+own_of owner direct (on line (declaration kind ds)) = own_declarators owner direct kind ds
+own_of owner direct _ = []
+
+abbrev pub own_of_all : ℕ → Bool → PlainStmts → List Entry
+own_of_all owner direct no_stmts = []
+own_of_all owner direct (stmt_in s ss) = own_of owner direct s ++ own_of_all owner direct ss
+
+-- those of the head of a `for`
+abbrev pub own_of_start : ℕ → PlainStart → List Entry
+own_of_start owner nothing = []
+own_of_start owner (declared line kind ds) = own_declarators owner false kind ds
+own_of_start owner (started e) = []
+
+abbrev pub vars_of_start : ℕ → PlainStart → List Entry
+vars_of_start owner nothing = []
+vars_of_start owner (declared line kind ds) = var_declarators owner false kind ds
+vars_of_start owner (started e) = []
+
+-- the `var` names in a statement, at any depth outside inner functions; `direct` says that it stands in the list of its function or of the program
+abbrev mutual
+  pub vars_of : ℕ → Bool → PlainStmt → List Entry
+  vars_of owner direct (on line form) = vars_of_form owner direct form
+
+  pub vars_of_form : ℕ → Bool → PlainStmtForm → List Entry
+  vars_of_form owner direct empty = []
+  vars_of_form owner direct (block ss) = vars_of_all owner false ss
+  vars_of_form owner direct (declaration kind ds) = var_declarators owner direct kind ds
+  vars_of_form owner direct (expression e) = []
+  vars_of_form owner direct (if_alone e s) = vars_of owner false s
+  vars_of_form owner direct (if_else e s other) = vars_of owner false s ++ vars_of owner false other
+  vars_of_form owner direct (while_of e s) = vars_of owner false s
+  vars_of_form owner direct (for_of_three start test next s) = vars_of_start owner start ++ vars_of owner false s
+  vars_of_form owner direct (for_each kind name e s) = vars_of owner false s
+  vars_of_form owner direct (break_of spot) = []
+  vars_of_form owner direct (continue_of spot) = []
+  vars_of_form owner direct (return_nothing spot) = []
+  vars_of_form owner direct (return_of spot e) = []
+
+  pub vars_of_all : ℕ → Bool → PlainStmts → List Entry
+  vars_of_all owner direct no_stmts = []
+  vars_of_all owner direct (stmt_in s ss) = vars_of owner direct s ++ vars_of_all owner direct ss
+
+-- the greatest end of the `var`s with a value that have this name, which are its declarators too
+abbrev pub last_end : List ℕ → ℕ → List Entry → ℕ
+last_end q end [] = end
+last_end q end (e ∷ es) = last_end q (if bytes_eq e.name q then (if e.has_value then max end e.declared.end else end) else end) es
+
+abbrev pub parameters : ℕ → List Entry → List Name → List Entry
+parameters owner vars [] = []
+parameters owner vars (n ∷ ns) = entry n Parameter (last_end n.text n.spot.at vars) owner false true ∷ parameters owner vars ns
+
+-- the scope of a block
+unfoldable pub block_scope : ℕ → PlainStmts → Scope
+block_scope owner ss = scope_with (own_of_all owner false ss) (vars_of_all owner false ss) false owner
+
+-- the scope of a `for` with three parts
+unfoldable pub for_scope : ℕ → PlainStart → PlainStmt → Scope
+for_scope owner start s = scope_with (own_of_start owner start) (vars_of_start owner start ++ vars_of owner false s) false owner
+
+abbrev pub each_role : DeclareKind → Role
+each_role const_word = Const
+each_role let_word = Let
+each_role var_word = Let
+
+-- the scope of a `for` over a list, in which its list stands too
+unfoldable pub each_scope : ℕ → DeclareKind → Name → PlainStmt → Scope
+each_scope owner kind name s = scope_with (entry name (each_role kind) name.spot.at owner false true ∷ []) (vars_of owner false s) false owner
+
+-- the scope of a function, with its parameters
+unfoldable pub function_scope : ℕ → List Name → PlainStmts → Scope
+function_scope owner names ss =
+    let vars = vars_of_all owner true ss in scope_with (parameters owner vars names ++ own_of_all owner true ss) vars true owner
+
+abbrev pub own_of_item : PlainItem → List Entry
+own_of_item (statement s) = own_of top true s
+own_of_item (function_of spot name names ss) = entry name Function name.spot.at top true true ∷ []
+
+abbrev pub vars_of_item : PlainItem → List Entry
+vars_of_item (statement s) = vars_of top true s
+vars_of_item (function_of spot name names ss) = []
+
+-- the scope of the program
+unfoldable pub program_scope : List PlainItem → Scope
+program_scope items = scope_with (flat_map own_of_item items) (flat_map vars_of_item items) true top

@@ -1,0 +1,18 @@
+//! Scopes, as the walk over a tree holds them.
+
+use crate::place::Declared;
+use indexmap::IndexMap;
+
+/// The place of the top level, as that of a function: no function begins there.
+pub const TOP: u32 = u32::MAX;
+
+/// A block, a `for`, a function or the program: its own names, and the `var` names declared at any depth in it.
+#[derive(Drop)]
+pub struct Scope {
+    pub own: IndexMap<String, Declared>,
+    pub vars: IndexMap<String, Declared>,
+    /// It is a whole function's, or the program's.
+    pub whole: bool,
+    /// The place of the function that it belongs to.
+    pub owner: u32,
+}

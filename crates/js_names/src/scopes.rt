@@ -1,0 +1,169 @@
+//! The scopes of blocks, loops and the program, made from their trees.
+ghost use Rattle.std.specs.Prelude.{◌≡◌, IfOk, OnOk, map};
+ghost use Rattle.std.specs.List.{flat_map};
+ghost use Rattle.js_tree.specs.Plain.{stmts_of};
+ghost use Rattle.js_tree.specs.Views.{plain_stmt, plain_start, plain_tree};
+ghost use Rattle.js_names.specs.Scopes.{block_scope, for_scope, each_scope, program_scope};
+ghost use Rattle.js_names.specs.Views.{TakesOwn, TakesVars, scope_of, own_of_tree_item, vars_of_tree_item};
+
+use crate::declare::{
+    declare_list_vars, declare_own, declare_own_stmt, declare_own_stmts, declare_start_own,
+    declare_start_vars, declare_stmt_vars,
+};
+use crate::place::{Declared, Role};
+use crate::scope::{Scope, TOP};
+use indexmap::IndexMap;
+use js_tree::{DeclareKind, Item, Name, Start, Stmt, Tree};
+use std::alloc::{AllocError, Global};
+
+/// The scope of a block.
+pub fn block_scope(alloc: Global, owner: u32, body: &[Stmt]) -> Result<Scope, AllocError>
+    ensures { IfOk result (λ s. scope_of s ≡ block_scope owner (stmts_of (map plain_stmt body.now))) }
+{
+    let mut own = IndexMap::new(alloc);
+    declare_own_stmts(alloc, &mut own, owner, false, body)?;
+    let mut vars = IndexMap::new(alloc);
+    declare_list_vars(alloc, &mut vars, owner, false, body)?;
+    Ok(Scope {
+        own,
+        vars,
+        whole: false,
+        owner,
+    })
+}
+
+/// The scope of a `for` with three parts.
+pub fn for_scope(
+    alloc: Global,
+    owner: u32,
+    start: &Start,
+    body: &Stmt,
+) -> Result<Scope, AllocError>
+    ensures { IfOk result (λ s. scope_of s ≡ for_scope owner (plain_start start.now) (plain_stmt body.now)) }
+{
+    let mut own = IndexMap::new(alloc);
+    declare_start_own(alloc, &mut own, owner, start)?;
+    let mut vars = IndexMap::new(alloc);
+    declare_start_vars(alloc, &mut vars, owner, start)?;
+    declare_stmt_vars(alloc, &mut vars, owner, false, body)?;
+    Ok(Scope {
+        own,
+        vars,
+        whole: false,
+        owner,
+    })
+}
+
+/// The scope of a `for` over a list.
+pub fn each_scope(
+    alloc: Global,
+    owner: u32,
+    kind: DeclareKind,
+    name: &Name,
+    body: &Stmt,
+) -> Result<Scope, AllocError>
+    ensures { IfOk result (λ s. scope_of s ≡ each_scope owner kind name.now (plain_stmt body.now)) }
+{
+    let role = match kind {
+        DeclareKind::Const => Role::Const,
+        DeclareKind::Let | DeclareKind::Var => Role::Let,
+    };
+    let declared = Declared {
+        role,
+        place: name.spot.at,
+        end: name.spot.at,
+        owner,
+        direct: false,
+    };
+    let mut own = IndexMap::new(alloc);
+    declare_own(alloc, &mut own, name, declared)?;
+    let mut vars = IndexMap::new(alloc);
+    declare_stmt_vars(alloc, &mut vars, owner, false, body)?;
+    Ok(Scope {
+        own,
+        vars,
+        whole: false,
+        owner,
+    })
+}
+
+// Declares the `let`, `const` or function name of an item of the program.
+fn declare_item(
+    alloc: Global,
+    own: &mut IndexMap<String, Declared>,
+    item: &Item,
+) -> Result<(), AllocError>
+    ensures { OnOk result (TakesOwn own.old own.new (own_of_tree_item item.now)) }
+{
+    match item {
+        Item::Statement(stmt) => declare_own_stmt(alloc, own, TOP, true, stmt),
+        Item::Function(_, name, _, _) => {
+            let declared = Declared {
+                role: Role::Function,
+                place: name.spot.at,
+                end: name.spot.at,
+                owner: TOP,
+                direct: true,
+            };
+            declare_own(alloc, own, name, declared)
+        }
+    }
+}
+
+// Declares the `var` names of an item of the program.
+fn declare_item_vars(
+    alloc: Global,
+    vars: &mut IndexMap<String, Declared>,
+    item: &Item,
+) -> Result<(), AllocError>
+    ensures { OnOk result (TakesVars vars.old vars.new (vars_of_tree_item item.now)) }
+{
+    match item {
+        Item::Statement(stmt) => declare_stmt_vars(alloc, vars, TOP, true, stmt),
+        Item::Function(_, _, _, _) => Ok(()),
+    }
+}
+
+// The own names of the program.
+fn own_of_items(
+    alloc: Global,
+    own: &mut IndexMap<String, Declared>,
+    items: &[Item],
+) -> Result<(), AllocError>
+    ensures { OnOk result (TakesOwn own.old own.new (flat_map own_of_tree_item items.now)) }
+{
+    for item in items {
+        declare_item(alloc, own, item)?;
+    }
+    Ok(())
+}
+
+// The `var` names of the program.
+fn vars_of_items(
+    alloc: Global,
+    vars: &mut IndexMap<String, Declared>,
+    items: &[Item],
+) -> Result<(), AllocError>
+    ensures { OnOk result (TakesVars vars.old vars.new (flat_map vars_of_tree_item items.now)) }
+{
+    for item in items {
+        declare_item_vars(alloc, vars, item)?;
+    }
+    Ok(())
+}
+
+/// The scope of the program.
+pub fn program_scope(alloc: Global, tree: &Tree) -> Result<Scope, AllocError>
+    ensures { IfOk result (λ s. scope_of s ≡ program_scope (plain_tree tree.now)) }
+{
+    let mut own = IndexMap::new(alloc);
+    own_of_items(alloc, &mut own, &tree.items)?;
+    let mut vars = IndexMap::new(alloc);
+    vars_of_items(alloc, &mut vars, &tree.items)?;
+    Ok(Scope {
+        own,
+        vars,
+        whole: true,
+        owner: TOP,
+    })
+}

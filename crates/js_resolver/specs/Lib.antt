@@ -1,0 +1,3 @@
+pub mod Variables
+pub mod Nodes
+pub mod Resolved

@@ -1,0 +1,46 @@
+-- The resolved program of a tree.
+use Rattle.std.specs.Prelude.{ℕ, Bool, true, false, nat_eq, List, [], ◌∷◌, Option, Some, None, map, if◌then◌else◌}
+use Rattle.js_tree.specs.declared.tree.Spot.{Spot}
+use Rattle.js_tree.specs.Plain.{PlainItem, statement, function_of}
+use Rattle.js_program.specs.PlainProgram.{PlainProgram, PlainConstant, of_function, undeclared, unset}
+use Rattle.js_names.specs.declared.place.Declared.{Declared}
+use Rattle.js_names.specs.declared.place.NameFault.{NameFault}
+use Rattle.js_names.specs.Scopes.{top}
+use Rattle.js_names.specs.Sites.{program_spot}
+use Rattle.js_names.specs.Places.{Place, places, is_var}
+use Rattle.js_names.specs.Slots.{assigned_in, constants_of}
+use Rattle.js_names.specs.Rules.{name_fault}
+use Rattle.js_resolver.specs.Variables.{code_at, body_of, first_some}
+use Rattle.js_resolver.specs.Nodes.{Piece, items_piece}
+
+-- a function declaration whose name stands at a place is a constant with its value from the start
+abbrev pub function_named : List Place → ℕ → PlainItem → Option PlainConstant
+function_named ps v (statement s) = None
+function_named ps v (function_of spot name names ss) = if nat_eq name.spot.at v then Some (of_function (code_at ps spot.at)) else None
+
+abbrev pub constant_there : ℕ → Option Declared → Option PlainConstant
+constant_there v None = None
+constant_there v (Some d) = if nat_eq d.place v then Some (if is_var d.role then unset else undeclared) else None
+
+abbrev pub constant_of : List PlainItem → List Place → ℕ → PlainConstant
+constant_of items ps v = first_some (first_some undeclared (map (λ (p : Place). constant_there v p.declared) ps)) (map (function_named ps v) items)
+
+abbrev pub program_with : List PlainItem → List Place → Piece → PlainProgram
+program_with items ps x = record {
+  nodes = x.nodes;
+  functions = x.functions;
+  constants = map (constant_of items ps) (constants_of (assigned_in ps) ps);
+  top = body_of ps top 0 false x.parts (program_spot items).line;
+}
+
+-- the program of a tree
+unfoldable pub program_of_tree : List PlainItem → PlainProgram
+program_of_tree items = let ps = places items in program_with items ps (items_piece ps 0 items)
+
+abbrev pub unless_fault : Option NameFault → PlainProgram → Option PlainProgram
+unless_fault None p = Some p
+unless_fault (Some f) p = None
+
+-- the program, exactly where no rule of names is broken
+unfoldable pub resolved : List PlainItem → Option PlainProgram
+resolved items = unless_fault (name_fault items) (program_of_tree items)

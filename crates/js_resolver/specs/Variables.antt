@@ -1,0 +1,72 @@
+-- What each name of a program stands for, and what a function holds, from the places of the program.
+use Rattle.std.specs.Prelude.{ℕ, Bool, true, false, not, ◌&&◌, nat_eq, List, [], ◌∷◌, Option, Some, None, map, length, position, unwrap_or, if◌then◌else◌}
+use Rattle.std.specs.List.{filter_map}
+use Rattle.js_tree.specs.declared.tree.Name.{Name}
+use Rattle.js_program.specs.declared.node.Variable.{Variable}
+use Rattle.js_program.specs.declared.node.Variable.TheVariants.{Slot, Constant}
+use Rattle.js_program.specs.PlainProgram.{PlainBody}
+use Rattle.js_names.specs.declared.place.Declared.{Declared}
+use Rattle.js_names.specs.declared.place.What.{What}
+use Rattle.js_names.specs.Scopes.{top}
+use Rattle.js_names.specs.Places.{Place, is_var}
+use Rattle.js_names.specs.Slots.{assigned_in, is_constant, is_begin, captures, variables_of, slots_of, constants_of, functions_in, variable_at, variable_in, first_uses}
+
+-- where a number stands in a list
+abbrev pub index_in : List ℕ → ℕ → ℕ
+index_in xs x = unwrap_or (position (λ y. nat_eq y x) xs) 0
+
+-- a variable as the function f names it
+abbrev pub variable_of : List Place → ℕ → Declared → Variable
+variable_of ps f d =
+    if is_constant (assigned_in ps) d then Constant (index_in (constants_of (assigned_in ps) ps) d.place)
+    else Slot (index_in (slots_of (assigned_in ps) f ps) d.place)
+
+-- what the name at a place of the text stands for
+abbrev pub variable_there : List Place → Option Declared → ℕ → Bool → Option Variable
+variable_there ps None f here = None
+variable_there ps (Some d) f here = if here then Some (variable_of ps f d) else None
+
+abbrev pub first_some : {A : Type 0} → A → List (Option A) → A
+first_some a [] = a
+first_some a (None ∷ os) = first_some a os
+first_some a (Some b ∷ os) = b
+
+unfoldable pub named_at : List Place → ℕ → Variable
+named_at ps at = first_some (Slot 0) (map (λ (p : Place). variable_there ps p.declared p.around.owner (nat_eq p.name.spot.at at)) ps)
+
+-- the number of the function that begins at a place of the text
+unfoldable pub code_at : List Place → ℕ → ℕ
+code_at ps at = index_in (functions_in ps) at
+
+abbrev pub second : ℕ → List ℕ → ℕ
+second x (f ∷ g ∷ gs) = g
+second x _ = x
+
+-- the function around a function
+unfoldable pub around_of : List Place → ℕ → ℕ
+around_of ps f = first_some top (map (λ (p : Place). if is_begin p.what && nat_eq p.around.owner f then Some (second top p.functions) else None) ps)
+
+abbrev pub var_in : List ℕ → ℕ → Option Declared → Option ℕ
+var_in assigned f None = None
+var_in assigned f (Some d) = if is_var d.role then variable_in assigned f (Some d) else None
+
+-- the slots of a function's `var`s
+abbrev pub var_slots : List Place → ℕ → List ℕ
+var_slots ps f =
+    map (index_in (slots_of (assigned_in ps) f ps)) (first_uses (filter_map (λ (p : Place). var_in (assigned_in ps) f (variable_at p.what p.declared)) ps))
+
+-- for each captured value, its slot in the function around
+abbrev pub capture_slots : List Place → ℕ → List ℕ
+capture_slots ps f = map (index_in (slots_of (assigned_in ps) (around_of ps f) ps)) (captures (assigned_in ps) f ps)
+
+-- the function f, with the numbers of its statements or of its one expression
+unfoldable pub body_of : List Place → ℕ → ℕ → Bool → List ℕ → ℕ → PlainBody
+body_of ps f parameters is_expression nodes line = record {
+  parameters = parameters;
+  slots = length (slots_of (assigned_in ps) f ps);
+  captures = capture_slots ps f;
+  vars = var_slots ps f;
+  nodes = nodes;
+  is_expression = is_expression;
+  line = line;
+}

@@ -1,0 +1,2 @@
+//! The resolved program of a tree.
+#![tactic(auto)]
