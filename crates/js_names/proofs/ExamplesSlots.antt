@@ -6,7 +6,7 @@ use Rattle.js_names.specs.declared.place.NameFault.TheVariants.{Unknown, Twice, 
 use Rattle.js_names.specs.Scopes.{program_scope, function_scope, block_scope, for_scope, each_scope}
 use Rattle.js_names.specs.Sites.{expr_sites, form_sites, exprs_sites, fields_sites, perhaps_sites, declarators_sites, start_sites, stmt_sites, stmt_form_sites, stmts_sites, item_sites, program_sites}
 use Rattle.js_names.specs.Places.{found, found_var, functions_of, repeated, blocked, see, places}
-use Rattle.js_names.specs.Slots.{assigned_in, captures, parameters_of, variables_of, slots_of}
+use Rattle.js_names.specs.Slots.{assigned_in, holdings, slots_of, slot_count}
 use Rattle.js_names.specs.Rules.{fault_at, name_fault}
 use Rattle.js_names.proofs.Build.{name, one, uses, arrow, made, declares, does, block_of, items}
 use Rattle.js_tree.specs.declared.tree.Name.{Name}
@@ -28,36 +28,36 @@ use_all (suc n) p = does (uses (97 ∷ n ∷ []) p) ∷ use_all n (p + 4)
 
 -- a function with 256 parameters, and one with 257
 pub parameters_256 : name_fault (items (does (arrow 0 (names 256 1) one) ∷ [])) ≡ None
-unfolding program_scope function_scope block_scope for_scope each_scope expr_sites form_sites exprs_sites fields_sites perhaps_sites declarators_sites start_sites stmt_sites stmt_form_sites stmts_sites item_sites program_sites found found_var functions_of repeated blocked see places assigned_in captures parameters_of variables_of slots_of fault_at name_fault
+unfolding program_scope function_scope block_scope for_scope each_scope expr_sites form_sites exprs_sites fields_sites perhaps_sites declarators_sites start_sites stmt_sites stmt_form_sites stmts_sites item_sites program_sites found found_var functions_of repeated blocked see places assigned_in holdings slots_of slot_count fault_at name_fault
 parameters_256 = refl
 
 pub parameters_257 : name_fault (items (does (arrow 0 (names 257 1) one) ∷ [])) ≡ Some (Slots (name [] 0))
-unfolding program_scope function_scope block_scope for_scope each_scope expr_sites form_sites exprs_sites fields_sites perhaps_sites declarators_sites start_sites stmt_sites stmt_form_sites stmts_sites item_sites program_sites found found_var functions_of repeated blocked see places assigned_in captures parameters_of variables_of slots_of fault_at name_fault
+unfolding program_scope function_scope block_scope for_scope each_scope expr_sites form_sites exprs_sites fields_sites perhaps_sites declarators_sites start_sites stmt_sites stmt_form_sites stmts_sites item_sites program_sites found found_var functions_of repeated blocked see places assigned_in holdings slots_of slot_count fault_at name_fault
 parameters_257 = refl
 
 -- with 256 variables, and 257
 pub variables_256 : name_fault (items (does (made 1 [] (lets 256 20)) ∷ [])) ≡ None
-unfolding program_scope function_scope block_scope for_scope each_scope expr_sites form_sites exprs_sites fields_sites perhaps_sites declarators_sites start_sites stmt_sites stmt_form_sites stmts_sites item_sites program_sites found found_var functions_of repeated blocked see places assigned_in captures parameters_of variables_of slots_of fault_at name_fault
+unfolding program_scope function_scope block_scope for_scope each_scope expr_sites form_sites exprs_sites fields_sites perhaps_sites declarators_sites start_sites stmt_sites stmt_form_sites stmts_sites item_sites program_sites found found_var functions_of repeated blocked see places assigned_in holdings slots_of slot_count fault_at name_fault
 variables_256 = refl
 
 pub variables_257 : name_fault (items (does (made 1 [] (lets 257 20)) ∷ [])) ≡ Some (Slots (name [] 1))
-unfolding program_scope function_scope block_scope for_scope each_scope expr_sites form_sites exprs_sites fields_sites perhaps_sites declarators_sites start_sites stmt_sites stmt_form_sites stmts_sites item_sites program_sites found found_var functions_of repeated blocked see places assigned_in captures parameters_of variables_of slots_of fault_at name_fault
+unfolding program_scope function_scope block_scope for_scope each_scope expr_sites form_sites exprs_sites fields_sites perhaps_sites declarators_sites start_sites stmt_sites stmt_form_sites stmts_sites item_sites program_sites found found_var functions_of repeated blocked see places assigned_in holdings slots_of slot_count fault_at name_fault
 variables_257 = refl
 
 -- an inner function with 256 captures and no other slot, and with a parameter besides: the inner one begins at 5000
 pub captures_256 : name_fault (items (does (made 1 (names 256 10) (does (arrow 5000 [] (made 5010 [] (use_all 256 5020))) ∷ [])) ∷ [])) ≡ None
-unfolding program_scope function_scope block_scope for_scope each_scope expr_sites form_sites exprs_sites fields_sites perhaps_sites declarators_sites start_sites stmt_sites stmt_form_sites stmts_sites item_sites program_sites found found_var functions_of repeated blocked see places assigned_in captures parameters_of variables_of slots_of fault_at name_fault
+unfolding program_scope function_scope block_scope for_scope each_scope expr_sites form_sites exprs_sites fields_sites perhaps_sites declarators_sites start_sites stmt_sites stmt_form_sites stmts_sites item_sites program_sites found found_var functions_of repeated blocked see places assigned_in holdings slots_of slot_count fault_at name_fault
 captures_256 = refl
 
 pub captures_256_and_a_parameter : name_fault (items (does (made 1 (names 256 10) (does (made 5000 (name (codes "b") 5005 ∷ []) (use_all 256 5020)) ∷ [])) ∷ [])) ≡ Some (Slots (name [] 5000))
-unfolding program_scope function_scope block_scope for_scope each_scope expr_sites form_sites exprs_sites fields_sites perhaps_sites declarators_sites start_sites stmt_sites stmt_form_sites stmts_sites item_sites program_sites found found_var functions_of repeated blocked see places assigned_in captures parameters_of variables_of slots_of fault_at name_fault
+unfolding program_scope function_scope block_scope for_scope each_scope expr_sites form_sites exprs_sites fields_sites perhaps_sites declarators_sites start_sites stmt_sites stmt_form_sites stmts_sites item_sites program_sites found found_var functions_of repeated blocked see places assigned_in holdings slots_of slot_count fault_at name_fault
 captures_256_and_a_parameter = refl
 
 -- 300 constants at the top level take no slots; 257 variables of a block do
 pub constants_take_no_slots : name_fault (items (lets 300 4)) ≡ None
-unfolding program_scope function_scope block_scope for_scope each_scope expr_sites form_sites exprs_sites fields_sites perhaps_sites declarators_sites start_sites stmt_sites stmt_form_sites stmts_sites item_sites program_sites found found_var functions_of repeated blocked see places assigned_in captures parameters_of variables_of slots_of fault_at name_fault
+unfolding program_scope function_scope block_scope for_scope each_scope expr_sites form_sites exprs_sites fields_sites perhaps_sites declarators_sites start_sites stmt_sites stmt_form_sites stmts_sites item_sites program_sites found found_var functions_of repeated blocked see places assigned_in holdings slots_of slot_count fault_at name_fault
 constants_take_no_slots = refl
 
 pub variables_of_a_block : name_fault (items (block_of (lets 257 4) ∷ [])) ≡ Some (Slots (name [] 0))
-unfolding program_scope function_scope block_scope for_scope each_scope expr_sites form_sites exprs_sites fields_sites perhaps_sites declarators_sites start_sites stmt_sites stmt_form_sites stmts_sites item_sites program_sites found found_var functions_of repeated blocked see places assigned_in captures parameters_of variables_of slots_of fault_at name_fault
+unfolding program_scope function_scope block_scope for_scope each_scope expr_sites form_sites exprs_sites fields_sites perhaps_sites declarators_sites start_sites stmt_sites stmt_form_sites stmts_sites item_sites program_sites found found_var functions_of repeated blocked see places assigned_in holdings slots_of slot_count fault_at name_fault
 variables_of_a_block = refl

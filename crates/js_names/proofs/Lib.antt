@@ -6,3 +6,4 @@ pub mod Stacks
 pub mod Taking
 pub mod Trees
 pub mod Making
+pub mod Holding

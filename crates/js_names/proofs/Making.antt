@@ -7,16 +7,20 @@ use Rattle.std.specs.Prelude.{string_bytes}
 use Rattle.std.specs.HashMap.{get_by_text}
 use Rattle.js_tree.specs.declared.tree.Item.{Item}
 use Rattle.js_tree.specs.Views.{plain_item}
-use Rattle.js_names.specs.Scopes.{Entry, first, named, one_var, scope_with, own_of_item, vars_of_item}
+use Rattle.js_names.specs.Scopes.{Entry, first, named, one_var, merge, scope_with, own_of_item, vars_of_item}
 use Rattle.js_names.specs.Places.{or_else}
-use Rattle.js_names.specs.Views.{Names, merge, TakesOwn, TakesVars, scope_of, own_of_tree_item, vars_of_tree_item}
+use Rattle.js_names.specs.Views.{Names, in_map, TakesOwn, TakesVars, scope_of, own_of_tree_item, vars_of_tree_item}
 
 -- a map that was empty has what it took in
-own_from_empty : (a b : Names) (xs : List Entry) → a.entries ≡ [] → TakesOwn a b xs → (q : List ℕ) → get_by_text b q ≡ first (named q xs)
+pub own_from_empty : (a b : Names) (xs : List Entry) → a.entries ≡ [] → TakesOwn a b xs → (q : List ℕ) → get_by_text b q ≡ first (named q xs)
 own_from_empty a b xs e t q = t q ∙ ap (λ es. or_else (lookup (λ k. bytes_eq q (string_bytes k)) es) (first (named q xs))) e
 
-vars_from_empty : (a b : Names) (xs : List Entry) → a.entries ≡ [] → TakesVars a b xs → (q : List ℕ) → get_by_text b q ≡ one_var (named q xs)
+pub vars_from_empty : (a b : Names) (xs : List Entry) → a.entries ≡ [] → TakesVars a b xs → (q : List ℕ) → get_by_text b q ≡ one_var (named q xs)
 vars_from_empty a b xs e t q = t q ∙ ap (λ es. merge (lookup (λ k. bytes_eq q (string_bytes k)) es) (one_var (named q xs))) e
+
+-- the same of all names
+pub in_map_is : (a b : Names) (xs : List Entry) → a.entries ≡ [] → TakesVars a b xs → in_map b ≡ (λ q. one_var (named q xs))
+in_map_is a b xs e t = λ i q. vars_from_empty a b xs e t q i
 
 -- two maps that were empty make a scope
 pub scope_made : (a own b vars : Names) (xs ys : List Entry) (w : Bool) (o : ℕ) → a.entries ≡ [] → b.entries ≡ [] → TakesOwn a own xs → TakesVars b vars ys

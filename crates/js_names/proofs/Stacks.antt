@@ -1,10 +1,10 @@
 -- Stacks of scopes.
-use Rattle.std.proofs.Common.{◌≡◌, ℕ, ◌+◌, List, [], ◌∷◌, ◌++◌, if◌then◌else◌, ◌∙◌, ap, refl, sym, arith, length, take, get_or, take_all, ◌-◌, ◌<◌, ◌≤◌, Option, Some, None, Bool, true, false, not, ◌&&◌, ◌||◌, nat_lt}
+use Rattle.std.proofs.Common.{◌≡◌, ℕ, ◌+◌, List, [], ◌∷◌, ◌++◌, if◌then◌else◌, ◌∙◌, ap, refl, sym, arith, length, take, get_or, take_all, append_assoc, ◌-◌, ◌<◌, ◌≤◌, Option, Some, None, Bool, true, false, not, ◌&&◌, ◌||◌, nat_lt}
 use Rattle.std.proofs.lemmas.List.{take_more}
 use Rattle.js_names.specs.declared.scope.Scope.{Scope as Held}
 use Rattle.js_names.specs.declared.place.Declared.{Declared}
 use Rattle.js_names.specs.Scopes.{Scope}
-use Rattle.js_names.specs.Places.{found, found_here, found_var, or_else, blocked, repeated, test_of, is_parameter}
+use Rattle.js_names.specs.Places.{functions_of, owner_in, found, found_here, found_var, or_else, blocked, repeated, test_of, is_parameter}
 use Rattle.js_names.specs.Views.{scope_of, scopes_of, scopes_onto}
 
 scopes_onto-push : (below : List Scope) (xs : List Held) (x : Held) → scopes_onto below (xs ++ x ∷ []) ≡ scope_of x ∷ scopes_onto below xs
@@ -83,3 +83,16 @@ taken b x y e = ap (λ c. if c then x else y) (sym e)
 
 pub passed : {A : Type 0} (b : Bool) (x y : A) → false ≡ b → (if b then x else y) ≡ y
 passed b x y e = ap (λ c. if c then x else y) (sym e)
+
+pub functions_empty : functions_of (scopes_of []) ≡ []
+unfolding functions_of scopes_onto
+functions_empty = refl
+
+pub functions_down : (xs : List Held) (j : ℕ) (d x : Held) → 0 < j → j ≤ length xs → x ≡ get_or xs (j - 1) d
+    → functions_of (scopes_of (take j xs)) ≡ owner_in (scope_of x) ++ functions_of (scopes_of (take (j - 1) xs))
+unfolding functions_of
+functions_down xs j d x pos le e = ap functions_of (scopes_down xs j d x pos le e)
+
+-- one more scope on the way
+pub functions_step : (a b o f rest all : List ℕ) → b ≡ a ++ o → f ≡ o ++ rest → a ++ f ≡ all → b ++ rest ≡ all
+functions_step a b o f rest all e d h = ap (λ z. z ++ rest) e ∙ (append_assoc a o rest ∙ (ap (λ z. a ++ z) (sym d) ∙ h))

@@ -5,13 +5,15 @@ use Rattle.std.proofs.lemmas.Bool.{cases_Bool, cond-true, cond-false, true≢fal
 use Rattle.std.proofs.lemmas.Slice.Eq.{bytes_eq-Decides as bytes_decides}
 use Rattle.std.proofs.lemmas.Map.Text.{hash_map_updates_text}
 use Rattle.std.specs.Str.{bytes_eq}
-use Rattle.std.specs.Prelude.{is_some}
+use Rattle.std.specs.Prelude.{is_some, max}
+use Rattle.std.proofs.Common.{arith}
 use Rattle.std.specs.List.{flat_map}
 use Rattle.std.specs.HashMap.{get_by_text, UpdatesBy}
 use Rattle.std.specs.String.{string_eq}
 use Rattle.std.specs.Prelude.{String, string_bytes}
 use Rattle.std.specs.declared.alloc.Global.{Global}
-use Rattle.std.proofs.lemmas.List.{take_more}
+use Rattle.std.proofs.lemmas.List.{take_more, map-append}
+use Rattle.js_tree.specs.declared.tree.Name.{Name}
 use Rattle.std.proofs.lemmas.Grind.{flat_map-append}
 use Rattle.js_names.specs.declared.place.Declared.{Declared}
 use Rattle.js_tree.specs.declared.tree.Declarator.{Declarator}
@@ -21,13 +23,13 @@ use Rattle.js_tree.specs.declared.tree.StmtForm.{StmtForm, Declaration, Block, I
 use Rattle.std.specs.Prelude.{Vec, Result, Ok, Err, OnOk}
 use Rattle.js_tree.specs.Plain.{declarators_of, stmts_of}
 use Rattle.js_tree.specs.Views.{plain_declarator, plain_stmt, plain_start}
-use Rattle.js_names.specs.Scopes.{Entry, first, named, one_var, own_declarators, var_declarators, own_of, own_of_all, vars_of, vars_of_all, own_of_start, vars_of_start}
+use Rattle.js_names.specs.Scopes.{Entry, first, named, one_var, merge, parameter, parameters, own_declarators, var_declarators, own_of, own_of_all, vars_of, vars_of_all, own_of_start, vars_of_start}
 use Rattle.js_names.specs.Places.{or_else}
 use Rattle.js_names.proofs.Trees.{with_form, declaration_is, block_is, if_else_is, for_is, start_is}
 use Rattle.js_tree.specs.declared.tree.Expr.{Expr}
 use Rattle.js_tree.specs.declared.tree.Start.{Start, Declares}
 use Rattle.std.specs.declared.boxed.Box.{Box}
-use Rattle.js_names.specs.Views.{Names, merge, alone, TakesOwn, TakesVars, own_of_declarator, vars_of_declarator, own_of_stmt, vars_of_stmt}
+use Rattle.js_names.specs.Views.{Names, alone, TakesOwn, TakesVars, own_of_declarator, vars_of_declarator, own_of_stmt, vars_of_stmt}
 
 pub or_else_none : {A : Type 0} (a : Option A) → or_else a None ≡ a
 or_else_none None = refl
@@ -66,24 +68,23 @@ first-append : (xs ys : List Declared) → first (xs ++ ys) ≡ or_else (first x
 first-append [] ys = refl
 first-append (x ∷ xs) ys = refl
 
-one_var-append : (xs ys : List Declared) → one_var (xs ++ ys) ≡ merge (one_var xs) (one_var ys)
-one_var-append [] ys = refl
-one_var-append (x ∷ []) [] = refl
-one_var-append (x ∷ []) (y ∷ []) = refl
-one_var-append (x ∷ []) (y ∷ z ∷ zs) = refl
-one_var-append (x ∷ w ∷ xs) [] = refl
-one_var-append (x ∷ w ∷ xs) (y ∷ []) = refl
-one_var-append (x ∷ w ∷ xs) (y ∷ z ∷ zs) = refl
-
 or_else_assoc : {A : Type 0} (a b c : Option A) → or_else (or_else a b) c ≡ or_else a (or_else b c)
 or_else_assoc None b c = refl
 or_else_assoc (Some x) b c = refl
+
+max_assoc : (a b c : ℕ) → max (max a b) c ≡ max a (max b c)
+max_assoc a b c = omega arith
 
 merge_assoc : (a b c : Option Declared) → merge (merge a b) c ≡ merge a (merge b c)
 merge_assoc None b c = refl
 merge_assoc (Some x) None c = refl
 merge_assoc (Some x) (Some y) None = refl
-merge_assoc (Some x) (Some y) (Some z) = refl
+merge_assoc (Some x) (Some y) (Some z) = ap (λ g. Some (record x { direct = false; given = g })) (max_assoc x.given y.given z.given)
+
+one_var-append : (xs ys : List Declared) → one_var (xs ++ ys) ≡ merge (one_var xs) (one_var ys)
+one_var-append [] ys = refl
+one_var-append (x ∷ xs) ys = ap (merge (Some x)) (one_var-append xs ys) ∙ sym (merge_assoc (Some x) (one_var xs) (one_var ys))
+
 
 -- a map that took in two lists in turn took in both
 pub own_both : (a b c : Names) (xs ys : List Entry) → TakesOwn a b xs → TakesOwn b c ys → TakesOwn a c (xs ++ ys)
@@ -206,3 +207,12 @@ vars_of_for owner direct s head test next b x e h =
 pub vars_on_ok_both : {A E : Type 0} (r : Result A E) (a b c : Names) (xs ys zs : List Entry) → xs ++ ys ≡ zs → TakesVars a b xs → OnOk r (TakesVars b c ys) → OnOk r (TakesVars a c zs)
 vars_on_ok_both (Ok x) a b c xs ys zs e h k = subst (TakesVars a c) e (vars_both a b c xs ys h k)
 vars_on_ok_both (Err x) a b c xs ys zs e h k = tt
+
+-- one more parameter
+pub parameters_more : (owner : ℕ) (vars : List ℕ → Option Declared) (ns : List Name) (i : ℕ) (d x : Name) (a b c : Names) → i < length ns → x ≡ get_or ns i d
+    → TakesOwn a b (parameters owner vars (take i ns)) → TakesOwn b c (parameter owner vars x ∷ []) → TakesOwn a c (parameters owner vars (take (i + 1) ns))
+parameters_more owner vars ns i d x a b c h e s t =
+    subst (TakesOwn a c)
+    (ap (λ y. parameters owner vars (take i ns) ++ parameter owner vars y ∷ []) e
+    ∙ sym (ap (map (parameter owner vars)) (take_more ns i d h) ∙ map-append (parameter owner vars) (take i ns) (get_or ns i d ∷ [])))
+    (own_both a b c _ _ s t)

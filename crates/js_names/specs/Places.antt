@@ -1,5 +1,5 @@
 -- What the rules ask of a place: the declaration that its name stands for, and whether it clashes with an earlier one.
-use Rattle.std.specs.Prelude.{ℕ, Bool, true, false, not, ◌&&◌, ◌||◌, nat_eq, nat_lt, List, [], ◌∷◌, Option, Some, None, map, if◌then◌else◌}
+use Rattle.std.specs.Prelude.{ℕ, Bool, true, false, not, ◌&&◌, ◌||◌, nat_eq, nat_lt, List, [], ◌∷◌, ◌++◌, Option, Some, None, map, if◌then◌else◌}
 use Rattle.js_tree.specs.declared.tree.Name.{Name}
 use Rattle.js_tree.specs.Plain.{PlainItem}
 use Rattle.js_names.specs.declared.place.Role.{Role}
@@ -57,10 +57,14 @@ unfoldable pub found_var : List Scope → List ℕ → Option Declared
 found_var [] q = None
 found_var (s ∷ ss) q = if s.whole then found_here s q else found_var ss q
 
+-- the function that begins with a scope
+abbrev pub owner_in : Scope → List ℕ
+owner_in s = if s.whole then s.owner ∷ [] else []
+
 -- the functions around
 unfoldable pub functions_of : List Scope → List ℕ
 functions_of [] = []
-functions_of (s ∷ ss) = if s.whole then s.owner ∷ functions_of ss else functions_of ss
+functions_of (s ∷ ss) = owner_in s ++ functions_of ss
 
 abbrev pub is_earlier : Option Declared → ℕ → Bool
 is_earlier o p = test_of o (λ d. nat_lt d.place p)

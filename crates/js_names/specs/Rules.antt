@@ -1,5 +1,5 @@
 -- The rules of names: each is a test of a place. The answer is the least place at which one fails, and of the rules that fail there the first one.
-use Rattle.std.specs.Prelude.{ℕ, ◌<◌, Bool, true, false, not, ◌&&◌, ◌||◌, nat_eq, nat_lt, List, [], ◌∷◌, Option, Some, None, is_some, fold, length, if◌then◌else◌}
+use Rattle.std.specs.Prelude.{ℕ, ◌<◌, Bool, true, false, not, ◌&&◌, ◌||◌, nat_eq, nat_lt, List, [], ◌∷◌, Option, Some, None, is_some, fold, if◌then◌else◌}
 use Rattle.js_tree.specs.declared.tree.Name.{Name}
 use Rattle.js_tree.specs.declared.tree.Spot.{Spot}
 use Rattle.js_tree.specs.Plain.{PlainItem}
@@ -8,7 +8,7 @@ use Rattle.js_names.specs.declared.place.NameFault.{NameFault}
 use Rattle.js_names.specs.declared.place.NameFault.TheVariants.{Unknown, Twice, AssignConst, Capture, LoopWord, ReturnPlace, Slots, Memory}
 use Rattle.js_names.specs.Scopes.{top}
 use Rattle.js_names.specs.Places.{Place, test_of, is_const, is_function, places}
-use Rattle.js_names.specs.Slots.{is_assignment, is_mention, is_begin, assigned_in, is_outer, can_copy, slots_of}
+use Rattle.js_names.specs.Slots.{is_assignment, is_mention, is_begin, assigned_in, is_outer, can_copy, slot_count}
 
 abbrev pub is_misuse : What → Bool
 is_misuse What.Misuses = true
@@ -47,19 +47,19 @@ abbrev pub fails_return : Place → Bool
 fails_return p = is_return p.what && nat_eq p.around.owner top
 
 -- more than 256 slots
-abbrev pub fails_slots : List Place → Place → Bool
-fails_slots ps p = is_begin p.what && nat_lt 256 (length (slots_of (assigned_in ps) p.around.owner ps))
+abbrev pub fails_slots : (ℕ → ℕ) → Place → Bool
+fails_slots count p = is_begin p.what && nat_lt 256 (count p.around.owner)
 
 -- the first rule that a place breaks
-unfoldable pub fault_at : List Place → Place → Option NameFault
-fault_at ps p =
+unfoldable pub fault_at : List ℕ → (ℕ → ℕ) → Place → Option NameFault
+fault_at assigned count p =
     if fails_unknown p then Some (Unknown p.name)
     else (if fails_twice p then Some (Twice p.name)
     else (if fails_const p then Some (AssignConst p.name)
-    else (if fails_capture (assigned_in ps) p then Some (Capture p.name)
+    else (if fails_capture assigned p then Some (Capture p.name)
     else (if fails_loop_word p then Some (LoopWord p.name)
     else (if fails_return p then Some (ReturnPlace p.name)
-    else (if fails_slots ps p then Some (Slots p.name) else None))))))
+    else (if fails_slots count p then Some (Slots p.name) else None))))))
 
 abbrev pub number_of : NameFault → ℕ
 number_of (Unknown name) = 1
@@ -89,6 +89,10 @@ sooner None g = g
 sooner (Some f) None = Some f
 sooner (Some f) (Some g) = if comes_before g f then Some g else Some f
 
+-- the soonest fault of some places
+abbrev pub soonest : (Place → Option NameFault) → List Place → Option NameFault
+soonest fault ps = fold (λ f p. sooner f (fault p)) None ps
+
 -- the fault of a program: none exactly where no place breaks a rule
 unfoldable pub name_fault : List PlainItem → Option NameFault
-name_fault items = let ps = places items in fold (λ f p. sooner f (fault_at ps p)) None ps
+name_fault items = let ps = places items in let assigned = assigned_in ps in soonest (fault_at assigned (slot_count assigned ps)) ps

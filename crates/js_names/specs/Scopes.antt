@@ -1,5 +1,5 @@
 -- Scopes: which names a block, a function and the program declare.
-use Rattle.std.specs.Prelude.{ℕ, Bool, true, false, max, List, [], ◌∷◌, ◌++◌, Option, Some, None, if◌then◌else◌}
+use Rattle.std.specs.Prelude.{ℕ, Bool, true, false, max, map, List, [], ◌∷◌, ◌++◌, Option, Some, None, if◌then◌else◌}
 use Rattle.std.specs.Str.{bytes_eq}
 use Rattle.std.specs.List.{flat_map}
 use Rattle.js_tree.specs.declared.tree.Name.{Name}
@@ -10,11 +10,10 @@ use Rattle.js_names.specs.declared.place.Role.{Role}
 use Rattle.js_names.specs.declared.place.Role.TheVariants.{Parameter, Const, Let, Var, Function}
 use Rattle.js_names.specs.declared.place.Declared.{Declared}
 
--- a name with its declaration, and whether the declarator has a value
+-- a name with its declaration
 pub record Entry : Type 0 where
   pub name : List ℕ
   pub declared : Declared
-  pub has_value : Bool
 
 -- a scope: what its own names are, what the `var`s in it declare, whether it is a whole function's or the program's, and the function that it belongs to
 pub record Scope : Type 0 where
@@ -37,27 +36,37 @@ abbrev pub first : List Declared → Option Declared
 first [] = None
 first (d ∷ ds) = Some d
 
--- the `var`s of one name are one variable: the first, which stands directly in the body only where it is alone
+-- two `var`s of one name are one variable: the first, which then doesn't stand in one place alone
+abbrev pub merge : Option Declared → Option Declared → Option Declared
+merge None o = o
+merge (Some d) None = Some d
+merge (Some d) (Some e) = Some (record d { direct = false; given = max d.given e.given })
+
+-- the one variable of all `var`s of a name
 abbrev pub one_var : List Declared → Option Declared
 one_var [] = None
-one_var (d ∷ []) = Some d
-one_var (d ∷ e ∷ ds) = Some (record d { direct = false })
+one_var (d ∷ ds) = merge (Some d) (one_var ds)
 
 abbrev pub scope_with : List Entry → List Entry → Bool → ℕ → Scope
 scope_with own vars whole owner = record { own = λ q. first (named q own); vars = λ q. one_var (named q vars); whole = whole; owner = owner }
 
-abbrev pub entry : Name → Role → ℕ → ℕ → Bool → Bool → Entry
-entry name role end owner direct has_value =
-    record { name = name.text; declared = record { role = role; place = name.spot.at; end = end; owner = owner; direct = direct }; has_value = has_value }
+abbrev pub entry : Name → Role → ℕ → ℕ → Bool → ℕ → Entry
+entry name role end owner direct given =
+    record { name = name.text; declared = record { role = role; place = name.spot.at; end = end; owner = owner; direct = direct; given = given } }
 
 abbrev pub is_present : PlainPerhaps → Bool
 is_present absent = false
 is_present (present e) = true
 
+-- the place after a declarator with a value
+abbrev pub given_at : PlainPerhaps → ℕ → ℕ
+given_at absent end = 0
+given_at (present e) end = end
+
 -- what a declarator of `let` or `const` declares
 abbrev pub own_declarator : ℕ → Bool → DeclareKind → Name → PlainPerhaps → ℕ → List Entry
-own_declarator owner direct const_word name value end = entry name Const end owner direct (is_present value) ∷ []
-own_declarator owner direct let_word name value end = entry name Let end owner direct (is_present value) ∷ []
+own_declarator owner direct const_word name value end = entry name Const end owner direct 0 ∷ []
+own_declarator owner direct let_word name value end = entry name Let end owner direct 0 ∷ []
 own_declarator owner direct var_word name value end = []
 
 abbrev pub own_declarators : ℕ → Bool → DeclareKind → PlainDeclarators → List Entry
@@ -68,7 +77,7 @@ own_declarators owner direct kind (declarator_in name value end ds) = own_declar
 abbrev pub var_declarator : ℕ → Bool → DeclareKind → Name → PlainPerhaps → ℕ → List Entry
 var_declarator owner direct const_word name value end = []
 var_declarator owner direct let_word name value end = []
-var_declarator owner direct var_word name value end = entry name Var end owner direct (is_present value) ∷ []
+var_declarator owner direct var_word name value end = entry name Var end owner direct (given_at value end) ∷ []
 
 abbrev pub var_declarators : ℕ → Bool → DeclareKind → PlainDeclarators → List Entry
 var_declarators owner direct kind no_declarators = []
@@ -118,14 +127,17 @@ abbrev mutual
   vars_of_all owner direct no_stmts = []
   vars_of_all owner direct (stmt_in s ss) = vars_of owner direct s ++ vars_of_all owner direct ss
 
--- the greatest end of the `var`s with a value that have this name, which are its declarators too
-abbrev pub last_end : List ℕ → ℕ → List Entry → ℕ
-last_end q end [] = end
-last_end q end (e ∷ es) = last_end q (if bytes_eq e.name q then (if e.has_value then max end e.declared.end else end) else end) es
+-- the place after the last of the `var`s of a name that have a value
+abbrev pub given_of : Option Declared → ℕ
+given_of None = 0
+given_of (Some d) = d.given
 
-abbrev pub parameters : ℕ → List Entry → List Name → List Entry
-parameters owner vars [] = []
-parameters owner vars (n ∷ ns) = entry n Parameter (last_end n.text n.spot.at vars) owner false true ∷ parameters owner vars ns
+-- a parameter: the `var`s with a value that name it are its declarators too
+abbrev pub parameter : ℕ → (List ℕ → Option Declared) → Name → Entry
+parameter owner vars n = entry n Parameter (max n.spot.at (given_of (vars n.text))) owner false 0
+
+abbrev pub parameters : ℕ → (List ℕ → Option Declared) → List Name → List Entry
+parameters owner vars names = map (parameter owner vars) names
 
 -- the scope of a block
 unfoldable pub block_scope : ℕ → PlainStmts → Scope
@@ -142,16 +154,17 @@ each_role var_word = Let
 
 -- the scope of a `for` over a list, in which its list stands too
 unfoldable pub each_scope : ℕ → DeclareKind → Name → PlainStmt → Scope
-each_scope owner kind name s = scope_with (entry name (each_role kind) name.spot.at owner false true ∷ []) (vars_of owner false s) false owner
+each_scope owner kind name s = scope_with (entry name (each_role kind) name.spot.at owner false 0 ∷ []) (vars_of owner false s) false owner
 
 -- the scope of a function, with its parameters
 unfoldable pub function_scope : ℕ → List Name → PlainStmts → Scope
 function_scope owner names ss =
-    let vars = vars_of_all owner true ss in scope_with (parameters owner vars names ++ own_of_all owner true ss) vars true owner
+    let vars = vars_of_all owner true ss in
+    scope_with (parameters owner (λ q. one_var (named q vars)) names ++ own_of_all owner true ss) vars true owner
 
 abbrev pub own_of_item : PlainItem → List Entry
 own_of_item (statement s) = own_of top true s
-own_of_item (function_of spot name names ss) = entry name Function name.spot.at top true true ∷ []
+own_of_item (function_of spot name names ss) = entry name Function name.spot.at top true 0 ∷ []
 
 abbrev pub vars_of_item : PlainItem → List Entry
 vars_of_item (statement s) = vars_of top true s

@@ -85,9 +85,11 @@ in_loop a = record a { looped = true }
 abbrev pub begin_site : List Scope → ℕ → Spot → List Site
 begin_site scopes owner spot = site scopes (in_function owner) What.Begins (word_at [] spot)
 
+abbrev pub parameter_site : List Scope → Around → Name → List Site
+parameter_site scopes a n = site scopes a (What.Declares Parameter) n
+
 abbrev pub parameter_sites : List Scope → Around → List Name → List Site
-parameter_sites scopes a [] = []
-parameter_sites scopes a (n ∷ ns) = site scopes a (What.Declares Parameter) n ++ parameter_sites scopes a ns
+parameter_sites scopes a names = flat_map (parameter_site scopes a) names
 
 abbrev pub declared_role : DeclareKind → Role
 declared_role const_word = Const
@@ -172,11 +174,13 @@ unfoldable mutual
   stmts_sites scopes a no_stmts = []
   stmts_sites scopes a (stmt_in s ss) = stmt_sites scopes a s ++ stmts_sites scopes a ss
 
+-- the name of a function declaration belongs to the program, and so it comes before what the function has
 unfoldable pub item_sites : List Scope → PlainItem → List Site
 item_sites scopes (statement s) = stmt_sites scopes (in_function top) s
 item_sites scopes (function_of spot name names ss) =
     let inner = function_scope spot.at names ss ∷ scopes in
-    begin_site inner spot.at spot ++ (site scopes (in_function top) (What.Declares Function) name ++ (parameter_sites inner (in_function spot.at) names ++ stmts_sites inner (in_function spot.at) ss))
+    site scopes (in_function top) (What.Declares Function) name
+    ++ (begin_site inner spot.at spot ++ (parameter_sites inner (in_function spot.at) names ++ stmts_sites inner (in_function spot.at) ss))
 
 -- the place of an expression's first token, where that is a place of its own
 abbrev mutual

@@ -1,6 +1,6 @@
 -- Constants, captures and slots, from the places of a program.
-use Rattle.std.specs.Prelude.{ℕ, Bool, true, false, not, ◌&&◌, ◌||◌, nat_eq, nat_le, List, [], ◌∷◌, ◌++◌, Option, Some, None, fold, position, if◌then◌else◌}
-use Rattle.std.specs.List.{list_any, filter_map}
+use Rattle.std.specs.Prelude.{ℕ, Bool, true, false, not, ◌&&◌, ◌||◌, nat_eq, nat_le, List, [], ◌∷◌, ◌++◌, Option, Some, None, map, fold, length, if◌then◌else◌}
+use Rattle.std.specs.List.{list_any, filter_map, flat_map}
 use Rattle.js_names.specs.declared.place.Role.{Role}
 use Rattle.js_names.specs.declared.place.Role.TheVariants.{Parameter, Const, Let, Var, Function}
 use Rattle.js_names.specs.declared.place.Declared.{Declared}
@@ -18,19 +18,29 @@ is_mention Reads = true
 is_mention Assigns = true
 is_mention _ = false
 
+abbrev pub is_among : ℕ → List ℕ → Bool
+is_among x xs = list_any (nat_eq x) xs
+
+-- the list, with x at its end unless it has x
+abbrev pub joins : List ℕ → ℕ → List ℕ
+joins xs x = if is_among x xs then xs else xs ++ x ∷ []
+
+-- each element where it first stands
+abbrev pub first_uses : List ℕ → List ℕ
+first_uses xs = fold joins [] xs
+
 -- a variable is named by the place of its declaration
 
-abbrev pub place_in : Option Declared → List ℕ
-place_in None = []
-place_in (Some d) = d.place ∷ []
+abbrev pub place_in : Option Declared → Option ℕ
+place_in None = None
+place_in (Some d) = Some d.place
+
+abbrev pub assigned_at : Place → Option ℕ
+assigned_at p = if is_assignment p.what then place_in p.declared else None
 
 -- the variables that something assigns or updates
 unfoldable pub assigned_in : List Place → List ℕ
-assigned_in [] = []
-assigned_in (p ∷ ps) = (if is_assignment p.what then place_in p.declared else []) ++ assigned_in ps
-
-abbrev pub is_among : ℕ → List ℕ → Bool
-is_among x xs = list_any (λ y. nat_eq y x) xs
+assigned_in ps = first_uses (filter_map assigned_at ps)
 
 -- a function declaration, or a variable declared directly in the program's list that nothing assigns
 abbrev pub is_constant : List ℕ → Declared → Bool
@@ -44,53 +54,74 @@ can_copy assigned d begins = (not (is_var d.role) || d.direct) && (not (is_among
 abbrev pub is_outer : List ℕ → Place → Declared → Bool
 is_outer assigned p d = not (nat_eq d.owner p.around.owner) && not (is_constant assigned d)
 
+-- a variable that a function holds in a slot
+pub record Holding : Type 0 where
+  pub function : ℕ
+  pub variable : ℕ
+
+abbrev pub hold : ℕ → ℕ → Holding
+hold function variable = record { function = function; variable = variable }
+
+-- the variables that a function holds
+abbrev pub held_by : ℕ → List Holding → List ℕ
+held_by f [] = []
+held_by f (h ∷ hs) = if nat_eq h.function f then h.variable ∷ held_by f hs else held_by f hs
+
+-- the parameter that a place declares
+abbrev pub parameter_at : What → Place → List Holding
+parameter_at (Declares Parameter) p = hold p.around.owner p.name.spot.at ∷ []
+parameter_at _ p = []
+
 -- the functions inside that of the declaration
 abbrev pub inside : ℕ → List ℕ → List ℕ
 inside owner [] = []
 inside owner (f ∷ fs) = if nat_eq f owner then [] else f ∷ inside owner fs
 
-abbrev pub captured : List ℕ → ℕ → Place → Declared → Bool
-captured assigned f p d = is_outer assigned p d && (can_copy assigned d p.around.owner && is_among f (inside d.owner p.functions))
+abbrev pub holds_all : ℕ → List ℕ → List Holding
+holds_all v fs = map (λ f. hold f v) fs
 
-abbrev pub captured_by : List ℕ → ℕ → Place → Option Declared → Option ℕ
-captured_by assigned f p None = None
-captured_by assigned f p (Some d) = if is_mention p.what && captured assigned f p d then Some d.place else None
+-- a place mentions a variable of an outer function that can be copied
+abbrev pub copies : List ℕ → Place → Declared → Bool
+copies assigned p d = is_mention p.what && (is_outer assigned p d && can_copy assigned d p.around.owner)
 
--- the list, with x at its end unless it has x
-abbrev pub joins : List ℕ → ℕ → List ℕ
-joins xs x = if is_among x xs then xs else xs ++ x ∷ []
-
--- each element where it first stands
-abbrev pub first_uses : List ℕ → List ℕ
-first_uses xs = fold joins [] xs
-
--- the variables that a function copies from around it, for itself or for functions in it, in the order of their first uses
-unfoldable pub captures : List ℕ → ℕ → List Place → List ℕ
-captures assigned f ps = first_uses (filter_map (λ p. captured_by assigned f p p.declared) ps)
-
-abbrev pub parameter_at : ℕ → Place → What → Option ℕ
-parameter_at f p (Declares Parameter) = if nat_eq p.around.owner f then Some p.name.spot.at else None
-parameter_at f p _ = None
-
-unfoldable pub parameters_of : ℕ → List Place → List ℕ
-parameters_of f ps = filter_map (λ p. parameter_at f p p.what) ps
+-- a variable is copied into each function between its own and the one that mentions it
+abbrev pub captures_of : List ℕ → Place → Option Declared → List Holding
+captures_of assigned p None = []
+captures_of assigned p (Some d) = if copies assigned p d then holds_all d.place (inside d.owner p.functions) else []
 
 -- the variable that a place declares: a `var` may name a parameter, and then it declares none
 abbrev pub variable_at : What → Option Declared → Option Declared
 variable_at (Declares role) (Some d) = if is_parameter d.role then None else Some d
 variable_at _ _ = None
 
-abbrev pub variable_in : List ℕ → ℕ → Option Declared → Option ℕ
-variable_in assigned f None = None
-variable_in assigned f (Some d) = if nat_eq d.owner f && not (is_constant assigned d) then Some d.place else None
+abbrev pub variable_of : List ℕ → Option Declared → List Holding
+variable_of assigned None = []
+variable_of assigned (Some d) = if is_constant assigned d then [] else hold d.owner d.place ∷ []
 
--- the other variables of a function, in the order of their first declarations
-unfoldable pub variables_of : List ℕ → ℕ → List Place → List ℕ
-variables_of assigned f ps = first_uses (filter_map (λ p. variable_in assigned f (variable_at p.what p.declared)) ps)
+abbrev pub parameter_in : Place → List Holding
+parameter_in p = parameter_at p.what p
+
+abbrev pub captures_in : List ℕ → Place → List Holding
+captures_in assigned p = captures_of assigned p p.declared
+
+abbrev pub variable_in : List ℕ → Place → List Holding
+variable_in assigned p = variable_of assigned (variable_at p.what p.declared)
+
+-- what the functions hold: their parameters, then their captures, then their other variables that are no constants
+unfoldable pub holdings : List ℕ → List Place → List Holding
+holdings assigned ps = flat_map parameter_in ps ++ (flat_map (captures_in assigned) ps ++ flat_map (variable_in assigned) ps)
 
 -- the variable of each slot of a function
 unfoldable pub slots_of : List ℕ → ℕ → List Place → List ℕ
-slots_of assigned f ps = parameters_of f ps ++ (captures assigned f ps ++ variables_of assigned f ps)
+slots_of assigned f ps = first_uses (held_by f (holdings assigned ps))
+
+-- the variables that a function copies from around it, for itself or for functions in it, in the order of their first uses
+unfoldable pub captures : List ℕ → ℕ → List Place → List ℕ
+captures assigned f ps = first_uses (held_by f (flat_map (captures_in assigned) ps))
+
+-- how many slots each function needs
+unfoldable pub slot_count : List ℕ → List Place → ℕ → ℕ
+slot_count assigned ps f = length (slots_of assigned f ps)
 
 abbrev pub constant_in : List ℕ → Option Declared → Option ℕ
 constant_in assigned None = None

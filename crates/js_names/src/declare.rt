@@ -2,9 +2,9 @@
 ghost use Rattle.std.specs.Prelude.{◌≡◌, OnOk};
 ghost use Rattle.std.specs.List.{flat_map};
 ghost use Rattle.std.specs.HashMap.{get_by_text};
-ghost use Rattle.js_names.specs.Scopes.{own_of_start, vars_of_start};
-ghost use Rattle.js_tree.specs.Views.{plain_start};
-ghost use Rattle.js_names.specs.Views.{TakesOwn, TakesVars, merge, alone, own_of_declarator, vars_of_declarator, own_of_stmt, vars_of_stmt};
+ghost use Rattle.js_names.specs.Scopes.{merge, given_at, own_of_start, vars_of_start};
+ghost use Rattle.js_tree.specs.Views.{plain_declarator, plain_start};
+ghost use Rattle.js_names.specs.Views.{TakesOwn, TakesVars, alone, own_of_declarator, vars_of_declarator, own_of_stmt, vars_of_stmt};
 
 use crate::place::{Declared, Role};
 use indexmap::IndexMap;
@@ -49,6 +49,7 @@ fn declare_own_declarator(
         end: declarator.end,
         owner,
         direct,
+        given: 0,
     };
     declare_own(alloc, map, &declarator.name, declared)
 }
@@ -111,6 +112,7 @@ fn merged(map: &IndexMap<String, Declared>, text: &str, declared: Declared) -> D
     match map.get(text) {
         Some(first) => Declared {
             direct: false,
+            given: first.given.max(declared.given),
             ..*first
         },
         None => declared,
@@ -130,6 +132,16 @@ pub fn declare_var(
     let merged = merged(map, text, declared);
     map.insert(String::from_str(alloc, text)?, merged)?;
     Ok(())
+}
+
+// The place after a declarator with a value.
+fn given_at(declarator: &Declarator) -> u32
+    ensures { result ≡ given_at (plain_declarator declarator.now).value (plain_declarator declarator.now).end }
+{
+    match declarator.value {
+        Some(_) => declarator.end,
+        None => 0,
+    }
 }
 
 /// Declares what a declarator of `var` declares.
@@ -152,6 +164,7 @@ fn declare_var_declarator(
         end: declarator.end,
         owner,
         direct,
+        given: given_at(declarator),
     };
     declare_var(alloc, map, &declarator.name, declared)
 }

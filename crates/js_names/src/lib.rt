@@ -2,15 +2,21 @@
 #![tactic(auto)]
 
 mod declare;
+mod faults;
+mod first;
+mod forms;
+mod holdings;
 mod lookup;
 mod place;
 mod rules;
 mod scope;
 mod scopes;
+mod seeing;
+mod walk;
 
-pub use place::{Around, Declared, NameFault, Role, What};
-pub use declare::{declare_own, declare_var};
-pub use rules::{Seen, assigned_in, fails_capture, fails_const, fails_loop_word, fails_return, fails_unknown};
-pub use scopes::{block_scope, each_scope, for_scope, program_scope};
-pub use scope::{Scope, TOP};
-pub use lookup::{clashes, declared_at};
+pub use faults::{Names, check_names};
+pub use forms::{called_builtin, is_undefined, object_of, value_builtin};
+pub use holdings::{captured, slot_count};
+pub use place::{Around, Declared, NameFault, Role, Seen, What};
+pub use rules::is_constant;
+pub use scope::TOP;

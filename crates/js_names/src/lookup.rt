@@ -1,9 +1,9 @@
 //! Look-ups of names in the scopes around a place, whose innermost is the last.
 ghost use Rattle.std.specs.Prelude.{◌≡◌, ◌∷◌, [], nat_lt, ◌&&◌, not};
 ghost use Rattle.js_names.specs.Places.{found, found_here, found_var, blocked, repeated, is_earlier, is_parameter, test_of, clashes, declared_at};
-ghost use Rattle.js_names.specs.Sites.{is_reserved};
 ghost use Rattle.js_names.specs.Views.{scope_of, scopes_of};
 
+use crate::forms::is_reserved;
 use crate::place::{Declared, Role, What};
 use crate::scope::Scope;
 use js_tree::Name;
@@ -106,13 +106,6 @@ fn repeated(scopes: &[Scope], name: &str, place: u32) -> bool
         [] => false,
         [.., scope] => repeated_here(scope, name, place),
     }
-}
-
-/// Whether the name is one that can't be declared.
-fn is_reserved(name: &str) -> bool
-    ensures { result ≡ is_reserved name.now }
-{
-    name == "bp" || name == "Math" || name == "undefined"
 }
 
 /// Whether a declared name is the later of two that clash, or can't be declared.

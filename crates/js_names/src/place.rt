@@ -1,6 +1,11 @@
 //! Declarations, places and faults.
+ghost use Rattle.std.specs.Prelude.{◌≡◌, IfOk};
+ghost use Rattle.js_names.specs.Sites.{word_at};
 
-use js_tree::Name;
+use js_data::Text;
+use js_tree::{Name, Spot};
+use std::alloc::{AllocError, Global};
+use thiserror::Error;
 
 /// What a name is declared as.
 #[derive(Clone, Copy, Debug, PartialEq, Eq)]
@@ -24,6 +29,8 @@ pub struct Declared {
     pub owner: u32,
     /// It stands directly in the list of statements of its function or of the program, and, for a `var`, nowhere else.
     pub direct: bool,
+    /// The place after the last of its declarators with a value, for a `var`; else 0.
+    pub given: u32,
 }
 
 /// What stands at a place.
@@ -52,23 +59,76 @@ pub struct Around {
     pub looped: bool,
 }
 
+/// A place, with what the rules ask of it.
+#[derive(Drop)]
+pub struct Seen {
+    pub what: What,
+    pub name: Name,
+    pub around: Around,
+    /// What the name stands for.
+    pub declared: Option<Declared>,
+    /// The functions around, the innermost first, and the top level last.
+    pub functions: Vec<u32>,
+    /// The name has an earlier declaration that it clashes with, or can't be declared.
+    pub clashes: bool,
+}
+
 /// A rule of names that is broken, with the name and the place; or want of memory.
-#[derive(Debug, Drop)]
+#[derive(Debug, Drop, Error)]
 pub enum NameFault {
     /// Nothing declares the name, or it is a use of `bp` or `Math` that is no form.
+    #[error("nothing declares the name")]
     Unknown(Name),
     /// The name is declared twice, or can't be declared.
+    #[error("the name is declared twice, or can't be declared")]
     Twice(Name),
     /// What is assigned or updated never changes.
+    #[error("what is assigned never changes")]
     AssignConst(Name),
     /// A variable of an outer function whose value can't be copied.
+    #[error("the variable of an outer function can't be copied")]
     Capture(Name),
     /// `break` or `continue` outside a loop of its function.
+    #[error("break or continue outside a loop")]
     LoopWord(Name),
     /// `return` outside functions.
+    #[error("return outside functions")]
     ReturnPlace(Name),
     /// A function needs more than 256 slots; the name is empty.
+    #[error("a function needs more than 256 slots")]
     Slots(Name),
     /// Want of memory.
+    #[error("want of memory")]
     Memory,
+}
+
+impl From<AllocError> for NameFault {
+    ghost use Rattle.std.specs.Prelude.{◌≡◌};
+    ghost use Rattle.js_names.specs.declared.place.NameFault.TheVariants.{Memory};
+
+    ghost from_gives = { λ _ f. f ≡ Memory };
+
+    fn from(_: AllocError) -> NameFault {
+        NameFault::Memory
+    }
+}
+
+/// The same name at the same place.
+pub fn copy_of(name: &Name) -> Result<Name, AllocError>
+    ensures { IfOk result (λ n. n ≡ name.now) }
+{
+    Ok(Name {
+        text: name.text.copy()?,
+        spot: name.spot,
+    })
+}
+
+/// A word at a place.
+pub fn word_at(alloc: Global, text: &str, spot: Spot) -> Result<Name, AllocError>
+    ensures { IfOk result (λ n. n ≡ word_at text.now spot) }
+{
+    Ok(Name {
+        text: Text::new(String::from_str(alloc, text)?),
+        spot,
+    })
 }

@@ -1,27 +1,14 @@
 //! The rules that a place alone answers.
-ghost use Rattle.std.specs.Prelude.{◌≡◌, IfOk, map};
-ghost use Rattle.js_names.specs.Slots.{assigned_in, is_constant, can_copy, is_outer};
-ghost use Rattle.js_names.specs.Rules.{fails_unknown, fails_twice, fails_const, fails_capture, fails_loop_word, fails_return};
-ghost use Rattle.js_names.specs.Views.{place_of};
+ghost use Rattle.std.specs.Prelude.{◌≡◌, IfOk, map, length};
+ghost use Rattle.js_names.specs.Slots.{assigned_in, assigned_at, is_constant, can_copy, is_outer};
+ghost use Rattle.js_names.specs.Rules.{fails_unknown, fails_twice, fails_const, fails_capture, fails_loop_word, fails_return, fails_slots};
+ghost use Rattle.js_names.specs.Views.{place_of, held_in};
 
-use crate::place::{Around, Declared, Role, What};
+use crate::holdings::slot_count;
+use crate::place::{Declared, Role, Seen, What};
 use crate::scope::TOP;
-use js_tree::Name;
+use indexmap::{IndexMap, IndexSet};
 use std::alloc::{AllocError, Global};
-
-/// A place, with what the rules ask of it.
-#[derive(Drop)]
-pub struct Seen {
-    pub what: What,
-    pub name: Name,
-    pub around: Around,
-    /// What the name stands for.
-    pub declared: Option<Declared>,
-    /// The functions around, the innermost first, and the top level last.
-    pub functions: Vec<u32>,
-    /// The name has an earlier declaration that it clashes with, or can't be declared.
-    pub clashes: bool,
-}
 
 /// A name that nothing declares, or a use of `bp` or `Math` that is no form.
 pub fn fails_unknown(place: &Seen) -> bool
@@ -47,16 +34,16 @@ pub fn fails_const(place: &Seen) -> bool
 }
 
 /// Whether a declaration is a constant.
-pub fn is_constant(assigned: &[u32], declared: Declared) -> bool
-    ensures { result ≡ is_constant assigned.now declared }
+pub fn is_constant(assigned: &IndexSet<u32>, declared: Declared) -> bool
+    ensures { result ≡ is_constant assigned.now.keys declared }
 {
     declared.role == Role::Function
         || declared.owner == TOP && declared.direct && !assigned.contains(&declared.place)
 }
 
 /// Whether a variable's value can be copied into a function that begins at the place.
-pub fn can_copy(assigned: &[u32], declared: Declared, begins: u32) -> bool
-    ensures { result ≡ can_copy assigned.now declared begins }
+pub fn can_copy(assigned: &IndexSet<u32>, declared: Declared, begins: u32) -> bool
+    ensures { result ≡ can_copy assigned.now.keys declared begins }
 {
     (declared.role != Role::Var || declared.direct)
         && !assigned.contains(&declared.place)
@@ -64,8 +51,8 @@ pub fn can_copy(assigned: &[u32], declared: Declared, begins: u32) -> bool
 }
 
 /// A variable of an outer function or of the top level, no constant, whose value can't be copied as the inner function begins.
-pub fn fails_capture(assigned: &[u32], place: &Seen) -> bool
-    ensures { result ≡ fails_capture assigned.now (place_of place.now) }
+pub fn fails_capture(assigned: &IndexSet<u32>, place: &Seen) -> bool
+    ensures { result ≡ fails_capture assigned.now.keys (place_of place.now) }
 {
     match place.what {
         What::Reads | What::Assigns => match place.declared {
@@ -100,17 +87,35 @@ pub fn fails_return(place: &Seen) -> bool
     }
 }
 
+/// More than 256 slots.
+pub fn fails_slots(held: &IndexMap<u32, IndexSet<u32>>, place: &Seen) -> bool
+    ensures { result ≡ fails_slots (λ f. length (held_in held.now f)) (place_of place.now) }
+{
+    match place.what {
+        What::Begins => slot_count(held, place.around.owner) > 256,
+        _ => false,
+    }
+}
+
+/// The variable that a place assigns or updates.
+fn assigned_at(place: &Seen) -> Option<u32>
+    ensures { result ≡ assigned_at (place_of place.now) }
+{
+    match place.what {
+        What::Assigns => place.declared.map(|declared| declared.place),
+        _ => None,
+    }
+}
+
 /// The variables that some place assigns or updates, by the places of their declarations.
 #[tactic(auto, unfolding(crate::specs::Slots::assigned_in))]
-pub fn assigned_in(alloc: Global, places: &[Seen]) -> Result<Vec<u32>, AllocError>
-    ensures { IfOk result (λ v. v.items ≡ assigned_in (map place_of places.now)) }
+pub fn assigned_in(alloc: Global, places: &[Seen]) -> Result<IndexSet<u32>, AllocError>
+    ensures { IfOk result (λ s. s.keys ≡ assigned_in (map place_of places.now)) }
 {
-    let mut assigned = Vec::new(alloc);
+    let mut assigned = IndexSet::new(alloc);
     for place in places {
-        if let What::Assigns = place.what
-            && let Some(declared) = place.declared
-        {
-            assigned.push(declared.place)?;
+        if let Some(variable) = assigned_at(place) {
+            assigned.insert(variable)?;
         }
     }
     Ok(assigned)

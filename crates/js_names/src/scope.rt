@@ -1,7 +1,8 @@
 //! Scopes, as the walk over a tree holds them.
 
-use crate::place::Declared;
+use crate::place::{Declared, Seen};
 use indexmap::IndexMap;
+use std::alloc::Global;
 
 /// The place of the top level, as that of a function: no function begins there.
 pub const TOP: u32 = u32::MAX;
@@ -15,4 +16,12 @@ pub struct Scope {
     pub whole: bool,
     /// The place of the function that it belongs to.
     pub owner: u32,
+}
+
+/// A walk over a tree: the scopes around where it is, the innermost last, and the places that it has met.
+#[derive(Drop)]
+pub struct Walk {
+    pub alloc: Global,
+    pub scopes: Vec<Scope>,
+    pub places: Vec<Seen>,
 }

@@ -1,10 +1,11 @@
 //! The scopes of blocks, loops and the program, made from their trees.
-ghost use Rattle.std.specs.Prelude.{◌≡◌, IfOk, OnOk, map};
+ghost use Rattle.std.specs.Prelude.{◌≡◌, ◌∷◌, [], IfOk, OnOk, map};
 ghost use Rattle.std.specs.List.{flat_map};
 ghost use Rattle.js_tree.specs.Plain.{stmts_of};
 ghost use Rattle.js_tree.specs.Views.{plain_stmt, plain_start, plain_tree};
-ghost use Rattle.js_names.specs.Scopes.{block_scope, for_scope, each_scope, program_scope};
-ghost use Rattle.js_names.specs.Views.{TakesOwn, TakesVars, scope_of, own_of_tree_item, vars_of_tree_item};
+ghost use Rattle.std.specs.HashMap.{get_by_text};
+ghost use Rattle.js_names.specs.Scopes.{given_of, parameter, parameters, function_scope, block_scope, for_scope, each_scope, program_scope};
+ghost use Rattle.js_names.specs.Views.{TakesOwn, TakesVars, in_map, scope_of, own_of_tree_item, vars_of_tree_item};
 
 use crate::declare::{
     declare_list_vars, declare_own, declare_own_stmt, declare_own_stmts, declare_start_own,
@@ -12,6 +13,7 @@ use crate::declare::{
 };
 use crate::place::{Declared, Role};
 use crate::scope::{Scope, TOP};
+use crate::seeing::each_role;
 use indexmap::IndexMap;
 use js_tree::{DeclareKind, Item, Name, Start, Stmt, Tree};
 use std::alloc::{AllocError, Global};
@@ -64,16 +66,14 @@ pub fn each_scope(
 ) -> Result<Scope, AllocError>
     ensures { IfOk result (λ s. scope_of s ≡ each_scope owner kind name.now (plain_stmt body.now)) }
 {
-    let role = match kind {
-        DeclareKind::Const => Role::Const,
-        DeclareKind::Let | DeclareKind::Var => Role::Let,
-    };
+    let role = each_role(kind);
     let declared = Declared {
         role,
         place: name.spot.at,
         end: name.spot.at,
         owner,
         direct: false,
+        given: 0,
     };
     let mut own = IndexMap::new(alloc);
     declare_own(alloc, &mut own, name, declared)?;
@@ -83,6 +83,76 @@ pub fn each_scope(
         own,
         vars,
         whole: false,
+        owner,
+    })
+}
+
+// The place after the last `var` of this name that has a value.
+fn given_of(vars: &IndexMap<String, Declared>, text: &str) -> u32
+    ensures { result ≡ given_of (get_by_text vars.now text.now) }
+{
+    match vars.get(text) {
+        Some(declared) => declared.given,
+        None => 0,
+    }
+}
+
+// Declares a parameter of a function with these `var`s.
+fn declare_parameter(
+    alloc: Global,
+    own: &mut IndexMap<String, Declared>,
+    vars: &IndexMap<String, Declared>,
+    owner: u32,
+    name: &Name,
+) -> Result<(), AllocError>
+    ensures { OnOk result (TakesOwn own.old own.new (parameter owner (in_map vars.now) name.now ∷ [])) }
+{
+    let given = given_of(vars, name.text.as_str());
+    let declared = Declared {
+        role: Role::Parameter,
+        place: name.spot.at,
+        end: name.spot.at.max(given),
+        owner,
+        direct: false,
+        given: 0,
+    };
+    declare_own(alloc, own, name, declared)
+}
+
+// Declares the parameters of a function with these `var`s.
+fn declare_parameters(
+    alloc: Global,
+    own: &mut IndexMap<String, Declared>,
+    vars: &IndexMap<String, Declared>,
+    owner: u32,
+    names: &[Name],
+) -> Result<(), AllocError>
+    ensures { OnOk result (TakesOwn own.old own.new (parameters owner (in_map vars.now) names.now)) }
+{
+    for name in names {
+        declare_parameter(alloc, own, vars, owner, name)?;
+    }
+    Ok(())
+}
+
+/// The scope of a function.
+pub fn function_scope(
+    alloc: Global,
+    owner: u32,
+    names: &[Name],
+    body: &[Stmt],
+) -> Result<Scope, AllocError>
+    ensures { IfOk result (λ s. scope_of s ≡ function_scope owner names.now (stmts_of (map plain_stmt body.now))) }
+{
+    let mut vars = IndexMap::new(alloc);
+    declare_list_vars(alloc, &mut vars, owner, true, body)?;
+    let mut own = IndexMap::new(alloc);
+    declare_parameters(alloc, &mut own, &vars, owner, names)?;
+    declare_own_stmts(alloc, &mut own, owner, true, body)?;
+    Ok(Scope {
+        own,
+        vars,
+        whole: true,
         owner,
     })
 }
@@ -104,6 +174,7 @@ fn declare_item(
                 end: name.spot.at,
                 owner: TOP,
                 direct: true,
+                given: 0,
             };
             declare_own(alloc, own, name, declared)
         }

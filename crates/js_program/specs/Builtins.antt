@@ -41,7 +41,7 @@ builtins =
     ∷ row (codes "Math") (codes "floor") Builtin.Floor true everywhere
     ∷ []
 
-abbrev same : Bool → Bool → Bool
+abbrev pub same : Bool → Bool → Bool
 same true b = b
 same false true = false
 same false false = true

@@ -4,5 +4,5 @@
 mod builtin;
 mod node;
 
-pub use builtin::{Builtin, Mode};
+pub use builtin::{Builtin, Mode, builtin_of};
 pub use node::{NodeForm, Variable};

@@ -1,0 +1,195 @@
+//! Places, as a walk meets them.
+ghost use Rattle.std.specs.Prelude.{◌≡◌, ◌++◌, IfOk, OnOk};
+ghost use Rattle.js_names.specs.Sites.{site, read_site, assign_site, begin_site, parameter_sites, in_function, in_loop, declared_role, word_at};
+ghost use Rattle.js_names.specs.Scopes.{each_role};
+ghost use Rattle.js_names.specs.Places.{see, functions_of, owner_in};
+ghost use Rattle.js_names.specs.Views.{Adds, Entered, Left, place_of, scope_of, scopes_in, scopes_of};
+
+use crate::forms::{is_object, is_reserved, is_undefined};
+use crate::lookup::{clashes, declared_at};
+use crate::place::{Around, Role, Seen, What, copy_of, word_at};
+use crate::scope::{Scope, Walk};
+use js_tree::{DeclareKind, Name, Spot};
+use std::alloc::{AllocError, Global};
+
+// Adds the function that begins with a scope.
+fn push_owner(functions: &mut Vec<u32>, scope: &Scope) -> Result<(), AllocError>
+    ensures { OnOk result (functions.new.items ≡ functions.old.items ++ owner_in (scope_of scope.now)) }
+{
+    if scope.whole {
+        functions.push(scope.owner)?;
+    }
+    Ok(())
+}
+
+// The functions around, the innermost first.
+fn functions_of(alloc: Global, scopes: &[Scope]) -> Result<Vec<u32>, AllocError>
+    ensures { IfOk result (λ fs. fs.items ≡ functions_of (scopes_of scopes.now)) }
+{
+    let mut functions = Vec::new(alloc);
+    let mut i = scopes.len();
+    while i > 0 {
+        i -= 1;
+        push_owner(&mut functions, &scopes[i])?;
+    }
+    Ok(functions)
+}
+
+// What the rules ask of a place.
+#[tactic(auto, unfolding(crate::specs::Places::see))]
+fn see(
+    alloc: Global,
+    scopes: &[Scope],
+    around: Around,
+    what: What,
+    name: Name,
+) -> Result<Seen, AllocError>
+    ensures { IfOk result (λ p. place_of p ≡ see (record { what = what; name = name; scopes = scopes_of scopes.now; around = around })) }
+{
+    let declared = declared_at(scopes, what, name.text.as_str());
+    let clashes = clashes(scopes, what, &name);
+    let functions = functions_of(alloc, scopes)?;
+    Ok(Seen {
+        what,
+        name,
+        around,
+        declared,
+        functions,
+        clashes,
+    })
+}
+
+/// One more place.
+pub fn put(walk: &mut Walk, around: Around, what: What, name: Name) -> Result<(), AllocError>
+    ensures { OnOk result (Adds walk.old walk.new (site (scopes_in walk.old) around what name)) }
+{
+    let seen = see(walk.alloc, &walk.scopes, around, what, name)?;
+    walk.places.push(seen)?;
+    Ok(())
+}
+
+/// One more place, at a name of the tree.
+pub fn put_name(
+    walk: &mut Walk,
+    around: Around,
+    what: What,
+    name: &Name,
+) -> Result<(), AllocError>
+    ensures { OnOk result (Adds walk.old walk.new (site (scopes_in walk.old) around what name.now)) }
+{
+    put(walk, around, what, copy_of(name)?)
+}
+
+/// One more place, at a word.
+pub fn put_word(
+    walk: &mut Walk,
+    around: Around,
+    what: What,
+    word: &str,
+    spot: Spot,
+) -> Result<(), AllocError>
+    ensures { OnOk result (Adds walk.old walk.new (site (scopes_in walk.old) around what (word_at word.now spot))) }
+{
+    let name = word_at(walk.alloc, word, spot)?;
+    put(walk, around, what, name)
+}
+
+/// A name that is read.
+pub fn put_read(walk: &mut Walk, around: Around, name: &Name) -> Result<(), AllocError>
+    ensures { OnOk result (Adds walk.old walk.new (read_site (scopes_in walk.old) around name.now)) }
+{
+    let text = name.text.as_str();
+    if is_object(text) {
+        put_name(walk, around, What::Misuses, name)
+    } else if is_undefined(text) {
+        Ok(())
+    } else {
+        put_name(walk, around, What::Reads, name)
+    }
+}
+
+/// A name that is assigned or updated.
+pub fn put_changed(walk: &mut Walk, around: Around, name: &Name) -> Result<(), AllocError>
+    ensures { OnOk result (Adds walk.old walk.new (assign_site (scopes_in walk.old) around name.now)) }
+{
+    let what = if is_reserved(name.text.as_str()) {
+        What::Misuses
+    } else {
+        What::Assigns
+    };
+    put_name(walk, around, what, name)
+}
+
+/// The first token of a function, or of the program.
+pub fn put_begin(walk: &mut Walk, owner: u32, spot: Spot) -> Result<(), AllocError>
+    ensures { OnOk result (Adds walk.old walk.new (begin_site (scopes_in walk.old) owner spot)) }
+{
+    put_word(walk, in_function(owner), What::Begins, "", spot)
+}
+
+/// The parameters of a function.
+pub fn put_parameters(walk: &mut Walk, around: Around, names: &[Name]) -> Result<(), AllocError>
+    ensures { OnOk result (Adds walk.old walk.new (parameter_sites (scopes_in walk.old) around names.now)) }
+{
+    for name in names {
+        put_name(walk, around, What::Declares(Role::Parameter), name)?;
+    }
+    Ok(())
+}
+
+/// The role of a name that is declared by this word.
+pub fn declared_role(kind: DeclareKind) -> Role
+    ensures { result ≡ declared_role kind }
+{
+    match kind {
+        DeclareKind::Const => Role::Const,
+        DeclareKind::Let => Role::Let,
+        DeclareKind::Var => Role::Var,
+    }
+}
+
+/// The role of the name of a `for` over a list.
+pub fn each_role(kind: DeclareKind) -> Role
+    ensures { result ≡ each_role kind }
+{
+    match kind {
+        DeclareKind::Const => Role::Const,
+        DeclareKind::Let => Role::Let,
+        DeclareKind::Var => Role::Let,
+    }
+}
+
+/// Inside a function, and outside its loops.
+pub fn in_function(owner: u32) -> Around
+    ensures { result ≡ in_function owner }
+{
+    Around {
+        owner,
+        looped: false,
+    }
+}
+
+/// Inside a loop of the same function.
+pub fn in_loop(around: Around) -> Around
+    ensures { result ≡ in_loop around }
+{
+    Around {
+        looped: true,
+        ..around
+    }
+}
+
+/// One more scope.
+pub fn enter(walk: &mut Walk, scope: Scope) -> Result<(), AllocError>
+    ensures { OnOk result (Entered walk.old walk.new scope) }
+{
+    walk.scopes.push(scope)?;
+    Ok(())
+}
+
+/// Takes the innermost scope off.
+pub fn leave(walk: &mut Walk)
+    ensures { Left walk.old walk.new }
+{
+    let _ = walk.scopes.pop();
+}

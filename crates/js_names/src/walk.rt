@@ -1,0 +1,472 @@
+//! The walk over a tree, which lists its places in text order.
+ghost use Rattle.std.specs.Prelude.{◌≡◌, ◌++◌, IfOk, OnOk, is_some, codes, [], map, if◌then◌else◌};
+ghost use Rattle.std.specs.List.{flat_map};
+ghost use Rattle.js_tree.specs.Plain.{stmts_of};
+ghost use Rattle.js_tree.specs.Views.{perhaps, plain_expr, plain_start, plain_stmt, plain_tree};
+ghost use Rattle.js_names.specs.Scopes.{block_scope, for_scope, each_scope, each_role, function_scope, top};
+ghost use Rattle.js_names.specs.Sites.{site, assign_site, begin_site, parameter_sites, member_sites, object_of, value_builtin, called_builtin, in_function, in_loop, perhaps_sites, start_sites, stmts_sites, word_at};
+ghost use Rattle.js_names.specs.Places.{places};
+ghost use Rattle.js_names.specs.Views.{Adds, scopes_in, place_of, tree_sites, field_sites, declarator_sites, tree_stmt_sites, tree_item_sites, block_sites, arrow_sites, body_sites, declared_sites, for_sites, each_sites, perhaps_tree_sites, start_tree_sites};
+
+use crate::first::program_spot;
+use crate::forms::{called_builtin, object_of, value_builtin};
+use crate::place::{Around, Role, Seen, What};
+use crate::scope::{TOP, Walk};
+use crate::scopes::{block_scope, each_scope, for_scope, function_scope, program_scope};
+use crate::seeing::{
+    declared_role, each_role, enter, in_function, in_loop, leave, put_begin, put_changed, put_name,
+    put_parameters, put_read, put_word,
+};
+use js_data::Text;
+use js_tree::{
+    DeclareKind, Declarator, Expr, Field, Form, Item, Name, Spot, Start, Stmt, StmtForm, Tree,
+};
+use std::alloc::{AllocError, Global};
+
+// A use of `bp` or `Math` that is no form, named by both words.
+fn put_misuse(walk: &mut Walk, around: Around, object: &Name, word: &str) -> Result<(), AllocError>
+    ensures { OnOk result (Adds walk.old walk.new (site (scopes_in walk.old) around What.Misuses (word_at (object.now.text ++ (codes "." ++ word.now)) object.now.spot))) }
+{
+    let text = format!(in walk.alloc; "{}.{}", object.text.as_str(), word)?;
+    put_word(walk, around, What::Misuses, text.as_str(), object.spot)
+}
+
+#[cycle(walk)]
+fn put_expr(walk: &mut Walk, around: Around, e: &Expr) -> Result<(), AllocError>
+    ensures { OnOk result (Adds walk.old walk.new (tree_sites (scopes_in walk.old) around e.now)) }
+{
+    match &e.form {
+        Form::Number(_) => Ok(()),
+        Form::Words(_) => Ok(()),
+        Form::Truth(_) => Ok(()),
+        Form::Null => Ok(()),
+        Form::Use(name) => put_read(walk, around, name),
+        Form::List(elements) => put_exprs(walk, around, elements),
+        Form::Fields(fields) => put_fields(walk, around, fields),
+        Form::Member(object, word) => put_member(walk, around, object, word),
+        Form::Index(left, right) => put_two(walk, around, left, right),
+        Form::Call(callee, arguments) => put_call(walk, around, callee, arguments),
+        Form::Unary(_, operand) => put_expr(walk, around, operand),
+        Form::Update(_, _, name) => put_changed(walk, around, name),
+        Form::Binary(_, left, right) => put_two(walk, around, left, right),
+        Form::Conditional(test, yes, no) => put_three(walk, around, test, yes, no),
+        Form::Assign(_, name, value) => put_assignment(walk, around, name, value),
+        Form::ArrowValue(spot, names, value) => put_arrow(walk, *spot, names, value),
+        Form::ArrowBlock(spot, names, body) => put_function(walk, *spot, names, body),
+        Form::Function(spot, names, body) => put_function(walk, *spot, names, body),
+    }
+}
+
+// Two expressions.
+#[cycle(walk)]
+fn put_two(walk: &mut Walk, around: Around, left: &Expr, right: &Expr) -> Result<(), AllocError>
+    ensures { OnOk result (Adds walk.old walk.new
+        (tree_sites (scopes_in walk.old) around left.now ++ tree_sites (scopes_in walk.old) around right.now)) }
+{
+    put_expr(walk, around, left)?;
+    put_expr(walk, around, right)
+}
+
+// The three parts of a conditional.
+#[cycle(walk)]
+fn put_three(
+    walk: &mut Walk,
+    around: Around,
+    test: &Expr,
+    yes: &Expr,
+    no: &Expr,
+) -> Result<(), AllocError>
+    ensures { OnOk result (Adds walk.old walk.new
+        (tree_sites (scopes_in walk.old) around test.now
+        ++ (tree_sites (scopes_in walk.old) around yes.now ++ tree_sites (scopes_in walk.old) around no.now))) }
+{
+    put_expr(walk, around, test)?;
+    put_two(walk, around, yes, no)
+}
+
+// An assignment.
+#[cycle(walk)]
+fn put_assignment(
+    walk: &mut Walk,
+    around: Around,
+    name: &Name,
+    value: &Expr,
+) -> Result<(), AllocError>
+    ensures { OnOk result (Adds walk.old walk.new
+        (assign_site (scopes_in walk.old) around name.now ++ tree_sites (scopes_in walk.old) around value.now)) }
+{
+    put_changed(walk, around, name)?;
+    put_expr(walk, around, value)
+}
+
+// A member.
+#[cycle(walk)]
+fn put_member(
+    walk: &mut Walk,
+    around: Around,
+    e: &Expr,
+    word: &Text,
+) -> Result<(), AllocError>
+    ensures { OnOk result (Adds walk.old walk.new
+        (member_sites (scopes_in walk.old) around (object_of (plain_expr e.now)) word.now
+            (is_some (value_builtin (plain_expr e.now) word.now)) (tree_sites (scopes_in walk.old) around e.now))) }
+{
+    match object_of(e) {
+        None => put_expr(walk, around, e),
+        Some(object) => {
+            if value_builtin(e, word.as_str()).is_some() {
+                Ok(())
+            } else {
+                put_misuse(walk, around, object, word.as_str())
+            }
+        }
+    }
+}
+
+// What is called, unless it is a form of the language.
+#[cycle(walk)]
+fn put_callee(walk: &mut Walk, around: Around, callee: &Expr) -> Result<(), AllocError>
+    ensures { OnOk result (Adds walk.old walk.new
+        (if is_some (called_builtin (plain_expr callee.now)) then [] else tree_sites (scopes_in walk.old) around callee.now)) }
+{
+    if called_builtin(callee).is_some() {
+        Ok(())
+    } else {
+        put_expr(walk, around, callee)
+    }
+}
+
+// A call.
+#[cycle(walk)]
+fn put_call(
+    walk: &mut Walk,
+    around: Around,
+    callee: &Expr,
+    arguments: &[Expr],
+) -> Result<(), AllocError>
+    ensures { OnOk result (Adds walk.old walk.new
+        ((if is_some (called_builtin (plain_expr callee.now)) then [] else tree_sites (scopes_in walk.old) around callee.now)
+        ++ flat_map (tree_sites (scopes_in walk.old) around) arguments.now)) }
+{
+    put_callee(walk, around, callee)?;
+    put_exprs(walk, around, arguments)
+}
+
+// An arrow function with a value.
+#[cycle(walk)]
+fn put_arrow(walk: &mut Walk, spot: Spot, names: &[Name], value: &Expr) -> Result<(), AllocError>
+    ensures { OnOk result (Adds walk.old walk.new (arrow_sites (scopes_in walk.old) spot names.now value.now)) }
+{
+    let scope = function_scope(walk.alloc, spot.at, names, &[])?;
+    enter(walk, scope)?;
+    put_head(walk, spot, names)?;
+    put_expr(walk, in_function(spot.at), value)?;
+    leave(walk);
+    Ok(())
+}
+
+// A function with statements.
+#[cycle(walk)]
+fn put_function(
+    walk: &mut Walk,
+    spot: Spot,
+    names: &[Name],
+    body: &[Stmt],
+) -> Result<(), AllocError>
+    ensures { OnOk result (Adds walk.old walk.new (body_sites (scopes_in walk.old) spot names.now body.now)) }
+{
+    let scope = function_scope(walk.alloc, spot.at, names, body)?;
+    enter(walk, scope)?;
+    put_head(walk, spot, names)?;
+    put_stmts(walk, in_function(spot.at), body)?;
+    leave(walk);
+    Ok(())
+}
+
+// Expressions.
+#[cycle(walk)]
+fn put_exprs(walk: &mut Walk, around: Around, es: &[Expr]) -> Result<(), AllocError>
+    ensures { OnOk result (Adds walk.old walk.new (flat_map (tree_sites (scopes_in walk.old) around) es.now)) }
+{
+    for e in es {
+        put_expr(walk, around, e)?;
+    }
+    Ok(())
+}
+
+// The values of fields.
+#[cycle(walk)]
+fn put_fields(walk: &mut Walk, around: Around, fields: &[Field]) -> Result<(), AllocError>
+    ensures { OnOk result (Adds walk.old walk.new (flat_map (field_sites (scopes_in walk.old) around) fields.now)) }
+{
+    for field in fields {
+        put_expr(walk, around, &field.value)?;
+    }
+    Ok(())
+}
+
+// An expression that may be absent.
+#[cycle(walk)]
+fn put_perhaps(walk: &mut Walk, around: Around, e: &Option<Expr>) -> Result<(), AllocError>
+    ensures { OnOk result (Adds walk.old walk.new (perhaps_tree_sites (scopes_in walk.old) around e.now)) }
+{
+    match e {
+        Some(e) => put_expr(walk, around, e),
+        None => Ok(()),
+    }
+}
+
+// A declared name and its value.
+#[cycle(walk)]
+fn put_declarator(
+    walk: &mut Walk,
+    around: Around,
+    kind: DeclareKind,
+    declarator: &Declarator,
+) -> Result<(), AllocError>
+    ensures { OnOk result (Adds walk.old walk.new (declarator_sites (scopes_in walk.old) around kind declarator.now)) }
+{
+    put_name(
+        walk,
+        around,
+        What::Declares(declared_role(kind)),
+        &declarator.name,
+    )?;
+    put_perhaps(walk, around, &declarator.value)
+}
+
+// Declared names and their values.
+#[cycle(walk)]
+fn put_declarators(
+    walk: &mut Walk,
+    around: Around,
+    kind: DeclareKind,
+    declarators: &[Declarator],
+) -> Result<(), AllocError>
+    ensures { OnOk result (Adds walk.old walk.new (flat_map (declarator_sites (scopes_in walk.old) around kind) declarators.now)) }
+{
+    for declarator in declarators {
+        put_declarator(walk, around, kind, declarator)?;
+    }
+    Ok(())
+}
+
+// What a `for` begins with.
+#[cycle(walk)]
+fn put_start(walk: &mut Walk, around: Around, start: &Start) -> Result<(), AllocError>
+    ensures { OnOk result (Adds walk.old walk.new (start_tree_sites (scopes_in walk.old) around start.now)) }
+{
+    match start {
+        Start::Nothing => Ok(()),
+        Start::Declares(_, kind, declarators) => put_declarators(walk, around, *kind, declarators),
+        Start::Evaluates(e) => put_expr(walk, around, e),
+    }
+}
+
+#[cycle(walk)]
+fn put_stmt(walk: &mut Walk, around: Around, stmt: &Stmt) -> Result<(), AllocError>
+    ensures { OnOk result (Adds walk.old walk.new (tree_stmt_sites (scopes_in walk.old) around stmt.now)) }
+{
+    match &stmt.form {
+        StmtForm::Empty => Ok(()),
+        StmtForm::Block(body) => put_block(walk, around, body),
+        StmtForm::Declaration(kind, declarators) => {
+            put_declarators(walk, around, *kind, declarators)
+        }
+        StmtForm::Expression(e) => put_expr(walk, around, e),
+        StmtForm::If(test, body) => put_test(walk, around, around, test, body),
+        StmtForm::IfElse(test, body, other) => put_choice(walk, around, test, body, other),
+        StmtForm::While(test, body) => put_test(walk, around, in_loop(around), test, body),
+        StmtForm::For(start, test, next, body) => put_for(walk, around, start, test, next, body),
+        StmtForm::ForOf(kind, name, list, body) => {
+            put_each(walk, around, *kind, name, list, body)
+        }
+        StmtForm::Break(spot) => put_word(walk, around, What::LoopWord, "break", *spot),
+        StmtForm::Continue(spot) => put_word(walk, around, What::LoopWord, "continue", *spot),
+        StmtForm::ReturnNothing(spot) => put_word(walk, around, What::Returns, "return", *spot),
+        StmtForm::Return(spot, e) => put_return(walk, around, *spot, e),
+    }
+}
+
+// A test, and a statement that it decides on.
+#[cycle(walk)]
+fn put_test(
+    walk: &mut Walk,
+    around: Around,
+    inside: Around,
+    test: &Expr,
+    body: &Stmt,
+) -> Result<(), AllocError>
+    ensures { OnOk result (Adds walk.old walk.new
+        (tree_sites (scopes_in walk.old) around test.now ++ tree_stmt_sites (scopes_in walk.old) inside body.now)) }
+{
+    put_expr(walk, around, test)?;
+    put_stmt(walk, inside, body)
+}
+
+// A test, and the two statements that it decides between.
+#[cycle(walk)]
+fn put_choice(
+    walk: &mut Walk,
+    around: Around,
+    test: &Expr,
+    body: &Stmt,
+    other: &Stmt,
+) -> Result<(), AllocError>
+    ensures { OnOk result (Adds walk.old walk.new
+        ((tree_sites (scopes_in walk.old) around test.now ++ tree_stmt_sites (scopes_in walk.old) around body.now)
+        ++ tree_stmt_sites (scopes_in walk.old) around other.now)) }
+{
+    put_test(walk, around, around, test, body)?;
+    put_stmt(walk, around, other)
+}
+
+// `return` and its value.
+#[cycle(walk)]
+fn put_return(walk: &mut Walk, around: Around, spot: Spot, e: &Expr) -> Result<(), AllocError>
+    ensures { OnOk result (Adds walk.old walk.new
+        (site (scopes_in walk.old) around What.Returns (word_at (codes "return") spot) ++ tree_sites (scopes_in walk.old) around e.now)) }
+{
+    put_word(walk, around, What::Returns, "return", spot)?;
+    put_expr(walk, around, e)
+}
+
+// A block.
+#[cycle(walk)]
+fn put_block(walk: &mut Walk, around: Around, body: &[Stmt]) -> Result<(), AllocError>
+    ensures { OnOk result (Adds walk.old walk.new (block_sites (scopes_in walk.old) around body.now)) }
+{
+    let scope = block_scope(walk.alloc, around.owner, body)?;
+    enter(walk, scope)?;
+    put_stmts(walk, around, body)?;
+    leave(walk);
+    Ok(())
+}
+
+// The head of a `for`.
+#[cycle(walk)]
+fn put_for_head(
+    walk: &mut Walk,
+    around: Around,
+    start: &Start,
+    test: &Option<Expr>,
+    next: &Option<Expr>,
+) -> Result<(), AllocError>
+    ensures { OnOk result (Adds walk.old walk.new
+        ((start_tree_sites (scopes_in walk.old) around start.now ++ perhaps_tree_sites (scopes_in walk.old) around test.now)
+        ++ perhaps_tree_sites (scopes_in walk.old) around next.now)) }
+{
+    put_start(walk, around, start)?;
+    put_perhaps(walk, around, test)?;
+    put_perhaps(walk, around, next)
+}
+
+// A `for` with three parts.
+#[cycle(walk)]
+fn put_for(
+    walk: &mut Walk,
+    around: Around,
+    start: &Start,
+    test: &Option<Expr>,
+    next: &Option<Expr>,
+    body: &Stmt,
+) -> Result<(), AllocError>
+    ensures { OnOk result (Adds walk.old walk.new (for_sites (scopes_in walk.old) around start.now test.now next.now body.now)) }
+{
+    let scope = for_scope(walk.alloc, around.owner, start, body)?;
+    enter(walk, scope)?;
+    put_for_head(walk, around, start, test, next)?;
+    put_stmt(walk, in_loop(around), body)?;
+    leave(walk);
+    Ok(())
+}
+
+// A `for` over a list.
+#[cycle(walk)]
+fn put_each(
+    walk: &mut Walk,
+    around: Around,
+    kind: DeclareKind,
+    name: &Name,
+    list: &Expr,
+    body: &Stmt,
+) -> Result<(), AllocError>
+    ensures { OnOk result (Adds walk.old walk.new (each_sites (scopes_in walk.old) around kind name.now list.now body.now)) }
+{
+    let scope = each_scope(walk.alloc, around.owner, kind, name, body)?;
+    enter(walk, scope)?;
+    put_name(walk, around, What::Declares(each_role(kind)), name)?;
+    put_test(walk, around, in_loop(around), list, body)?;
+    leave(walk);
+    Ok(())
+}
+
+// Statements.
+#[cycle(walk)]
+fn put_stmts(walk: &mut Walk, around: Around, body: &[Stmt]) -> Result<(), AllocError>
+    ensures { OnOk result (Adds walk.old walk.new (flat_map (tree_stmt_sites (scopes_in walk.old) around) body.now)) }
+{
+    for stmt in body {
+        put_stmt(walk, around, stmt)?;
+    }
+    Ok(())
+}
+
+// The parameters of a function, behind its first token.
+fn put_head(walk: &mut Walk, spot: Spot, names: &[Name]) -> Result<(), AllocError>
+    ensures { OnOk result (Adds walk.old walk.new
+        (begin_site (scopes_in walk.old) spot.at spot ++ parameter_sites (scopes_in walk.old) (in_function spot.at) names.now)) }
+{
+    put_begin(walk, spot.at, spot)?;
+    put_parameters(walk, in_function(spot.at), names)
+}
+
+// A function declaration.
+fn put_declared(
+    walk: &mut Walk,
+    spot: Spot,
+    name: &Name,
+    names: &[Name],
+    body: &[Stmt],
+) -> Result<(), AllocError>
+    ensures { OnOk result (Adds walk.old walk.new (declared_sites (scopes_in walk.old) spot name.now names.now body.now)) }
+{
+    put_name(walk, in_function(TOP), What::Declares(Role::Function), name)?;
+    put_function(walk, spot, names, body)
+}
+
+// What a program lists.
+fn put_item(walk: &mut Walk, item: &Item) -> Result<(), AllocError>
+    ensures { OnOk result (Adds walk.old walk.new (tree_item_sites (scopes_in walk.old) item.now)) }
+{
+    match item {
+        Item::Statement(stmt) => put_stmt(walk, in_function(TOP), stmt),
+        Item::Function(spot, name, names, body) => put_declared(walk, *spot, name, names, body),
+    }
+}
+
+// All that a program lists.
+fn put_items(walk: &mut Walk, items: &[Item]) -> Result<(), AllocError>
+    ensures { OnOk result (Adds walk.old walk.new (flat_map (tree_item_sites (scopes_in walk.old)) items.now)) }
+{
+    for item in items {
+        put_item(walk, item)?;
+    }
+    Ok(())
+}
+
+/// The places of a program.
+pub fn places_of(alloc: Global, tree: &Tree) -> Result<Vec<Seen>, AllocError>
+    ensures { IfOk result (λ seen. map place_of seen.items ≡ places (plain_tree tree.now)) }
+{
+    let mut walk = Walk {
+        alloc,
+        scopes: Vec::new(alloc),
+        places: Vec::new(alloc),
+    };
+    let scope = program_scope(alloc, tree)?;
+    enter(&mut walk, scope)?;
+    put_begin(&mut walk, TOP, program_spot(tree))?;
+    put_items(&mut walk, &tree.items)?;
+    Ok(walk.places)
+}
