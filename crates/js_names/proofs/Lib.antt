@@ -7,3 +7,7 @@ pub mod Taking
 pub mod Trees
 pub mod Making
 pub mod Holding
+pub mod Firsts
+pub mod Adding
+pub mod Exprs
+pub mod Stmts

@@ -1,12 +1,12 @@
 //! The walk over a tree, which lists its places in text order.
-ghost use Rattle.std.specs.Prelude.{◌≡◌, ◌++◌, IfOk, OnOk, is_some, codes, [], map, if◌then◌else◌};
+ghost use Rattle.std.specs.Prelude.{◌≡◌, ◌++◌, IfOk, OnOk, is_some, string_bytes, codes, [], map, if◌then◌else◌};
 ghost use Rattle.std.specs.List.{flat_map};
 ghost use Rattle.js_tree.specs.Plain.{stmts_of};
 ghost use Rattle.js_tree.specs.Views.{perhaps, plain_expr, plain_start, plain_stmt, plain_tree};
 ghost use Rattle.js_names.specs.Scopes.{block_scope, for_scope, each_scope, each_role, function_scope, top};
 ghost use Rattle.js_names.specs.Sites.{site, assign_site, begin_site, parameter_sites, member_sites, object_of, value_builtin, called_builtin, in_function, in_loop, perhaps_sites, start_sites, stmts_sites, word_at};
 ghost use Rattle.js_names.specs.Places.{places};
-ghost use Rattle.js_names.specs.Views.{Adds, scopes_in, place_of, tree_sites, field_sites, declarator_sites, tree_stmt_sites, tree_item_sites, block_sites, arrow_sites, body_sites, declared_sites, for_sites, each_sites, perhaps_tree_sites, start_tree_sites};
+ghost use Rattle.js_names.specs.Views.{Adds, Enters, EntersEach, scopes_in, place_of, tree_sites, field_sites, declarator_sites, tree_stmt_sites, tree_item_sites, block_sites, arrow_sites, body_sites, declared_sites, perhaps_tree_sites, start_tree_sites};
 
 use crate::first::program_spot;
 use crate::forms::{called_builtin, object_of, value_builtin};
@@ -27,8 +27,18 @@ use std::alloc::{AllocError, Global};
 fn put_misuse(walk: &mut Walk, around: Around, object: &Name, word: &str) -> Result<(), AllocError>
     ensures { OnOk result (Adds walk.old walk.new (site (scopes_in walk.old) around What.Misuses (word_at (object.now.text ++ (codes "." ++ word.now)) object.now.spot))) }
 {
-    let text = format!(in walk.alloc; "{}.{}", object.text.as_str(), word)?;
+    let text = member_name(walk.alloc, object.text.as_str(), word)?;
     put_word(walk, around, What::Misuses, text.as_str(), object.spot)
+}
+
+// Two words with a dot between them.
+fn member_name(alloc: Global, object: &str, word: &str) -> Result<String, AllocError>
+    ensures { IfOk result (λ t. string_bytes t ≡ object.now ++ (codes "." ++ word.now)) }
+{
+    let mut text = String::from_str(alloc, object)?;
+    text.push_str(".")?;
+    text.push_str(word)?;
+    Ok(text)
 }
 
 #[cycle(walk)]
@@ -44,59 +54,33 @@ fn put_expr(walk: &mut Walk, around: Around, e: &Expr) -> Result<(), AllocError>
         Form::List(elements) => put_exprs(walk, around, elements),
         Form::Fields(fields) => put_fields(walk, around, fields),
         Form::Member(object, word) => put_member(walk, around, object, word),
-        Form::Index(left, right) => put_two(walk, around, left, right),
-        Form::Call(callee, arguments) => put_call(walk, around, callee, arguments),
+        Form::Index(left, right) => {
+            put_expr(walk, around, left)?;
+            put_expr(walk, around, right)
+        }
+        Form::Call(callee, arguments) => {
+            put_callee(walk, around, callee)?;
+            put_exprs(walk, around, arguments)
+        }
         Form::Unary(_, operand) => put_expr(walk, around, operand),
         Form::Update(_, _, name) => put_changed(walk, around, name),
-        Form::Binary(_, left, right) => put_two(walk, around, left, right),
-        Form::Conditional(test, yes, no) => put_three(walk, around, test, yes, no),
-        Form::Assign(_, name, value) => put_assignment(walk, around, name, value),
+        Form::Binary(_, left, right) => {
+            put_expr(walk, around, left)?;
+            put_expr(walk, around, right)
+        }
+        Form::Conditional(test, yes, no) => {
+            put_expr(walk, around, test)?;
+            put_expr(walk, around, yes)?;
+            put_expr(walk, around, no)
+        }
+        Form::Assign(_, name, value) => {
+            put_changed(walk, around, name)?;
+            put_expr(walk, around, value)
+        }
         Form::ArrowValue(spot, names, value) => put_arrow(walk, *spot, names, value),
         Form::ArrowBlock(spot, names, body) => put_function(walk, *spot, names, body),
         Form::Function(spot, names, body) => put_function(walk, *spot, names, body),
     }
-}
-
-// Two expressions.
-#[cycle(walk)]
-fn put_two(walk: &mut Walk, around: Around, left: &Expr, right: &Expr) -> Result<(), AllocError>
-    ensures { OnOk result (Adds walk.old walk.new
-        (tree_sites (scopes_in walk.old) around left.now ++ tree_sites (scopes_in walk.old) around right.now)) }
-{
-    put_expr(walk, around, left)?;
-    put_expr(walk, around, right)
-}
-
-// The three parts of a conditional.
-#[cycle(walk)]
-fn put_three(
-    walk: &mut Walk,
-    around: Around,
-    test: &Expr,
-    yes: &Expr,
-    no: &Expr,
-) -> Result<(), AllocError>
-    ensures { OnOk result (Adds walk.old walk.new
-        (tree_sites (scopes_in walk.old) around test.now
-        ++ (tree_sites (scopes_in walk.old) around yes.now ++ tree_sites (scopes_in walk.old) around no.now))) }
-{
-    put_expr(walk, around, test)?;
-    put_two(walk, around, yes, no)
-}
-
-// An assignment.
-#[cycle(walk)]
-fn put_assignment(
-    walk: &mut Walk,
-    around: Around,
-    name: &Name,
-    value: &Expr,
-) -> Result<(), AllocError>
-    ensures { OnOk result (Adds walk.old walk.new
-        (assign_site (scopes_in walk.old) around name.now ++ tree_sites (scopes_in walk.old) around value.now)) }
-{
-    put_changed(walk, around, name)?;
-    put_expr(walk, around, value)
 }
 
 // A member.
@@ -134,22 +118,6 @@ fn put_callee(walk: &mut Walk, around: Around, callee: &Expr) -> Result<(), Allo
     } else {
         put_expr(walk, around, callee)
     }
-}
-
-// A call.
-#[cycle(walk)]
-fn put_call(
-    walk: &mut Walk,
-    around: Around,
-    callee: &Expr,
-    arguments: &[Expr],
-) -> Result<(), AllocError>
-    ensures { OnOk result (Adds walk.old walk.new
-        ((if is_some (called_builtin (plain_expr callee.now)) then [] else tree_sites (scopes_in walk.old) around callee.now)
-        ++ flat_map (tree_sites (scopes_in walk.old) around) arguments.now)) }
-{
-    put_callee(walk, around, callee)?;
-    put_exprs(walk, around, arguments)
 }
 
 // An arrow function with a value.
@@ -274,61 +242,43 @@ fn put_stmt(walk: &mut Walk, around: Around, stmt: &Stmt) -> Result<(), AllocErr
             put_declarators(walk, around, *kind, declarators)
         }
         StmtForm::Expression(e) => put_expr(walk, around, e),
-        StmtForm::If(test, body) => put_test(walk, around, around, test, body),
-        StmtForm::IfElse(test, body, other) => put_choice(walk, around, test, body, other),
-        StmtForm::While(test, body) => put_test(walk, around, in_loop(around), test, body),
-        StmtForm::For(start, test, next, body) => put_for(walk, around, start, test, next, body),
+        StmtForm::If(test, body) => {
+            put_expr(walk, around, test)?;
+            put_stmt(walk, around, body)
+        }
+        StmtForm::IfElse(test, body, other) => {
+            put_expr(walk, around, test)?;
+            put_stmt(walk, around, body)?;
+            put_stmt(walk, around, other)
+        }
+        StmtForm::While(test, body) => {
+            put_expr(walk, around, test)?;
+            put_stmt(walk, in_loop(around), body)
+        }
+        StmtForm::For(start, test, next, body) => {
+            enter_for(walk, around, start, body)?;
+            put_start(walk, around, start)?;
+            put_perhaps(walk, around, test)?;
+            put_perhaps(walk, around, next)?;
+            put_stmt(walk, in_loop(around), body)?;
+            leave(walk);
+            Ok(())
+        }
         StmtForm::ForOf(kind, name, list, body) => {
-            put_each(walk, around, *kind, name, list, body)
+            enter_each(walk, around, *kind, name, body)?;
+            put_expr(walk, around, list)?;
+            put_stmt(walk, in_loop(around), body)?;
+            leave(walk);
+            Ok(())
         }
         StmtForm::Break(spot) => put_word(walk, around, What::LoopWord, "break", *spot),
         StmtForm::Continue(spot) => put_word(walk, around, What::LoopWord, "continue", *spot),
         StmtForm::ReturnNothing(spot) => put_word(walk, around, What::Returns, "return", *spot),
-        StmtForm::Return(spot, e) => put_return(walk, around, *spot, e),
+        StmtForm::Return(spot, e) => {
+            put_word(walk, around, What::Returns, "return", *spot)?;
+            put_expr(walk, around, e)
+        }
     }
-}
-
-// A test, and a statement that it decides on.
-#[cycle(walk)]
-fn put_test(
-    walk: &mut Walk,
-    around: Around,
-    inside: Around,
-    test: &Expr,
-    body: &Stmt,
-) -> Result<(), AllocError>
-    ensures { OnOk result (Adds walk.old walk.new
-        (tree_sites (scopes_in walk.old) around test.now ++ tree_stmt_sites (scopes_in walk.old) inside body.now)) }
-{
-    put_expr(walk, around, test)?;
-    put_stmt(walk, inside, body)
-}
-
-// A test, and the two statements that it decides between.
-#[cycle(walk)]
-fn put_choice(
-    walk: &mut Walk,
-    around: Around,
-    test: &Expr,
-    body: &Stmt,
-    other: &Stmt,
-) -> Result<(), AllocError>
-    ensures { OnOk result (Adds walk.old walk.new
-        ((tree_sites (scopes_in walk.old) around test.now ++ tree_stmt_sites (scopes_in walk.old) around body.now)
-        ++ tree_stmt_sites (scopes_in walk.old) around other.now)) }
-{
-    put_test(walk, around, around, test, body)?;
-    put_stmt(walk, around, other)
-}
-
-// `return` and its value.
-#[cycle(walk)]
-fn put_return(walk: &mut Walk, around: Around, spot: Spot, e: &Expr) -> Result<(), AllocError>
-    ensures { OnOk result (Adds walk.old walk.new
-        (site (scopes_in walk.old) around What.Returns (word_at (codes "return") spot) ++ tree_sites (scopes_in walk.old) around e.now)) }
-{
-    put_word(walk, around, What::Returns, "return", spot)?;
-    put_expr(walk, around, e)
 }
 
 // A block.
@@ -339,64 +289,6 @@ fn put_block(walk: &mut Walk, around: Around, body: &[Stmt]) -> Result<(), Alloc
     let scope = block_scope(walk.alloc, around.owner, body)?;
     enter(walk, scope)?;
     put_stmts(walk, around, body)?;
-    leave(walk);
-    Ok(())
-}
-
-// The head of a `for`.
-#[cycle(walk)]
-fn put_for_head(
-    walk: &mut Walk,
-    around: Around,
-    start: &Start,
-    test: &Option<Expr>,
-    next: &Option<Expr>,
-) -> Result<(), AllocError>
-    ensures { OnOk result (Adds walk.old walk.new
-        ((start_tree_sites (scopes_in walk.old) around start.now ++ perhaps_tree_sites (scopes_in walk.old) around test.now)
-        ++ perhaps_tree_sites (scopes_in walk.old) around next.now)) }
-{
-    put_start(walk, around, start)?;
-    put_perhaps(walk, around, test)?;
-    put_perhaps(walk, around, next)
-}
-
-// A `for` with three parts.
-#[cycle(walk)]
-fn put_for(
-    walk: &mut Walk,
-    around: Around,
-    start: &Start,
-    test: &Option<Expr>,
-    next: &Option<Expr>,
-    body: &Stmt,
-) -> Result<(), AllocError>
-    ensures { OnOk result (Adds walk.old walk.new (for_sites (scopes_in walk.old) around start.now test.now next.now body.now)) }
-{
-    let scope = for_scope(walk.alloc, around.owner, start, body)?;
-    enter(walk, scope)?;
-    put_for_head(walk, around, start, test, next)?;
-    put_stmt(walk, in_loop(around), body)?;
-    leave(walk);
-    Ok(())
-}
-
-// A `for` over a list.
-#[cycle(walk)]
-fn put_each(
-    walk: &mut Walk,
-    around: Around,
-    kind: DeclareKind,
-    name: &Name,
-    list: &Expr,
-    body: &Stmt,
-) -> Result<(), AllocError>
-    ensures { OnOk result (Adds walk.old walk.new (each_sites (scopes_in walk.old) around kind name.now list.now body.now)) }
-{
-    let scope = each_scope(walk.alloc, around.owner, kind, name, body)?;
-    enter(walk, scope)?;
-    put_name(walk, around, What::Declares(each_role(kind)), name)?;
-    put_test(walk, around, in_loop(around), list, body)?;
     leave(walk);
     Ok(())
 }
@@ -419,6 +311,29 @@ fn put_head(walk: &mut Walk, spot: Spot, names: &[Name]) -> Result<(), AllocErro
 {
     put_begin(walk, spot.at, spot)?;
     put_parameters(walk, in_function(spot.at), names)
+}
+
+// The scope of a `for` with three parts.
+fn enter_for(walk: &mut Walk, around: Around, start: &Start, body: &Stmt) -> Result<(), AllocError>
+    ensures { OnOk result (Enters walk.old walk.new (for_scope around.owner (plain_start start.now) (plain_stmt body.now))) }
+{
+    let scope = for_scope(walk.alloc, around.owner, start, body)?;
+    enter(walk, scope)
+}
+
+// The scope of a `for` over a list, and its name.
+fn enter_each(
+    walk: &mut Walk,
+    around: Around,
+    kind: DeclareKind,
+    name: &Name,
+    body: &Stmt,
+) -> Result<(), AllocError>
+    ensures { OnOk result (EntersEach walk.old walk.new around kind name.now (each_scope around.owner kind name.now (plain_stmt body.now))) }
+{
+    let scope = each_scope(walk.alloc, around.owner, kind, name, body)?;
+    enter(walk, scope)?;
+    put_name(walk, around, What::Declares(each_role(kind)), name)
 }
 
 // A function declaration.

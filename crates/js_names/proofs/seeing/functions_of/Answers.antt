@@ -1,4 +1,4 @@
-use Rattle.std.proofs.Common.{◌≡◌, ◌∙◌, ◌++◌, sym, ap, arith, take, length, take_all, append_nil}
+use Rattle.std.proofs.Common.{◌≡◌, ◌∙◌, ◌++◌, sym, ap, arith, take, length, take_all, append-nil, ◌-◌}
 use Rattle.js_names.specs.Places.{functions_of, owner_in}
 use Rattle.js_names.specs.Views.{scope_of, scopes_of}
 use Rattle.js_names.proofs.Stacks.{functions_down, functions_empty, functions_step}
@@ -18,4 +18,4 @@ pub returns : goal.returns
 returns c =
     let z : c.loop-i.i ≡ 0 = omega arith in
     let f = c.loop-i.functions.items in
-    sym (append_nil f) ∙ (ap (λ z. f ++ z) (sym functions_empty) ∙ (ap (λ n. f ++ functions_of (scopes_of (take n c.args.scopes.now))) (sym z) ∙ c.loop-i.invariant.same))
+    sym (append-nil f) ∙ (ap (λ z. f ++ z) (sym functions_empty) ∙ (ap (λ n. f ++ functions_of (scopes_of (take n c.args.scopes.now))) (sym z) ∙ c.loop-i.invariant.same))

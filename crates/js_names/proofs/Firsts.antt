@@ -1,0 +1,40 @@
+-- The first breach of a rule, from the lists that the check makes.
+use Rattle.std.proofs.Common.{◌≡◌, ℕ, ◌+◌, ◌<◌, List, [], ◌∷◌, ◌∙◌, ap, refl, sym, map, fold, length, get_or, drop, Option, Some, None}
+use Rattle.std.proofs.lemmas.List.{at_drop_more}
+use Rattle.js_names.specs.declared.place.NameFault.{NameFault}
+use Rattle.js_names.specs.declared.place.Seen.{Seen}
+use Rattle.js_tree.specs.Plain.{PlainItem}
+use Rattle.js_names.specs.Places.{Place, places}
+use Rattle.js_names.specs.Slots.{assigned_in, slots_of, slot_count}
+use Rattle.js_names.specs.Rules.{fault_at, sooner, soonest, name_fault}
+use Rattle.js_names.specs.Views.{Sets, held_in, place_of}
+
+pub soonest_more : (F : Place → Option NameFault) (xs : List Seen) (i : ℕ) (x : Seen) (a b fault all : Option NameFault) → i < length xs → x ≡ get_or xs i x → fault ≡ F (place_of x) → b ≡ sooner a fault
+    → fold (λ f p. sooner f (F p)) a (map place_of (drop i xs)) ≡ all → fold (λ f p. sooner f (F p)) b (map place_of (drop (i + 1) xs)) ≡ all
+soonest_more F xs i x a b fault all h e f s inv =
+    ap (λ z. fold (λ f p. sooner f (F p)) z (map place_of (drop (i + 1) xs))) (s ∙ (ap (sooner a) f ∙ ap (λ y. sooner a (F (place_of y))) e))
+    ∙ (sym (at_drop_more (λ ys. fold (λ f p. sooner f (F p)) a (map place_of ys)) xs i x h) ∙ inv)
+
+-- what the lists that the check makes say of the program
+pub fault_of_places : (items : List PlainItem) (seen s1 s2 s3 : List Seen) (assigned : List ℕ) (sets : Sets) (r : Option NameFault) → map place_of seen ≡ places items → s1 ≡ seen → s2 ≡ seen → s3 ≡ seen
+    → assigned ≡ assigned_in (map place_of s1) → ((f : ℕ) → held_in sets f ≡ slots_of assigned f (map place_of s2))
+    → r ≡ soonest (fault_at assigned (λ g. length (held_in sets g))) (map place_of s3) → r ≡ name_fault items
+unfolding name_fault slot_count
+fault_of_places items seen s1 s2 s3 assigned sets r e d1 d2 d3 a h k =
+    let ps = places items in
+    let p1 : map place_of s1 ≡ ps = ap (map place_of) d1 ∙ e in
+    let p2 : map place_of s2 ≡ ps = ap (map place_of) d2 ∙ e in
+    let p3 : map place_of s3 ≡ ps = ap (map place_of) d3 ∙ e in
+    k ∙ (ap (λ c. soonest (fault_at assigned c) (map place_of s3)) (λ i f. ap length (h f) i)
+    ∙ (ap (λ z. soonest (fault_at assigned (λ f. length (slots_of assigned f z))) (map place_of s3)) p2
+    ∙ (ap (λ z. soonest (fault_at assigned (λ f. length (slots_of assigned f ps))) z) p3
+    ∙ ap (λ z. soonest (fault_at z (λ f. length (slots_of z f ps))) ps) (a ∙ ap assigned_in p1))))
+
+-- the variables that something assigns, and the slots
+pub assigned_of_places : (items : List PlainItem) (seen s1 : List Seen) (assigned : List ℕ) → map place_of seen ≡ places items → s1 ≡ seen → assigned ≡ assigned_in (map place_of s1) → assigned ≡ assigned_in (places items)
+assigned_of_places items seen s1 assigned e d a = a ∙ ap assigned_in (ap (map place_of) d ∙ e)
+
+pub slots_of_places : (items : List PlainItem) (seen s1 s2 : List Seen) (assigned : List ℕ) (sets : Sets) → map place_of seen ≡ places items → s1 ≡ seen → s2 ≡ seen → assigned ≡ assigned_in (map place_of s1)
+    → ((f : ℕ) → held_in sets f ≡ slots_of assigned f (map place_of s2)) → (f : ℕ) → held_in sets f ≡ slots_of (assigned_in (places items)) f (places items)
+slots_of_places items seen s1 s2 assigned sets e d1 d2 a h f =
+    h f ∙ (ap (slots_of assigned f) (ap (map place_of) d2 ∙ e) ∙ ap (λ z. slots_of z f (places items)) (assigned_of_places items seen s1 assigned e d1 a))

@@ -1,0 +1,184 @@
+-- The places of each form of a statement, from those of its parts.
+use Rattle.std.proofs.Common.{◌≡◌, ℕ, rules, List, [], ◌∷◌, ◌++◌, ◌∙◌, ap, refl, sym, map, Option, Some, None, append_assoc, if◌then◌else◌}
+use Rattle.std.specs.Prelude.{Vec, option_map, is_some, codes}
+use Rattle.std.specs.List.{flat_map}
+use Rattle.std.specs.declared.alloc.Global.{Global}
+use Rattle.std.specs.declared.boxed.Box.{Box}
+use Rattle.js_tree.specs.declared.tree.Name.{Name}
+use Rattle.js_tree.specs.declared.tree.Spot.{Spot}
+use Rattle.js_tree.specs.declared.tree.DeclareKind.{DeclareKind}
+use Rattle.js_tree.specs.declared.tree.Sign.{Sign}
+use Rattle.js_tree.specs.declared.tree.Step.{Step}
+use Rattle.js_tree.specs.declared.tree.Fix.{Fix}
+use Rattle.js_tree.specs.declared.tree.Operator.{Operator}
+use Rattle.js_tree.specs.declared.tree.AssignOp.{AssignOp}
+use Rattle.js_tree.specs.declared.tree.Expr.{Expr}
+use Rattle.js_tree.specs.declared.tree.Declarator.{Declarator, out-Declarator, fold_out-Declarator}
+use Rattle.js_tree.specs.declared.tree.Stmt.{Stmt}
+use Rattle.js_tree.specs.declared.tree.Start.{Start, Nothing, Declares, Evaluates, fold-roll-Start}
+use Rattle.js_tree.specs.declared.tree.Start.TheVariants.{rolls-Nothing, rolls-Declares, rolls-Evaluates}
+use Rattle.js_tree.specs.declared.tree.StmtForm.{StmtForm, Empty, Block, Declaration, Expression, If, IfElse, While, For, ForOf, Break, Continue, ReturnNothing, Return, fold-roll-StmtForm}
+use Rattle.js_tree.specs.declared.tree.StmtForm.TheVariants.{rolls-Empty, rolls-Expression, rolls-Break, rolls-Continue, rolls-ReturnNothing, rolls-Return}
+use Rattle.js_tree.specs.declared.tree.Item.{Item}
+use Rattle.js_tree.specs.declared.tree.Item.TheVariants.{Statement, Function}
+use Rattle.js_tree.specs.Plain as p
+use Rattle.js_tree.specs.Plain.{PlainExpr, PlainForm, PlainField, PlainDeclarator, PlainPerhaps, PlainStart, PlainStmt, PlainStmtForm, declarators_of, stmts_of}
+use Rattle.js_tree.specs.Views.{perhaps, plain_expr, plain_start, plain_stmt, plain_declarator, plain_item, form_step, start_step, stmt_form_step, declarator_step, expr_step, field_step, stmt_step}
+use Rattle.js_names.specs.declared.place.Around.{Around}
+use Rattle.js_names.specs.declared.place.What.{What}
+use Rattle.js_names.specs.declared.place.Role.{Role}
+use Rattle.js_names.specs.Scopes.{Scope, top, for_scope}
+use Rattle.js_names.specs.Sites.{Site, site, word_at, perhaps_sites, declarators_sites, start_sites, stmt_sites, stmt_form_sites, stmts_sites, item_sites, declared_role, in_loop, in_function}
+use Rattle.js_names.specs.Views.{tree_sites, declarator_sites, perhaps_tree_sites, start_tree_sites, tree_stmt_sites, block_sites, for_sites, each_sites, declared_sites, tree_item_sites}
+use Rattle.js_names.proofs.Trees.{plain_stmt_form, with_form, declaration_is, block_is, if_is, if_else_is, while_is, for_is, for_of_is, start_is}
+use Rattle.js_names.proofs.Exprs.{stmts_flat, body_is}
+
+-- the places of a statement are those of its form
+form_at : (s : List Scope) (a : Around) (x : Stmt) (f : StmtForm) (g : PlainStmtForm) → x.form ≡ f → plain_stmt_form f ≡ g → stmt_form_sites s a g ≡ tree_stmt_sites s a x
+unfolding stmt_sites
+form_at s a x f g h k = sym (ap (stmt_sites s a) (with_form x f g h k))
+
+declarators_flat : (s : List Scope) (a : Around) (k : DeclareKind) (ds : List Declarator) → flat_map (declarator_sites s a k) ds ≡ declarators_sites s a k (declarators_of (map plain_declarator ds))
+unfolding declarators_sites
+declarators_flat s a k [] = refl
+declarators_flat s a k (d ∷ ds) =
+    append_assoc (site s a (What.Declares (declared_role k)) (plain_declarator d).name) (perhaps_sites s a (plain_declarator d).value) (flat_map (declarator_sites s a k) ds)
+    ∙ ap (λ z. site s a (What.Declares (declared_role k)) (plain_declarator d).name ++ (perhaps_sites s a (plain_declarator d).value ++ z)) (declarators_flat s a k ds)
+
+declarator_is : (d : Declarator) → plain_declarator d ≡ record { name = (out-Declarator d).name; value = perhaps (option_map plain_expr (out-Declarator d).value); end = (out-Declarator d).end }
+declarator_is d = search (rules, fold_out-Declarator)
+
+pub declarator_parts : (s : List Scope) (a : Around) (k : DeclareKind) (d : Declarator)
+    → site s a (What.Declares (declared_role k)) (out-Declarator d).name ++ perhaps_tree_sites s a (out-Declarator d).value ≡ declarator_sites s a k d
+declarator_parts s a k d = ap (λ (z : PlainDeclarator). site s a (What.Declares (declared_role k)) z.name ++ perhaps_sites s a z.value) (sym (declarator_is d))
+
+pub present_sites : (s : List Scope) (a : Around) (e : Option Expr) (x : Expr) → e ≡ Some x → tree_sites s a x ≡ perhaps_tree_sites s a e
+unfolding perhaps_sites
+present_sites s a e x h = sym (ap (perhaps_tree_sites s a) h)
+
+pub absent_sites : (s : List Scope) (a : Around) (e : Option Expr) → e ≡ None → [] ≡ perhaps_tree_sites s a e
+unfolding perhaps_sites
+absent_sites s a e h = sym (ap (perhaps_tree_sites s a) h)
+
+-- what a `for` begins with
+
+nothing_is : plain_start Nothing ≡ p.nothing
+nothing_is = ap plain_start (sym rolls-Nothing) ∙ fold-roll-Start PlainForm PlainStart PlainStmtForm PlainDeclarator PlainExpr PlainField PlainStmt form_step start_step stmt_form_step declarator_step expr_step field_step stmt_step _
+
+evaluates_is : (e : Expr) → plain_start (Evaluates e) ≡ p.started (plain_expr e)
+evaluates_is e = ap plain_start (sym (rolls-Evaluates e)) ∙ fold-roll-Start PlainForm PlainStart PlainStmtForm PlainDeclarator PlainExpr PlainField PlainStmt form_step start_step stmt_form_step declarator_step expr_step field_step stmt_step _
+
+pub nothing_sites : (s : List Scope) (a : Around) (b : Start) → b ≡ Nothing → [] ≡ start_tree_sites s a b
+unfolding start_sites
+nothing_sites s a b h = sym (ap (start_sites s a) (ap plain_start h ∙ nothing_is))
+
+pub declares_sites : (s : List Scope) (a : Around) (b : Start) (line : ℕ) (k : DeclareKind) (v : Vec Declarator Global) (ds : List Declarator) → b ≡ Declares line k v → ds ≡ v.items
+    → flat_map (declarator_sites s a k) ds ≡ start_tree_sites s a b
+unfolding start_sites
+declares_sites s a b line k v ds h d = ap (flat_map (declarator_sites s a k)) d ∙ (declarators_flat s a k v.items ∙ sym (ap (start_sites s a) (ap plain_start h ∙ start_is line k v)))
+
+pub evaluates_sites : (s : List Scope) (a : Around) (b : Start) (e : Expr) → b ≡ Evaluates e → tree_sites s a e ≡ start_tree_sites s a b
+unfolding start_sites
+evaluates_sites s a b e h = sym (ap (start_sites s a) (ap plain_start h ∙ evaluates_is e))
+
+-- statements
+
+empty_is : plain_stmt_form Empty ≡ p.empty
+empty_is = ap plain_stmt_form (sym rolls-Empty) ∙ fold-roll-StmtForm PlainForm PlainStart PlainStmtForm PlainDeclarator PlainExpr PlainField PlainStmt form_step start_step stmt_form_step declarator_step expr_step field_step stmt_step _
+
+expression_is : (e : Expr) → plain_stmt_form (Expression e) ≡ p.expression (plain_expr e)
+expression_is e = ap plain_stmt_form (sym (rolls-Expression e)) ∙ fold-roll-StmtForm PlainForm PlainStart PlainStmtForm PlainDeclarator PlainExpr PlainField PlainStmt form_step start_step stmt_form_step declarator_step expr_step field_step stmt_step _
+
+break_is : (k : Spot) → plain_stmt_form (Break k) ≡ p.break_of k
+break_is k = ap plain_stmt_form (sym (rolls-Break k)) ∙ fold-roll-StmtForm PlainForm PlainStart PlainStmtForm PlainDeclarator PlainExpr PlainField PlainStmt form_step start_step stmt_form_step declarator_step expr_step field_step stmt_step _
+
+continue_is : (k : Spot) → plain_stmt_form (Continue k) ≡ p.continue_of k
+continue_is k = ap plain_stmt_form (sym (rolls-Continue k)) ∙ fold-roll-StmtForm PlainForm PlainStart PlainStmtForm PlainDeclarator PlainExpr PlainField PlainStmt form_step start_step stmt_form_step declarator_step expr_step field_step stmt_step _
+
+return_nothing_is : (k : Spot) → plain_stmt_form (ReturnNothing k) ≡ p.return_nothing k
+return_nothing_is k = ap plain_stmt_form (sym (rolls-ReturnNothing k)) ∙ fold-roll-StmtForm PlainForm PlainStart PlainStmtForm PlainDeclarator PlainExpr PlainField PlainStmt form_step start_step stmt_form_step declarator_step expr_step field_step stmt_step _
+
+return_is : (k : Spot) (e : Expr) → plain_stmt_form (Return k e) ≡ p.return_of k (plain_expr e)
+return_is k e = ap plain_stmt_form (sym (rolls-Return k e)) ∙ fold-roll-StmtForm PlainForm PlainStart PlainStmtForm PlainDeclarator PlainExpr PlainField PlainStmt form_step start_step stmt_form_step declarator_step expr_step field_step stmt_step _
+
+pub empty_sites : (s : List Scope) (a : Around) (x : Stmt) → x.form ≡ Empty → [] ≡ tree_stmt_sites s a x
+unfolding stmt_form_sites
+empty_sites s a x h = form_at s a x Empty _ h empty_is
+
+pub in_block_sites : (s : List Scope) (a : Around) (x : Stmt) (v : Vec Stmt Global) (ss : List Stmt) → x.form ≡ Block v → ss ≡ v.items → block_sites s a ss ≡ tree_stmt_sites s a x
+unfolding stmt_form_sites
+in_block_sites s a x v ss h d = ap (block_sites s a) d ∙ (stmts_flat _ a v.items ∙ form_at s a x (Block v) _ h (block_is v))
+
+pub declaration_sites : (s : List Scope) (a : Around) (x : Stmt) (k : DeclareKind) (v : Vec Declarator Global) (ds : List Declarator) → x.form ≡ Declaration k v → ds ≡ v.items
+    → flat_map (declarator_sites s a k) ds ≡ tree_stmt_sites s a x
+unfolding stmt_form_sites
+declaration_sites s a x k v ds h d = ap (flat_map (declarator_sites s a k)) d ∙ (declarators_flat s a k v.items ∙ form_at s a x (Declaration k v) _ h (declaration_is k v))
+
+pub expression_sites : (s : List Scope) (a : Around) (x : Stmt) (e : Expr) → x.form ≡ Expression e → tree_sites s a e ≡ tree_stmt_sites s a x
+unfolding stmt_form_sites
+expression_sites s a x e h = form_at s a x (Expression e) _ h (expression_is e)
+
+pub if_sites : (s : List Scope) (a : Around) (x : Stmt) (e : Expr) (b : Box Stmt Global) (y : Stmt) → x.form ≡ If e b → y ≡ b.value → tree_sites s a e ++ tree_stmt_sites s a y ≡ tree_stmt_sites s a x
+unfolding stmt_form_sites
+if_sites s a x e b y h d = ap (λ z. tree_sites s a e ++ tree_stmt_sites s a z) d ∙ form_at s a x (If e b) _ h (if_is e b)
+
+pub if_else_sites : (s : List Scope) (a : Around) (x : Stmt) (e : Expr) (b o : Box Stmt Global) (y z : Stmt) → x.form ≡ IfElse e b o → y ≡ b.value → z ≡ o.value
+    → (tree_sites s a e ++ tree_stmt_sites s a y) ++ tree_stmt_sites s a z ≡ tree_stmt_sites s a x
+unfolding stmt_form_sites
+if_else_sites s a x e b o y z h d f =
+    append_assoc (tree_sites s a e) (tree_stmt_sites s a y) (tree_stmt_sites s a z)
+    ∙ (ap (λ w. tree_sites s a e ++ (tree_stmt_sites s a w ++ tree_stmt_sites s a z)) d
+    ∙ (ap (λ w. tree_sites s a e ++ (tree_stmt_sites s a b.value ++ tree_stmt_sites s a w)) f ∙ form_at s a x (IfElse e b o) _ h (if_else_is e b o)))
+
+pub while_sites : (s : List Scope) (a i : Around) (x : Stmt) (e : Expr) (b : Box Stmt Global) (y : Stmt) → x.form ≡ While e b → y ≡ b.value → i ≡ in_loop a → tree_sites s a e ++ tree_stmt_sites s i y ≡ tree_stmt_sites s a x
+unfolding stmt_form_sites
+while_sites s a i x e b y h d l =
+    ap (λ z. tree_sites s a e ++ tree_stmt_sites s z y) l ∙ (ap (λ z. tree_sites s a e ++ tree_stmt_sites s (in_loop a) z) d ∙ form_at s a x (While e b) _ h (while_is e b))
+
+for_parts : (s : List Scope) (a : Around) (b : Start) (t n : Option Expr) (y : Stmt)
+    → for_sites s a b t n y
+    ≡ start_tree_sites (for_scope a.owner (plain_start b) (plain_stmt y) ∷ s) a b
+    ++ (perhaps_tree_sites (for_scope a.owner (plain_start b) (plain_stmt y) ∷ s) a t
+    ++ (perhaps_tree_sites (for_scope a.owner (plain_start b) (plain_stmt y) ∷ s) a n ++ tree_stmt_sites (for_scope a.owner (plain_start b) (plain_stmt y) ∷ s) (in_loop a) y))
+for_parts s a b t n y =
+    let inner = for_scope a.owner (plain_start b) (plain_stmt y) ∷ s in
+    append_assoc (start_tree_sites inner a b ++ perhaps_tree_sites inner a t) (perhaps_tree_sites inner a n) (tree_stmt_sites inner (in_loop a) y)
+    ∙ append_assoc (start_tree_sites inner a b) (perhaps_tree_sites inner a t) (perhaps_tree_sites inner a n ++ tree_stmt_sites inner (in_loop a) y)
+
+pub in_for_sites : (s : List Scope) (a : Around) (x : Stmt) (b : Start) (t n : Option Expr) (o : Box Stmt Global) (y : Stmt) → x.form ≡ For b t n o → y ≡ o.value → for_sites s a b t n y ≡ tree_stmt_sites s a x
+unfolding stmt_form_sites
+in_for_sites s a x b t n o y h d =
+    ap (for_sites s a b t n) d ∙ (for_parts s a b t n o.value ∙ form_at s a x (For b t n o) _ h (for_is b t n o))
+
+pub in_each_sites : (s : List Scope) (a : Around) (x : Stmt) (k : DeclareKind) (n : Name) (e : Expr) (o : Box Stmt Global) (y : Stmt) → x.form ≡ ForOf k n e o → y ≡ o.value → each_sites s a k n e y ≡ tree_stmt_sites s a x
+unfolding stmt_form_sites
+in_each_sites s a x k n e o y h d = ap (each_sites s a k n e) d ∙ form_at s a x (ForOf k n e o) _ h (for_of_is k n e o)
+
+pub break_sites : (s : List Scope) (a : Around) (x : Stmt) (k : Spot) → x.form ≡ Break k → site s a What.LoopWord (word_at (codes "break") k) ≡ tree_stmt_sites s a x
+unfolding stmt_form_sites
+break_sites s a x k h = form_at s a x (Break k) _ h (break_is k)
+
+pub continue_sites : (s : List Scope) (a : Around) (x : Stmt) (k : Spot) → x.form ≡ Continue k → site s a What.LoopWord (word_at (codes "continue") k) ≡ tree_stmt_sites s a x
+unfolding stmt_form_sites
+continue_sites s a x k h = form_at s a x (Continue k) _ h (continue_is k)
+
+pub return_nothing_sites : (s : List Scope) (a : Around) (x : Stmt) (k : Spot) → x.form ≡ ReturnNothing k → site s a What.Returns (word_at (codes "return") k) ≡ tree_stmt_sites s a x
+unfolding stmt_form_sites
+return_nothing_sites s a x k h = form_at s a x (ReturnNothing k) _ h (return_nothing_is k)
+
+pub return_sites : (s : List Scope) (a : Around) (x : Stmt) (k : Spot) (e : Expr) → x.form ≡ Return k e → site s a What.Returns (word_at (codes "return") k) ++ tree_sites s a e ≡ tree_stmt_sites s a x
+unfolding stmt_form_sites
+return_sites s a x k e h = form_at s a x (Return k e) _ h (return_is k e)
+
+-- what a program lists
+
+pub statement_sites : (s : List Scope) (a : Around) (i : Item) (x : Stmt) → i ≡ Statement x → a ≡ in_function top → tree_stmt_sites s a x ≡ tree_item_sites s i
+unfolding item_sites
+statement_sites s a i x h l = ap (λ z. tree_stmt_sites s z x) l ∙ sym (ap (tree_item_sites s) h)
+
+pub function_item_sites : (s : List Scope) (i : Item) (k : Spot) (n : Name) (v : Vec Name Global) (w : Vec Stmt Global) (ns : List Name) (ss : List Stmt) → i ≡ Function k n v w → ns ≡ v.items → ss ≡ w.items
+    → declared_sites s k n ns ss ≡ tree_item_sites s i
+unfolding item_sites
+function_item_sites s i k n v w ns ss h d f =
+    ap (λ z. declared_sites s k n z ss) d ∙ (ap (declared_sites s k n v.items) f
+    ∙ (ap (λ z. site s (in_function top) (What.Declares Role.Function) n ++ z) (body_is s k v.items w.items) ∙ sym (ap (tree_item_sites s) h)))
