@@ -62,7 +62,7 @@ pub adds_under : (f : List Scope → List Site) (a b c d : Walk) (x : Held) (sco
 adds_under f a b c d x scope s e h l = (
   popped a.scopes.items c.scopes.items d.scopes.items x l.0 (h.0 ∙ e.0),
   ap (map place_of) l.1 ∙ (h.1 ∙ (ap (λ z. map place_of z ++ map see (f (scopes_in b))) e.1
-  ∙ ap (λ z. map place_of a.places.items ++ map see (f z)) (ap scopes_of e.0 ∙ (scopes_push a.scopes.items x ∙ ap (λ y. y ∷ scopes_in a) s)))),
+      ∙ ap (λ z. map place_of a.places.items ++ map see (f z)) (ap scopes_of e.0 ∙ (scopes_push a.scopes.items x ∙ ap (λ y. y ∷ scopes_in a) s)))),
 )
 
 -- a scope that is pushed
@@ -85,8 +85,8 @@ on_enters_each (Ok y) a b c x scope around kind role name s e q k =
     let h = enters a b x scope s e in (
       ap scopes_of k.0 ∙ h.0,
       k.1 ∙ (ap (λ z. map place_of z ++ map see (site (scopes_in b) around (What.Declares role) name)) h.1
-      ∙ (ap (λ z. map place_of a.places.items ++ map see (site z around (What.Declares role) name)) h.0
-      ∙ ap (λ z. map place_of a.places.items ++ map see (site (scope ∷ scopes_in a) around (What.Declares z) name)) q)),
+          ∙ (ap (λ z. map place_of a.places.items ++ map see (site z around (What.Declares role) name)) h.0
+          ∙ ap (λ z. map place_of a.places.items ++ map see (site (scope ∷ scopes_in a) around (What.Declares z) name)) q)),
       ap (λ z. take (length z - 1) z) k.0 ∙ h.2,
     )
 
@@ -102,8 +102,8 @@ pub each_under : (f : List Scope → List Site) (a b c d : Walk) (around : Aroun
 each_under f a b c d around kind name scope e h l = (
   l.0 ∙ (ap (λ z. take (length z - 1) z) h.0 ∙ e.2),
   ap (map place_of) l.1
-  ∙ added_both (map place_of a.places.items) (map place_of b.places.items) (map place_of c.places.items) (site (scope ∷ scopes_in a) around (What.Declares (each_role kind)) name) (f (scope ∷ scopes_in a)) e.1
-  (h.1 ∙ ap (λ z. map place_of b.places.items ++ map see (f z)) e.0),
+      ∙ added_both (map place_of a.places.items) (map place_of b.places.items) (map place_of c.places.items) (site (scope ∷ scopes_in a) around (What.Declares (each_role kind)) name) (f (scope ∷ scopes_in a)) e.1
+      (h.1 ∙ ap (λ z. map place_of b.places.items ++ map see (f z)) e.0),
 )
 
 item_list : (s : List Scope) (is : List Item) → flat_map (tree_item_sites s) is ≡ flat_map (item_sites s) (map plain_item is)

@@ -25,7 +25,6 @@ abbrev use_all : ℕ → ℕ → List PlainStmt
 use_all zero p = []
 use_all (suc n) p = does (uses (97 ∷ n ∷ []) p) ∷ use_all n (p + 4)
 
-
 -- a function with 256 parameters, and one with 257
 pub parameters_256 : name_fault (items (does (arrow 0 (names 256 1) one) ∷ [])) ≡ None
 unfolding program_scope function_scope block_scope for_scope each_scope expr_sites form_sites exprs_sites fields_sites perhaps_sites declarators_sites start_sites stmt_sites stmt_form_sites stmts_sites item_sites program_sites found found_var functions_of repeated blocked see places assigned_in holdings slots_of slot_count fault_at name_fault

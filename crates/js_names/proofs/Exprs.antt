@@ -79,7 +79,7 @@ truth_sites s a e n h = form_at s a e (Truth n) _ h (truth_is n)
 null_is : plain_form Null ≡ p.null
 null_is = ap plain_form (sym rolls-Null) ∙ fold-roll-Form PlainForm PlainStart PlainStmtForm PlainDeclarator PlainExpr PlainField PlainStmt form_step start_step stmt_form_step declarator_step expr_step field_step stmt_step _
 
-pub null_sites : (s : List Scope) (a : Around) (e : Expr)  → e.form ≡ Null → [] ≡ tree_sites s a e
+pub null_sites : (s : List Scope) (a : Around) (e : Expr) → e.form ≡ Null → [] ≡ tree_sites s a e
 unfolding form_sites
 null_sites s a e h = form_at s a e Null _ h (null_is)
 

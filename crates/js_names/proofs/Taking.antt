@@ -85,7 +85,6 @@ one_var-append : (xs ys : List Declared) → one_var (xs ++ ys) ≡ merge (one_v
 one_var-append [] ys = refl
 one_var-append (x ∷ xs) ys = ap (merge (Some x)) (one_var-append xs ys) ∙ sym (merge_assoc (Some x) (one_var xs) (one_var ys))
 
-
 -- a map that took in two lists in turn took in both
 pub own_both : (a b c : Names) (xs ys : List Entry) → TakesOwn a b xs → TakesOwn b c ys → TakesOwn a c (xs ++ ys)
 own_both a b c xs ys h k = λ q.

@@ -15,9 +15,9 @@ pub record Place : Type 0 where
   pub what : What
   pub name : Name
   pub around : Around
-  pub declared : Option Declared     -- what the name stands for
-  pub functions : List ℕ             -- the functions around, the innermost first, and the top level last
-  pub clashes : Bool                 -- its name has an earlier declaration that it clashes with, or can't be declared
+  pub declared : Option Declared  -- what the name stands for
+  pub functions : List ℕ  -- the functions around, the innermost first, and the top level last
+  pub clashes : Bool  -- its name has an earlier declaration that it clashes with, or can't be declared
 
 abbrev pub or_else : {A : Type 0} → Option A → Option A → Option A
 or_else None o = o

@@ -8,7 +8,7 @@ ghost use Rattle.js_names.specs.Views.{TakesOwn, TakesVars, alone, own_of_declar
 
 use crate::place::{Declared, Role};
 use indexmap::IndexMap;
-use js_tree::{DeclareKind, Declarator, Name, Start, Stmt, StmtForm};
+use js_tree::{Declarator, DeclareKind, Name, Start, Stmt, StmtForm};
 use std::alloc::{AllocError, Global};
 
 /// Declares a name, unless the map has it.

@@ -151,7 +151,8 @@ pub fn check_names(alloc: Global, tree: &Tree) -> Result<Names, NameFault>
     let places = places_of(alloc, tree)?;
     let assigned = assigned_in(alloc, &places)?;
     let slots = slots(alloc, &assigned, &places)?;
-    match soonest(&assigned, &slots, &places)? {
+    let first = soonest(&assigned, &slots, &places)?;
+    match first {
         Some(fault) => Err(fault),
         None => Ok(Names {
             places,

@@ -21,11 +21,7 @@ pub fn slot_count(held: &IndexMap<u32, IndexSet<u32>>, function: u32) -> usize
 }
 
 // Takes the set of a function out of the map.
-fn take_set(
-    alloc: Global,
-    held: &mut IndexMap<u32, IndexSet<u32>>,
-    function: u32,
-) -> IndexSet<u32>
+fn take_set(alloc: Global, held: &mut IndexMap<u32, IndexSet<u32>>, function: u32) -> IndexSet<u32>
     ensures set { result.keys ≡ held_in held.old function }
     ensures others { (q : _) → nat_eq function q ≡ false → get nat_eq held.new q ≡ get nat_eq held.old q }
 {

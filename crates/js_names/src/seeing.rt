@@ -69,12 +69,7 @@ pub fn put(walk: &mut Walk, around: Around, what: What, name: Name) -> Result<()
 }
 
 /// One more place, at a name of the tree.
-pub fn put_name(
-    walk: &mut Walk,
-    around: Around,
-    what: What,
-    name: &Name,
-) -> Result<(), AllocError>
+pub fn put_name(walk: &mut Walk, around: Around, what: What, name: &Name) -> Result<(), AllocError>
     ensures { OnOk result (Adds walk.old walk.new (site (scopes_in walk.old) around what name.now)) }
 {
     put(walk, around, what, copy_of(name)?)

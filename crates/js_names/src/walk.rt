@@ -19,7 +19,7 @@ use crate::seeing::{
 };
 use js_data::Text;
 use js_tree::{
-    DeclareKind, Declarator, Expr, Field, Form, Item, Name, Spot, Start, Stmt, StmtForm, Tree,
+    Declarator, DeclareKind, Expr, Field, Form, Item, Name, Spot, Start, Stmt, StmtForm, Tree,
 };
 use std::alloc::{AllocError, Global};
 
@@ -85,15 +85,10 @@ fn put_expr(walk: &mut Walk, around: Around, e: &Expr) -> Result<(), AllocError>
 
 // A member.
 #[cycle(walk)]
-fn put_member(
-    walk: &mut Walk,
-    around: Around,
-    e: &Expr,
-    word: &Text,
-) -> Result<(), AllocError>
+fn put_member(walk: &mut Walk, around: Around, e: &Expr, word: &Text) -> Result<(), AllocError>
     ensures { OnOk result (Adds walk.old walk.new
         (member_sites (scopes_in walk.old) around (object_of (plain_expr e.now)) word.now
-            (is_some (value_builtin (plain_expr e.now) word.now)) (tree_sites (scopes_in walk.old) around e.now))) }
+        (is_some (value_builtin (plain_expr e.now) word.now)) (tree_sites (scopes_in walk.old) around e.now))) }
 {
     match object_of(e) {
         None => put_expr(walk, around, e),

@@ -11,7 +11,7 @@ loop-i-preserved c =
     record {
       within = omega arith;
       same = functions_step c.loop-i.functions.items c.push_owner.new.functions.items (owner_in (scope_of x)) (functions_of (scopes_of (take c.loop-i.i xs))) (functions_of (scopes_of (take (c.loop-i.i - 1) xs))) (functions_of (scopes_of xs))
-        c.in_ok-push_owner.ensures (functions_down xs c.loop-i.i x x (omega arith) (omega arith) c.index-scopes-i.is) c.loop-i.invariant.same;
+          c.in_ok-push_owner.ensures (functions_down xs c.loop-i.i x x (omega arith) (omega arith) c.index-scopes-i.is) c.loop-i.invariant.same;
     }
 
 pub returns : goal.returns
