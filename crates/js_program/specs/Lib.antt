@@ -1,2 +1,4 @@
 pub mod Builtins
 pub mod PlainProgram
+pub mod Views
+pub mod Sound

@@ -3,6 +3,8 @@
 
 mod builtin;
 mod node;
+mod program;
 
 pub use builtin::{Builtin, Mode, builtin_of};
-pub use node::{NodeForm, Variable};
+pub use node::{Body, ConstantStart, Content, Declared, Node, NodeForm, Variable};
+pub use program::Program;

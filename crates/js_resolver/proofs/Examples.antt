@@ -13,11 +13,11 @@ use Rattle.js_program.specs.declared.builtin.Builtin.{Builtin}
 use Rattle.js_program.specs.declared.node.Variable.{Variable}
 use Rattle.js_program.specs.declared.node.Variable.TheVariants.{Slot, Constant}
 use Rattle.js_program.specs.PlainProgram as n
-use Rattle.js_program.specs.PlainProgram.{PlainNode, PlainNodeForm, PlainBody, PlainProgram, Given}
+use Rattle.js_program.specs.PlainProgram.{PlainNode, PlainNodeForm, PlainBody, PlainContent, PlainProgram, PlainDeclared}
 use Rattle.js_names.specs.Scopes.{program_scope, function_scope, block_scope, for_scope, each_scope}
 use Rattle.js_names.specs.Sites.{expr_sites, form_sites, exprs_sites, fields_sites, perhaps_sites, declarators_sites, start_sites, stmt_sites, stmt_form_sites, stmts_sites, item_sites, program_sites}
 use Rattle.js_names.specs.Places.{found, found_var, functions_of, repeated, blocked, see, places}
-use Rattle.js_names.specs.Slots.{assigned_in, captures, parameters_of, variables_of, slots_of, constants_of, functions_in}
+use Rattle.js_names.specs.Slots.{assigned_in, captures, holdings, slot_count, slots_of, constants_of, functions_in}
 use Rattle.js_names.specs.Rules.{fault_at, name_fault}
 use Rattle.js_resolver.specs.Variables.{named_at, code_at, around_of, body_of}
 use Rattle.js_resolver.specs.Nodes.{expr_piece, expr_parts, form_parts, exprs_piece, arguments_piece, fields_piece, perhaps_piece, declarators_piece, start_piece, stmt_piece, stmt_parts, stmts_piece, item_piece, items_piece}
@@ -50,15 +50,15 @@ math_floor es = expr 1 (t.call (expr 1 (t.member (uses (codes "Math") 0) (codes 
 abbrev one_let : List ℕ → ℕ → PlainExpr → ℕ → PlainStmt
 one_let text p e end = t.on 1 (t.declaration DeclareKind.Let (t.declarator_in (name text p) (t.present e) end t.no_declarators))
 
-abbrev node : ℕ → PlainNodeForm → List ℕ → PlainNode
-node line form parts = record { line = line; form = form; parts = parts }
+abbrev node : ℕ → PlainNodeForm → PlainNode
+node line form = record { line = line; form = form }
 
-abbrev body : ℕ → ℕ → List ℕ → List ℕ → List ℕ → Bool → ℕ → PlainBody
-body parameters slots captures vars nodes is_expression line =
-    record { parameters = parameters; slots = slots; captures = captures; vars = vars; nodes = nodes; is_expression = is_expression; line = line }
+abbrev body : ℕ → ℕ → List ℕ → List ℕ → PlainContent → ℕ → PlainBody
+body parameters slots captures vars content line =
+    record { parameters = parameters; slots = slots; captures = captures; vars = vars; content = content; line = line }
 
-abbrev given : Variable → Given
-given v = record { variable = v; has_value = true }
+abbrev given : Variable → ℕ → PlainDeclared
+given v n = record { variable = v; value = Some n }
 
 -- let total = 1 + 2
 -- function add(a, b) { return a + b }                           (line 2)
@@ -68,102 +68,102 @@ abbrev three_functions : List PlainItem
 three_functions =
     t.statement (one_let (codes "total") 4 (expr 1 (t.binary Operator.Add (whole 1) (whole 2))) 17)
     ∷ t.function_of (spot 18 2) (name (codes "add") 27) (name (codes "a") 31 ∷ name (codes "b") 34 ∷ [])
-      (stmts_of (t.on 2 (t.return_of (spot 39 2) (expr 2 (t.binary Operator.Add (uses (codes "a") 46) (uses (codes "b") 50)))) ∷ []))
+    (stmts_of (t.on 2 (t.return_of (spot 39 2) (expr 2 (t.binary Operator.Add (uses (codes "a") 46) (uses (codes "b") 50)))) ∷ []))
     ∷ t.statement (does (bp (codes "registerBThread") 54 (expr 3 (t.words (codes "t")) ∷ expr 3 (t.function (spot 78 3) []
-      (stmts_of (one_let (codes "x") 95 (expr 1 (t.call (uses (codes "add") 99) (exprs_of (whole 1 ∷ uses (codes "total") 106 ∷ [])))) 112
-      ∷ does (bp (codes "sync") 114 (uses (codes "x") 122 ∷ []))
-      ∷ does (expr 4 (t.arrow_value (spot 127 4) [] (uses (codes "x") 133)))
-      ∷ []))) ∷ [])))
+    (stmts_of (one_let (codes "x") 95 (expr 1 (t.call (uses (codes "add") 99) (exprs_of (whole 1 ∷ uses (codes "total") 106 ∷ [])))) 112
+    ∷ does (bp (codes "sync") 114 (uses (codes "x") 122 ∷ []))
+    ∷ does (expr 4 (t.arrow_value (spot 127 4) [] (uses (codes "x") 133)))
+    ∷ []))) ∷ [])))
     ∷ []
 
 pub three_functions_program : resolved three_functions ≡ Some (record {
   nodes =
-    node 1 (n.number (pos 1)) []                                                        -- 0
-    ∷ node 1 (n.number (pos 2)) []
-    ∷ node 1 (n.binary Operator.Add) (0 ∷ 1 ∷ [])
-    ∷ node 1 (n.declaration DeclareKind.Let (given (Constant 0) ∷ [])) (2 ∷ [])
-    ∷ node 1 (n.read (Slot 0)) []                                                       -- 4
-    ∷ node 1 (n.read (Slot 1)) []
-    ∷ node 2 (n.binary Operator.Add) (4 ∷ 5 ∷ [])
-    ∷ node 2 n.return_of (6 ∷ [])
-    ∷ node 3 (n.words (codes "t")) []                                                   -- 8
-    ∷ node 1 (n.read (Constant 1)) []
-    ∷ node 1 (n.number (pos 1)) []
-    ∷ node 1 (n.read (Constant 0)) []
-    ∷ node 1 n.call (9 ∷ 10 ∷ 11 ∷ [])                                                  -- 12
-    ∷ node 1 (n.declaration DeclareKind.Let (given (Slot 0) ∷ [])) (12 ∷ [])
-    ∷ node 1 (n.read (Slot 0)) []
-    ∷ node 1 (n.builtin Builtin.Sync) (14 ∷ [])
-    ∷ node 1 n.expression (15 ∷ [])                                                     -- 16
-    ∷ node 1 (n.read (Slot 0)) []
-    ∷ node 4 (n.function 2) []
-    ∷ node 1 n.expression (18 ∷ [])
-    ∷ node 3 (n.function 1) []                                                          -- 20
-    ∷ node 1 (n.builtin Builtin.RegisterBThread) (8 ∷ 20 ∷ [])
-    ∷ node 1 n.expression (21 ∷ [])
-    ∷ [];
-  functions = body 2 2 [] [] (7 ∷ []) false 2 ∷ body 0 1 [] [] (13 ∷ 16 ∷ 19 ∷ []) false 3 ∷ body 0 1 (0 ∷ []) [] (17 ∷ []) true 4 ∷ [];
+      node 1 (n.number (pos 1))  -- 0
+      ∷ node 1 (n.number (pos 2))
+      ∷ node 1 (n.binary Operator.Add 0 1)
+      ∷ node 1 (n.declaration DeclareKind.Let (given (Constant 0) 2 ∷ []))
+      ∷ node 1 (n.read (Slot 0))  -- 4
+      ∷ node 1 (n.read (Slot 1))
+      ∷ node 2 (n.binary Operator.Add 4 5)
+      ∷ node 2 (n.return_of 6)
+      ∷ node 3 (n.words (codes "t"))  -- 8
+      ∷ node 1 (n.read (Constant 1))
+      ∷ node 1 (n.number (pos 1))
+      ∷ node 1 (n.read (Constant 0))
+      ∷ node 1 (n.call 9 (10 ∷ 11 ∷ []))  -- 12
+      ∷ node 1 (n.declaration DeclareKind.Let (given (Slot 0) 12 ∷ []))
+      ∷ node 1 (n.read (Slot 0))
+      ∷ node 1 (n.builtin Builtin.Sync (14 ∷ []))
+      ∷ node 1 (n.expression 15)  -- 16
+      ∷ node 1 (n.read (Slot 0))
+      ∷ node 4 (n.function 2)
+      ∷ node 1 (n.expression 18)
+      ∷ node 3 (n.function 1)  -- 20
+      ∷ node 1 (n.builtin Builtin.RegisterBThread (8 ∷ 20 ∷ []))
+      ∷ node 1 (n.expression 21)
+      ∷ [];
+  functions = body 2 2 [] [] (n.statements (7 ∷ [])) 2 ∷ body 0 1 [] [] (n.statements (13 ∷ 16 ∷ 19 ∷ [])) 3 ∷ body 0 1 (0 ∷ []) [] (n.one_value 17) 4 ∷ [];
   constants = n.undeclared ∷ n.of_function 0 ∷ [];
-  top = body 0 0 [] [] (3 ∷ 22 ∷ []) false 1;
+  top = body 0 0 [] [] (n.statements (3 ∷ 22 ∷ [])) 1;
 })
-unfolding program_scope function_scope block_scope for_scope each_scope expr_sites form_sites exprs_sites fields_sites perhaps_sites declarators_sites start_sites stmt_sites stmt_form_sites stmts_sites item_sites program_sites found found_var functions_of repeated blocked see places assigned_in captures parameters_of variables_of slots_of constants_of functions_in fault_at name_fault named_at code_at around_of body_of expr_piece expr_parts form_parts exprs_piece arguments_piece fields_piece perhaps_piece declarators_piece start_piece stmt_piece stmt_parts stmts_piece item_piece items_piece program_of_tree resolved
+unfolding program_scope function_scope block_scope for_scope each_scope expr_sites form_sites exprs_sites fields_sites perhaps_sites declarators_sites start_sites stmt_sites stmt_form_sites stmts_sites item_sites program_sites found found_var functions_of repeated blocked see places assigned_in captures holdings slot_count slots_of constants_of functions_in fault_at name_fault named_at code_at around_of body_of expr_piece expr_parts form_parts exprs_piece arguments_piece fields_piece perhaps_piece declarators_piece start_piece stmt_piece stmt_parts stmts_piece item_piece items_piece program_of_tree resolved
 three_functions_program = refl
 
 -- Math.floor(7 / 2, 1): the operands are parts themselves
 pub floor_of_a_division : (program_of_tree (t.statement (does (math_floor (expr 1 (t.binary Operator.Divide (whole 7) (whole 2)) ∷ whole 1 ∷ []))) ∷ [])).nodes
-    ≡ node 1 (n.number (pos 7)) [] ∷ node 1 (n.number (pos 2)) [] ∷ node 1 (n.number (pos 1)) [] ∷ node 1 n.floor_divide (0 ∷ 1 ∷ 2 ∷ []) ∷ node 1 n.expression (3 ∷ []) ∷ []
-unfolding program_scope function_scope block_scope for_scope each_scope expr_sites form_sites exprs_sites fields_sites perhaps_sites declarators_sites start_sites stmt_sites stmt_form_sites stmts_sites item_sites program_sites found found_var functions_of repeated blocked see places assigned_in captures parameters_of variables_of slots_of constants_of functions_in fault_at name_fault named_at code_at around_of body_of expr_piece expr_parts form_parts exprs_piece arguments_piece fields_piece perhaps_piece declarators_piece start_piece stmt_piece stmt_parts stmts_piece item_piece items_piece program_of_tree resolved
+    ≡ node 1 (n.number (pos 7)) ∷ node 1 (n.number (pos 2)) ∷ node 1 (n.number (pos 1)) ∷ node 1 (n.floor_divide 0 1 (2 ∷ [])) ∷ node 1 (n.expression 3) ∷ []
+unfolding program_scope function_scope block_scope for_scope each_scope expr_sites form_sites exprs_sites fields_sites perhaps_sites declarators_sites start_sites stmt_sites stmt_form_sites stmts_sites item_sites program_sites found found_var functions_of repeated blocked see places assigned_in captures holdings slot_count slots_of constants_of functions_in fault_at name_fault named_at code_at around_of body_of expr_piece expr_parts form_parts exprs_piece arguments_piece fields_piece perhaps_piece declarators_piece start_piece stmt_piece stmt_parts stmts_piece item_piece items_piece program_of_tree resolved
 floor_of_a_division = refl
 
 -- Math.floor(7)
 pub floor_of_a_number : (program_of_tree (t.statement (does (math_floor (whole 7 ∷ []))) ∷ [])).nodes
-    ≡ node 1 (n.number (pos 7)) [] ∷ node 1 (n.builtin Builtin.Floor) (0 ∷ []) ∷ node 1 n.expression (1 ∷ []) ∷ []
-unfolding program_scope function_scope block_scope for_scope each_scope expr_sites form_sites exprs_sites fields_sites perhaps_sites declarators_sites start_sites stmt_sites stmt_form_sites stmts_sites item_sites program_sites found found_var functions_of repeated blocked see places assigned_in captures parameters_of variables_of slots_of constants_of functions_in fault_at name_fault named_at code_at around_of body_of expr_piece expr_parts form_parts exprs_piece arguments_piece fields_piece perhaps_piece declarators_piece start_piece stmt_piece stmt_parts stmts_piece item_piece items_piece program_of_tree resolved
+    ≡ node 1 (n.number (pos 7)) ∷ node 1 (n.builtin Builtin.Floor (0 ∷ [])) ∷ node 1 (n.expression 1) ∷ []
+unfolding program_scope function_scope block_scope for_scope each_scope expr_sites form_sites exprs_sites fields_sites perhaps_sites declarators_sites start_sites stmt_sites stmt_form_sites stmts_sites item_sites program_sites found found_var functions_of repeated blocked see places assigned_in captures holdings slot_count slots_of constants_of functions_in fault_at name_fault named_at code_at around_of body_of expr_piece expr_parts form_parts exprs_piece arguments_piece fields_piece perhaps_piece declarators_piece start_piece stmt_piece stmt_parts stmts_piece item_piece items_piece program_of_tree resolved
 floor_of_a_number = refl
 
 -- (1).or(2): a method is one node, with what stands before the dot as its first part
 pub method_of_a_number : (program_of_tree (t.statement (does (expr 1 (t.call (expr 1 (t.member (whole 1) (codes "or"))) (exprs_of (whole 2 ∷ []))))) ∷ [])).nodes
-    ≡ node 1 (n.number (pos 1)) [] ∷ node 1 (n.number (pos 2)) [] ∷ node 1 (n.method (codes "or")) (0 ∷ 1 ∷ []) ∷ node 1 n.expression (2 ∷ []) ∷ []
-unfolding program_scope function_scope block_scope for_scope each_scope expr_sites form_sites exprs_sites fields_sites perhaps_sites declarators_sites start_sites stmt_sites stmt_form_sites stmts_sites item_sites program_sites found found_var functions_of repeated blocked see places assigned_in captures parameters_of variables_of slots_of constants_of functions_in fault_at name_fault named_at code_at around_of body_of expr_piece expr_parts form_parts exprs_piece arguments_piece fields_piece perhaps_piece declarators_piece start_piece stmt_piece stmt_parts stmts_piece item_piece items_piece program_of_tree resolved
+    ≡ node 1 (n.number (pos 1)) ∷ node 1 (n.number (pos 2)) ∷ node 1 (n.method 0 (codes "or") (1 ∷ [])) ∷ node 1 (n.expression 2) ∷ []
+unfolding program_scope function_scope block_scope for_scope each_scope expr_sites form_sites exprs_sites fields_sites perhaps_sites declarators_sites start_sites stmt_sites stmt_form_sites stmts_sites item_sites program_sites found found_var functions_of repeated blocked see places assigned_in captures holdings slot_count slots_of constants_of functions_in fault_at name_fault named_at code_at around_of body_of expr_piece expr_parts form_parts exprs_piece arguments_piece fields_piece perhaps_piece declarators_piece start_piece stmt_piece stmt_parts stmts_piece item_piece items_piece program_of_tree resolved
 method_of_a_number = refl
 
 -- bp.all(1): a call of a value
 pub all_called : (program_of_tree (t.statement (does (bp (codes "all") 0 (whole 1 ∷ []))) ∷ [])).nodes
-    ≡ node 1 (n.builtin Builtin.All) [] ∷ node 1 (n.number (pos 1)) [] ∷ node 1 n.call (0 ∷ 1 ∷ []) ∷ node 1 n.expression (2 ∷ []) ∷ []
-unfolding program_scope function_scope block_scope for_scope each_scope expr_sites form_sites exprs_sites fields_sites perhaps_sites declarators_sites start_sites stmt_sites stmt_form_sites stmts_sites item_sites program_sites found found_var functions_of repeated blocked see places assigned_in captures parameters_of variables_of slots_of constants_of functions_in fault_at name_fault named_at code_at around_of body_of expr_piece expr_parts form_parts exprs_piece arguments_piece fields_piece perhaps_piece declarators_piece start_piece stmt_piece stmt_parts stmts_piece item_piece items_piece program_of_tree resolved
+    ≡ node 1 (n.builtin Builtin.All []) ∷ node 1 (n.number (pos 1)) ∷ node 1 (n.call 0 (1 ∷ [])) ∷ node 1 (n.expression 2) ∷ []
+unfolding program_scope function_scope block_scope for_scope each_scope expr_sites form_sites exprs_sites fields_sites perhaps_sites declarators_sites start_sites stmt_sites stmt_form_sites stmts_sites item_sites program_sites found found_var functions_of repeated blocked see places assigned_in captures holdings slot_count slots_of constants_of functions_in fault_at name_fault named_at code_at around_of body_of expr_piece expr_parts form_parts exprs_piece arguments_piece fields_piece perhaps_piece declarators_piece start_piece stmt_piece stmt_parts stmts_piece item_piece items_piece program_of_tree resolved
 all_called = refl
 
 -- (function(a) { var b; { let c = 1; var a = 1 } (() => () => a) }): slots, `var`s, and a capture that is handed through
 abbrev handed_through : List PlainItem
 handed_through =
     t.statement (does (expr 1 (t.function (spot 1 1) (name (codes "a") 10 ∷ []) (stmts_of
-      (t.on 1 (t.declaration DeclareKind.Var (t.declarator_in (name (codes "b") 19) t.absent 20 t.no_declarators))
-      ∷ t.on 1 (t.block (stmts_of (one_let (codes "c") 28 (whole 1) 33
-      ∷ t.on 1 (t.declaration DeclareKind.Var (t.declarator_in (name (codes "a") 39) (t.present (whole 1)) 44 t.no_declarators)) ∷ [])))
-      ∷ does (expr 1 (t.arrow_value (spot 48 1) [] (expr 1 (t.arrow_value (spot 54 1) [] (uses (codes "a") 60)))))
-      ∷ [])))))
+    (t.on 1 (t.declaration DeclareKind.Var (t.declarator_in (name (codes "b") 19) t.absent 20 t.no_declarators))
+    ∷ t.on 1 (t.block (stmts_of (one_let (codes "c") 28 (whole 1) 33
+    ∷ t.on 1 (t.declaration DeclareKind.Var (t.declarator_in (name (codes "a") 39) (t.present (whole 1)) 44 t.no_declarators)) ∷ [])))
+    ∷ does (expr 1 (t.arrow_value (spot 48 1) [] (expr 1 (t.arrow_value (spot 54 1) [] (uses (codes "a") 60)))))
+    ∷ [])))))
     ∷ []
 
 pub handed_through_program : resolved handed_through ≡ Some (record {
   nodes =
-    node 1 (n.declaration DeclareKind.Var (record { variable = Slot 1; has_value = false } ∷ [])) []
-    ∷ node 1 (n.number (pos 1)) []
-    ∷ node 1 (n.declaration DeclareKind.Let (given (Slot 2) ∷ [])) (1 ∷ [])
-    ∷ node 1 (n.number (pos 1)) []
-    ∷ node 1 (n.declaration DeclareKind.Var (given (Slot 0) ∷ [])) (3 ∷ [])
-    ∷ node 1 (n.block (Slot 2 ∷ [])) (2 ∷ 4 ∷ [])
-    ∷ node 1 (n.read (Slot 0)) []
-    ∷ node 1 (n.function 2) []
-    ∷ node 1 (n.function 1) []
-    ∷ node 1 n.expression (8 ∷ [])
-    ∷ node 1 (n.function 0) []
-    ∷ node 1 n.expression (10 ∷ [])
-    ∷ [];
-  functions = body 1 3 [] (1 ∷ []) (0 ∷ 5 ∷ 9 ∷ []) false 1 ∷ body 0 1 (0 ∷ []) [] (7 ∷ []) true 1 ∷ body 0 1 (0 ∷ []) [] (6 ∷ []) true 1 ∷ [];
+      node 1 (n.declaration DeclareKind.Var (record { variable = Slot 1; value = None } ∷ []))
+      ∷ node 1 (n.number (pos 1))
+      ∷ node 1 (n.declaration DeclareKind.Let (given (Slot 2) 1 ∷ []))
+      ∷ node 1 (n.number (pos 1))
+      ∷ node 1 (n.declaration DeclareKind.Var (given (Slot 0) 3 ∷ []))
+      ∷ node 1 (n.block (Slot 2 ∷ []) (2 ∷ 4 ∷ []))
+      ∷ node 1 (n.read (Slot 0))
+      ∷ node 1 (n.function 2)
+      ∷ node 1 (n.function 1)
+      ∷ node 1 (n.expression 8)
+      ∷ node 1 (n.function 0)
+      ∷ node 1 (n.expression 10)
+      ∷ [];
+  functions = body 1 3 [] (1 ∷ []) (n.statements (0 ∷ 5 ∷ 9 ∷ [])) 1 ∷ body 0 1 (0 ∷ []) [] (n.one_value 7) 1 ∷ body 0 1 (0 ∷ []) [] (n.one_value 6) 1 ∷ [];
   constants = [];
-  top = body 0 0 [] [] (11 ∷ []) false 1;
+  top = body 0 0 [] [] (n.statements (11 ∷ [])) 1;
 })
-unfolding program_scope function_scope block_scope for_scope each_scope expr_sites form_sites exprs_sites fields_sites perhaps_sites declarators_sites start_sites stmt_sites stmt_form_sites stmts_sites item_sites program_sites found found_var functions_of repeated blocked see places assigned_in captures parameters_of variables_of slots_of constants_of functions_in fault_at name_fault named_at code_at around_of body_of expr_piece expr_parts form_parts exprs_piece arguments_piece fields_piece perhaps_piece declarators_piece start_piece stmt_piece stmt_parts stmts_piece item_piece items_piece program_of_tree resolved
+unfolding program_scope function_scope block_scope for_scope each_scope expr_sites form_sites exprs_sites fields_sites perhaps_sites declarators_sites start_sites stmt_sites stmt_form_sites stmts_sites item_sites program_sites found found_var functions_of repeated blocked see places assigned_in captures holdings slot_count slots_of constants_of functions_in fault_at name_fault named_at code_at around_of body_of expr_piece expr_parts form_parts exprs_piece arguments_piece fields_piece perhaps_piece declarators_piece start_piece stmt_piece stmt_parts stmts_piece item_piece items_piece program_of_tree resolved
 handed_through_program = refl
 
 -- var x = 1; for (const y of x) y; (function() { x }): a constant that is a `var`, and a slot of the top level
@@ -171,22 +171,22 @@ pub a_slot_of_the_top_level : resolved (
     t.statement (t.on 1 (t.declaration DeclareKind.Var (t.declarator_in (name (codes "x") 4) (t.present (whole 1)) 9 t.no_declarators)))
     ∷ t.statement (t.on 1 (t.for_each DeclareKind.Const (name (codes "y") 22) (uses (codes "x") 27) (does (uses (codes "y") 30))))
     ∷ []) ≡ Some (record {
-  nodes =
-    node 1 (n.number (pos 1)) []
-    ∷ node 1 (n.declaration DeclareKind.Var (given (Constant 0) ∷ [])) (0 ∷ [])
-    ∷ node 1 (n.read (Constant 0)) []
-    ∷ node 1 (n.read (Slot 0)) []
-    ∷ node 1 n.expression (3 ∷ [])
-    ∷ node 1 (n.for_each (Slot 0)) (2 ∷ 4 ∷ [])
-    ∷ [];
-  functions = [];
-  constants = n.unset ∷ [];
-  top = body 0 1 [] [] (1 ∷ 5 ∷ []) false 1;
-})
-unfolding program_scope function_scope block_scope for_scope each_scope expr_sites form_sites exprs_sites fields_sites perhaps_sites declarators_sites start_sites stmt_sites stmt_form_sites stmts_sites item_sites program_sites found found_var functions_of repeated blocked see places assigned_in captures parameters_of variables_of slots_of constants_of functions_in fault_at name_fault named_at code_at around_of body_of expr_piece expr_parts form_parts exprs_piece arguments_piece fields_piece perhaps_piece declarators_piece start_piece stmt_piece stmt_parts stmts_piece item_piece items_piece program_of_tree resolved
+      nodes =
+          node 1 (n.number (pos 1))
+          ∷ node 1 (n.declaration DeclareKind.Var (given (Constant 0) 0 ∷ []))
+          ∷ node 1 (n.read (Constant 0))
+          ∷ node 1 (n.read (Slot 0))
+          ∷ node 1 (n.expression 3)
+          ∷ node 1 (n.for_each (Slot 0) 2 4)
+          ∷ [];
+      functions = [];
+      constants = n.unset ∷ [];
+      top = body 0 1 [] [] (n.statements (1 ∷ 5 ∷ [])) 1;
+    })
+unfolding program_scope function_scope block_scope for_scope each_scope expr_sites form_sites exprs_sites fields_sites perhaps_sites declarators_sites start_sites stmt_sites stmt_form_sites stmts_sites item_sites program_sites found found_var functions_of repeated blocked see places assigned_in captures holdings slot_count slots_of constants_of functions_in fault_at name_fault named_at code_at around_of body_of expr_piece expr_parts form_parts exprs_piece arguments_piece fields_piece perhaps_piece declarators_piece start_piece stmt_piece stmt_parts stmts_piece item_piece items_piece program_of_tree resolved
 a_slot_of_the_top_level = refl
 
 -- x: no program
 pub no_program : resolved (t.statement (does (uses (codes "x") 0)) ∷ []) ≡ None
-unfolding program_scope function_scope block_scope for_scope each_scope expr_sites form_sites exprs_sites fields_sites perhaps_sites declarators_sites start_sites stmt_sites stmt_form_sites stmts_sites item_sites program_sites found found_var functions_of repeated blocked see places assigned_in captures parameters_of variables_of slots_of constants_of functions_in fault_at name_fault named_at code_at around_of body_of expr_piece expr_parts form_parts exprs_piece arguments_piece fields_piece perhaps_piece declarators_piece start_piece stmt_piece stmt_parts stmts_piece item_piece items_piece program_of_tree resolved
+unfolding program_scope function_scope block_scope for_scope each_scope expr_sites form_sites exprs_sites fields_sites perhaps_sites declarators_sites start_sites stmt_sites stmt_form_sites stmts_sites item_sites program_sites found found_var functions_of repeated blocked see places assigned_in captures holdings slot_count slots_of constants_of functions_in fault_at name_fault named_at code_at around_of body_of expr_piece expr_parts form_parts exprs_piece arguments_piece fields_piece perhaps_piece declarators_piece start_piece stmt_piece stmt_parts stmts_piece item_piece items_piece program_of_tree resolved
 no_program = refl

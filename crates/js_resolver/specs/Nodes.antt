@@ -1,5 +1,5 @@
 -- Nodes, numbered in the order in which their forms end in the text, and functions in the order of their first tokens.
-use Rattle.std.specs.Prelude.{ℕ, ◌+◌, Bool, true, false, not, ◌&&◌, List, [], ◌∷◌, ◌++◌, Option, Some, None, is_some, map, length, if◌then◌else◌}
+use Rattle.std.specs.Prelude.{ℕ, ◌+◌, Bool, true, false, not, ◌&&◌, List, [], ◌∷◌, ◌++◌, Option, Some, None, is_some, map, length, drop, get_or, if◌then◌else◌}
 use Rattle.js_tree.specs.declared.tree.Name.{Name}
 use Rattle.js_tree.specs.declared.tree.Spot.{Spot}
 use Rattle.js_tree.specs.declared.tree.Operator.{Operator}
@@ -10,7 +10,7 @@ use Rattle.js_program.specs.declared.builtin.Builtin.{Builtin}
 use Rattle.js_program.specs.declared.builtin.Builtin.TheVariants.{Floor}
 use Rattle.js_program.specs.declared.node.Variable.{Variable}
 use Rattle.js_program.specs.PlainProgram as n
-use Rattle.js_program.specs.PlainProgram.{PlainNode, PlainNodeForm, PlainBody, Given}
+use Rattle.js_program.specs.PlainProgram.{PlainNode, PlainNodeForm, PlainBody, PlainContent, PlainDeclared}
 use Rattle.js_names.specs.Scopes.{Entry, own_of_all, own_of_start, is_present}
 use Rattle.js_names.specs.Sites.{called_builtin, value_builtin, is_undefined}
 use Rattle.js_names.specs.Places.{Place}
@@ -33,13 +33,20 @@ abbrev pub after : ℕ → Piece → ℕ
 after b x = b + length x.nodes
 
 -- the form that these are the parts of: its own node comes last
-abbrev pub closed : ℕ → ℕ → PlainNodeForm → Piece → Piece
-closed b line form x = record { nodes = x.nodes ++ record { line = line; form = form; parts = x.parts } ∷ []; functions = x.functions; parts = after b x ∷ [] }
+abbrev pub closed : ℕ → ℕ → (List ℕ → PlainNodeForm) → Piece → Piece
+closed b line form x = record { nodes = x.nodes ++ record { line = line; form = form x.parts } ∷ []; functions = x.functions; parts = after b x ∷ [] }
+
+-- the number of the part that stands at this place among the parts
+abbrev pub part : ℕ → List ℕ → ℕ
+part k parts = get_or parts k 0
 
 -- a function, whose statements are no parts of it
-abbrev pub function_piece : List Place → Spot → List Name → Bool → Piece → Piece
-function_piece ps spot names is_expression x =
-    record { nodes = x.nodes; functions = body_of ps spot.at (length names) is_expression x.parts spot.line ∷ x.functions; parts = [] }
+abbrev pub function_piece : List Place → Spot → List Name → (List ℕ → PlainContent) → Piece → Piece
+function_piece ps spot names content x =
+    record { nodes = x.nodes; functions = body_of ps spot.at (length names) (content x.parts) spot.line ∷ x.functions; parts = [] }
+
+abbrev pub one_value : List ℕ → PlainContent
+one_value parts = n.one_value (part 0 parts)
 
 -- what the node of a form is
 
@@ -64,66 +71,84 @@ abbrev pub floors_division : Option Builtin → PlainExprs → Bool
 floors_division None es = false
 floors_division (Some f) es = is_floor f && begins_with_division es
 
-abbrev pub call_node : Option Builtin → Option (List ℕ) → Bool → PlainNodeForm
-call_node (Some f) word is_division = if is_division then n.floor_divide else n.builtin f
-call_node None (Some word) is_division = n.method word
-call_node None None is_division = n.call
+abbrev pub call_node : Option Builtin → Option (List ℕ) → Bool → List ℕ → PlainNodeForm
+call_node (Some f) word is_division parts = if is_division then n.floor_divide (part 0 parts) (part 1 parts) (drop 2 parts) else n.builtin f parts
+call_node None (Some word) is_division parts = n.method (part 0 parts) word (drop 1 parts)
+call_node None None is_division parts = n.call (part 0 parts) (drop 1 parts)
 
-abbrev pub member_node : Option Builtin → List ℕ → PlainNodeForm
-member_node None word = n.member word
-member_node (Some f) word = n.builtin f
+abbrev pub member_node : Option Builtin → List ℕ → List ℕ → PlainNodeForm
+member_node None word parts = n.member (part 0 parts) word
+member_node (Some f) word parts = n.builtin f parts
 
-abbrev pub keys : PlainFields → List (List ℕ)
-keys t.no_fields = []
-keys (t.field_in key e fs) = key ∷ keys fs
+-- the keys with the numbers of their values
+abbrev pub keyed : PlainFields → List ℕ → List (List ℕ × ℕ)
+keyed (t.field_in key e fs) (x ∷ xs) = (key, x) ∷ keyed fs xs
+keyed _ _ = []
 
-abbrev pub expr_node : List Place → PlainForm → PlainNodeForm
-expr_node ps (t.number i) = n.number i
-expr_node ps (t.words text) = n.words text
-expr_node ps (t.truth b) = n.truth b
-expr_node ps t.null = n.null
-expr_node ps (t.use_of name) = if is_undefined name.text then n.undefined else n.read (named_at ps name.spot.at)
-expr_node ps (t.list es) = n.list
-expr_node ps (t.fields fs) = n.fields (keys fs)
-expr_node ps (t.member e word) = member_node (value_builtin e word) word
-expr_node ps (t.index e i) = n.index
-expr_node ps (t.call e es) = call_node (called_builtin e) (method_of e) (floors_division (called_builtin e) es)
-expr_node ps (t.unary s e) = n.unary s
-expr_node ps (t.update s f name) = n.update s f (named_at ps name.spot.at)
-expr_node ps (t.binary op l r) = n.binary op
-expr_node ps (t.conditional l m r) = n.conditional
-expr_node ps (t.assign op name e) = n.assign op (named_at ps name.spot.at)
-expr_node ps (t.arrow_value spot names e) = n.function (code_at ps spot.at)
-expr_node ps (t.arrow_block spot names ss) = n.function (code_at ps spot.at)
-expr_node ps (t.function spot names ss) = n.function (code_at ps spot.at)
+-- the form of a node, from the numbers of its parts in the order in which they begin
+abbrev pub expr_node : List Place → PlainForm → List ℕ → PlainNodeForm
+expr_node ps (t.number i) parts = n.number i
+expr_node ps (t.words text) parts = n.words text
+expr_node ps (t.truth b) parts = n.truth b
+expr_node ps t.null parts = n.null
+expr_node ps (t.use_of name) parts = if is_undefined name.text then n.undefined else n.read (named_at ps name.spot.at)
+expr_node ps (t.list es) parts = n.list parts
+expr_node ps (t.fields fs) parts = n.fields (keyed fs parts)
+expr_node ps (t.member e word) parts = member_node (value_builtin e word) word parts
+expr_node ps (t.index e i) parts = n.index (part 0 parts) (part 1 parts)
+expr_node ps (t.call e es) parts = call_node (called_builtin e) (method_of e) (floors_division (called_builtin e) es) parts
+expr_node ps (t.unary s e) parts = n.unary s (part 0 parts)
+expr_node ps (t.update s f name) parts = n.update s f (named_at ps name.spot.at)
+expr_node ps (t.binary op l r) parts = n.binary op (part 0 parts) (part 1 parts)
+expr_node ps (t.conditional l m r) parts = n.conditional (part 0 parts) (part 1 parts) (part 2 parts)
+expr_node ps (t.assign op name e) parts = n.assign op (named_at ps name.spot.at) (part 0 parts)
+expr_node ps (t.arrow_value spot names e) parts = n.function (code_at ps spot.at)
+expr_node ps (t.arrow_block spot names ss) parts = n.function (code_at ps spot.at)
+expr_node ps (t.function spot names ss) parts = n.function (code_at ps spot.at)
 
 -- the variables of a block, which are not declared yet as it begins
 abbrev pub fresh : List Place → List Entry → List Variable
 fresh ps entries = map (λ (e : Entry). named_at ps e.declared.place) entries
 
-abbrev pub givens : List Place → PlainDeclarators → List Given
-givens ps t.no_declarators = []
-givens ps (t.declarator_in name value end ds) = record { variable = named_at ps name.spot.at; has_value = is_present value } ∷ givens ps ds
+-- a part that may be absent, and the parts after it
+abbrev pub perhaps_part : Bool → List ℕ → Option ℕ
+perhaps_part false parts = None
+perhaps_part true parts = Some (part 0 parts)
+
+abbrev pub parts_after : Bool → List ℕ → List ℕ
+parts_after false parts = parts
+parts_after true parts = drop 1 parts
+
+abbrev pub declared_of : List Place → PlainDeclarators → List ℕ → List PlainDeclared
+declared_of ps t.no_declarators parts = []
+declared_of ps (t.declarator_in name value end ds) parts =
+    record { variable = named_at ps name.spot.at; value = perhaps_part (is_present value) parts } ∷ declared_of ps ds (parts_after (is_present value) parts)
 
 abbrev pub has_start : PlainStart → Bool
 has_start t.nothing = false
 has_start (t.declared line kind ds) = true
 has_start (t.started e) = true
 
-abbrev pub stmt_node : List Place → PlainStmtForm → PlainNodeForm
-stmt_node ps t.empty = n.empty
-stmt_node ps (t.block ss) = n.block (fresh ps (own_of_all 0 false ss))
-stmt_node ps (t.declaration kind ds) = n.declaration kind (givens ps ds)
-stmt_node ps (t.expression e) = n.expression
-stmt_node ps (t.if_alone e s) = n.if_alone
-stmt_node ps (t.if_else e s other) = n.if_else
-stmt_node ps (t.while_of e s) = n.while_of
-stmt_node ps (t.for_of_three start test next s) = n.for_three (fresh ps (own_of_start 0 start)) (has_start start) (is_present test) (is_present next)
-stmt_node ps (t.for_each kind name e s) = n.for_each (named_at ps name.spot.at)
-stmt_node ps (t.break_of spot) = n.break_of
-stmt_node ps (t.continue_of spot) = n.continue_of
-stmt_node ps (t.return_nothing spot) = n.return_nothing
-stmt_node ps (t.return_of spot e) = n.return_of
+abbrev pub for_node : List Variable → Bool → Bool → Bool → List ℕ → PlainNodeForm
+for_node variables start test next parts =
+    let later = parts_after start parts in
+    let last = parts_after test later in
+    n.for_three variables (perhaps_part start parts) (perhaps_part test later) (perhaps_part next last) (part 0 (parts_after next last))
+
+abbrev pub stmt_node : List Place → PlainStmtForm → List ℕ → PlainNodeForm
+stmt_node ps t.empty parts = n.empty
+stmt_node ps (t.block ss) parts = n.block (fresh ps (own_of_all 0 false ss)) parts
+stmt_node ps (t.declaration kind ds) parts = n.declaration kind (declared_of ps ds parts)
+stmt_node ps (t.expression e) parts = n.expression (part 0 parts)
+stmt_node ps (t.if_alone e s) parts = n.if_alone (part 0 parts) (part 1 parts)
+stmt_node ps (t.if_else e s other) parts = n.if_else (part 0 parts) (part 1 parts) (part 2 parts)
+stmt_node ps (t.while_of e s) parts = n.while_of (part 0 parts) (part 1 parts)
+stmt_node ps (t.for_of_three start test next s) parts = for_node (fresh ps (own_of_start 0 start)) (has_start start) (is_present test) (is_present next) parts
+stmt_node ps (t.for_each kind name e s) parts = n.for_each (named_at ps name.spot.at) (part 0 parts) (part 1 parts)
+stmt_node ps (t.break_of spot) parts = n.break_of
+stmt_node ps (t.continue_of spot) parts = n.continue_of
+stmt_node ps (t.return_nothing spot) parts = n.return_nothing
+stmt_node ps (t.return_of spot e) parts = n.return_of (part 0 parts)
 
 -- the nodes of each form from the number b on
 unfoldable mutual
@@ -153,9 +178,9 @@ unfoldable mutual
   form_parts ps b (t.conditional l m r) =
       let x = expr_piece ps b l in let y = beside x (expr_piece ps (after b x) m) in beside y (expr_piece ps (after b y) r)
   form_parts ps b (t.assign op name e) = expr_piece ps b e
-  form_parts ps b (t.arrow_value spot names e) = function_piece ps spot names true (expr_piece ps b e)
-  form_parts ps b (t.arrow_block spot names ss) = function_piece ps spot names false (stmts_piece ps b ss)
-  form_parts ps b (t.function spot names ss) = function_piece ps spot names false (stmts_piece ps b ss)
+  form_parts ps b (t.arrow_value spot names e) = function_piece ps spot names one_value (expr_piece ps b e)
+  form_parts ps b (t.arrow_block spot names ss) = function_piece ps spot names n.statements (stmts_piece ps b ss)
+  form_parts ps b (t.function spot names ss) = function_piece ps spot names n.statements (stmts_piece ps b ss)
 
   pub exprs_piece : List Place → ℕ → PlainExprs → Piece
   exprs_piece ps b t.no_exprs = none
@@ -180,7 +205,7 @@ unfoldable mutual
 
   pub start_piece : List Place → ℕ → PlainStart → Piece
   start_piece ps b t.nothing = none
-  start_piece ps b (t.declared line kind ds) = closed b line (n.declaration kind (givens ps ds)) (declarators_piece ps b ds)
+  start_piece ps b (t.declared line kind ds) = closed b line (λ parts. n.declaration kind (declared_of ps ds parts)) (declarators_piece ps b ds)
   start_piece ps b (t.started e) = expr_piece ps b e
 
   pub stmt_piece : List Place → ℕ → PlainStmt → Piece
@@ -213,7 +238,7 @@ unfoldable mutual
 -- a function declaration is no node
 unfoldable pub item_piece : List Place → ℕ → PlainItem → Piece
 item_piece ps b (t.statement s) = stmt_piece ps b s
-item_piece ps b (t.function_of spot name names ss) = function_piece ps spot names false (stmts_piece ps b ss)
+item_piece ps b (t.function_of spot name names ss) = function_piece ps spot names n.statements (stmts_piece ps b ss)
 
 unfoldable pub items_piece : List Place → ℕ → List PlainItem → Piece
 items_piece ps b [] = none

@@ -2,7 +2,7 @@
 use Rattle.std.specs.Prelude.{ℕ, Bool, true, false, nat_eq, List, [], ◌∷◌, Option, Some, None, map, if◌then◌else◌}
 use Rattle.js_tree.specs.declared.tree.Spot.{Spot}
 use Rattle.js_tree.specs.Plain.{PlainItem, statement, function_of}
-use Rattle.js_program.specs.PlainProgram.{PlainProgram, PlainConstant, of_function, undeclared, unset}
+use Rattle.js_program.specs.PlainProgram.{PlainProgram, PlainConstant, of_function, undeclared, unset, statements}
 use Rattle.js_names.specs.declared.place.Declared.{Declared}
 use Rattle.js_names.specs.declared.place.NameFault.{NameFault}
 use Rattle.js_names.specs.Scopes.{top}
@@ -30,7 +30,7 @@ program_with items ps x = record {
   nodes = x.nodes;
   functions = x.functions;
   constants = map (constant_of items ps) (constants_of (assigned_in ps) ps);
-  top = body_of ps top 0 false x.parts (program_spot items).line;
+  top = body_of ps top 0 (statements x.parts) (program_spot items).line;
 }
 
 -- the program of a tree

@@ -1,15 +1,15 @@
 -- What each name of a program stands for, and what a function holds, from the places of the program.
-use Rattle.std.specs.Prelude.{ℕ, Bool, true, false, not, ◌&&◌, nat_eq, List, [], ◌∷◌, Option, Some, None, map, length, position, unwrap_or, if◌then◌else◌}
-use Rattle.std.specs.List.{filter_map}
+use Rattle.std.specs.Prelude.{ℕ, Bool, true, false, not, ◌&&◌, nat_eq, List, [], ◌∷◌, ◌++◌, Option, Some, None, map, length, position, unwrap_or, if◌then◌else◌}
+use Rattle.std.specs.List.{flat_map}
 use Rattle.js_tree.specs.declared.tree.Name.{Name}
 use Rattle.js_program.specs.declared.node.Variable.{Variable}
 use Rattle.js_program.specs.declared.node.Variable.TheVariants.{Slot, Constant}
-use Rattle.js_program.specs.PlainProgram.{PlainBody}
+use Rattle.js_program.specs.PlainProgram.{PlainBody, PlainContent}
 use Rattle.js_names.specs.declared.place.Declared.{Declared}
 use Rattle.js_names.specs.declared.place.What.{What}
 use Rattle.js_names.specs.Scopes.{top}
 use Rattle.js_names.specs.Places.{Place, is_var}
-use Rattle.js_names.specs.Slots.{assigned_in, is_constant, is_begin, captures, variables_of, slots_of, constants_of, functions_in, variable_at, variable_in, first_uses}
+use Rattle.js_names.specs.Slots.{assigned_in, is_constant, is_begin, captures, slots_of, constants_of, functions_in, variable_at, variable_of as held_variable, held_by, first_uses, Holding}
 
 -- where a number stands in a list
 abbrev pub index_in : List ℕ → ℕ → ℕ
@@ -46,27 +46,27 @@ second x _ = x
 unfoldable pub around_of : List Place → ℕ → ℕ
 around_of ps f = first_some top (map (λ (p : Place). if is_begin p.what && nat_eq p.around.owner f then Some (second top p.functions) else None) ps)
 
-abbrev pub var_in : List ℕ → ℕ → Option Declared → Option ℕ
-var_in assigned f None = None
-var_in assigned f (Some d) = if is_var d.role then variable_in assigned f (Some d) else None
+-- the `var` that a place declares
+abbrev pub var_in : List ℕ → Option Declared → List Holding
+var_in assigned None = []
+var_in assigned (Some d) = if is_var d.role then held_variable assigned (Some d) else []
 
 -- the slots of a function's `var`s
 abbrev pub var_slots : List Place → ℕ → List ℕ
 var_slots ps f =
-    map (index_in (slots_of (assigned_in ps) f ps)) (first_uses (filter_map (λ (p : Place). var_in (assigned_in ps) f (variable_at p.what p.declared)) ps))
+    map (index_in (slots_of (assigned_in ps) f ps)) (first_uses (held_by f (flat_map (λ (p : Place). var_in (assigned_in ps) (variable_at p.what p.declared)) ps)))
 
 -- for each captured value, its slot in the function around
 abbrev pub capture_slots : List Place → ℕ → List ℕ
 capture_slots ps f = map (index_in (slots_of (assigned_in ps) (around_of ps f) ps)) (captures (assigned_in ps) f ps)
 
--- the function f, with the numbers of its statements or of its one expression
-unfoldable pub body_of : List Place → ℕ → ℕ → Bool → List ℕ → ℕ → PlainBody
-body_of ps f parameters is_expression nodes line = record {
+-- the function f, with what a call of it runs
+unfoldable pub body_of : List Place → ℕ → ℕ → PlainContent → ℕ → PlainBody
+body_of ps f parameters content line = record {
   parameters = parameters;
   slots = length (slots_of (assigned_in ps) f ps);
   captures = capture_slots ps f;
   vars = var_slots ps f;
-  nodes = nodes;
-  is_expression = is_expression;
+  content = content;
   line = line;
 }
