@@ -68,7 +68,7 @@ first-append : (xs ys : List Declared) → first (xs ++ ys) ≡ or_else (first x
 first-append [] ys = refl
 first-append (x ∷ xs) ys = refl
 
-or_else_assoc : {A : Type 0} (a b c : Option A) → or_else (or_else a b) c ≡ or_else a (or_else b c)
+pub or_else_assoc : {A : Type 0} (a b c : Option A) → or_else (or_else a b) c ≡ or_else a (or_else b c)
 or_else_assoc None b c = refl
 or_else_assoc (Some x) b c = refl
 

@@ -127,14 +127,21 @@ abbrev pub constant_in : List ℕ → Option Declared → Option ℕ
 constant_in assigned None = None
 constant_in assigned (Some d) = if is_constant assigned d then Some d.place else None
 
+abbrev pub constant_at : List ℕ → Place → Option ℕ
+constant_at assigned p = constant_in assigned (variable_at p.what p.declared)
+
 -- the constants, in the order of their declarations
 unfoldable pub constants_of : List ℕ → List Place → List ℕ
-constants_of assigned ps = first_uses (filter_map (λ p. constant_in assigned (variable_at p.what p.declared)) ps)
+constants_of assigned ps = first_uses (filter_map (constant_at assigned) ps)
 
 abbrev pub is_begin : What → Bool
 is_begin Begins = true
 is_begin _ = false
 
+-- the function that begins at a place
+abbrev pub function_at : Place → Option ℕ
+function_at p = if is_begin p.what && not (nat_eq p.around.owner top) then Some p.around.owner else None
+
 -- the functions, in the order of their first tokens
 unfoldable pub functions_in : List Place → List ℕ
-functions_in ps = filter_map (λ p. if is_begin p.what && not (nat_eq p.around.owner top) then Some p.around.owner else None) ps
+functions_in ps = first_uses (filter_map function_at ps)

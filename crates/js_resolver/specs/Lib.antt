@@ -1,3 +1,4 @@
+pub mod Tables
 pub mod Variables
 pub mod Nodes
 pub mod Resolved

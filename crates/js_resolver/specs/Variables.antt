@@ -8,31 +8,44 @@ use Rattle.js_program.specs.PlainProgram.{PlainBody, PlainContent}
 use Rattle.js_names.specs.declared.place.Declared.{Declared}
 use Rattle.js_names.specs.declared.place.What.{What}
 use Rattle.js_names.specs.Scopes.{top}
-use Rattle.js_names.specs.Places.{Place, is_var}
+use Rattle.js_names.specs.Places.{Place, is_var, or_else}
 use Rattle.js_names.specs.Slots.{assigned_in, is_constant, is_begin, captures, slots_of, constants_of, functions_in, variable_at, variable_of as held_variable, held_by, first_uses, Holding}
 
 -- where a number stands in a list
 abbrev pub index_in : List ℕ → ℕ → ℕ
-index_in xs x = unwrap_or (position (λ y. nat_eq y x) xs) 0
+index_in xs x = unwrap_or (position (nat_eq x) xs) 0
 
--- a variable as the function f names it
-abbrev pub variable_of : List Place → ℕ → Declared → Variable
-variable_of ps f d =
-    if is_constant (assigned_in ps) d then Constant (index_in (constants_of (assigned_in ps) ps) d.place)
-    else Slot (index_in (slots_of (assigned_in ps) f ps) d.place)
+-- a variable as a function with these slots names it
+abbrev pub variable_with : List ℕ → List ℕ → List ℕ → Declared → Variable
+variable_with assigned constants slots d =
+    if is_constant assigned d then Constant (index_in constants d.place) else Slot (index_in slots d.place)
 
--- what the name at a place of the text stands for
-abbrev pub variable_there : List Place → Option Declared → ℕ → Bool → Option Variable
-variable_there ps None f here = None
-variable_there ps (Some d) f here = if here then Some (variable_of ps f d) else None
+abbrev pub named_by : List ℕ → List ℕ → List ℕ → Option Declared → Option Variable
+named_by assigned constants slots None = None
+named_by assigned constants slots (Some d) = Some (variable_with assigned constants slots d)
+
+-- what the name of a place stands for
+abbrev pub named_there : List ℕ → List ℕ → (ℕ → List ℕ) → Place → Option Variable
+named_there assigned constants slots p = named_by assigned constants (slots p.around.owner) p.declared
+
+abbrev pub named_here : (Place → Option Variable) → ℕ → Place → Option Variable
+named_here named at p = if nat_eq p.name.spot.at at then named p else None
+
+-- what the name at a place of the text stands for, by the first of the places there that stands for something
+abbrev pub named_in : (Place → Option Variable) → ℕ → List Place → Option Variable
+named_in named at [] = None
+named_in named at (p ∷ ps) = or_else (named_here named at p) (named_in named at ps)
+
+abbrev pub named : List Place → Place → Option Variable
+named ps p = let assigned = assigned_in ps in named_there assigned (constants_of assigned ps) (λ f. slots_of assigned f ps) p
+
+unfoldable pub named_at : List Place → ℕ → Variable
+named_at ps at = unwrap_or (named_in (named ps) at ps) (Slot 0)
 
 abbrev pub first_some : {A : Type 0} → A → List (Option A) → A
 first_some a [] = a
 first_some a (None ∷ os) = first_some a os
 first_some a (Some b ∷ os) = b
-
-unfoldable pub named_at : List Place → ℕ → Variable
-named_at ps at = first_some (Slot 0) (map (λ (p : Place). variable_there ps p.declared p.around.owner (nat_eq p.name.spot.at at)) ps)
 
 -- the number of the function that begins at a place of the text
 unfoldable pub code_at : List Place → ℕ → ℕ

@@ -1,2 +1,6 @@
-//! The resolved program of a tree.
+//! From trees to resolved programs.
 #![tactic(auto)]
+
+mod tables;
+
+pub use tables::{constants_of, functions_in, named_places};
