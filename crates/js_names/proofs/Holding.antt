@@ -4,7 +4,7 @@ use Rattle.std.specs.List.{flat_map}
 use Rattle.std.specs.Map.{lookup}
 use Rattle.js_names.specs.declared.place.Seen.{Seen}
 use Rattle.js_names.specs.Places.{Place}
-use Rattle.js_names.specs.Slots.{Holding, hold, held_by, holds_all, inside, joins, holdings, slots_of, captures, captures_in, parameter_in, variable_in}
+use Rattle.js_names.specs.Slots.{Holding, hold, held_by, holds_all, inside, joins, holdings, slots_of, captures, captures_in, parameter_in, variable_in, var_in, vars_of}
 use Rattle.js_names.specs.Views.{Sets, keys_of, held_in, Holds, place_of}
 use Rattle.js_names.proofs.Taking.{flat_map_take}
 
@@ -67,3 +67,8 @@ pub captures_taken : (assigned : List ℕ) (ps : List Seen) (a b : Sets) → a.e
     → (q : ℕ) → held_in b q ≡ captures assigned q (map place_of ps)
 unfolding captures
 captures_taken assigned ps a b e h q = from_empty a b _ e h q ∙ ap (λ xs. fold joins [] (held_by q xs)) (flat_map_seen (captures_in assigned) ps)
+
+pub vars_taken : (assigned : List ℕ) (ps : List Seen) (a b : Sets) → a.entries ≡ [] → Holds a b (flat_map (λ p. var_in assigned (place_of p)) ps)
+    → (q : ℕ) → held_in b q ≡ vars_of assigned q (map place_of ps)
+unfolding vars_of
+vars_taken assigned ps a b e h q = from_empty a b _ e h q ∙ ap (λ xs. fold joins [] (held_by q xs)) (flat_map_seen (var_in assigned) ps)

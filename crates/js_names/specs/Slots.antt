@@ -119,6 +119,18 @@ slots_of assigned f ps = first_uses (held_by f (holdings assigned ps))
 unfoldable pub captures : List ℕ → ℕ → List Place → List ℕ
 captures assigned f ps = first_uses (held_by f (flat_map (captures_in assigned) ps))
 
+-- the `var` that a place declares
+abbrev pub var_of : List ℕ → Option Declared → List Holding
+var_of assigned None = []
+var_of assigned (Some d) = if is_var d.role then variable_of assigned (Some d) else []
+
+abbrev pub var_in : List ℕ → Place → List Holding
+var_in assigned p = var_of assigned (variable_at p.what p.declared)
+
+-- the `var`s of a function that are no constants, in the order of their first declarations
+unfoldable pub vars_of : List ℕ → ℕ → List Place → List ℕ
+vars_of assigned f ps = first_uses (held_by f (flat_map (var_in assigned) ps))
+
 -- how many slots each function needs
 unfoldable pub slot_count : List ℕ → List Place → ℕ → ℕ
 slot_count assigned ps f = length (slots_of assigned f ps)

@@ -2,7 +2,7 @@
 ghost use Rattle.std.specs.Prelude.{◌≡◌, ◌∷◌, [], false, IfOk, OnOk, map, length, nat_eq};
 ghost use Rattle.std.specs.List.{flat_map};
 ghost use Rattle.indexmap.specs.IndexMap.{get};
-ghost use Rattle.js_names.specs.Slots.{hold, holds_all, copies, inside, holdings, slots_of, captures, captures_in, parameter_in, variable_in};
+ghost use Rattle.js_names.specs.Slots.{hold, holds_all, copies, inside, holdings, slots_of, captures, captures_in, parameter_in, variable_in, var_in, vars_of};
 ghost use Rattle.js_names.specs.Views.{Holds, held_in, place_of};
 
 use crate::place::{Declared, Role, Seen, What};
@@ -199,5 +199,52 @@ pub fn captured(
 {
     let mut held = IndexMap::new(alloc);
     hold_all_captures(alloc, &mut held, assigned, places)?;
+    Ok(held)
+}
+
+// A `var` that is no parameter and no constant.
+fn hold_var(
+    alloc: Global,
+    held: &mut IndexMap<u32, IndexSet<u32>>,
+    assigned: &IndexSet<u32>,
+    place: &Seen,
+) -> Result<(), AllocError>
+    ensures { OnOk result (Holds held.old held.new (var_in assigned.now.keys (place_of place.now))) }
+{
+    if let What::Declares(_) = place.what
+        && let Some(declared) = place.declared
+        && declared.role == Role::Var
+        && !is_constant(assigned, declared)
+    {
+        return hold(alloc, held, declared.owner, declared.place);
+    }
+    Ok(())
+}
+
+// The `var`s of all functions.
+fn hold_vars(
+    alloc: Global,
+    held: &mut IndexMap<u32, IndexSet<u32>>,
+    assigned: &IndexSet<u32>,
+    places: &[Seen],
+) -> Result<(), AllocError>
+    ensures { OnOk result (Holds held.old held.new (flat_map (λ p. var_in assigned.now.keys (place_of p)) places.now)) }
+{
+    for place in places {
+        hold_var(alloc, held, assigned, place)?;
+    }
+    Ok(())
+}
+
+/// The `var`s of each function that are no constants, in the order of their first declarations.
+pub fn vars(
+    alloc: Global,
+    assigned: &IndexSet<u32>,
+    places: &[Seen],
+) -> Result<IndexMap<u32, IndexSet<u32>>, AllocError>
+    ensures { IfOk result (λ m. (f : _) → held_in m f ≡ vars_of assigned.now.keys f (map place_of places.now)) }
+{
+    let mut held = IndexMap::new(alloc);
+    hold_vars(alloc, &mut held, assigned, places)?;
     Ok(held)
 }

@@ -16,7 +16,7 @@ mod walk;
 
 pub use faults::{Names, check_names};
 pub use forms::{called_builtin, is_undefined, object_of, value_builtin};
-pub use holdings::{captured, slot_count};
+pub use holdings::{captured, slot_count, vars};
 pub use place::{Around, Declared, NameFault, Role, Seen, What};
 pub use rules::is_constant;
 pub use scope::TOP;

@@ -2,25 +2,29 @@
 use Rattle.std.proofs.Common.{◌≡◌, ℕ, ◌+◌, ◌<◌, List, [], ◌∷◌, ◌++◌, ◌∙◌, ap, refl, sym, map, length, take, get_or, Option, Some, None, nat_eq, if◌then◌else◌}
 use Rattle.std.proofs.lemmas.List.{take_more, map-append}
 use Rattle.indexmap.specs.IndexMap.{get}
-use Rattle.js_program.specs.declared.node.Variable.{Variable}
 use Rattle.js_names.specs.declared.place.Seen.{Seen}
 use Rattle.js_names.specs.Places.{Place, or_else}
 use Rattle.js_names.specs.Views.{place_of}
 use Rattle.js_names.proofs.Taking.{or_else_assoc, or_else_none}
-use Rattle.js_resolver.specs.Tables.{Named, Notes}
-use Rattle.js_resolver.specs.Variables.{named_here, named_in}
+use Rattle.js_resolver.specs.Tables.{Known, Notes}
+use Rattle.js_resolver.specs.Variables.{known_here, known_in}
 
-named_in-last : (named : Place → Option Variable) (q : ℕ) (xs : List Place) (p : Place) → named_in named q (xs ++ p ∷ []) ≡ or_else (named_in named q xs) (named_here named q p)
-named_in-last named q [] p = or_else_none (named_here named q p)
-named_in-last named q (x ∷ xs) p =
-    ap (or_else (named_here named q x)) (named_in-last named q xs p) ∙ sym (or_else_assoc (named_here named q x) (named_in named q xs) (named_here named q p))
+known_in-last : {A : Type 0} (key : Place → ℕ) (value : Place → Option A) (q : ℕ) (xs : List Place) (p : Place) → known_in key value q (xs ++ p ∷ []) ≡ or_else (known_in key value q xs) (known_here key value q p)
+known_in-last key value q [] p = or_else_none (known_here key value q p)
+known_in-last key value q (x ∷ xs) p =
+    ap (or_else (known_here key value q x)) (known_in-last key value q xs p) ∙ sym (or_else_assoc (known_here key value q x) (known_in key value q xs) (known_here key value q p))
 
 -- one more place
-pub named_more : (named : Place → Option Variable) (xs : List Seen) (i : ℕ) (x : Seen) (a b : Named) (v : Option Variable) → i < length xs → x ≡ get_or xs i x → v ≡ named (place_of x)
-    → ((q : ℕ) → get nat_eq a q ≡ named_in named q (map place_of (take i xs))) → Notes a b x.name.spot.at v → (q : ℕ) → get nat_eq b q ≡ named_in named q (map place_of (take (i + 1) xs))
-named_more named xs i x a b v h e f inv n q =
-    n q ∙ (ap (λ z. or_else z (if nat_eq x.name.spot.at q then v else None)) (inv q)
-    ∙ (ap (λ z. or_else (named_in named q (map place_of (take i xs))) (if nat_eq x.name.spot.at q then z else None)) f
-    ∙ (sym (named_in-last named q (map place_of (take i xs)) (place_of x))
-    ∙ (ap (λ z. named_in named q (map place_of (take i xs) ++ place_of z ∷ [])) e
-    ∙ sym (ap (named_in named q) (ap (map place_of) (take_more xs i x h) ∙ map-append place_of (take i xs) (get_or xs i x ∷ [])))))))
+pub known_more : {A : Type 0} (key : Place → ℕ) (value : Place → Option A) (xs : List Seen) (i : ℕ) (x : Seen) (a b : Known A) (v : Option A) → i < length xs → x ≡ get_or xs i x → v ≡ value (place_of x)
+    → ((q : ℕ) → get nat_eq a q ≡ known_in key value q (map place_of (take i xs))) → Notes a b (key (place_of x)) v → (q : ℕ) → get nat_eq b q ≡ known_in key value q (map place_of (take (i + 1) xs))
+known_more key value xs i x a b v h e f inv n q =
+    n q ∙ (ap (λ z. or_else z (if nat_eq (key (place_of x)) q then v else None)) (inv q)
+    ∙ (ap (λ z. or_else (known_in key value q (map place_of (take i xs))) (if nat_eq (key (place_of x)) q then z else None)) f
+    ∙ (sym (known_in-last key value q (map place_of (take i xs)) (place_of x))
+    ∙ (ap (λ z. known_in key value q (map place_of (take i xs) ++ place_of z ∷ [])) e
+    ∙ sym (ap (known_in key value q) (ap (map place_of) (take_more xs i x h) ∙ map-append place_of (take i xs) (get_or xs i x ∷ [])))))))
+
+-- one more slot
+pub slots_more : (f : ℕ → ℕ) (xs : List ℕ) (i : ℕ) (a b : List ℕ) → i < length xs → a ≡ map f (take i xs) → b ≡ a ++ f (get_or xs i 0) ∷ [] → b ≡ map f (take (i + 1) xs)
+slots_more f xs i a b h inv p =
+    p ∙ (ap (λ z. z ++ f (get_or xs i 0) ∷ []) inv ∙ sym (ap (map f) (take_more xs i 0 h) ∙ map-append f (take i xs) (get_or xs i 0 ∷ [])))

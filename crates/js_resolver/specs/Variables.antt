@@ -1,6 +1,5 @@
 -- What each name of a program stands for, and what a function holds, from the places of the program.
 use Rattle.std.specs.Prelude.{ℕ, Bool, true, false, not, ◌&&◌, nat_eq, List, [], ◌∷◌, ◌++◌, Option, Some, None, map, length, position, unwrap_or, if◌then◌else◌}
-use Rattle.std.specs.List.{flat_map}
 use Rattle.js_tree.specs.declared.tree.Name.{Name}
 use Rattle.js_program.specs.declared.node.Variable.{Variable}
 use Rattle.js_program.specs.declared.node.Variable.TheVariants.{Slot, Constant}
@@ -8,8 +7,8 @@ use Rattle.js_program.specs.PlainProgram.{PlainBody, PlainContent}
 use Rattle.js_names.specs.declared.place.Declared.{Declared}
 use Rattle.js_names.specs.declared.place.What.{What}
 use Rattle.js_names.specs.Scopes.{top}
-use Rattle.js_names.specs.Places.{Place, is_var, or_else}
-use Rattle.js_names.specs.Slots.{assigned_in, is_constant, is_begin, captures, slots_of, constants_of, functions_in, variable_at, variable_of as held_variable, held_by, first_uses, Holding}
+use Rattle.js_names.specs.Places.{Place, or_else}
+use Rattle.js_names.specs.Slots.{assigned_in, is_constant, is_begin, captures, vars_of, slots_of, constants_of, functions_in}
 
 -- where a number stands in a list
 abbrev pub index_in : List ℕ → ℕ → ℕ
@@ -28,19 +27,27 @@ named_by assigned constants slots (Some d) = Some (variable_with assigned consta
 abbrev pub named_there : List ℕ → List ℕ → (ℕ → List ℕ) → Place → Option Variable
 named_there assigned constants slots p = named_by assigned constants (slots p.around.owner) p.declared
 
-abbrev pub named_here : (Place → Option Variable) → ℕ → Place → Option Variable
-named_here named at p = if nat_eq p.name.spot.at at then named p else None
+-- what places know of a key, by the first of them that knows something
 
--- what the name at a place of the text stands for, by the first of the places there that stands for something
-abbrev pub named_in : (Place → Option Variable) → ℕ → List Place → Option Variable
-named_in named at [] = None
-named_in named at (p ∷ ps) = or_else (named_here named at p) (named_in named at ps)
+abbrev pub known_here : {A : Type 0} → (Place → ℕ) → (Place → Option A) → ℕ → Place → Option A
+known_here key value q p = if nat_eq (key p) q then value p else None
+
+abbrev pub known_in : {A : Type 0} → (Place → ℕ) → (Place → Option A) → ℕ → List Place → Option A
+known_in key value q [] = None
+known_in key value q (p ∷ ps) = or_else (known_here key value q p) (known_in key value q ps)
+
+abbrev pub name_key : Place → ℕ
+name_key p = p.name.spot.at
+
+abbrev pub owner_key : Place → ℕ
+owner_key p = p.around.owner
 
 abbrev pub named : List Place → Place → Option Variable
 named ps p = let assigned = assigned_in ps in named_there assigned (constants_of assigned ps) (λ f. slots_of assigned f ps) p
 
+-- what the name at a place of the text stands for
 unfoldable pub named_at : List Place → ℕ → Variable
-named_at ps at = unwrap_or (named_in (named ps) at ps) (Slot 0)
+named_at ps at = unwrap_or (known_in name_key (named ps) at ps) (Slot 0)
 
 abbrev pub first_some : {A : Type 0} → A → List (Option A) → A
 first_some a [] = a
@@ -55,23 +62,25 @@ abbrev pub second : ℕ → List ℕ → ℕ
 second x (f ∷ g ∷ gs) = g
 second x _ = x
 
+-- the function around the one that begins at a place
+abbrev pub around_there : Place → Option ℕ
+around_there p = if is_begin p.what then Some (second top p.functions) else None
+
 -- the function around a function
 unfoldable pub around_of : List Place → ℕ → ℕ
-around_of ps f = first_some top (map (λ (p : Place). if is_begin p.what && nat_eq p.around.owner f then Some (second top p.functions) else None) ps)
+around_of ps f = unwrap_or (known_in owner_key around_there f ps) top
 
--- the `var` that a place declares
-abbrev pub var_in : List ℕ → Option Declared → List Holding
-var_in assigned None = []
-var_in assigned (Some d) = if is_var d.role then held_variable assigned (Some d) else []
+-- the slots of some variables
+abbrev pub slots_among : List ℕ → List ℕ → List ℕ
+slots_among slots variables = map (index_in slots) variables
 
 -- the slots of a function's `var`s
 abbrev pub var_slots : List Place → ℕ → List ℕ
-var_slots ps f =
-    map (index_in (slots_of (assigned_in ps) f ps)) (first_uses (held_by f (flat_map (λ (p : Place). var_in (assigned_in ps) (variable_at p.what p.declared)) ps)))
+var_slots ps f = let assigned = assigned_in ps in slots_among (slots_of assigned f ps) (vars_of assigned f ps)
 
 -- for each captured value, its slot in the function around
 abbrev pub capture_slots : List Place → ℕ → List ℕ
-capture_slots ps f = map (index_in (slots_of (assigned_in ps) (around_of ps f) ps)) (captures (assigned_in ps) f ps)
+capture_slots ps f = let assigned = assigned_in ps in slots_among (slots_of assigned (around_of ps f) ps) (captures assigned f ps)
 
 -- the function f, with what a call of it runs
 unfoldable pub body_of : List Place → ℕ → ℕ → PlainContent → ℕ → PlainBody

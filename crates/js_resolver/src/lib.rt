@@ -3,4 +3,4 @@
 
 mod tables;
 
-pub use tables::{constants_of, functions_in, named_places};
+pub use tables::{constants_of, functions_around, functions_in, named_places, slots_among};

@@ -1,10 +1,11 @@
 //! What the names of a program stand for.
-ghost use Rattle.std.specs.Prelude.{◌≡◌, IfOk, OnOk, map, nat_eq};
+ghost use Rattle.std.specs.Prelude.{◌≡◌, ◌++◌, ◌∷◌, [], IfOk, OnOk, map, nat_eq};
 ghost use Rattle.indexmap.specs.IndexMap.{get};
 ghost use Rattle.js_names.specs.Slots.{constant_at, constants_of, function_at, functions_in};
 ghost use Rattle.js_names.specs.Views.{held_in, place_of};
 ghost use Rattle.js_resolver.specs.Tables.{Notes};
-ghost use Rattle.js_resolver.specs.Variables.{index_in, variable_with, named_there, named_in};
+ghost use Rattle.js_names.specs.Scopes.{top};
+ghost use Rattle.js_resolver.specs.Variables.{index_in, second, variable_with, named_there, around_there, name_key, owner_key, known_in, slots_among};
 
 use indexmap::{IndexMap, IndexSet};
 use js_names::{Declared, Role, Seen, TOP, What, is_constant};
@@ -67,8 +68,7 @@ fn named_there(
     match place.declared {
         None => Ok(None),
         Some(declared) => {
-            let variable =
-                variable_with(assigned, constants, held, place.around.owner, declared)?;
+            let variable = variable_with(assigned, constants, held, place.around.owner, declared)?;
             Ok(Some(variable))
         }
     }
@@ -98,7 +98,7 @@ pub fn named_places(
     held: &IndexMap<u32, IndexSet<u32>>,
     places: &[Seen],
 ) -> Result<IndexMap<u32, Variable>, AllocError>
-    ensures { IfOk result (λ m. (q : _) → get nat_eq m q ≡ named_in (named_there assigned.now.keys constants.now.keys (λ f. held_in held.now f)) q (map place_of places.now)) }
+    ensures { IfOk result (λ m. (q : _) → get nat_eq m q ≡ known_in name_key (named_there assigned.now.keys constants.now.keys (λ f. held_in held.now f)) q (map place_of places.now)) }
 {
     let mut named = IndexMap::new(alloc);
     for place in places {
@@ -166,4 +166,82 @@ pub fn functions_in(alloc: Global, places: &[Seen]) -> Result<IndexSet<u32>, All
         }
     }
     Ok(functions)
+}
+
+// The function around the one that begins at a place.
+fn around_there(place: &Seen) -> Option<u32>
+    ensures { result ≡ around_there (place_of place.now) }
+{
+    match place.what {
+        What::Begins => Some(second(&place.functions)),
+        _ => None,
+    }
+}
+
+// The second of some functions, or the top level.
+fn second(functions: &[u32]) -> u32
+    ensures { result ≡ second top functions.now }
+{
+    match functions {
+        [_, around, ..] => *around,
+        _ => TOP,
+    }
+}
+
+// Notes the function around a function, unless that is known.
+fn note_around(
+    around: &mut IndexMap<u32, u32>,
+    function: u32,
+    owner: Option<u32>,
+) -> Result<(), AllocError>
+    ensures { OnOk result (Notes around.old around.new function owner) }
+{
+    if let Some(owner) = owner
+        && !around.contains_key(&function)
+    {
+        around.insert(function, owner)?;
+    }
+    Ok(())
+}
+
+/// The function around each function.
+pub fn functions_around(alloc: Global, places: &[Seen]) -> Result<IndexMap<u32, u32>, AllocError>
+    ensures { IfOk result (λ m. (q : _) → get nat_eq m q ≡ known_in owner_key around_there q (map place_of places.now)) }
+{
+    let mut around = IndexMap::new(alloc);
+    for place in places {
+        let owner = around_there(place);
+        note_around(&mut around, place.around.owner, owner)?;
+    }
+    Ok(around)
+}
+
+// One more slot.
+fn push_slot(
+    slots: &mut Vec<u32>,
+    held: &IndexMap<u32, IndexSet<u32>>,
+    function: u32,
+    variable: u32,
+) -> Result<(), AllocError>
+    ensures { OnOk result (slots.new.items ≡ slots.old.items ++ index_in (held_in held.now function) variable ∷ []) }
+{
+    let slot = slot_in(held, function, variable)?;
+    slots.push(slot)?;
+    Ok(())
+}
+
+/// The slots of some variables in a function.
+pub fn slots_among(
+    alloc: Global,
+    held: &IndexMap<u32, IndexSet<u32>>,
+    function: u32,
+    variables: &[u32],
+) -> Result<Vec<u32>, AllocError>
+    ensures { IfOk result (λ v. v.items ≡ slots_among (held_in held.now function) variables.now) }
+{
+    let mut slots = Vec::new(alloc);
+    for variable in variables {
+        push_slot(&mut slots, held, function, *variable)?;
+    }
+    Ok(slots)
 }

@@ -1,0 +1,8 @@
+use Rattle.std.proofs.Common.{take}
+use Rattle.std.specs.List.{flat_map}
+use Rattle.js_names.specs.Slots.{parameter_in, captures_in, variable_in, var_in}
+use Rattle.js_names.specs.Views.{Holds, place_of}
+use Rattle.js_names.proofs.holdings.hold_vars.Given as goal
+
+abbrev pub invariant-loop-place : goal.invariant-loop-place
+invariant-loop-place l = Holds l.initial.held l.held (flat_map (λ p. var_in l.assigned.keys (place_of p)) (take l.place-index l.places))

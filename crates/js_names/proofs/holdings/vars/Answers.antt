@@ -1,0 +1,5 @@
+use Rattle.js_names.proofs.Holding.{vars_taken}
+use Rattle.js_names.proofs.holdings.vars.Goals as goal
+
+pub returns : goal.returns
+returns c = vars_taken c.args.assigned.now.keys c.args.places.now c.new-held.result c.hold_vars.new.held c.new-held.ensures.empty c.in_ok-hold_vars.ensures
