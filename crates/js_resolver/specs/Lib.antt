@@ -1,4 +1,5 @@
 pub mod Tables
 pub mod Variables
+pub mod StandsFor
 pub mod Nodes
 pub mod Resolved
