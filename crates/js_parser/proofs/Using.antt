@@ -1,0 +1,159 @@
+-- What the readers do at one step.
+use Rattle.std.proofs.Common.{◌≡◌, ℕ, zero, suc, ◌+◌, ◌-◌, ◌<◌, Bool, true, false, List, [], ◌∷◌, ◌++◌, map, Option, Some, None, refl, sub-one, arith}
+use Rattle.js_lexer.specs.declared.token.Token.{Token}
+use Rattle.js_tree.specs.declared.tree.Name.{Name}
+use Rattle.js_tree.specs.declared.tree.Expr.{Expr}
+use Rattle.js_tree.specs.declared.tree.Field.{Field}
+use Rattle.js_tree.specs.declared.tree.Declarator.{Declarator}
+use Rattle.js_tree.specs.declared.tree.Stmt.{Stmt}
+use Rattle.js_tree.specs.declared.tree.DeclareKind.{DeclareKind}
+use Rattle.js_tree.specs.Plain as p
+use Rattle.js_tree.specs.Plain.{PlainExpr, at, on, PlainField, PlainDeclarator, PlainStmt}
+use Rattle.js_tree.specs.Views.{plain_expr, plain_field, plain_declarator, plain_stmt}
+use Rattle.js_grammar.specs.declared.sort.Sort.{Sort}
+use Rattle.js_grammar.specs.Sorts.{spot, numbered, kind_number}
+use Rattle.js_grammar.specs.Tokens.{starts, is_const}
+use Rattle.js_grammar.specs.Grammar.{Level, Operators, Assignment}
+use Rattle.js_grammar.specs.Reader as read
+use Rattle.js_grammar.specs.Reader.{next_turn, run, readers, and_then, after, after_some, done}
+use Rattle.js_steps.specs.Skipped.{first}
+use Rattle.js_steps.proofs.Loops as loops
+use Rattle.js_steps.proofs.Using as using
+use Rattle.js_steps.proofs.Rows as rows
+use Rattle.js_parser.specs.First.{at_first}
+
+-- room
+
+pub no_room : (l : Level) (ts : List Token) → (readers 0).expr l ts ≡ None
+unfolding readers
+no_room l ts = refl
+
+pub no_room_stmt : (ts : List Token) → (readers 0).stmt ts ≡ None
+unfolding readers
+no_room_stmt ts = refl
+
+pub no_room_declarators : (k : DeclareKind) (ts : List Token) → (readers 0).declarators k ts ≡ None
+unfolding readers
+no_room_declarators k ts = refl
+
+pub assignment_in : (room : ℕ) (ts : List Token) → 0 < room → (readers room).expr Assignment ts ≡ read.assignment (room - 1) (readers (room - 1)) ts
+unfolding readers
+assignment_in zero ts h = absurd (omega arith)
+assignment_in (suc n) ts h = rw sub-one refl
+
+pub operators_in : (room k : ℕ) (ts : List Token) → 0 < room → (readers room).expr (Operators k) ts ≡ read.operators (room - 1) (readers (room - 1)) k ts
+unfolding readers
+operators_in zero k ts h = absurd (omega arith)
+operators_in (suc n) k ts h = rw sub-one refl
+
+pub declarators_in : (room : ℕ) (k : DeclareKind) (ts : List Token) → 0 < room → (readers room).declarators k ts ≡ read.declarators_of_kind (room - 1) (readers (room - 1)) k ts
+unfolding readers
+declarators_in zero k ts h = absurd (omega arith)
+declarators_in (suc n) k ts h = rw sub-one refl
+
+pub statement_in : (room : ℕ) (ts : List Token) → 0 < room → (readers room).stmt ts ≡ read.statement (room - 1) (readers (room - 1)) ts
+unfolding readers
+statement_in zero ts h = absurd (omega arith)
+statement_in (suc n) ts h = rw sub-one refl
+
+pub nothing_read : (n : ℕ) → (readers n).expr Assignment [] ≡ None
+unfolding readers
+nothing_read zero = refl
+nothing_read (suc n) = refl
+
+-- tokens that are wanting
+
+pub after_none : {B : Type 0} (k : Sort) (ts : List Token) (f : List Token → Option B) → starts k ts ≡ false → after k ts f ≡ None
+after_none = using.after_none
+
+pub held_none : {A B : Type 0} (g : Token → Option A) (ts : List Token) (f : A → List Token → Option B) → first g ts ≡ None → after_some g ts f ≡ None
+held_none = using.held_none
+
+pub choice_alone : (n line : ℕ) (a : PlainExpr) (ts : List Token) → starts Sort.Question ts ≡ false → read.choice_after n (readers n) line a ts ≡ Some (a, ts)
+choice_alone n line a [] h = refl
+choice_alone n line a (t ∷ ts) h = rw h refl
+
+pub else_alone : (n line : ℕ) (e : PlainExpr) (s : PlainStmt) (ts : List Token) → starts Sort.Else ts ≡ false → read.else_after n (readers n) line e s ts ≡ Some (on line (p.if_alone e s), ts)
+else_alone n line e s [] h = refl
+else_alone n line e s (t ∷ ts) h = rw h refl
+
+pub body_value : (n : ℕ) (t : Token) (xs : List Name) (ts : List Token) → starts Sort.LeftBrace ts ≡ false →
+    read.body n (readers n) t xs ts ≡ and_then ((readers n).expr Assignment ts) (λ e r. Some (at 0 t.line (p.arrow_value (spot t) xs e), r))
+body_value n t xs [] h = rw (nothing_read n) refl
+body_value n t xs (u ∷ ts) h = rw h refl
+
+pub value_alone : (n : ℕ) (alone : PlainDeclarator) (k : DeclareKind) (x : Name) (ts : List Token) → starts Sort.Set ts ≡ false → is_const k ≡ false →
+    read.value_at n (readers n) alone k x ts ≡ Some (alone, ts)
+value_alone n alone k x [] h c = rw c refl
+value_alone n alone k x (t ∷ ts) h c = rw (h, c) refl
+
+pub value_none : (n : ℕ) (alone : PlainDeclarator) (k : DeclareKind) (x : Name) (ts : List Token) → starts Sort.Set ts ≡ false → is_const k ≡ true →
+    read.value_at n (readers n) alone k x ts ≡ None
+value_none n alone k x [] h c = rw c refl
+value_none n alone k x (t ∷ ts) h c = rw (h, c) refl
+
+pub each_none : (n line : ℕ) (k : DeclareKind) (x : Name) → read.each_at n (readers n) line k x [] ≡ None
+each_none n line k x = rw (nothing_read n) refl
+
+pub numbered_is : (t : Token) → numbered t ≡ kind_number t.kind
+numbered_is = using.numbered_is
+
+-- lists
+
+pub elements_turn : (n : ℕ) (c : Sort) (es : List PlainExpr) (ts : List Token) →
+    run (read.elements_step n (readers n) c) es ts ≡ next_turn (run (read.elements_step n (readers n) c)) (read.elements_step n (readers n) c es ts)
+elements_turn = loops.elements_turn
+
+pub elements_begin : (n : ℕ) (c : Sort) (es : List PlainExpr) (ts : List Token) → starts c ts ≡ false →
+    read.elements_step n (readers n) c es ts ≡ and_then ((readers n).expr Assignment ts) (λ e r. read.next_element n (readers n) c (es ++ e ∷ []) r)
+elements_begin n c es [] h = rw (nothing_read n) refl
+elements_begin n c es (t ∷ ts) h = rw h refl
+
+pub next_element_none : (n : ℕ) (c : Sort) (es : List PlainExpr) (ts : List Token) → starts c ts ≡ false → starts Sort.Comma ts ≡ false → read.next_element n (readers n) c es ts ≡ None
+next_element_none n c es [] h k = refl
+next_element_none n c es (t ∷ ts) h k = rw (h, k) refl
+
+pub fields_turn : (n : ℕ) (fs : List PlainField) (ts : List Token) →
+    run (read.fields_step n (readers n)) fs ts ≡ next_turn (run (read.fields_step n (readers n))) (read.fields_step n (readers n) fs ts)
+fields_turn = loops.fields_turn
+
+pub fields_begin : (n : ℕ) (fs : List PlainField) (ts : List Token) → starts Sort.RightBrace ts ≡ false →
+    read.fields_step n (readers n) fs ts ≡ and_then (at_first (read.field_at n (readers n)) ts) (λ f r. read.next_field n (readers n) (fs ++ f ∷ []) r)
+fields_begin n fs [] h = refl
+fields_begin n fs (t ∷ ts) h = rw h refl
+
+pub next_field_none : (n : ℕ) (fs : List PlainField) (ts : List Token) → starts Sort.RightBrace ts ≡ false → starts Sort.Comma ts ≡ false → read.next_field n (readers n) fs ts ≡ None
+next_field_none n fs [] h k = refl
+next_field_none n fs (t ∷ ts) h k = rw (h, k) refl
+
+pub declarators_turn : (n : ℕ) (k : DeclareKind) (ds : List PlainDeclarator) (ts : List Token) →
+    run (read.declarators_step n (readers n) k) ds ts ≡ next_turn (run (read.declarators_step n (readers n) k)) (read.declarators_step n (readers n) k ds ts)
+declarators_turn = loops.declarators_turn
+
+pub next_declarator_stop : (n : ℕ) (ds : List PlainDeclarator) (ts : List Token) → starts Sort.Comma ts ≡ false → read.next_declarator n (readers n) ds ts ≡ Some (done ds ts)
+next_declarator_stop n ds [] h = refl
+next_declarator_stop n ds (t ∷ ts) h = rw h refl
+
+pub statements_turn : (n : ℕ) (ss : List PlainStmt) (ts : List Token) →
+    run (read.statements_step n (readers n)) ss ts ≡ next_turn (run (read.statements_step n (readers n))) (read.statements_step n (readers n) ss ts)
+statements_turn = loops.statements_turn
+
+pub called_turn : (n line : ℕ) (e : PlainExpr) (ts : List Token) →
+    run (read.called_step n (readers n) line) e ts ≡ next_turn (run (read.called_step n (readers n) line)) (read.called_step n (readers n) line e ts)
+called_turn = loops.called_turn
+
+pub operated_turn : (n line k : ℕ) (e : PlainExpr) (ts : List Token) →
+    run (read.operated_step n (readers n) line k) e ts ≡ next_turn (run (read.operated_step n (readers n) line k)) (read.operated_step n (readers n) line k e ts)
+operated_turn = loops.operated_turn
+
+pub map_push : (es : List Expr) (e : Expr) → map plain_expr (es ++ e ∷ []) ≡ map plain_expr es ++ plain_expr e ∷ []
+map_push = rows.map_push
+
+pub map_push_field : (es : List Field) (e : Field) → map plain_field (es ++ e ∷ []) ≡ map plain_field es ++ plain_field e ∷ []
+map_push_field = rows.map_push_field
+
+pub map_push_declarator : (es : List Declarator) (e : Declarator) → map plain_declarator (es ++ e ∷ []) ≡ map plain_declarator es ++ plain_declarator e ∷ []
+map_push_declarator = rows.map_push_declarator
+
+pub map_push_stmt : (es : List Stmt) (e : Stmt) → map plain_stmt (es ++ e ∷ []) ≡ map plain_stmt es ++ plain_stmt e ∷ []
+map_push_stmt = rows.map_push_stmt

@@ -1,0 +1,17 @@
+//! Why tokens are refused.
+use js_steps::Stop;
+use thiserror::Error;
+
+/// Why no tree is made of tokens.
+#[derive(Clone, Copy, Debug, PartialEq, Eq, Error)]
+pub enum ParseFault {
+    /// A token that the language refuses; the line of the first.
+    #[error("an unsupported token, on line {0}")]
+    Unsupported(u32),
+    /// The tokens spell no tree of nesting at most 200; a line of the text.
+    #[error("no tree, on line {0}")]
+    NoTree(u32),
+    /// Want of memory.
+    #[error("out of memory")]
+    Memory,
+}

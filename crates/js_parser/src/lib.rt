@@ -1,0 +1,10 @@
+//! Trees read from tokens.
+#![tactic(auto)]
+
+mod fault;
+mod parser;
+mod program;
+mod refused;
+
+pub use fault::ParseFault;
+pub use program::parse;

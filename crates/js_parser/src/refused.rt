@@ -1,0 +1,46 @@
+//! Tokens that the language refuses.
+ghost use Rattle.std.specs.Prelude.{◌≡◌, false};
+ghost use Rattle.js_grammar.specs.Sorts.{is};
+ghost use Rattle.js_grammar.specs.Unsupported.{is_prototype, is_refused, first_unsupported};
+ghost use Rattle.js_steps.specs.Seen.{seen};
+
+use js_data::Text;
+use js_grammar::Sort;
+use js_lexer::Kind;
+use js_steps::Lexeme;
+use js_steps::cursor::{begins, is_sort, next};
+
+fn is_prototype_key(text: &Text, colon: bool) -> bool
+    ensures { result ≡ is_prototype text.now colon }
+{
+    colon && text.as_str() == "__proto__"
+}
+
+fn is_refused_kind(kind: &Kind, unsupported: bool, colon: bool) -> bool
+    ensures { result ≡ is_refused kind.now unsupported colon }
+{
+    match kind {
+        Kind::Name(text) => is_prototype_key(text, colon),
+        Kind::Words(text) => is_prototype_key(text, colon),
+        Kind::Word(_) => unsupported && !colon,
+        Kind::Mark(_) => unsupported,
+        Kind::Number(_) => false,
+    }
+}
+
+/// The line of the first token that the language refuses.
+pub fn unsupported_line(tokens: &[Lexeme]) -> Option<u32>
+    ensures { result ≡ first_unsupported false (seen tokens.now) }
+{
+    let mut rest = tokens;
+    let mut dot = false;
+    'more: while let Some((token, behind)) = next(rest) {
+        let unsupported = is_sort(token, Sort::Unsupported);
+        if !dot && is_refused_kind(&token.token.kind, unsupported, begins(behind, Sort::Colon)) {
+            return Some(token.token.line);
+        }
+        dot = is_sort(token, Sort::Dot);
+        rest = behind;
+    }
+    None
+}

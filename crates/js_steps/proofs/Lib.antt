@@ -1,0 +1,3 @@
+pub mod Using
+pub mod Rows
+pub mod Loops

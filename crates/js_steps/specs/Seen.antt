@@ -1,0 +1,7 @@
+-- The tokens of lexemes.
+use Rattle.std.specs.Prelude.{List, map}
+use Rattle.js_lexer.specs.declared.token.Token.{Token}
+use Rattle.js_steps.specs.declared.lexeme.Lexeme.{Lexeme}
+
+abbrev pub seen : List Lexeme → List Token
+seen all = map (λ (x : Lexeme). x.token) all

@@ -1,0 +1,312 @@
+//! Tests on the first tokens.
+ghost use Rattle.std.specs.Prelude.{◌≡◌, is_some};
+ghost use Rattle.js_grammar.specs.Sorts.{named};
+ghost use Rattle.js_grammar.specs.Tokens.{operator, level_of, at_level, operator_at, sort_sign, sign, sort_step, step, sort_assign, assign_op, sort_declare, declares, lexical, is_of, starts_step, starts_update, starts_arrow, arrow_follows, starts_function, starts_set, starts_assign, starts_end, starts_lexical, starts_of, starts_name_of, starts_for_of};
+ghost use Rattle.js_steps.specs.Seen.{seen};
+
+use crate::Lexeme;
+use crate::cursor::{is_sort, next};
+use js_grammar::Sort;
+use js_lexer::Kind;
+use js_tree::{AssignOp, DeclareKind, Operator, Sign, Step};
+
+/// The binary operator that a mark is.
+fn operator_of(sort: Sort) -> Option<Operator>
+    ensures { result ≡ operator sort }
+{
+    match sort {
+        Sort::Or => Some(Operator::Or),
+        Sort::And => Some(Operator::And),
+        Sort::Same => Some(Operator::Same),
+        Sort::NotSame => Some(Operator::NotSame),
+        Sort::Equal => Some(Operator::Equal),
+        Sort::NotEqual => Some(Operator::NotEqual),
+        Sort::Less => Some(Operator::Less),
+        Sort::LessOrEqual => Some(Operator::LessOrEqual),
+        Sort::Greater => Some(Operator::Greater),
+        Sort::GreaterOrEqual => Some(Operator::GreaterOrEqual),
+        Sort::Plus => Some(Operator::Add),
+        Sort::Minus => Some(Operator::Subtract),
+        Sort::Star => Some(Operator::Multiply),
+        Sort::Slash => Some(Operator::Divide),
+        Sort::Percent => Some(Operator::Remainder),
+        _ => None,
+    }
+}
+
+/// The level of an operator, 0 for the tightest.
+fn level(operator: Operator) -> u8
+    ensures { result ≡ level_of operator }
+{
+    match operator {
+        Operator::Multiply => 0,
+        Operator::Divide => 0,
+        Operator::Remainder => 0,
+        Operator::Add => 1,
+        Operator::Subtract => 1,
+        Operator::Less => 2,
+        Operator::LessOrEqual => 2,
+        Operator::Greater => 2,
+        Operator::GreaterOrEqual => 2,
+        Operator::Same => 3,
+        Operator::NotSame => 3,
+        Operator::Equal => 3,
+        Operator::NotEqual => 3,
+        Operator::And => 4,
+        Operator::Or => 5,
+    }
+}
+
+/// The operator of the level that a token is.
+#[tactic(auto, using(crate::proofs::Using::operator_at_is))]
+pub fn operator_in(wanted: u8, token: &Lexeme) -> Option<Operator>
+    ensures { result ≡ operator_at wanted token.now.token }
+{
+    let found = operator_of(token.sort)?;
+    if level(found) == wanted {
+        Some(found)
+    } else {
+        None
+    }
+}
+
+/// The unary operator that a mark is.
+fn sign_of(sort: Sort) -> Option<Sign>
+    ensures { result ≡ sort_sign sort }
+{
+    match sort {
+        Sort::Not => Some(Sign::Not),
+        Sort::Minus => Some(Sign::Minus),
+        Sort::Plus => Some(Sign::Plus),
+        _ => None,
+    }
+}
+
+/// The unary operator that a token is.
+#[tactic(auto, using(crate::proofs::Using::sign_is))]
+pub fn sign_at(token: &Lexeme) -> Option<Sign>
+    ensures { result ≡ sign token.now.token }
+{
+    sign_of(token.sort)
+}
+
+fn step_of(sort: Sort) -> Option<Step>
+    ensures { result ≡ sort_step sort }
+{
+    match sort {
+        Sort::Increment => Some(Step::Increment),
+        Sort::Decrement => Some(Step::Decrement),
+        _ => None,
+    }
+}
+
+/// Whether a token is `++` or `--`, and which.
+#[tactic(auto, using(crate::proofs::Using::step_is))]
+pub fn step_at(token: &Lexeme) -> Option<Step>
+    ensures { result ≡ step token.now.token }
+{
+    step_of(token.sort)
+}
+
+fn assign_of(sort: Sort) -> Option<AssignOp>
+    ensures { result ≡ sort_assign sort }
+{
+    match sort {
+        Sort::Set => Some(AssignOp::Set),
+        Sort::AddSet => Some(AssignOp::Add),
+        Sort::SubtractSet => Some(AssignOp::Subtract),
+        Sort::MultiplySet => Some(AssignOp::Multiply),
+        Sort::DivideSet => Some(AssignOp::Divide),
+        Sort::RemainderSet => Some(AssignOp::Remainder),
+        _ => None,
+    }
+}
+
+/// The assignment's operator that a token is.
+#[tactic(auto, using(crate::proofs::Using::assign_op_is))]
+pub fn assign_at(token: &Lexeme) -> Option<AssignOp>
+    ensures { result ≡ assign_op token.now.token }
+{
+    assign_of(token.sort)
+}
+
+fn declares_of(sort: Sort) -> Option<DeclareKind>
+    ensures { result ≡ sort_declare sort }
+{
+    match sort {
+        Sort::Const => Some(DeclareKind::Const),
+        Sort::Let => Some(DeclareKind::Let),
+        Sort::Var => Some(DeclareKind::Var),
+        _ => None,
+    }
+}
+
+/// The word of a declaration that a token is.
+#[tactic(auto, using(crate::proofs::Using::declares_is))]
+pub fn declares_at(token: &Lexeme) -> Option<DeclareKind>
+    ensures { result ≡ declares token.now.token }
+{
+    declares_of(token.sort)
+}
+
+/// `const` or `let`, where a token is one.
+#[tactic(auto, using(crate::proofs::Using::lexical_is))]
+pub fn lexical_at(token: &Lexeme) -> Option<DeclareKind>
+    ensures { result ≡ lexical token.now.token }
+{
+    match declares_at(token) {
+        Some(DeclareKind::Const) => Some(DeclareKind::Const),
+        Some(DeclareKind::Let) => Some(DeclareKind::Let),
+        _ => None,
+    }
+}
+
+/// Whether a token is a name.
+#[tactic(auto, using(crate::proofs::Using::named_is))]
+pub fn is_name(token: &Lexeme) -> bool
+    ensures { result ≡ is_some (named token.now.token) }
+{
+    match &token.token.kind {
+        Kind::Name(_) => true,
+        _ => false,
+    }
+}
+
+/// Whether a token is the name `of`.
+#[tactic(auto, using(crate::proofs::Using::named_is, crate::proofs::Using::is_of_is))]
+fn is_of_at(token: &Lexeme) -> bool
+    ensures { result ≡ is_of token.now.token }
+{
+    match &token.token.kind {
+        Kind::Name(text) => text.as_str() == "of",
+        _ => false,
+    }
+}
+
+fn begins_step(tokens: &[Lexeme]) -> bool
+    ensures { result ≡ starts_step (seen tokens.now) }
+{
+    match next(tokens) {
+        Some((token, _)) => step_at(token).is_some() && !token.token.new_line,
+        None => false,
+    }
+}
+
+/// Whether the list begins with a name and, on its line, `++` or `--`.
+pub fn begins_update(tokens: &[Lexeme]) -> bool
+    ensures { result ≡ starts_update (seen tokens.now) }
+{
+    match next(tokens) {
+        Some((token, rest)) => is_name(token) && begins_step(rest),
+        None => false,
+    }
+}
+
+/// Whether the list begins with `=>` on the line of the token before it.
+pub fn begins_arrow(tokens: &[Lexeme]) -> bool
+    ensures { result ≡ starts_arrow (seen tokens.now) }
+{
+    match next(tokens) {
+        Some((token, _)) => is_sort(token, Sort::Arrow) && !token.token.new_line,
+        None => false,
+    }
+}
+
+/// Whether `=>` follows the `)` that closes the pair that is open.
+pub fn arrow_behind<'a>(tokens: &'a [Lexeme]) -> bool
+    ensures { result ≡ arrow_follows (seen tokens.now) 0 }
+{
+    let mut rest = tokens;
+    let mut depth: usize = 0;
+    'unclosed: while let Some((token, behind)) = next(rest) {
+        match token.sort {
+            Sort::LeftParen => depth += 1,
+            Sort::RightParen if depth == 0 => return begins_arrow(behind),
+            Sort::RightParen => depth -= 1,
+            _ => {}
+        }
+        rest = behind;
+    }
+    false
+}
+
+/// Whether an arrow function begins here.
+pub fn begins_function<'a>(tokens: &'a [Lexeme]) -> bool
+    ensures { result ≡ starts_function (seen tokens.now) }
+{
+    let Some((token, rest)) = next(tokens) else {
+        return false;
+    };
+    match token.sort {
+        Sort::Name => begins_arrow(rest),
+        Sort::LeftParen => arrow_behind(rest),
+        _ => false,
+    }
+}
+
+fn begins_set(tokens: &[Lexeme]) -> bool
+    ensures { result ≡ starts_set (seen tokens.now) }
+{
+    match next(tokens) {
+        Some((token, _)) => assign_at(token).is_some(),
+        None => false,
+    }
+}
+
+/// Whether the list begins with a name and an assignment's operator.
+pub fn begins_assign(tokens: &[Lexeme]) -> bool
+    ensures { result ≡ starts_assign (seen tokens.now) }
+{
+    match next(tokens) {
+        Some((token, rest)) => is_name(token) && begins_set(rest),
+        None => false,
+    }
+}
+
+/// Whether a list of statements ends here.
+pub fn begins_end(tokens: &[Lexeme]) -> bool
+    ensures { result ≡ starts_end (seen tokens.now) }
+{
+    match next(tokens) {
+        Some((token, _)) => is_sort(token, Sort::RightBrace),
+        None => true,
+    }
+}
+
+/// Whether a `const` or `let` declaration begins here.
+pub fn begins_lexical(tokens: &[Lexeme]) -> bool
+    ensures { result ≡ starts_lexical (seen tokens.now) }
+{
+    match next(tokens) {
+        Some((token, _)) => lexical_at(token).is_some(),
+        None => false,
+    }
+}
+
+fn begins_of(tokens: &[Lexeme]) -> bool
+    ensures { result ≡ starts_of (seen tokens.now) }
+{
+    match next(tokens) {
+        Some((token, _)) => is_of_at(token),
+        None => false,
+    }
+}
+
+fn begins_name_of(tokens: &[Lexeme]) -> bool
+    ensures { result ≡ starts_name_of (seen tokens.now) }
+{
+    match next(tokens) {
+        Some((token, rest)) => is_name(token) && begins_of(rest),
+        None => false,
+    }
+}
+
+/// Whether the list begins with `const` or `let`, a name and `of`.
+pub fn begins_for_of(tokens: &[Lexeme]) -> bool
+    ensures { result ≡ starts_for_of (seen tokens.now) }
+{
+    match next(tokens) {
+        Some((token, rest)) => lexical_at(token).is_some() && begins_name_of(rest),
+        None => false,
+    }
+}
