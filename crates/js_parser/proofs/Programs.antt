@@ -22,7 +22,7 @@ items_begin n is t ts = refl
 pub map_push_item : (is : List Item) (i : Item) → map plain_item (is ++ i ∷ []) ≡ map plain_item is ++ plain_item i ∷ []
 map_push_item = map_one plain_item
 
-pub tree_found : (ts : List Token) (is r : _) → read.items 199 (readers 199) ts ≡ Some (is, r) → IsTree 200 ts is
+pub tree_found : (ts : List Token) (is : List PlainItem) (r : List Token) → read.items 199 (readers 199) ts ≡ Some (is, r) → IsTree 200 ts is
 tree_found ts is r e = unique.tree_found 199 ts is r e
 
 pub tree_missed : (ts : List Token) → read.items 199 (readers 199) ts ≡ None → HasNoTree 200 ts

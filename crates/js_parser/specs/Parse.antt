@@ -1,5 +1,6 @@
 -- What parsing answers.
-use Rattle.std.specs.Prelude.{ℕ, ◌≡◌, false, List, [], Option, Some, None, Result, Ok, Err}
+use Rattle.std.specs.Prelude.{ℕ, ◌≡◌, false, List, [], ◌∷◌, map, Option, Some, None, Result, Ok, Err}
+use Rattle.std.specs.List.{Contains}
 use Rattle.js_lexer.specs.declared.token.Token.{Token}
 use Rattle.js_tree.specs.declared.tree.Tree.{Tree}
 use Rattle.js_tree.specs.Views.{plain_tree}
@@ -10,20 +11,25 @@ use Rattle.js_steps.specs.declared.stop.Stop.{Stop}
 use Rattle.js_steps.specs.declared.stop.Stop.TheVariants.{NoTree, Memory}
 use Rattle.js_parser.specs.declared.fault.ParseFault.{ParseFault}
 
+-- the line of some token, or 1 where there is none
+abbrev pub IsLineIn : List Token → ℕ → Type 0
+IsLineIn [] line = line ≡ 1
+IsLineIn (t ∷ ts) line = Contains (map (λ (x : Token). x.line) (t ∷ ts)) line
+
 -- a token is refused, the first of them on the line; or none is, and no tree of nesting at most 200 is spelled
 abbrev pub IsParseFault : List Token → ParseFault → Type 0
 IsParseFault ts (ParseFault.Unsupported line) = first_unsupported false ts ≡ Some line
-IsParseFault ts (ParseFault.NoTree line) = (first_unsupported false ts ≡ None) × HasNoTree 200 ts
+IsParseFault ts (ParseFault.NoTree line) = (first_unsupported false ts ≡ None) × HasNoTree 200 ts × IsLineIn ts line
 IsParseFault ts ParseFault.Memory = Unit {0}
 
 -- reading all tokens gives the tree, or nothing where there is none
 abbrev pub IsItems : List Token → Result Tree Stop → Type 0
 IsItems ts (Ok tree) = items 199 (readers 199) ts ≡ Some (plain_tree tree, [])
-IsItems ts (Err (NoTree line)) = items 199 (readers 199) ts ≡ None
+IsItems ts (Err (NoTree left)) = items 199 (readers 199) ts ≡ None
 IsItems ts (Err Memory) = Unit {0}
 
--- the refusal is handed on
-abbrev pub SameFault : Stop → ParseFault → Type 0
-SameFault (NoTree line) (ParseFault.NoTree other) = Unit {0}
-SameFault Memory ParseFault.Memory = Unit {0}
-SameFault stop fault = ⊥
+-- the refusal is handed on, with a line of the text
+abbrev pub IsFault : List Token → Stop → ParseFault → Type 0
+IsFault ts (NoTree left) (ParseFault.NoTree line) = IsLineIn ts line
+IsFault ts Memory ParseFault.Memory = Unit {0}
+IsFault ts stop fault = ⊥

@@ -6,7 +6,7 @@ ghost use Rattle.js_grammar.specs.Trees.{IsTree};
 ghost use Rattle.js_grammar.specs.Unsupported.{first_unsupported};
 ghost use Rattle.js_steps.specs.Seen.{seen};
 ghost use Rattle.js_steps.specs.Parsed.{IsItem};
-ghost use Rattle.js_parser.specs.Parse.{IsItems, IsParseFault, SameFault};
+ghost use Rattle.js_parser.specs.Parse.{IsItems, IsLineIn, IsParseFault, IsFault};
 
 use crate::fault::ParseFault;
 use crate::parser::{closed_of, statement_of};
@@ -62,19 +62,30 @@ fn tree_of(alloc: Global, tokens: &[Lexeme]) -> Result<Tree, Stop>
 }
 
 /// The line of the last token.
-fn last_line(tokens: &[Token]) -> u32 {
+fn last_line(tokens: &[Token]) -> u32
+    ensures { IsLineIn tokens.now result }
+{
     match tokens.last() {
         Some(token) => token.line,
         None => 1,
     }
 }
 
+/// The line of the token where so many are left, or that of the last.
+fn line_where(tokens: &[Token], left: usize) -> u32
+    ensures { IsLineIn tokens.now result }
+{
+    match tokens.get(tokens.len().saturating_sub(left)) {
+        Some(token) => token.line,
+        None => last_line(tokens),
+    }
+}
+
 fn fault_of(stop: Stop, tokens: &[Token]) -> ParseFault
-    ensures { SameFault stop result }
+    ensures { IsFault tokens.now stop result }
 {
     match stop {
-        Stop::NoTree(0) => ParseFault::NoTree(last_line(tokens)),
-        Stop::NoTree(line) => ParseFault::NoTree(line),
+        Stop::NoTree(left) => ParseFault::NoTree(line_where(tokens, left)),
         Stop::Memory => ParseFault::Memory,
     }
 }

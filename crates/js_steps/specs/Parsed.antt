@@ -27,68 +27,68 @@ use Rattle.js_steps.specs.Seen.{seen}
 
 abbrev pub IsNames : Found (List Name) → Result ReadNames Stop → Type 0
 IsNames o (Ok found) = o ≡ Some (found.names.items, seen found.rest.now)
-IsNames o (Err (NoTree line)) = o ≡ None
+IsNames o (Err (NoTree left)) = o ≡ None
 IsNames o (Err Memory) = Unit {0}
 
 abbrev pub IsExpr : Found PlainExpr → Result ReadExpr Stop → Type 0
 IsExpr o (Ok found) = o ≡ Some (plain_expr found.tree, seen found.rest.now)
-IsExpr o (Err (NoTree line)) = o ≡ None
+IsExpr o (Err (NoTree left)) = o ≡ None
 IsExpr o (Err Memory) = Unit {0}
 
 abbrev pub IsExprs : Found (List PlainExpr) → Result ReadExprs Stop → Type 0
 IsExprs o (Ok found) = o ≡ Some (map plain_expr found.trees.items, seen found.rest.now)
-IsExprs o (Err (NoTree line)) = o ≡ None
+IsExprs o (Err (NoTree left)) = o ≡ None
 IsExprs o (Err Memory) = Unit {0}
 
 abbrev pub IsPerhaps : Found PlainPerhaps → Result ReadPerhaps Stop → Type 0
 IsPerhaps o (Ok found) = o ≡ Some (perhaps (option_map plain_expr found.tree), seen found.rest.now)
-IsPerhaps o (Err (NoTree line)) = o ≡ None
+IsPerhaps o (Err (NoTree left)) = o ≡ None
 IsPerhaps o (Err Memory) = Unit {0}
 
 abbrev pub IsField : Found PlainField → Result ReadField Stop → Type 0
 IsField o (Ok found) = o ≡ Some (plain_field found.tree, seen found.rest.now)
-IsField o (Err (NoTree line)) = o ≡ None
+IsField o (Err (NoTree left)) = o ≡ None
 IsField o (Err Memory) = Unit {0}
 
 abbrev pub IsFields : Found (List PlainField) → Result ReadFields Stop → Type 0
 IsFields o (Ok found) = o ≡ Some (map plain_field found.trees.items, seen found.rest.now)
-IsFields o (Err (NoTree line)) = o ≡ None
+IsFields o (Err (NoTree left)) = o ≡ None
 IsFields o (Err Memory) = Unit {0}
 
 abbrev pub IsDeclarator : Found PlainDeclarator → Result ReadDeclarator Stop → Type 0
 IsDeclarator o (Ok found) = o ≡ Some (plain_declarator found.tree, seen found.rest.now)
-IsDeclarator o (Err (NoTree line)) = o ≡ None
+IsDeclarator o (Err (NoTree left)) = o ≡ None
 IsDeclarator o (Err Memory) = Unit {0}
 
 abbrev pub IsDeclarators : Found (List PlainDeclarator) → Result ReadDeclarators Stop → Type 0
 IsDeclarators o (Ok found) = o ≡ Some (map plain_declarator found.trees.items, seen found.rest.now)
-IsDeclarators o (Err (NoTree line)) = o ≡ None
+IsDeclarators o (Err (NoTree left)) = o ≡ None
 IsDeclarators o (Err Memory) = Unit {0}
 
 abbrev pub IsStart : Found PlainStart → Result ReadStart Stop → Type 0
 IsStart o (Ok found) = o ≡ Some (plain_start found.tree, seen found.rest.now)
-IsStart o (Err (NoTree line)) = o ≡ None
+IsStart o (Err (NoTree left)) = o ≡ None
 IsStart o (Err Memory) = Unit {0}
 
 abbrev pub IsStmt : Found PlainStmt → Result ReadStmt Stop → Type 0
 IsStmt o (Ok found) = o ≡ Some (plain_stmt found.tree, seen found.rest.now)
-IsStmt o (Err (NoTree line)) = o ≡ None
+IsStmt o (Err (NoTree left)) = o ≡ None
 IsStmt o (Err Memory) = Unit {0}
 
 abbrev pub IsStmts : Found (List PlainStmt) → Result ReadStmts Stop → Type 0
 IsStmts o (Ok found) = o ≡ Some (map plain_stmt found.trees.items, seen found.rest.now)
-IsStmts o (Err (NoTree line)) = o ≡ None
+IsStmts o (Err (NoTree left)) = o ≡ None
 IsStmts o (Err Memory) = Unit {0}
 
 abbrev pub IsItem : Found PlainItem → Result ReadItem Stop → Type 0
 IsItem o (Ok found) = o ≡ Some (plain_item found.tree, seen found.rest.now)
-IsItem o (Err (NoTree line)) = o ≡ None
+IsItem o (Err (NoTree left)) = o ≡ None
 IsItem o (Err Memory) = Unit {0}
 
 -- one turn of a chain
 abbrev pub IsTurn : Option (Turn PlainExpr) → Result ReadExpr Stop → Type 0
 IsTurn o (Ok found) = o ≡ Some (again (plain_expr found.tree) (seen found.rest.now))
-IsTurn o (Err (NoTree line)) = o ≡ None
+IsTurn o (Err (NoTree left)) = o ≡ None
 IsTurn o (Err Memory) = Unit {0}
 
 -- the tree is made, unless memory is wanting

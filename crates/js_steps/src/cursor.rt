@@ -35,9 +35,9 @@ pub fn line_at(tokens: &[Lexeme]) -> u32
 
 /// No tree is spelled here.
 pub fn no_tree(tokens: &[Lexeme]) -> Stop
-    ensures { result ≡ NoTree (line_of (seen tokens.now)) }
+    ensures { result ≡ NoTree (length tokens.now) }
 {
-    Stop::NoTree(line_at(tokens))
+    Stop::NoTree(tokens.len())
 }
 
 fn number_of(sort: Sort) -> u8

@@ -4,8 +4,8 @@ use std::alloc::{AllocError, AllocFailed};
 /// Why no tree was made.
 #[derive(Clone, Copy, PartialEq, Eq, Debug)]
 pub enum Stop {
-    /// No tree is spelled; the line of the token where none was found, or 0 at the text's end.
-    NoTree(u32),
+    /// No tree is spelled; how many tokens were left where none was found.
+    NoTree(usize),
     /// Want of memory.
     Memory,
 }
