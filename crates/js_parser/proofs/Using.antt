@@ -1,5 +1,6 @@
 -- What the readers do at one step.
-use Rattle.std.proofs.Common.{◌≡◌, ℕ, zero, suc, ◌+◌, ◌-◌, ◌<◌, Bool, true, false, List, [], ◌∷◌, ◌++◌, map, Option, Some, None, refl, sub-one, arith}
+use Rattle.std.proofs.Common.{◌≡◌, ℕ, zero, suc, ◌+◌, ◌-◌, ◌<◌, ◌≤◌, ◌∙◌, add-one, subst, inl, inr, Err, Bool, true, false, List, [], ◌∷◌, ◌++◌, map, Option, Some, None, refl, sub-one, arith}
+use Rattle.std.proofs.Math.Nat.{eq-or-lt_of_le}
 use Rattle.js_lexer.specs.declared.token.Token.{Token}
 use Rattle.js_tree.specs.declared.tree.Name.{Name}
 use Rattle.js_tree.specs.declared.tree.Expr.{Expr}
@@ -12,11 +13,14 @@ use Rattle.js_tree.specs.Plain.{PlainExpr, at, on, PlainField, PlainDeclarator, 
 use Rattle.js_tree.specs.Views.{plain_expr, plain_field, plain_declarator, plain_stmt}
 use Rattle.js_grammar.specs.declared.sort.Sort.{Sort}
 use Rattle.js_grammar.specs.Sorts.{spot, numbered, kind_number}
-use Rattle.js_grammar.specs.Tokens.{starts, is_const}
+use Rattle.js_grammar.specs.Tokens.{starts, line_of, is_const}
 use Rattle.js_grammar.specs.Grammar.{Level, Operators, Assignment}
 use Rattle.js_grammar.specs.Reader as read
 use Rattle.js_grammar.specs.Reader.{next_turn, run, readers, and_then, after, after_some, done}
 use Rattle.js_steps.specs.Skipped.{first}
+use Rattle.js_steps.specs.Parsed.{IsExpr}
+use Rattle.js_steps.specs.declared.stop.Stop.{Stop}
+use Rattle.js_steps.specs.declared.stop.Stop.TheVariants.{NoTree, Memory}
 use Rattle.js_steps.proofs.Loops as loops
 use Rattle.js_steps.proofs.Using as using
 use Rattle.js_steps.proofs.Rows as rows
@@ -145,6 +149,23 @@ called_turn = loops.called_turn
 pub operated_turn : (n line k : ℕ) (e : PlainExpr) (ts : List Token) →
     run (read.operated_step n (readers n) line k) e ts ≡ next_turn (run (read.operated_step n (readers n) line k)) (read.operated_step n (readers n) line k e ts)
 operated_turn = loops.operated_turn
+
+pub operators_next : (n k : ℕ) (ts : List Token) (e : PlainExpr) (r : List Token) → read.operators n (readers n) k ts ≡ Some (e, r) →
+    read.operators n (readers n) (k + 1) ts ≡ run (read.operated_step n (readers n) (line_of ts) k) e r
+operators_next n k ts e r h = rw (add-one, h) refl
+
+-- where the tighter operands are not spelled, the looser are not
+pub operators_none : (n k level : ℕ) (ts : List Token) → k ≤ level → read.operators n (readers n) k ts ≡ None → read.operators n (readers n) level ts ≡ None
+operators_none n k zero ts h e = subst (λ (x : ℕ). read.operators n (readers n) x ts ≡ None) (let z : k ≡ 0 = omega arith in z) e
+operators_none n k (suc m) ts h e = elim (eq-or-lt_of_le h) as (λ s. read.operators n (readers n) (suc m) ts ≡ None) [
+  inl z ↦ subst (λ (x : ℕ). read.operators n (readers n) x ts ≡ None) z e
+| inr l ↦ rw (operators_none n k m ts (omega arith) e) refl
+]
+
+pub operators_refused : (n k level : ℕ) (ts : List Token) (a : PlainExpr) (r : List Token) (e : Stop) → k < level → read.operators n (readers n) k ts ≡ Some (a, r) →
+    IsExpr (run (read.operated_step n (readers n) (line_of ts) k) a r) (Err e) → IsExpr (read.operators n (readers n) level ts) (Err e)
+operators_refused n k level ts a r (NoTree left) h s i = operators_none n (k + 1) level ts (omega arith) (operators_next n k ts a r s ∙ i)
+operators_refused n k level ts a r Memory h s i = tt
 
 pub map_push : (es : List Expr) (e : Expr) → map plain_expr (es ++ e ∷ []) ≡ map plain_expr es ++ plain_expr e ∷ []
 map_push = rows.map_push

@@ -4,7 +4,7 @@ ghost use Rattle.js_tree.specs.Views.{plain_expr};
 ghost use Rattle.js_grammar.specs.Tokens.{step, is_const};
 ghost use Rattle.js_parser.specs.First.{at_first};
 ghost use Rattle.js_grammar.specs.Grammar.{Assignment, Operators};
-ghost use Rattle.js_grammar.specs.Reader.{readers, postfix_at, break_at, continue_at, round_at, function_at, assign_at as assign_read, assignment as assignment_read, statement as statement_read, primary, primary_at, elements, field_at, fields, declarator, declarators_of_kind, statements as statements_read, closed_statements, called, member_turn, index_turn, call_turn, signed, step_at as step_read, operators, choice, arrow, body_at, test, block_at, declaration_at, if_at, while_at, start, perhaps, for_three_at, each_at, for_each_at, for_at, return_at, expression_at};
+ghost use Rattle.js_grammar.specs.Reader.{readers, run, operated_step, postfix_at, break_at, continue_at, round_at, function_at, assign_at as assign_read, assignment as assignment_read, statement as statement_read, primary, primary_at, elements, field_at, fields, declarator, declarators_of_kind, statements as statements_read, closed_statements, called, member_turn, index_turn, call_turn, signed, step_at as step_read, operators, choice, arrow, body_at, test, block_at, declaration_at, if_at, while_at, start, perhaps, for_three_at, each_at, for_each_at, for_at, return_at, expression_at};
 ghost use Rattle.js_steps.specs.Seen.{seen};
 ghost use Rattle.js_steps.specs.Parsed.{IsExpr, IsExprs, IsPerhaps, IsField, IsFields, IsDeclarator, IsDeclarators, IsStart, IsStmt, IsStmts, IsTurn};
 
@@ -59,6 +59,8 @@ fn name_at<'a>(tokens: &'a [Lexeme]) -> Result<ReadExpr<'a>, Stop>
     let (name, rest) = name(tokens)?;
     Ok(build::use_of(line, name, rest))
 }
+
+/// Whether the word is `const`.
 fn is_constant(kind: DeclareKind) -> bool
     ensures { result ≡ is_const kind }
 {
@@ -68,6 +70,7 @@ fn is_constant(kind: DeclareKind) -> bool
         DeclareKind::Var => false,
     }
 }
+
 /// `++` or `--` behind a name.
 fn postfix_of<'a>(tokens: &'a [Lexeme]) -> Result<ReadExpr<'a>, Stop>
     ensures read { IsExpr (at_first (postfix_at 0 (readers 0)) (seen tokens.now)) result }
@@ -419,9 +422,36 @@ pub fn signed_of<'a>(alloc: Global, tokens: &'a [Lexeme], inner: u32) -> Result<
     build::unary_of(alloc, token.token.line, sign, found)
 }
 
-/// Operands with operators of the level or tighter between them.
+/// An operand and so many operators of the level with their operands, to the left.
 #[cycle(parser)]
 #[tactic(auto, using(crate::proofs::Using::operated_turn))]
+pub fn chain_of<'a>(alloc: Global, line: u32, level: u8, first: ReadExpr<'a>, inner: u32) -> Result<ReadExpr<'a>, Stop>
+    requires room { inner < 200 }
+    requires level { level < 6 }
+    requires first { first.depth ≤ inner + 1 }
+    ensures read { IsExpr (run (operated_step inner (readers inner) line level) (plain_expr first.entry.tree) (seen first.entry.rest.now)) result }
+    ensures within { IfOk result (λ found. found.depth ≤ inner + 1) }
+    ensures shorter { IfOk result (λ found. length found.rest.now ≤ length first.entry.rest.now) }
+{
+    let mut left = first;
+    'more: loop {
+        let Some((token, rest)) = next(left.rest) else {
+            return Ok(left);
+        };
+        let Some(operator) = operator_in(level, token) else {
+            return Ok(left);
+        };
+        if left.depth > inner {
+            return Err(no_tree(left.rest));
+        }
+        let right = operand(alloc, level, rest, inner)?;
+        left = build::binary_of(alloc, line, operator, left, right)?;
+    }
+}
+
+/// Operands with operators tighter than the level between them.
+#[cycle(parser)]
+#[tactic(auto, using(crate::proofs::Using::operators_next, crate::proofs::Using::operators_refused, crate::proofs::Using::operators_none))]
 pub fn operators_of<'a>(alloc: Global, level: u8, tokens: &'a [Lexeme], inner: u32) -> Result<ReadExpr<'a>, Stop>
     requires room { inner < 200 }
     requires level { level ≤ 6 }
@@ -429,25 +459,12 @@ pub fn operators_of<'a>(alloc: Global, level: u8, tokens: &'a [Lexeme], inner: u
     ensures within { IfOk result (λ found. found.depth ≤ inner + 1) }
     ensures shorter { IfOk result (λ found. length found.rest.now < length tokens.now) }
 {
-    if level == 0 {
-        return signed_of(alloc, tokens, inner);
-    }
-    let tighter = level - 1;
     let line = line_at(tokens);
-    let mut left = operators_of(alloc, tighter, tokens, inner)?;
-    'more: loop {
-        let Some((token, rest)) = next(left.rest) else {
-            return Ok(left);
-        };
-        let Some(operator) = operator_in(tighter, token) else {
-            return Ok(left);
-        };
-        if left.depth > inner {
-            return Err(no_tree(left.rest));
-        }
-        let right = operand(alloc, tighter, rest, inner)?;
-        left = build::binary_of(alloc, line, operator, left, right)?;
+    let mut left = signed_of(alloc, tokens, inner)?;
+    'tighter: for tight in 0..level {
+        left = chain_of(alloc, line, tight, left, inner)?;
     }
+    Ok(left)
 }
 
 /// A test and two branches, or the test alone.

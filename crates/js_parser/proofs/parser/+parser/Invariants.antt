@@ -1,4 +1,4 @@
-use Rattle.std.proofs.Common.{◌≡◌, ◌<◌, ◌≤◌, ◌+◌, ◌*◌, [], length, map}
+use Rattle.std.proofs.Common.{◌≡◌, ◌<◌, ◌≤◌, ◌+◌, ◌*◌, [], length, map, Some}
 use Rattle.js_tree.specs.Views.{plain_expr, plain_field, plain_declarator, plain_stmt}
 use Rattle.js_grammar.specs.Reader.{readers, run, called_step, called, elements_step, elements, fields_step, fields, declarators_step, declarators_of_kind, operated_step, operators, statements_step, statements}
 use Rattle.js_steps.specs.Seen.{seen}
@@ -117,8 +117,11 @@ decreases-expression_of l = 64 * l.inner + 10
 abbrev pub decreases-statement_of : goal.decreases-statement_of
 decreases-statement_of l = 64 * l.inner + 20
 
+abbrev pub decreases-chain_of : goal.decreases-chain_of
+decreases-chain_of l = 64 * l.inner + 24
+
 abbrev pub decreases-operators_of : goal.decreases-operators_of
-decreases-operators_of l = 64 * l.inner + 24 + l.level
+decreases-operators_of l = 64 * l.inner + 25
 
 -- the loops
 
@@ -132,15 +135,22 @@ invariant-called_of-more l = record {
 abbrev pub decreases-called_of-more : goal.decreases-called_of-more
 decreases-called_of-more l = length l.left.rest.now
 
-abbrev pub invariant-operators_of-more : goal.invariant-operators_of-more
-invariant-operators_of-more l = record {
-  same : run (operated_step l.inner (readers l.inner) l.line l.tighter) (plain_expr l.left.tree) (seen l.left.rest.now) ≡ operators l.inner (readers l.inner) l.level (seen l.tokens);
+abbrev pub invariant-chain_of-more : goal.invariant-chain_of-more
+invariant-chain_of-more l = record {
+  same : run (operated_step l.inner (readers l.inner) l.line l.level) (plain_expr l.left.tree) (seen l.left.rest.now) ≡ run (operated_step l.inner (readers l.inner) l.line l.level) (plain_expr l.fn.first.tree) (seen l.fn.first.rest.now);
+  within : l.left.depth ≤ l.inner + 1;
+  few : length l.left.rest.now ≤ length l.fn.first.rest.now;
+}
+
+abbrev pub decreases-chain_of-more : goal.decreases-chain_of-more
+decreases-chain_of-more l = length l.left.rest.now
+
+abbrev pub invariant-operators_of-tighter : goal.invariant-operators_of-tighter
+invariant-operators_of-tighter l = record {
+  same : operators l.inner (readers l.inner) l.tight (seen l.tokens) ≡ Some (plain_expr l.left.tree, seen l.left.rest.now);
   within : l.left.depth ≤ l.inner + 1;
   few : length l.left.rest.now < length l.tokens;
 }
-
-abbrev pub decreases-operators_of-more : goal.decreases-operators_of-more
-decreases-operators_of-more l = length l.left.rest.now
 
 abbrev pub invariant-elements_to-more : goal.invariant-elements_to-more
 invariant-elements_to-more l = record {
