@@ -15,10 +15,6 @@ pub items_turn : (n : ℕ) (is : List PlainItem) (ts : List Token) →
     run (read.items_step n (readers n)) is ts ≡ next_turn (run (read.items_step n (readers n))) (read.items_step n (readers n) is ts)
 items_turn = loops.items_turn
 
-pub items_begin : (n : ℕ) (is : List PlainItem) (t : Token) (ts : List Token) →
-    read.items_step n (readers n) is (t ∷ ts) ≡ and_then (read.item n (readers n) (t ∷ ts)) (λ i r. Some (again (is ++ i ∷ []) r))
-items_begin n is t ts = refl
-
 pub map_push_item : (is : List Item) (i : Item) → map plain_item (is ++ i ∷ []) ≡ map plain_item is ++ plain_item i ∷ []
 map_push_item = map_one plain_item
 

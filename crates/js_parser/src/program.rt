@@ -1,5 +1,5 @@
 //! Trees of programs.
-ghost use Rattle.std.specs.Prelude.{◌≡◌, ◌<◌, ◌≤◌, length, false, IfOk, IfErr, None};
+ghost use Rattle.std.specs.Prelude.{◌≡◌, ◌<◌, ◌≤◌, ◌∷◌, length, false, IfOk, IfErr, None};
 ghost use Rattle.js_tree.specs.Views.{plain_tree};
 ghost use Rattle.js_grammar.specs.Reader.{readers, item, item_function_at};
 ghost use Rattle.js_grammar.specs.Trees.{IsTree};
@@ -13,7 +13,7 @@ use crate::parser::{closed_of, statement_of};
 use crate::refused::unsupported_line;
 use js_grammar::Sort;
 use js_lexer::Token;
-use js_steps::cursor::{is_sort, name, next, no_tree, spot_of};
+use js_steps::cursor::{is_sort, name, next, spot_of};
 use js_steps::names::opening_of;
 use js_steps::read::ReadItem;
 use js_steps::statements::{item_function, item_statement};
@@ -33,13 +33,11 @@ fn function_item<'a>(alloc: Global, token: &Lexeme, tokens: &'a [Lexeme]) -> Res
 }
 
 /// What the program lists next.
-fn item_of<'a>(alloc: Global, tokens: &'a [Lexeme]) -> Result<ReadItem<'a>, Stop>
+fn item_of<'a>(alloc: Global, token: &Lexeme, rest: &'a [Lexeme], tokens: &'a [Lexeme]) -> Result<ReadItem<'a>, Stop>
+    requires { tokens.now ≡ token.now ∷ rest.now }
     ensures read { IsItem (item 199 (readers 199) (seen tokens.now)) result }
     ensures shorter { IfOk result (λ found. length found.rest.now < length tokens.now) }
 {
-    let Some((token, rest)) = next(tokens) else {
-        return Err(no_tree(tokens));
-    };
     if is_sort(token, Sort::Function) {
         return function_item(alloc, token, rest);
     }
@@ -47,16 +45,16 @@ fn item_of<'a>(alloc: Global, tokens: &'a [Lexeme]) -> Result<ReadItem<'a>, Stop
 }
 
 /// All that the program lists.
-#[tactic(auto, using(crate::proofs::Programs::items_turn, crate::proofs::Programs::items_begin, crate::proofs::Programs::map_push_item))]
+#[tactic(auto, using(crate::proofs::Programs::items_turn, crate::proofs::Programs::map_push_item))]
 fn tree_of(alloc: Global, tokens: &[Lexeme]) -> Result<Tree, Stop>
     ensures { IsItems (seen tokens.now) result }
 {
     let mut items = Vec::new(alloc);
     let mut rest = tokens;
-    'more: while !rest.is_empty() {
-        let ReadItem { tree, rest: behind } = item_of(alloc, rest)?;
+    'more: while let Some((token, behind)) = next(rest) {
+        let ReadItem { tree, rest: left } = item_of(alloc, token, behind, rest)?;
         items.push(tree)?;
-        rest = behind;
+        rest = left;
     }
     Ok(Tree { items })
 }

@@ -3,7 +3,7 @@ use js_data::{Text, Whole};
 use js_lexer::lex;
 use js_parser::parse;
 use js_tree::{
-    AssignOp, DeclareKind, Declarator, Expr, Field, Fix, Form, Item, Name, Operator, Sign, Start,
+    AssignOp, Declarator, DeclareKind, Expr, Field, Fix, Form, Item, Name, Operator, Sign, Start,
     Step, Stmt, StmtForm, Tree,
 };
 use std::alloc::{AllocError, Global};
@@ -175,7 +175,13 @@ fn fields(out: &mut String, trees: &[Field], room: u32) -> Result<(), AllocError
 }
 
 #[cycle(shown)]
-fn assign(out: &mut String, head: &str, name: &Name, value: &Expr, room: u32) -> Result<(), AllocError> {
+fn assign(
+    out: &mut String,
+    head: &str,
+    name: &Name,
+    value: &Expr,
+    room: u32,
+) -> Result<(), AllocError> {
     open(out, head)?;
     word(out, &name.text)?;
     expr(out, " ", value, room)?;
@@ -191,7 +197,13 @@ fn arrow(out: &mut String, params: &[Name], value: &Expr, room: u32) -> Result<(
 }
 
 #[cycle(shown)]
-fn function(out: &mut String, head: &str, params: &[Name], body: &[Stmt], room: u32) -> Result<(), AllocError> {
+fn function(
+    out: &mut String,
+    head: &str,
+    params: &[Name],
+    body: &[Stmt],
+    room: u32,
+) -> Result<(), AllocError> {
     open(out, head)?;
     names(out, params)?;
     stmts(out, " {", body, room)?;
@@ -250,7 +262,12 @@ fn declarator(out: &mut String, tree: &Declarator, room: u32) -> Result<(), Allo
 }
 
 #[cycle(shown)]
-fn declaration(out: &mut String, kind: DeclareKind, trees: &[Declarator], room: u32) -> Result<(), AllocError> {
+fn declaration(
+    out: &mut String,
+    kind: DeclareKind,
+    trees: &[Declarator],
+    room: u32,
+) -> Result<(), AllocError> {
     open(out, kind_text(kind))?;
     for tree in trees {
         declarator(out, tree, room)?;
@@ -296,7 +313,13 @@ fn if_alone(out: &mut String, test: &Expr, body: &Stmt, room: u32) -> Result<(),
 }
 
 #[cycle(shown)]
-fn if_else(out: &mut String, test: &Expr, body: &Stmt, other: &Stmt, room: u32) -> Result<(), AllocError> {
+fn if_else(
+    out: &mut String,
+    test: &Expr,
+    body: &Stmt,
+    other: &Stmt,
+    room: u32,
+) -> Result<(), AllocError> {
     open(out, "if")?;
     expr(out, " ", test, room)?;
     stmt(out, " ", body, room)?;
@@ -375,7 +398,12 @@ fn item(out: &mut String, tree: &Item) -> Result<(), AllocError> {
     }
 }
 
-fn function_of(out: &mut String, name: &Name, params: &[Name], body: &[Stmt]) -> Result<(), AllocError> {
+fn function_of(
+    out: &mut String,
+    name: &Name,
+    params: &[Name],
+    body: &[Stmt],
+) -> Result<(), AllocError> {
     out.push_str(name.text.as_str())?;
     names(out, params)?;
     stmts(out, " {", body, 256)?;
@@ -428,8 +456,14 @@ mod tests {
         let rows: [(&str, &str); 13] = [
             ("", ""),
             ("a; b", "a b"),
-            ("function f(x, y) { return x }", "(function f (x y) {(return x)})"),
-            ("function f() {} function g(x,) {} a", "(function f () {}) (function g (x) {}) a"),
+            (
+                "function f(x, y) { return x }",
+                "(function f (x y) {(return x)})",
+            ),
+            (
+                "function f() {} function g(x,) {} a",
+                "(function f () {}) (function g (x) {}) a",
+            ),
             ("function () {}", "NoTree(1)"),
             ("function f {}", "NoTree(1)"),
             ("function f() a", "NoTree(1)"),
@@ -476,7 +510,10 @@ mod tests {
             ("while (a) b", "(while a b)"),
             ("while (a);", "(while a ;)"),
             (";;", "; ;"),
-            ("break; continue; return; return a", "break continue return (return a)"),
+            (
+                "break; continue; return; return a",
+                "break continue return (return a)",
+            ),
         ];
         agree(&rt, rt.alloc(), &rows)?;
         Ok(())
@@ -485,7 +522,10 @@ mod tests {
     #[test]
     fn loops_with_three_parts_and_over_lists(rt: HostRuntime) -> Result<(), Fail> {
         let rows: [(&str, &str); 22] = [
-            ("for (let i = 0; i < 3; i++) a", "(for (let (i 0)) (< i 3) (_++ i) a)"),
+            (
+                "for (let i = 0; i < 3; i++) a",
+                "(for (let (i 0)) (< i 3) (_++ i) a)",
+            ),
             ("for (;;) {}", "(for _ _ _ {})"),
             ("for (i = 0; ; ) a", "(for (= i 0) _ _ a)"),
             ("for (; a; ) b", "(for _ a _ b)"),
@@ -552,7 +592,10 @@ mod tests {
             ("a = () => {}\n* b", "NoTree(2)"),
             ("a = b => c\n(d)", "(= a (=> (b) (call c d)))"),
             ("a = (() => {})\n(b)", "(= a (call '(=> () {}) b))"),
-            ("let f = function() {}\n(b)", "(let (f (call (function () {}) b)))"),
+            (
+                "let f = function() {}\n(b)",
+                "(let (f (call (function () {}) b)))",
+            ),
             ("a\n+ b", "(+ a b)"),
             ("a\n- b", "(- a b)"),
             ("a++\n+ b", "(+ (_++ a) b)"),
@@ -585,7 +628,10 @@ mod tests {
     fn assignments_arrows_and_conditionals(rt: HostRuntime) -> Result<(), Fail> {
         let rows: [(&str, &str); 30] = [
             ("a = b = c", "(= a (= b c))"),
-            ("a += b -= c *= d /= e %= f", "(+= a (-= b (*= c (/= d (%= e f)))))"),
+            (
+                "a += b -= c *= d /= e %= f",
+                "(+= a (-= b (*= c (/= d (%= e f)))))",
+            ),
             ("a.b = c", "NoTree(1)"),
             ("(a) = c", "NoTree(1)"),
             ("1 = a", "NoTree(1)"),
@@ -675,7 +721,10 @@ mod tests {
             ("[,]", "NoTree(1)"),
             ("[1,,2]", "NoTree(1)"),
             ("a = {b: c}", "(= a (fields (b c)))"),
-            ("({a: 1, 'b c': 2, if: 3, switch: 4, d,})", "'(fields (a 1) (b c 2) (if 3) (switch 4) (d d))"),
+            (
+                "({a: 1, 'b c': 2, if: 3, switch: 4, d,})",
+                "'(fields (a 1) (b c 2) (if 3) (switch 4) (d d))",
+            ),
             ("({,})", "NoTree(1)"),
             ("({1: a})", "NoTree(1)"),
             ("({if})", "NoTree(1)"),
@@ -683,7 +732,10 @@ mod tests {
             ("({a() {}})", "NoTree(1)"),
             ("({[a]: 1})", "NoTree(1)"),
             ("({a = 1})", "NoTree(1)"),
-            ("f(function(x) { return x })", "(call f (function (x) {(return x)}))"),
+            (
+                "f(function(x) { return x })",
+                "(call f (function (x) {(return x)}))",
+            ),
             ("f(function g() {})", "NoTree(1)"),
             ("()", "NoTree(1)"),
             ("((a))", "''a"),
@@ -721,7 +773,13 @@ mod tests {
     }
 
     /// A text between so many fronts and so many backs.
-    fn nested(alloc: Global, front: &str, times: usize, middle: &str, back: &str) -> Result<String, AllocError> {
+    fn nested(
+        alloc: Global,
+        front: &str,
+        times: usize,
+        middle: &str,
+        back: &str,
+    ) -> Result<String, AllocError> {
         let mut text = String::new(alloc);
         for _ in 0..times {
             text.push_str(front)?;
@@ -764,8 +822,10 @@ mod tests {
 
     #[test]
     fn a_script_without_semicolons(rt: HostRuntime) -> Result<(), Fail> {
-        let text = "const f = () => {\n  return\n  1\n}\nconst g = x => x\nconst h = g\n(2)\nbp.registerBThread(\"A\", () => {\n  bp.log.info(f())\n  bp.log.info(h)\n})\n";
-        let want = "(const (f (=> () {return 1}))) (const (g (=> (x) x))) (const (h (call g 2))) (call (. bp registerBThread) \"A\" (=> () {(call (. (. bp log) info) (call f)) (call (. (. bp log) info) h)}))";
+        let text =
+            "const f = () => {\n  return\n  1\n}\nconst g = x => x\nconst h = g\n(2)\nbp.registerBThread(\"A\", () => {\n  bp.log.info(f())\n  bp.log.info(h)\n})\n";
+        let want =
+            "(const (f (=> () {return 1}))) (const (g (=> (x) x))) (const (h (call g 2))) (call (. bp registerBThread) \"A\" (=> () {(call (. (. bp log) info) (call f)) (call (. (. bp log) info) h)}))";
         let found = shown(rt.alloc(), text.as_bytes())?;
         assert_eq!(rt; found.as_str(), want);
         Ok(())
