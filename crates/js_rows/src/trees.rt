@@ -65,7 +65,7 @@ fn kind_text(kind: DeclareKind) -> &'static str {
 }
 
 /// An opened list: `(` and its head.
-fn open(out: &mut String, head: &str) -> Result<(), AllocError> {
+fn begin(out: &mut String, head: &str) -> Result<(), AllocError> {
     out.push('(')?;
     out.push_str(head)
 }
@@ -86,7 +86,7 @@ fn number(out: &mut String, n: Whole) -> Result<(), AllocError> {
 }
 
 fn update(out: &mut String, head: &str, name: &Name) -> Result<(), AllocError> {
-    open(out, head)?;
+    begin(out, head)?;
     word(out, &name.text)?;
     out.push(')')
 }
@@ -125,14 +125,14 @@ fn exprs(out: &mut String, trees: &[Expr], room: u32) -> Result<(), AllocError> 
 
 #[cycle(shown)]
 fn one(out: &mut String, head: &str, a: &Expr, room: u32) -> Result<(), AllocError> {
-    open(out, head)?;
+    begin(out, head)?;
     expr(out, " ", a, room)?;
     out.push(')')
 }
 
 #[cycle(shown)]
 fn two(out: &mut String, head: &str, a: &Expr, b: &Expr, room: u32) -> Result<(), AllocError> {
-    open(out, head)?;
+    begin(out, head)?;
     expr(out, " ", a, room)?;
     expr(out, " ", b, room)?;
     out.push(')')
@@ -140,7 +140,7 @@ fn two(out: &mut String, head: &str, a: &Expr, b: &Expr, room: u32) -> Result<()
 
 #[cycle(shown)]
 fn three(out: &mut String, a: &Expr, b: &Expr, c: &Expr, room: u32) -> Result<(), AllocError> {
-    open(out, "?")?;
+    begin(out, "?")?;
     expr(out, " ", a, room)?;
     expr(out, " ", b, room)?;
     expr(out, " ", c, room)?;
@@ -149,7 +149,7 @@ fn three(out: &mut String, a: &Expr, b: &Expr, c: &Expr, room: u32) -> Result<()
 
 #[cycle(shown)]
 fn member(out: &mut String, object: &Expr, name: &Text, room: u32) -> Result<(), AllocError> {
-    open(out, ".")?;
+    begin(out, ".")?;
     expr(out, " ", object, room)?;
     word(out, name)?;
     out.push(')')
@@ -157,14 +157,14 @@ fn member(out: &mut String, object: &Expr, name: &Text, room: u32) -> Result<(),
 
 #[cycle(shown)]
 fn call(out: &mut String, callee: &Expr, trees: &[Expr], room: u32) -> Result<(), AllocError> {
-    open(out, "call")?;
+    begin(out, "call")?;
     expr(out, " ", callee, room)?;
     exprs(out, trees, room)
 }
 
 #[cycle(shown)]
 fn fields(out: &mut String, trees: &[Field], room: u32) -> Result<(), AllocError> {
-    open(out, "fields")?;
+    begin(out, "fields")?;
     for field in trees {
         out.push_str(" (")?;
         out.push_str(field.key.as_str())?;
@@ -182,7 +182,7 @@ fn assign(
     value: &Expr,
     room: u32,
 ) -> Result<(), AllocError> {
-    open(out, head)?;
+    begin(out, head)?;
     word(out, &name.text)?;
     expr(out, " ", value, room)?;
     out.push(')')
@@ -190,7 +190,7 @@ fn assign(
 
 #[cycle(shown)]
 fn arrow(out: &mut String, params: &[Name], value: &Expr, room: u32) -> Result<(), AllocError> {
-    open(out, "=>")?;
+    begin(out, "=>")?;
     names(out, params)?;
     expr(out, " ", value, room)?;
     out.push(')')
@@ -204,7 +204,7 @@ fn function(
     body: &[Stmt],
     room: u32,
 ) -> Result<(), AllocError> {
-    open(out, head)?;
+    begin(out, head)?;
     names(out, params)?;
     stmts(out, " {", body, room)?;
     out.push(')')
@@ -237,7 +237,7 @@ fn form(out: &mut String, form: &Form, room: u32) -> Result<(), AllocError> {
 
 #[cycle(shown)]
 fn list(out: &mut String, trees: &[Expr], room: u32) -> Result<(), AllocError> {
-    open(out, "list")?;
+    begin(out, "list")?;
     exprs(out, trees, room)
 }
 
@@ -268,7 +268,7 @@ fn declaration(
     trees: &[Declarator],
     room: u32,
 ) -> Result<(), AllocError> {
-    open(out, kind_text(kind))?;
+    begin(out, kind_text(kind))?;
     for tree in trees {
         declarator(out, tree, room)?;
     }
@@ -306,7 +306,7 @@ fn stmts(out: &mut String, before: &str, trees: &[Stmt], room: u32) -> Result<()
 
 #[cycle(shown)]
 fn if_alone(out: &mut String, test: &Expr, body: &Stmt, room: u32) -> Result<(), AllocError> {
-    open(out, "if")?;
+    begin(out, "if")?;
     expr(out, " ", test, room)?;
     stmt(out, " ", body, room)?;
     out.push(')')
@@ -320,7 +320,7 @@ fn if_else(
     other: &Stmt,
     room: u32,
 ) -> Result<(), AllocError> {
-    open(out, "if")?;
+    begin(out, "if")?;
     expr(out, " ", test, room)?;
     stmt(out, " ", body, room)?;
     stmt(out, " ", other, room)?;
@@ -329,7 +329,7 @@ fn if_else(
 
 #[cycle(shown)]
 fn while_of(out: &mut String, test: &Expr, body: &Stmt, room: u32) -> Result<(), AllocError> {
-    open(out, "while")?;
+    begin(out, "while")?;
     expr(out, " ", test, room)?;
     stmt(out, " ", body, room)?;
     out.push(')')
