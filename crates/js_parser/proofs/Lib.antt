@@ -1,2 +1,3 @@
 pub mod Using
 pub mod Programs
+pub mod Chains
