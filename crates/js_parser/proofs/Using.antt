@@ -158,9 +158,9 @@ operators_next n k ts e r h = rw (add-one, h) refl
 pub operators_none : (n k level : ℕ) (ts : List Token) → k ≤ level → read.operators n (readers n) k ts ≡ None → read.operators n (readers n) level ts ≡ None
 operators_none n k zero ts h e = subst (λ (x : ℕ). read.operators n (readers n) x ts ≡ None) (let z : k ≡ 0 = omega arith in z) e
 operators_none n k (suc m) ts h e = elim (eq-or-lt_of_le h) as (λ s. read.operators n (readers n) (suc m) ts ≡ None) [
-    inl z ↦ subst (λ (x : ℕ). read.operators n (readers n) x ts ≡ None) z e
+  | inl z ↦ subst (λ (x : ℕ). read.operators n (readers n) x ts ≡ None) z e
   | inr l ↦ rw (operators_none n k m ts (omega arith) e) refl
-  ]
+]
 
 pub operators_refused : (n k level : ℕ) (ts : List Token) (a : PlainExpr) (r : List Token) (e : Stop) → k < level → read.operators n (readers n) k ts ≡ Some (a, r) →
     IsExpr (run (read.operated_step n (readers n) (line_of ts) k) a r) (Err e) → IsExpr (read.operators n (readers n) level ts) (Err e)

@@ -10,15 +10,20 @@ ghost use Rattle.js_steps.specs.Parsed.{IsExpr, IsExprs, IsPerhaps, IsField, IsF
 
 use js_grammar::Sort;
 use js_lexer::Kind;
-use js_steps::build;
-use js_steps::cursor::{begins, is_sort, key_of, line_at, member, name, next, no_tree, skip, spot_of, words};
+use js_steps::cursor::{
+    begins, is_sort, key_of, line_at, member, name, next, no_tree, skip, spot_of, words,
+};
 use js_steps::ends::{end_behind, ending_of, is_return_end};
 use js_steps::names::{arrow_header, opening_of};
-use js_steps::parts;
-use js_steps::peek::{assign_at, begins_assign, begins_end, begins_for_of, begins_function, begins_lexical, begins_update, declares_at, lexical_at, operator_in, sign_at, step_at};
-use js_steps::read::{ReadDeclarator, ReadDeclarators, ReadExpr, ReadExprs, ReadField, ReadFields, ReadPerhaps, ReadStart, ReadStmt, ReadStmts};
-use js_steps::statements;
-use js_steps::{Lexeme, Stop};
+use js_steps::peek::{
+    assign_at, begins_assign, begins_end, begins_for_of, begins_function, begins_lexical,
+    begins_update, declares_at, lexical_at, operator_in, sign_at, step_at,
+};
+use js_steps::read::{
+    ReadDeclarator, ReadDeclarators, ReadExpr, ReadExprs, ReadField, ReadFields, ReadPerhaps,
+    ReadStart, ReadStmt, ReadStmts,
+};
+use js_steps::{Lexeme, Stop, build, parts, statements};
 use js_tree::{DeclareKind, Ending, Fix, Name};
 use std::alloc::Global;
 
@@ -124,7 +129,12 @@ pub fn assignment<'a>(alloc: Global, tokens: &'a [Lexeme], room: u32) -> Result<
 /// An operand within the room.
 #[cycle(parser)]
 #[tactic(auto, using(crate::proofs::Using::no_room, crate::proofs::Using::operators_in))]
-pub fn operand<'a>(alloc: Global, level: u8, tokens: &'a [Lexeme], room: u32) -> Result<ReadExpr<'a>, Stop>
+pub fn operand<'a>(
+    alloc: Global,
+    level: u8,
+    tokens: &'a [Lexeme],
+    room: u32,
+) -> Result<ReadExpr<'a>, Stop>
     requires room { room ≤ 200 }
     requires level { level ≤ 6 }
     ensures read { IsExpr ((readers room).expr (Operators level) (seen tokens.now)) result }
@@ -140,7 +150,12 @@ pub fn operand<'a>(alloc: Global, level: u8, tokens: &'a [Lexeme], room: u32) ->
 /// Declarators within the room.
 #[cycle(parser)]
 #[tactic(auto, using(crate::proofs::Using::no_room_declarators, crate::proofs::Using::declarators_in))]
-pub fn declarators<'a>(alloc: Global, kind: DeclareKind, tokens: &'a [Lexeme], room: u32) -> Result<ReadDeclarators<'a>, Stop>
+pub fn declarators<'a>(
+    alloc: Global,
+    kind: DeclareKind,
+    tokens: &'a [Lexeme],
+    room: u32,
+) -> Result<ReadDeclarators<'a>, Stop>
     requires { room ≤ 200 }
     ensures read { IsDeclarators ((readers room).declarators kind (seen tokens.now)) result }
     ensures within { IfOk result (λ found. found.depth + 1 ≤ room) }
@@ -197,7 +212,12 @@ pub fn closed_of<'a>(alloc: Global, tokens: &'a [Lexeme], inner: u32) -> Result<
 
 /// A function expression, behind its word.
 #[cycle(parser)]
-pub fn function_of<'a>(alloc: Global, token: &Lexeme, tokens: &'a [Lexeme], inner: u32) -> Result<ReadExpr<'a>, Stop>
+pub fn function_of<'a>(
+    alloc: Global,
+    token: &Lexeme,
+    tokens: &'a [Lexeme],
+    inner: u32,
+) -> Result<ReadExpr<'a>, Stop>
     requires { inner < 200 }
     ensures read { IsExpr (function_at inner (readers inner) token.now.token (seen tokens.now)) result }
     ensures within { IfOk result (λ found. found.depth ≤ inner + 1) }
@@ -243,7 +263,12 @@ pub fn primary_of<'a>(alloc: Global, tokens: &'a [Lexeme], inner: u32) -> Result
 /// Expressions separated by commas, and the mark that closes them.
 #[cycle(parser)]
 #[tactic(auto, using(crate::proofs::Using::elements_turn, crate::proofs::Using::map_push, crate::proofs::Using::next_element_none, crate::proofs::Using::elements_begin))]
-pub fn elements_to<'a>(alloc: Global, tokens: &'a [Lexeme], close: Sort, inner: u32) -> Result<ReadExprs<'a>, Stop>
+pub fn elements_to<'a>(
+    alloc: Global,
+    tokens: &'a [Lexeme],
+    close: Sort,
+    inner: u32,
+) -> Result<ReadExprs<'a>, Stop>
     requires { inner < 200 }
     ensures read { IsExprs (elements inner (readers inner) close (seen tokens.now)) result }
     ensures within { IfOk result (λ found. found.depth ≤ inner) }
@@ -290,7 +315,11 @@ pub fn field_of<'a>(alloc: Global, tokens: &'a [Lexeme], inner: u32) -> Result<R
 /// Fields and `}`, behind the `{`.
 #[cycle(parser)]
 #[tactic(auto, using(crate::proofs::Using::fields_turn, crate::proofs::Using::map_push_field, crate::proofs::Using::next_field_none, crate::proofs::Using::fields_begin))]
-pub fn fields_of<'a>(alloc: Global, tokens: &'a [Lexeme], inner: u32) -> Result<ReadFields<'a>, Stop>
+pub fn fields_of<'a>(
+    alloc: Global,
+    tokens: &'a [Lexeme],
+    inner: u32,
+) -> Result<ReadFields<'a>, Stop>
     requires { inner < 200 }
     ensures read { IsFields (fields inner (readers inner) (seen tokens.now)) result }
     ensures within { IfOk result (λ found. found.depth ≤ inner) }
@@ -313,7 +342,13 @@ pub fn fields_of<'a>(alloc: Global, tokens: &'a [Lexeme], inner: u32) -> Result<
 
 /// A member, behind its dot.
 #[tactic(auto, using(crate::proofs::Using::held_none))]
-pub fn member_at<'a>(alloc: Global, line: u32, left: ReadExpr<'a>, tokens: &'a [Lexeme], inner: u32) -> Result<ReadExpr<'a>, Stop>
+pub fn member_at<'a>(
+    alloc: Global,
+    line: u32,
+    left: ReadExpr<'a>,
+    tokens: &'a [Lexeme],
+    inner: u32,
+) -> Result<ReadExpr<'a>, Stop>
     requires room { inner < 200 }
     requires left { left.depth ≤ inner + 1 }
     ensures read { IsTurn (member_turn inner (readers inner) line (plain_expr left.entry.tree) (seen tokens.now)) result }
@@ -330,7 +365,13 @@ pub fn member_at<'a>(alloc: Global, line: u32, left: ReadExpr<'a>, tokens: &'a [
 /// An element, behind its bracket.
 #[cycle(parser)]
 #[tactic(auto, using(crate::proofs::Using::after_none))]
-pub fn index_at<'a>(alloc: Global, line: u32, left: ReadExpr<'a>, tokens: &'a [Lexeme], inner: u32) -> Result<ReadExpr<'a>, Stop>
+pub fn index_at<'a>(
+    alloc: Global,
+    line: u32,
+    left: ReadExpr<'a>,
+    tokens: &'a [Lexeme],
+    inner: u32,
+) -> Result<ReadExpr<'a>, Stop>
     requires { inner < 200 }
     ensures read { IsTurn (index_turn inner (readers inner) line (plain_expr left.entry.tree) (seen tokens.now)) result }
     ensures within { IfOk result (λ found. found.depth ≤ inner + 1) }
@@ -346,7 +387,13 @@ pub fn index_at<'a>(alloc: Global, line: u32, left: ReadExpr<'a>, tokens: &'a [L
 
 /// A call, behind its parenthesis.
 #[cycle(parser)]
-pub fn call_at<'a>(alloc: Global, line: u32, left: ReadExpr<'a>, tokens: &'a [Lexeme], inner: u32) -> Result<ReadExpr<'a>, Stop>
+pub fn call_at<'a>(
+    alloc: Global,
+    line: u32,
+    left: ReadExpr<'a>,
+    tokens: &'a [Lexeme],
+    inner: u32,
+) -> Result<ReadExpr<'a>, Stop>
     requires room { inner < 200 }
     requires left { left.depth ≤ inner + 1 }
     ensures read { IsTurn (call_turn inner (readers inner) line (plain_expr left.entry.tree) (seen tokens.now)) result }
@@ -387,7 +434,13 @@ pub fn called_of<'a>(alloc: Global, tokens: &'a [Lexeme], inner: u32) -> Result<
 /// A postfix or a call, where no unary operator stands; or `++` or `--` and a name.
 #[cycle(parser)]
 #[tactic(auto, using(crate::proofs::Using::held_none))]
-pub fn unsigned_of<'a>(alloc: Global, token: &Lexeme, rest: &'a [Lexeme], tokens: &'a [Lexeme], inner: u32) -> Result<ReadExpr<'a>, Stop>
+pub fn unsigned_of<'a>(
+    alloc: Global,
+    token: &Lexeme,
+    rest: &'a [Lexeme],
+    tokens: &'a [Lexeme],
+    inner: u32,
+) -> Result<ReadExpr<'a>, Stop>
     requires room { inner < 200 }
     requires first { tokens.now ≡ token.now ∷ rest.now }
     ensures read { IsExpr (step_read inner (readers inner) (step token.now.token) token.now.token (seen rest.now)) result }
@@ -425,7 +478,13 @@ pub fn signed_of<'a>(alloc: Global, tokens: &'a [Lexeme], inner: u32) -> Result<
 /// An operand and so many operators of the level with their operands, to the left.
 #[cycle(parser)]
 #[tactic(auto, using(crate::proofs::Using::operated_turn))]
-pub fn chain_of<'a>(alloc: Global, line: u32, level: u8, first: ReadExpr<'a>, inner: u32) -> Result<ReadExpr<'a>, Stop>
+pub fn chain_of<'a>(
+    alloc: Global,
+    line: u32,
+    level: u8,
+    first: ReadExpr<'a>,
+    inner: u32,
+) -> Result<ReadExpr<'a>, Stop>
     requires room { inner < 200 }
     requires level { level < 6 }
     requires first { first.depth ≤ inner + 1 }
@@ -452,7 +511,12 @@ pub fn chain_of<'a>(alloc: Global, line: u32, level: u8, first: ReadExpr<'a>, in
 /// Operands with operators tighter than the level between them.
 #[cycle(parser)]
 #[tactic(auto, using(crate::proofs::Using::operators_next, crate::proofs::Using::operators_refused, crate::proofs::Using::operators_none))]
-pub fn operators_of<'a>(alloc: Global, level: u8, tokens: &'a [Lexeme], inner: u32) -> Result<ReadExpr<'a>, Stop>
+pub fn operators_of<'a>(
+    alloc: Global,
+    level: u8,
+    tokens: &'a [Lexeme],
+    inner: u32,
+) -> Result<ReadExpr<'a>, Stop>
     requires room { inner < 200 }
     requires level { level ≤ 6 }
     ensures read { IsExpr (operators inner (readers inner) level (seen tokens.now)) result }
@@ -493,7 +557,13 @@ pub fn choice_of<'a>(alloc: Global, tokens: &'a [Lexeme], inner: u32) -> Result<
 /// An arrow function.
 #[cycle(parser)]
 #[tactic(auto, using(crate::proofs::Using::body_value))]
-pub fn arrow_of<'a>(alloc: Global, token: &Lexeme, rest: &'a [Lexeme], tokens: &'a [Lexeme], inner: u32) -> Result<ReadExpr<'a>, Stop>
+pub fn arrow_of<'a>(
+    alloc: Global,
+    token: &Lexeme,
+    rest: &'a [Lexeme],
+    tokens: &'a [Lexeme],
+    inner: u32,
+) -> Result<ReadExpr<'a>, Stop>
     requires room { inner < 200 }
     requires first { tokens.now ≡ token.now ∷ rest.now }
     ensures read { IsExpr (arrow inner (readers inner) token.now.token (seen rest.now)) result }
@@ -532,7 +602,11 @@ pub fn assign_of<'a>(alloc: Global, tokens: &'a [Lexeme], inner: u32) -> Result<
 
 /// An expression.
 #[cycle(parser)]
-pub fn assignment_of<'a>(alloc: Global, tokens: &'a [Lexeme], inner: u32) -> Result<ReadExpr<'a>, Stop>
+pub fn assignment_of<'a>(
+    alloc: Global,
+    tokens: &'a [Lexeme],
+    inner: u32,
+) -> Result<ReadExpr<'a>, Stop>
     requires { inner < 200 }
     ensures read { IsExpr (assignment_read inner (readers inner) (seen tokens.now)) result }
     ensures within { IfOk result (λ found. found.depth ≤ inner + 1) }
@@ -553,7 +627,12 @@ pub fn assignment_of<'a>(alloc: Global, tokens: &'a [Lexeme], inner: u32) -> Res
 /// A declared name and its value, if it has one.
 #[cycle(parser)]
 #[tactic(auto, using(crate::proofs::Using::value_alone, crate::proofs::Using::value_none))]
-pub fn declarator_of<'a>(alloc: Global, kind: DeclareKind, tokens: &'a [Lexeme], inner: u32) -> Result<ReadDeclarator<'a>, Stop>
+pub fn declarator_of<'a>(
+    alloc: Global,
+    kind: DeclareKind,
+    tokens: &'a [Lexeme],
+    inner: u32,
+) -> Result<ReadDeclarator<'a>, Stop>
     requires { inner < 200 }
     ensures read { IsDeclarator (declarator inner (readers inner) kind (seen tokens.now)) result }
     ensures within { IfOk result (λ found. found.depth ≤ inner) }
@@ -577,7 +656,12 @@ pub fn declarator_of<'a>(alloc: Global, kind: DeclareKind, tokens: &'a [Lexeme],
 /// Declarators separated by commas.
 #[cycle(parser)]
 #[tactic(auto, using(crate::proofs::Using::declarators_turn, crate::proofs::Using::map_push_declarator, crate::proofs::Using::next_declarator_stop))]
-pub fn declarators_of<'a>(alloc: Global, kind: DeclareKind, tokens: &'a [Lexeme], inner: u32) -> Result<ReadDeclarators<'a>, Stop>
+pub fn declarators_of<'a>(
+    alloc: Global,
+    kind: DeclareKind,
+    tokens: &'a [Lexeme],
+    inner: u32,
+) -> Result<ReadDeclarators<'a>, Stop>
     requires { inner < 200 }
     ensures read { IsDeclarators (declarators_of_kind inner (readers inner) kind (seen tokens.now)) result }
     ensures within { IfOk result (λ found. found.depth ≤ inner) }
@@ -597,7 +681,11 @@ pub fn declarators_of<'a>(alloc: Global, kind: DeclareKind, tokens: &'a [Lexeme]
 /// Statements up to `}` or the end of the text.
 #[cycle(parser)]
 #[tactic(auto, using(crate::proofs::Using::statements_turn, crate::proofs::Using::map_push_stmt))]
-pub fn statements_of<'a>(alloc: Global, tokens: &'a [Lexeme], inner: u32) -> Result<ReadStmts<'a>, Stop>
+pub fn statements_of<'a>(
+    alloc: Global,
+    tokens: &'a [Lexeme],
+    inner: u32,
+) -> Result<ReadStmts<'a>, Stop>
     requires { inner ≤ 200 }
     ensures read { IsStmts (statements_read inner (readers inner) (seen tokens.now)) result }
     ensures within { IfOk result (λ found. found.depth ≤ inner) }
@@ -644,7 +732,13 @@ pub fn test_of<'a>(alloc: Global, tokens: &'a [Lexeme], inner: u32) -> Result<Re
 
 /// A declaration, behind its word.
 #[cycle(parser)]
-pub fn declaration_of<'a>(alloc: Global, line: u32, kind: DeclareKind, tokens: &'a [Lexeme], inner: u32) -> Result<ReadStmt<'a>, Stop>
+pub fn declaration_of<'a>(
+    alloc: Global,
+    line: u32,
+    kind: DeclareKind,
+    tokens: &'a [Lexeme],
+    inner: u32,
+) -> Result<ReadStmt<'a>, Stop>
     requires { inner < 200 }
     ensures read { IsStmt (declaration_at inner (readers inner) line kind (seen tokens.now)) result }
     ensures within { IfOk result (λ found. found.depth ≤ inner + 1) }
@@ -658,7 +752,12 @@ pub fn declaration_of<'a>(alloc: Global, line: u32, kind: DeclareKind, tokens: &
 /// A condition, behind its word.
 #[cycle(parser)]
 #[tactic(auto, using(crate::proofs::Using::else_alone))]
-pub fn if_of<'a>(alloc: Global, line: u32, tokens: &'a [Lexeme], inner: u32) -> Result<ReadStmt<'a>, Stop>
+pub fn if_of<'a>(
+    alloc: Global,
+    line: u32,
+    tokens: &'a [Lexeme],
+    inner: u32,
+) -> Result<ReadStmt<'a>, Stop>
     requires { inner < 200 }
     ensures read { IsStmt (if_at inner (readers inner) line (seen tokens.now)) result }
     ensures within { IfOk result (λ found. found.depth ≤ inner + 1) }
@@ -675,7 +774,12 @@ pub fn if_of<'a>(alloc: Global, line: u32, tokens: &'a [Lexeme], inner: u32) -> 
 
 /// A loop, behind its word.
 #[cycle(parser)]
-pub fn while_of<'a>(alloc: Global, line: u32, tokens: &'a [Lexeme], inner: u32) -> Result<ReadStmt<'a>, Stop>
+pub fn while_of<'a>(
+    alloc: Global,
+    line: u32,
+    tokens: &'a [Lexeme],
+    inner: u32,
+) -> Result<ReadStmt<'a>, Stop>
     requires { inner < 200 }
     ensures read { IsStmt (while_at inner (readers inner) line (seen tokens.now)) result }
     ensures within { IfOk result (λ found. found.depth ≤ inner + 1) }
@@ -710,7 +814,12 @@ pub fn start_of<'a>(alloc: Global, tokens: &'a [Lexeme], inner: u32) -> Result<R
 
 /// An expression that may be absent before a mark.
 #[cycle(parser)]
-pub fn perhaps_of<'a>(alloc: Global, tokens: &'a [Lexeme], close: Sort, inner: u32) -> Result<ReadPerhaps<'a>, Stop>
+pub fn perhaps_of<'a>(
+    alloc: Global,
+    tokens: &'a [Lexeme],
+    close: Sort,
+    inner: u32,
+) -> Result<ReadPerhaps<'a>, Stop>
     requires { inner < 200 }
     ensures read { IsPerhaps (perhaps inner (readers inner) close (seen tokens.now)) result }
     ensures within { IfOk result (λ found. found.depth ≤ inner) }
@@ -726,7 +835,12 @@ pub fn perhaps_of<'a>(alloc: Global, tokens: &'a [Lexeme], close: Sort, inner: u
 /// A loop with three parts, behind its parenthesis.
 #[cycle(parser)]
 #[tactic(auto, using(crate::proofs::Using::after_none))]
-pub fn three_of<'a>(alloc: Global, line: u32, tokens: &'a [Lexeme], inner: u32) -> Result<ReadStmt<'a>, Stop>
+pub fn three_of<'a>(
+    alloc: Global,
+    line: u32,
+    tokens: &'a [Lexeme],
+    inner: u32,
+) -> Result<ReadStmt<'a>, Stop>
     requires { inner < 200 }
     ensures read { IsStmt (for_three_at inner (readers inner) line (seen tokens.now)) result }
     ensures within { IfOk result (λ found. found.depth ≤ inner + 1) }
@@ -745,7 +859,14 @@ pub fn three_of<'a>(alloc: Global, line: u32, tokens: &'a [Lexeme], inner: u32) 
 /// A loop over a list, behind `of`.
 #[cycle(parser)]
 #[tactic(auto, using(crate::proofs::Using::after_none))]
-pub fn each_of<'a>(alloc: Global, line: u32, kind: DeclareKind, name: Name, tokens: &'a [Lexeme], inner: u32) -> Result<ReadStmt<'a>, Stop>
+pub fn each_of<'a>(
+    alloc: Global,
+    line: u32,
+    kind: DeclareKind,
+    name: Name,
+    tokens: &'a [Lexeme],
+    inner: u32,
+) -> Result<ReadStmt<'a>, Stop>
     requires { inner < 200 }
     ensures read { IsStmt (each_at inner (readers inner) line kind name (seen tokens.now)) result }
     ensures within { IfOk result (λ found. found.depth ≤ inner + 1) }
@@ -760,7 +881,12 @@ pub fn each_of<'a>(alloc: Global, line: u32, kind: DeclareKind, name: Name, toke
 /// A loop over a list, behind its parenthesis.
 #[cycle(parser)]
 #[tactic(auto, using(crate::proofs::Using::held_none, crate::proofs::Using::each_none))]
-pub fn for_each_of<'a>(alloc: Global, line: u32, tokens: &'a [Lexeme], inner: u32) -> Result<ReadStmt<'a>, Stop>
+pub fn for_each_of<'a>(
+    alloc: Global,
+    line: u32,
+    tokens: &'a [Lexeme],
+    inner: u32,
+) -> Result<ReadStmt<'a>, Stop>
     requires { inner < 200 }
     ensures read { IsStmt (for_each_at inner (readers inner) line (seen tokens.now)) result }
     ensures within { IfOk result (λ found. found.depth ≤ inner + 1) }
@@ -782,7 +908,12 @@ pub fn for_each_of<'a>(alloc: Global, line: u32, tokens: &'a [Lexeme], inner: u3
 /// A `for`, behind its word.
 #[cycle(parser)]
 #[tactic(auto, using(crate::proofs::Using::after_none))]
-pub fn for_of<'a>(alloc: Global, line: u32, tokens: &'a [Lexeme], inner: u32) -> Result<ReadStmt<'a>, Stop>
+pub fn for_of<'a>(
+    alloc: Global,
+    line: u32,
+    tokens: &'a [Lexeme],
+    inner: u32,
+) -> Result<ReadStmt<'a>, Stop>
     requires { inner < 200 }
     ensures read { IsStmt (for_at inner (readers inner) line (seen tokens.now)) result }
     ensures within { IfOk result (λ found. found.depth ≤ inner + 1) }
@@ -798,7 +929,12 @@ pub fn for_of<'a>(alloc: Global, line: u32, tokens: &'a [Lexeme], inner: u32) ->
 
 /// A `return`, behind its word.
 #[cycle(parser)]
-pub fn return_of<'a>(alloc: Global, token: &Lexeme, tokens: &'a [Lexeme], inner: u32) -> Result<ReadStmt<'a>, Stop>
+pub fn return_of<'a>(
+    alloc: Global,
+    token: &Lexeme,
+    tokens: &'a [Lexeme],
+    inner: u32,
+) -> Result<ReadStmt<'a>, Stop>
     requires { inner < 200 }
     ensures read { IsStmt (return_at inner (readers inner) token.now.token (seen tokens.now)) result }
     ensures within { IfOk result (λ found. found.depth ≤ inner + 1) }
@@ -816,7 +952,11 @@ pub fn return_of<'a>(alloc: Global, token: &Lexeme, tokens: &'a [Lexeme], inner:
 
 /// An expression as a statement.
 #[cycle(parser)]
-pub fn expression_of<'a>(alloc: Global, tokens: &'a [Lexeme], inner: u32) -> Result<ReadStmt<'a>, Stop>
+pub fn expression_of<'a>(
+    alloc: Global,
+    tokens: &'a [Lexeme],
+    inner: u32,
+) -> Result<ReadStmt<'a>, Stop>
     requires { inner < 200 }
     ensures read { IsStmt (at_first (expression_at inner (readers inner)) (seen tokens.now)) result }
     ensures within { IfOk result (λ found. found.depth ≤ inner + 1) }
@@ -830,7 +970,11 @@ pub fn expression_of<'a>(alloc: Global, tokens: &'a [Lexeme], inner: u32) -> Res
 
 /// A statement.
 #[cycle(parser)]
-pub fn statement_of<'a>(alloc: Global, tokens: &'a [Lexeme], inner: u32) -> Result<ReadStmt<'a>, Stop>
+pub fn statement_of<'a>(
+    alloc: Global,
+    tokens: &'a [Lexeme],
+    inner: u32,
+) -> Result<ReadStmt<'a>, Stop>
     requires { inner < 200 }
     ensures read { IsStmt (statement_read inner (readers inner) (seen tokens.now)) result }
     ensures within { IfOk result (λ found. found.depth ≤ inner + 1) }

@@ -22,7 +22,11 @@ use js_tree::Tree;
 use std::alloc::Global;
 
 /// A function declaration, behind its word.
-fn function_item<'a>(alloc: Global, token: &Lexeme, tokens: &'a [Lexeme]) -> Result<ReadItem<'a>, Stop>
+fn function_item<'a>(
+    alloc: Global,
+    token: &Lexeme,
+    tokens: &'a [Lexeme],
+) -> Result<ReadItem<'a>, Stop>
     ensures read { IsItem (item_function_at 199 (readers 199) token.now.token (seen tokens.now)) result }
     ensures shorter { IfOk result (λ found. length found.rest.now < length tokens.now) }
 {
@@ -33,7 +37,12 @@ fn function_item<'a>(alloc: Global, token: &Lexeme, tokens: &'a [Lexeme]) -> Res
 }
 
 /// What the program lists next.
-fn item_of<'a>(alloc: Global, token: &Lexeme, rest: &'a [Lexeme], tokens: &'a [Lexeme]) -> Result<ReadItem<'a>, Stop>
+fn item_of<'a>(
+    alloc: Global,
+    token: &Lexeme,
+    rest: &'a [Lexeme],
+    tokens: &'a [Lexeme],
+) -> Result<ReadItem<'a>, Stop>
     requires { tokens.now ≡ token.now ∷ rest.now }
     ensures read { IsItem (item 199 (readers 199) (seen tokens.now)) result }
     ensures shorter { IfOk result (λ found. length found.rest.now < length tokens.now) }

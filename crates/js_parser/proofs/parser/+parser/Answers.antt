@@ -10,7 +10,7 @@ use Rattle.js_parser.proofs.parser.+parser.Goals as goal
 pub chain_of-returns-then-left-inner-clause-read : goal.chain_of-returns-then-left-inner-clause-read
 chain_of-returns-then-left-inner-clause-read t c =
     chain_refused c.args.inner c.args.line c.args.level c.in-Some-operator_in.operator _ _ _ c.in-Some.token.now _ _ _ c.more.invariant.same c.in-Some.ensures
-      (sym c.operator_in.ensures ∙ c.in-Some-operator_in.is) (omega arith) c.no_tree.ensures
+    (sym c.operator_in.ensures ∙ c.in-Some-operator_in.is) (omega arith) c.no_tree.ensures
 
 pub chain_of-more-preserved : goal.chain_of-more-preserved
 chain_of-more-preserved t c =
