@@ -1,13 +1,12 @@
 -- Facts on what is skipped and held, and what the tests on tokens are.
-use Rattle.std.proofs.Common.{◌≡◌, ℕ, zero, suc, ◌-◌, sub-one, Bool, false, List, [], ◌∷◌, Option, Some, None, Result, Ok, refl, eqb-true, true}
+use Rattle.std.proofs.Common.{◌≡◌, ℕ, zero, suc, ◌-◌, sub-one, false, List, [], ◌∷◌, Option, Some, None, Ok, refl}
 use Rattle.js_lexer.specs.declared.token.Token.{Token}
 use Rattle.js_grammar.specs.declared.sort.Sort.{Sort}
 use Rattle.js_tree.specs.declared.tree.Spot.{Spot}
-use Rattle.js_tree.specs.declared.tree.Name.{Name}
 use Rattle.js_grammar.specs.Sorts.{sort, named, numbered, quoted, member_word, key, kind_sort, kind_name, kind_number, kind_words, kind_member, kind_key, name_at, spot}
 use Rattle.js_grammar.specs.Tokens.{starts, arrow_follows, operator_at, at_level, operator, sign, sort_sign, step, sort_step, assign_op, sort_assign, declares, sort_declare, lexical, if_lexical, is_of, is_of_name}
 use Rattle.js_grammar.specs.Reader.{after, after_some}
-use Rattle.js_steps.specs.Skipped.{first, IsHeld, IsSkipped}
+use Rattle.js_steps.specs.Skipped.{first, IsHeld}
 use Rattle.js_steps.specs.declared.lexeme.Lexeme.{Lexeme}
 use Rattle.std.specs.Borrow.{Bor}
 

@@ -1,4 +1,4 @@
-use Rattle.std.proofs.Common.{◌≡◌, ◌∙◌, ap, sym, Some}
+use Rattle.std.proofs.Common.{◌∙◌, ap, sym, Some}
 use Rattle.js_grammar.specs.Sorts.{kind_key}
 use Rattle.js_steps.proofs.Using.{key_is}
 use Rattle.js_steps.proofs.cursor.key_of.Goals as goal

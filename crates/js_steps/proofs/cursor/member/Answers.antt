@@ -1,4 +1,4 @@
-use Rattle.std.proofs.Common.{◌≡◌, ◌∙◌, ap, sym, Some}
+use Rattle.std.proofs.Common.{◌∙◌, ap, sym, Some}
 use Rattle.js_grammar.specs.Sorts.{kind_member}
 use Rattle.js_steps.proofs.Using.{member_word_is}
 use Rattle.js_steps.proofs.cursor.member.Goals as goal

@@ -1,4 +1,4 @@
-use Rattle.std.proofs.Common.{◌≡◌, ◌∙◌, ap, sym, Some}
+use Rattle.std.proofs.Common.{◌∙◌, ap}
 use Rattle.js_grammar.specs.Sorts.{kind_name, name_at, spot}
 use Rattle.js_steps.proofs.Using.{named_is, name_same}
 use Rattle.js_steps.proofs.cursor.name.Goals as goal

@@ -1,4 +1,4 @@
-use Rattle.std.proofs.Common.{◌≡◌, ◌∙◌, ap, sym, Some}
+use Rattle.std.proofs.Common.{◌∙◌, ap}
 use Rattle.js_grammar.specs.Sorts.{kind_number}
 use Rattle.js_steps.proofs.Using.{numbered_is}
 use Rattle.js_steps.proofs.cursor.number.Goals as goal

@@ -1,4 +1,4 @@
-use Rattle.std.proofs.Common.{◌≡◌, ◌∙◌, ap, sym, Some}
+use Rattle.std.proofs.Common.{sym}
 use Rattle.js_grammar.proofs.Marks.{is-true}
 use Rattle.js_steps.proofs.cursor.skip.Goals as goal
 

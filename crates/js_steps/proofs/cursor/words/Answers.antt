@@ -1,4 +1,4 @@
-use Rattle.std.proofs.Common.{◌≡◌, ◌∙◌, ap, sym, Some}
+use Rattle.std.proofs.Common.{◌∙◌, ap, sym, Some}
 use Rattle.js_grammar.specs.Sorts.{kind_words}
 use Rattle.js_steps.proofs.Using.{quoted_is}
 use Rattle.js_steps.proofs.cursor.words.Goals as goal

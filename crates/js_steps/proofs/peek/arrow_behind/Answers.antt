@@ -1,4 +1,4 @@
-use Rattle.std.proofs.Common.{◌≡◌, ◌∙◌, ap, sym, arith, length}
+use Rattle.std.proofs.Common.{◌∙◌, ap, sym, arith, length}
 use Rattle.js_grammar.specs.Tokens.{arrow_follows}
 use Rattle.js_steps.specs.Seen.{seen}
 use Rattle.js_steps.proofs.Using.{past_close}
