@@ -1,5 +1,5 @@
 -- What the readers do at one step.
-use Rattle.std.proofs.Common.{◌≡◌, ℕ, zero, suc, ◌+◌, ◌-◌, ◌<◌, ◌≤◌, ◌∙◌, add-one, subst, inl, inr, Err, Bool, true, false, List, [], ◌∷◌, ◌++◌, map, Option, Some, None, refl, sub-one, arith}
+use Rattle.std.proofs.Common.{◌≡◌, ℕ, zero, suc, ◌+◌, ◌-◌, ◌<◌, ◌≤◌, ◌∙◌, add-one, subst, inl, inr, Err, true, false, List, [], ◌∷◌, ◌++◌, map, Option, Some, None, refl, sub-one, arith}
 use Rattle.std.proofs.Math.Nat.{eq-or-lt_of_le}
 use Rattle.js_lexer.specs.declared.token.Token.{Token}
 use Rattle.js_tree.specs.declared.tree.Name.{Name}

@@ -1,5 +1,5 @@
 -- What is read at the first token and those behind it.
-use Rattle.std.specs.Prelude.{List, [], ◌∷◌, Option, None}
+use Rattle.std.specs.Prelude.{List, [], ◌∷◌, None}
 use Rattle.js_lexer.specs.declared.token.Token.{Token}
 use Rattle.js_grammar.specs.Reader.{Found}
 

@@ -1,4 +1,4 @@
-use Rattle.std.proofs.Common.{◌≡◌, ◌<◌, ◌≤◌, ◌+◌, ◌*◌, [], length, map, Some}
+use Rattle.std.proofs.Common.{◌≡◌, ◌<◌, ◌≤◌, ◌+◌, ◌*◌, length, map, Some}
 use Rattle.js_tree.specs.Views.{plain_expr, plain_field, plain_declarator, plain_stmt}
 use Rattle.js_grammar.specs.Reader.{readers, run, called_step, called, elements_step, elements, fields_step, fields, declarators_step, declarators_of_kind, operated_step, operators, statements_step, statements}
 use Rattle.js_steps.specs.Seen.{seen}

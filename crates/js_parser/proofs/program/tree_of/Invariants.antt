@@ -1,4 +1,4 @@
-use Rattle.std.proofs.Common.{◌≡◌, ◌≤◌, [], length, map}
+use Rattle.std.proofs.Common.{◌≡◌, ◌≤◌, length, map}
 use Rattle.js_tree.specs.Views.{plain_item}
 use Rattle.js_grammar.specs.Reader.{readers, run, items_step, items}
 use Rattle.js_steps.specs.Seen.{seen}
