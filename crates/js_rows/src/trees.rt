@@ -1,0 +1,833 @@
+//! Rows of trees.
+use js_data::{Text, Whole};
+use js_lexer::lex;
+use js_parser::parse;
+use js_tree::{
+    AssignOp, Declarator, DeclareKind, Expr, Field, Fix, Form, Item, Name, Operator, Sign, Start,
+    Step, Stmt, StmtForm, Tree,
+};
+use std::alloc::{AllocError, Global};
+
+fn sign_text(sign: Sign) -> &'static str {
+    match sign {
+        Sign::Not => "!",
+        Sign::Minus => "-",
+        Sign::Plus => "+",
+    }
+}
+
+fn step_text(step: Step, fix: Fix) -> &'static str {
+    match (step, fix) {
+        (Step::Increment, Fix::Before) => "++_",
+        (Step::Increment, Fix::After) => "_++",
+        (Step::Decrement, Fix::Before) => "--_",
+        (Step::Decrement, Fix::After) => "_--",
+    }
+}
+
+fn operator_text(operator: Operator) -> &'static str {
+    match operator {
+        Operator::Or => "||",
+        Operator::And => "&&",
+        Operator::Same => "===",
+        Operator::NotSame => "!==",
+        Operator::Equal => "==",
+        Operator::NotEqual => "!=",
+        Operator::Less => "<",
+        Operator::LessOrEqual => "<=",
+        Operator::Greater => ">",
+        Operator::GreaterOrEqual => ">=",
+        Operator::Add => "+",
+        Operator::Subtract => "-",
+        Operator::Multiply => "*",
+        Operator::Divide => "/",
+        Operator::Remainder => "%",
+    }
+}
+
+fn assign_text(operator: AssignOp) -> &'static str {
+    match operator {
+        AssignOp::Set => "=",
+        AssignOp::Add => "+=",
+        AssignOp::Subtract => "-=",
+        AssignOp::Multiply => "*=",
+        AssignOp::Divide => "/=",
+        AssignOp::Remainder => "%=",
+    }
+}
+
+fn kind_text(kind: DeclareKind) -> &'static str {
+    match kind {
+        DeclareKind::Const => "const",
+        DeclareKind::Let => "let",
+        DeclareKind::Var => "var",
+    }
+}
+
+/// An opened list: `(` and its head.
+fn begin(out: &mut String, head: &str) -> Result<(), AllocError> {
+    out.push('(')?;
+    out.push_str(head)
+}
+
+fn word(out: &mut String, text: &Text) -> Result<(), AllocError> {
+    out.push(' ')?;
+    out.push_str(text.as_str())
+}
+
+fn quoted(out: &mut String, text: &Text) -> Result<(), AllocError> {
+    out.push('"')?;
+    out.push_str(text.as_str())?;
+    out.push('"')
+}
+
+fn number(out: &mut String, n: Whole) -> Result<(), AllocError> {
+    write!(out, "{}", n.get())
+}
+
+fn update(out: &mut String, head: &str, name: &Name) -> Result<(), AllocError> {
+    begin(out, head)?;
+    word(out, &name.text)?;
+    out.push(')')
+}
+
+fn names(out: &mut String, names: &[Name]) -> Result<(), AllocError> {
+    out.push_str(" (")?;
+    for (place, name) in names.iter().enumerate() {
+        if place > 0 {
+            out.push(' ')?;
+        }
+        out.push_str(name.text.as_str())?;
+    }
+    out.push(')')
+}
+
+/// An expression behind a text; past the room only dots.
+#[cycle(shown)]
+fn expr(out: &mut String, before: &str, tree: &Expr, room: u32) -> Result<(), AllocError> {
+    out.push_str(before)?;
+    if room == 0 {
+        return out.push_str("..");
+    }
+    for _ in 0..tree.parens {
+        out.push('\'')?;
+    }
+    form(out, &tree.form, room - 1)
+}
+
+#[cycle(shown)]
+fn exprs(out: &mut String, trees: &[Expr], room: u32) -> Result<(), AllocError> {
+    for tree in trees {
+        expr(out, " ", tree, room)?;
+    }
+    out.push(')')
+}
+
+#[cycle(shown)]
+fn one(out: &mut String, head: &str, a: &Expr, room: u32) -> Result<(), AllocError> {
+    begin(out, head)?;
+    expr(out, " ", a, room)?;
+    out.push(')')
+}
+
+#[cycle(shown)]
+fn two(out: &mut String, head: &str, a: &Expr, b: &Expr, room: u32) -> Result<(), AllocError> {
+    begin(out, head)?;
+    expr(out, " ", a, room)?;
+    expr(out, " ", b, room)?;
+    out.push(')')
+}
+
+#[cycle(shown)]
+fn three(out: &mut String, a: &Expr, b: &Expr, c: &Expr, room: u32) -> Result<(), AllocError> {
+    begin(out, "?")?;
+    expr(out, " ", a, room)?;
+    expr(out, " ", b, room)?;
+    expr(out, " ", c, room)?;
+    out.push(')')
+}
+
+#[cycle(shown)]
+fn member(out: &mut String, object: &Expr, name: &Text, room: u32) -> Result<(), AllocError> {
+    begin(out, ".")?;
+    expr(out, " ", object, room)?;
+    word(out, name)?;
+    out.push(')')
+}
+
+#[cycle(shown)]
+fn call(out: &mut String, callee: &Expr, trees: &[Expr], room: u32) -> Result<(), AllocError> {
+    begin(out, "call")?;
+    expr(out, " ", callee, room)?;
+    exprs(out, trees, room)
+}
+
+#[cycle(shown)]
+fn fields(out: &mut String, trees: &[Field], room: u32) -> Result<(), AllocError> {
+    begin(out, "fields")?;
+    for field in trees {
+        out.push_str(" (")?;
+        out.push_str(field.key.as_str())?;
+        expr(out, " ", &field.value, room)?;
+        out.push(')')?;
+    }
+    out.push(')')
+}
+
+#[cycle(shown)]
+fn assign(
+    out: &mut String,
+    head: &str,
+    name: &Name,
+    value: &Expr,
+    room: u32,
+) -> Result<(), AllocError> {
+    begin(out, head)?;
+    word(out, &name.text)?;
+    expr(out, " ", value, room)?;
+    out.push(')')
+}
+
+#[cycle(shown)]
+fn arrow(out: &mut String, params: &[Name], value: &Expr, room: u32) -> Result<(), AllocError> {
+    begin(out, "=>")?;
+    names(out, params)?;
+    expr(out, " ", value, room)?;
+    out.push(')')
+}
+
+#[cycle(shown)]
+fn function(
+    out: &mut String,
+    head: &str,
+    params: &[Name],
+    body: &[Stmt],
+    room: u32,
+) -> Result<(), AllocError> {
+    begin(out, head)?;
+    names(out, params)?;
+    stmts(out, " {", body, room)?;
+    out.push(')')
+}
+
+#[cycle(shown)]
+fn form(out: &mut String, form: &Form, room: u32) -> Result<(), AllocError> {
+    match form {
+        Form::Number(n) => number(out, *n),
+        Form::Words(text) => quoted(out, text),
+        Form::Truth(true) => out.push_str("true"),
+        Form::Truth(false) => out.push_str("false"),
+        Form::Null => out.push_str("null"),
+        Form::Use(name) => out.push_str(name.text.as_str()),
+        Form::List(trees) => list(out, trees, room),
+        Form::Fields(trees) => fields(out, trees, room),
+        Form::Member(object, name) => member(out, object, name, room),
+        Form::Index(a, i) => two(out, "at", a, i, room),
+        Form::Call(callee, trees) => call(out, callee, trees, room),
+        Form::Unary(sign, a) => one(out, sign_text(*sign), a, room),
+        Form::Update(step, fix, name) => update(out, step_text(*step, *fix), name),
+        Form::Binary(operator, a, b) => two(out, operator_text(*operator), a, b, room),
+        Form::Conditional(a, b, c) => three(out, a, b, c, room),
+        Form::Assign(operator, name, a) => assign(out, assign_text(*operator), name, a, room),
+        Form::ArrowValue(_, params, value) => arrow(out, params, value, room),
+        Form::ArrowBlock(_, params, body) => function(out, "=>", params, body, room),
+        Form::Function(_, params, body) => function(out, "function", params, body, room),
+    }
+}
+
+#[cycle(shown)]
+fn list(out: &mut String, trees: &[Expr], room: u32) -> Result<(), AllocError> {
+    begin(out, "list")?;
+    exprs(out, trees, room)
+}
+
+/// An expression that may be absent.
+#[cycle(shown)]
+fn perhaps(out: &mut String, tree: &Option<Expr>, room: u32) -> Result<(), AllocError> {
+    match tree {
+        Some(tree) => expr(out, " ", tree, room),
+        None => out.push_str(" _"),
+    }
+}
+
+#[cycle(shown)]
+fn declarator(out: &mut String, tree: &Declarator, room: u32) -> Result<(), AllocError> {
+    let Some(value) = &tree.value else {
+        return word(out, &tree.name.text);
+    };
+    out.push_str(" (")?;
+    out.push_str(tree.name.text.as_str())?;
+    expr(out, " ", value, room)?;
+    out.push(')')
+}
+
+#[cycle(shown)]
+fn declaration(
+    out: &mut String,
+    kind: DeclareKind,
+    trees: &[Declarator],
+    room: u32,
+) -> Result<(), AllocError> {
+    begin(out, kind_text(kind))?;
+    for tree in trees {
+        declarator(out, tree, room)?;
+    }
+    out.push(')')
+}
+
+#[cycle(shown)]
+fn start(out: &mut String, tree: &Start, room: u32) -> Result<(), AllocError> {
+    match tree {
+        Start::Nothing => out.push('_'),
+        Start::Declares(_, kind, trees) => declaration(out, *kind, trees, room),
+        Start::Evaluates(tree) => expr(out, "", tree, room),
+    }
+}
+
+/// A statement behind a text; past the room only dots.
+#[cycle(shown)]
+fn stmt(out: &mut String, before: &str, tree: &Stmt, room: u32) -> Result<(), AllocError> {
+    out.push_str(before)?;
+    if room == 0 {
+        return out.push_str("..");
+    }
+    stmt_form(out, &tree.form, room - 1)
+}
+
+/// Statements, with the brace that closes them.
+#[cycle(shown)]
+fn stmts(out: &mut String, before: &str, trees: &[Stmt], room: u32) -> Result<(), AllocError> {
+    out.push_str(before)?;
+    for (place, tree) in trees.iter().enumerate() {
+        stmt(out, if place > 0 { " " } else { "" }, tree, room)?;
+    }
+    out.push('}')
+}
+
+#[cycle(shown)]
+fn if_alone(out: &mut String, test: &Expr, body: &Stmt, room: u32) -> Result<(), AllocError> {
+    begin(out, "if")?;
+    expr(out, " ", test, room)?;
+    stmt(out, " ", body, room)?;
+    out.push(')')
+}
+
+#[cycle(shown)]
+fn if_else(
+    out: &mut String,
+    test: &Expr,
+    body: &Stmt,
+    other: &Stmt,
+    room: u32,
+) -> Result<(), AllocError> {
+    begin(out, "if")?;
+    expr(out, " ", test, room)?;
+    stmt(out, " ", body, room)?;
+    stmt(out, " ", other, room)?;
+    out.push(')')
+}
+
+#[cycle(shown)]
+fn while_of(out: &mut String, test: &Expr, body: &Stmt, room: u32) -> Result<(), AllocError> {
+    begin(out, "while")?;
+    expr(out, " ", test, room)?;
+    stmt(out, " ", body, room)?;
+    out.push(')')
+}
+
+#[cycle(shown)]
+fn for_three(
+    out: &mut String,
+    first: &Start,
+    test: &Option<Expr>,
+    next: &Option<Expr>,
+    body: &Stmt,
+    room: u32,
+) -> Result<(), AllocError> {
+    out.push_str("(for ")?;
+    start(out, first, room)?;
+    perhaps(out, test, room)?;
+    perhaps(out, next, room)?;
+    stmt(out, " ", body, room)?;
+    out.push(')')
+}
+
+#[cycle(shown)]
+fn for_each(
+    out: &mut String,
+    kind: DeclareKind,
+    name: &Name,
+    list: &Expr,
+    body: &Stmt,
+    room: u32,
+) -> Result<(), AllocError> {
+    out.push_str("(of ")?;
+    out.push_str(kind_text(kind))?;
+    word(out, &name.text)?;
+    expr(out, " ", list, room)?;
+    stmt(out, " ", body, room)?;
+    out.push(')')
+}
+
+#[cycle(shown)]
+fn stmt_form(out: &mut String, form: &StmtForm, room: u32) -> Result<(), AllocError> {
+    match form {
+        StmtForm::Empty => out.push(';'),
+        StmtForm::Block(trees) => stmts(out, "{", trees, room),
+        StmtForm::Declaration(kind, trees) => declaration(out, *kind, trees, room),
+        StmtForm::Expression(tree) => expr(out, "", tree, room),
+        StmtForm::If(test, body) => if_alone(out, test, body, room),
+        StmtForm::IfElse(test, body, other) => if_else(out, test, body, other, room),
+        StmtForm::While(test, body) => while_of(out, test, body, room),
+        StmtForm::For(first, test, next, body) => for_three(out, first, test, next, body, room),
+        StmtForm::ForOf(kind, name, list, body) => for_each(out, *kind, name, list, body, room),
+        StmtForm::Break(_) => out.push_str("break"),
+        StmtForm::Continue(_) => out.push_str("continue"),
+        StmtForm::ReturnNothing(_) => out.push_str("return"),
+        StmtForm::Return(_, value) => one(out, "return", value, room),
+    }
+}
+
+fn item(out: &mut String, tree: &Item) -> Result<(), AllocError> {
+    match tree {
+        Item::Statement(tree) => stmt(out, "", tree, 256),
+        Item::Function(_, name, params, body) => {
+            out.push_str("(function ")?;
+            function_of(out, name, params, body)
+        }
+    }
+}
+
+fn function_of(
+    out: &mut String,
+    name: &Name,
+    params: &[Name],
+    body: &[Stmt],
+) -> Result<(), AllocError> {
+    out.push_str(name.text.as_str())?;
+    names(out, params)?;
+    stmts(out, " {", body, 256)?;
+    out.push(')')
+}
+
+fn shown_tree(alloc: Global, tree: &Tree) -> Result<String, AllocError> {
+    let mut out = String::new(alloc);
+    for (place, tree) in tree.items.iter().enumerate() {
+        if place > 0 {
+            out.push(' ')?;
+        }
+        item(&mut out, tree)?;
+    }
+    Ok(out)
+}
+
+/// The tree of a text, as lists in parentheses, each with its form first and a `'` for each pair round an expression;
+/// or the refusal.
+pub fn shown(alloc: Global, bytes: &[u8]) -> Result<String, AllocError> {
+    if bytes.len() > 1_048_576 {
+        return format!(in alloc; "too long");
+    }
+    let tokens = match lex(alloc, bytes) {
+        Ok(tokens) => tokens,
+        Err(fault) => return format!(in alloc; "{fault:?}"),
+    };
+    match parse(alloc, &tokens) {
+        Ok(tree) => shown_tree(alloc, &tree),
+        Err(fault) => format!(in alloc; "{fault:?}"),
+    }
+}
+
+#[cfg(test)]
+mod tests {
+    use super::*;
+    use std::process::Abort;
+    use std::test::Fail;
+
+    fn agree(rt: &impl Abort, alloc: Global, rows: &[(&str, &str)]) -> Result<(), AllocError> {
+        for (text, want) in rows {
+            let found = shown(alloc, text.as_bytes())?;
+            assert_eq!(rt; found.as_str(), *want, "{text}");
+        }
+        Ok(())
+    }
+
+    #[test]
+    fn programs_list_statements_and_functions(rt: HostRuntime) -> Result<(), Fail> {
+        let rows: [(&str, &str); 13] = [
+            ("", ""),
+            ("a; b", "a b"),
+            (
+                "function f(x, y) { return x }",
+                "(function f (x y) {(return x)})",
+            ),
+            (
+                "function f() {} function g(x,) {} a",
+                "(function f () {}) (function g (x) {}) a",
+            ),
+            ("function () {}", "NoTree(1)"),
+            ("function f {}", "NoTree(1)"),
+            ("function f() a", "NoTree(1)"),
+            ("{ function f() {} }", "NoTree(1)"),
+            ("if (a) function f() {}", "NoTree(1)"),
+            ("function f() { function g() {} }", "NoTree(1)"),
+            ("function if() {}", "NoTree(1)"),
+            ("a }", "NoTree(1)"),
+            ("{ a", "NoTree(1)"),
+        ];
+        agree(&rt, rt.alloc(), &rows)?;
+        Ok(())
+    }
+
+    #[test]
+    fn statements_by_their_first_token(rt: HostRuntime) -> Result<(), Fail> {
+        let rows: [(&str, &str); 30] = [
+            ("{}", "{}"),
+            ("{ a; { b } }", "{a {b}}"),
+            ("const a = 1", "(const (a 1))"),
+            ("let a, b = 2, c", "(let a (b 2) c)"),
+            ("var a", "(var a)"),
+            ("const a", "NoTree(1)"),
+            ("const a = 1, b", "NoTree(1)"),
+            ("let a = 1, ;", "NoTree(1)"),
+            ("let if = 1", "NoTree(1)"),
+            ("let switch = 1", "Unsupported(1)"),
+            ("let of = 1", "(let (of 1))"),
+            ("{}.a", "NoTree(1)"),
+            ("function f() {}()", "NoTree(1)"),
+            ("(function() {})()", "(call '(function () {}))"),
+            ("({a: 1})", "'(fields (a 1))"),
+            ("!function() {}", "(! (function () {}))"),
+            ("if (a) b; else c", "(if a b c)"),
+            ("if (a) b", "(if a b)"),
+            ("if (a) if (b) c; else d", "(if a (if b c d))"),
+            ("if (a) { if (b) c } else d", "(if a {(if b c)} d)"),
+            ("if (a) b; else if (c) d; else e", "(if a b (if c d e))"),
+            ("if (a) b\nelse c", "(if a b c)"),
+            ("if (a) b else c", "NoTree(1)"),
+            ("if a b", "NoTree(1)"),
+            ("if (a)", "NoTree(1)"),
+            ("else a", "NoTree(1)"),
+            ("while (a) b", "(while a b)"),
+            ("while (a);", "(while a ;)"),
+            (";;", "; ;"),
+            (
+                "break; continue; return; return a",
+                "break continue return (return a)",
+            ),
+        ];
+        agree(&rt, rt.alloc(), &rows)?;
+        Ok(())
+    }
+
+    #[test]
+    fn loops_with_three_parts_and_over_lists(rt: HostRuntime) -> Result<(), Fail> {
+        let rows: [(&str, &str); 22] = [
+            (
+                "for (let i = 0; i < 3; i++) a",
+                "(for (let (i 0)) (< i 3) (_++ i) a)",
+            ),
+            ("for (;;) {}", "(for _ _ _ {})"),
+            ("for (i = 0; ; ) a", "(for (= i 0) _ _ a)"),
+            ("for (; a; ) b", "(for _ a _ b)"),
+            ("for (; ; a) b", "(for _ _ a b)"),
+            ("for (var i, j = 1; ; ) a", "(for (var i (j 1)) _ _ a)"),
+            ("for (const x = 1; ; ) a", "(for (const (x 1)) _ _ a)"),
+            ("for (const x; ; ) a", "NoTree(1)"),
+            ("for ({}; ; ) a", "(for (fields) _ _ a)"),
+            ("for (function() {}; ; ) a", "(for (function () {}) _ _ a)"),
+            ("for (const x of xs) a", "(of const x xs a)"),
+            ("for (let x of a.b()) {}", "(of let x (call (. a b)) {})"),
+            ("for (let x of a = b) {}", "(of let x (= a b) {})"),
+            ("for (var x of xs) a", "NoTree(1)"),
+            ("for (x of xs) a", "NoTree(1)"),
+            ("for (let if of xs) a", "NoTree(1)"),
+            ("for (let of of xs) a", "(of let of xs a)"),
+            ("for (let of = 1; ; ) a", "(for (let (of 1)) _ _ a)"),
+            ("for (a; b) c", "NoTree(1)"),
+            ("for (let i = 0\ni < 3; i++) a", "NoTree(2)"),
+            ("for (let i = 0; i < 3\ni++) a", "NoTree(2)"),
+            ("for (a; b; c; d) e", "NoTree(1)"),
+        ];
+        agree(&rt, rt.alloc(), &rows)?;
+        Ok(())
+    }
+
+    #[test]
+    fn bodies_are_no_lexical_declarations(rt: HostRuntime) -> Result<(), Fail> {
+        let rows: [(&str, &str); 10] = [
+            ("if (a) let b = 1", "NoTree(1)"),
+            ("if (a) const b = 1", "NoTree(1)"),
+            ("if (a) var b = 1", "(if a (var (b 1)))"),
+            ("if (a) b; else let c = 1", "NoTree(1)"),
+            ("if (a) b; else var c", "(if a b (var c))"),
+            ("while (a) let b", "NoTree(1)"),
+            ("for (;;) let a", "NoTree(1)"),
+            ("for (const x of y) const z = 1", "NoTree(1)"),
+            ("while (a) { let b }", "(while a {(let b)})"),
+            ("while (a) while (b) return", "(while a (while b return))"),
+        ];
+        agree(&rt, rt.alloc(), &rows)?;
+        Ok(())
+    }
+
+    #[test]
+    fn ends_may_be_absent(rt: HostRuntime) -> Result<(), Fail> {
+        let rows: [(&str, &str); 43] = [
+            ("a b", "NoTree(1)"),
+            ("a\nb", "a b"),
+            ("{ a }", "{a}"),
+            ("a\n;b", "a b"),
+            ("let a = 1 let b = 2", "NoTree(1)"),
+            ("let a = 1\nlet b = 2", "(let (a 1)) (let (b 2))"),
+            ("a\n(b)", "(call a b)"),
+            ("a\n[b]", "(at a b)"),
+            ("a++\n(b)", "(_++ a) 'b"),
+            ("a--\n[b]", "(_-- a) (list b)"),
+            ("++a\n(b)", "NoTree(2)"),
+            ("a = () => {}\n(b)", "(= a (=> () {})) 'b"),
+            ("a = () => {}\n[b]", "(= a (=> () {})) (list b)"),
+            ("a = () => {}\n+ b", "(= a (=> () {})) (+ b)"),
+            ("a = () => {}\n- b", "(= a (=> () {})) (- b)"),
+            ("a = () => {} (b)", "NoTree(1)"),
+            ("a = () => {}\n* b", "NoTree(2)"),
+            ("a = b => c\n(d)", "(= a (=> (b) (call c d)))"),
+            ("a = (() => {})\n(b)", "(= a (call '(=> () {}) b))"),
+            (
+                "let f = function() {}\n(b)",
+                "(let (f (call (function () {}) b)))",
+            ),
+            ("a\n+ b", "(+ a b)"),
+            ("a\n- b", "(- a b)"),
+            ("a++\n+ b", "(+ (_++ a) b)"),
+            ("let a\n(b)", "(let a) 'b"),
+            ("let a\n[b]", "(let a) (list b)"),
+            ("let a\n+ b", "(let a) (+ b)"),
+            ("let a\n- b", "(let a) (- b)"),
+            ("break\n(a)", "break 'a"),
+            ("continue\n[a]", "continue (list a)"),
+            ("return\n- a", "return (- a)"),
+            ("return\n(a)", "return 'a"),
+            ("return\na", "return a"),
+            ("return (\na)", "(return 'a)"),
+            ("break a", "NoTree(1)"),
+            ("continue\n;a", "continue a"),
+            ("if (a) break\n; else b", "(if a break b)"),
+            ("a\n.b", "(. a b)"),
+            ("a\n* b", "(* a b)"),
+            ("a\n? b : c", "(? a b c)"),
+            ("a\n= b", "(= a b)"),
+            ("let a = b\n, c", "(let (a b) c)"),
+            ("a\n++b", "a (++_ b)"),
+            ("a ++\nb", "(_++ a) b"),
+        ];
+        agree(&rt, rt.alloc(), &rows)?;
+        Ok(())
+    }
+
+    #[test]
+    fn assignments_arrows_and_conditionals(rt: HostRuntime) -> Result<(), Fail> {
+        let rows: [(&str, &str); 30] = [
+            ("a = b = c", "(= a (= b c))"),
+            (
+                "a += b -= c *= d /= e %= f",
+                "(+= a (-= b (*= c (/= d (%= e f)))))",
+            ),
+            ("a.b = c", "NoTree(1)"),
+            ("(a) = c", "NoTree(1)"),
+            ("1 = a", "NoTree(1)"),
+            ("a + b = c", "NoTree(1)"),
+            ("a, b", "NoTree(1)"),
+            ("x => x", "(=> (x) x)"),
+            ("() => a", "(=> () a)"),
+            ("(a, b) => a", "(=> (a b) a)"),
+            ("(a, b,) => a", "(=> (a b) a)"),
+            ("(,) => a", "NoTree(1)"),
+            ("(a, 1) => a", "NoTree(1)"),
+            ("((a)) => b", "NoTree(1)"),
+            ("a => b => c", "(=> (a) (=> (b) c))"),
+            ("a => { return a }", "(=> (a) {(return a)})"),
+            ("a => ({})", "(=> (a) '(fields))"),
+            ("a => {}.b", "NoTree(1)"),
+            ("a => b = c", "(=> (a) (= b c))"),
+            ("a + b => c", "NoTree(1)"),
+            ("a =>\nb", "(=> (a) b)"),
+            ("a\n=> b", "NoTree(2)"),
+            ("(a)\n=> b", "NoTree(2)"),
+            ("if => a", "NoTree(1)"),
+            ("a ? b : c", "(? a b c)"),
+            ("a ? b : c ? d : e", "(? a b (? c d e))"),
+            ("a ? b ? c : d : e", "(? a (? b c d) e)"),
+            ("a ? b = 1 : c = 2", "(? a (= b 1) (= c 2))"),
+            ("a || b ? c : d => e", "(? (|| a b) c (=> (d) e))"),
+            ("a ? b", "NoTree(1)"),
+        ];
+        agree(&rt, rt.alloc(), &rows)?;
+        Ok(())
+    }
+
+    #[test]
+    fn operators_by_level(rt: HostRuntime) -> Result<(), Fail> {
+        let rows: [(&str, &str); 26] = [
+            ("a - b - c", "(- (- a b) c)"),
+            ("a - (b - c)", "(- a '(- b c))"),
+            ("a || b && c", "(|| a (&& b c))"),
+            ("a && b || c", "(|| (&& a b) c)"),
+            ("a && b == c", "(&& a (== b c))"),
+            ("a === b !== c == d != e", "(!= (== (!== (=== a b) c) d) e)"),
+            ("a == b < c", "(== a (< b c))"),
+            ("a < b <= c > d >= e", "(>= (> (<= (< a b) c) d) e)"),
+            ("a < b + c", "(< a (+ b c))"),
+            ("a + b * c - d", "(- (+ a (* b c)) d)"),
+            ("a * b / c % d", "(% (/ (* a b) c) d)"),
+            ("a +", "NoTree(1)"),
+            ("* a", "NoTree(1)"),
+            ("!-+a", "(! (- (+ a)))"),
+            ("-a * b", "(* (- a) b)"),
+            ("a - -b", "(- a (- b))"),
+            ("+ ++a", "(+ (++_ a))"),
+            ("--a", "(--_ a)"),
+            ("++a.b", "NoTree(1)"),
+            ("++1", "NoTree(1)"),
+            ("++ ++a", "NoTree(1)"),
+            ("- a--", "(- (_-- a))"),
+            ("a++ + b", "(+ (_++ a) b)"),
+            ("a.b++", "NoTree(1)"),
+            ("(a)++", "NoTree(1)"),
+            ("a\n++", "NoTree(2)"),
+        ];
+        agree(&rt, rt.alloc(), &rows)?;
+        Ok(())
+    }
+
+    #[test]
+    fn calls_and_primaries(rt: HostRuntime) -> Result<(), Fail> {
+        let rows: [(&str, &str); 32] = [
+            ("a.b[c](d).e", "(. (call (at (. a b) c) d) e)"),
+            ("a.if.switch.__proto__", "(. (. (. a if) switch) __proto__)"),
+            ("!a.b()", "(! (call (. a b)))"),
+            ("f(a)(b, c,)", "(call (call f a) b c)"),
+            ("f(,)", "NoTree(1)"),
+            ("f(a b)", "NoTree(1)"),
+            ("a[]", "NoTree(1)"),
+            ("a[b, c]", "NoTree(1)"),
+            ("a.'b'", "NoTree(1)"),
+            ("1 .a", "(. 1 a)"),
+            ("f(x => x, {a})", "(call f (=> (x) x) (fields (a a)))"),
+            ("0x1F", "31"),
+            ("'x y'", "\"x y\""),
+            ("[true, false, null]", "(list true false null)"),
+            ("[]", "(list)"),
+            ("[1,]", "(list 1)"),
+            ("[,]", "NoTree(1)"),
+            ("[1,,2]", "NoTree(1)"),
+            ("a = {b: c}", "(= a (fields (b c)))"),
+            (
+                "({a: 1, 'b c': 2, if: 3, switch: 4, d,})",
+                "'(fields (a 1) (b c 2) (if 3) (switch 4) (d d))",
+            ),
+            ("({,})", "NoTree(1)"),
+            ("({1: a})", "NoTree(1)"),
+            ("({if})", "NoTree(1)"),
+            ("({'a'})", "NoTree(1)"),
+            ("({a() {}})", "NoTree(1)"),
+            ("({[a]: 1})", "NoTree(1)"),
+            ("({a = 1})", "NoTree(1)"),
+            (
+                "f(function(x) { return x })",
+                "(call f (function (x) {(return x)}))",
+            ),
+            ("f(function g() {})", "NoTree(1)"),
+            ("()", "NoTree(1)"),
+            ("((a))", "''a"),
+            ("a = if", "NoTree(1)"),
+        ];
+        agree(&rt, rt.alloc(), &rows)?;
+        Ok(())
+    }
+
+    #[test]
+    fn unsupported_tokens_come_first(rt: HostRuntime) -> Result<(), Fail> {
+        let rows: [(&str, &str); 19] = [
+            ("switch (a) {}", "Unsupported(1)"),
+            ("a & b", "Unsupported(1)"),
+            ("a\n** b", "Unsupported(2)"),
+            ("a?.b", "Unsupported(1)"),
+            ("f(...a)", "Unsupported(1)"),
+            ("new A()", "Unsupported(1)"),
+            ("a\n\nin b", "Unsupported(3)"),
+            ("try {} catch (e) {}", "Unsupported(1)"),
+            ("({switch: 1}).switch", "(. '(fields (switch 1)) switch)"),
+            ("({__proto__: 1})", "Unsupported(1)"),
+            ("({'__proto__': 1})", "Unsupported(1)"),
+            ("({__proto__})", "'(fields (__proto__ __proto__))"),
+            ("c ? a.__proto__ : 1", "(? c (. a __proto__) 1)"),
+            ("c ? __proto__ : 1", "Unsupported(1)"),
+            ("a ? new : b", "NoTree(1)"),
+            ("a ? ~ : b", "Unsupported(1)"),
+            ("a.~b", "NoTree(1)"),
+            ("a.b\n~c ^ d", "Unsupported(2)"),
+            ("let a = 1 let b\nthis", "Unsupported(2)"),
+        ];
+        agree(&rt, rt.alloc(), &rows)?;
+        Ok(())
+    }
+
+    /// A text between so many fronts and so many backs.
+    fn nested(
+        alloc: Global,
+        front: &str,
+        times: usize,
+        middle: &str,
+        back: &str,
+    ) -> Result<String, AllocError> {
+        let mut text = String::new(alloc);
+        for _ in 0..times {
+            text.push_str(front)?;
+        }
+        text.push_str(middle)?;
+        for _ in 0..times {
+            text.push_str(back)?;
+        }
+        Ok(text)
+    }
+
+    #[test]
+    fn nesting_of_at_most_200(rt: HostRuntime) -> Result<(), Fail> {
+        let rows = [
+            ("{", 200, "", "}"),
+            ("{", 199, ";", "}"),
+            ("(", 198, "a", ")"),
+            ("[", 198, "a", "]"),
+            ("f(", 198, "a", ")"),
+            ("", 198, "f", "()"),
+            ("", 198, "a", ".b()"),
+            ("", 198, "a", "[b]"),
+            ("", 198, "a", "-b"),
+            ("- ", 198, "a", ""),
+            ("a=", 198, "a", ""),
+            ("a=>", 198, "a", ""),
+            ("b?c:", 198, "a", ""),
+            ("if(a)", 199, ";", ""),
+        ];
+        for (front, times, middle, back) in rows {
+            let text = nested(rt.alloc(), front, times, middle, back)?;
+            let found = shown(rt.alloc(), text.as_str().as_bytes())?;
+            assert_ne!(rt; found.as_str(), "NoTree(1)", "{front}{middle}{back}");
+            let text = nested(rt.alloc(), front, times + 1, middle, back)?;
+            let found = shown(rt.alloc(), text.as_str().as_bytes())?;
+            assert_eq!(rt; found.as_str(), "NoTree(1)", "{front}{middle}{back}");
+        }
+        Ok(())
+    }
+
+    #[test]
+    fn a_script_without_semicolons(rt: HostRuntime) -> Result<(), Fail> {
+        let text =
+            "const f = () => {\n  return\n  1\n}\nconst g = x => x\nconst h = g\n(2)\nbp.registerBThread(\"A\", () => {\n  bp.log.info(f())\n  bp.log.info(h)\n})\n";
+        let want =
+            "(const (f (=> () {return 1}))) (const (g (=> (x) x))) (const (h (call g 2))) (call (. bp registerBThread) \"A\" (=> () {(call (. (. bp log) info) (call f)) (call (. (. bp log) info) h)}))";
+        let found = shown(rt.alloc(), text.as_bytes())?;
+        assert_eq!(rt; found.as_str(), want);
+        Ok(())
+    }
+}
