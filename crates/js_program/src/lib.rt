@@ -1,0 +1,8 @@
+//! Resolved programs: nodes with numbers, and names that have become slots and constants.
+#![tactic(auto)]
+
+mod builtin;
+mod node;
+
+pub use builtin::{Builtin, Mode};
+pub use node::{NodeForm, Variable};
