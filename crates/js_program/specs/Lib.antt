@@ -1,2 +1,3 @@
 pub mod Builtins
 pub mod PlainProgram
+pub mod Views

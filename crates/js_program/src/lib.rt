@@ -5,4 +5,4 @@ mod builtin;
 mod node;
 
 pub use builtin::{Builtin, Mode};
-pub use node::{NodeForm, Variable};
+pub use node::{Body, ConstantStart, Content, Declared, Node, NodeForm, Variable};

@@ -1,9 +1,8 @@
-//! What a node of a resolved program is.
-
-use js_data::{Text, Whole};
-use js_tree::{AssignOp, DeclareKind, Fix, Operator, Sign, Step};
+//! What a node of a resolved program is, and what functions and constants are. Parts are named by their numbers.
 
 use crate::builtin::Builtin;
+use js_data::{Text, Whole};
+use js_tree::{AssignOp, DeclareKind, Fix, Operator, Sign, Step};
 
 /// What a name stands for in its function.
 #[derive(Clone, Copy, Debug, PartialEq, Eq)]
@@ -14,7 +13,14 @@ pub enum Variable {
     Constant(u32),
 }
 
-/// The form of a node, without its parts.
+/// A declared variable, and the number of its value, if it has one.
+#[derive(Clone, Copy, Debug)]
+pub struct Declared {
+    pub variable: Variable,
+    pub value: Option<u32>,
+}
+
+/// The form of a node, with the numbers of its parts in the order in which they begin in the text.
 #[derive(Debug, Drop)]
 pub enum NodeForm {
     Number(Whole),
@@ -23,44 +29,82 @@ pub enum NodeForm {
     Null,
     Undefined,
     Read(Variable),
-    /// A list; its elements are the parts.
-    List,
-    /// Fields with these keys; their values are the parts.
-    Fields(Vec<Text>),
+    List(Vec<u32>),
+    /// Keys and values.
+    Fields(Vec<(Text, u32)>),
     /// `x.word`
-    Member(Text),
+    Member(u32, Text),
     /// `x[i]`
-    Index,
-    /// A call; its function and the arguments are the parts.
-    Call,
-    /// `x.word(..)`; `x` and the arguments are the parts.
-    Method(Text),
-    /// A form of `bp` or `Math`; its arguments are the parts.
-    Builtin(Builtin),
-    /// `Math.floor(a / b)`, also with arguments after it, which are evaluated and dropped.
-    FloorDivide,
-    Unary(Sign),
+    Index(u32, u32),
+    /// A function and the arguments.
+    Call(u32, Vec<u32>),
+    /// `x.word(..)`
+    Method(u32, Text, Vec<u32>),
+    /// A form of `bp` or `Math` with its arguments; `bp.all` and `bp.none` have none.
+    Builtin(Builtin, Vec<u32>),
+    /// `Math.floor(a / b)`, and the arguments after it.
+    FloorDivide(u32, u32, Vec<u32>),
+    Unary(Sign, u32),
     Update(Step, Fix, Variable),
-    Binary(Operator),
-    Conditional,
-    Assign(AssignOp, Variable),
-    /// A function, by its number.
+    Binary(Operator, u32, u32),
+    /// `test ? a : b`
+    Conditional(u32, u32, u32),
+    Assign(AssignOp, Variable, u32),
+    /// The function of this number.
     Function(u32),
     Empty,
-    /// A block, with the variables that are not declared yet as it begins.
-    Block(Vec<Variable>),
-    /// Each variable, and whether a value is among the parts.
-    Declaration(DeclareKind, Vec<(Variable, bool)>),
-    Expression,
-    If,
-    IfElse,
-    While,
-    /// A `for` with three parts, with the variables that are not declared yet as it begins, and which of the three stand there.
-    For(Vec<Variable>, bool, bool, bool),
-    /// A `for` over a list, with the variable that is not declared yet as each turn begins.
-    ForOf(Variable),
+    /// The variables that are not declared yet as it begins, and the statements.
+    Block(Vec<Variable>, Vec<u32>),
+    Declaration(DeclareKind, Vec<Declared>),
+    Expression(u32),
+    If(u32, u32),
+    IfElse(u32, u32, u32),
+    While(u32, u32),
+    /// `for (first; test; next) body`, with the variables that are not declared yet as it begins.
+    For(Vec<Variable>, Option<u32>, Option<u32>, Option<u32>, u32),
+    /// `for (let variable of list) body`; the variable is not declared yet as the list begins.
+    ForOf(Variable, u32, u32),
     Break,
     Continue,
     ReturnNothing,
-    Return,
+    Return(u32),
+}
+
+/// A statement or an expression: the line of its first token, and its form.
+#[derive(Debug, Drop)]
+pub struct Node {
+    pub line: u32,
+    pub form: NodeForm,
+}
+
+/// What a call runs.
+#[derive(Debug, Drop)]
+pub enum Content {
+    Statements(Vec<u32>),
+    /// One expression, whose value is the answer.
+    OneValue(u32),
+}
+
+/// A function, or the top level. Its slots hold the parameters, then the captured values, then its other variables.
+#[derive(Debug, Drop)]
+pub struct Body {
+    pub parameters: u32,
+    pub slots: u32,
+    /// For each captured value, its slot in the function around.
+    pub captures: Vec<u32>,
+    /// The slots that are undefined as it begins; its other variables are not declared yet.
+    pub vars: Vec<u32>,
+    pub content: Content,
+    pub line: u32,
+}
+
+/// What a constant is before the program runs.
+#[derive(Clone, Copy, Debug, PartialEq, Eq)]
+pub enum ConstantStart {
+    /// The function of this number.
+    OfFunction(u32),
+    /// A `let` or `const`.
+    Undeclared,
+    /// A `var`.
+    Unset,
 }
