@@ -1,0 +1,7 @@
+pub mod State
+pub mod Variables
+pub mod Calls
+pub mod Forms
+pub mod Expressions
+pub mod Statements
+pub mod Meaning

@@ -1,0 +1,4 @@
+//! What resolved programs mean: the outcome of each node, defined by recursion on its parts.
+#![tactic(auto)]
+
+pub use js_program::{Builtin, Mode};
