@@ -1,0 +1,3 @@
+pub mod Small
+mod Examples
+mod Loops

@@ -90,7 +90,7 @@ module _ (g : Setting) (ev : ℕ → State → Outcome) where
   abbrev pub for_each_from : ℕ → PlainValue → PlainValue → ℕ → List PlainValue → State → Outcome
   for_each_from line f items index [] s = leaves s
   for_each_from line f items index (x ∷ xs) s =
-      calls line f (x ∷ v.whole (pos index) ∷ items ∷ []) s >>= λ _. for_each_from line f whole (suc index) xs
+      calls line f (x ∷ v.whole (pos index) ∷ items ∷ []) s >>= λ _. for_each_from line f items (suc index) xs
 
   abbrev pub for_each_call : ℕ → PlainValue → List PlainValue → List PlainValue → State → Outcome
   for_each_call line items xs (v.function code captured ∷ others) s = for_each_from line (v.function code captured) items 0 xs s
