@@ -5,3 +5,4 @@ pub mod Forms
 pub mod Expressions
 pub mod Statements
 pub mod Meaning
+pub mod Later

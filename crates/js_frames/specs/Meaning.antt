@@ -96,8 +96,8 @@ start slots constants budget replies = record { slots = slots; constants = const
 
 -- The outcome of a function with its arguments from its start, with these replies.
 unfoldable pub call_outcome : Ground → Mode → ℕ → PlainValue → List PlainValue → List PlainEvent → Outcome
-call_outcome ground mode budget f args replies =
-    calls (setting ground.program mode budget) (eval (setting ground.program mode budget)) 0 f args (start [] ground.constants budget replies)
+call_outcome base mode budget f args replies =
+    calls (setting base.program mode budget) (eval (setting base.program mode budget)) 0 f args (start [] base.constants budget replies)
 
 -- The outcome of the top level, which is no call.
 unfoldable pub top_outcome : PlainProgram → ℕ → Outcome

@@ -21,11 +21,15 @@ after_turn (went continued s) again = again s
 after_turn (went broke s) again = leaves s
 after_turn o again = o
 
--- at most so many turns: the test, the body, and what comes between two turns
+-- a turn: the test, the body, what comes between two turns, and the loop again
+abbrev pub one_turn : (State → Outcome) → (State → Outcome) → (State → Outcome) → (State → Outcome) → State → Outcome
+one_turn test body next again s =
+    test s >>= λ v. cond (is_truthy v) (λ now. after_turn (body now) (λ later. next later >>= λ _. again)) leaves
+
+-- at most so many turns
 abbrev pub turns : ℕ → (State → Outcome) → (State → Outcome) → (State → Outcome) → State → Outcome
 turns zero test body next s = spent (left_of s)
-turns (suc n) test body next s =
-    test s >>= λ v. cond (is_truthy v) (λ now. after_turn (body now) (λ later. next later >>= λ _. turns n test body next)) leaves
+turns (suc n) test body next s = one_turn test body next (turns n test body next) s
 
 -- a turn for each element
 abbrev pub each : Variable → (State → Outcome) → List PlainValue → State → Outcome
