@@ -1,0 +1,2 @@
+//! Accepted programs as the code that a run sees: the definitions.
+#![tactic(auto)]

@@ -1,0 +1,2 @@
+//! Membership of events in sets: the definition.
+#![tactic(auto)]

@@ -1,0 +1,2 @@
+//! What b-threads state, and where they stand after the events that they received: the definitions.
+#![tactic(auto)]
