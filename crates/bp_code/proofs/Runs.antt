@@ -1,0 +1,136 @@
+-- Whole runs of programs, computed to the text that is printed.
+use Rattle.std.proofs.Common.{◌≡◌, ℕ, ◌+◌, List, [], ◌∷◌, ◌++◌, Option, Some, None, refl, true}
+use Rattle.std.specs.Prelude.{pos, codes, option_map}
+use Rattle.std.specs.Fmt.{digits}
+use Rattle.js_tree.specs.declared.tree.Operator.TheVariants as op
+use Rattle.js_tree.specs.declared.tree.DeclareKind.TheVariants.{Const}
+use Rattle.js_program.specs.declared.builtin.Builtin.TheVariants as form
+use Rattle.js_program.specs.declared.node.Variable.TheVariants.{Slot, Constant}
+use Rattle.js_program.specs.PlainProgram as p
+use Rattle.js_program.specs.PlainProgram.{PlainNode, PlainBody, PlainProgram}
+use Rattle.js_frames.specs.Meaning.{within, eval, turns_of, call_outcome, top_outcome, ground_of}
+use Rattle.js_frames.proofs.Small.{on, one, whole, slot, constant, body, statements, program}
+use Rattle.bp_log.specs.Options.{PlainOptions, default_options}
+use Rattle.bp_log.specs.declared.options.Strategy.TheVariants.{Ordered, Priority}
+use Rattle.bp_run.specs.Settling.{turn, settle_in, settle, initial}
+use Rattle.bp_run.specs.Choosing.{selectable, choice, reach}
+use Rattle.bp_run.specs.Story.{step, next, after_record, story_from, story, alone_from, alone}
+use Rattle.bp_run.specs.Text.{line_text, lines_text, text}
+use Rattle.bp_code.specs.Code.{text_alone}
+
+-- ---- pieces of programs; each begins with the node of the given number
+
+-- 4 nodes: bp.registerBThread(name, the function of this number);
+abbrev registers : ℕ → List ℕ → ℕ → List PlainNode
+registers k name code =
+    one (p.words name) ∷ one (p.function code) ∷ one (p.builtin form.RegisterBThread (k ∷ (k + 1) ∷ [])) ∷ one (p.expression (k + 2)) ∷ []
+
+-- 5 nodes: bp.sync({request: bp.Event(name)});
+abbrev requests : ℕ → List ℕ → List PlainNode
+requests k name =
+    one (p.words name) ∷ one (p.builtin form.Event (k ∷ [])) ∷ one (p.fields ((codes "request", k + 1) ∷ []))
+    ∷ one (p.builtin form.Sync ((k + 2) ∷ [])) ∷ one (p.expression (k + 3)) ∷ []
+
+-- 7 nodes: bp.sync({waitFor: bp.Event(first), key: bp.Event(second)});
+abbrev waits : ℕ → List ℕ → List ℕ → List ℕ → List PlainNode
+waits k first key second =
+    one (p.words first) ∷ one (p.builtin form.Event (k ∷ [])) ∷ one (p.words second) ∷ one (p.builtin form.Event ((k + 2) ∷ []))
+    ∷ one (p.fields ((codes "waitFor", k + 1) ∷ (key, k + 3) ∷ [])) ∷ one (p.builtin form.Sync ((k + 4) ∷ [])) ∷ one (p.expression (k + 5)) ∷ []
+
+-- 3 nodes: bp.log.info(text);
+abbrev logs : ℕ → List ℕ → List PlainNode
+logs k text = one (p.words text) ∷ one (p.builtin form.LogInfo (k ∷ [])) ∷ one (p.expression (k + 1)) ∷ []
+
+abbrev printed : PlainOptions → List PlainNode → List PlainBody → List ℕ → Option (List ℕ)
+printed options nodes functions top = text_alone (program nodes functions [] (statements 0 top)) options (λ n. n)
+
+-- ---- the empty program
+
+pub nothing_is_quiet : printed default_options [] [] [] ≡ Some (codes "verdict quiet 0\n")
+unfolding turn settle_in settle initial selectable choice reach step next after_record story_from story alone_from alone line_text lines_text text digits call_outcome top_outcome ground_of eval within turns_of
+nothing_is_quiet = refl
+
+-- ---- hot and cold water, once each, in turns
+
+pub hot_then_cold : printed default_options
+    (registers 0 (codes "Add hot") 0 ++ registers 4 (codes "Add cold") 1 ++ registers 8 (codes "Interleave") 2
+    ++ requests 12 (codes "hot") ++ requests 17 (codes "cold")
+    ++ one (p.truth true) ∷ [] ++ waits 23 (codes "hot") (codes "block") (codes "cold") ++ waits 30 (codes "cold") (codes "block") (codes "hot")
+    ++ one (p.block [] (29 ∷ 36 ∷ [])) ∷ one (p.while_of 22 37) ∷ [])
+    (statements 0 (16 ∷ []) ∷ statements 0 (21 ∷ []) ∷ statements 0 (38 ∷ []) ∷ [])
+    (3 ∷ 7 ∷ 11 ∷ [])
+    ≡ Some (codes "event [\"hot\"]\ndone \"Add hot\"\nevent [\"cold\"]\ndone \"Add cold\"\nverdict quiet 2\n")
+unfolding turn settle_in settle initial selectable choice reach step next after_record story_from story alone_from alone line_text lines_text text digits call_outcome top_outcome ground_of eval within turns_of
+hot_then_cold = refl
+
+-- ---- two b-threads request one event
+
+pub both_advance : printed default_options
+    (registers 0 (codes "A") 0 ++ registers 4 (codes "B") 1 ++ requests 8 (codes "e") ++ requests 13 (codes "e"))
+    (statements 0 (12 ∷ []) ∷ statements 0 (17 ∷ []) ∷ []) (3 ∷ 7 ∷ [])
+    ≡ Some (codes "event [\"e\"]\ndone \"A\"\ndone \"B\"\nverdict quiet 1\n")
+unfolding turn settle_in settle initial selectable choice reach step next after_record story_from story alone_from alone line_text lines_text text digits call_outcome top_outcome ground_of eval within turns_of
+both_advance = refl
+
+-- ---- an interrupt whose handler logs: bp.setInterruptHandler(e => { bp.log.info("stop " + e.name) })
+
+pub handler_logs : printed default_options
+    (registers 0 (codes "A") 0 ++ registers 4 (codes "B") 1
+    ++ one (p.function 2) ∷ one (p.builtin form.SetInterruptHandler (8 ∷ [])) ∷ one (p.expression 9) ∷ []
+    ++ waits 11 (codes "e") (codes "interrupt") (codes "e") ++ logs 18 (codes "never")
+    ++ requests 21 (codes "e")
+    ++ one (p.words (codes "stop ")) ∷ slot 0 ∷ one (p.member 27 (codes "name")) ∷ one (p.binary op.Add 26 28) ∷ one (p.builtin form.LogInfo (29 ∷ [])) ∷ one (p.expression 30) ∷ [])
+    (statements 0 (10 ∷ 17 ∷ 20 ∷ []) ∷ statements 0 (25 ∷ []) ∷ body 1 1 (p.statements (31 ∷ [])) ∷ []) (3 ∷ 7 ∷ [])
+    ≡ Some (codes "event [\"e\"]\nlog \"A\" \"stop e\"\ninterrupted \"A\"\ndone \"B\"\nverdict quiet 1\n")
+unfolding turn settle_in settle initial selectable choice reach step next after_record story_from story alone_from alone line_text lines_text text digits call_outcome top_outcome ground_of eval within turns_of
+handler_logs = refl
+
+-- ---- registration in waves: A registers B and C after its event, and B registers D
+
+pub wave_after_wave : printed default_options
+    (registers 0 (codes "A") 0
+    ++ requests 4 (codes "a") ++ registers 9 (codes "B") 1 ++ registers 13 (codes "C") 2
+    ++ logs 17 (codes "b") ++ registers 20 (codes "D") 3
+    ++ logs 24 (codes "c") ++ logs 27 (codes "d"))
+    (statements 0 (8 ∷ 12 ∷ 16 ∷ []) ∷ statements 0 (19 ∷ 23 ∷ []) ∷ statements 0 (26 ∷ []) ∷ statements 0 (29 ∷ []) ∷ []) (3 ∷ [])
+    ≡ Some (codes "event [\"a\"]\ndone \"A\"\nlog \"B\" \"b\"\ndone \"B\"\nlog \"C\" \"c\"\ndone \"C\"\nlog \"D\" \"d\"\ndone \"D\"\nverdict quiet 1\n")
+unfolding turn settle_in settle initial selectable choice reach step next after_record story_from story alone_from alone line_text lines_text text digits call_outcome top_outcome ground_of eval within turns_of
+wave_after_wave = refl
+
+-- ---- strategy `ordered` takes the first request: bp.sync({request: [a, b, c]})
+
+abbrev three_requests : List PlainNode
+three_requests =
+    registers 0 (codes "A") 0
+    ++ one (p.words (codes "a")) ∷ one (p.builtin form.Event (4 ∷ [])) ∷ one (p.words (codes "b")) ∷ one (p.builtin form.Event (6 ∷ []))
+    ∷ one (p.words (codes "c")) ∷ one (p.builtin form.Event (8 ∷ [])) ∷ one (p.list (5 ∷ 7 ∷ 9 ∷ [])) ∷ one (p.fields ((codes "request", 10) ∷ []))
+    ∷ one (p.builtin form.Sync (11 ∷ [])) ∷ one (p.expression 12) ∷ []
+
+pub ordered_takes_the_first : printed (record default_options { strategy = Ordered }) three_requests (statements 0 (13 ∷ []) ∷ []) (3 ∷ [])
+    ≡ Some (codes "event [\"a\"]\ndone \"A\"\nverdict quiet 1\n")
+unfolding turn settle_in settle initial selectable choice reach step next after_record story_from story alone_from alone line_text lines_text text digits call_outcome top_outcome ground_of eval within turns_of
+ordered_takes_the_first = refl
+
+-- a program whose constants its b-threads read: const x = bp.Event("x"); bp.registerBThread("A", () => { bp.sync({request: x}) })
+pub constants_are_seen :
+    text_alone (program
+      (one (p.words (codes "x")) ∷ one (p.builtin form.Event (0 ∷ [])) ∷ one (p.declaration Const (record { variable = Constant 0; value = Some 1 } ∷ []))
+      ∷ registers 3 (codes "A") 0
+      ++ constant 0 ∷ one (p.fields ((codes "request", 7) ∷ [])) ∷ one (p.builtin form.Sync (8 ∷ [])) ∷ one (p.expression 9) ∷ [])
+      (statements 0 (10 ∷ []) ∷ []) (p.undeclared ∷ []) (statements 0 (2 ∷ 6 ∷ []))) default_options (λ n. n)
+    ≡ Some (codes "event [\"x\"]\ndone \"A\"\nverdict quiet 1\n")
+unfolding turn settle_in settle initial selectable choice reach step next after_record story_from story alone_from alone line_text lines_text text digits call_outcome top_outcome ground_of eval within turns_of
+constants_are_seen = refl
+
+-- a budget of 9 ends the body of ten nodes, and the fault of a top level is the verdict
+pub spent_ends_the_run : printed (record default_options { budget = 9 })
+    (registers 0 (codes "A") 0 ++ logs 4 (codes "1") ++ logs 7 (codes "2") ++ logs 10 (codes "3") ++ logs 13 (codes "4"))
+    (statements 0 (6 ∷ 9 ∷ 12 ∷ 15 ∷ []) ∷ []) (3 ∷ [])
+    ≡ Some (codes "log \"A\" \"1\"\nlog \"A\" \"2\"\nlog \"A\" \"3\"\nverdict spent \"A\"\n")
+unfolding turn settle_in settle initial selectable choice reach step next after_record story_from story alone_from alone line_text lines_text text digits call_outcome top_outcome ground_of eval within turns_of
+spent_ends_the_run = refl
+
+pub fault_at_the_top : printed default_options (whole 1 ∷ whole 0 ∷ one (p.binary op.Divide 0 1) ∷ one (p.expression 2) ∷ []) [] (3 ∷ [])
+    ≡ Some (codes "verdict fault top 1 zero\n")
+unfolding turn settle_in settle initial selectable choice reach step next after_record story_from story alone_from alone line_text lines_text text digits call_outcome top_outcome ground_of eval within turns_of
+fault_at_the_top = refl
