@@ -3,13 +3,15 @@ use Rattle.std.proofs.Common.{◌≡◌, ℕ, ◌+◌, List, [], ◌∷◌, ◌+
 use Rattle.std.specs.Prelude.{pos, codes, option_map}
 use Rattle.std.specs.Fmt.{digits}
 use Rattle.js_tree.specs.declared.tree.Operator.TheVariants as op
-use Rattle.js_tree.specs.declared.tree.DeclareKind.TheVariants.{Const}
+use Rattle.js_tree.specs.declared.tree.DeclareKind.TheVariants.{Const, Let}
+use Rattle.js_tree.specs.declared.tree.Step.TheVariants.{Increment}
+use Rattle.js_tree.specs.declared.tree.Fix.TheVariants.{After}
 use Rattle.js_program.specs.declared.builtin.Builtin.TheVariants as form
 use Rattle.js_program.specs.declared.node.Variable.TheVariants.{Slot, Constant}
 use Rattle.js_program.specs.PlainProgram as p
 use Rattle.js_program.specs.PlainProgram.{PlainNode, PlainBody, PlainProgram}
 use Rattle.js_frames.specs.Meaning.{within, eval, turns_of, call_outcome, top_outcome, ground_of}
-use Rattle.js_frames.proofs.Small.{on, one, whole, slot, constant, body, statements, program}
+use Rattle.js_frames.proofs.Small.{one, whole, slot, constant, given, body, statements, program}
 use Rattle.bp_log.specs.Options.{PlainOptions, default_options}
 use Rattle.bp_log.specs.declared.options.Strategy.TheVariants.{Ordered, Priority}
 use Rattle.bp_run.specs.Settling.{turn, settle_in, settle, initial}
@@ -50,18 +52,19 @@ pub nothing_is_quiet : printed default_options [] [] [] ≡ Some (codes "verdict
 unfolding turn settle_in settle initial selectable choice reach step next after_record story_from story alone_from alone line_text lines_text text digits call_outcome top_outcome ground_of eval within turns_of
 nothing_is_quiet = refl
 
--- ---- hot and cold water, once each, in turns
+-- ---- hot and cold water, three times each, in turns
 
-pub hot_then_cold : printed default_options
+pub hot_and_cold : printed default_options
     (registers 0 (codes "Add hot") 0 ++ registers 4 (codes "Add cold") 1 ++ registers 8 (codes "Interleave") 2
-    ++ requests 12 (codes "hot") ++ requests 17 (codes "cold")
-    ++ one (p.truth true) ∷ [] ++ waits 23 (codes "hot") (codes "block") (codes "cold") ++ waits 30 (codes "cold") (codes "block") (codes "hot")
-    ++ one (p.block [] (29 ∷ 36 ∷ [])) ∷ one (p.while_of 22 37) ∷ [])
-    (statements 0 (16 ∷ []) ∷ statements 0 (21 ∷ []) ∷ statements 0 (38 ∷ []) ∷ [])
+    ++ requests 12 (codes "hot") ++ requests 17 (codes "hot") ++ requests 22 (codes "hot")
+    ++ requests 27 (codes "cold") ++ requests 32 (codes "cold") ++ requests 37 (codes "cold")
+    ++ one (p.truth true) ∷ [] ++ waits 43 (codes "hot") (codes "block") (codes "cold") ++ waits 50 (codes "cold") (codes "block") (codes "hot")
+    ++ one (p.block [] (49 ∷ 56 ∷ [])) ∷ one (p.while_of 42 57) ∷ [])
+    (statements 0 (16 ∷ 21 ∷ 26 ∷ []) ∷ statements 0 (31 ∷ 36 ∷ 41 ∷ []) ∷ statements 0 (58 ∷ []) ∷ [])
     (3 ∷ 7 ∷ 11 ∷ [])
-    ≡ Some (codes "event [\"hot\"]\ndone \"Add hot\"\nevent [\"cold\"]\ndone \"Add cold\"\nverdict quiet 2\n")
+    ≡ Some (codes "event [\"hot\"]\nevent [\"cold\"]\nevent [\"hot\"]\nevent [\"cold\"]\nevent [\"hot\"]\ndone \"Add hot\"\nevent [\"cold\"]\ndone \"Add cold\"\nverdict quiet 6\n")
 unfolding turn settle_in settle initial selectable choice reach step next after_record story_from story alone_from alone line_text lines_text text digits call_outcome top_outcome ground_of eval within turns_of
-hot_then_cold = refl
+hot_and_cold = refl
 
 -- ---- two b-threads request one event
 
@@ -122,7 +125,46 @@ pub constants_are_seen :
 unfolding turn settle_in settle initial selectable choice reach step next after_record story_from story alone_from alone line_text lines_text text digits call_outcome top_outcome ground_of eval within turns_of
 constants_are_seen = refl
 
--- a budget of 9 ends the body of ten nodes, and the fault of a top level is the verdict
+-- ---- captured values, and words drawn among two events: the words are 0, 1, 2 ..
+-- const make = i => () => { for (let r = 0; r < 4; r++) bp.sync({request: bp.Event("e", i)}) }
+-- for (let i = 0; i < 2; i++) bp.registerBThread("t" + i, make(i))
+
+pub large_two :
+    text_alone (program
+      (one (p.function 0) ∷ one (p.declaration Const (record { variable = Constant 0; value = Some 0 } ∷ []))
+      ∷ whole 0 ∷ one (p.declaration Let (given 0 2 ∷ [])) ∷ slot 0 ∷ whole 2 ∷ one (p.binary op.Less 4 5) ∷ one (p.update Increment After (Slot 0))
+      ∷ one (p.words (codes "t")) ∷ slot 0 ∷ one (p.binary op.Add 8 9) ∷ constant 0 ∷ slot 0 ∷ one (p.call 11 (12 ∷ []))
+      ∷ one (p.builtin form.RegisterBThread (10 ∷ 13 ∷ [])) ∷ one (p.expression 14) ∷ one (p.for_three (Slot 0 ∷ []) (Some 3) (Some 6) (Some 7) 15)
+      ∷ one (p.function 1)
+      ∷ whole 0 ∷ one (p.declaration Let (given 1 18 ∷ [])) ∷ slot 1 ∷ whole 4 ∷ one (p.binary op.Less 20 21) ∷ one (p.update Increment After (Slot 1))
+      ∷ one (p.words (codes "e")) ∷ slot 0 ∷ one (p.builtin form.Event (24 ∷ 25 ∷ [])) ∷ one (p.fields ((codes "request", 26) ∷ [])) ∷ one (p.builtin form.Sync (27 ∷ [])) ∷ one (p.expression 28)
+      ∷ one (p.for_three (Slot 1 ∷ []) (Some 19) (Some 22) (Some 23) 29) ∷ [])
+      (body 1 1 (p.one_value 17) ∷ record { parameters = 0; slots = 2; captures = 0 ∷ []; vars = []; content = p.statements (30 ∷ []); line = 1 } ∷ [])
+      (p.undeclared ∷ []) (statements 1 (1 ∷ 16 ∷ []))) default_options (λ n. n)
+    ≡ Some (codes "event [\"e\",0]\nevent [\"e\",1]\nevent [\"e\",0]\nevent [\"e\",1]\nevent [\"e\",0]\nevent [\"e\",1]\nevent [\"e\",0]\ndone \"t0\"\nevent [\"e\",1]\ndone \"t1\"\nverdict quiet 8\n")
+unfolding turn settle_in settle initial selectable choice reach step next after_record story_from story alone_from alone line_text lines_text text digits call_outcome top_outcome ground_of eval within turns_of
+large_two = refl
+
+-- ---- a bare return: const f = () => { return
+-- 1 }; const h = (x => x)(2); bp.registerBThread("A", () => { bp.log.info(f()); bp.log.info(h) })
+
+pub returns_nothing :
+    text_alone (program
+      (one (p.function 0) ∷ one (p.declaration Const (record { variable = Constant 0; value = Some 0 } ∷ []))
+      ∷ one (p.function 1) ∷ whole 2 ∷ one (p.call 2 (3 ∷ [])) ∷ one (p.declaration Const (record { variable = Constant 1; value = Some 4 } ∷ []))
+      ∷ registers 6 (codes "A") 2
+      ++ one p.return_nothing ∷ whole 1 ∷ one (p.expression 11) ∷ slot 0
+      ∷ constant 0 ∷ one (p.call 14 []) ∷ one (p.builtin form.LogInfo (15 ∷ [])) ∷ one (p.expression 16)
+      ∷ constant 1 ∷ one (p.builtin form.LogInfo (18 ∷ [])) ∷ one (p.expression 19) ∷ [])
+      (statements 0 (10 ∷ 12 ∷ []) ∷ body 1 1 (p.one_value 13) ∷ statements 0 (17 ∷ 20 ∷ []) ∷ [])
+      (p.undeclared ∷ p.undeclared ∷ []) (statements 0 (1 ∷ 5 ∷ 9 ∷ []))) default_options (λ n. n)
+    ≡ Some (codes "log \"A\" \"undefined\"\nlog \"A\" \"2\"\ndone \"A\"\nverdict quiet 0\n")
+unfolding turn settle_in settle initial selectable choice reach step next after_record story_from story alone_from alone line_text lines_text text digits call_outcome top_outcome ground_of eval within turns_of
+returns_nothing = refl
+
+-- ---- verdicts
+
+-- a budget of 9 is spent in a body of twelve nodes
 pub spent_ends_the_run : printed (record default_options { budget = 9 })
     (registers 0 (codes "A") 0 ++ logs 4 (codes "1") ++ logs 7 (codes "2") ++ logs 10 (codes "3") ++ logs 13 (codes "4"))
     (statements 0 (6 ∷ 9 ∷ 12 ∷ 15 ∷ []) ∷ []) (3 ∷ [])
@@ -130,6 +172,7 @@ pub spent_ends_the_run : printed (record default_options { budget = 9 })
 unfolding turn settle_in settle initial selectable choice reach step next after_record story_from story alone_from alone line_text lines_text text digits call_outcome top_outcome ground_of eval within turns_of
 spent_ends_the_run = refl
 
+-- 1 / 0 at the top level
 pub fault_at_the_top : printed default_options (whole 1 ∷ whole 0 ∷ one (p.binary op.Divide 0 1) ∷ one (p.expression 2) ∷ []) [] (3 ∷ [])
     ≡ Some (codes "verdict fault top 1 zero\n")
 unfolding turn settle_in settle initial selectable choice reach step next after_record story_from story alone_from alone line_text lines_text text digits call_outcome top_outcome ground_of eval within turns_of
