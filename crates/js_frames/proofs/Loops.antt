@@ -129,6 +129,24 @@ pub assertion_fails : comes_to Thread 100 (whole 0 ∷ one (p.words (codes "no")
 unfolding call_outcome eval within
 assertion_fails = refl
 
+-- return bp.sync({}).name, with a reply: it is the value, and the fuel is the whole budget again
+pub reply_is_the_value :
+    call_outcome (record {
+      program = program (one (p.fields []) ∷ one (p.builtin form.Sync (0 ∷ [])) ∷ one (p.member 1 (codes "name")) ∷ one (p.return_of 2) ∷ []) (statements 0 (3 ∷ []) ∷ []) [] (statements 0 []);
+      constants = [];
+    }) Thread 7 (v.function 0 v.no_values) [] (event (codes "e") ∷ [])
+    ≡ ends (v.words (codes "e")) 7 []
+unfolding call_outcome eval within
+reply_is_the_value = refl
+
+-- 1 / 0 + 1 / 0 over two lines: the left side comes first
+pub left_side_first : comes_to Thread 100
+    (whole 1 ∷ whole 0 ∷ one (p.binary op.Divide 0 1) ∷ whole 1 ∷ whole 0 ∷ on 2 (p.binary op.Divide 3 4) ∷ one (p.binary op.Add 2 5) ∷ one (p.expression 6) ∷ [])
+    (statements 0 (7 ∷ []) ∷ [])
+    ≡ broken fault.Zero 1 (left 95 [])
+unfolding call_outcome eval within
+left_side_first = refl
+
 -- bp.ASSERT(true): its text is missing
 pub assertion_without_text : comes_to Thread 100 (one (p.truth true) ∷ one (p.builtin form.Assert (0 ∷ [])) ∷ one (p.expression 1) ∷ []) (statements 0 (2 ∷ []) ∷ [])
     ≡ broken fault.Mistyped 1 (left 97 [])

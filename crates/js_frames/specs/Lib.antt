@@ -6,3 +6,4 @@ pub mod Expressions
 pub mod Statements
 pub mod Meaning
 pub mod Later
+pub mod Modes

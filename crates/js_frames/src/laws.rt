@@ -1,11 +1,17 @@
 //! The laws of evaluation, each as the contract of a function that does nothing.
-ghost use Rattle.std.specs.Prelude.{◌≡◌, ◌≤◌, ◌-◌, ℕ, List, Option, slice_get};
+ghost use Rattle.std.specs.Prelude.{◌≡◌, ◌≤◌, ◌-◌, ℕ, List, [], map, Option, slice_get};
 ghost use Rattle.js_data.specs.declared.fault.Fault.{Fault};
 ghost use Rattle.js_value.specs.Value.{PlainValue};
 ghost use Rattle.js_frames.specs.State.{State, Completion, Left, Outcome, went, broken, violated, stopped, spent};
 ghost use Rattle.js_frames.specs.Calls.{Setting};
 ghost use Rattle.js_frames.specs.Statements.{tests, perhaps, one_turn};
-ghost use Rattle.js_frames.specs.Meaning.{within, allowed, eval, turns_of, begins, does_node};
+ghost use Rattle.js_frames.specs.Variables.{slots_of_call, constant_start};
+ghost use Rattle.js_frames.specs.Meaning.{within, allowed, eval, turns_of, begins, does_node, Ground, start, call_outcome, top_outcome};
+ghost use Rattle.js_frames.specs.Modes.{OnlyAnswers};
+ghost use Rattle.js_program.specs.declared.builtin.Mode.{Mode};
+ghost use Rattle.js_program.specs.declared.builtin.Mode.TheVariants.{Top};
+ghost use Rattle.js_program.specs.PlainProgram.{PlainProgram};
+ghost use Rattle.js_data.specs.Event.{PlainEvent};
 ghost use Rattle.js_frames.specs.Later.{Later, Beyond};
 
 /// A node takes one unit of fuel and then does what its form says with the outcomes of its parts.
@@ -36,4 +42,13 @@ pub fn evaluation_goes_on()
     ensures spent { (g : Setting) (n : ℕ) (s : State) (l : Left) → eval g n s ≡ spent l → Beyond s l }
     ensures stopped { (g : Setting) (n : ℕ) (s : State) (statement priority : PlainValue) (line : ℕ) (l : Left) →
         eval g n s ≡ stopped statement priority line l → Beyond s l }
+{}
+
+/// Where forms do not act, in predicates, an evaluation has no effects; it stops in b-threads alone, and violates nothing in predicates.
+pub fn modes_limit_evaluation()
+    ensures node { (g : Setting) (n : ℕ) (s : State) → OnlyAnswers g.mode s (eval g n s) }
+    ensures call { (base : Ground) (mode : Mode) (budget : ℕ) (f : PlainValue) (args : List PlainValue) (replies : List PlainEvent) →
+        OnlyAnswers mode (start [] base.constants budget replies) (call_outcome base mode budget f args replies) }
+    ensures top { (program : PlainProgram) (budget : ℕ) →
+        OnlyAnswers Top (start (slots_of_call program.top [] []) (map constant_start program.constants) budget []) (top_outcome program budget) }
 {}
