@@ -1,18 +1,16 @@
 -- Membership computes.
-use Rattle.std.proofs.Common.{◌≡◌, ℕ, ◌+◌, Bool, true, false, List, [], ◌∷◌, Option, Some, None, Ok, Err, refl}
-use Rattle.std.specs.Prelude.{pos, codes}
+use Rattle.std.proofs.Common.{◌≡◌, ℕ, true, false, List, [], ◌∷◌, Ok, Err, refl}
+use Rattle.std.specs.Prelude.{codes}
 use Rattle.js_data.specs.declared.fault.Fault.TheVariants as fault
-use Rattle.js_data.specs.Event.{PlainEvent}
 use Rattle.js_tree.specs.declared.tree.Operator.TheVariants as op
 use Rattle.js_value.specs.Value as v
 use Rattle.js_value.specs.Value.{PlainSet}
-use Rattle.js_program.specs.declared.node.Variable.TheVariants.{Slot}
 use Rattle.js_program.specs.PlainProgram as p
 use Rattle.js_program.specs.PlainProgram.{PlainBody}
 use Rattle.js_frames.specs.Meaning.{Ground, within, eval, call_outcome}
 use Rattle.js_frames.proofs.Small.{on, one, whole, slot, statements, program, event}
 use Rattle.bp_run.specs.Bodies.SetFault.{Broken, Spent, NotTruth}
-use Rattle.bp_sets.specs.Membership.{member, member_of_any, Membership}
+use Rattle.bp_sets.specs.Membership.{member, Membership}
 
 -- a function of one parameter whose value is the one of this node, on this line
 abbrev predicate : ℕ → ℕ → PlainBody
@@ -22,11 +20,11 @@ predicate line n = record { parameters = 1; slots = 1; captures = []; vars = [];
 abbrev base : Ground
 base = record {
   program = program
-    (whole 1
-    ∷ slot 0 ∷ one (p.member 1 (codes "name")) ∷ one (p.words (codes "y")) ∷ one (p.binary op.Same 2 3)
-    ∷ whole 1 ∷ whole 0 ∷ on 5 (p.binary op.Divide 5 6)
-    ∷ one (p.truth true) ∷ one (p.block [] []) ∷ one (p.while_of 8 9) ∷ [])
-    (predicate 3 0 ∷ predicate 1 4 ∷ predicate 5 7 ∷ statements 0 (10 ∷ []) ∷ []) [] (statements 0 []);
+      (whole 1
+      ∷ slot 0 ∷ one (p.member 1 (codes "name")) ∷ one (p.words (codes "y")) ∷ one (p.binary op.Same 2 3)
+      ∷ whole 1 ∷ whole 0 ∷ on 5 (p.binary op.Divide 5 6)
+      ∷ one (p.truth true) ∷ one (p.block [] []) ∷ one (p.while_of 8 9) ∷ [])
+      (predicate 3 0 ∷ predicate 1 4 ∷ predicate 5 7 ∷ statements 0 (10 ∷ []) ∷ []) [] (statements 0 []);
   constants = [];
 }
 

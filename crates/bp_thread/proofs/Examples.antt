@@ -1,5 +1,5 @@
 -- Statements and the places of bodies compute.
-use Rattle.std.proofs.Common.{◌≡◌, ℕ, ◌+◌, List, [], ◌∷◌, Option, Some, None, refl}
+use Rattle.std.proofs.Common.{◌≡◌, ℕ, List, [], ◌∷◌, Some, None, refl}
 use Rattle.std.specs.Prelude.{pos, codes}
 use Rattle.js_data.specs.declared.fault.Fault.TheVariants as fault
 use Rattle.js_data.specs.Event.{PlainEvent}
@@ -102,17 +102,17 @@ after_two_replies = refl
 
 -- what a top level registers, a b-thread runs; and a failed assertion is a violation
 pub registered : after (record {
-    program = program (one (p.words (codes "n")) ∷ one (p.function 0) ∷ one (p.builtin form.RegisterBThread (0 ∷ 1 ∷ [])) ∷ one (p.expression 2) ∷ []) (statements 0 [] ∷ []) [] (statements 0 (3 ∷ []));
-    constants = [];
-  }) 20 the_top []
+  program = program (one (p.words (codes "n")) ∷ one (p.function 0) ∷ one (p.builtin form.RegisterBThread (0 ∷ 1 ∷ [])) ∷ one (p.expression 2) ∷ []) (statements 0 [] ∷ []) [] (statements 0 (3 ∷ []));
+  constants = [];
+}) 20 the_top []
     ≡ record { effects = run.Effect.Register (codes "n") (function Thread (v.function 0 v.no_values) []) ∷ []; outcome = run.Outcome.Ended }
 unfolding top_outcome eval within
 registered = refl
 
 pub violated : after (record {
-    program = program (whole 0 ∷ one (p.words (codes "no")) ∷ one (p.builtin form.Assert (0 ∷ 1 ∷ [])) ∷ one (p.expression 2) ∷ []) [] [] (statements 0 (3 ∷ []));
-    constants = [];
-  }) 20 the_top []
+  program = program (whole 0 ∷ one (p.words (codes "no")) ∷ one (p.builtin form.Assert (0 ∷ 1 ∷ [])) ∷ one (p.expression 2) ∷ []) [] [] (statements 0 (3 ∷ []));
+  constants = [];
+}) 20 the_top []
     ≡ record { effects = []; outcome = run.Outcome.Violated (codes "no") }
 unfolding top_outcome eval within
 violated = refl

@@ -1,5 +1,5 @@
 -- Where a body stands after the events that it received.
-use Rattle.std.specs.Prelude.{ℕ, ◌-◌, List, [], ◌∷◌, length, take, drop, map, fold, Option, Some, None, option_map}
+use Rattle.std.specs.Prelude.{ℕ, List, [], ◌∷◌, length, take, drop, map, fold, Option, Some, None, option_map}
 use Rattle.js_data.specs.Event.{PlainEvent}
 use Rattle.js_data.specs.declared.fault.Fault.TheVariants as fault
 use Rattle.js_value.specs.Value as v

@@ -1,5 +1,5 @@
 -- What a b-thread states at `bp.sync`, read from the two values that it gives.
-use Rattle.std.specs.Prelude.{ℕ, ℤ, pos, Bool, true, ◌||◌, List, [], ◌∷◌, Option, Some, None, option_map, option_and_then, codes, if◌then◌else◌}
+use Rattle.std.specs.Prelude.{ℕ, ℤ, pos, Bool, ◌||◌, List, [], ◌∷◌, Option, Some, None, codes, if◌then◌else◌}
 use Rattle.std.specs.Str.{bytes_eq}
 use Rattle.std.specs.List.{list_all}
 use Rattle.js_data.specs.Event.{PlainEvent}

@@ -1,12 +1,10 @@
 -- The bound of the recursion is never met: `eval` is what `does` makes of `eval` itself. And what an evaluation leaves follows on what it found.
-use Rattle.std.proofs.Common.{◌≡◌, ℕ, zero, suc, ◌+◌, ◌-◌, ◌*◌, ◌≤◌, Bool, true, false, cond, List, [], ◌∷◌, ◌++◌, length, Option, Some, None, Result, Ok, Err, refl, sym, ap, ◌∙◌, subst, arith}
-use Rattle.std.specs.Prelude.{slice_get, nat_lt, pos, codes, map}
+use Rattle.std.proofs.Common.{◌≡◌, ℕ, zero, suc, ◌+◌, ◌-◌, ◌*◌, ◌≤◌, Bool, true, false, cond, List, [], ◌∷◌, ◌++◌, length, Option, Some, None, Ok, Err, refl, sym, ap, ◌∙◌, subst, arith}
+use Rattle.std.specs.Prelude.{slice_get, nat_lt, codes, map}
 use Rattle.std.specs.Str.{bytes_eq}
 use Rattle.js_data.specs.Event.{PlainEvent}
 use Rattle.js_data.specs.declared.fault.Fault.{Fault}
 use Rattle.js_data.specs.declared.fault.Fault.TheVariants as fault
-use Rattle.js_tree.specs.declared.tree.Sign.{Sign}
-use Rattle.js_tree.specs.declared.tree.Step.{Step}
 use Rattle.js_tree.specs.declared.tree.Fix.{Fix}
 use Rattle.js_tree.specs.declared.tree.Fix.TheVariants as fix
 use Rattle.js_tree.specs.declared.tree.Operator.{Operator}
@@ -34,12 +32,12 @@ use Rattle.js_program.specs.declared.node.Variable.{Variable}
 use Rattle.js_program.specs.declared.node.Variable.TheVariants.{Slot, Constant}
 use Rattle.js_program.specs.PlainProgram as p
 use Rattle.js_program.specs.PlainProgram.{PlainProgram, PlainNode, PlainNodeForm, PlainContent, PlainDeclared}
-use Rattle.js_frames.specs.State.{Effect, State, Completion, normal, broke, continued, returned, Left, left_of, Outcome, went, broken, violated, spent, stopped, ◌>>=◌, gives, leaves, breaks, answered}
+use Rattle.js_frames.specs.State.{Effect, State, Completion, normal, broke, continued, returned, Left, left_of, Outcome, went, broken, violated, spent, stopped, ◌>>=◌, leaves, breaks, answered}
 use Rattle.js_frames.specs.Variables.{held, put, undeclare, if_declared, reading, slots_of_call, captured, made_function}
-use Rattle.js_frames.specs.Calls.{Setting, max_calls, body_of, answer_of, after_call, method_named, applies, sequence, in_order, runs, enters, calls, for_each_from, for_each_call, calls_method}
+use Rattle.js_frames.specs.Calls.{Setting, max_calls, body_of, after_call, method_named, applies, sequence, in_order, runs, enters, calls, for_each_from, for_each_call, calls_method}
 use Rattle.js_frames.specs.Forms.{argument, does_to_run, registers_thread, asks, asserted, enqueues_event, sets_handler, log_text, logs, floors, takes_effect, applies_form}
-use Rattle.js_frames.specs.Expressions.{unary_for, step_for, writes, updates, does_list, does_fields, does_member, does_index, does_call, does_method, does_builtin, does_floor_divide, does_unary, does_update, both_sides, does_binary, does_conditional, assigns_with, does_assign, does_function}
-use Rattle.js_frames.specs.Statements.{after_turn, turns, each, each_of, without_value, declares, does_declaration, does_block, does_expression, does_if, does_if_else, tests, perhaps, does_while, does_for, does_for_of, does_return}
+use Rattle.js_frames.specs.Expressions.{unary_for, step_for, writes, updates, both_sides, does_binary, assigns_with, does_assign}
+use Rattle.js_frames.specs.Statements.{after_turn, turns, each, each_of, without_value, declares, does_declaration, tests, perhaps}
 use Rattle.js_frames.specs.Meaning.{does, does_node, begins_with, begins, within, allowed, eval, turns_of}
 use Rattle.js_frames.proofs.Later.{Later, Beyond, later_refl, later_trans, beyond_trans, left_beyond, put_later, undeclare_later, added_later, begun_later, replied_later, returned_later}
 

@@ -1,23 +1,23 @@
 -- The definitions compute: numbers of nodes, faults and variables.
-use Rattle.std.proofs.Common.{◌≡◌, ℕ, ◌+◌, List, [], ◌∷◌, ◌++◌, Option, Some, None, refl}
-use Rattle.std.specs.Prelude.{pos, negsuc, codes, replicate, true, false, unwrap_or}
+use Rattle.std.proofs.Common.{◌≡◌, ℕ, List, [], ◌∷◌, Some, None, refl}
+use Rattle.std.specs.Prelude.{pos, codes, true}
 use Rattle.std.specs.Fmt.{digits}
 use Rattle.js_data.specs.declared.fault.Fault.TheVariants as fault
 use Rattle.js_tree.specs.declared.tree.Sign.TheVariants as sign
 use Rattle.js_tree.specs.declared.tree.Step.TheVariants.{Increment}
-use Rattle.js_tree.specs.declared.tree.Fix.TheVariants.{Before, After}
+use Rattle.js_tree.specs.declared.tree.Fix.TheVariants.{After}
 use Rattle.js_tree.specs.declared.tree.Operator.TheVariants as op
 use Rattle.js_tree.specs.declared.tree.AssignOp.TheVariants.{Set}
-use Rattle.js_tree.specs.declared.tree.DeclareKind.TheVariants.{Const, Let, Var}
+use Rattle.js_tree.specs.declared.tree.DeclareKind.TheVariants.{Let, Var}
 use Rattle.js_value.specs.Value as v
 use Rattle.js_value.specs.Value.{PlainValue}
 use Rattle.js_program.specs.declared.builtin.Builtin.TheVariants as form
-use Rattle.js_program.specs.declared.builtin.Mode.TheVariants.{Top, Thread, Handler, Predicate}
-use Rattle.js_program.specs.declared.node.Variable.TheVariants.{Slot, Constant}
+use Rattle.js_program.specs.declared.builtin.Mode.TheVariants.{Thread}
+use Rattle.js_program.specs.declared.node.Variable.TheVariants.{Slot}
 use Rattle.js_program.specs.PlainProgram as p
 use Rattle.js_program.specs.PlainProgram.{PlainNode, PlainBody}
-use Rattle.js_frames.specs.State.{State, Effect, says, Outcome, broken, violated, spent, stopped}
-use Rattle.js_frames.specs.Meaning.{within, eval, turns_of, call_outcome, top_outcome, ground_of, setting}
+use Rattle.js_frames.specs.State.{says, broken, spent}
+use Rattle.js_frames.specs.Meaning.{within, eval, turns_of, call_outcome, top_outcome, setting}
 use Rattle.js_frames.proofs.Small.{on, one, whole, slot, constant, given, body, statements, program, comes_to, ends, left}
 
 -- ---- nodes

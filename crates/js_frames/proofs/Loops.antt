@@ -1,21 +1,20 @@
 -- The definitions compute: short circuits, loops, calls of functions, and forms in their modes.
-use Rattle.std.proofs.Common.{◌≡◌, ℕ, ◌+◌, List, [], ◌∷◌, ◌++◌, Option, Some, None, refl}
+use Rattle.std.proofs.Common.{◌≡◌, [], ◌∷◌, Some, refl}
 use Rattle.std.specs.Prelude.{pos, codes, true, false}
 use Rattle.std.specs.Fmt.{digits}
 use Rattle.js_data.specs.declared.fault.Fault.TheVariants as fault
 use Rattle.js_tree.specs.declared.tree.Step.TheVariants.{Increment}
-use Rattle.js_tree.specs.declared.tree.Fix.TheVariants.{Before, After}
+use Rattle.js_tree.specs.declared.tree.Fix.TheVariants.{After}
 use Rattle.js_tree.specs.declared.tree.Operator.TheVariants as op
-use Rattle.js_tree.specs.declared.tree.AssignOp.TheVariants.{Set}
-use Rattle.js_tree.specs.declared.tree.DeclareKind.TheVariants.{Const, Let, Var}
+use Rattle.js_tree.specs.declared.tree.DeclareKind.TheVariants.{Let}
 use Rattle.js_value.specs.Value as v
 use Rattle.js_program.specs.declared.builtin.Builtin.TheVariants as form
-use Rattle.js_program.specs.declared.builtin.Mode.TheVariants.{Top, Thread, Handler, Predicate}
-use Rattle.js_program.specs.declared.node.Variable.TheVariants.{Slot, Constant}
+use Rattle.js_program.specs.declared.builtin.Mode.TheVariants.{Thread, Handler, Predicate}
+use Rattle.js_program.specs.declared.node.Variable.TheVariants.{Slot}
 use Rattle.js_program.specs.PlainProgram as p
 use Rattle.js_program.specs.PlainProgram.{PlainNode, PlainBody}
-use Rattle.js_frames.specs.State.{State, Effect, says, enqueues, Outcome, broken, violated, spent, stopped}
-use Rattle.js_frames.specs.Meaning.{within, eval, turns_of, call_outcome, top_outcome}
+use Rattle.js_frames.specs.State.{says, enqueues, broken, violated, stopped}
+use Rattle.js_frames.specs.Meaning.{within, eval, turns_of, call_outcome}
 use Rattle.js_frames.proofs.Small.{on, one, whole, slot, given, body, statements, program, comes_to, ends, left, event}
 
 -- return false && 1 / 0; and return 0 || "a": the right side only where it is needed

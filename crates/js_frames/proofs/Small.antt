@@ -1,16 +1,15 @@
 -- Small resolved programs, and what their bodies come to.
-use Rattle.std.proofs.Common.{ℕ, List, [], ◌∷◌, Option, Some, None}
-use Rattle.std.specs.Prelude.{ℤ, pos, codes}
+use Rattle.std.proofs.Common.{ℕ, List, [], Some, None}
+use Rattle.std.specs.Prelude.{pos}
 use Rattle.js_data.specs.Event.{PlainEvent}
 use Rattle.js_value.specs.Value as v
 use Rattle.js_value.specs.Value.{PlainValue}
 use Rattle.js_program.specs.declared.builtin.Mode.{Mode}
-use Rattle.js_program.specs.declared.node.Variable.{Variable}
 use Rattle.js_program.specs.declared.node.Variable.TheVariants.{Slot, Constant}
 use Rattle.js_program.specs.PlainProgram as p
 use Rattle.js_program.specs.PlainProgram.{PlainNodeForm, PlainNode, PlainBody, PlainContent, PlainConstant, PlainDeclared, PlainProgram}
-use Rattle.js_frames.specs.State.{State, Effect, Left, Outcome, went, normal}
-use Rattle.js_frames.specs.Meaning.{Ground, call_outcome}
+use Rattle.js_frames.specs.State.{Effect, Left, Outcome, went, normal}
+use Rattle.js_frames.specs.Meaning.{call_outcome}
 
 abbrev pub on : ℕ → PlainNodeForm → PlainNode
 on line form = record { line = line; form = form }

@@ -1,5 +1,5 @@
 -- Statements in order, arguments in order, and calls of functions.
-use Rattle.std.specs.Prelude.{ℕ, suc, ◌+◌, pos, cond, nat_lt, Bool, List, [], ◌∷◌, ◌++◌, slice_get, unwrap_or, Option, Some, None, codes, if◌then◌else◌}
+use Rattle.std.specs.Prelude.{ℕ, suc, ◌+◌, pos, cond, nat_lt, List, [], ◌∷◌, ◌++◌, slice_get, unwrap_or, Option, Some, None, codes, if◌then◌else◌}
 use Rattle.std.specs.Str.{bytes_eq}
 use Rattle.js_data.specs.declared.fault.Fault.TheVariants as fault
 use Rattle.js_value.specs.Value as v
@@ -7,12 +7,11 @@ use Rattle.js_value.specs.Value.{PlainValue}
 use Rattle.js_value.specs.Lists.{values_in}
 use Rattle.js_value.specs.declared.op.Method.{Method}
 use Rattle.js_value.specs.declared.op.Method.TheVariants as method
-use Rattle.js_ops.specs.Made.{Answer}
 use Rattle.js_ops.specs.Members.{field_or_undefined}
 use Rattle.js_ops.specs.Methods.{method_of}
 use Rattle.js_program.specs.declared.builtin.Mode.{Mode}
 use Rattle.js_program.specs.PlainProgram.{PlainProgram, PlainBody, PlainContent, statements, one_value}
-use Rattle.js_frames.specs.State.{State, Completion, normal, returned, Outcome, went, broken, violated, spent, stopped, ◌>>=◌, gives, leaves, breaks, answered}
+use Rattle.js_frames.specs.State.{State, Completion, returned, Outcome, went, ◌>>=◌, gives, leaves, breaks, answered}
 use Rattle.js_frames.specs.Variables.{slots_of_call}
 
 -- what stays the same while a body runs: the program, the mode, and how many nodes may begin before each reply

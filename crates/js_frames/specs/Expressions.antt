@@ -1,5 +1,5 @@
 -- What each expression does.
-use Rattle.std.specs.Prelude.{ℕ, cond, List, [], ◌∷◌, ◌++◌, map, Option, Some, None, Result, Ok, Err}
+use Rattle.std.specs.Prelude.{ℕ, cond, List, [], map, Some, Ok, Err}
 use Rattle.js_tree.specs.declared.tree.Sign.{Sign}
 use Rattle.js_tree.specs.declared.tree.Sign.TheVariants as sign
 use Rattle.js_tree.specs.declared.tree.Step.{Step}
@@ -10,14 +10,13 @@ use Rattle.js_tree.specs.declared.tree.Operator.{Operator}
 use Rattle.js_tree.specs.declared.tree.Operator.TheVariants as operator
 use Rattle.js_tree.specs.declared.tree.AssignOp.{AssignOp}
 use Rattle.js_tree.specs.declared.tree.AssignOp.TheVariants as assign_op
-use Rattle.js_value.specs.Value as v
 use Rattle.js_value.specs.Value.{PlainValue, is_truthy}
 use Rattle.js_value.specs.declared.op.Op.{Op}
 use Rattle.js_value.specs.declared.op.Op.TheVariants as op
 use Rattle.js_value.specs.declared.op.Unary.{Unary}
 use Rattle.js_value.specs.declared.op.Unary.TheVariants as unary
 use Rattle.js_value.specs.declared.op.Make.TheVariants as make
-use Rattle.js_ops.specs.Made.{Answer, made}
+use Rattle.js_ops.specs.Made.{Answer}
 use Rattle.js_ops.specs.Operators.{value_of, unary_of}
 use Rattle.js_ops.specs.Members.{member_of, index_of}
 use Rattle.js_ops.specs.Making.{make_of}

@@ -1,6 +1,5 @@
 -- The forms of `bp` and `Math`, with their arguments.
 use Rattle.std.specs.Prelude.{ℕ, cond, List, [], ◌∷◌, ◌++◌, slice_get, unwrap_or, option_map, Option, Some, None}
-use Rattle.js_data.specs.Data as d
 use Rattle.js_data.specs.Event.{PlainEvent}
 use Rattle.js_data.specs.JsonText.{event_text, data_text}
 use Rattle.js_data.specs.declared.fault.Fault.TheVariants as fault

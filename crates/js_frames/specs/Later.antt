@@ -1,5 +1,5 @@
 -- How a state follows on another one.
-use Rattle.std.specs.Prelude.{◌≡◌, ℕ, ◌≤◌, List, length, ◌++◌}
+use Rattle.std.specs.Prelude.{◌≡◌, ◌≤◌, List, length, ◌++◌}
 use Rattle.js_data.specs.Event.{PlainEvent}
 use Rattle.js_frames.specs.State.{Effect, State, Left}
 

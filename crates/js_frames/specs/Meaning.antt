@@ -1,5 +1,5 @@
 -- What a program means: the outcome of each node, by recursion on its parts.
-use Rattle.std.specs.Prelude.{ℕ, zero, suc, ◌+◌, ◌*◌, List, [], ◌∷◌, length, map, slice_get, Option, Some, None}
+use Rattle.std.specs.Prelude.{ℕ, zero, suc, ◌+◌, ◌*◌, List, [], length, map, slice_get, Option, Some, None}
 use Rattle.js_data.specs.Event.{PlainEvent}
 use Rattle.js_value.specs.Value as v
 use Rattle.js_value.specs.Value.{PlainValue}
@@ -8,7 +8,7 @@ use Rattle.js_program.specs.declared.builtin.Mode.{Mode}
 use Rattle.js_program.specs.declared.builtin.Mode.TheVariants.{Top}
 use Rattle.js_program.specs.PlainProgram as p
 use Rattle.js_program.specs.PlainProgram.{PlainNodeForm, PlainNode, PlainProgram}
-use Rattle.js_frames.specs.State.{State, normal, broke, continued, returned, left_of, Outcome, went, broken, violated, spent, stopped, gives, leaves, answered}
+use Rattle.js_frames.specs.State.{State, broke, continued, returned, left_of, Outcome, went, spent, gives, leaves, answered}
 use Rattle.js_frames.specs.Variables.{reading, slots_of_call, constant_start}
 use Rattle.js_frames.specs.Calls.{Setting, runs, calls}
 use Rattle.js_frames.specs.Expressions.{does_list, does_fields, does_member, does_index, does_call, does_method, does_builtin, does_floor_divide, does_unary, does_update, does_binary, does_conditional, does_assign, does_function}

@@ -1,14 +1,14 @@
 -- What each statement does.
 use Rattle.std.specs.Prelude.{ℕ, zero, suc, cond, true, List, [], ◌∷◌, Option, Some, None}
 use Rattle.js_tree.specs.declared.tree.DeclareKind.{DeclareKind}
-use Rattle.js_tree.specs.declared.tree.DeclareKind.TheVariants.{Const, Let, Var}
+use Rattle.js_tree.specs.declared.tree.DeclareKind.TheVariants.{Var}
 use Rattle.js_data.specs.declared.fault.Fault.TheVariants as fault
 use Rattle.js_value.specs.Value as v
 use Rattle.js_value.specs.Value.{PlainValue, is_truthy}
 use Rattle.js_value.specs.Lists.{values_in}
 use Rattle.js_program.specs.declared.node.Variable.{Variable}
 use Rattle.js_program.specs.PlainProgram.{PlainDeclared}
-use Rattle.js_frames.specs.State.{State, normal, broke, continued, returned, left_of, Outcome, went, broken, violated, spent, stopped, ◌>>=◌, gives, leaves, breaks}
+use Rattle.js_frames.specs.State.{State, normal, broke, continued, returned, left_of, Outcome, went, spent, ◌>>=◌, gives, leaves, breaks}
 use Rattle.js_frames.specs.Variables.{put, undeclare}
 use Rattle.js_frames.specs.Calls.{Setting, sequence}
 

@@ -1,5 +1,5 @@
 -- Resolved programs as plain data. A form has the numbers of its parts, in the order in which they begin in the text.
-use Rattle.std.specs.Prelude.{ℕ, ℤ, Bool, List, [], ◌∷◌, ◌++◌, Option, Some, None, option_to_list, map}
+use Rattle.std.specs.Prelude.{ℕ, ℤ, Bool, List, [], ◌∷◌, ◌++◌, Option, option_to_list, map}
 use Rattle.std.specs.List.{filter_map}
 use Rattle.js_tree.specs.declared.tree.Sign.{Sign}
 use Rattle.js_tree.specs.declared.tree.Step.{Step}

@@ -1,5 +1,5 @@
 -- The plain form of each node.
-use Rattle.std.specs.Prelude.{ℕ, List, Option, map}
+use Rattle.std.specs.Prelude.{map}
 use Rattle.js_program.specs.declared.node.NodeForm.{NodeForm}
 use Rattle.js_program.specs.declared.node.NodeForm.TheVariants as f
 use Rattle.js_program.specs.declared.node.Declared.{Declared}
