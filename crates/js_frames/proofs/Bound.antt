@@ -32,7 +32,7 @@ use Rattle.js_program.specs.declared.node.Variable.{Variable}
 use Rattle.js_program.specs.declared.node.Variable.TheVariants.{Slot, Constant}
 use Rattle.js_program.specs.PlainProgram as p
 use Rattle.js_program.specs.PlainProgram.{PlainProgram, PlainNode, PlainNodeForm, PlainContent, PlainDeclared}
-use Rattle.js_frames.specs.State.{Effect, State, Completion, normal, broke, continued, returned, Left, left_of, Outcome, went, broken, violated, spent, stopped, ◌>>=◌, leaves, breaks, answered}
+use Rattle.js_frames.specs.State.{Effect, State, Completion, normal, broke, continued, returned, Left, left_of, Outcome, went, broken, violated, spent, spends, stopped, ◌>>=◌, leaves, breaks, answered}
 use Rattle.js_frames.specs.Variables.{held, put, undeclare, if_declared, reading, slots_of_call, captured, made_function}
 use Rattle.js_frames.specs.Calls.{Setting, max_calls, body_of, after_call, method_named, applies, sequence, in_order, runs, enters, calls, for_each_from, for_each_call, calls_method}
 use Rattle.js_frames.specs.Forms.{argument, does_to_run, registers_thread, asks, asserted, enqueues_event, sets_handler, log_text, logs, floors, takes_effect, applies_form}
@@ -46,12 +46,17 @@ record Fine (b m : ℕ) (s0 s : State) : Type 0 where
   few : allowed b s ≤ m
   later : Later s0 s
 
+-- no fuel is left
+record Out (s0 : State) (l : Left) : Type 0 where
+  beyond : Beyond s0 l
+  none : l.fuel ≡ 0
+
 -- what an outcome leaves follows on the state
 abbrev Low : ℕ → ℕ → State → Outcome → Type 0
 Low b m s0 (went c s) = Fine b m s0 s
 Low b m s0 (broken f line l) = Beyond s0 l
 Low b m s0 (violated text l) = Beyond s0 l
-Low b m s0 (spent l) = Beyond s0 l
+Low b m s0 (spent l) = Out s0 l
 Low b m s0 (stopped v p line l) = Beyond s0 l
 
 -- the same outcome, and it follows on the state
@@ -69,7 +74,7 @@ Low-from : (b m k : ℕ) (s0 s : State) (o : Outcome) → m ≤ k → Later s0 s
 Low-from b m k s0 s (went c t) le l h = record { few = omega arith; later = later_trans l h.later }
 Low-from b m k s0 s (broken f line x) le l h = beyond_trans l h
 Low-from b m k s0 s (violated text x) le l h = beyond_trans l h
-Low-from b m k s0 s (spent x) le l h = beyond_trans l h
+Low-from b m k s0 s (spent x) le l h = record { beyond = beyond_trans l h.beyond; none = h.none }
 Low-from b m k s0 s (stopped v p line x) le l h = beyond_trans l h
 
 -- from an earlier state, with more nodes
@@ -79,8 +84,11 @@ from {b} {m} {k} {s0} {s} {o} le l h = record { same = h.same; low = Low-from b 
 more : {b m k : ℕ} {s0 : State} {o o' : Outcome} → m ≤ k → Agree b m s0 o o' → Agree b k s0 o o'
 more {b} {m} {k} {s0} le h = from le (later_refl s0) h
 
-both_spent : {b m : ℕ} {s0 : State} {o o' : Outcome} (s : State) → Later s0 s → o ≡ spent (left_of s) → o' ≡ spent (left_of s) → Agree b m s0 o o'
-both_spent {b} {m} {s0} s l p q = record { same = p ∙ sym q; low = subst (Low b m s0) (sym p) (left_beyond l) }
+out : {s0 s : State} → Later s0 s → Out s0 (record { effects = s.effects; fuel = 0 })
+out l = record { beyond = record { added = l.added; effects = l.effects }; none = refl }
+
+both_spent : {b m : ℕ} {s0 : State} {o o' : Outcome} (s : State) → Later s0 s → o ≡ spends s → o' ≡ spends s → Agree b m s0 o o'
+both_spent {b} {m} {s0} s l p q = record { same = p ∙ sym q; low = subst (Low b m s0) (sym p) (out l) }
 
 -- nothing begins
 done : {b m : ℕ} {s0 : State} (o : Outcome) → Low b m s0 o → Agree b m s0 o o
@@ -125,7 +133,7 @@ call_self : (b m : ℕ) (s0 s : State) (slots : List (Option PlainValue)) (n : �
 call_self b m s0 s slots n (went c t) l low = record { few = low.few; later = later_trans l (returned_later s slots n t low.later) }
 call_self b m s0 s slots n (broken x line e) l low = beyond_trans l (record { added = low.added; effects = low.effects })
 call_self b m s0 s slots n (violated text e) l low = beyond_trans l (record { added = low.added; effects = low.effects })
-call_self b m s0 s slots n (spent e) l low = beyond_trans l (record { added = low.added; effects = low.effects })
+call_self b m s0 s slots n (spent e) l low = record { beyond = beyond_trans l (record { added = low.beyond.added; effects = low.beyond.effects }); none = low.none }
 call_self b m s0 s slots n (stopped x q line e) l low = beyond_trans l (record { added = low.added; effects = low.effects })
 
 called : {b m : ℕ} {s0 s : State} {o o' : Outcome} (slots : List (Option PlainValue)) (n : ℕ) → Later s0 s → Agree b m (record s { slots = slots; calls = n }) o o' → Agree b m s0 (after_call s o) (after_call s o')
@@ -238,8 +246,8 @@ module _ (b m : ℕ) (s0 s : State) (l : Fine b m s0 s) where
 -- two ways to evaluate parts agree where no more nodes are allowed than m, and each begins a node
 record Evs (b m : ℕ) (ev ev' : ℕ → State → Outcome) : Type 0 where
   agree : (k n : ℕ) (s : State) → k ≤ m → allowed b s ≤ k → Agree b (k - 1) s (ev n s) (ev' n s)
-  dry : (n : ℕ) (s : State) → allowed b s ≡ 0 → ev n s ≡ spent (left_of s)
-  dry' : (n : ℕ) (s : State) → allowed b s ≡ 0 → ev' n s ≡ spent (left_of s)
+  dry : (n : ℕ) (s : State) → allowed b s ≡ 0 → ev n s ≡ spends s
+  dry' : (n : ℕ) (s : State) → allowed b s ≡ 0 → ev' n s ≡ spends s
 
 -- a part that begins where no more than j nodes are allowed
 part_at : {b m : ℕ} {ev ev' : ℕ → State → Outcome} → Evs b m ev ev' → (j n : ℕ) (s0 s : State) → j ≤ m → Fine b j s0 s → Agree b (j - 1) s0 (ev n s) (ev' n s)
@@ -389,13 +397,13 @@ module _ (g : Setting) (m : ℕ) (ev ev' : ℕ → State → Outcome) (h : Evs g
     does_agree line (p.return_of e) s l = bind (part g m ev ev' h s0 e s l) (λ y now k. done _ k)
 
     node_agree : (o : Option PlainNode) (s : State) → Fine g.budget m s0 s → Agree g.budget m s0 (does_node g ev repeat o s) (does_node g ev' repeat' o s)
-    node_agree None s l = done _ (left_beyond l.later)
+    node_agree None s l = done _ (out l.later)
     node_agree (Some node) s l = does_agree node.line node.form s l
 
 -- ---- turns
 
 module _ (g : Setting) (m : ℕ) (ev ev' : ℕ → State → Outcome) (h : Evs g.budget m ev ev') where
-  dry_turns : (way : ℕ → State → Outcome) (k : ℕ) (test : Option ℕ) (body : ℕ) (next : Option ℕ) (s : State) → ((n : ℕ) → way n s ≡ spent (left_of s)) → turns k (tests g way test) (way body) (perhaps g way next) s ≡ spent (left_of s)
+  dry_turns : (way : ℕ → State → Outcome) (k : ℕ) (test : Option ℕ) (body : ℕ) (next : Option ℕ) (s : State) → ((n : ℕ) → way n s ≡ spends s) → turns k (tests g way test) (way body) (perhaps g way next) s ≡ spends s
   dry_turns way zero test body next s dry = refl
   dry_turns way (suc k) None body next s dry = ap (λ o. after_turn o (λ later. perhaps g way next later >>= λ _. turns k (tests g way None) (way body) (perhaps g way next))) (dry body)
   dry_turns way (suc k) (Some test) body next s dry =
@@ -419,7 +427,7 @@ module _ (g : Setting) (m : ℕ) (ev ev' : ℕ → State → Outcome) (h : Evs g
 -- ---- the knot
 
 -- no node begins where none is allowed
-within_dry : (g : Setting) (k n : ℕ) (s : State) → allowed g.budget s ≡ 0 → within g k n s ≡ spent (left_of s)
+within_dry : (g : Setting) (k n : ℕ) (s : State) → allowed g.budget s ≡ 0 → within g k n s ≡ spends s
 unfolding within
 within_dry g zero n s e = refl
 within_dry g (suc k) n s e =
@@ -428,7 +436,7 @@ within_dry g (suc k) n s e =
 
 -- what begins with fuel
 begins_agree : (b m f : ℕ) (go go' : State → Outcome) (s : State) → s.fuel ≡ f → ((now : State) → Fine b m s now → Agree b m s (go now) (go' now)) → allowed b s ≤ suc m → Agree b m s (begins_with f go s) (begins_with f go' s)
-begins_agree b m zero go go' s is h l = done _ (left_beyond (later_refl s))
+begins_agree b m zero go go' s is h l = done _ (out (later_refl s))
 begins_agree b m (suc f) go go' s is h l = h (record s { fuel = f }) (record { few = omega arith; later = begun_later s f is })
 
 within_agree : (g : Setting) (top m k k' : ℕ) → m ≤ top → m ≤ k → m ≤ k' → (n : ℕ) (s : State) → allowed g.budget s ≤ m → Agree g.budget (m - 1) s (within g k n s) (within g k' n s)
@@ -521,4 +529,7 @@ pub violated_beyond : (g : Setting) (n : ℕ) (s : State) (text : List ℕ) (l :
 violated_beyond g n s text l is = Low-of g n s (violated text l) is
 
 pub spent_beyond : (g : Setting) (n : ℕ) (s : State) (l : Left) → eval g n s ≡ spent l → Beyond s l
-spent_beyond g n s l is = Low-of g n s (spent l) is
+spent_beyond g n s l is = (Low-of g n s (spent l) is).beyond
+
+pub spent_out : (g : Setting) (n : ℕ) (s : State) (l : Left) → eval g n s ≡ spent l → l.fuel ≡ 0
+spent_out g n s l is = (Low-of g n s (spent l) is).none

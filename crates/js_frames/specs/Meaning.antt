@@ -8,7 +8,7 @@ use Rattle.js_program.specs.declared.builtin.Mode.{Mode}
 use Rattle.js_program.specs.declared.builtin.Mode.TheVariants.{Top}
 use Rattle.js_program.specs.PlainProgram as p
 use Rattle.js_program.specs.PlainProgram.{PlainNodeForm, PlainNode, PlainProgram}
-use Rattle.js_frames.specs.State.{State, broke, continued, returned, left_of, Outcome, went, spent, gives, leaves, answered}
+use Rattle.js_frames.specs.State.{State, broke, continued, returned, Outcome, went, spends, gives, leaves, answered}
 use Rattle.js_frames.specs.Variables.{reading, slots_of_call, constant_start}
 use Rattle.js_frames.specs.Calls.{Setting, runs, calls}
 use Rattle.js_frames.specs.Expressions.{does_list, does_fields, does_member, does_index, does_call, does_method, does_builtin, does_floor_divide, does_unary, does_update, does_binary, does_conditional, does_assign, does_function}
@@ -53,12 +53,12 @@ module _ (g : Setting) (ev : ℕ → State → Outcome) (repeat : (State → Out
 
   -- there is no node of a number that no node has
   abbrev pub does_node : Option PlainNode → State → Outcome
-  does_node None s = spent (left_of s)
+  does_node None s = spends s
   does_node (Some node) s = does node.line node.form s
 
 -- beginning a node takes one unit of fuel
 abbrev pub begins_with : ℕ → (State → Outcome) → State → Outcome
-begins_with zero go s = spent (left_of s)
+begins_with zero go s = spends s
 begins_with (suc fuel) go s = go (record s { fuel = fuel })
 
 abbrev pub begins : (State → Outcome) → State → Outcome
@@ -66,7 +66,7 @@ begins go s = begins_with s.fuel go s
 
 -- The outcome of a node. `bound` is at least the number of nodes that the fuel and the replies still allow: it makes this a recursion on a number, and is never met.
 unfoldable pub within : Setting → ℕ → ℕ → State → Outcome
-within g zero n s = spent (left_of s)
+within g zero n s = spends s
 within g (suc bound) n s = begins (does_node g (within g bound) (turns bound) (slice_get g.program.nodes n)) s
 
 -- the nodes that the fuel and the replies still allow

@@ -67,6 +67,10 @@ gives v s = went (normal v) s
 abbrev pub leaves : State → Outcome
 leaves s = gives undefined s
 
+-- a node must begin and no fuel is left
+abbrev pub spends : State → Outcome
+spends s = spent (record { effects = s.effects; fuel = 0 })
+
 abbrev pub breaks : Fault → ℕ → State → Outcome
 breaks fault line s = broken fault line (left_of s)
 

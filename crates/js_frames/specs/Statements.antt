@@ -8,7 +8,7 @@ use Rattle.js_value.specs.Value.{PlainValue, is_truthy}
 use Rattle.js_value.specs.Lists.{values_in}
 use Rattle.js_program.specs.declared.node.Variable.{Variable}
 use Rattle.js_program.specs.PlainProgram.{PlainDeclared}
-use Rattle.js_frames.specs.State.{State, normal, broke, continued, returned, left_of, Outcome, went, spent, ◌>>=◌, gives, leaves, breaks}
+use Rattle.js_frames.specs.State.{State, normal, broke, continued, returned, Outcome, went, spends, ◌>>=◌, gives, leaves, breaks}
 use Rattle.js_frames.specs.Variables.{put, undeclare}
 use Rattle.js_frames.specs.Calls.{Setting, sequence}
 
@@ -28,7 +28,7 @@ one_turn test body next again s =
 
 -- at most so many turns
 abbrev pub turns : ℕ → (State → Outcome) → (State → Outcome) → (State → Outcome) → State → Outcome
-turns zero test body next s = spent (left_of s)
+turns zero test body next s = spends s
 turns (suc n) test body next s = one_turn test body next (turns n test body next) s
 
 -- a turn for each element

@@ -40,6 +40,7 @@ pub fn evaluation_goes_on()
     ensures broken { (g : Setting) (n : ℕ) (s : State) (f : Fault) (line : ℕ) (l : Left) → eval g n s ≡ broken f line l → Beyond s l }
     ensures violated { (g : Setting) (n : ℕ) (s : State) (text : List ℕ) (l : Left) → eval g n s ≡ violated text l → Beyond s l }
     ensures spent { (g : Setting) (n : ℕ) (s : State) (l : Left) → eval g n s ≡ spent l → Beyond s l }
+    ensures no_fuel { (g : Setting) (n : ℕ) (s : State) (l : Left) → eval g n s ≡ spent l → l.fuel ≡ 0 }
     ensures stopped { (g : Setting) (n : ℕ) (s : State) (statement priority : PlainValue) (line : ℕ) (l : Left) →
         eval g n s ≡ stopped statement priority line l → Beyond s l }
 {}

@@ -1,4 +1,4 @@
-use Rattle.js_frames.proofs.Bound.{went_later, went_fewer, broken_beyond, violated_beyond, spent_beyond, stopped_beyond}
+use Rattle.js_frames.proofs.Bound.{went_later, went_fewer, broken_beyond, violated_beyond, spent_beyond, spent_out, stopped_beyond}
 use Rattle.js_frames.proofs.laws.evaluation_goes_on.Goals as goal
 
 pub returns-clause-follows : goal.returns-clause-follows
@@ -18,3 +18,6 @@ returns-clause-spent c = spent_beyond
 
 pub returns-clause-stopped : goal.returns-clause-stopped
 returns-clause-stopped c = stopped_beyond
+
+pub returns-clause-no_fuel : goal.returns-clause-no_fuel
+returns-clause-no_fuel c = spent_out
