@@ -32,7 +32,7 @@ use Rattle.js_program.specs.declared.node.Variable.{Variable}
 use Rattle.js_program.specs.declared.node.Variable.TheVariants.{Slot, Constant}
 use Rattle.js_program.specs.PlainProgram as p
 use Rattle.js_program.specs.PlainProgram.{PlainProgram, PlainNode, PlainNodeForm, PlainContent, PlainDeclared}
-use Rattle.js_frames.specs.State.{Effect, State, Completion, normal, broke, continued, returned, Left, left_of, Outcome, went, broken, violated, spent, spends, stopped, ◌>>=◌, leaves, breaks, answered}
+use Rattle.js_frames.specs.State.{Effect, State, Completion, normal, broke, continued, returned, Left, Outcome, went, broken, violated, spent, spends, stopped, ◌>>=◌, leaves, breaks, answered}
 use Rattle.js_frames.specs.Variables.{held, put, undeclare, if_declared, reading, slots_of_call, captured, made_function}
 use Rattle.js_frames.specs.Calls.{Setting, max_calls, body_of, after_call, method_named, applies, sequence, in_order, runs, enters, calls, for_each_from, for_each_call, calls_method}
 use Rattle.js_frames.specs.Forms.{argument, does_to_run, registers_thread, asks, asserted, enqueues_event, sets_handler, log_text, logs, floors, takes_effect, applies_form}
