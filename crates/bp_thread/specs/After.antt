@@ -22,18 +22,10 @@ abbrev pub evaluation : Ground → ℕ → Origin → List PlainEvent → js.Out
 evaluation base budget the_top replies = top_outcome base.program budget
 evaluation base budget (function mode f args) replies = call_outcome base mode budget f args replies
 
--- everything that it did to the run around it
-abbrev pub effects_of : js.Outcome → List js.Effect
-effects_of (js.went c s) = s.effects
-effects_of (js.broken f line left) = left.effects
-effects_of (js.violated text left) = left.effects
-effects_of (js.spent left) = left.effects
-effects_of (js.stopped statement priority line left) = left.effects
-
 -- how many effects it made before the last of the replies
 abbrev pub made_before : Ground → ℕ → Origin → List PlainEvent → ℕ
 made_before base budget o [] = 0
-made_before base budget o (e ∷ es) = length (effects_of (evaluation base budget o (take (length es) (e ∷ es))))
+made_before base budget o (e ∷ es) = length (js.effects_of (evaluation base budget o (take (length es) (e ∷ es))))
 
 abbrev pub effect_of : js.Effect → run.Effect Origin
 effect_of (js.says text) = run.Effect.Says text
@@ -54,7 +46,7 @@ outcome_of (js.spent left) = run.Outcome.Spent
 outcome_of (js.stopped statement priority line left) = stopped_with (statement_of statement priority) line
 
 abbrev pub part_with : js.Outcome → ℕ → Part Origin PlainSet
-part_with o before = record { effects = map effect_of (drop before (effects_of o)); outcome = outcome_of o }
+part_with o before = record { effects = map effect_of (drop before (js.effects_of o)); outcome = outcome_of o }
 
 -- the outcome of the whole body from its start, with the effects that came after the last reply
 abbrev pub after : Ground → ℕ → Origin → List PlainEvent → Part Origin PlainSet
@@ -68,7 +60,7 @@ handler_after earlier _ = earlier
 
 -- the handler that was set last, over all replies
 abbrev pub handler : Ground → ℕ → Origin → List PlainEvent → Option PlainValue
-handler base budget o replies = fold handler_after None (effects_of (evaluation base budget o replies))
+handler base budget o replies = fold handler_after None (js.effects_of (evaluation base budget o replies))
 
 -- the run of the handler at the event that interrupted the body
 abbrev pub handling : Ground → ℕ → Origin → List PlainEvent → PlainEvent → Option Origin

@@ -7,3 +7,4 @@ pub mod Statements
 pub mod Meaning
 pub mod Later
 pub mod Modes
+pub mod Replies

@@ -53,6 +53,14 @@ pub data Outcome : Type 0 where
   -- `bp.sync` was reached and no reply is left: its statement, its priority and its line
   stopped : PlainValue → PlainValue → ℕ → Left → Outcome
 
+-- everything that it did to the run around it
+abbrev pub effects_of : Outcome → List Effect
+effects_of (went c s) = s.effects
+effects_of (broken f line l) = l.effects
+effects_of (violated text l) = l.effects
+effects_of (spent l) = l.effects
+effects_of (stopped statement priority line l) = l.effects
+
 -- goes on with the value, where there is one
 infixl 10 ◌>>=◌
 abbrev pub ◌>>=◌ : Outcome → (PlainValue → State → Outcome) → Outcome

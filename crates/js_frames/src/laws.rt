@@ -1,5 +1,5 @@
 //! The laws of evaluation, each as the contract of a function that does nothing.
-ghost use Rattle.std.specs.Prelude.{◌≡◌, ◌≤◌, ◌-◌, ℕ, List, [], map, Option, slice_get};
+ghost use Rattle.std.specs.Prelude.{◌≡◌, ◌≤◌, ◌-◌, ◌++◌, ℕ, List, [], map, Option, slice_get};
 ghost use Rattle.js_data.specs.declared.fault.Fault.{Fault};
 ghost use Rattle.js_value.specs.Value.{PlainValue};
 ghost use Rattle.js_frames.specs.State.{State, Completion, Left, Outcome, went, broken, violated, stopped, spent};
@@ -8,6 +8,7 @@ ghost use Rattle.js_frames.specs.Statements.{tests, perhaps, one_turn};
 ghost use Rattle.js_frames.specs.Variables.{slots_of_call, constant_start};
 ghost use Rattle.js_frames.specs.Meaning.{within, allowed, eval, turns_of, begins, does_node, Ground, start, call_outcome, top_outcome};
 ghost use Rattle.js_frames.specs.Modes.{OnlyAnswers};
+ghost use Rattle.js_frames.specs.Replies.{GoesOn, with_more};
 ghost use Rattle.js_program.specs.declared.builtin.Mode.{Mode};
 ghost use Rattle.js_program.specs.declared.builtin.Mode.TheVariants.{Top};
 ghost use Rattle.js_program.specs.PlainProgram.{PlainProgram};
@@ -52,4 +53,11 @@ pub fn modes_limit_evaluation()
         OnlyAnswers mode (start [] base.constants budget replies) (call_outcome base mode budget f args replies) }
     ensures top { (program : PlainProgram) (budget : ℕ) →
         OnlyAnswers Top (start (slots_of_call program.top [] []) (map constant_start program.constants) budget []) (top_outcome program budget) }
+{}
+
+/// With more replies an evaluation that stopped goes on behind the effects that it made, and every other one is the same.
+pub fn more_replies_go_on()
+    ensures node { (g : Setting) (n : ℕ) (s : State) (more : List PlainEvent) → GoesOn more (eval g n s) (eval g n (with_more more s)) }
+    ensures call { (base : Ground) (mode : Mode) (budget : ℕ) (f : PlainValue) (args : List PlainValue) (replies more : List PlainEvent) →
+        GoesOn more (call_outcome base mode budget f args replies) (call_outcome base mode budget f args (replies ++ more)) }
 {}
