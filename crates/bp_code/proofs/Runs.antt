@@ -1,5 +1,5 @@
 -- Whole runs of programs, computed to the text that is printed.
-use Rattle.std.proofs.Common.{◌≡◌, ℕ, ◌+◌, List, [], ◌∷◌, ◌++◌, Option, Some, refl, true}
+use Rattle.std.proofs.Common.{◌≡◌, List, [], ◌∷◌, ◌++◌, Some, refl, true}
 use Rattle.std.specs.Prelude.{codes}
 use Rattle.std.specs.Fmt.{digits}
 use Rattle.js_tree.specs.declared.tree.Operator.TheVariants as op
@@ -12,39 +12,14 @@ use Rattle.js_program.specs.PlainProgram as p
 use Rattle.js_program.specs.PlainProgram.{PlainNode, PlainBody, PlainProgram}
 use Rattle.js_frames.specs.Meaning.{within, eval, turns_of, call_outcome, top_outcome, ground_of}
 use Rattle.js_frames.proofs.Small.{one, whole, slot, constant, given, body, statements, program}
-use Rattle.bp_log.specs.Options.{PlainOptions, default_options}
+use Rattle.bp_log.specs.Options.{default_options}
 use Rattle.bp_log.specs.declared.options.Strategy.TheVariants.{Ordered}
 use Rattle.bp_run.specs.Settling.{turn, settle_in, settle, initial}
 use Rattle.bp_run.specs.Choosing.{selectable, choice, reach}
 use Rattle.bp_run.specs.Story.{step, next, after_record, story_from, story, alone_from, alone}
 use Rattle.bp_run.specs.Text.{line_text, lines_text, text}
 use Rattle.bp_code.specs.Code.{text_alone}
-
--- ---- pieces of programs; each begins with the node of the given number
-
--- 4 nodes: bp.registerBThread(name, the function of this number);
-abbrev registers : ℕ → List ℕ → ℕ → List PlainNode
-registers k name code =
-    one (p.words name) ∷ one (p.function code) ∷ one (p.builtin form.RegisterBThread (k ∷ (k + 1) ∷ [])) ∷ one (p.expression (k + 2)) ∷ []
-
--- 5 nodes: bp.sync({request: bp.Event(name)});
-abbrev requests : ℕ → List ℕ → List PlainNode
-requests k name =
-    one (p.words name) ∷ one (p.builtin form.Event (k ∷ [])) ∷ one (p.fields ((codes "request", k + 1) ∷ []))
-    ∷ one (p.builtin form.Sync ((k + 2) ∷ [])) ∷ one (p.expression (k + 3)) ∷ []
-
--- 7 nodes: bp.sync({waitFor: bp.Event(first), key: bp.Event(second)});
-abbrev waits : ℕ → List ℕ → List ℕ → List ℕ → List PlainNode
-waits k first key second =
-    one (p.words first) ∷ one (p.builtin form.Event (k ∷ [])) ∷ one (p.words second) ∷ one (p.builtin form.Event ((k + 2) ∷ []))
-    ∷ one (p.fields ((codes "waitFor", k + 1) ∷ (key, k + 3) ∷ [])) ∷ one (p.builtin form.Sync ((k + 4) ∷ [])) ∷ one (p.expression (k + 5)) ∷ []
-
--- 3 nodes: bp.log.info(text);
-abbrev logs : ℕ → List ℕ → List PlainNode
-logs k text = one (p.words text) ∷ one (p.builtin form.LogInfo (k ∷ [])) ∷ one (p.expression (k + 1)) ∷ []
-
-abbrev printed : PlainOptions → List PlainNode → List PlainBody → List ℕ → Option (List ℕ)
-printed options nodes functions top = text_alone (program nodes functions [] (statements 0 top)) options (λ n. n)
+use Rattle.bp_code.proofs.Pieces.{registers, requests, waits, logs, printed}
 
 -- ---- the empty program
 
@@ -161,19 +136,3 @@ pub returns_nothing :
     ≡ Some (codes "log \"A\" \"undefined\"\nlog \"A\" \"2\"\ndone \"A\"\nverdict quiet 0\n")
 unfolding turn settle_in settle initial selectable choice reach step next after_record story_from story alone_from alone line_text lines_text text digits call_outcome top_outcome ground_of eval within turns_of
 returns_nothing = refl
-
--- ---- verdicts
-
--- a budget of 9 is spent in a body of twelve nodes
-pub spent_ends_the_run : printed (record default_options { budget = 9 })
-    (registers 0 (codes "A") 0 ++ logs 4 (codes "1") ++ logs 7 (codes "2") ++ logs 10 (codes "3") ++ logs 13 (codes "4"))
-    (statements 0 (6 ∷ 9 ∷ 12 ∷ 15 ∷ []) ∷ []) (3 ∷ [])
-    ≡ Some (codes "log \"A\" \"1\"\nlog \"A\" \"2\"\nlog \"A\" \"3\"\nverdict spent \"A\"\n")
-unfolding turn settle_in settle initial selectable choice reach step next after_record story_from story alone_from alone line_text lines_text text digits call_outcome top_outcome ground_of eval within turns_of
-spent_ends_the_run = refl
-
--- 1 / 0 at the top level
-pub fault_at_the_top : printed default_options (whole 1 ∷ whole 0 ∷ one (p.binary op.Divide 0 1) ∷ one (p.expression 2) ∷ []) [] (3 ∷ [])
-    ≡ Some (codes "verdict fault top 1 zero\n")
-unfolding turn settle_in settle initial selectable choice reach step next after_record story_from story alone_from alone line_text lines_text text digits call_outcome top_outcome ground_of eval within turns_of
-fault_at_the_top = refl
