@@ -1,0 +1,215 @@
+//! Each operator over every pair of kinds.
+use js_ops::{OpFault, apply};
+use js_value::{Event, Fault, Op, SetTree, Text, Value, Whole};
+use std::alloc::Global;
+use std::process::Abort;
+use std::test::Fail;
+
+// One value of each kind: undefined, null, true, 7, `a`, a list, fields, an event, a set and a function.
+fn samples(alloc: Global) -> Result<Vec<Value>, Fail> {
+    let mut all = Vec::new(alloc);
+    all.push(Value::Undefined)?;
+    all.push(Value::Null)?;
+    all.push(Value::Truth(true))?;
+    all.push(Value::Whole(Whole::new(7).ok_or("no whole number")?))?;
+    all.push(Value::Words(Text::new(String::from_str(alloc, "a")?)))?;
+    all.push(Value::List(Vec::new(alloc)))?;
+    all.push(Value::Fields(Vec::new(alloc)))?;
+    all.push(Value::Event(Event::new(Text::new(String::from_str(alloc, "go")?), None)?))?;
+    all.push(Value::Set(SetTree::All))?;
+    all.push(Value::Function {
+        code: 0,
+        captured: Vec::new(alloc),
+    })?;
+    Ok(all)
+}
+
+// `t` and `f` for a truth value, `n` for a whole number, `w` for a text, `x` for the fault `type`.
+fn mark(answer: &Result<Value, OpFault>) -> u8 {
+    match answer {
+        Ok(Value::Truth(true)) => b't',
+        Ok(Value::Truth(false)) => b'f',
+        Ok(Value::Whole(_)) => b'n',
+        Ok(Value::Words(_)) => b'w',
+        Err(OpFault::Fault(Fault::Mistyped)) => b'x',
+        _ => b'?',
+    }
+}
+
+fn agree(rt: &impl Abort, alloc: Global, op: Op, grid: &[&str]) -> Result<(), Fail> {
+    let values = samples(alloc)?;
+    assert_eq!(rt; values.len(), grid.len());
+    for (left, row) in values.iter().zip(grid) {
+        assert_eq!(rt; values.len(), row.len());
+        for (right, want) in values.iter().zip(row.as_bytes()) {
+            let answer = apply(alloc, op, left, right);
+            assert_eq!(rt; mark(&answer), *want, "{op:?} {left:?} {right:?}");
+        }
+    }
+    Ok(())
+}
+
+#[test]
+fn joined_and_added(rt: HostRuntime) -> Result<(), Fail> {
+    agree(
+        &rt,
+        rt.alloc(),
+        Op::Add,
+        &[
+            "xxxxwxxxxx",
+            "xxxxwxxxxx",
+            "xxxxwxxxxx",
+            "xxxnwxxxxx",
+            "wwwwwxxxxx",
+            "xxxxxxxxxx",
+            "xxxxxxxxxx",
+            "xxxxxxxxxx",
+            "xxxxxxxxxx",
+            "xxxxxxxxxx",
+        ],
+    )
+}
+
+#[test]
+fn whole_numbers_alone(rt: HostRuntime) -> Result<(), Fail> {
+    for op in [
+        Op::Subtract,
+        Op::Multiply,
+        Op::Divide,
+        Op::FloorDivide,
+        Op::Remainder,
+    ] {
+        agree(
+            &rt,
+            rt.alloc(),
+            op,
+            &[
+                "xxxxxxxxxx",
+                "xxxxxxxxxx",
+                "xxxxxxxxxx",
+                "xxxnxxxxxx",
+                "xxxxxxxxxx",
+                "xxxxxxxxxx",
+                "xxxxxxxxxx",
+                "xxxxxxxxxx",
+                "xxxxxxxxxx",
+                "xxxxxxxxxx",
+            ],
+        )?;
+    }
+    for op in [Op::LessEqual, Op::GreaterEqual] {
+        agree(
+            &rt,
+            rt.alloc(),
+            op,
+            &[
+                "xxxxxxxxxx",
+                "xxxxxxxxxx",
+                "xxxxxxxxxx",
+                "xxxtxxxxxx",
+                "xxxxxxxxxx",
+                "xxxxxxxxxx",
+                "xxxxxxxxxx",
+                "xxxxxxxxxx",
+                "xxxxxxxxxx",
+                "xxxxxxxxxx",
+            ],
+        )?;
+    }
+    for op in [Op::Less, Op::Greater] {
+        agree(
+            &rt,
+            rt.alloc(),
+            op,
+            &[
+                "xxxxxxxxxx",
+                "xxxxxxxxxx",
+                "xxxxxxxxxx",
+                "xxxfxxxxxx",
+                "xxxxxxxxxx",
+                "xxxxxxxxxx",
+                "xxxxxxxxxx",
+                "xxxxxxxxxx",
+                "xxxxxxxxxx",
+                "xxxxxxxxxx",
+            ],
+        )?;
+    }
+    Ok(())
+}
+
+#[test]
+fn the_same(rt: HostRuntime) -> Result<(), Fail> {
+    agree(
+        &rt,
+        rt.alloc(),
+        Op::Same,
+        &[
+            "tfffffffff",
+            "ftffffffff",
+            "fftfffffff",
+            "ffftffffff",
+            "fffftfffff",
+            "fffffxffff",
+            "ffffffxfff",
+            "ffffffftff",
+            "ffffffffxf",
+            "fffffffffx",
+        ],
+    )?;
+    agree(
+        &rt,
+        rt.alloc(),
+        Op::NotSame,
+        &[
+            "fttttttttt",
+            "tftttttttt",
+            "ttfttttttt",
+            "tttftttttt",
+            "ttttfttttt",
+            "tttttxtttt",
+            "ttttttxttt",
+            "tttttttftt",
+            "ttttttttxt",
+            "tttttttttx",
+        ],
+    )
+}
+
+#[test]
+fn equal(rt: HostRuntime) -> Result<(), Fail> {
+    agree(
+        &rt,
+        rt.alloc(),
+        Op::Equal,
+        &[
+            "ttffffffff",
+            "ttffffffff",
+            "fftxxxxxxx",
+            "ffxtxxxxxx",
+            "ffxxtxxxxx",
+            "ffxxxxxxxx",
+            "ffxxxxxxxx",
+            "ffxxxxxtxx",
+            "ffxxxxxxxx",
+            "ffxxxxxxxx",
+        ],
+    )?;
+    agree(
+        &rt,
+        rt.alloc(),
+        Op::NotEqual,
+        &[
+            "fftttttttt",
+            "fftttttttt",
+            "ttfxxxxxxx",
+            "ttxfxxxxxx",
+            "ttxxfxxxxx",
+            "ttxxxxxxxx",
+            "ttxxxxxxxx",
+            "ttxxxxxfxx",
+            "ttxxxxxxxx",
+            "ttxxxxxxxx",
+        ],
+    )
+}
