@@ -1,26 +1,28 @@
 //! Each operator over every pair of kinds.
+use crate::words::value_of;
 use js_ops::{OpFault, apply};
-use js_value::{Event, Fault, Op, SetTree, Text, Value, Whole};
+use js_value::{Fault, Op, Value};
 use std::alloc::Global;
 use std::process::Abort;
 use std::test::Fail;
 
-// One value of each kind: undefined, null, true, 7, `a`, a list, fields, an event, a set and a function.
+// One value of each kind.
 fn samples(alloc: Global) -> Result<Vec<Value>, Fail> {
     let mut all = Vec::new(alloc);
-    all.push(Value::Undefined)?;
-    all.push(Value::Null)?;
-    all.push(Value::Truth(true))?;
-    all.push(Value::Whole(Whole::new(7).ok_or("no whole number")?))?;
-    all.push(Value::Words(Text::new(String::from_str(alloc, "a")?)))?;
-    all.push(Value::List(Vec::new(alloc)))?;
-    all.push(Value::Fields(Vec::new(alloc)))?;
-    all.push(Value::Event(Event::new(Text::new(String::from_str(alloc, "go")?), None)?))?;
-    all.push(Value::Set(SetTree::All))?;
-    all.push(Value::Function {
-        code: 0,
-        captured: Vec::new(alloc),
-    })?;
+    for word in [
+        "undefined",
+        "null",
+        "true",
+        "7",
+        "\"a\"",
+        "[]",
+        "{}",
+        "event [\"go\"]",
+        "all",
+        "function",
+    ] {
+        all.push(value_of(alloc, word)?)?;
+    }
     Ok(all)
 }
 

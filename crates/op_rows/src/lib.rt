@@ -2,8 +2,14 @@
 #![tactic(auto)]
 
 #[cfg(test)]
+mod equality;
+#[cfg(test)]
 mod kinds;
+#[cfg(test)]
+mod limits;
 #[cfg(test)]
 mod numbers;
 #[cfg(test)]
 mod parts;
+#[cfg(test)]
+mod words;

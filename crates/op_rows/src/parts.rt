@@ -1,69 +1,279 @@
 //! Members, places, methods and making.
+ghost use Rattle.std.specs.Prelude.{◌≡◌, length, map, IfOk};
+ghost use Rattle.js_value.specs.Value.{IsSortedValue, AreSortedValues};
+ghost use Rattle.js_value.specs.Lists.{value_list_of};
+ghost use Rattle.js_value.specs.Views.{plain_value};
+
+use crate::words::{shown, text, value_of};
 use js_ops::{OpFault, index, make, member, method};
-use js_value::{Fault, Make, Method, Text, Value, Whole};
+use js_value::{Fault, Make, Method, Value};
 use std::alloc::Global;
 use std::test::Fail;
 
-fn text(alloc: Global, s: &str) -> Result<Text, Fail> {
-    Ok(Text::new(String::from_str(alloc, s)?))
-}
-
 #[test]
-fn places_of_a_list(rt: HostRuntime) -> Result<(), Fail> {
+fn members(rt: HostRuntime) -> Result<(), Fail> {
     let alloc = rt.alloc();
-    let one = Value::Whole(Whole::new(1).ok_or("no whole number")?);
-    let two = Value::Whole(Whole::new(2).ok_or("no whole number")?);
-    let list = make(alloc, Make::List, &[one, two], &[])?;
-    let first = Value::Whole(Whole::new(1).ok_or("no whole number")?);
-    let past = Value::Whole(Whole::new(2).ok_or("no whole number")?);
-    match index(alloc, &list, &first) {
-        Ok(Value::Whole(n)) => assert_eq!(rt; n.get(), 2),
-        other => assert!(rt; false, "{other:?}"),
-    }
-    match index(alloc, &list, &past) {
-        Err(fault) => assert_eq!(rt; fault, OpFault::Fault(Fault::Index)),
-        other => assert!(rt; false, "{other:?}"),
-    }
-    match member(alloc, &list, &text(alloc, "length")?) {
-        Ok(Value::Whole(n)) => assert_eq!(rt; n.get(), 2),
-        other => assert!(rt; false, "{other:?}"),
+    for (on, name, want) in [
+        ("[1,2]", "length", "2"),
+        ("[]", "length", "0"),
+        ("[1]", "name", "type"),
+        ("event [\"go\"]", "name", "\"go\""),
+        ("event [\"go\"]", "data", "undefined"),
+        ("event [\"go\",null]", "data", "null"),
+        ("event [\"go\",{\"a\":[1]}]", "data", "{\"a\":[1]}"),
+        ("event [\"go\"]", "length", "type"),
+        ("{\"a\":1,\"length\":2}", "length", "2"),
+        ("{\"a\":1}", "b", "undefined"),
+        ("{}", "__proto__", "undefined"),
+        ("{}", "length", "undefined"),
+        ("\"ab\"", "length", "type"),
+        ("undefined", "data", "type"),
+        ("null", "data", "type"),
+        ("true", "data", "type"),
+        ("7", "data", "type"),
+        ("all", "name", "type"),
+        ("function", "length", "type"),
+    ] {
+        let found = shown(
+            alloc,
+            member(alloc, &value_of(alloc, on)?, &text(alloc, name)?),
+        )?;
+        assert_eq!(rt; found.as_str(), want, "{on} {name}");
     }
     Ok(())
 }
 
 #[test]
-fn beginnings_of_texts(rt: HostRuntime) -> Result<(), Fail> {
+fn places(rt: HostRuntime) -> Result<(), Fail> {
     let alloc = rt.alloc();
-    let on = Value::Words(text(alloc, "pipe.a")?);
-    let part = Value::Words(text(alloc, "pipe.")?);
-    let one = Value::Whole(Whole::new(1).ok_or("no whole number")?);
-    match method(alloc, Method::StartsWith, &on, &[part]) {
-        Ok(Value::Truth(begins)) => assert!(rt; begins),
-        other => assert!(rt; false, "{other:?}"),
-    }
-    match method(alloc, Method::StartsWith, &on, &[one]) {
-        Err(fault) => assert_eq!(rt; fault, OpFault::Fault(Fault::Mistyped)),
-        other => assert!(rt; false, "{other:?}"),
+    for (on, at, want) in [
+        ("[1,2]", "0", "1"),
+        ("[1,2]", "1", "2"),
+        ("[1,2]", "2", "index"),
+        ("[1,2]", "-1", "index"),
+        ("[1,2]", "9007199254740991", "index"),
+        ("[]", "0", "index"),
+        ("[1]", "\"0\"", "type"),
+        ("[1]", "null", "type"),
+        ("{\"a\":1}", "\"a\"", "1"),
+        ("{\"a\":1}", "\"b\"", "undefined"),
+        ("{\"0\":1}", "0", "type"),
+        ("event [\"go\"]", "\"name\"", "type"),
+        ("\"ab\"", "0", "type"),
+        ("undefined", "\"a\"", "type"),
+        ("null", "\"a\"", "type"),
+        ("true", "\"a\"", "type"),
+        ("7", "0", "type"),
+        ("all", "0", "type"),
+        ("function", "0", "type"),
+    ] {
+        let found = shown(
+            alloc,
+            index(alloc, &value_of(alloc, on)?, &value_of(alloc, at)?),
+        )?;
+        assert_eq!(rt; found.as_str(), want, "{on} {at}");
     }
     Ok(())
 }
 
-fn event_named(alloc: Global, size: usize) -> Result<bool, Fail> {
-    let mut name = String::new(alloc);
-    for _ in 0..size {
-        name.push('a')?;
+// What the method answers with the arguments that are not empty.
+fn called(
+    alloc: Global,
+    name: Method,
+    on: &str,
+    first: &str,
+    second: &str,
+) -> Result<String, Fail> {
+    let target = value_of(alloc, on)?;
+    if first == "" {
+        return shown(alloc, method(alloc, name, &target, &[]));
     }
-    match make(alloc, Make::Event, &[Value::Words(Text::new(name))], &[]) {
-        Ok(Value::Event(event)) => Ok(event.weight() == 1024),
-        Err(OpFault::Fault(Fault::Weight)) => Ok(false),
-        _ => Err("neither")?,
+    let one = value_of(alloc, first)?;
+    if second == "" {
+        return shown(alloc, method(alloc, name, &target, &[one]));
+    }
+    let two = value_of(alloc, second)?;
+    shown(alloc, method(alloc, name, &target, &[one, two]))
+}
+
+#[test]
+fn methods_of_lists_and_texts(rt: HostRuntime) -> Result<(), Fail> {
+    for (name, on, first, second, want) in [
+        (Method::Concat, "[1]", "[2,3]", "", "[1,2,3]"),
+        (Method::Concat, "[1]", "2", "", "[1,2]"),
+        (
+            Method::Concat,
+            "[1]",
+            "{\"a\":2}",
+            "[[3]]",
+            "[1,{\"a\":2},[3]]",
+        ),
+        (Method::Concat, "[]", "[]", "null", "[null]"),
+        (Method::Concat, "[1]", "", "", "type"),
+        (Method::Concat, "\"a\"", "\"b\"", "", "type"),
+        (Method::Concat, "{}", "[1]", "", "type"),
+        (Method::Concat, "all", "[1]", "", "type"),
+        (Method::StartsWith, "\"pipe.a\"", "\"pipe.\"", "", "true"),
+        (Method::StartsWith, "\"pipe.a\"", "\"\"", "", "true"),
+        (Method::StartsWith, "\"pipe.a\"", "\"ipe\"", "", "false"),
+        (Method::StartsWith, "\"pipe\"", "\"pipe.\"", "", "false"),
+        (Method::StartsWith, "\"pipe.a\"", "\"pipe.\"", "1", "true"),
+        (Method::StartsWith, "\"pipe.a\"", "1", "", "type"),
+        (Method::StartsWith, "\"pipe.a\"", "", "", "type"),
+        (Method::StartsWith, "7", "\"7\"", "", "type"),
+        (Method::StartsWith, "[\"a\"]", "\"a\"", "", "type"),
+        (Method::EndsWith, "\"pipe.a\"", "\".a\"", "", "true"),
+        (Method::EndsWith, "\"pipe.a\"", "\"pipe.a\"", "", "true"),
+        (Method::EndsWith, "\"pipe.a\"", "\"pipe\"", "", "false"),
+        (Method::EndsWith, "\"pipe.a\"", "null", "", "type"),
+        (Method::EndsWith, "\"pipe.a\"", "", "", "type"),
+        (Method::EndsWith, "event [\"a\"]", "\"a\"", "", "type"),
+    ] {
+        let found = called(rt.alloc(), name, on, first, second)?;
+        assert_eq!(rt; found.as_str(), want, "{name:?} {on} {first} {second}");
+    }
+    Ok(())
+}
+
+#[test]
+fn methods_of_events_and_sets(rt: HostRuntime) -> Result<(), Fail> {
+    for (name, on, first, second, want) in [
+        (Method::Or, "all", "none", "", "Or(All, Nothing)"),
+        (Method::And, "all", "none", "", "And(All, Nothing)"),
+        (Method::Xor, "all", "none", "", "Xor(All, Nothing)"),
+        (Method::Negate, "all", "", "", "Negate(All)"),
+        (Method::Negate, "none", "1", "", "Negate(Nothing)"),
+        (Method::Xor, "none", "all", "1", "Xor(Nothing, All)"),
+        (
+            Method::Or,
+            "event [\"a\"]",
+            "event [\"b\",1]",
+            "",
+            "Or(Only(Event { name: Text { text: \"a\" }, extra: None }), Only(Event { name: Text { text: \"b\" }, extra: Some(Whole(Whole { n: 1 })) }))",
+        ),
+        (Method::And, "all", "[]", "", "And(All, Any([]))"),
+        (Method::And, "all", "[none]", "", "And(All, Any([Nothing]))"),
+        (
+            Method::Or,
+            "all",
+            "[[none]]",
+            "",
+            "Or(All, Any([Any([Nothing])]))",
+        ),
+        (Method::Or, "all", "", "", "type"),
+        (Method::And, "all", "1", "", "type"),
+        (Method::Xor, "all", "[1]", "", "type"),
+        (Method::Or, "all", "{}", "", "type"),
+        (Method::Or, "all", "function", "", "type"),
+        (Method::Or, "all", "undefined", "", "type"),
+        (Method::Or, "[none]", "all", "", "type"),
+        (Method::And, "\"a\"", "all", "", "type"),
+        (Method::Xor, "function", "all", "", "type"),
+        (Method::Negate, "[]", "", "", "type"),
+        (Method::Negate, "null", "", "", "type"),
+    ] {
+        let found = called(rt.alloc(), name, on, first, second)?;
+        assert_eq!(rt; found.as_str(), want, "{name:?} {on} {first} {second}");
+    }
+    Ok(())
+}
+
+// The making of what has no keys.
+fn made_of(alloc: Global, kind: Make, parts: &[Value]) -> Result<Value, OpFault>
+    requires { AreSortedValues (value_list_of (map plain_value parts.now)) }
+    ensures { IfOk result (λ x. IsSortedValue (plain_value x)) }
+{
+    match kind {
+        Make::List => make(alloc, Make::List, parts, &[]),
+        Make::Event => make(alloc, Make::Event, parts, &[]),
+        Make::Set => make(alloc, Make::Set, parts, &[]),
+        Make::Fields => Err(OpFault::Fault(Fault::Mode)),
     }
 }
 
-// An event weighs two more than the bytes of its name.
+// What is made of the parts that are not empty.
+fn made(alloc: Global, kind: Make, first: &str, second: &str) -> Result<String, Fail> {
+    if first == "" {
+        return shown(alloc, made_of(alloc, kind, &[]));
+    }
+    let one = value_of(alloc, first)?;
+    if second == "" {
+        return shown(alloc, made_of(alloc, kind, &[one]));
+    }
+    let two = value_of(alloc, second)?;
+    shown(alloc, made_of(alloc, kind, &[one, two]))
+}
+
 #[test]
-fn heaviest_event(rt: HostRuntime) -> Result<(), Fail> {
-    assert!(rt; event_named(rt.alloc(), 1022)?);
-    assert!(rt; !event_named(rt.alloc(), 1023)?);
+fn making(rt: HostRuntime) -> Result<(), Fail> {
+    for (kind, first, second, want) in [
+        (Make::List, "", "", "[]"),
+        (Make::List, "1", "[null]", "[1,[null]]"),
+        (Make::Event, "\"go\"", "", "event [\"go\"]"),
+        (Make::Event, "\"go\"", "undefined", "event [\"go\"]"),
+        (Make::Event, "\"go\"", "null", "event [\"go\",null]"),
+        (Make::Event, "\"go\"", "false", "event [\"go\",false]"),
+        (
+            Make::Event,
+            "\"go\"",
+            "{\"b\":[1,\"x\"],\"a\":{}}",
+            "event [\"go\",{\"a\":{},\"b\":[1,\"x\"]}]",
+        ),
+        (Make::Event, "\"go\"", "[undefined]", "type"),
+        (Make::Event, "\"go\"", "event [\"go\"]", "type"),
+        (Make::Event, "\"go\"", "all", "type"),
+        (Make::Event, "\"go\"", "[none]", "type"),
+        (Make::Event, "\"go\"", "function", "type"),
+        (Make::Event, "7", "1", "type"),
+        (Make::Event, "undefined", "", "type"),
+        (Make::Event, "", "", "type"),
+        (
+            Make::Set,
+            "\"cars\"",
+            "function",
+            "Predicate { name: Text { text: \"cars\" }, code: 3, captured: [] }",
+        ),
+        (Make::Set, "\"cars\"", "\"f\"", "type"),
+        (Make::Set, "\"cars\"", "all", "type"),
+        (Make::Set, "null", "function", "type"),
+        (Make::Set, "\"cars\"", "", "type"),
+        (Make::Set, "", "", "type"),
+    ] {
+        let found = made(rt.alloc(), kind, first, second)?;
+        assert_eq!(rt; found.as_str(), want, "{kind:?} {first} {second}");
+    }
+    Ok(())
+}
+
+// The fields of three keys with the values 1, 2 and 3.
+fn three_fields(alloc: Global, keys: (&str, &str, &str)) -> Result<String, Fail> {
+    let names = [
+        text(alloc, keys.0)?,
+        text(alloc, keys.1)?,
+        text(alloc, keys.2)?,
+    ];
+    let parts = [
+        value_of(alloc, "1")?,
+        value_of(alloc, "2")?,
+        value_of(alloc, "3")?,
+    ];
+    shown(alloc, make(alloc, Make::Fields, &parts, &names))
+}
+
+#[test]
+fn fields_are_sorted_and_the_last_value_stays(rt: HostRuntime) -> Result<(), Fail> {
+    for (first, second, third, want) in [
+        ("a", "b", "c", "{\"a\":1,\"b\":2,\"c\":3}"),
+        ("c", "b", "a", "{\"a\":3,\"b\":2,\"c\":1}"),
+        ("b", "a", "b", "{\"a\":2,\"b\":3}"),
+        ("a", "a", "a", "{\"a\":3}"),
+        ("é", "z", "B", "{\"B\":3,\"z\":2,\"é\":1}"),
+        ("ab", "a", "", "{\"\":3,\"a\":2,\"ab\":1}"),
+    ] {
+        let found = three_fields(rt.alloc(), (first, second, third))?;
+        assert_eq!(rt; found.as_str(), want, "{first} {second} {third}");
+    }
+    let none = shown(rt.alloc(), make(rt.alloc(), Make::Fields, &[], &[]))?;
+    assert_eq!(rt; none.as_str(), "{}");
     Ok(())
 }
