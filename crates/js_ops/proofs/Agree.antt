@@ -1,5 +1,5 @@
 -- The entries give the rule of each combination: computed for every one of them.
-use Rattle.std.proofs.Common.{◌≡◌, List, [], ◌∷◌, Bool, true, false, ◌&&◌, refl}
+use Rattle.std.proofs.Common.{◌≡◌, ◌∙◌, ◌↔◌, ℕ, List, [], ◌∷◌, Bool, true, false, not, ◌&&◌, Option, Some, None, refl, sym, ap}
 use Rattle.std.proofs.lemmas.Bool.{false≢true}
 use Rattle.bp_tables.specs.Found.{find_in}
 use Rattle.js_value.specs.declared.op.Op.{Op}
@@ -142,3 +142,40 @@ agree o l r =
     same_rule-sound (rule_numbered (find_in rule_entries (key_for o l r))) (rule_for o l r)
     (at_kind (λ y. same_rule (rule_numbered (find_in rule_entries (key_for o l y))) (rule_for o l y))
     (at_kind (λ x. every (λ y. same_rule (rule_numbered (find_in rule_entries (key_for o x y))) (rule_for o x y)) from_0) (agrees_true o) l) r)
+
+-- an entry stands only for a combination that is not mistyped
+abbrev is_no_fault : Option ℕ → Rule → Bool
+is_no_fault None r = true
+is_no_fault (Some n) r = not (same_rule rule.Mistyped r)
+
+abbrev has_no_faults : Op → Bool
+has_no_faults o = every (λ l. every (λ r. is_no_fault (find_in rule_entries (key_for o l r)) (rule_for o l r)) from_0) from_0
+
+has_no_faults_true : (o : Op) → has_no_faults o ≡ true
+unfolding every
+has_no_faults_true op.Add = refl
+has_no_faults_true op.Subtract = refl
+has_no_faults_true op.Multiply = refl
+has_no_faults_true op.Divide = refl
+has_no_faults_true op.FloorDivide = refl
+has_no_faults_true op.Remainder = refl
+has_no_faults_true op.Less = refl
+has_no_faults_true op.LessEqual = refl
+has_no_faults_true op.Greater = refl
+has_no_faults_true op.GreaterEqual = refl
+has_no_faults_true op.Same = refl
+has_no_faults_true op.Equal = refl
+has_no_faults_true op.NotSame = refl
+has_no_faults_true op.NotEqual = refl
+
+absent : (found : Option ℕ) (r : Rule) → is_no_fault found r ≡ true → r ≡ rule.Mistyped → found ≡ None
+absent None r h e = refl
+absent (Some n) r h e = let g : false ≡ true = rw e at h in absurd (false≢true g)
+
+-- a combination without an entry is exactly one that is mistyped
+pub without_row : (o : Op) (l r : Kind) → (find_in rule_entries (key_for o l r) ≡ None) ↔ (rule_for o l r ≡ rule.Mistyped)
+without_row o l r =
+    let fits : is_no_fault (find_in rule_entries (key_for o l r)) (rule_for o l r) ≡ true =
+    at_kind (λ y. is_no_fault (find_in rule_entries (key_for o l y)) (rule_for o l y))
+    (at_kind (λ x. every (λ y. is_no_fault (find_in rule_entries (key_for o x y)) (rule_for o x y)) from_0) (has_no_faults_true o) l) r in
+    (λ none. sym (agree o l r) ∙ ap rule_numbered none, λ e. absent _ _ fits e)

@@ -1,5 +1,5 @@
 //! Binary and unary operators.
-ghost use Rattle.std.specs.Prelude.{◌≡◌, IfOk};
+ghost use Rattle.std.specs.Prelude.{◌≡◌, ◌≢◌, IfOk, Err};
 ghost use Rattle.js_value.specs.Value.{IsSortedValue, value_text};
 ghost use Rattle.js_value.specs.Views.{plain_value};
 ghost use Rattle.js_ops.specs.Operators.{value_of, unary_of, by_rule, join as join_of, same_event as event_is_same, hold_same};
@@ -106,12 +106,14 @@ pub fn apply(alloc: Global, op: Op, left: &Value, right: &Value) -> Result<Value
 pub fn unary(op: Unary, v: &Value) -> Result<Value, OpFault>
     ensures answer { AnswersAs (unary_of op (plain_value v.now)) result }
     ensures sorted { IfOk result (λ x. IsSortedValue (plain_value x)) }
+    ensures memory { result ≢ Err OpFault.Memory }
 {
     of_one(op, v)
 }
 
 fn of_one(op: Unary, v: &Value) -> Result<Value, OpFault>
-    ensures { AnswersAs (unary_of op (plain_value v.now)) result }
+    ensures answer { AnswersAs (unary_of op (plain_value v.now)) result }
+    ensures memory { result ≢ Err OpFault.Memory }
 {
     match (op, v) {
         (Unary::Not, _) => Ok(Value::Truth(!truthy(v))),
