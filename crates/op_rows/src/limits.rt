@@ -75,25 +75,26 @@ fn negated(alloc: Global, count: u32) -> Result<&'static str, Fail> {
 }
 
 #[test]
-fn weights_at_the_limit_and_one_past(rt: HostRuntime) -> Result<(), Fail> {
-    let alloc = rt.alloc();
-    assert_eq!(rt; joined_text(alloc, 65_534)?, "ok");
-    assert_eq!(rt; joined_text(alloc, 65_535)?, "weight");
-    assert_eq!(rt; list_outcome(alloc, 65_534)?, "ok");
-    assert_eq!(rt; list_outcome(alloc, 65_535)?, "weight");
-    assert_eq!(rt; appended(alloc, 65_533)?, "ok");
-    assert_eq!(rt; appended(alloc, 65_534)?, "weight");
-    assert_eq!(rt; fields_outcome(alloc, 65_531)?, "ok");
-    assert_eq!(rt; fields_outcome(alloc, 65_532)?, "weight");
-    assert_eq!(rt; repeated_key(alloc, 65_532)?, "ok");
-    assert_eq!(rt; repeated_key(alloc, 65_533)?, "weight");
-    assert_eq!(rt; predicate_outcome(alloc, 65_534)?, "ok");
-    assert_eq!(rt; predicate_outcome(alloc, 65_535)?, "weight");
-    assert_eq!(rt; negated(alloc, 65_533)?, "ok");
-    assert_eq!(rt; negated(alloc, 65_534)?, "weight");
-    for name in [Method::Or, Method::And, Method::Xor] {
-        assert_eq!(rt; with_all(alloc, name, 65_532)?, "ok", "{name:?}");
-        assert_eq!(rt; with_all(alloc, name, 65_533)?, "weight", "{name:?}");
+fn texts_lists_and_fields_weigh_65536(rt: HostRuntime) -> Result<(), Fail> {
+    for (past, want) in [(0, "ok"), (1, "weight")] {
+        assert_eq!(rt; joined_text(rt.alloc(), 65_534 + past)?, want);
+        assert_eq!(rt; list_outcome(rt.alloc(), 65_534 + past)?, want);
+        assert_eq!(rt; appended(rt.alloc(), 65_533 + past)?, want);
+        assert_eq!(rt; fields_outcome(rt.alloc(), 65_531 + past)?, want);
+        assert_eq!(rt; repeated_key(rt.alloc(), 65_532 + past)?, want);
+    }
+    Ok(())
+}
+
+#[test]
+fn sets_weigh_65536(rt: HostRuntime) -> Result<(), Fail> {
+    for (past, want) in [(0, "ok"), (1, "weight")] {
+        assert_eq!(rt; predicate_outcome(rt.alloc(), 65_534 + past)?, want);
+        assert_eq!(rt; negated(rt.alloc(), 65_533 + past)?, want);
+        for name in [Method::Or, Method::And, Method::Xor] {
+            let found = with_all(rt.alloc(), name, 65_532 + past)?;
+            assert_eq!(rt; found, want, "{name:?}");
+        }
     }
     Ok(())
 }
@@ -112,80 +113,118 @@ fn nested(alloc: Global, lists: u32) -> Result<Value, Fail>
     value_of(alloc, line.as_str())
 }
 
-fn one_deeper(alloc: Global, part: Value) -> Result<Value, Fail>
-    requires { IsSortedValue (plain_value part) }
+// This many lists, one in another; 2 to 64.
+fn lists(alloc: Global, count: u32) -> Result<Value, Fail>
     ensures { IfOk result (λ v. IsSortedValue (plain_value v)) }
 {
+    let part = nested(alloc, count.saturating_sub(1))?;
     Ok(make(alloc, Make::List, &[part], &[])?)
 }
 
-// 64 lists, one in another.
-fn deepest(alloc: Global) -> Result<Value, Fail>
-    ensures { IfOk result (λ v. IsSortedValue (plain_value v)) }
-{
-    one_deeper(alloc, nested(alloc, 63)?)
+fn list_of_lists(alloc: Global, count: u32) -> Result<&'static str, Fail> {
+    let part = lists(alloc, count)?;
+    Ok(outcome(&make(alloc, Make::List, &[part], &[])))
+}
+
+fn fields_of_lists(alloc: Global, count: u32) -> Result<&'static str, Fail> {
+    let part = lists(alloc, count)?;
+    let key = text(alloc, "a")?;
+    Ok(outcome(&make(alloc, Make::Fields, &[part], &[key])))
+}
+
+fn appended_fields(alloc: Global, count: u32) -> Result<&'static str, Fail> {
+    let part = lists(alloc, count.saturating_sub(1))?;
+    let key = text(alloc, "a")?;
+    let fields = make(alloc, Make::Fields, &[part], &[key])?;
+    let on = value_of(alloc, "[]")?;
+    Ok(outcome(&method(alloc, Method::Concat, &on, &[fields])))
+}
+
+fn list_of_lists_and_text(alloc: Global, count: u32, size: u32) -> Result<&'static str, Fail> {
+    let part = lists(alloc, count)?;
+    let heavy = letters(alloc, size)?;
+    Ok(outcome(&make(alloc, Make::List, &[part, heavy], &[])))
+}
+
+fn united_lists(alloc: Global, name: Method, count: u32) -> Result<&'static str, Fail> {
+    let part = lists(alloc, count)?;
+    let all = Value::Set(SetTree::All);
+    Ok(outcome(&method(alloc, name, &all, &[part])))
+}
+
+fn negated_lists(alloc: Global, count: u32) -> Result<&'static str, Fail> {
+    let part = lists(alloc, count)?;
+    let all = Value::Set(SetTree::All);
+    let set = method(alloc, Method::Or, &all, &[part])?;
+    Ok(outcome(&method(alloc, Method::Negate, &set, &[])))
 }
 
 #[test]
 fn lists_and_fields_nest_64_deep(rt: HostRuntime) -> Result<(), Fail> {
-    let alloc = rt.alloc();
-    let within = make(alloc, Make::List, &[nested(alloc, 63)?], &[]);
-    assert_eq!(rt; outcome(&within), "ok");
-    let past = make(alloc, Make::List, &[deepest(alloc)?], &[]);
-    assert_eq!(rt; outcome(&past), "nesting");
-    let keys = [text(alloc, "a")?];
-    let within = make(alloc, Make::Fields, &[nested(alloc, 63)?], &keys);
-    assert_eq!(rt; outcome(&within), "ok");
-    let past = make(alloc, Make::Fields, &[deepest(alloc)?], &keys);
-    assert_eq!(rt; outcome(&past), "nesting");
-    let heavy = make(
-        alloc,
-        Make::List,
-        &[deepest(alloc)?, letters(alloc, 65_535)?],
-        &[],
-    );
-    assert_eq!(rt; outcome(&heavy), "weight");
+    for (count, want) in [(63, "ok"), (64, "nesting")] {
+        assert_eq!(rt; list_of_lists(rt.alloc(), count)?, want);
+        assert_eq!(rt; fields_of_lists(rt.alloc(), count)?, want);
+        assert_eq!(rt; appended_fields(rt.alloc(), count)?, want);
+    }
     Ok(())
 }
 
 #[test]
 fn sets_nest_64_deep(rt: HostRuntime) -> Result<(), Fail> {
-    let alloc = rt.alloc();
-    let all = Value::Set(SetTree::All);
-    for name in [Method::Or, Method::And, Method::Xor] {
-        let within = method(alloc, name, &all, &[nested(alloc, 63)?]);
-        assert_eq!(rt; outcome(&within), "ok", "{name:?}");
-        let past = method(alloc, name, &all, &[deepest(alloc)?]);
-        assert_eq!(rt; outcome(&past), "nesting", "{name:?}");
+    for (count, want) in [(63, "ok"), (64, "nesting")] {
+        for name in [Method::Or, Method::And, Method::Xor] {
+            let found = united_lists(rt.alloc(), name, count)?;
+            assert_eq!(rt; found, want, "{name:?}");
+        }
+        assert_eq!(rt; negated_lists(rt.alloc(), count - 1)?, want);
     }
-    let deep = method(alloc, Method::Or, &all, &[nested(alloc, 62)?])?;
-    let within = method(alloc, Method::Negate, &deep, &[]);
-    assert_eq!(rt; outcome(&within), "ok");
-    let deep = method(alloc, Method::Or, &all, &[nested(alloc, 63)?])?;
-    let past = method(alloc, Method::Negate, &deep, &[]);
-    assert_eq!(rt; outcome(&past), "nesting");
+    Ok(())
+}
+
+#[test]
+fn weight_comes_before_nesting(rt: HostRuntime) -> Result<(), Fail> {
+    for (count, size, want) in [
+        (63, 1, "ok"),
+        (64, 1, "nesting"),
+        (63, 65_535, "weight"),
+        (64, 65_535, "weight"),
+    ] {
+        let found = list_of_lists_and_text(rt.alloc(), count, size)?;
+        assert_eq!(rt; found, want, "{count} {size}");
+    }
     Ok(())
 }
 
 fn event_named(alloc: Global, count: u32) -> Result<&'static str, Fail> {
-    Ok(outcome(&make(alloc, Make::Event, &[letters(alloc, count)?], &[])))
+    let name = letters(alloc, count)?;
+    Ok(outcome(&make(alloc, Make::Event, &[name], &[])))
 }
 
-fn event_with(alloc: Global, count: u32, extra: Value) -> Result<&'static str, Fail>
-    requires { IsSortedValue (plain_value extra) }
-{
-    Ok(outcome(&make(alloc, Make::Event, &[letters(alloc, count)?, extra], &[])))
+fn event_with_null(alloc: Global, count: u32) -> Result<&'static str, Fail> {
+    let name = letters(alloc, count)?;
+    Ok(outcome(&make(alloc, Make::Event, &[name, Value::Null], &[])))
+}
+
+fn event_with_lists(alloc: Global, size: u32, count: u32) -> Result<&'static str, Fail> {
+    let name = letters(alloc, size)?;
+    let extra = lists(alloc, count)?;
+    Ok(outcome(&make(alloc, Make::Event, &[name, extra], &[])))
 }
 
 #[test]
-fn events_at_their_limits_and_one_past(rt: HostRuntime) -> Result<(), Fail> {
-    let alloc = rt.alloc();
-    assert_eq!(rt; event_named(alloc, 1_022)?, "ok");
-    assert_eq!(rt; event_named(alloc, 1_023)?, "weight");
-    assert_eq!(rt; event_with(alloc, 1_021, Value::Null)?, "ok");
-    assert_eq!(rt; event_with(alloc, 1_022, Value::Null)?, "weight");
-    assert_eq!(rt; event_with(alloc, 1, nested(alloc, 63)?)?, "ok");
-    assert_eq!(rt; event_with(alloc, 1, deepest(alloc)?)?, "nesting");
-    assert_eq!(rt; event_with(alloc, 1_023, deepest(alloc)?)?, "weight");
+fn events_weigh_1024_and_nest_64_deep(rt: HostRuntime) -> Result<(), Fail> {
+    for (past, want) in [(0, "ok"), (1, "weight")] {
+        assert_eq!(rt; event_named(rt.alloc(), 1_022 + past)?, want);
+        assert_eq!(rt; event_with_null(rt.alloc(), 1_021 + past)?, want);
+    }
+    for (size, count, want) in [
+        (1, 63, "ok"),
+        (1, 64, "nesting"),
+        (1_023, 63, "weight"),
+        (1_023, 64, "weight"),
+    ] {
+        let found = event_with_lists(rt.alloc(), size, count)?;
+        assert_eq!(rt; found, want, "{size} {count}");
+    }
     Ok(())
 }
