@@ -72,43 +72,37 @@ fn joined_and_added(rt: HostRuntime) -> Result<(), Fail> {
     )
 }
 
-// Only two whole numbers have an answer, with this mark.
-fn whole_numbers_give(rt: &impl Abort, alloc: Global, op: Op, both: &str) -> Result<(), Fail> {
-    let none = "xxxxxxxxxx";
-    let row = format!(in alloc; "xxx{both}xxxxxx")?;
+const NONE: &str = "xxxxxxxxxx";
+
+// Only two whole numbers have an answer.
+fn whole_numbers_give(
+    rt: &impl Abort,
+    alloc: Global,
+    op: Op,
+    row: &'static str,
+) -> Result<(), Fail> {
     agree(
         rt,
         alloc,
         op,
-        &[
-            none,
-            none,
-            none,
-            row.as_str(),
-            none,
-            none,
-            none,
-            none,
-            none,
-            none,
-        ],
+        &[NONE, NONE, NONE, row, NONE, NONE, NONE, NONE, NONE, NONE],
     )
 }
 
 #[test]
 fn whole_numbers_alone(rt: HostRuntime) -> Result<(), Fail> {
-    for (op, both) in [
-        (Op::Subtract, "n"),
-        (Op::Multiply, "n"),
-        (Op::Divide, "n"),
-        (Op::FloorDivide, "n"),
-        (Op::Remainder, "n"),
-        (Op::Less, "f"),
-        (Op::LessEqual, "t"),
-        (Op::Greater, "f"),
-        (Op::GreaterEqual, "t"),
+    for (op, row) in [
+        (Op::Subtract, "xxxnxxxxxx"),
+        (Op::Multiply, "xxxnxxxxxx"),
+        (Op::Divide, "xxxnxxxxxx"),
+        (Op::FloorDivide, "xxxnxxxxxx"),
+        (Op::Remainder, "xxxnxxxxxx"),
+        (Op::Less, "xxxfxxxxxx"),
+        (Op::LessEqual, "xxxtxxxxxx"),
+        (Op::Greater, "xxxfxxxxxx"),
+        (Op::GreaterEqual, "xxxtxxxxxx"),
     ] {
-        whole_numbers_give(&rt, rt.alloc(), op, both)?;
+        whole_numbers_give(&rt, rt.alloc(), op, row)?;
     }
     Ok(())
 }
