@@ -1,5 +1,5 @@
 //! Members, places, methods and making.
-ghost use Rattle.std.specs.Prelude.{◌≡◌, length, map, IfOk};
+ghost use Rattle.std.specs.Prelude.{map, IfOk};
 ghost use Rattle.js_value.specs.Value.{IsSortedValue, AreSortedValues};
 ghost use Rattle.js_value.specs.Lists.{value_list_of};
 ghost use Rattle.js_value.specs.Views.{plain_value};
