@@ -1,2 +1,4 @@
 mod Examples
 pub mod Naming
+pub mod SoundParts
+pub mod SoundOrder
