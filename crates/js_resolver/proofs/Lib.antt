@@ -2,3 +2,4 @@ mod Examples
 pub mod Naming
 pub mod SoundParts
 pub mod SoundOrder
+pub mod SoundFunctions
