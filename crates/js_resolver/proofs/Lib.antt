@@ -3,3 +3,5 @@ pub mod Naming
 pub mod SoundParts
 pub mod SoundOrder
 pub mod SoundFunctions
+pub mod SoundNodes
+pub mod SoundLists
