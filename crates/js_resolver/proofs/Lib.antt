@@ -5,3 +5,4 @@ pub mod SoundOrder
 pub mod SoundFunctions
 pub mod SoundNodes
 pub mod SoundLists
+pub mod SoundProgram

@@ -74,11 +74,11 @@ pub record IsCovered (p : PlainProgram) (ps : List Place) (sites : List Site) : 
   pub fine : AllFine p ps sites
   pub count : (f : ℕ) → counted f sites ≤ parameter_count ps f
 
-fine_left : (p : PlainProgram) (ps : List Place) (xs ys : List Site) → AllFine p ps (xs ++ ys) → AllFine p ps xs
+pub fine_left : (p : PlainProgram) (ps : List Place) (xs ys : List Site) → AllFine p ps (xs ++ ys) → AllFine p ps xs
 fine_left p ps [] ys h = tt
 fine_left p ps (x ∷ xs) ys h = (h.0, fine_left p ps xs ys h.1)
 
-fine_right : (p : PlainProgram) (ps : List Place) (xs ys : List Site) → AllFine p ps (xs ++ ys) → AllFine p ps ys
+pub fine_right : (p : PlainProgram) (ps : List Place) (xs ys : List Site) → AllFine p ps (xs ++ ys) → AllFine p ps ys
 fine_right p ps [] ys h = h
 fine_right p ps (x ∷ xs) ys h = fine_right p ps xs ys h.1
 
@@ -238,7 +238,7 @@ fresh_start p ps scopes a owner (t.started e) h = refl
 abbrev pub IsWithin : List Scope → ℕ → Type 0
 IsWithin scopes f = (x : ℕ) → second top (x ∷ functions_of scopes) ≡ f
 
-length_slots : (slots vs : List ℕ) → length (slots_among slots vs) ≡ length vs
+pub length_slots : (slots vs : List ℕ) → length (slots_among slots vs) ≡ length vs
 length_slots slots [] = refl
 length_slots slots (v ∷ vs) = omega (arith, length_slots slots vs)
 
