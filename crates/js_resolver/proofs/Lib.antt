@@ -6,3 +6,4 @@ pub mod SoundFunctions
 pub mod SoundNodes
 pub mod SoundLists
 pub mod SoundProgram
+pub mod SoundPlaces
