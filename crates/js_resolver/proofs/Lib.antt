@@ -7,3 +7,4 @@ pub mod SoundNodes
 pub mod SoundLists
 pub mod SoundProgram
 pub mod SoundPlaces
+pub mod SoundRoom
