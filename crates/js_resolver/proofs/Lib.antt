@@ -8,3 +8,5 @@ pub mod SoundLists
 pub mod SoundProgram
 pub mod SoundPlaces
 pub mod SoundRoom
+pub mod SoundFine
+pub mod SoundScopes

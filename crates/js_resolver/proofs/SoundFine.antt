@@ -1,0 +1,143 @@
+-- Where the scopes around each place are known, its program is sound.
+use Rattle.std.proofs.Common.{◌≡◌, ◌∙◌, ◌⊎◌, inl, inr, ℕ, zero, suc, ◌+◌, ◌<◌, ◌≤◌, List, [], ◌∷◌, ◌++◌, append_assoc, refl, ap, sym, subst, length, length-append, map, fold, arith, Option, Some, None, Bool, true, false, not, ◌&&◌, ◌||◌, if◌then◌else◌, nat_eq}
+use Rattle.std.proofs.lemmas.Bool.{eqb-true, eq-eqb, ne_eqb, and_parts, or_parts, not-false, false≢true, true≢false}
+use Rattle.std.specs.Prelude.{is_some}
+use Rattle.std.specs.List.{flat_map, filter_map, cons_option}
+use Rattle.js_tree.specs.Plain.{PlainItem}
+use Rattle.js_program.specs.PlainProgram.{PlainProgram, PlainConstant}
+use Rattle.js_program.specs.Sound.{variable_fits, all_below, function_fits, IsSound}
+use Rattle.js_names.specs.declared.place.Declared.{Declared}
+use Rattle.js_names.specs.declared.place.Role.{Role}
+use Rattle.js_names.specs.declared.place.Role.TheVariants.{Parameter}
+use Rattle.js_names.specs.declared.place.What.{What}
+use Rattle.js_names.specs.Scopes.{top}
+use Rattle.js_names.specs.Sites.{Site, item_sites, begin_site, program_spot, program_sites}
+use Rattle.js_names.specs.Places.{Place, see, places, functions_of}
+use Rattle.js_names.specs.Slots.{held_by, parameter_in, parameter_at, assigned_in, constants_of, slots_of, captures, is_begin, is_mention, joins, first_uses, functions_in, function_at}
+use Rattle.js_names.specs.Rules.{name_fault, fails_unknown, is_misuse}
+use Rattle.js_resolver.specs.Variables.{named_at, second, around_of, code_at, capture_slots}
+use Rattle.js_resolver.specs.Nodes.{items_piece}
+use Rattle.js_resolver.specs.Resolved.{constant_of, program_of_tree}
+use Rattle.js_resolver.proofs.SoundFunctions.{begun, captures_in_order, items_listed}
+use Rattle.js_resolver.proofs.SoundLists.{In, HasPlace, held-append}
+use Rattle.js_resolver.proofs.SoundPlaces.{IsKnown, ArePlaced, unbroken, name_fits, captures_there}
+use Rattle.js_resolver.proofs.SoundRoom.{NoRepeats, no_repeats-first_uses, function_there, function_room}
+use Rattle.js_resolver.proofs.SoundNodes.{slots_in, parameter_count, FitsAt, FunctionFits, fine_of, AllFine, IsCovered, counted, is_parameter_site}
+use Rattle.js_resolver.proofs.SoundProgram.{program_scopes, program_sound}
+
+-- places of a program
+abbrev pub AllHave : List Place → List Site → Type 0
+AllHave ps [] = Unit {0}
+AllHave ps (s ∷ ss) = HasPlace (see s) ps × AllHave ps ss
+
+length_constants : (items : List PlainItem) (ps : List Place) (vs : List ℕ) → length (map (constant_of items ps) vs) ≡ length vs
+length_constants items ps [] = refl
+length_constants items ps (v ∷ vs) = omega (arith, length_constants items ps vs)
+
+-- what is asked of the places of a program
+pub record AreApart (items : List PlainItem) : Type 0 where
+  pub placed : ArePlaced (places items)
+  pub functions : NoRepeats (begun (flat_map (item_sites (program_scopes items)) items))  -- no two functions begin at one place
+  pub inner : In top (begun (flat_map (item_sites (program_scopes items)) items)) → ⊥  -- and none at the place that stands for the top level
+  pub parameters : (f : ℕ) → NoRepeats (held_by f (flat_map parameter_in (places items)))  -- no two parameters of a function stand at one place
+
+begun-functions : (ss : List Site) → (In top (begun ss) → ⊥) → filter_map function_at (map see ss) ≡ begun ss
+unfolding see
+begun-functions [] h = refl
+begun-functions (s ∷ ss) h =
+    let cases : (b : Bool) → (is_begin s.what ≡ b) → (In top (if b then s.around.owner ∷ begun ss else begun ss) → ⊥)
+            → filter_map function_at (map see (s ∷ ss)) ≡ (if b then s.around.owner ∷ begun ss else begun ss) =
+        λ b. elim b as (λ b. (is_begin s.what ≡ b) → (In top (if b then s.around.owner ∷ begun ss else begun ss) → ⊥) → filter_map function_at (map see (s ∷ ss)) ≡ (if b then s.around.owner ∷ begun ss else begun ss))
+        [ true ↦ λ e k.
+            let other : nat_eq s.around.owner top ≡ false = ne_eqb s.around.owner top (λ m. k (inl (sym m))) in
+            let here : function_at (see s) ≡ Some s.around.owner = ap (λ (b : Bool). if b && not (nat_eq s.around.owner top) then Some s.around.owner else None) e ∙ ap (λ (b : Bool). if true && not b then Some s.around.owner else None) other in
+            ap (λ o. cons_option o (filter_map function_at (map see ss))) here ∙ ap (λ z. s.around.owner ∷ z) (begun-functions ss (λ m. k (inr m)))
+        | false ↦ λ e k.
+            let here : function_at (see s) ≡ None = ap (λ (b : Bool). if b && not (nat_eq s.around.owner top) then Some s.around.owner else None) e in
+            ap (λ o. cons_option o (filter_map function_at (map see ss))) here ∙ begun-functions ss k ]
+    in
+    cases (is_begin s.what) refl h
+
+-- the functions of a program are those that begin in its items
+functions-begun : (items : List PlainItem) → AreApart items → functions_in (places items) ≡ begun (flat_map (item_sites (program_scopes items)) items)
+unfolding functions_in places program_sites see
+functions-begun items h = let ss = flat_map (item_sites (program_scopes items)) items in ap first_uses (begun-functions ss h.inner) ∙ no_repeats-first_uses (begun ss) h.functions
+
+has-at : (before : List Place) (q : Place) (qs : List Place) → HasPlace q (before ++ q ∷ qs)
+has-at [] q qs = inl refl
+has-at (x ∷ xs) q qs = inr (has-at xs q qs)
+
+all_have : (before : List Place) (ss : List Site) → AllHave (before ++ map see ss) ss
+all_have before [] = tt
+all_have before (s ∷ ss) = (has-at before (see s) (map see ss), subst (λ z. AllHave z ss) (append_assoc before (see s ∷ []) (map see ss)) (all_have (before ++ see s ∷ []) ss))
+
+pub items_have : (items : List PlainItem) → AllHave (places items) (flat_map (item_sites (program_scopes items)) items)
+unfolding places program_sites
+items_have items = all_have (see _ ∷ []) (flat_map (item_sites (program_scopes items)) items)
+
+known-is : {A : Type 0} (o : Option A) → is_some o ≡ true → (x : A) × (o ≡ Some x)
+known-is None h = absurd (false≢true h)
+known-is (Some x) h = (x, refl)
+
+-- each place of a program fits
+fine_place : (items : List PlainItem) (s : Site) → name_fault items ≡ None → AreApart items → HasPlace (see s) (places items) → (is_begin s.what ≡ true → In s.around.owner (functions_in (places items))) → fine_of (program_of_tree items) (places items) s.what s
+unfolding see program_of_tree
+fine_place items s ok h has listed =
+    let p = program_of_tree items in
+    let ps = places items in
+    let assigned = assigned_in ps in
+    let q = see s in
+    let same : length (constants_of assigned ps) ≡ length p.constants = sym (length_constants items ps (constants_of assigned ps)) in
+    let known : IsKnown ps q = h.placed.known q has in
+    let fits : (d : Declared) → q.declared ≡ Some d → FitsAt p ps s.around.owner s.name.spot.at = λ d e. subst (λ n. variable_fits (slots_in ps s.around.owner) n (named_at ps s.name.spot.at) ≡ true) same (name_fits ps q d h.placed has e) in
+    let rules = unbroken items q ok has in
+    let mentioned : is_mention s.what ≡ true → FitsAt p ps s.around.owner s.name.spot.at = λ e.
+        let declared = known-is q.declared (not-false _ (subst (λ (b : Bool). (b && not (is_some q.declared)) ≡ false) e (or_parts _ _ rules.0).1)) in
+        fits declared.0 declared.1
+    in
+    let cases : (w : What) → s.what ≡ w → fine_of p ps w s =
+        λ w. elim w as (λ w. s.what ≡ w → fine_of p ps w s)
+        [ What.Declares role ↦ λ e. let d = known.declares role e in fits d.0 d.1
+        | What.Reads ↦ λ e. mentioned (ap is_mention e)
+        | What.Assigns ↦ λ e. mentioned (ap is_mention e)
+        | What.Misuses ↦ λ e. absurd (true≢false (sym (ap is_misuse e) ∙ (or_parts _ _ rules.0).0))
+        | What.LoopWord ↦ λ e. tt
+        | What.Returns ↦ λ e. tt
+        | What.Begins ↦ λ e.
+            let f = s.around.owner in
+            let around : around_of ps f ≡ second top (functions_of s.scopes) = known.begins (ap is_begin e) in
+            let below : all_below (slots_in ps (second top (functions_of s.scopes))) (capture_slots ps f) ≡ true = subst (λ g. all_below (slots_in ps g) (capture_slots ps f) ≡ true) around (captures_there ps f h.placed) in
+            let order : captures_in_order p.functions ≡ map (capture_slots ps) (functions_in ps) = items_listed ps (program_scopes items) 0 items ∙ ap (map (capture_slots ps)) (sym (functions-begun items h)) in
+            record { there = function_there p ps (slots_in ps (second top (functions_of s.scopes))) f order (listed (ap is_begin e)) below; room = function_room ps f h.placed (h.parameters f) } ]
+    in
+    cases s.what refl
+
+fine_all : (items : List PlainItem) (ss : List Site) → name_fault items ≡ None → AreApart items → AllHave (places items) ss → ((f : ℕ) → In f (begun ss) → In f (functions_in (places items))) → AllFine (program_of_tree items) (places items) ss
+fine_all items [] ok h has listed = tt
+fine_all items (s ∷ ss) ok h has listed =
+    let first : is_begin s.what ≡ true → In s.around.owner (functions_in (places items)) = λ e. listed s.around.owner (subst (λ b. In s.around.owner (if b then s.around.owner ∷ begun ss else begun ss)) (sym e) (inl refl)) in
+    let later : (f : ℕ) → In f (begun ss) → In f (begun (s ∷ ss)) = λ f m. elim (is_begin s.what) as (λ b. In f (if b then s.around.owner ∷ begun ss else begun ss)) [ true ↦ inr m | false ↦ m ] in
+    (fine_place items s ok h has.0 first, fine_all items ss ok h has.1 (λ f m. listed f (later f m)))
+
+counted-one : (f : ℕ) (q : Place) (w : What) → length (held_by f (parameter_at w q)) ≡ (if is_parameter_site w && nat_eq q.around.owner f then 1 else 0)
+counted-one f q (What.Declares Parameter) = elim (nat_eq q.around.owner f) as (λ b. length (if b then q.name.spot.at ∷ [] else []) ≡ (if b then 1 else 0)) [ true ↦ refl | false ↦ refl ]
+counted-one f q _ = refl
+
+-- how many parameters some places declare
+counted-held : (f : ℕ) (ss : List Site) → counted f ss ≡ length (held_by f (flat_map parameter_in (map see ss)))
+unfolding see
+counted-held f [] = refl
+counted-held f (s ∷ ss) =
+    let here = held_by f (parameter_in (see s)) in
+    let rest = held_by f (flat_map parameter_in (map see ss)) in
+    omega (arith, counted-one f (see s) s.what, counted-held f ss, ap length (held-append f (parameter_in (see s)) (flat_map parameter_in (map see ss))), length-append here rest)
+
+-- A program with no fault of a name is sound, where the scopes around its places are known.
+pub accepted_sound : (items : List PlainItem) → length (program_of_tree items).nodes < 4294967296 → length (program_of_tree items).functions < 4294967296 → length (program_of_tree items).constants < 4294967296
+    → name_fault items ≡ None → AreApart items → IsSound (program_of_tree items)
+unfolding places program_sites see
+accepted_sound items ln lf lc ok h =
+    let ss = flat_map (item_sites (program_scopes items)) items in
+    let listed : (f : ℕ) → In f (begun ss) → In f (functions_in (places items)) = λ f m. subst (In f) (sym (functions-begun items h)) m in
+    let covered : IsCovered (program_of_tree items) (places items) ss = record { fine = fine_all items ss ok h (items_have items) listed; count = λ f. omega (arith, counted-held f ss) } in
+    program_sound items ln lf lc covered (omega (arith, function_room (places items) top h.placed (h.parameters top)))
