@@ -10,3 +10,4 @@ pub mod SoundPlaces
 pub mod SoundRoom
 pub mod SoundFine
 pub mod SoundScopes
+pub mod SoundKnown

@@ -159,7 +159,7 @@ name_slot ps q d has k capture e c =
     here q.what refl
 
 -- the first place that knows something of a key
-known-found : {A : Type 0} (key : Place → ℕ) (value : Place → Option A) (at : ℕ) (ps : List Place) (q : Place) (v : A) → HasPlace q ps → key q ≡ at → value q ≡ Some v
+pub known-found : {A : Type 0} (key : Place → ℕ) (value : Place → Option A) (at : ℕ) (ps : List Place) (q : Place) (v : A) → HasPlace q ps → key q ≡ at → value q ≡ Some v
     → (r : Place) × (w : A) × HasPlace r ps × (key r ≡ at) × (value r ≡ Some w) × (known_in key value at ps ≡ Some w)
 known-found key value at [] q v h e f = absurd h
 known-found {A = A} key value at (x ∷ xs) q v h e f =

@@ -1,0 +1,152 @@
+-- The scopes around each place of a program are known.
+use Rattle.std.proofs.Common.{◌≡◌, ◌∙◌, ◌⊎◌, inl, inr, ℕ, zero, suc, List, [], ◌∷◌, ◌++◌, refl, ap, sym, subst, map, Option, Some, None, Bool, true, false, not, ◌&&◌, ◌||◌, if◌then◌else◌, nat_eq}
+use Rattle.std.proofs.lemmas.Bool.{false≢true, true≢false}
+use Rattle.std.specs.Prelude.{is_some, unwrap_or}
+use Rattle.std.specs.List.{flat_map}
+use Rattle.js_tree.specs.declared.tree.Name.{Name}
+use Rattle.js_tree.specs.declared.tree.Spot.{Spot}
+use Rattle.js_tree.specs.declared.tree.DeclareKind.{DeclareKind}
+use Rattle.js_tree.specs.Plain as t
+use Rattle.js_tree.specs.Plain.{PlainExpr, PlainForm, PlainExprs, PlainFields, PlainPerhaps, PlainDeclarators, PlainStart, PlainStmt, PlainStmtForm, PlainStmts, PlainItem}
+use Rattle.js_tree.specs.Nesting.{is_object}
+use Rattle.js_names.specs.declared.place.Around.{Around}
+use Rattle.js_names.specs.declared.place.Declared.{Declared}
+use Rattle.js_names.specs.declared.place.Role.{Role}
+use Rattle.js_names.specs.declared.place.Role.TheVariants.{Parameter}
+use Rattle.js_names.specs.declared.place.What.{What}
+use Rattle.js_names.specs.Scopes.{Scope, Entry, top, named, first, one_var, entry, own_of_all, own_of_start, vars_of, vars_of_all, vars_of_start, parameters, block_scope, for_scope, each_scope, each_role, function_scope}
+use Rattle.js_names.specs.Sites.{Site, site, word_at, read_site, assign_site, is_undefined, is_reserved, object_of, called_builtin, value_builtin, member_sites, in_function, in_loop, begin_site, parameter_sites, declared_role, expr_sites, form_sites, exprs_sites, fields_sites, perhaps_sites, declarators_sites, start_sites, stmt_sites, stmt_form_sites, stmts_sites}
+use Rattle.js_names.specs.Places.{Place, see, found, found_var, found_here, or_else, functions_of, declared_at, is_var}
+use Rattle.js_names.specs.Slots.{is_begin}
+use Rattle.js_resolver.specs.Variables.{second, around_of, around_there, known_in, owner_key}
+use Rattle.js_resolver.proofs.SoundLists.{In, HasPlace}
+use Rattle.js_resolver.proofs.SoundPlaces.{IsDeclared, IsChain, IsKnown, is_name, known-found}
+use Rattle.js_resolver.proofs.SoundFine.{AllHave}
+use Rattle.js_resolver.proofs.SoundScopes.{AllStated, stated_append, have_left, have_right, own_declares, vars_declare, stated_all, stated_start, stated_parameters, stated_each, stmts_vars}
+
+-- what each of some scopes, the innermost first, declares for the functions around
+pub record ScopesKnown (ps : List Place) (f : ℕ) (scopes : List Scope) : Type 0 where
+  pub outer : List ℕ
+  pub within : functions_of scopes ≡ f ∷ outer
+  pub chain : IsChain ps (functions_of scopes)
+  pub found : (q : List ℕ) (d : Declared) → found scopes q ≡ Some d → IsDeclared ps d × In d.owner (functions_of scopes)
+  pub var : (q : List ℕ) (d : Declared) → found_var scopes q ≡ Some d → IsDeclared ps d × (d.owner ≡ f)
+
+-- each declared name has a declaration in its function
+abbrev pub AllDeclared : List Place → Type 0
+AllDeclared ps = (q : Place) → HasPlace q ps → (role : Role) → q.what ≡ What.Declares role → (d : Declared) × (q.declared ≡ Some d) × (d.owner ≡ q.around.owner)
+
+-- functions that begin at one place are in one function
+abbrev pub BeginApart : List Place → Type 0
+BeginApart ps = (q r : Place) → HasPlace q ps → HasPlace r ps → is_begin q.what ≡ true → is_begin r.what ≡ true → q.around.owner ≡ r.around.owner → second top q.functions ≡ second top r.functions
+
+around-from : (r : Place) (w : ℕ) → around_there r ≡ Some w → (is_begin r.what ≡ true) × (second top r.functions ≡ w)
+around-from r w h =
+    let cases : (b : Bool) → (is_begin r.what ≡ b) → (if b then Some (second top r.functions) else None) ≡ Some w → (is_begin r.what ≡ true) × (second top r.functions ≡ w) =
+        λ b. elim b as (λ b. (is_begin r.what ≡ b) → (if b then Some (second top r.functions) else None) ≡ Some w → (is_begin r.what ≡ true) × (second top r.functions ≡ w)) [ true ↦ λ e k. (e, cc) | false ↦ λ e k. cc ]
+    in
+    cases (is_begin r.what) refl h
+
+pub around_is : (ps : List Place) (q : Place) → BeginApart ps → HasPlace q ps → is_begin q.what ≡ true → around_of ps q.around.owner ≡ second top q.functions
+unfolding around_of
+around_is ps q apart has begins =
+    let value : around_there q ≡ Some (second top q.functions) = ap (λ (b : Bool). if b then Some (second top q.functions) else None) begins in
+    let k = known-found owner_key around_there q.around.owner ps q (second top q.functions) has refl value in
+    let r = around-from k.0 k.1 k.4 in
+    ap (λ o. unwrap_or o top) k.5 ∙ (sym r.1 ∙ apart k.0 q k.2 has r.0 begins k.3)
+
+declared-is : (ps : List Place) (f : ℕ) (c d : Declared) → Some c ≡ Some d → IsDeclared ps c × (c.owner ≡ f) → IsDeclared ps d × (d.owner ≡ f)
+declared-is ps f c d e h = let is : c ≡ d = cc in subst (λ z. IsDeclared ps z × (z.owner ≡ f)) is h
+
+in-first : (f : ℕ) (fs outer : List ℕ) (x : ℕ) → fs ≡ f ∷ outer → x ≡ f → In x fs
+in-first f fs outer x e h = subst (In x) (sym e) (inl h)
+
+abbrev OwnKnown : List Place → ℕ → Scope → Type 0
+OwnKnown ps f s = (q : List ℕ) (d : Declared) → s.own q ≡ Some d → IsDeclared ps d × (d.owner ≡ f)
+
+abbrev VarsKnown : List Place → ℕ → Scope → Type 0
+VarsKnown ps f s = (q : List ℕ) (d : Declared) → s.own q ≡ None → s.vars q ≡ Some d → IsDeclared ps d × (d.owner ≡ f)
+
+-- one more scope of the same function
+scopes_inner : (ps : List Place) (f : ℕ) (s : Scope) (scopes : List Scope) → s.whole ≡ false → OwnKnown ps f s → ScopesKnown ps f scopes → ScopesKnown ps f (s ∷ scopes)
+unfolding functions_of found found_var
+scopes_inner ps f s scopes w own k =
+    let same : functions_of (s ∷ scopes) ≡ functions_of scopes = ap (λ (b : Bool). (if b then s.owner ∷ [] else []) ++ functions_of scopes) w in
+    let look : (q : List ℕ) (d : Declared) (o : Option Declared) → (s.own q ≡ o) → or_else (or_else o None) (found scopes q) ≡ Some d → IsDeclared ps d × In d.owner (functions_of scopes) =
+        λ q d o. elim o as (λ o. (s.own q ≡ o) → or_else (or_else o None) (found scopes q) ≡ Some d → IsDeclared ps d × In d.owner (functions_of scopes))
+        [ None ↦ λ m h. k.found q d h | Some c ↦ λ m h. let r = declared-is ps f c d h (own q c m) in (r.0, in-first f (functions_of scopes) k.outer d.owner k.within r.1) ]
+    in
+    record {
+      outer = k.outer;
+      within = same ∙ k.within;
+      chain = subst (IsChain ps) (sym same) k.chain;
+      found = λ q d h. let r = look q d (s.own q) refl (subst (λ (b : Bool). or_else (or_else (s.own q) (if b then s.vars q else None)) (found scopes q) ≡ Some d) w h) in (r.0, subst (In d.owner) (sym same) r.1);
+      var = λ q d h. k.var q d (subst (λ (b : Bool). (if b then found_here s q else found_var scopes q) ≡ Some d) w h);
+    }
+
+here_known : (ps : List Place) (f : ℕ) (s : Scope) → OwnKnown ps f s → VarsKnown ps f s → (q : List ℕ) (d : Declared) → or_else (s.own q) (s.vars q) ≡ Some d → IsDeclared ps d × (d.owner ≡ f)
+here_known ps f s own vars q d h =
+    let cases : (o : Option Declared) → (s.own q ≡ o) → or_else o (s.vars q) ≡ Some d → IsDeclared ps d × (d.owner ≡ f) =
+        λ o. elim o as (λ o. (s.own q ≡ o) → or_else o (s.vars q) ≡ Some d → IsDeclared ps d × (d.owner ≡ f)) [ None ↦ λ m k. vars q d m k | Some c ↦ λ m k. declared-is ps f c d k (own q c m) ]
+    in
+    cases (s.own q) refl h
+
+-- the scope of a function
+scopes_function : (ps : List Place) (f g : ℕ) (s : Scope) (scopes : List Scope) → s.whole ≡ true → s.owner ≡ g → OwnKnown ps g s → VarsKnown ps g s → around_of ps g ≡ f → ScopesKnown ps f scopes → ScopesKnown ps g (s ∷ scopes)
+unfolding functions_of found found_var
+scopes_function ps f g s scopes w owner own vars around k =
+    let same : functions_of (s ∷ scopes) ≡ g ∷ functions_of scopes = ap (λ (b : Bool). (if b then s.owner ∷ [] else []) ++ functions_of scopes) w ∙ ap (λ z. z ∷ functions_of scopes) owner in
+    let chain : IsChain ps (g ∷ functions_of scopes) = subst (λ fs. IsChain ps (g ∷ fs)) (sym k.within) (around, subst (IsChain ps) k.within k.chain) in
+    let look : (q : List ℕ) (d : Declared) (o : Option Declared) → (or_else (s.own q) (s.vars q) ≡ o) → or_else o (found scopes q) ≡ Some d → IsDeclared ps d × In d.owner (g ∷ functions_of scopes) =
+        λ q d o. elim o as (λ o. (or_else (s.own q) (s.vars q) ≡ o) → or_else o (found scopes q) ≡ Some d → IsDeclared ps d × In d.owner (g ∷ functions_of scopes))
+        [ None ↦ λ m h. let r = k.found q d h in (r.0, inr r.1) | Some c ↦ λ m h. let r = declared-is ps g c d h (here_known ps g s own vars q c m) in (r.0, inl r.1) ]
+    in
+    record {
+      outer = functions_of scopes;
+      within = same;
+      chain = subst (IsChain ps) (sym same) chain;
+      found = λ q d h. let r = look q d (or_else (s.own q) (s.vars q)) refl (subst (λ (b : Bool). or_else (or_else (s.own q) (if b then s.vars q else None)) (found scopes q) ≡ Some d) w h) in (r.0, subst (In d.owner) (sym same) r.1);
+      var = λ q d h.
+          here_known ps g s own vars q d (subst (λ (b : Bool). or_else (s.own q) (if b then s.vars q else None) ≡ Some d) w (subst (λ (b : Bool). (if b then found_here s q else found_var scopes q) ≡ Some d) w h));
+    }
+
+own_look : (s : Scope) (scopes : List Scope) (q : List ℕ) (d : Declared) → s.own q ≡ Some d → found (s ∷ scopes) q ≡ Some d
+unfolding found
+own_look s scopes q d e = ap (λ o. or_else (or_else o (if s.whole then s.vars q else None)) (found scopes q)) e
+
+var_look : (s : Scope) (scopes : List Scope) (q : List ℕ) (d : Declared) → s.whole ≡ true → s.own q ≡ None → s.vars q ≡ Some d → found_var (s ∷ scopes) q ≡ Some d
+unfolding found_var
+var_look s scopes q d w n e =
+    ap (λ (b : Bool). if b then or_else (s.own q) (if b then s.vars q else None) else found_var scopes q) w ∙ (ap (λ o. or_else o (s.vars q)) n ∙ e)
+
+block_known : (ps : List Place) (scopes : List Scope) (a : Around) (ss : PlainStmts) → ScopesKnown ps a.owner scopes → AllHave ps (stmts_sites (block_scope a.owner ss ∷ scopes) a ss) → ScopesKnown ps a.owner (block_scope a.owner ss ∷ scopes)
+unfolding block_scope
+block_known ps scopes a ss k h =
+    let s = block_scope a.owner ss in
+    scopes_inner ps a.owner s scopes refl (λ q d e. own_declares ps (found (s ∷ scopes)) a.owner q d (own_of_all a.owner false ss) (stated_all ps (s ∷ scopes) a false ss h) e (own_look s scopes q d e)) k
+
+for_known : (ps : List Place) (scopes : List Scope) (a : Around) (start : PlainStart) (body : PlainStmt) → ScopesKnown ps a.owner scopes → AllHave ps (start_sites (for_scope a.owner start body ∷ scopes) a start) → ScopesKnown ps a.owner (for_scope a.owner start body ∷ scopes)
+unfolding for_scope
+for_known ps scopes a start body k h =
+    let s = for_scope a.owner start body in
+    scopes_inner ps a.owner s scopes refl (λ q d e. own_declares ps (found (s ∷ scopes)) a.owner q d (own_of_start a.owner start) (stated_start ps (s ∷ scopes) a start h) e (own_look s scopes q d e)) k
+
+each_known : (ps : List Place) (scopes : List Scope) (a : Around) (kind : DeclareKind) (name : Name) (body : PlainStmt) → ScopesKnown ps a.owner scopes → AllHave ps (site (each_scope a.owner kind name body ∷ scopes) a (What.Declares (each_role kind)) name)
+    → ScopesKnown ps a.owner (each_scope a.owner kind name body ∷ scopes)
+unfolding each_scope
+each_known ps scopes a kind name body k h =
+    let s = each_scope a.owner kind name body in
+    scopes_inner ps a.owner s scopes refl (λ q d e. own_declares ps (found (s ∷ scopes)) a.owner q d (entry name (each_role kind) name.spot.at a.owner false 0 ∷ []) (stated_each ps (s ∷ scopes) a kind name h) e (own_look s scopes q d e)) k
+
+function_known : (ps : List Place) (scopes : List Scope) (f : ℕ) (spot : Spot) (names : List Name) (ss : PlainStmts) → BeginApart ps → ScopesKnown ps f scopes → AllHave ps (begin_site (function_scope spot.at names ss ∷ scopes) spot.at spot)
+    → AllHave ps (parameter_sites (function_scope spot.at names ss ∷ scopes) (in_function spot.at) names) → AllStated ps (found (function_scope spot.at names ss ∷ scopes)) spot.at (own_of_all spot.at true ss)
+    → AllStated ps (found_var (function_scope spot.at names ss ∷ scopes)) spot.at (vars_of_all spot.at true ss) → ScopesKnown ps spot.at (function_scope spot.at names ss ∷ scopes)
+unfolding function_scope see functions_of
+function_known ps scopes f spot names ss apart k begins params own vars =
+    let s = function_scope spot.at names ss in
+    let look = λ (q : List ℕ). one_var (named q (vars_of_all spot.at true ss)) in
+    let all = stated_append ps (found (s ∷ scopes)) spot.at (parameters spot.at look names) (own_of_all spot.at true ss) (stated_parameters ps (s ∷ scopes) spot.at look names params) own in
+    let around : around_of ps spot.at ≡ f = around_is ps _ apart begins.0 refl ∙ ap (λ fs. second top (spot.at ∷ fs)) k.within in
+    scopes_function ps f spot.at s scopes refl refl
+    (λ q d e. own_declares ps (found (s ∷ scopes)) spot.at q d (parameters spot.at look names ++ own_of_all spot.at true ss) all e (own_look s scopes q d e))
+    (λ q d n e. vars_declare ps (found_var (s ∷ scopes)) spot.at q d (vars_of_all spot.at true ss) vars e (var_look s scopes q d refl n e)) around k
