@@ -11,3 +11,4 @@ pub mod SoundRoom
 pub mod SoundFine
 pub mod SoundScopes
 pub mod SoundKnown
+pub mod SoundResolved

@@ -55,16 +55,16 @@ around_is ps q apart has begins =
     let r = around-from k.0 k.1 k.4 in
     ap (λ o. unwrap_or o top) k.5 ∙ (sym r.1 ∙ apart k.0 q k.2 has r.0 begins k.3)
 
-declared-is : (ps : List Place) (f : ℕ) (c d : Declared) → Some c ≡ Some d → IsDeclared ps c × (c.owner ≡ f) → IsDeclared ps d × (d.owner ≡ f)
+pub declared-is : (ps : List Place) (f : ℕ) (c d : Declared) → Some c ≡ Some d → IsDeclared ps c × (c.owner ≡ f) → IsDeclared ps d × (d.owner ≡ f)
 declared-is ps f c d e h = let is : c ≡ d = cc in subst (λ z. IsDeclared ps z × (z.owner ≡ f)) is h
 
 in-first : (f : ℕ) (fs outer : List ℕ) (x : ℕ) → fs ≡ f ∷ outer → x ≡ f → In x fs
 in-first f fs outer x e h = subst (In x) (sym e) (inl h)
 
-abbrev OwnKnown : List Place → ℕ → Scope → Type 0
+abbrev pub OwnKnown : List Place → ℕ → Scope → Type 0
 OwnKnown ps f s = (q : List ℕ) (d : Declared) → s.own q ≡ Some d → IsDeclared ps d × (d.owner ≡ f)
 
-abbrev VarsKnown : List Place → ℕ → Scope → Type 0
+abbrev pub VarsKnown : List Place → ℕ → Scope → Type 0
 VarsKnown ps f s = (q : List ℕ) (d : Declared) → s.own q ≡ None → s.vars q ≡ Some d → IsDeclared ps d × (d.owner ≡ f)
 
 -- one more scope of the same function
@@ -84,7 +84,7 @@ scopes_inner ps f s scopes w own k =
       var = λ q d h. k.var q d (subst (λ (b : Bool). (if b then found_here s q else found_var scopes q) ≡ Some d) w h);
     }
 
-here_known : (ps : List Place) (f : ℕ) (s : Scope) → OwnKnown ps f s → VarsKnown ps f s → (q : List ℕ) (d : Declared) → or_else (s.own q) (s.vars q) ≡ Some d → IsDeclared ps d × (d.owner ≡ f)
+pub here_known : (ps : List Place) (f : ℕ) (s : Scope) → OwnKnown ps f s → VarsKnown ps f s → (q : List ℕ) (d : Declared) → or_else (s.own q) (s.vars q) ≡ Some d → IsDeclared ps d × (d.owner ≡ f)
 here_known ps f s own vars q d h =
     let cases : (o : Option Declared) → (s.own q ≡ o) → or_else o (s.vars q) ≡ Some d → IsDeclared ps d × (d.owner ≡ f) =
         λ o. elim o as (λ o. (s.own q ≡ o) → or_else o (s.vars q) ≡ Some d → IsDeclared ps d × (d.owner ≡ f)) [ None ↦ λ m k. vars q d m k | Some c ↦ λ m k. declared-is ps f c d k (own q c m) ]
@@ -110,35 +110,35 @@ scopes_function ps f g s scopes w owner own vars around k =
           here_known ps g s own vars q d (subst (λ (b : Bool). or_else (s.own q) (if b then s.vars q else None) ≡ Some d) w (subst (λ (b : Bool). (if b then found_here s q else found_var scopes q) ≡ Some d) w h));
     }
 
-own_look : (s : Scope) (scopes : List Scope) (q : List ℕ) (d : Declared) → s.own q ≡ Some d → found (s ∷ scopes) q ≡ Some d
+pub own_look : (s : Scope) (scopes : List Scope) (q : List ℕ) (d : Declared) → s.own q ≡ Some d → found (s ∷ scopes) q ≡ Some d
 unfolding found
 own_look s scopes q d e = ap (λ o. or_else (or_else o (if s.whole then s.vars q else None)) (found scopes q)) e
 
-var_look : (s : Scope) (scopes : List Scope) (q : List ℕ) (d : Declared) → s.whole ≡ true → s.own q ≡ None → s.vars q ≡ Some d → found_var (s ∷ scopes) q ≡ Some d
+pub var_look : (s : Scope) (scopes : List Scope) (q : List ℕ) (d : Declared) → s.whole ≡ true → s.own q ≡ None → s.vars q ≡ Some d → found_var (s ∷ scopes) q ≡ Some d
 unfolding found_var
 var_look s scopes q d w n e =
     ap (λ (b : Bool). if b then or_else (s.own q) (if b then s.vars q else None) else found_var scopes q) w ∙ (ap (λ o. or_else o (s.vars q)) n ∙ e)
 
-block_known : (ps : List Place) (scopes : List Scope) (a : Around) (ss : PlainStmts) → ScopesKnown ps a.owner scopes → AllHave ps (stmts_sites (block_scope a.owner ss ∷ scopes) a ss) → ScopesKnown ps a.owner (block_scope a.owner ss ∷ scopes)
+pub block_known : (ps : List Place) (scopes : List Scope) (a : Around) (ss : PlainStmts) → ScopesKnown ps a.owner scopes → AllHave ps (stmts_sites (block_scope a.owner ss ∷ scopes) a ss) → ScopesKnown ps a.owner (block_scope a.owner ss ∷ scopes)
 unfolding block_scope
 block_known ps scopes a ss k h =
     let s = block_scope a.owner ss in
     scopes_inner ps a.owner s scopes refl (λ q d e. own_declares ps (found (s ∷ scopes)) a.owner q d (own_of_all a.owner false ss) (stated_all ps (s ∷ scopes) a false ss h) e (own_look s scopes q d e)) k
 
-for_known : (ps : List Place) (scopes : List Scope) (a : Around) (start : PlainStart) (body : PlainStmt) → ScopesKnown ps a.owner scopes → AllHave ps (start_sites (for_scope a.owner start body ∷ scopes) a start) → ScopesKnown ps a.owner (for_scope a.owner start body ∷ scopes)
+pub for_known : (ps : List Place) (scopes : List Scope) (a : Around) (start : PlainStart) (body : PlainStmt) → ScopesKnown ps a.owner scopes → AllHave ps (start_sites (for_scope a.owner start body ∷ scopes) a start) → ScopesKnown ps a.owner (for_scope a.owner start body ∷ scopes)
 unfolding for_scope
 for_known ps scopes a start body k h =
     let s = for_scope a.owner start body in
     scopes_inner ps a.owner s scopes refl (λ q d e. own_declares ps (found (s ∷ scopes)) a.owner q d (own_of_start a.owner start) (stated_start ps (s ∷ scopes) a start h) e (own_look s scopes q d e)) k
 
-each_known : (ps : List Place) (scopes : List Scope) (a : Around) (kind : DeclareKind) (name : Name) (body : PlainStmt) → ScopesKnown ps a.owner scopes → AllHave ps (site (each_scope a.owner kind name body ∷ scopes) a (What.Declares (each_role kind)) name)
+pub each_known : (ps : List Place) (scopes : List Scope) (a : Around) (kind : DeclareKind) (name : Name) (body : PlainStmt) → ScopesKnown ps a.owner scopes → AllHave ps (site (each_scope a.owner kind name body ∷ scopes) a (What.Declares (each_role kind)) name)
     → ScopesKnown ps a.owner (each_scope a.owner kind name body ∷ scopes)
 unfolding each_scope
 each_known ps scopes a kind name body k h =
     let s = each_scope a.owner kind name body in
     scopes_inner ps a.owner s scopes refl (λ q d e. own_declares ps (found (s ∷ scopes)) a.owner q d (entry name (each_role kind) name.spot.at a.owner false 0 ∷ []) (stated_each ps (s ∷ scopes) a kind name h) e (own_look s scopes q d e)) k
 
-function_known : (ps : List Place) (scopes : List Scope) (f : ℕ) (spot : Spot) (names : List Name) (ss : PlainStmts) → BeginApart ps → ScopesKnown ps f scopes → AllHave ps (begin_site (function_scope spot.at names ss ∷ scopes) spot.at spot)
+pub function_known : (ps : List Place) (scopes : List Scope) (f : ℕ) (spot : Spot) (names : List Name) (ss : PlainStmts) → BeginApart ps → ScopesKnown ps f scopes → AllHave ps (begin_site (function_scope spot.at names ss ∷ scopes) spot.at spot)
     → AllHave ps (parameter_sites (function_scope spot.at names ss ∷ scopes) (in_function spot.at) names) → AllStated ps (found (function_scope spot.at names ss ∷ scopes)) spot.at (own_of_all spot.at true ss)
     → AllStated ps (found_var (function_scope spot.at names ss ∷ scopes)) spot.at (vars_of_all spot.at true ss) → ScopesKnown ps spot.at (function_scope spot.at names ss ∷ scopes)
 unfolding function_scope see functions_of

@@ -161,7 +161,7 @@ stated_declarators ps scopes a direct kind (t.declarator_in name value end ds) h
     stated_append ps (found scopes) a.owner (own_declarator a.owner direct kind name value end) (own_declarators a.owner direct kind ds) (stated_declarator ps scopes a direct kind name value end (h.0, tt))
     (stated_declarators ps scopes a direct kind ds (have_right ps (perhaps_sites scopes a value) (declarators_sites scopes a kind ds) h.1))
 
-stated_own : (ps : List Place) (scopes : List Scope) (a : Around) (direct : Bool) (s : PlainStmt) → AllHave ps (stmt_sites scopes a s) → AllStated ps (found scopes) a.owner (own_of a.owner direct s)
+pub stated_own : (ps : List Place) (scopes : List Scope) (a : Around) (direct : Bool) (s : PlainStmt) → AllHave ps (stmt_sites scopes a s) → AllStated ps (found scopes) a.owner (own_of a.owner direct s)
 unfolding stmt_sites stmt_form_sites
 stated_own ps scopes a direct (t.on line (t.declaration kind ds)) h = stated_declarators ps scopes a direct kind ds h
 stated_own ps scopes a direct (t.on line _) h = tt
