@@ -1,28 +1,25 @@
 -- Where the scopes around each place are known, its program is sound.
-use Rattle.std.proofs.Common.{◌≡◌, ◌∙◌, ◌⊎◌, inl, inr, ℕ, zero, suc, ◌+◌, ◌<◌, ◌≤◌, List, [], ◌∷◌, ◌++◌, append_assoc, refl, ap, sym, subst, length, length-append, map, fold, arith, Option, Some, None, Bool, true, false, not, ◌&&◌, ◌||◌, if◌then◌else◌, nat_eq}
-use Rattle.std.proofs.lemmas.Bool.{eqb-true, eq-eqb, ne_eqb, and_parts, or_parts, not-false, false≢true, true≢false}
+use Rattle.std.proofs.Common.{◌≡◌, ◌∙◌, inl, inr, ℕ, ◌<◌, List, [], ◌∷◌, ◌++◌, append_assoc, refl, ap, sym, subst, length, length-append, map, arith, Option, Some, None, Bool, true, false, not, ◌&&◌, if◌then◌else◌, nat_eq}
+use Rattle.std.proofs.lemmas.Bool.{ne_eqb, or_parts, not-false, false≢true, true≢false}
 use Rattle.std.specs.Prelude.{is_some}
 use Rattle.std.specs.List.{flat_map, filter_map, cons_option}
 use Rattle.js_tree.specs.Plain.{PlainItem}
-use Rattle.js_program.specs.PlainProgram.{PlainProgram, PlainConstant}
-use Rattle.js_program.specs.Sound.{variable_fits, all_below, function_fits, IsSound}
+use Rattle.js_program.specs.Sound.{variable_fits, all_below, IsSound}
 use Rattle.js_names.specs.declared.place.Declared.{Declared}
-use Rattle.js_names.specs.declared.place.Role.{Role}
 use Rattle.js_names.specs.declared.place.Role.TheVariants.{Parameter}
 use Rattle.js_names.specs.declared.place.What.{What}
 use Rattle.js_names.specs.Scopes.{top}
-use Rattle.js_names.specs.Sites.{Site, item_sites, begin_site, program_spot, program_sites}
+use Rattle.js_names.specs.Sites.{Site, item_sites, program_sites}
 use Rattle.js_names.specs.Places.{Place, see, places, functions_of}
-use Rattle.js_names.specs.Slots.{held_by, parameter_in, parameter_at, assigned_in, constants_of, slots_of, captures, is_begin, is_mention, joins, first_uses, functions_in, function_at}
-use Rattle.js_names.specs.Rules.{name_fault, fails_unknown, is_misuse}
-use Rattle.js_resolver.specs.Variables.{named_at, second, around_of, code_at, capture_slots}
-use Rattle.js_resolver.specs.Nodes.{items_piece}
+use Rattle.js_names.specs.Slots.{held_by, parameter_in, parameter_at, assigned_in, constants_of, is_begin, is_mention, first_uses, functions_in, function_at}
+use Rattle.js_names.specs.Rules.{name_fault, is_misuse}
+use Rattle.js_resolver.specs.Variables.{named_at, second, around_of, capture_slots}
 use Rattle.js_resolver.specs.Resolved.{constant_of, program_of_tree}
 use Rattle.js_resolver.proofs.SoundFunctions.{begun, captures_in_order, items_listed}
 use Rattle.js_resolver.proofs.SoundLists.{In, HasPlace, held-append}
 use Rattle.js_resolver.proofs.SoundPlaces.{IsKnown, ArePlaced, unbroken, name_fits, captures_there}
 use Rattle.js_resolver.proofs.SoundRoom.{NoRepeats, no_repeats-first_uses, function_there, function_room}
-use Rattle.js_resolver.proofs.SoundNodes.{slots_in, parameter_count, FitsAt, FunctionFits, fine_of, AllFine, IsCovered, counted, is_parameter_site}
+use Rattle.js_resolver.proofs.SoundNodes.{slots_in, FitsAt, fine_of, AllFine, IsCovered, counted, is_parameter_site}
 use Rattle.js_resolver.proofs.SoundProgram.{program_scopes, program_sound}
 
 -- places of a program
@@ -46,15 +43,16 @@ unfolding see
 begun-functions [] h = refl
 begun-functions (s ∷ ss) h =
     let cases : (b : Bool) → (is_begin s.what ≡ b) → (In top (if b then s.around.owner ∷ begun ss else begun ss) → ⊥)
-            → filter_map function_at (map see (s ∷ ss)) ≡ (if b then s.around.owner ∷ begun ss else begun ss) =
-        λ b. elim b as (λ b. (is_begin s.what ≡ b) → (In top (if b then s.around.owner ∷ begun ss else begun ss) → ⊥) → filter_map function_at (map see (s ∷ ss)) ≡ (if b then s.around.owner ∷ begun ss else begun ss))
-        [ true ↦ λ e k.
-            let other : nat_eq s.around.owner top ≡ false = ne_eqb s.around.owner top (λ m. k (inl (sym m))) in
-            let here : function_at (see s) ≡ Some s.around.owner = ap (λ (b : Bool). if b && not (nat_eq s.around.owner top) then Some s.around.owner else None) e ∙ ap (λ (b : Bool). if true && not b then Some s.around.owner else None) other in
-            ap (λ o. cons_option o (filter_map function_at (map see ss))) here ∙ ap (λ z. s.around.owner ∷ z) (begun-functions ss (λ m. k (inr m)))
-        | false ↦ λ e k.
-            let here : function_at (see s) ≡ None = ap (λ (b : Bool). if b && not (nat_eq s.around.owner top) then Some s.around.owner else None) e in
-            ap (λ o. cons_option o (filter_map function_at (map see ss))) here ∙ begun-functions ss k ]
+    → filter_map function_at (map see (s ∷ ss)) ≡ (if b then s.around.owner ∷ begun ss else begun ss) =
+    λ b. elim b as (λ b. (is_begin s.what ≡ b) → (In top (if b then s.around.owner ∷ begun ss else begun ss) → ⊥) → filter_map function_at (map see (s ∷ ss)) ≡ (if b then s.around.owner ∷ begun ss else begun ss)) [
+      | true ↦ λ e k.
+          let other : nat_eq s.around.owner top ≡ false = ne_eqb s.around.owner top (λ m. k (inl (sym m))) in
+          let here : function_at (see s) ≡ Some s.around.owner = ap (λ (b : Bool). if b && not (nat_eq s.around.owner top) then Some s.around.owner else None) e ∙ ap (λ (b : Bool). if true && not b then Some s.around.owner else None) other in
+          ap (λ o. cons_option o (filter_map function_at (map see ss))) here ∙ ap (λ z. s.around.owner ∷ z) (begun-functions ss (λ m. k (inr m)))
+      | false ↦ λ e k.
+          let here : function_at (see s) ≡ None = ap (λ (b : Bool). if b && not (nat_eq s.around.owner top) then Some s.around.owner else None) e in
+          ap (λ o. cons_option o (filter_map function_at (map see ss))) here ∙ begun-functions ss k
+    ]
     in
     cases (is_begin s.what) refl h
 
@@ -92,23 +90,24 @@ fine_place items s ok h has listed =
     let fits : (d : Declared) → q.declared ≡ Some d → FitsAt p ps s.around.owner s.name.spot.at = λ d e. subst (λ n. variable_fits (slots_in ps s.around.owner) n (named_at ps s.name.spot.at) ≡ true) same (name_fits ps q d h.placed has e) in
     let rules = unbroken items q ok has in
     let mentioned : is_mention s.what ≡ true → FitsAt p ps s.around.owner s.name.spot.at = λ e.
-        let declared = known-is q.declared (not-false _ (subst (λ (b : Bool). (b && not (is_some q.declared)) ≡ false) e (or_parts _ _ rules.0).1)) in
-        fits declared.0 declared.1
+    let declared = known-is q.declared (not-false _ (subst (λ (b : Bool). (b && not (is_some q.declared)) ≡ false) e (or_parts _ _ rules.0).1)) in
+    fits declared.0 declared.1
     in
     let cases : (w : What) → s.what ≡ w → fine_of p ps w s =
-        λ w. elim w as (λ w. s.what ≡ w → fine_of p ps w s)
-        [ What.Declares role ↦ λ e. let d = known.declares role e in fits d.0 d.1
-        | What.Reads ↦ λ e. mentioned (ap is_mention e)
-        | What.Assigns ↦ λ e. mentioned (ap is_mention e)
-        | What.Misuses ↦ λ e. absurd (true≢false (sym (ap is_misuse e) ∙ (or_parts _ _ rules.0).0))
-        | What.LoopWord ↦ λ e. tt
-        | What.Returns ↦ λ e. tt
-        | What.Begins ↦ λ e.
-            let f = s.around.owner in
-            let around : around_of ps f ≡ second top (functions_of s.scopes) = known.begins (ap is_begin e) in
-            let below : all_below (slots_in ps (second top (functions_of s.scopes))) (capture_slots ps f) ≡ true = subst (λ g. all_below (slots_in ps g) (capture_slots ps f) ≡ true) around (captures_there ps f h.placed) in
-            let order : captures_in_order p.functions ≡ map (capture_slots ps) (functions_in ps) = items_listed ps (program_scopes items) 0 items ∙ ap (map (capture_slots ps)) (sym (functions-begun items h)) in
-            record { there = function_there p ps (slots_in ps (second top (functions_of s.scopes))) f order (listed (ap is_begin e)) below; room = function_room ps f h.placed (h.parameters f) } ]
+    λ w. elim w as (λ w. s.what ≡ w → fine_of p ps w s) [
+      | What.Declares role ↦ λ e. let d = known.declares role e in fits d.0 d.1
+      | What.Reads ↦ λ e. mentioned (ap is_mention e)
+      | What.Assigns ↦ λ e. mentioned (ap is_mention e)
+      | What.Misuses ↦ λ e. absurd (true≢false (sym (ap is_misuse e) ∙ (or_parts _ _ rules.0).0))
+      | What.LoopWord ↦ λ e. tt
+      | What.Returns ↦ λ e. tt
+      | What.Begins ↦ λ e.
+          let f = s.around.owner in
+          let around : around_of ps f ≡ second top (functions_of s.scopes) = known.begins (ap is_begin e) in
+          let below : all_below (slots_in ps (second top (functions_of s.scopes))) (capture_slots ps f) ≡ true = subst (λ g. all_below (slots_in ps g) (capture_slots ps f) ≡ true) around (captures_there ps f h.placed) in
+          let order : captures_in_order p.functions ≡ map (capture_slots ps) (functions_in ps) = items_listed ps (program_scopes items) 0 items ∙ ap (map (capture_slots ps)) (sym (functions-begun items h)) in
+          record { there = function_there p ps (slots_in ps (second top (functions_of s.scopes))) f order (listed (ap is_begin e)) below; room = function_room ps f h.placed (h.parameters f) }
+    ]
     in
     cases s.what refl
 

@@ -9,14 +9,14 @@ use Rattle.js_tree.specs.declared.tree.Spot.{Spot}
 use Rattle.js_tree.specs.declared.tree.DeclareKind.{DeclareKind}
 use Rattle.js_tree.specs.Plain as t
 use Rattle.js_tree.specs.Plain.{PlainExpr, PlainForm, PlainExprs, PlainFields, PlainPerhaps, PlainDeclarators, PlainStart, PlainStmt, PlainStmtForm, PlainStmts, PlainItem}
-use Rattle.js_tree.specs.Nesting.{is_object, is_log_of}
+use Rattle.js_tree.specs.Nesting.{is_object}
 use Rattle.js_program.specs.declared.builtin.Builtin.{Builtin}
 use Rattle.js_program.specs.PlainProgram as n
 use Rattle.js_program.specs.PlainProgram.{PlainBody, PlainContent}
 use Rattle.js_names.specs.declared.place.Around.{Around}
 use Rattle.js_names.specs.declared.place.What.{What}
-use Rattle.js_names.specs.Scopes.{Scope, top, block_scope, for_scope, each_scope, each_role, function_scope}
-use Rattle.js_names.specs.Sites.{Site, site, word_at, read_site, assign_site, is_undefined, is_reserved, object_of, owner_of, called_builtin, value_builtin, builtin_at, member_sites, in_function, in_loop, begin_site, parameter_sites, declared_role, expr_sites, form_sites, exprs_sites, fields_sites, perhaps_sites, declarators_sites, start_sites, stmt_sites, stmt_form_sites, stmts_sites, item_sites}
+use Rattle.js_names.specs.Scopes.{Scope, top, block_scope, for_scope, each_scope, function_scope}
+use Rattle.js_names.specs.Sites.{Site, site, read_site, assign_site, is_undefined, is_reserved, object_of, called_builtin, value_builtin, builtin_at, member_sites, in_function, in_loop, begin_site, parameter_sites, expr_sites, form_sites, exprs_sites, fields_sites, perhaps_sites, declarators_sites, start_sites, stmt_sites, stmt_form_sites, stmts_sites, item_sites}
 use Rattle.js_names.specs.Places.{Place}
 use Rattle.js_names.specs.Slots.{is_begin}
 use Rattle.js_resolver.specs.Variables.{capture_slots, body_of}
@@ -119,6 +119,7 @@ listed_argument ps false sites x y h k = h
 
 mutual
   unfolding expr_piece expr_parts form_parts exprs_piece arguments_piece fields_piece perhaps_piece declarators_piece start_piece stmt_piece stmt_parts stmts_piece expr_sites form_sites exprs_sites fields_sites perhaps_sites declarators_sites start_sites stmt_sites stmt_form_sites stmts_sites
+
   pub expr_listed : (ps : List Place) (scopes : List Scope) (a : Around) (b : ℕ) (e : PlainExpr) → Lists ps (expr_sites scopes a e) (expr_piece ps b e)
   expr_listed ps scopes a b (t.at parens line form) = form_listed ps scopes a b form
 

@@ -1,28 +1,23 @@
 -- The scopes around each place of a program are known.
-use Rattle.std.proofs.Common.{◌≡◌, ◌∙◌, ◌⊎◌, inl, inr, ℕ, zero, suc, List, [], ◌∷◌, ◌++◌, refl, ap, sym, subst, map, Option, Some, None, Bool, true, false, not, ◌&&◌, ◌||◌, if◌then◌else◌, nat_eq}
-use Rattle.std.proofs.lemmas.Bool.{false≢true, true≢false}
-use Rattle.std.specs.Prelude.{is_some, unwrap_or}
-use Rattle.std.specs.List.{flat_map}
+use Rattle.std.proofs.Common.{◌≡◌, ◌∙◌, inl, inr, ℕ, List, [], ◌∷◌, ◌++◌, refl, ap, sym, subst, Option, Some, None, Bool, true, false, if◌then◌else◌}
+use Rattle.std.specs.Prelude.{unwrap_or}
 use Rattle.js_tree.specs.declared.tree.Name.{Name}
 use Rattle.js_tree.specs.declared.tree.Spot.{Spot}
 use Rattle.js_tree.specs.declared.tree.DeclareKind.{DeclareKind}
-use Rattle.js_tree.specs.Plain as t
-use Rattle.js_tree.specs.Plain.{PlainExpr, PlainForm, PlainExprs, PlainFields, PlainPerhaps, PlainDeclarators, PlainStart, PlainStmt, PlainStmtForm, PlainStmts, PlainItem}
-use Rattle.js_tree.specs.Nesting.{is_object}
+use Rattle.js_tree.specs.Plain.{PlainStart, PlainStmt, PlainStmts}
 use Rattle.js_names.specs.declared.place.Around.{Around}
 use Rattle.js_names.specs.declared.place.Declared.{Declared}
 use Rattle.js_names.specs.declared.place.Role.{Role}
-use Rattle.js_names.specs.declared.place.Role.TheVariants.{Parameter}
 use Rattle.js_names.specs.declared.place.What.{What}
-use Rattle.js_names.specs.Scopes.{Scope, Entry, top, named, first, one_var, entry, own_of_all, own_of_start, vars_of, vars_of_all, vars_of_start, parameters, block_scope, for_scope, each_scope, each_role, function_scope}
-use Rattle.js_names.specs.Sites.{Site, site, word_at, read_site, assign_site, is_undefined, is_reserved, object_of, called_builtin, value_builtin, member_sites, in_function, in_loop, begin_site, parameter_sites, declared_role, expr_sites, form_sites, exprs_sites, fields_sites, perhaps_sites, declarators_sites, start_sites, stmt_sites, stmt_form_sites, stmts_sites}
-use Rattle.js_names.specs.Places.{Place, see, found, found_var, found_here, or_else, functions_of, declared_at, is_var}
+use Rattle.js_names.specs.Scopes.{Scope, top, named, one_var, entry, own_of_all, own_of_start, vars_of_all, parameters, block_scope, for_scope, each_scope, each_role, function_scope}
+use Rattle.js_names.specs.Sites.{site, in_function, begin_site, parameter_sites, start_sites, stmts_sites}
+use Rattle.js_names.specs.Places.{Place, see, found, found_var, found_here, or_else, functions_of}
 use Rattle.js_names.specs.Slots.{is_begin}
-use Rattle.js_resolver.specs.Variables.{second, around_of, around_there, known_in, owner_key}
+use Rattle.js_resolver.specs.Variables.{second, around_of, around_there, owner_key}
 use Rattle.js_resolver.proofs.SoundLists.{In, HasPlace}
-use Rattle.js_resolver.proofs.SoundPlaces.{IsDeclared, IsChain, IsKnown, is_name, known-found}
+use Rattle.js_resolver.proofs.SoundPlaces.{IsDeclared, IsChain, known-found}
 use Rattle.js_resolver.proofs.SoundFine.{AllHave}
-use Rattle.js_resolver.proofs.SoundScopes.{AllStated, stated_append, have_left, have_right, own_declares, vars_declare, stated_all, stated_start, stated_parameters, stated_each, stmts_vars}
+use Rattle.js_resolver.proofs.SoundScopes.{AllStated, stated_append, own_declares, vars_declare, stated_all, stated_start, stated_parameters, stated_each}
 
 -- what each of some scopes, the innermost first, declares for the functions around
 pub record ScopesKnown (ps : List Place) (f : ℕ) (scopes : List Scope) : Type 0 where
@@ -43,7 +38,7 @@ BeginApart ps = (q r : Place) → HasPlace q ps → HasPlace r ps → is_begin q
 around-from : (r : Place) (w : ℕ) → around_there r ≡ Some w → (is_begin r.what ≡ true) × (second top r.functions ≡ w)
 around-from r w h =
     let cases : (b : Bool) → (is_begin r.what ≡ b) → (if b then Some (second top r.functions) else None) ≡ Some w → (is_begin r.what ≡ true) × (second top r.functions ≡ w) =
-        λ b. elim b as (λ b. (is_begin r.what ≡ b) → (if b then Some (second top r.functions) else None) ≡ Some w → (is_begin r.what ≡ true) × (second top r.functions ≡ w)) [ true ↦ λ e k. (e, cc) | false ↦ λ e k. cc ]
+    λ b. elim b as (λ b. (is_begin r.what ≡ b) → (if b then Some (second top r.functions) else None) ≡ Some w → (is_begin r.what ≡ true) × (second top r.functions ≡ w)) [ true ↦ λ e k. (e, cc) | false ↦ λ e k. cc ]
     in
     cases (is_begin r.what) refl h
 
@@ -73,8 +68,8 @@ unfolding functions_of found found_var
 scopes_inner ps f s scopes w own k =
     let same : functions_of (s ∷ scopes) ≡ functions_of scopes = ap (λ (b : Bool). (if b then s.owner ∷ [] else []) ++ functions_of scopes) w in
     let look : (q : List ℕ) (d : Declared) (o : Option Declared) → (s.own q ≡ o) → or_else (or_else o None) (found scopes q) ≡ Some d → IsDeclared ps d × In d.owner (functions_of scopes) =
-        λ q d o. elim o as (λ o. (s.own q ≡ o) → or_else (or_else o None) (found scopes q) ≡ Some d → IsDeclared ps d × In d.owner (functions_of scopes))
-        [ None ↦ λ m h. k.found q d h | Some c ↦ λ m h. let r = declared-is ps f c d h (own q c m) in (r.0, in-first f (functions_of scopes) k.outer d.owner k.within r.1) ]
+    λ q d o. elim o as (λ o. (s.own q ≡ o) → or_else (or_else o None) (found scopes q) ≡ Some d → IsDeclared ps d × In d.owner (functions_of scopes))
+    [ None ↦ λ m h. k.found q d h | Some c ↦ λ m h. let r = declared-is ps f c d h (own q c m) in (r.0, in-first f (functions_of scopes) k.outer d.owner k.within r.1) ]
     in
     record {
       outer = k.outer;
@@ -87,7 +82,7 @@ scopes_inner ps f s scopes w own k =
 pub here_known : (ps : List Place) (f : ℕ) (s : Scope) → OwnKnown ps f s → VarsKnown ps f s → (q : List ℕ) (d : Declared) → or_else (s.own q) (s.vars q) ≡ Some d → IsDeclared ps d × (d.owner ≡ f)
 here_known ps f s own vars q d h =
     let cases : (o : Option Declared) → (s.own q ≡ o) → or_else o (s.vars q) ≡ Some d → IsDeclared ps d × (d.owner ≡ f) =
-        λ o. elim o as (λ o. (s.own q ≡ o) → or_else o (s.vars q) ≡ Some d → IsDeclared ps d × (d.owner ≡ f)) [ None ↦ λ m k. vars q d m k | Some c ↦ λ m k. declared-is ps f c d k (own q c m) ]
+    λ o. elim o as (λ o. (s.own q ≡ o) → or_else o (s.vars q) ≡ Some d → IsDeclared ps d × (d.owner ≡ f)) [ None ↦ λ m k. vars q d m k | Some c ↦ λ m k. declared-is ps f c d k (own q c m) ]
     in
     cases (s.own q) refl h
 
@@ -98,8 +93,8 @@ scopes_function ps f g s scopes w owner own vars around k =
     let same : functions_of (s ∷ scopes) ≡ g ∷ functions_of scopes = ap (λ (b : Bool). (if b then s.owner ∷ [] else []) ++ functions_of scopes) w ∙ ap (λ z. z ∷ functions_of scopes) owner in
     let chain : IsChain ps (g ∷ functions_of scopes) = subst (λ fs. IsChain ps (g ∷ fs)) (sym k.within) (around, subst (IsChain ps) k.within k.chain) in
     let look : (q : List ℕ) (d : Declared) (o : Option Declared) → (or_else (s.own q) (s.vars q) ≡ o) → or_else o (found scopes q) ≡ Some d → IsDeclared ps d × In d.owner (g ∷ functions_of scopes) =
-        λ q d o. elim o as (λ o. (or_else (s.own q) (s.vars q) ≡ o) → or_else o (found scopes q) ≡ Some d → IsDeclared ps d × In d.owner (g ∷ functions_of scopes))
-        [ None ↦ λ m h. let r = k.found q d h in (r.0, inr r.1) | Some c ↦ λ m h. let r = declared-is ps g c d h (here_known ps g s own vars q c m) in (r.0, inl r.1) ]
+    λ q d o. elim o as (λ o. (or_else (s.own q) (s.vars q) ≡ o) → or_else o (found scopes q) ≡ Some d → IsDeclared ps d × In d.owner (g ∷ functions_of scopes))
+    [ None ↦ λ m h. let r = k.found q d h in (r.0, inr r.1) | Some c ↦ λ m h. let r = declared-is ps g c d h (here_known ps g s own vars q c m) in (r.0, inl r.1) ]
     in
     record {
       outer = functions_of scopes;

@@ -1,14 +1,14 @@
 -- What a function holds has a number below that of its slots.
-use Rattle.std.proofs.Common.{◌≡◌, ◌∙◌, ◌⊎◌, inl, inr, ℕ, zero, suc, ◌+◌, ◌<◌, ◌≤◌, List, [], ◌∷◌, ◌++◌, refl, ap, sym, subst, length, length-append, map, fold, arith, Option, Some, None, Bool, true, false, ◌&&◌, ◌||◌, if◌then◌else◌, nat_eq}
-use Rattle.std.proofs.lemmas.Bool.{lt-ltb, ltb-true, eqb-true, eq-eqb, and_from, or_cases, false≢true}
-use Rattle.std.specs.Prelude.{position, unwrap_or, nat_lt, not}
-use Rattle.std.specs.List.{list_all, list_any, flat_map, prefix_len}
+use Rattle.std.proofs.Common.{◌≡◌, ◌⊎◌, inl, inr, ℕ, ◌<◌, List, [], ◌∷◌, ◌++◌, refl, ap, sym, subst, length, fold, arith, Option, Some, None, Bool, true, false, if◌then◌else◌, nat_eq}
+use Rattle.std.proofs.lemmas.Bool.{lt-ltb, ltb-true, eqb-true, or_cases, false≢true}
+use Rattle.std.specs.Prelude.{unwrap_or, nat_lt, not}
+use Rattle.std.specs.List.{flat_map, prefix_len}
 use Rattle.js_program.specs.Sound.{all_below}
 use Rattle.js_names.specs.declared.place.Declared.{Declared}
 use Rattle.js_names.specs.Places.{Place, is_var}
-use Rattle.js_names.specs.Slots.{Holding, hold, held_by, is_among, joins, first_uses, assigned_in, holdings, slots_of, captures, vars_of, parameter_in, captures_in, variable_in, variable_at, variable_of, var_of, var_in}
+use Rattle.js_names.specs.Slots.{Holding, held_by, is_among, joins, first_uses, assigned_in, holdings, slots_of, vars_of, parameter_in, captures_in, variable_in, variable_at, variable_of, var_of, var_in}
 use Rattle.js_resolver.specs.Variables.{index_in, slots_among, var_slots}
-use Rattle.js_resolver.proofs.SoundParts.{Every, every_more, every_all}
+use Rattle.js_resolver.proofs.SoundParts.{Every, every_all}
 
 abbrev pub In : ℕ → List ℕ → Type 0
 In x [] = ⊥
@@ -140,9 +140,10 @@ var-at assigned f v (Some d) h = elim (is_var d.role) as (λ b. In v (held_by f 
 var-held : (assigned : List ℕ) (f v : ℕ) (ps : List Place) → In v (held_by f (flat_map (var_in assigned) ps)) → In v (held_by f (flat_map (variable_in assigned) ps))
 var-held assigned f v [] h = h
 var-held assigned f v (p ∷ ps) h =
-    elim (held-cases f v (var_in assigned p) (flat_map (var_in assigned) ps) h) as (λ _. In v (held_by f (flat_map (variable_in assigned) (p ∷ ps))))
-    [ inl k ↦ held-left f v (variable_in assigned p) (flat_map (variable_in assigned) ps) (var-at assigned f v (variable_at p.what p.declared) k)
-    | inr k ↦ held-right f v (variable_in assigned p) (flat_map (variable_in assigned) ps) (var-held assigned f v ps k) ]
+    elim (held-cases f v (var_in assigned p) (flat_map (var_in assigned) ps) h) as (λ _. In v (held_by f (flat_map (variable_in assigned) (p ∷ ps)))) [
+      | inl k ↦ held-left f v (variable_in assigned p) (flat_map (variable_in assigned) ps) (var-at assigned f v (variable_at p.what p.declared) k)
+      | inr k ↦ held-right f v (variable_in assigned p) (flat_map (variable_in assigned) ps) (var-held assigned f v ps k)
+    ]
 
 -- a function's `var`s have slots
 pub vars_fit : (ps : List Place) (f : ℕ) → all_below (length (slots_of (assigned_in ps) f ps)) (var_slots ps f) ≡ true

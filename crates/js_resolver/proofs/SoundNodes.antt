@@ -1,5 +1,5 @@
 -- Where each name and each function of a tree fits, the nodes and the bodies of its program fit.
-use Rattle.std.proofs.Common.{◌≡◌, ◌∙◌, ℕ, zero, suc, ◌+◌, ◌<◌, ◌≤◌, List, [], ◌∷◌, ◌++◌, refl, ap, sym, subst, length, length-append, map, append_assoc, arith, Option, Some, None, Bool, true, false, ◌&&◌, if◌then◌else◌, nat_eq}
+use Rattle.std.proofs.Common.{◌≡◌, ◌∙◌, ℕ, zero, suc, ◌+◌, ◌≤◌, List, [], ◌∷◌, ◌++◌, refl, ap, subst, length, map, append_assoc, arith, Option, Some, None, Bool, true, false, ◌&&◌, if◌then◌else◌, nat_eq}
 use Rattle.std.proofs.lemmas.Bool.{lt-ltb, le-leb, eq-eqb, and_from, and_parts}
 use Rattle.std.proofs.lemmas.List.Folds.{list_all-append}
 use Rattle.std.proofs.lemmas.Option.{slice_get_within}
@@ -13,21 +13,19 @@ use Rattle.js_tree.specs.Plain as t
 use Rattle.js_tree.specs.Plain.{PlainExpr, PlainForm, PlainExprs, PlainFields, PlainPerhaps, PlainDeclarators, PlainStart, PlainStmt, PlainStmtForm, PlainStmts, PlainItem}
 use Rattle.js_tree.specs.Nesting.{is_object}
 use Rattle.js_program.specs.declared.builtin.Builtin.{Builtin}
-use Rattle.js_program.specs.declared.node.Variable.{Variable}
 use Rattle.js_program.specs.PlainProgram as n
 use Rattle.js_program.specs.PlainProgram.{PlainNodeForm, PlainNode, PlainBody, PlainContent, PlainProgram, PlainDeclared, parts_of, content_parts}
-use Rattle.js_program.specs.Sound.{all_below, variable_fits, function_fits, form_fits, found_fits, node_fits, body_fits}
+use Rattle.js_program.specs.Sound.{variable_fits, function_fits, form_fits, found_fits, node_fits, body_fits}
 use Rattle.js_names.specs.declared.place.Around.{Around}
-use Rattle.js_names.specs.declared.place.Role.{Role}
 use Rattle.js_names.specs.declared.place.Role.TheVariants.{Parameter}
 use Rattle.js_names.specs.declared.place.What.{What}
-use Rattle.js_names.specs.Scopes.{Scope, Entry, top, is_present, own_of_all, own_of, own_of_start, own_declarators, own_declarator, block_scope, for_scope, each_scope, each_role, function_scope}
-use Rattle.js_names.specs.Sites.{Site, site, word_at, read_site, assign_site, is_undefined, is_reserved, object_of, called_builtin, value_builtin, member_sites, in_function, in_loop, begin_site, parameter_sites, declared_role, expr_sites, form_sites, exprs_sites, fields_sites, perhaps_sites, declarators_sites, start_sites, stmt_sites, stmt_form_sites, stmts_sites, item_sites}
+use Rattle.js_names.specs.Scopes.{Scope, Entry, top, is_present, own_of_all, own_of, own_of_start, own_declarators, own_declarator, block_scope, for_scope, each_scope, function_scope}
+use Rattle.js_names.specs.Sites.{Site, site, read_site, assign_site, is_undefined, is_reserved, object_of, called_builtin, value_builtin, member_sites, in_function, in_loop, begin_site, parameter_sites, expr_sites, form_sites, exprs_sites, fields_sites, perhaps_sites, declarators_sites, start_sites, stmt_sites, stmt_form_sites, stmts_sites, item_sites}
 use Rattle.js_names.specs.Places.{Place, functions_of}
 use Rattle.js_names.specs.Slots.{assigned_in, slots_of, captures, held_by, parameter_in}
-use Rattle.js_resolver.specs.Variables.{around_of, named_at, code_at, second, capture_slots, var_slots, slots_among, body_of}
-use Rattle.js_resolver.specs.Nodes.{Piece, none, beside, after, closed, function_piece, one_value, fresh, method_of, floors_division, call_node, member_node, for_node, expr_node, declared_of, has_start, perhaps_part, parts_after, stmt_node, expr_piece, expr_parts, form_parts, exprs_piece, arguments_piece, fields_piece, perhaps_piece, declarators_piece, start_piece, stmt_piece, stmt_parts, stmts_piece, item_piece, items_piece}
-use Rattle.js_resolver.proofs.SoundParts.{Every, every_append, every_more, every_all, every_part, form_need, stmt_need, declared_need, kept_expr, kept_declared, kept_stmt}
+use Rattle.js_resolver.specs.Variables.{around_of, named_at, code_at, second, capture_slots, slots_among, body_of}
+use Rattle.js_resolver.specs.Nodes.{Piece, none, beside, after, closed, function_piece, one_value, fresh, method_of, floors_division, call_node, member_node, expr_node, declared_of, parts_after, stmt_node, expr_piece, expr_parts, form_parts, exprs_piece, arguments_piece, fields_piece, perhaps_piece, declarators_piece, start_piece, stmt_piece, stmt_parts, stmts_piece, item_piece, items_piece}
+use Rattle.js_resolver.proofs.SoundParts.{Every, every_append, every_more, every_all, every_part, kept_expr, kept_declared, kept_stmt}
 use Rattle.js_resolver.proofs.SoundLists.{vars_fit}
 use Rattle.js_resolver.proofs.SoundOrder.{expr_orderly, form_orderly, declarators_orderly, stmt_form_orderly}
 
@@ -151,7 +149,7 @@ good_closed : (p : PlainProgram) (slots b line : ℕ) (form : List ℕ → Plain
 good_closed p slots b line form x s f h g =
     let node : PlainNode = record { line = line; form = form x.parts } in
     let at : slice_get p.nodes (after b x) ≡ Some node =
-        subst (λ k. slice_get p.nodes k ≡ Some node) (omega arith) (stands_right p b x.nodes (node ∷ []) s 0 node refl)
+    subst (λ k. slice_get p.nodes k ≡ Some node) (omega arith) (stands_right p b x.nodes (node ∷ []) s 0 node refl)
     in
     record { parts = (node_good p slots (after b x) node at f h, tt); bodies = g.bodies }
 
@@ -178,9 +176,10 @@ some_variables a h = rw h refl
 use_fits : (p : PlainProgram) (ps : List Place) (scopes : List Scope) (a : Around) (name : Name) (xs : List ℕ) → AllFine p ps (read_site scopes a name) → form_fits p (slots_in ps a.owner) (expr_node ps (t.use_of name) xs) ≡ true
 use_fits p ps scopes a name xs h =
     let cases : (b c : Bool) → AllFine p ps (if b then site scopes a What.Misuses name else (if c then [] else site scopes a What.Reads name)) → form_fits p (slots_in ps a.owner) (if c then n.undefined else n.read (named_at ps name.spot.at)) ≡ true =
-        λ b c. elim b as (λ b. AllFine p ps (if b then site scopes a What.Misuses name else (if c then [] else site scopes a What.Reads name)) → form_fits p (slots_in ps a.owner) (if c then n.undefined else n.read (named_at ps name.spot.at)) ≡ true)
-        [ true ↦ λ k. absurd k.0
-        | false ↦ elim c as (λ c. AllFine p ps (if c then [] else site scopes a What.Reads name) → form_fits p (slots_in ps a.owner) (if c then n.undefined else n.read (named_at ps name.spot.at)) ≡ true) [ true ↦ λ k. refl | false ↦ λ k. one_variable _ k.0 ] ]
+    λ b c. elim b as (λ b. AllFine p ps (if b then site scopes a What.Misuses name else (if c then [] else site scopes a What.Reads name)) → form_fits p (slots_in ps a.owner) (if c then n.undefined else n.read (named_at ps name.spot.at)) ≡ true) [
+      | true ↦ λ k. absurd k.0
+      | false ↦ elim c as (λ c. AllFine p ps (if c then [] else site scopes a What.Reads name) → form_fits p (slots_in ps a.owner) (if c then n.undefined else n.read (named_at ps name.spot.at)) ≡ true) [ true ↦ λ k. refl | false ↦ λ k. one_variable _ k.0 ]
+    ]
     in
     cases (is_object name.text) (is_undefined name.text) h
 
@@ -251,10 +250,10 @@ good_function p ps slots inner spot names sites content x c h g =
     let params = parameter_sites inner (in_function f) names in
     let rest = covered_left p ps params sites (covered_rest p ps _ (params ++ sites) c) in
     let room : length names + length (capture_slots ps f) ≤ slots_in ps f =
-        omega (arith, fits.room, rest.count f, counted_parameters f inner names, length_slots (slots_of (assigned_in ps) (around_of ps f) ps) (captures (assigned_in ps) f ps))
+    omega (arith, fits.room, rest.count f, counted_parameters f inner names, length_slots (slots_of (assigned_in ps) (around_of ps f) ps) (captures (assigned_in ps) f ps))
     in
     let content_fits : list_all (node_fits p (slots_in ps f) (length p.nodes)) (content_parts (content x.parts)) ≡ true =
-        every_all (node_fits p (slots_in ps f) (length p.nodes)) (content_parts (content x.parts)) (every_more (NodeFits p (slots_in ps f)) (λ m. node_fits p (slots_in ps f) (length p.nodes) m ≡ true) (content_parts (content x.parts)) (λ m k. k (length p.nodes)) h)
+    every_all (node_fits p (slots_in ps f) (length p.nodes)) (content_parts (content x.parts)) (every_more (NodeFits p (slots_in ps f)) (λ m. node_fits p (slots_in ps f) (length p.nodes) m ≡ true) (content_parts (content x.parts)) (λ m k. k (length p.nodes)) h)
     in
     record { parts = tt; bodies = and_from _ _ (and_from _ _ (and_from _ _ (le-leb _ _ room) (vars_fit ps f)) content_fits) g.bodies }
 
@@ -370,6 +369,7 @@ yields_function p ps slots b inner spot names sites content x keeps f = λ c h.
 
 mutual
   unfolding expr_piece expr_parts form_parts exprs_piece arguments_piece fields_piece perhaps_piece declarators_piece start_piece stmt_piece stmt_parts stmts_piece expr_sites form_sites exprs_sites fields_sites perhaps_sites declarators_sites start_sites stmt_sites stmt_form_sites stmts_sites
+
   expr_good : (p : PlainProgram) (ps : List Place) (scopes : List Scope) (a : Around) (b : ℕ) (e : PlainExpr) → IsWithin scopes a.owner → Yields p ps (slots_in ps a.owner) b (expr_sites scopes a e) (expr_piece ps b e)
   expr_good p ps scopes a b (t.at parens line form) w c h =
       let x = form_parts ps b form in

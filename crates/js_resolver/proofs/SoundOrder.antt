@@ -1,10 +1,9 @@
 -- Each part of a node has a smaller number than the node.
-use Rattle.std.proofs.Common.{◌≡◌, ℕ, zero, suc, ◌+◌, ◌<◌, ◌≤◌, List, [], ◌∷◌, ◌++◌, refl, ap, sym, subst, length, length-append, map, arith, Option, Some, None, Bool, true, false, ◌&&◌, if◌then◌else◌}
+use Rattle.std.proofs.Common.{◌≡◌, ℕ, suc, ◌+◌, ◌<◌, ◌≤◌, List, [], ◌∷◌, ◌++◌, refl, subst, length, length-append, arith, Option, Some, None, Bool, true, false, if◌then◌else◌}
 use Rattle.std.proofs.lemmas.Bool.{lt-ltb, false≢true, and_parts, and_from}
 use Rattle.std.specs.Prelude.{is_some, nat_lt}
 use Rattle.js_tree.specs.declared.tree.Name.{Name}
 use Rattle.js_tree.specs.declared.tree.Spot.{Spot}
-use Rattle.js_tree.specs.declared.tree.Operator.{Operator}
 use Rattle.js_tree.specs.Plain as t
 use Rattle.js_tree.specs.Plain.{PlainExpr, PlainForm, PlainExprs, PlainFields, PlainPerhaps, PlainDeclarators, PlainStart, PlainStmt, PlainStmtForm, PlainStmts, PlainItem}
 use Rattle.js_program.specs.declared.builtin.Builtin.{Builtin}
@@ -14,9 +13,9 @@ use Rattle.js_program.specs.Sound.{ordered}
 use Rattle.js_names.specs.Scopes.{is_present}
 use Rattle.js_names.specs.Sites.{called_builtin, value_builtin}
 use Rattle.js_names.specs.Places.{Place, places}
-use Rattle.js_resolver.specs.Nodes.{Piece, none, beside, after, closed, function_piece, one_value, part, method_of, is_division, begins_with_division, is_floor, floors_division, expr_node, declared_of, has_start, stmt_node, expr_piece, expr_parts, form_parts, exprs_piece, arguments_piece, fields_piece, perhaps_piece, declarators_piece, start_piece, stmt_piece, stmt_parts, stmts_piece, item_piece, items_piece}
+use Rattle.js_resolver.specs.Nodes.{Piece, none, beside, after, closed, function_piece, one_value, method_of, is_division, begins_with_division, is_floor, floors_division, expr_node, declared_of, has_start, stmt_node, expr_piece, expr_parts, form_parts, exprs_piece, arguments_piece, fields_piece, perhaps_piece, declarators_piece, start_piece, stmt_piece, stmt_parts, stmts_piece, item_piece, items_piece}
 use Rattle.js_resolver.specs.Resolved.{program_of_tree}
-use Rattle.js_resolver.proofs.SoundParts.{Every, every_append, every_more, every_all, call_need, form_need, expr_need, truth_need, declared_need, stmt_need, kept_expr, kept_declared, kept_stmt}
+use Rattle.js_resolver.proofs.SoundParts.{Every, every_append, every_more, every_all, form_need, expr_need, truth_need, declared_need, stmt_need, kept_expr, kept_declared, kept_stmt}
 
 abbrev pub InOrder : ℕ → List PlainNode → Type 0
 InOrder i [] = Unit {0}
@@ -102,6 +101,7 @@ orderly_also b j k x y h g = orderly_fewer b j (j + k) (beside x y) (omega arith
 
 mutual
   unfolding expr_piece expr_parts form_parts exprs_piece arguments_piece fields_piece perhaps_piece declarators_piece start_piece stmt_piece stmt_parts stmts_piece
+
   pub expr_orderly : (ps : List Place) (b : ℕ) (e : PlainExpr) → IsOrderly b 1 (expr_piece ps b e)
   expr_orderly ps b (t.at parens line form) =
       let h = form_orderly ps b form in

@@ -1,7 +1,7 @@
 -- What a place names is there, where no rule of names is broken.
-use Rattle.std.proofs.Common.{◌≡◌, ◌∙◌, ◌⊎◌, inl, inr, ℕ, zero, suc, ◌+◌, ◌<◌, ◌≤◌, List, [], ◌∷◌, ◌++◌, refl, ap, sym, subst, length, map, fold, arith, Option, Some, None, Bool, true, false, not, ◌&&◌, ◌||◌, if◌then◌else◌, nat_eq}
-use Rattle.std.proofs.lemmas.Bool.{lt-ltb, eqb-true, eqb-false, eq-eqb, and_from, and_parts, and_cases, or_cases, or_parts, ne_eqb, not-true, not-false, false≢true, true≢false}
-use Rattle.std.specs.Prelude.{is_some, unwrap_or, nat_lt}
+use Rattle.std.proofs.Common.{◌≡◌, ◌∙◌, ◌⊎◌, inl, inr, ℕ, List, [], ◌∷◌, refl, ap, sym, subst, length, fold, Option, Some, None, Bool, true, false, not, ◌&&◌, if◌then◌else◌, nat_eq}
+use Rattle.std.proofs.lemmas.Bool.{lt-ltb, eqb-true, eqb-false, eq-eqb, and_from, and_parts, ne_eqb, not-true, not-false, false≢true, true≢false}
+use Rattle.std.specs.Prelude.{is_some, unwrap_or}
 use Rattle.std.specs.List.{flat_map}
 use Rattle.js_tree.specs.Plain.{PlainItem}
 use Rattle.js_program.specs.declared.node.Variable.{Variable}
@@ -13,9 +13,9 @@ use Rattle.js_names.specs.declared.place.Role.{Role}
 use Rattle.js_names.specs.declared.place.What.{What}
 use Rattle.js_names.specs.Scopes.{top}
 use Rattle.js_names.specs.Places.{Place, or_else, test_of, places}
-use Rattle.js_names.specs.Slots.{Holding, hold, held_by, holds_all, inside, assigned_in, is_constant, is_outer, can_copy, copies, is_mention, is_begin, captures, captures_in, captures_of, constants_of, slots_of, slot_count, first_uses}
-use Rattle.js_names.specs.Rules.{is_misuse, fails_unknown, fails_capture, fails_twice, fails_const, fails_loop_word, fails_return, fails_slots, fault_at, sooner, comes_before, soonest, name_fault}
-use Rattle.js_resolver.specs.Variables.{index_in, variable_with, named_by, named_there, known_here, known_in, name_key, named, named_at, second, around_of, capture_slots, slots_among}
+use Rattle.js_names.specs.Slots.{Holding, held_by, holds_all, inside, assigned_in, is_constant, is_outer, can_copy, copies, is_mention, is_begin, captures, captures_in, captures_of, constants_of, slots_of, slot_count}
+use Rattle.js_names.specs.Rules.{fails_unknown, fails_capture, fails_twice, fails_const, fault_at, sooner, comes_before, name_fault}
+use Rattle.js_resolver.specs.Variables.{index_in, variable_with, named_by, known_here, known_in, name_key, named, named_at, second, around_of, capture_slots}
 use Rattle.js_resolver.proofs.SoundLists.{In, HasPlace, index-below, in-from_first_uses, capture_slot, held-from, held-cases, slots_below}
 
 -- a declaration of a program: a constant of it, or in a slot of its function, and its name stands there
@@ -84,8 +84,8 @@ unbroken items q h k =
 with_fits : (assigned constants slots : List ℕ) (d : Declared) → (is_constant assigned d ≡ true → In d.place constants) → (is_constant assigned d ≡ false → In d.place slots) → variable_fits (length slots) (length constants) (variable_with assigned constants slots d) ≡ true
 with_fits assigned constants slots d f g =
     let cases : (b : Bool) → (b ≡ true → In d.place constants) → (b ≡ false → In d.place slots) → variable_fits (length slots) (length constants) (if b then Constant (index_in constants d.place) else Slot (index_in slots d.place)) ≡ true =
-        λ b. elim b as (λ b. (b ≡ true → In d.place constants) → (b ≡ false → In d.place slots) → variable_fits (length slots) (length constants) (if b then Constant (index_in constants d.place) else Slot (index_in slots d.place)) ≡ true)
-        [ true ↦ λ m n. lt-ltb _ _ (index-below d.place constants (m refl)) | false ↦ λ m n. lt-ltb _ _ (index-below d.place slots (n refl)) ]
+    λ b. elim b as (λ b. (b ≡ true → In d.place constants) → (b ≡ false → In d.place slots) → variable_fits (length slots) (length constants) (if b then Constant (index_in constants d.place) else Slot (index_in slots d.place)) ≡ true)
+    [ true ↦ λ m n. lt-ltb _ _ (index-below d.place constants (m refl)) | false ↦ λ m n. lt-ltb _ _ (index-below d.place slots (n refl)) ]
     in
     cases (is_constant assigned d) f g
 
@@ -93,9 +93,10 @@ holds-in : (f v : ℕ) (fs : List ℕ) → In f fs → In v (held_by f (holds_al
 holds-in f v [] h = absurd h
 holds-in f v (g ∷ gs) h =
     let cases : (b : Bool) → (nat_eq g f ≡ b) → In v (if b then v ∷ held_by f (holds_all v gs) else held_by f (holds_all v gs)) =
-        λ b. elim b as (λ b. (nat_eq g f ≡ b) → In v (if b then v ∷ held_by f (holds_all v gs) else held_by f (holds_all v gs)))
-        [ true ↦ λ e. inl refl
-        | false ↦ λ e. elim h as (λ _. In v (held_by f (holds_all v gs))) [ inl m ↦ absurd (false≢true (sym e ∙ eq-eqb g f (sym m))) | inr m ↦ holds-in f v gs m ] ]
+    λ b. elim b as (λ b. (nat_eq g f ≡ b) → In v (if b then v ∷ held_by f (holds_all v gs) else held_by f (holds_all v gs))) [
+      | true ↦ λ e. inl refl
+      | false ↦ λ e. elim h as (λ _. In v (held_by f (holds_all v gs))) [ inl m ↦ absurd (false≢true (sym e ∙ eq-eqb g f (sym m))) | inr m ↦ holds-in f v gs m ]
+    ]
     in
     cases (nat_eq g f) refl
 
@@ -103,9 +104,10 @@ holds-from : (f v w : ℕ) (fs : List ℕ) → In w (held_by f (holds_all v fs))
 holds-from f v w [] h = absurd h
 holds-from f v w (g ∷ gs) h =
     let cases : (b : Bool) → (nat_eq g f ≡ b) → In w (if b then v ∷ held_by f (holds_all v gs) else held_by f (holds_all v gs)) → (w ≡ v) × In f (g ∷ gs) =
-        λ b. elim b as (λ b. (nat_eq g f ≡ b) → In w (if b then v ∷ held_by f (holds_all v gs) else held_by f (holds_all v gs)) → (w ≡ v) × In f (g ∷ gs))
-        [ true ↦ λ e k. elim k as (λ _. (w ≡ v) × In f (g ∷ gs)) [ inl m ↦ (m, inl (sym (eqb-true g f e))) | inr m ↦ let r = holds-from f v w gs m in (r.0, inr r.1) ]
-        | false ↦ λ e k. let r = holds-from f v w gs k in (r.0, inr r.1) ]
+    λ b. elim b as (λ b. (nat_eq g f ≡ b) → In w (if b then v ∷ held_by f (holds_all v gs) else held_by f (holds_all v gs)) → (w ≡ v) × In f (g ∷ gs)) [
+      | true ↦ λ e k. elim k as (λ _. (w ≡ v) × In f (g ∷ gs)) [ inl m ↦ (m, inl (sym (eqb-true g f e))) | inr m ↦ let r = holds-from f v w gs m in (r.0, inr r.1) ]
+      | false ↦ λ e k. let r = holds-from f v w gs k in (r.0, inr r.1)
+    ]
     in
     cases (nat_eq g f) refl h
 
@@ -124,18 +126,19 @@ mention_slot ps q d has k capture mention e c =
     let assigned = assigned_in ps in
     let declared : IsDeclared ps d = (k.found d e).0 in
     let cases : (b : Bool) → (nat_eq d.owner q.around.owner ≡ b) → In d.place (slots_of assigned q.around.owner ps) =
-        λ b. elim b as (λ b. (nat_eq d.owner q.around.owner ≡ b) → In d.place (slots_of assigned q.around.owner ps))
-        [ true ↦ λ m. subst (λ f. In d.place (slots_of assigned f ps)) (eqb-true d.owner q.around.owner m) (declared.slot c)
-        | false ↦ λ m.
-            let outer : is_outer assigned q d ≡ true = rw m (rw c refl) in
-            let tested : (is_outer assigned q d && not (can_copy assigned d q.around.owner)) ≡ false =
-                subst (λ (b : Bool). (b && (is_outer assigned q d && not (can_copy assigned d q.around.owner))) ≡ false) mention (subst (λ o. (is_mention q.what && test_of o (λ d. is_outer assigned q d && not (can_copy assigned d q.around.owner))) ≡ false) e capture)
-            in
-            let copy : can_copy assigned d q.around.owner ≡ true = not-false _ (subst (λ (b : Bool). (b && not (can_copy assigned d q.around.owner)) ≡ false) outer tested) in
-            let all : copies assigned q d ≡ true = and_from _ _ mention (and_from _ _ outer copy) in
-            let apart : nat_eq q.around.owner d.owner ≡ false = ne_eqb q.around.owner d.owner (λ z. eqb-false d.owner q.around.owner m (sym z)) in
-            let first : In q.around.owner (inside d.owner q.functions) = subst (λ fs. In q.around.owner (inside d.owner fs)) (sym k.within) (inside-first d.owner q.around.owner k.outer apart) in
-            capture_slot assigned ps q.around.owner d.place (held-from (captures_in assigned) q.around.owner d.place q ps has (copied assigned q d q.around.owner e all first)) ]
+    λ b. elim b as (λ b. (nat_eq d.owner q.around.owner ≡ b) → In d.place (slots_of assigned q.around.owner ps)) [
+      | true ↦ λ m. subst (λ f. In d.place (slots_of assigned f ps)) (eqb-true d.owner q.around.owner m) (declared.slot c)
+      | false ↦ λ m.
+          let outer : is_outer assigned q d ≡ true = rw m (rw c refl) in
+          let tested : (is_outer assigned q d && not (can_copy assigned d q.around.owner)) ≡ false =
+          subst (λ (b : Bool). (b && (is_outer assigned q d && not (can_copy assigned d q.around.owner))) ≡ false) mention (subst (λ o. (is_mention q.what && test_of o (λ d. is_outer assigned q d && not (can_copy assigned d q.around.owner))) ≡ false) e capture)
+          in
+          let copy : can_copy assigned d q.around.owner ≡ true = not-false _ (subst (λ (b : Bool). (b && not (can_copy assigned d q.around.owner)) ≡ false) outer tested) in
+          let all : copies assigned q d ≡ true = and_from _ _ mention (and_from _ _ outer copy) in
+          let apart : nat_eq q.around.owner d.owner ≡ false = ne_eqb q.around.owner d.owner (λ z. eqb-false d.owner q.around.owner m (sym z)) in
+          let first : In q.around.owner (inside d.owner q.functions) = subst (λ fs. In q.around.owner (inside d.owner fs)) (sym k.within) (inside-first d.owner q.around.owner k.outer apart) in
+          capture_slot assigned ps q.around.owner d.place (held-from (captures_in assigned) q.around.owner d.place q ps has (copied assigned q d q.around.owner e all first))
+    ]
     in
     cases (nat_eq d.owner q.around.owner) refl
 
@@ -144,17 +147,18 @@ pub name_slot : (ps : List Place) (q : Place) (d : Declared) → HasPlace q ps �
 name_slot ps q d has k capture e c =
     let assigned = assigned_in ps in
     let here : (w : What) → q.what ≡ w → In d.place (slots_of assigned q.around.owner ps) =
-        λ w. elim w as (λ w. q.what ≡ w → In d.place (slots_of assigned q.around.owner ps))
-        [ What.Declares role ↦ λ m.
-            let r = k.declares role m in
-            let same : d ≡ r.0 = cc in
-            subst (λ f. In d.place (slots_of assigned f ps)) (ap (λ (x : Declared). x.owner) same ∙ r.2) ((k.found d e).0.slot c)
-        | What.Reads ↦ λ m. mention_slot ps q d has k capture (ap is_mention m) e c
-        | What.Assigns ↦ λ m. mention_slot ps q d has k capture (ap is_mention m) e c
-        | What.Misuses ↦ λ m. let z = k.silent (ap is_name m) in cc
-        | What.LoopWord ↦ λ m. let z = k.silent (ap is_name m) in cc
-        | What.Returns ↦ λ m. let z = k.silent (ap is_name m) in cc
-        | What.Begins ↦ λ m. let z = k.silent (ap is_name m) in cc ]
+    λ w. elim w as (λ w. q.what ≡ w → In d.place (slots_of assigned q.around.owner ps)) [
+      | What.Declares role ↦ λ m.
+          let r = k.declares role m in
+          let same : d ≡ r.0 = cc in
+          subst (λ f. In d.place (slots_of assigned f ps)) (ap (λ (x : Declared). x.owner) same ∙ r.2) ((k.found d e).0.slot c)
+      | What.Reads ↦ λ m. mention_slot ps q d has k capture (ap is_mention m) e c
+      | What.Assigns ↦ λ m. mention_slot ps q d has k capture (ap is_mention m) e c
+      | What.Misuses ↦ λ m. let z = k.silent (ap is_name m) in cc
+      | What.LoopWord ↦ λ m. let z = k.silent (ap is_name m) in cc
+      | What.Returns ↦ λ m. let z = k.silent (ap is_name m) in cc
+      | What.Begins ↦ λ m. let z = k.silent (ap is_name m) in cc
+    ]
     in
     here q.what refl
 
@@ -164,19 +168,23 @@ pub known-found : {A : Type 0} (key : Place → ℕ) (value : Place → Option A
 known-found key value at [] q v h e f = absurd h
 known-found {A = A} key value at (x ∷ xs) q v h e f =
     let rest : (value x ≡ None) ⊎ (nat_eq (key x) at ≡ false) → (known_here key value at x ≡ None) → (r : Place) × (w : A) × HasPlace r (x ∷ xs) × (key r ≡ at) × (value r ≡ Some w) × (known_in key value at (x ∷ xs) ≡ Some w) =
-        λ no none.
-        elim h as (λ _. (r : Place) × (w : A) × HasPlace r (x ∷ xs) × (key r ≡ at) × (value r ≡ Some w) × (known_in key value at (x ∷ xs) ≡ Some w))
-        [ inl same ↦ elim no as (λ _. (r : Place) × (w : A) × HasPlace r (x ∷ xs) × (key r ≡ at) × (value r ≡ Some w) × (known_in key value at (x ∷ xs) ≡ Some w))
-          [ inl m ↦ let z : Some v ≡ None = sym f ∙ (ap value same ∙ m) in cc
-          | inr m ↦ absurd (true≢false (sym (eq-eqb (key x) at (sym (ap key same) ∙ e)) ∙ m)) ]
-        | inr k ↦ let g = known-found key value at xs q v k e f in (g.0, g.1, inr g.2, g.3, g.4, ap (λ o. or_else o (known_in key value at xs)) none ∙ g.5) ]
+    λ no none.
+    elim h as (λ _. (r : Place) × (w : A) × HasPlace r (x ∷ xs) × (key r ≡ at) × (value r ≡ Some w) × (known_in key value at (x ∷ xs) ≡ Some w)) [
+      | inl same ↦ elim no as (λ _. (r : Place) × (w : A) × HasPlace r (x ∷ xs) × (key r ≡ at) × (value r ≡ Some w) × (known_in key value at (x ∷ xs) ≡ Some w)) [
+        | inl m ↦ let z : Some v ≡ None = sym f ∙ (ap value same ∙ m) in cc
+        | inr m ↦ absurd (true≢false (sym (eq-eqb (key x) at (sym (ap key same) ∙ e)) ∙ m))
+      ]
+      | inr k ↦ let g = known-found key value at xs q v k e f in (g.0, g.1, inr g.2, g.3, g.4, ap (λ o. or_else o (known_in key value at xs)) none ∙ g.5)
+    ]
     in
     let cases : (b : Bool) → (nat_eq (key x) at ≡ b) → (o : Option A) → (value x ≡ o) → (r : Place) × (w : A) × HasPlace r (x ∷ xs) × (key r ≡ at) × (value r ≡ Some w) × (known_in key value at (x ∷ xs) ≡ Some w) =
-        λ b. elim b as (λ b. (nat_eq (key x) at ≡ b) → (o : Option A) → (value x ≡ o) → (r : Place) × (w : A) × HasPlace r (x ∷ xs) × (key r ≡ at) × (value r ≡ Some w) × (known_in key value at (x ∷ xs) ≡ Some w))
-        [ true ↦ λ m o. elim o as (λ o. (value x ≡ o) → (r : Place) × (w : A) × HasPlace r (x ∷ xs) × (key r ≡ at) × (value r ≡ Some w) × (known_in key value at (x ∷ xs) ≡ Some w))
-          [ None ↦ λ n. rest (inl n) (ap (λ (b : Bool). if b then value x else None) m ∙ n)
-          | Some w ↦ λ n. (x, w, inl refl, eqb-true (key x) at m, n, ap (λ o. or_else o (known_in key value at xs)) (ap (λ (b : Bool). if b then value x else None) m ∙ n)) ]
-        | false ↦ λ m o n. rest (inr m) (ap (λ (b : Bool). if b then value x else None) m) ]
+    λ b. elim b as (λ b. (nat_eq (key x) at ≡ b) → (o : Option A) → (value x ≡ o) → (r : Place) × (w : A) × HasPlace r (x ∷ xs) × (key r ≡ at) × (value r ≡ Some w) × (known_in key value at (x ∷ xs) ≡ Some w)) [
+      | true ↦ λ m o. elim o as (λ o. (value x ≡ o) → (r : Place) × (w : A) × HasPlace r (x ∷ xs) × (key r ≡ at) × (value r ≡ Some w) × (known_in key value at (x ∷ xs) ≡ Some w)) [
+        | None ↦ λ n. rest (inl n) (ap (λ (b : Bool). if b then value x else None) m ∙ n)
+        | Some w ↦ λ n. (x, w, inl refl, eqb-true (key x) at m, n, ap (λ o. or_else o (known_in key value at xs)) (ap (λ (b : Bool). if b then value x else None) m ∙ n))
+      ]
+      | false ↦ λ m o n. rest (inr m) (ap (λ (b : Bool). if b then value x else None) m)
+    ]
     in
     cases (nat_eq (key x) at) refl (value x) refl
 
@@ -206,7 +214,7 @@ name_fits ps q d h has e =
     let c : Declared = m.0 in
     let owner : r.around.owner ≡ q.around.owner = h.apart r q known.2 has (ap is_some m.1) (ap is_some e) known.3 in
     let fits : variable_fits (length (slots r.around.owner)) (length constants) (variable_with assigned constants (slots r.around.owner) c) ≡ true =
-        with_fits assigned constants (slots r.around.owner) c ((h.known r known.2).found c m.1).0.constant (name_slot ps r c known.2 (h.known r known.2) (h.capture r known.2) m.1)
+    with_fits assigned constants (slots r.around.owner) c ((h.known r known.2).found c m.1).0.constant (name_slot ps r c known.2 (h.known r known.2) (h.capture r known.2) m.1)
     in
     ap (λ o. variable_fits (length (slots q.around.owner)) (length constants) (unwrap_or o (Slot 0))) known.5
     ∙ subst (λ f. variable_fits (length (slots f)) (length constants) w ≡ true) owner (subst (λ z. variable_fits (length (slots r.around.owner)) (length constants) z ≡ true) m.2 fits)
@@ -216,27 +224,30 @@ chain-next : (ps : List Place) (owner f : ℕ) (fs : List ℕ) → IsChain ps fs
 chain-next ps owner f [] c h o = absurd h
 chain-next ps owner f (g ∷ []) c h o =
     let cases : (b : Bool) → (nat_eq g owner ≡ b) → In f (if b then [] else g ∷ []) → (around_of ps f ≡ owner) ⊎ In (around_of ps f) (inside owner (g ∷ [])) =
-        λ b. elim b as (λ b. (nat_eq g owner ≡ b) → In f (if b then [] else g ∷ []) → (around_of ps f ≡ owner) ⊎ In (around_of ps f) (inside owner (g ∷ [])))
-        [ true ↦ λ m k. absurd k
-        | false ↦ λ m k. elim o as (λ _. (around_of ps f ≡ owner) ⊎ In (around_of ps f) (inside owner (g ∷ []))) [ inl e ↦ absurd (eqb-false g owner m (sym e)) | inr e ↦ absurd e ] ]
+    λ b. elim b as (λ b. (nat_eq g owner ≡ b) → In f (if b then [] else g ∷ []) → (around_of ps f ≡ owner) ⊎ In (around_of ps f) (inside owner (g ∷ []))) [
+      | true ↦ λ m k. absurd k
+      | false ↦ λ m k. elim o as (λ _. (around_of ps f ≡ owner) ⊎ In (around_of ps f) (inside owner (g ∷ []))) [ inl e ↦ absurd (eqb-false g owner m (sym e)) | inr e ↦ absurd e ]
+    ]
     in
     cases (nat_eq g owner) refl h
 chain-next ps owner f (g ∷ i ∷ is) c h o =
     let Goal : Type 0 = (around_of ps f ≡ owner) ⊎ In (around_of ps f) (inside owner (g ∷ i ∷ is)) in
     let cases : (b : Bool) → (nat_eq g owner ≡ b) → In f (if b then [] else g ∷ inside owner (i ∷ is)) → Goal =
-        λ b. elim b as (λ b. (nat_eq g owner ≡ b) → In f (if b then [] else g ∷ inside owner (i ∷ is)) → Goal)
-        [ true ↦ λ m k. absurd k
-        | false ↦ λ m k.
-            let later : In owner (i ∷ is) = elim o as (λ _. In owner (i ∷ is)) [ inl e ↦ absurd (eqb-false g owner m (sym e)) | inr e ↦ e ] in
-            let wider : (x : ℕ) → In x (inside owner (i ∷ is)) → In x (inside owner (g ∷ i ∷ is)) = λ x n. subst (λ b. In x (if b then [] else g ∷ inside owner (i ∷ is))) (sym m) (inr n) in
-            elim k as (λ _. Goal)
-            [ inl e ↦
+    λ b. elim b as (λ b. (nat_eq g owner ≡ b) → In f (if b then [] else g ∷ inside owner (i ∷ is)) → Goal) [
+      | true ↦ λ m k. absurd k
+      | false ↦ λ m k.
+          let later : In owner (i ∷ is) = elim o as (λ _. In owner (i ∷ is)) [ inl e ↦ absurd (eqb-false g owner m (sym e)) | inr e ↦ e ] in
+          let wider : (x : ℕ) → In x (inside owner (i ∷ is)) → In x (inside owner (g ∷ i ∷ is)) = λ x n. subst (λ b. In x (if b then [] else g ∷ inside owner (i ∷ is))) (sym m) (inr n) in
+          elim k as (λ _. Goal) [
+            | inl e ↦
                 let around : around_of ps f ≡ i = ap (around_of ps) e ∙ c.0 in
                 let step : (b : Bool) → (nat_eq i owner ≡ b) → Goal =
-                    λ b. elim b as (λ b. (nat_eq i owner ≡ b) → Goal) [ true ↦ λ n. inl (around ∙ eqb-true i owner n) | false ↦ λ n. inr (wider (around_of ps f) (subst (λ x. In x (inside owner (i ∷ is))) (sym around) (inside-first owner i is n))) ]
+                λ b. elim b as (λ b. (nat_eq i owner ≡ b) → Goal) [ true ↦ λ n. inl (around ∙ eqb-true i owner n) | false ↦ λ n. inr (wider (around_of ps f) (subst (λ x. In x (inside owner (i ∷ is))) (sym around) (inside-first owner i is n))) ]
                 in
                 step (nat_eq i owner) refl
-            | inr e ↦ elim (chain-next ps owner f (i ∷ is) c.1 e later) as (λ _. Goal) [ inl z ↦ inl z | inr z ↦ inr (wider (around_of ps f) z) ] ] ]
+            | inr e ↦ elim (chain-next ps owner f (i ∷ is) c.1 e later) as (λ _. Goal) [ inl z ↦ inl z | inr z ↦ inr (wider (around_of ps f) z) ]
+          ]
+    ]
     in
     cases (nat_eq g owner) refl h
 
@@ -255,8 +266,8 @@ captured-here assigned q f v None h = absurd h
 captured-here assigned q f v (Some d) h =
     let Goal : Type 0 = (c : Declared) × (Some d ≡ Some c) × (copies assigned q c ≡ true) × (v ≡ c.place) × In f (inside c.owner q.functions) in
     let cases : (b : Bool) → (copies assigned q d ≡ b) → In v (held_by f (if b then holds_all d.place (inside d.owner q.functions) else [])) → Goal =
-        λ b. elim b as (λ b. (copies assigned q d ≡ b) → In v (held_by f (if b then holds_all d.place (inside d.owner q.functions) else [])) → Goal)
-        [ true ↦ λ e k. let r = holds-from f d.place v (inside d.owner q.functions) k in (d, refl, e, r.0, r.1) | false ↦ λ e k. absurd k ]
+    λ b. elim b as (λ b. (copies assigned q d ≡ b) → In v (held_by f (if b then holds_all d.place (inside d.owner q.functions) else [])) → Goal)
+    [ true ↦ λ e k. let r = holds-from f d.place v (inside d.owner q.functions) k in (d, refl, e, r.0, r.1) | false ↦ λ e k. absurd k ]
     in
     cases (copies assigned q d) refl h
 
@@ -278,15 +289,16 @@ pub captures_there : (ps : List Place) (f : ℕ) → ArePlaced ps → all_below 
 captures_there ps f h =
     let assigned = assigned_in ps in
     let each : (v : ℕ) → In v (captures assigned f ps) → In v (slots_of assigned (around_of ps f) ps) = λ v m.
-        let c = captured ps f v m in
-        let d = c.declared in
-        let k = h.known c.place c.has in
-        let found = k.found d c.is in
-        let outer = (and_parts _ _ (and_parts (is_mention c.place.what) _ c.copies).1).0 in
-        let constant : is_constant assigned d ≡ false = not-true _ (and_parts _ _ outer).1 in
-        subst (λ z. In z (slots_of assigned (around_of ps f) ps)) (sym c.variable)
-        (elim (chain-next ps d.owner f c.place.functions k.chain c.within found.1) as (λ _. In d.place (slots_of assigned (around_of ps f) ps))
-        [ inl e ↦ subst (λ g. In d.place (slots_of assigned g ps)) (sym e) (found.0.slot constant)
-        | inr e ↦ capture_slot assigned ps (around_of ps f) d.place (held-from (captures_in assigned) (around_of ps f) d.place c.place ps c.has (copied assigned c.place d (around_of ps f) c.is c.copies e)) ])
+    let c = captured ps f v m in
+    let d = c.declared in
+    let k = h.known c.place c.has in
+    let found = k.found d c.is in
+    let outer = (and_parts _ _ (and_parts (is_mention c.place.what) _ c.copies).1).0 in
+    let constant : is_constant assigned d ≡ false = not-true _ (and_parts _ _ outer).1 in
+    subst (λ z. In z (slots_of assigned (around_of ps f) ps)) (sym c.variable)
+    (elim (chain-next ps d.owner f c.place.functions k.chain c.within found.1) as (λ _. In d.place (slots_of assigned (around_of ps f) ps)) [
+      | inl e ↦ subst (λ g. In d.place (slots_of assigned g ps)) (sym e) (found.0.slot constant)
+      | inr e ↦ capture_slot assigned ps (around_of ps f) d.place (held-from (captures_in assigned) (around_of ps f) d.place c.place ps c.has (copied assigned c.place d (around_of ps f) c.is c.copies e))
+    ])
     in
     slots_below (slots_of assigned (around_of ps f) ps) (captures assigned f ps) each

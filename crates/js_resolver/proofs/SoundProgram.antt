@@ -1,23 +1,23 @@
 -- A program whose places fit is sound.
-use Rattle.std.proofs.Common.{◌≡◌, ◌∙◌, ℕ, zero, suc, ◌+◌, ◌<◌, ◌≤◌, List, [], ◌∷◌, ◌++◌, refl, ap, sym, subst, length, map, arith, Option, Some, None, Bool, true, false, ◌&&◌, if◌then◌else◌, nat_eq}
+use Rattle.std.proofs.Common.{◌≡◌, ℕ, ◌+◌, ◌<◌, ◌≤◌, List, [], ◌∷◌, refl, subst, length, map, arith, Option, Some, None, Bool, true, false, if◌then◌else◌, nat_eq}
 use Rattle.std.proofs.lemmas.Bool.{le-leb, and_from}
 use Rattle.std.specs.Prelude.{slice_get}
 use Rattle.std.specs.List.{list_all, flat_map}
 use Rattle.js_tree.specs.Plain.{PlainItem, statement, function_of}
 use Rattle.js_program.specs.PlainProgram.{PlainNode, PlainProgram, PlainConstant, of_function, undeclared, unset}
-use Rattle.js_program.specs.Sound.{variable_fits, function_fits, node_fits, body_fits, constant_fits, sound, IsSound}
+use Rattle.js_program.specs.Sound.{function_fits, node_fits, constant_fits, sound, IsSound}
 use Rattle.js_names.specs.declared.place.Declared.{Declared}
 use Rattle.js_names.specs.Scopes.{Scope, top, program_scope, function_scope}
-use Rattle.js_names.specs.Sites.{Site, item_sites, stmt_sites, stmts_sites, in_function, begin_site, parameter_sites}
+use Rattle.js_names.specs.Sites.{item_sites}
 use Rattle.js_names.specs.Places.{Place, places, functions_of, is_var}
 use Rattle.js_names.specs.Slots.{assigned_in, captures, constants_of, slots_of}
-use Rattle.js_resolver.specs.Variables.{code_at, body_of, first_some, second, around_of, slots_among, capture_slots}
-use Rattle.js_resolver.specs.Nodes.{Piece, items_piece}
+use Rattle.js_resolver.specs.Variables.{code_at, body_of, first_some, around_of, capture_slots}
+use Rattle.js_resolver.specs.Nodes.{items_piece}
 use Rattle.js_resolver.specs.Resolved.{function_named, constant_there, constant_of, program_of_tree}
 use Rattle.js_resolver.proofs.SoundParts.{every_all, every_more}
 use Rattle.js_resolver.proofs.SoundOrder.{program_ordered}
 use Rattle.js_resolver.proofs.SoundLists.{vars_fit}
-use Rattle.js_resolver.proofs.SoundNodes.{slots_in, FunctionFits, AllFine, fine_left, fine_right, IsCovered, IsWithin, IsGood, NodeFits, length_slots, items_good}
+use Rattle.js_resolver.proofs.SoundNodes.{slots_in, AllFine, fine_left, fine_right, IsCovered, IsWithin, IsGood, NodeFits, length_slots, items_good}
 
 -- the scopes of the places of a program
 abbrev pub program_scopes : List PlainItem → List Scope
@@ -35,10 +35,11 @@ there_fits : (p : PlainProgram) (v : ℕ) (o : Option Declared) (c : PlainConsta
 there_fits p v None c h = cc
 there_fits p v (Some d) c h =
     let cases : (a b : Bool) → (if a then Some (if b then unset else undeclared) else None) ≡ Some c → constant_fits p c ≡ true =
-        λ a b. elim a as (λ a. (if a then Some (if b then unset else undeclared) else None) ≡ Some c → constant_fits p c ≡ true)
-        [ true ↦ elim b as (λ b. Some (if b then unset else undeclared) ≡ Some c → constant_fits p c ≡ true)
+    λ a b. elim a as (λ a. (if a then Some (if b then unset else undeclared) else None) ≡ Some c → constant_fits p c ≡ true) [
+      | true ↦ elim b as (λ b. Some (if b then unset else undeclared) ≡ Some c → constant_fits p c ≡ true)
           [ true ↦ λ k. let e : unset ≡ c = cc in subst (λ z. constant_fits p z ≡ true) e refl | false ↦ λ k. let e : undeclared ≡ c = cc in subst (λ z. constant_fits p z ≡ true) e refl ]
-        | false ↦ λ k. cc ]
+      | false ↦ λ k. cc
+    ]
     in
     cases (nat_eq d.place v) (is_var d.role) h
 
@@ -51,7 +52,7 @@ unfolding item_sites functions_of function_scope
 named_fits p ps v scopes (statement s) w t h c e = cc
 named_fits p ps v scopes (function_of spot name names ss) w t h c e =
     let there : function_fits p p.top.slots (code_at ps spot.at) ≡ true =
-        subst (λ k. function_fits p k (code_at ps spot.at) ≡ true) t (subst (λ k. function_fits p (slots_in ps k) (code_at ps spot.at) ≡ true) (w spot.at) h.1.0.there)
+    subst (λ k. function_fits p k (code_at ps spot.at) ≡ true) t (subst (λ k. function_fits p (slots_in ps k) (code_at ps spot.at) ≡ true) (w spot.at) h.1.0.there)
     in
     elim (nat_eq name.spot.at v) as (λ b. (if b then Some (of_function (code_at ps spot.at)) else None) ≡ Some c → constant_fits p c ≡ true)
     [ true ↦ λ k. let d : of_function (code_at ps spot.at) ≡ c = cc in subst (λ z. constant_fits p z ≡ true) d there | false ↦ λ k. cc ] e
@@ -79,7 +80,7 @@ program_sound items ln lf lc c room =
     let stands : (i : ℕ) (n : PlainNode) → slice_get x.nodes i ≡ Some n → slice_get p.nodes (0 + i) ≡ Some n = λ i n e. subst (λ k. slice_get x.nodes k ≡ Some n) (omega arith) e in
     let g : IsGood p (slots_in ps top) x = items_good p ps (program_scopes items) 0 items (within_program items) c stands in
     let content : list_all (node_fits p (slots_in ps top) (length x.nodes)) x.parts ≡ true =
-        every_all (node_fits p (slots_in ps top) (length x.nodes)) x.parts (every_more (NodeFits p (slots_in ps top)) (λ m. node_fits p (slots_in ps top) (length x.nodes) m ≡ true) x.parts (λ m k. k (length x.nodes)) g.parts)
+    every_all (node_fits p (slots_in ps top) (length x.nodes)) x.parts (every_more (NodeFits p (slots_in ps top)) (λ m. node_fits p (slots_in ps top) (length x.nodes) m ≡ true) x.parts (λ m k. k (length x.nodes)) g.parts)
     in
     let own : 0 + length (capture_slots ps top) ≤ slots_in ps top = omega (arith, room, length_slots (slots_of (assigned_in ps) (around_of ps top) ps) (captures (assigned_in ps) top ps)) in
     record {

@@ -1,5 +1,5 @@
 -- A program with no fault of a name, whose names stand apart, is sound.
-use Rattle.std.proofs.Common.{◌≡◌, ◌∙◌, ◌⊎◌, inl, inr, ℕ, ◌<◌, List, [], ◌∷◌, ◌++◌, refl, ap, sym, subst, length, map, Option, Some, None, Bool, true, false, ◌&&◌, if◌then◌else◌}
+use Rattle.std.proofs.Common.{◌≡◌, ◌∙◌, inl, inr, ℕ, ◌<◌, List, [], ◌∷◌, ◌++◌, refl, ap, sym, subst, length, map, Option, Some, None, Bool, true, false, if◌then◌else◌}
 use Rattle.std.proofs.lemmas.Bool.{false≢true, true≢false}
 use Rattle.std.specs.Prelude.{is_some}
 use Rattle.std.specs.List.{flat_map}
@@ -13,10 +13,10 @@ use Rattle.js_program.specs.Sound.{IsSound}
 use Rattle.js_names.specs.declared.place.Around.{Around}
 use Rattle.js_names.specs.declared.place.Declared.{Declared}
 use Rattle.js_names.specs.declared.place.Role.{Role}
-use Rattle.js_names.specs.declared.place.Role.TheVariants.{Parameter, Function}
+use Rattle.js_names.specs.declared.place.Role.TheVariants.{Function}
 use Rattle.js_names.specs.declared.place.What.{What}
-use Rattle.js_names.specs.Scopes.{Scope, Entry, top, named, first, one_var, own_of, own_of_all, vars_of, vars_of_all, own_of_item, vars_of_item, block_scope, for_scope, each_scope, each_role, function_scope, program_scope}
-use Rattle.js_names.specs.Sites.{Site, site, word_at, read_site, assign_site, is_undefined, is_reserved, object_of, called_builtin, value_builtin, member_sites, in_function, in_loop, begin_site, parameter_sites, declared_role, program_spot, program_sites, expr_sites, form_sites, exprs_sites, fields_sites, perhaps_sites, declarators_sites, start_sites, stmt_sites, stmt_form_sites, stmts_sites, item_sites}
+use Rattle.js_names.specs.Scopes.{Scope, top, own_of_all, vars_of_all, own_of_item, vars_of_item, block_scope, for_scope, each_scope, each_role, function_scope, program_scope}
+use Rattle.js_names.specs.Sites.{Site, site, read_site, assign_site, is_undefined, is_reserved, object_of, called_builtin, value_builtin, member_sites, in_function, in_loop, begin_site, parameter_sites, declared_role, program_spot, program_sites, expr_sites, form_sites, exprs_sites, fields_sites, perhaps_sites, declarators_sites, start_sites, stmt_sites, stmt_form_sites, stmts_sites, item_sites}
 use Rattle.js_names.specs.Places.{Place, see, places, found, found_var, found_here, or_else, functions_of, declared_at, is_var}
 use Rattle.js_names.specs.Slots.{held_by, parameter_in}
 use Rattle.js_names.specs.Rules.{name_fault}
@@ -26,7 +26,7 @@ use Rattle.js_resolver.proofs.SoundLists.{In, HasPlace}
 use Rattle.js_resolver.proofs.SoundPlaces.{IsDeclared, IsChain, IsKnown, ArePlaced, is_name, unbroken}
 use Rattle.js_resolver.proofs.SoundProgram.{program_scopes}
 use Rattle.js_resolver.proofs.SoundRoom.{NoRepeats}
-use Rattle.js_resolver.proofs.SoundFine.{AllHave, AreApart, items_have, accepted_sound}
+use Rattle.js_resolver.proofs.SoundFine.{AllHave, items_have, accepted_sound}
 use Rattle.js_resolver.proofs.SoundScopes.{AllStated, stated_append, have_left, have_right, own_declares, vars_declare, stated_own, stated_all, stmt_vars, stmts_vars}
 use Rattle.js_resolver.proofs.SoundKnown.{ScopesKnown, AllDeclared, BeginApart, OwnKnown, VarsKnown, around_is, declared-is, here_known, own_look, var_look, block_known, for_known, each_known, function_known}
 
@@ -37,17 +37,29 @@ site_known ps s all apart k has =
     let text = s.name.text in
     let var : (d : Declared) → found_var s.scopes text ≡ Some d → Goal d = λ d e. let r = k.var text d e in (r.0, subst (In d.owner) (sym k.within) (inl r.1)) in
     let declares : (role : Role) (d : Declared) → (if is_var role then found_var s.scopes text else found s.scopes text) ≡ Some d → Goal d =
-        λ role d. elim (is_var role) as (λ b. (if b then found_var s.scopes text else found s.scopes text) ≡ Some d → Goal d) [ true ↦ λ e. var d e | false ↦ λ e. k.found text d e ]
+    λ role d. elim (is_var role) as (λ b. (if b then found_var s.scopes text else found s.scopes text) ≡ Some d → Goal d) [ true ↦ λ e. var d e | false ↦ λ e. k.found text d e ]
     in
     let look : (w : What) (d : Declared) → declared_at w s.scopes text ≡ Some d → Goal d =
-        λ w d. elim w as (λ w. declared_at w s.scopes text ≡ Some d → Goal d)
-        [ What.Declares role ↦ λ e. declares role d e | What.Reads ↦ λ e. k.found text d e | What.Assigns ↦ λ e. k.found text d e
-        | What.Misuses ↦ λ e. cc | What.LoopWord ↦ λ e. cc | What.Returns ↦ λ e. cc | What.Begins ↦ λ e. cc ]
+    λ w d. elim w as (λ w. declared_at w s.scopes text ≡ Some d → Goal d) [
+      | What.Declares role ↦ λ e. declares role d e
+      | What.Reads ↦ λ e. k.found text d e
+      | What.Assigns ↦ λ e. k.found text d e
+      | What.Misuses ↦ λ e. cc
+      | What.LoopWord ↦ λ e. cc
+      | What.Returns ↦ λ e. cc
+      | What.Begins ↦ λ e. cc
+    ]
     in
     let quiet : (w : What) → is_name w ≡ false → declared_at w s.scopes text ≡ None =
-        λ w. elim w as (λ w. is_name w ≡ false → declared_at w s.scopes text ≡ None)
-        [ What.Declares role ↦ λ e. absurd (true≢false e) | What.Reads ↦ λ e. absurd (true≢false e) | What.Assigns ↦ λ e. absurd (true≢false e)
-        | What.Misuses ↦ λ e. refl | What.LoopWord ↦ λ e. refl | What.Returns ↦ λ e. refl | What.Begins ↦ λ e. refl ]
+    λ w. elim w as (λ w. is_name w ≡ false → declared_at w s.scopes text ≡ None) [
+      | What.Declares role ↦ λ e. absurd (true≢false e)
+      | What.Reads ↦ λ e. absurd (true≢false e)
+      | What.Assigns ↦ λ e. absurd (true≢false e)
+      | What.Misuses ↦ λ e. refl
+      | What.LoopWord ↦ λ e. refl
+      | What.Returns ↦ λ e. refl
+      | What.Begins ↦ λ e. refl
+    ]
     in
     record {
       outer = k.outer;
@@ -83,9 +95,10 @@ knows_site ps r scopes a what name k h = (site_known ps _ r.declared r.begin k h
 
 knows_read : (ps : List Place) (r : AreRight ps) (scopes : List Scope) (a : Around) (name : Name) → ScopesKnown ps a.owner scopes → Knows ps (read_site scopes a name)
 knows_read ps r scopes a name k =
-    elim (is_object name.text) as (λ b. Knows ps (if b then site scopes a What.Misuses name else (if is_undefined name.text then [] else site scopes a What.Reads name)))
-    [ true ↦ knows_site ps r scopes a What.Misuses name k
-    | false ↦ elim (is_undefined name.text) as (λ b. Knows ps (if b then [] else site scopes a What.Reads name)) [ true ↦ λ h. tt | false ↦ knows_site ps r scopes a What.Reads name k ] ]
+    elim (is_object name.text) as (λ b. Knows ps (if b then site scopes a What.Misuses name else (if is_undefined name.text then [] else site scopes a What.Reads name))) [
+      | true ↦ knows_site ps r scopes a What.Misuses name k
+      | false ↦ elim (is_undefined name.text) as (λ b. Knows ps (if b then [] else site scopes a What.Reads name)) [ true ↦ λ h. tt | false ↦ knows_site ps r scopes a What.Reads name k ]
+    ]
 
 knows_assign : (ps : List Place) (r : AreRight ps) (scopes : List Scope) (a : Around) (name : Name) → ScopesKnown ps a.owner scopes → Knows ps (assign_site scopes a name)
 knows_assign ps r scopes a name k =
@@ -117,6 +130,7 @@ knows_function ps r scopes f spot names ss sites known own vars g h =
 
 mutual
   unfolding expr_sites form_sites exprs_sites fields_sites perhaps_sites declarators_sites start_sites stmt_sites stmt_form_sites stmts_sites
+
   expr_knows : (ps : List Place) (r : AreRight ps) (scopes : List Scope) (a : Around) (e : PlainExpr) → ScopesKnown ps a.owner scopes → Knows ps (expr_sites scopes a e)
   expr_knows ps r scopes a (t.at parens line form) k = form_knows ps r scopes a form k
 
@@ -235,8 +249,8 @@ unfolding functions_of found found_var
 scopes_first ps s w owner own vars =
     let same : functions_of (s ∷ []) ≡ top ∷ [] = ap (λ (b : Bool). (if b then s.owner ∷ [] else []) ++ []) w ∙ ap (λ z. z ∷ []) owner in
     let look : (q : List ℕ) (d : Declared) (o : Option Declared) → (or_else (s.own q) (s.vars q) ≡ o) → or_else o None ≡ Some d → IsDeclared ps d × In d.owner (top ∷ []) =
-        λ q d o. elim o as (λ o. (or_else (s.own q) (s.vars q) ≡ o) → or_else o None ≡ Some d → IsDeclared ps d × In d.owner (top ∷ []))
-        [ None ↦ λ m h. cc | Some c ↦ λ m h. let z = declared-is ps top c d h (here_known ps top s own vars q c m) in (z.0, inl z.1) ]
+    λ q d o. elim o as (λ o. (or_else (s.own q) (s.vars q) ≡ o) → or_else o None ≡ Some d → IsDeclared ps d × In d.owner (top ∷ []))
+    [ None ↦ λ m h. cc | Some c ↦ λ m h. let z = declared-is ps top c d h (here_known ps top s own vars q c m) in (z.0, inl z.1) ]
     in
     record {
       outer = [];

@@ -1,22 +1,21 @@
 -- A function that begins in a program is there, and its slots hold its parameters and what it copies.
-use Rattle.std.proofs.Common.{◌≡◌, ◌∙◌, ◌⊎◌, inl, inr, ℕ, zero, suc, ◌+◌, ◌<◌, ◌≤◌, List, [], ◌∷◌, ◌++◌, append_assoc, append-nil, refl, ap, sym, subst, length, length-append, map, fold, arith, Option, Some, None, Bool, true, false, not, ◌&&◌, ◌||◌, if◌then◌else◌, nat_eq}
-use Rattle.std.proofs.lemmas.Bool.{lt-ltb, eqb-true, eqb-false, eq-eqb, ne_eqb, and_parts, false≢true, true≢false}
+use Rattle.std.proofs.Common.{◌≡◌, ◌∙◌, inl, inr, ℕ, suc, ◌+◌, ◌<◌, ◌≤◌, List, [], ◌∷◌, ◌++◌, append_assoc, append-nil, refl, ap, sym, subst, length, length-append, map, fold, arith, Option, Some, None, Bool, true, false, not, ◌||◌, if◌then◌else◌, nat_eq}
+use Rattle.std.proofs.lemmas.Bool.{lt-ltb, eqb-true, eqb-false, ne_eqb}
 use Rattle.std.proofs.lemmas.Option.{slice_get-map}
 use Rattle.std.specs.Prelude.{is_some, unwrap_or, nat_lt, slice_get, option_map}
-use Rattle.std.specs.List.{flat_map, filter_map, prefix_len}
+use Rattle.std.specs.List.{flat_map, prefix_len}
 use Rattle.js_program.specs.PlainProgram.{PlainBody, PlainProgram}
 use Rattle.js_program.specs.Sound.{all_below, captures_fit, function_fits}
 use Rattle.js_names.specs.declared.place.Role.{Role}
-use Rattle.js_names.specs.declared.place.Role.TheVariants.{Parameter, Const, Let, Var, Function}
+use Rattle.js_names.specs.declared.place.Role.TheVariants.{Parameter}
 use Rattle.js_names.specs.declared.place.What.{What}
-use Rattle.js_names.specs.Scopes.{top}
 use Rattle.js_names.specs.Places.{Place}
-use Rattle.js_names.specs.Slots.{Holding, hold, held_by, inside, is_among, joins, first_uses, assigned_in, holdings, slots_of, captures, parameter_in, parameter_at, captures_in, variable_in}
-use Rattle.js_resolver.specs.Variables.{index_in, code_at, around_of, capture_slots}
+use Rattle.js_names.specs.Slots.{held_by, inside, is_among, joins, first_uses, assigned_in, holdings, slots_of, captures, parameter_in, parameter_at, captures_in, variable_in}
+use Rattle.js_resolver.specs.Variables.{index_in, code_at, capture_slots}
 use Rattle.js_names.specs.Slots.{functions_in}
 use Rattle.js_resolver.proofs.SoundFunctions.{captures_in_order}
-use Rattle.js_resolver.proofs.SoundLists.{In, HasPlace, held-append, in-first_uses}
-use Rattle.js_resolver.proofs.SoundPlaces.{IsKnown, IsDeclared, ArePlaced, IsCopied, captured, held-place, captures_there}
+use Rattle.js_resolver.proofs.SoundLists.{In, held-append, in-first_uses}
+use Rattle.js_resolver.proofs.SoundPlaces.{IsDeclared, ArePlaced, IsCopied, captured, held-place}
 use Rattle.js_resolver.proofs.SoundNodes.{slots_in, parameter_count}
 
 abbrev pub NoRepeats : List ℕ → Type 0
@@ -28,13 +27,14 @@ at-prefix f [] h = absurd h
 at-prefix f (y ∷ ys) h =
     let k = prefix_len (λ y. not (nat_eq f y)) ys in
     let cases : (b : Bool) → (nat_eq f y ≡ b) → ((if not b then 1 + k else 0) < suc (length ys)) × (slice_get (y ∷ ys) (if not b then 1 + k else 0) ≡ Some f) =
-        λ b. elim b as (λ b. (nat_eq f y ≡ b) → ((if not b then 1 + k else 0) < suc (length ys)) × (slice_get (y ∷ ys) (if not b then 1 + k else 0) ≡ Some f))
-        [ true ↦ λ e. (omega arith, ap Some (sym (eqb-true f y e)))
-        | false ↦ λ e.
-            let later : In f ys = elim h as (λ _. In f ys) [ inl m ↦ absurd (eqb-false f y e m) | inr m ↦ m ] in
-            let r = at-prefix f ys later in
-            let next : suc k ≡ 1 + k = omega arith in
-            (omega (arith, r.0), subst (λ j. slice_get (y ∷ ys) j ≡ Some f) next r.1) ]
+    λ b. elim b as (λ b. (nat_eq f y ≡ b) → ((if not b then 1 + k else 0) < suc (length ys)) × (slice_get (y ∷ ys) (if not b then 1 + k else 0) ≡ Some f)) [
+      | true ↦ λ e. (omega arith, ap Some (sym (eqb-true f y e)))
+      | false ↦ λ e.
+          let later : In f ys = elim h as (λ _. In f ys) [ inl m ↦ absurd (eqb-false f y e m) | inr m ↦ m ] in
+          let r = at-prefix f ys later in
+          let next : suc k ≡ 1 + k = omega arith in
+          (omega (arith, r.0), subst (λ j. slice_get (y ∷ ys) j ≡ Some f) next r.1)
+    ]
     in
     cases (nat_eq f y) refl
 
@@ -55,7 +55,7 @@ function_there p ps slots f e h fits =
     let fs = functions_in ps in
     let i = index_in fs f in
     let at : option_map (λ (c : PlainBody). c.captures) (slice_get p.functions i) ≡ Some (capture_slots ps f) =
-        sym (slice_get-map (λ (c : PlainBody). c.captures) p.functions i) ∙ (ap (λ xs. slice_get xs i) e ∙ (slice_get-map (capture_slots ps) fs i ∙ ap (option_map (capture_slots ps)) (at-index f fs h)))
+    sym (slice_get-map (λ (c : PlainBody). c.captures) p.functions i) ∙ (ap (λ xs. slice_get xs i) e ∙ (slice_get-map (capture_slots ps) fs i ∙ ap (option_map (capture_slots ps)) (at-index f fs h)))
     in
     copies-fit slots (slice_get p.functions i) (capture_slots ps f) at fits
 
@@ -101,8 +101,8 @@ inside-apart : (owner f : ℕ) (fs : List ℕ) → In f (inside owner fs) → f 
 inside-apart owner f [] h e = h
 inside-apart owner f (g ∷ gs) h e =
     let cases : (b : Bool) → (nat_eq g owner ≡ b) → In f (if b then [] else g ∷ inside owner gs) → ⊥ =
-        λ b. elim b as (λ b. (nat_eq g owner ≡ b) → In f (if b then [] else g ∷ inside owner gs) → ⊥)
-        [ true ↦ λ m k. k | false ↦ λ m k. elim k as (λ _. ⊥) [ inl n ↦ eqb-false g owner m (sym n ∙ e) | inr n ↦ inside-apart owner f gs n e ] ]
+    λ b. elim b as (λ b. (nat_eq g owner ≡ b) → In f (if b then [] else g ∷ inside owner gs) → ⊥)
+    [ true ↦ λ m k. k | false ↦ λ m k. elim k as (λ _. ⊥) [ inl n ↦ eqb-false g owner m (sym n ∙ e) | inr n ↦ inside-apart owner f gs n e ] ]
     in
     cases (nat_eq g owner) refl h
 
@@ -110,8 +110,8 @@ inside-apart owner f (g ∷ gs) h e =
 parameter-held : (q : Place) (f v : ℕ) (w : What) → q.what ≡ w → In v (held_by f (parameter_at w q)) → (role : Role) × (q.what ≡ What.Declares role) × (q.around.owner ≡ f) × (v ≡ q.name.spot.at)
 parameter-held q f v (What.Declares Parameter) e h =
     let cases : (b : Bool) → (nat_eq q.around.owner f ≡ b) → In v (if b then q.name.spot.at ∷ [] else []) → (role : Role) × (q.what ≡ What.Declares role) × (q.around.owner ≡ f) × (v ≡ q.name.spot.at) =
-        λ b. elim b as (λ b. (nat_eq q.around.owner f ≡ b) → In v (if b then q.name.spot.at ∷ [] else []) → (role : Role) × (q.what ≡ What.Declares role) × (q.around.owner ≡ f) × (v ≡ q.name.spot.at))
-        [ true ↦ λ m k. elim k as (λ _. (role : Role) × (q.what ≡ What.Declares role) × (q.around.owner ≡ f) × (v ≡ q.name.spot.at)) [ inl n ↦ (Parameter, e, eqb-true q.around.owner f m, n) | inr n ↦ absurd n ] | false ↦ λ m k. absurd k ]
+    λ b. elim b as (λ b. (nat_eq q.around.owner f ≡ b) → In v (if b then q.name.spot.at ∷ [] else []) → (role : Role) × (q.what ≡ What.Declares role) × (q.around.owner ≡ f) × (v ≡ q.name.spot.at))
+    [ true ↦ λ m k. elim k as (λ _. (role : Role) × (q.what ≡ What.Declares role) × (q.around.owner ≡ f) × (v ≡ q.name.spot.at)) [ inl n ↦ (Parameter, e, eqb-true q.around.owner f m, n) | inr n ↦ absurd n ] | false ↦ λ m k. absurd k ]
     in
     cases (nat_eq q.around.owner f) refl h
 parameter-held q f v _ e h = absurd h
@@ -125,15 +125,15 @@ function_room ps f h alone =
     let ys = held_by f (flat_map (captures_in assigned) ps) in
     let zs = held_by f (flat_map (variable_in assigned) ps) in
     let all : held_by f (holdings assigned ps) ≡ xs ++ (ys ++ zs) =
-        held-append f (flat_map parameter_in ps) (flat_map (captures_in assigned) ps ++ flat_map (variable_in assigned) ps) ∙ ap (λ z. xs ++ z) (held-append f (flat_map (captures_in assigned) ps) (flat_map (variable_in assigned) ps))
+    held-append f (flat_map parameter_in ps) (flat_map (captures_in assigned) ps ++ flat_map (variable_in assigned) ps) ∙ ap (λ z. xs ++ z) (held-append f (flat_map (captures_in assigned) ps) (flat_map (variable_in assigned) ps))
     in
     let apart : (v : ℕ) → In v ys → In v xs → ⊥ = λ v m n.
-        let c : IsCopied ps f v = captured ps f v (in-first_uses v ys m) in
-        let q = held-place parameter_in f v ps n in
-        let own = parameter-held q.0 f v q.0.what refl q.2 in
-        let there = (h.known q.0 q.1).declares own.0 own.1 in
-        let d : IsDeclared ps c.declared = ((h.known c.place c.has).found c.declared c.is).0 in
-        let same : q.0.around.owner ≡ d.place.around.owner = h.apart q.0 d.place q.1 d.has (ap is_some there.1) d.named (sym own.3 ∙ (c.variable ∙ sym d.spot)) in
-        inside-apart c.declared.owner f c.place.functions c.within (sym own.2 ∙ (same ∙ d.owner))
+    let c : IsCopied ps f v = captured ps f v (in-first_uses v ys m) in
+    let q = held-place parameter_in f v ps n in
+    let own = parameter-held q.0 f v q.0.what refl q.2 in
+    let there = (h.known q.0 q.1).declares own.0 own.1 in
+    let d : IsDeclared ps c.declared = ((h.known c.place c.has).found c.declared c.is).0 in
+    let same : q.0.around.owner ≡ d.place.around.owner = h.apart q.0 d.place q.1 d.has (ap is_some there.1) d.named (sym own.3 ∙ (c.variable ∙ sym d.spot)) in
+    inside-apart c.declared.owner f c.place.functions c.within (sym own.2 ∙ (same ∙ d.owner))
     in
     subst (λ z. length xs + length (first_uses ys) ≤ length (first_uses z)) (sym all) (room-for xs ys zs alone apart)

@@ -1,10 +1,10 @@
 -- What the scopes of a program declare stands at its places.
-use Rattle.std.proofs.Common.{◌≡◌, ◌∙◌, ◌⊎◌, inl, inr, ℕ, zero, suc, List, [], ◌∷◌, ◌++◌, refl, ap, sym, subst, map, Option, Some, None, Bool, true, false, not, ◌&&◌, ◌||◌, if◌then◌else◌, nat_eq}
+use Rattle.std.proofs.Common.{◌≡◌, ◌∙◌, inl, inr, ℕ, List, [], ◌∷◌, ◌++◌, refl, ap, sym, subst, Option, Some, None, Bool, true, false, not, ◌&&◌, ◌||◌, if◌then◌else◌, nat_eq}
 use Rattle.std.proofs.lemmas.Bool.{eq-eqb, and_right, false≢true, true≢false}
 use Rattle.std.specs.Prelude.{is_some, max}
 use Rattle.std.proofs.lemmas.Slice.Eq.{bytes_eq-Decides}
 use Rattle.std.specs.Str.{bytes_eq}
-use Rattle.std.specs.List.{flat_map, filter_map, cons_option}
+use Rattle.std.specs.List.{filter_map, cons_option}
 use Rattle.js_tree.specs.declared.tree.Name.{Name}
 use Rattle.js_tree.specs.declared.tree.DeclareKind.{DeclareKind}
 use Rattle.js_tree.specs.declared.tree.DeclareKind.TheVariants.{Const as const_word, Let as let_word, Var as var_word}
@@ -15,10 +15,10 @@ use Rattle.js_names.specs.declared.place.Declared.{Declared}
 use Rattle.js_names.specs.declared.place.Role.{Role}
 use Rattle.js_names.specs.declared.place.Role.TheVariants.{Parameter, Const, Let, Var, Function}
 use Rattle.js_names.specs.declared.place.What.{What}
-use Rattle.js_names.specs.Scopes.{Scope, Entry, top, named, first, one_var, merge, entry, own_declarator, own_declarators, var_declarator, var_declarators, own_of, own_of_all, own_of_start, vars_of, vars_of_form, vars_of_all, vars_of_start, parameter, parameters, own_of_item, vars_of_item, block_scope, for_scope, each_scope, each_role, function_scope, program_scope}
-use Rattle.js_names.specs.Sites.{Site, site, in_function, in_loop, begin_site, parameter_sites, declared_role, expr_sites, exprs_sites, perhaps_sites, declarators_sites, start_sites, stmt_sites, stmt_form_sites, stmts_sites, item_sites}
-use Rattle.js_names.specs.Places.{Place, see, found, found_var, found_here, or_else, is_parameter, is_var, is_function}
-use Rattle.js_names.specs.Slots.{held_by, is_among, hold, assigned_in, is_constant, constants_of, constant_at, constant_in, slots_of, first_uses, parameter_in, parameter_at, variable_in, variable_at, variable_of}
+use Rattle.js_names.specs.Scopes.{Scope, Entry, top, named, first, one_var, merge, entry, own_declarator, own_declarators, var_declarator, var_declarators, own_of, own_of_all, own_of_start, vars_of, vars_of_form, vars_of_all, vars_of_start, parameters, block_scope, for_scope, each_scope, each_role}
+use Rattle.js_names.specs.Sites.{Site, site, in_function, in_loop, parameter_sites, declared_role, expr_sites, perhaps_sites, declarators_sites, start_sites, stmt_sites, stmt_form_sites, stmts_sites}
+use Rattle.js_names.specs.Places.{Place, see, found, found_var, is_parameter, is_function}
+use Rattle.js_names.specs.Slots.{held_by, is_among, hold, assigned_in, is_constant, constants_of, constant_at, constant_in, slots_of, parameter_in, parameter_at, variable_in, variable_at, variable_of}
 use Rattle.js_resolver.proofs.SoundLists.{In, in-first_uses, HasPlace, held-from, parameter_slot, variable_slot}
 use Rattle.js_resolver.proofs.SoundPlaces.{IsDeclared}
 use Rattle.js_resolver.proofs.SoundFine.{AllHave}
@@ -36,23 +36,23 @@ unfolding constants_of
 declared_variable ps q role d has what e variable spot owner =
     let assigned = assigned_in ps in
     let at : variable_at q.what q.declared ≡ Some d =
-        ap (λ w. variable_at w q.declared) what ∙ (ap (variable_at (What.Declares role)) e ∙ ap (λ (b : Bool). if b then None else Some d) variable)
+    ap (λ w. variable_at w q.declared) what ∙ (ap (variable_at (What.Declares role)) e ∙ ap (λ (b : Bool). if b then None else Some d) variable)
     in
     let constant : is_constant assigned d ≡ true → In d.place (constants_of assigned ps) = λ c.
-        let here : constant_at assigned q ≡ Some d.place = ap (constant_in assigned) at ∙ ap (λ (b : Bool). if b then Some d.place else None) c in
-        in-first_uses d.place (filter_map (constant_at assigned) ps) (constant-from (constant_at assigned) d.place q ps has here)
+    let here : constant_at assigned q ≡ Some d.place = ap (constant_in assigned) at ∙ ap (λ (b : Bool). if b then Some d.place else None) c in
+    in-first_uses d.place (filter_map (constant_at assigned) ps) (constant-from (constant_at assigned) d.place q ps has here)
     in
     let slot : is_constant assigned d ≡ false → In d.place (slots_of assigned d.owner ps) = λ c.
-        let here : variable_in assigned q ≡ hold d.owner d.place ∷ [] = ap (variable_of assigned) at ∙ ap (λ (b : Bool). if b then [] else hold d.owner d.place ∷ []) c in
-        let held : In d.place (held_by d.owner (hold d.owner d.place ∷ [])) = subst (λ b. In d.place (if b then d.place ∷ [] else [])) (sym (eq-eqb d.owner d.owner refl)) (inl refl) in
-        variable_slot assigned ps d.owner d.place (held-from (variable_in assigned) d.owner d.place q ps has (subst (λ z. In d.place (held_by d.owner z)) (sym here) held))
+    let here : variable_in assigned q ≡ hold d.owner d.place ∷ [] = ap (variable_of assigned) at ∙ ap (λ (b : Bool). if b then [] else hold d.owner d.place ∷ []) c in
+    let held : In d.place (held_by d.owner (hold d.owner d.place ∷ [])) = subst (λ b. In d.place (if b then d.place ∷ [] else [])) (sym (eq-eqb d.owner d.owner refl)) (inl refl) in
+    variable_slot assigned ps d.owner d.place (held-from (variable_in assigned) d.owner d.place q ps has (subst (λ z. In d.place (held_by d.owner z)) (sym here) held))
     in
     record { constant = constant; slot = slot; place = q; has = has; spot = spot; owner = owner; named = ap is_some e }
 
 parameter_variable : (assigned : List ℕ) (d : Declared) → is_parameter d.role ≡ true → d.direct ≡ false → is_constant assigned d ≡ false
 parameter_variable assigned d h e =
     let role : (r : Role) → is_parameter r ≡ true → is_function r ≡ false = λ r. elim r as (λ r. is_parameter r ≡ true → is_function r ≡ false)
-        [ Parameter ↦ λ k. refl | Const ↦ λ k. refl | Let ↦ λ k. refl | Var ↦ λ k. refl | Function ↦ λ k. absurd (false≢true k) ]
+    [ Parameter ↦ λ k. refl | Const ↦ λ k. refl | Let ↦ λ k. refl | Var ↦ λ k. refl | Function ↦ λ k. absurd (false≢true k) ]
     in
     ap (λ (b : Bool). b || (nat_eq d.owner top && (d.direct && not (is_among d.place assigned)))) (role d.role h)
     ∙ (ap (λ (b : Bool). nat_eq d.owner top && (b && not (is_among d.place assigned))) e ∙ and_right (nat_eq d.owner top) false refl)
@@ -109,9 +109,10 @@ stated_declares ps look f q d x s l m place owns roles direct =
     let at : s.place.declared ≡ Some d = s.declared ∙ (ap look ((bytes_eq-Decides x.name q).0 m) ∙ l) in
     let owner : s.place.around.owner ≡ d.owner = s.owner ∙ (sym s.same ∙ owns) in
     let spot : s.place.name.spot.at ≡ d.place = s.spot ∙ place in
-    let role : (b : Bool) → (is_parameter d.role ≡ b) → IsDeclared ps d = λ b. elim b as (λ b. (is_parameter d.role ≡ b) → IsDeclared ps d)
-        [ true ↦ λ n. let r = s.parameter (ap is_parameter roles ∙ n) in declared_parameter ps s.place d s.has (s.what ∙ ap What.Declares r.0) at n (direct r.1) spot owner
-        | false ↦ λ n. declared_variable ps s.place s.role d s.has s.what at n spot owner ]
+    let role : (b : Bool) → (is_parameter d.role ≡ b) → IsDeclared ps d = λ b. elim b as (λ b. (is_parameter d.role ≡ b) → IsDeclared ps d) [
+      | true ↦ λ n. let r = s.parameter (ap is_parameter roles ∙ n) in declared_parameter ps s.place d s.has (s.what ∙ ap What.Declares r.0) at n (direct r.1) spot owner
+      | false ↦ λ n. declared_variable ps s.place s.role d s.has s.what at n spot owner
+    ]
     in
     (role (is_parameter d.role) refl, sym owner ∙ s.owner)
 
@@ -121,11 +122,12 @@ own_declares ps look f q d [] h e l = cc
 own_declares ps look f q d (x ∷ xs) h e l =
     let Goal : Type 0 = IsDeclared ps d × (d.owner ≡ f) in
     let cases : (b : Bool) → (bytes_eq x.name q ≡ b) → first (if b then x.declared ∷ named q xs else named q xs) ≡ Some d → Goal =
-        λ b. elim b as (λ b. (bytes_eq x.name q ≡ b) → first (if b then x.declared ∷ named q xs else named q xs) ≡ Some d → Goal)
-        [ true ↦ λ m k.
-            let is : x.declared ≡ d = cc in
-            stated_declares ps look f q d x h.0 l m (ap (λ (z : Declared). z.place) is) (ap (λ (z : Declared). z.owner) is) (ap (λ (z : Declared). z.role) is) (λ n. sym (ap (λ (z : Declared). z.direct) is) ∙ n)
-        | false ↦ λ m k. own_declares ps look f q d xs h.1 k l ]
+    λ b. elim b as (λ b. (bytes_eq x.name q ≡ b) → first (if b then x.declared ∷ named q xs else named q xs) ≡ Some d → Goal) [
+      | true ↦ λ m k.
+          let is : x.declared ≡ d = cc in
+          stated_declares ps look f q d x h.0 l m (ap (λ (z : Declared). z.place) is) (ap (λ (z : Declared). z.owner) is) (ap (λ (z : Declared). z.role) is) (λ n. sym (ap (λ (z : Declared). z.direct) is) ∙ n)
+      | false ↦ λ m k. own_declares ps look f q d xs h.1 k l
+    ]
     in
     cases (bytes_eq x.name q) refl e
 
@@ -140,8 +142,8 @@ vars_declare ps look f q d [] h e l = cc
 vars_declare ps look f q d (x ∷ xs) h e l =
     let Goal : Type 0 = IsDeclared ps d × (d.owner ≡ f) in
     let cases : (b : Bool) → (bytes_eq x.name q ≡ b) → one_var (if b then x.declared ∷ named q xs else named q xs) ≡ Some d → Goal =
-        λ b. elim b as (λ b. (bytes_eq x.name q ≡ b) → one_var (if b then x.declared ∷ named q xs else named q xs) ≡ Some d → Goal)
-        [ true ↦ λ m k. let r = merge_first x.declared (one_var (named q xs)) d k in stated_declares ps look f q d x h.0 l m r.0 r.1 r.2 r.3 | false ↦ λ m k. vars_declare ps look f q d xs h.1 k l ]
+    λ b. elim b as (λ b. (bytes_eq x.name q ≡ b) → one_var (if b then x.declared ∷ named q xs else named q xs) ≡ Some d → Goal)
+    [ true ↦ λ m k. let r = merge_first x.declared (one_var (named q xs)) d k in stated_declares ps look f q d x h.0 l m r.0 r.1 r.2 r.3 | false ↦ λ m k. vars_declare ps look f q d xs h.1 k l ]
     in
     cases (bytes_eq x.name q) refl e
 
@@ -215,6 +217,7 @@ stated_start_vars ps scopes a (t.started e) h = tt
 
 mutual
   unfolding stmt_sites stmt_form_sites stmts_sites found_var block_scope for_scope each_scope
+
   pub stmt_vars : (ps : List Place) (scopes : List Scope) (a : Around) (direct : Bool) (s : PlainStmt) → AllHave ps (stmt_sites scopes a s) → AllStated ps (found_var scopes) a.owner (vars_of a.owner direct s)
   stmt_vars ps scopes a direct (t.on line form) h = form_vars ps scopes a direct form h
 
