@@ -12,3 +12,4 @@ pub mod SoundFine
 pub mod SoundScopes
 pub mod SoundKnown
 pub mod SoundResolved
+mod SoundExamples
