@@ -1,4 +1,4 @@
-//! Weights and nestings at their limits and one past.
+//! Weights and nestings at their limits and one past. A line has the name of a making, its numbers and its outcome.
 ghost use Rattle.std.specs.Prelude.{IfOk};
 ghost use Rattle.js_value.specs.Value.{IsSortedValue};
 ghost use Rattle.js_value.specs.Views.{plain_value};
@@ -7,6 +7,7 @@ use crate::words::{outcome, text, value_of};
 use js_ops::{apply, make, method};
 use js_value::{Make, Method, Op, SetTree, Text, Value};
 use std::alloc::Global;
+use std::process::Abort;
 use std::test::Fail;
 
 // A text of this many bytes, which weighs one more.
@@ -74,31 +75,6 @@ fn negated(alloc: Global, count: u32) -> Result<&'static str, Fail> {
     Ok(outcome(&method(alloc, Method::Negate, &heavy, &[])))
 }
 
-#[test]
-fn texts_lists_and_fields_weigh_65536(rt: HostRuntime) -> Result<(), Fail> {
-    for (past, want) in [(0, "ok"), (1, "weight")] {
-        assert_eq!(rt; joined_text(rt.alloc(), 65_534 + past)?, want);
-        assert_eq!(rt; list_outcome(rt.alloc(), 65_534 + past)?, want);
-        assert_eq!(rt; appended(rt.alloc(), 65_533 + past)?, want);
-        assert_eq!(rt; fields_outcome(rt.alloc(), 65_531 + past)?, want);
-        assert_eq!(rt; repeated_key(rt.alloc(), 65_532 + past)?, want);
-    }
-    Ok(())
-}
-
-#[test]
-fn sets_weigh_65536(rt: HostRuntime) -> Result<(), Fail> {
-    for (past, want) in [(0, "ok"), (1, "weight")] {
-        assert_eq!(rt; predicate_outcome(rt.alloc(), 65_534 + past)?, want);
-        assert_eq!(rt; negated(rt.alloc(), 65_533 + past)?, want);
-        for name in [Method::Or, Method::And, Method::Xor] {
-            let found = with_all(rt.alloc(), name, 65_532 + past)?;
-            assert_eq!(rt; found, want, "{name:?}");
-        }
-    }
-    Ok(())
-}
-
 // This many lists, one in another; at most 63.
 fn nested(alloc: Global, lists: u32) -> Result<Value, Fail>
     ensures { IfOk result (λ v. IsSortedValue (plain_value v)) }
@@ -159,42 +135,6 @@ fn negated_lists(alloc: Global, count: u32) -> Result<&'static str, Fail> {
     Ok(outcome(&method(alloc, Method::Negate, &set, &[])))
 }
 
-#[test]
-fn lists_and_fields_nest_64_deep(rt: HostRuntime) -> Result<(), Fail> {
-    for (count, want) in [(63, "ok"), (64, "nesting")] {
-        assert_eq!(rt; list_of_lists(rt.alloc(), count)?, want);
-        assert_eq!(rt; fields_of_lists(rt.alloc(), count)?, want);
-        assert_eq!(rt; appended_fields(rt.alloc(), count)?, want);
-    }
-    Ok(())
-}
-
-#[test]
-fn sets_nest_64_deep(rt: HostRuntime) -> Result<(), Fail> {
-    for (count, want) in [(63, "ok"), (64, "nesting")] {
-        for name in [Method::Or, Method::And, Method::Xor] {
-            let found = united_lists(rt.alloc(), name, count)?;
-            assert_eq!(rt; found, want, "{name:?}");
-        }
-        assert_eq!(rt; negated_lists(rt.alloc(), count - 1)?, want);
-    }
-    Ok(())
-}
-
-#[test]
-fn weight_comes_before_nesting(rt: HostRuntime) -> Result<(), Fail> {
-    for (count, size, want) in [
-        (63, 1, "ok"),
-        (64, 1, "nesting"),
-        (63, 65_535, "weight"),
-        (64, 65_535, "weight"),
-    ] {
-        let found = list_of_lists_and_text(rt.alloc(), count, size)?;
-        assert_eq!(rt; found, want, "{count} {size}");
-    }
-    Ok(())
-}
-
 fn event_named(alloc: Global, count: u32) -> Result<&'static str, Fail> {
     let name = letters(alloc, count)?;
     Ok(outcome(&make(alloc, Make::Event, &[name], &[])))
@@ -211,20 +151,122 @@ fn event_with_lists(alloc: Global, size: u32, count: u32) -> Result<&'static str
     Ok(outcome(&make(alloc, Make::Event, &[name, extra], &[])))
 }
 
-#[test]
-fn events_weigh_1024_and_nest_64_deep(rt: HostRuntime) -> Result<(), Fail> {
-    for (past, want) in [(0, "ok"), (1, "weight")] {
-        assert_eq!(rt; event_named(rt.alloc(), 1_022 + past)?, want);
-        assert_eq!(rt; event_with_null(rt.alloc(), 1_021 + past)?, want);
+fn weighed(alloc: Global, name: &str, count: u32) -> Result<&'static str, Fail> {
+    match name {
+        "joined text" => joined_text(alloc, count),
+        "list of text" => list_outcome(alloc, count),
+        "list and null" => appended(alloc, count),
+        "fields of text" => fields_outcome(alloc, count),
+        "one key twice" => repeated_key(alloc, count),
+        "predicate" => predicate_outcome(alloc, count),
+        "negate predicate" => negated(alloc, count),
+        "or predicate" => with_all(alloc, Method::Or, count),
+        "and predicate" => with_all(alloc, Method::And, count),
+        "xor predicate" => with_all(alloc, Method::Xor, count),
+        "event" => event_named(alloc, count),
+        "event and null" => event_with_null(alloc, count),
+        _ => nests(alloc, name, count),
     }
-    for (size, count, want) in [
-        (1, 63, "ok"),
-        (1, 64, "nesting"),
-        (1_023, 63, "weight"),
-        (1_023, 64, "weight"),
-    ] {
-        let found = event_with_lists(rt.alloc(), size, count)?;
-        assert_eq!(rt; found, want, "{size} {count}");
+}
+
+fn nests(alloc: Global, name: &str, count: u32) -> Result<&'static str, Fail> {
+    match name {
+        "list of lists" => list_of_lists(alloc, count),
+        "fields of lists" => fields_of_lists(alloc, count),
+        "appended fields" => appended_fields(alloc, count),
+        "or lists" => united_lists(alloc, Method::Or, count),
+        "and lists" => united_lists(alloc, Method::And, count),
+        "xor lists" => united_lists(alloc, Method::Xor, count),
+        "negate lists" => negated_lists(alloc, count),
+        _ => Err("no making has this name")?,
+    }
+}
+
+// The outcome of the making of this name, by one number or two.
+fn made(alloc: Global, name: &str, numbers: &str) -> Result<&'static str, Fail> {
+    let Some((first, second)) = numbers.split_once(" | ") else {
+        return weighed(alloc, name, numbers.parse::<u32>()?);
+    };
+    let one = first.parse::<u32>()?;
+    let two = second.parse::<u32>()?;
+    match name {
+        "lists and text" => list_of_lists_and_text(alloc, one, two),
+        "event of lists" => event_with_lists(alloc, one, two),
+        _ => Err("no making has this name")?,
+    }
+}
+
+fn agree(rt: &impl Abort, alloc: Global, table: &str) -> Result<(), Fail> {
+    for line in table.trim().lines() {
+        let (call, want) = line.rsplit_once(" | ").ok_or("no outcome")?;
+        let (name, numbers) = call.split_once(" | ").ok_or("no number")?;
+        let found = made(alloc, name, numbers)?;
+        assert_eq!(rt; found, want, "{line}");
     }
     Ok(())
+}
+
+// Texts, lists, fields and sets weigh at most 65536, events at most 1024.
+const WEIGHTS: &str = "
+joined text | 65534 | ok
+joined text | 65535 | weight
+list of text | 65534 | ok
+list of text | 65535 | weight
+list and null | 65533 | ok
+list and null | 65534 | weight
+fields of text | 65531 | ok
+fields of text | 65532 | weight
+one key twice | 65532 | ok
+one key twice | 65533 | weight
+predicate | 65534 | ok
+predicate | 65535 | weight
+negate predicate | 65533 | ok
+negate predicate | 65534 | weight
+or predicate | 65532 | ok
+or predicate | 65533 | weight
+and predicate | 65532 | ok
+and predicate | 65533 | weight
+xor predicate | 65532 | ok
+xor predicate | 65533 | weight
+event | 1022 | ok
+event | 1023 | weight
+event and null | 1021 | ok
+event and null | 1022 | weight
+";
+
+// Lists, fields and sets nest at most 64 deep.
+const NESTINGS: &str = "
+list of lists | 63 | ok
+list of lists | 64 | nesting
+fields of lists | 63 | ok
+fields of lists | 64 | nesting
+appended fields | 63 | ok
+appended fields | 64 | nesting
+or lists | 63 | ok
+or lists | 64 | nesting
+and lists | 63 | ok
+and lists | 64 | nesting
+xor lists | 63 | ok
+xor lists | 64 | nesting
+negate lists | 62 | ok
+negate lists | 63 | nesting
+";
+
+// The weight comes before the nesting. Lists and the bytes of a text; the bytes of a name and lists.
+const BOTH: &str = "
+lists and text | 63 | 1 | ok
+lists and text | 64 | 1 | nesting
+lists and text | 63 | 65535 | weight
+lists and text | 64 | 65535 | weight
+event of lists | 1 | 63 | ok
+event of lists | 1 | 64 | nesting
+event of lists | 1023 | 63 | weight
+event of lists | 1023 | 64 | weight
+";
+
+#[test]
+fn weights_and_nestings_have_limits(rt: HostRuntime) -> Result<(), Fail> {
+    agree(&rt, rt.alloc(), WEIGHTS)?;
+    agree(&rt, rt.alloc(), NESTINGS)?;
+    agree(&rt, rt.alloc(), BOTH)
 }
