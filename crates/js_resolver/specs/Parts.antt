@@ -7,7 +7,7 @@ use Rattle.js_program.specs.Views as v
 use Rattle.js_names.specs.Scopes.{top}
 use Rattle.js_names.specs.Places.{Place}
 use Rattle.js_names.specs.Slots.{assigned_in, constants_of}
-use Rattle.js_resolver.specs.declared.resolve.Parts.{Parts}
+use Rattle.js_resolver.specs.declared.program.Parts.{Parts}
 use Rattle.js_resolver.specs.Tables.{first_line}
 use Rattle.js_resolver.specs.Variables.{body_of}
 use Rattle.js_resolver.specs.Nodes.{items_piece}
