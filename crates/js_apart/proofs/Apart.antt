@@ -1,6 +1,6 @@
 -- A tree that tokens in order spell keeps its names apart.
-use Rattle.std.proofs.Common.{◌≡◌, ◌∙◌, inl, inr, ℕ, suc, ◌<◌, ◌≤◌, List, [], ◌∷◌, ◌++◌, refl, ap, sym, subst, length, map, arith, Option, Some, None, Bool, true, false, if◌then◌else◌, nat_eq}
-use Rattle.std.proofs.lemmas.Bool.{false≢true, true≢false}
+use Rattle.std.proofs.Common.{◌≡◌, ◌∙◌, inl, inr, ℕ, suc, ◌≤◌, List, [], ◌∷◌, ◌++◌, refl, ap, sym, subst, length, map, arith, Some, Bool, true, false, if◌then◌else◌, nat_eq}
+use Rattle.std.proofs.lemmas.Bool.{false≢true}
 use Rattle.std.specs.Prelude.{is_some}
 use Rattle.std.specs.List.{flat_map}
 use Rattle.js_lexer.specs.declared.token.Token.{Token}
@@ -13,11 +13,11 @@ use Rattle.js_names.specs.declared.place.Role.TheVariants.{Parameter, Const, Let
 use Rattle.js_names.specs.declared.place.What.{What}
 use Rattle.js_names.specs.Scopes.{top}
 use Rattle.js_names.specs.Sites.{Site, begin_site, program_spot, item_sites, program_sites}
-use Rattle.js_names.specs.Places.{Place, see, places, declared_at, functions_of}
+use Rattle.js_names.specs.Places.{Place, see, places, declared_at}
 use Rattle.js_names.specs.Slots.{held_by, parameter_in, parameter_at, is_begin}
 use Rattle.js_resolver.specs.Variables.{second}
 use Rattle.js_resolver.proofs.SoundFunctions.{begun}
-use Rattle.js_resolver.proofs.SoundKnown.{AllDeclared, BeginApart}
+use Rattle.js_resolver.proofs.SoundKnown.{AllDeclared}
 use Rattle.js_resolver.proofs.SoundLists.{In, HasPlace}
 use Rattle.js_resolver.proofs.SoundPlaces.{is_name}
 use Rattle.js_resolver.proofs.SoundProgram.{program_scopes}

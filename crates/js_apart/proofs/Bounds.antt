@@ -1,5 +1,5 @@
 -- Numbers that ascend within bounds.
-use Rattle.std.proofs.Common.{◌≡◌, inl, inr, ℕ, suc, ◌<◌, ◌≤◌, List, [], ◌∷◌, ◌++◌, arith}
+use Rattle.std.proofs.Common.{inl, inr, ℕ, suc, ◌<◌, ◌≤◌, List, [], ◌∷◌, ◌++◌, arith}
 use Rattle.js_resolver.proofs.SoundLists.{In}
 use Rattle.js_resolver.proofs.SoundRoom.{NoRepeats}
 

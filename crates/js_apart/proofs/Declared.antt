@@ -1,6 +1,5 @@
 -- What the lists of a tree declare is of their function, and is found in their scopes.
-use Rattle.std.proofs.Common.{◌≡◌, ℕ, List, [], ◌∷◌, ◌++◌, refl, Option, Bool, true, false}
-use Rattle.std.specs.Str.{bytes_eq}
+use Rattle.std.proofs.Common.{ℕ, List, [], ◌∷◌, ◌++◌, refl, Option, Bool, true, false}
 use Rattle.std.specs.List.{flat_map}
 use Rattle.js_tree.specs.declared.tree.Name.{Name}
 use Rattle.js_tree.specs.declared.tree.DeclareKind.{DeclareKind}
@@ -8,11 +7,9 @@ use Rattle.js_tree.specs.declared.tree.DeclareKind.TheVariants.{Const as const_w
 use Rattle.js_tree.specs.Plain as t
 use Rattle.js_tree.specs.Plain.{PlainPerhaps, PlainDeclarators, PlainStart, PlainStmt, PlainStmtForm, PlainStmts, PlainItem}
 use Rattle.js_names.specs.declared.place.Declared.{Declared}
-use Rattle.js_names.specs.declared.place.Role.{Role}
-use Rattle.js_names.specs.declared.place.Role.TheVariants.{Parameter}
 use Rattle.js_names.specs.declared.place.Around.{Around}
 use Rattle.js_names.specs.declared.place.What.{What}
-use Rattle.js_names.specs.Scopes.{Scope, Entry, top, named, one_var, entry, own_declarator, own_declarators, own_of, own_of_all, own_of_start, own_of_item, var_declarator, var_declarators, vars_of, vars_of_form, vars_of_all, vars_of_start, vars_of_item, parameters, block_scope, for_scope, each_scope, each_role, function_scope, program_scope}
+use Rattle.js_names.specs.Scopes.{Scope, top, named, one_var, entry, own_declarator, own_declarators, own_of, own_of_all, own_of_start, own_of_item, var_declarator, var_declarators, vars_of, vars_of_form, vars_of_all, vars_of_start, vars_of_item, parameters, block_scope, for_scope, each_scope, each_role, function_scope, program_scope}
 use Rattle.js_names.specs.Sites.{Site, site, in_function, parameter_sites, declared_role}
 use Rattle.js_names.specs.Places.{found, found_var, declared_at}
 use Rattle.js_apart.proofs.There.{There, AllThere, there_left, there_right, AllOf, of_append, own_there, vars_there}

@@ -1,5 +1,5 @@
 -- Tokens in order, and the names and the functions that stand among them.
-use Rattle.std.proofs.Common.{◌≡◌, ◌∙◌, ℕ, suc, ◌<◌, ◌≤◌, List, [], ◌∷◌, ◌++◌, refl, ap, sym, length, arith, Option, Some, None, Bool, true, false, if◌then◌else◌}
+use Rattle.std.proofs.Common.{◌≡◌, ℕ, ◌<◌, ◌≤◌, List, [], ◌∷◌, ◌++◌, refl, ap, sym, length, arith, Option, Some, None, true, false, if◌then◌else◌}
 use Rattle.js_lexer.specs.declared.token.Token.{Token}
 use Rattle.js_lexer.specs.Cut.{Cut}
 use Rattle.js_lexer.specs.Laws.{ArePlaced}

@@ -1,5 +1,5 @@
 -- Names and functions of a part of a tree stand, in text order, among the tokens that spell the part.
-use Rattle.std.proofs.Common.{◌≡◌, ℕ, suc, ◌<◌, ◌≤◌, List, [], ◌∷◌, ◌++◌, refl, sym, subst, arith, Option, Some, None, Bool, true, false, if◌then◌else◌}
+use Rattle.std.proofs.Common.{◌≡◌, ℕ, ◌≤◌, List, [], ◌∷◌, ◌++◌, refl, sym, subst, arith, Option, Some, None, Bool, true, false, if◌then◌else◌}
 use Rattle.js_lexer.specs.declared.token.Token.{Token}
 use Rattle.js_tree.specs.declared.tree.Name.{Name}
 use Rattle.js_tree.specs.declared.ending.Ending.{Ending}
@@ -7,7 +7,6 @@ use Rattle.js_tree.specs.Nesting.{is_object}
 use Rattle.js_grammar.specs.Sorts.{spot}
 use Rattle.js_grammar.specs.Grammar.{Params, params_none, params_last, params_more, Header, header_name, header_params, Opening, opening, End, end_mark, end_none}
 use Rattle.js_names.specs.declared.place.Around.{Around}
-use Rattle.js_names.specs.declared.place.Role.TheVariants.{Parameter, Function}
 use Rattle.js_names.specs.declared.place.What.{What}
 use Rattle.js_names.specs.Scopes.{Scope}
 use Rattle.js_names.specs.Sites.{Site, site, read_site, assign_site, is_undefined, is_reserved, member_sites, in_function, begin_site, parameter_sites}
