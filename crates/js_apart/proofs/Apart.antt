@@ -4,7 +4,7 @@ use Rattle.std.proofs.lemmas.Bool.{false≢true}
 use Rattle.std.specs.Prelude.{is_some}
 use Rattle.std.specs.List.{flat_map}
 use Rattle.js_lexer.specs.declared.token.Token.{Token}
-use Rattle.js_lexer.specs.Cut.{Cut}
+use Rattle.js_lexer.specs.Laws.{ArePlaced}
 use Rattle.js_tree.specs.Plain.{PlainItem}
 use Rattle.js_grammar.specs.Grammar.{SpellsTree}
 use Rattle.js_names.specs.declared.place.Declared.{Declared}
@@ -24,7 +24,7 @@ use Rattle.js_resolver.proofs.SoundProgram.{program_scopes}
 use Rattle.js_resolver.proofs.SoundResolved.{StandApart}
 use Rattle.js_resolver.proofs.SoundRoom.{NoRepeats}
 use Rattle.js_apart.proofs.Bounds.{Ascend, ascend_from, ascend_in, ascend_apart}
-use Rattle.js_apart.proofs.Order.{next, InOrder, cut_order, names_in}
+use Rattle.js_apart.proofs.Order.{next, InOrder, placed_order, names_in}
 use Rattle.js_apart.proofs.Declared.{IsFound, AllFound, program_own, program_vars}
 use Rattle.js_apart.proofs.Spans.{Lie, Spans}
 use Rattle.js_apart.proofs.Spelled.{tree_spans}
@@ -159,6 +159,6 @@ spelled_apart end ts items l order spelled =
       parameters = λ f. ascend_apart (next end ts) end (held_by f (flat_map parameter_in (map see (first ++ ss)))) (held_ascend f (next end ts) end (first ++ ss) lie.names);
     }
 
--- and so do the tokens of a text
-pub cut_apart : (bytes : List ℕ) (ts : List Token) (items : List PlainItem) → length bytes ≤ 1048576 → Cut bytes ts → SpellsTree ts items → StandApart items
-cut_apart bytes ts items l cut spelled = spelled_apart (length bytes) ts items (omega (arith, l)) (cut_order bytes ts cut) spelled
+-- tokens in order in a text of less than 2 ^ 32 bytes keep them apart
+pub placed_apart : (bytes : List ℕ) (ts : List Token) (items : List PlainItem) → length bytes ≤ 4294967295 → ArePlaced bytes 0 ts → SpellsTree ts items → StandApart items
+placed_apart bytes ts items l placed spelled = spelled_apart (length bytes) ts items l (placed_order bytes 0 ts placed) spelled

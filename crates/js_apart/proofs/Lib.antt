@@ -5,3 +5,6 @@ pub mod Declared
 pub mod Spans
 pub mod Spelled
 pub mod Apart
+pub mod Nodes
+pub mod Counts
+pub mod Cut

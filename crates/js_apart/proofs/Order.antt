@@ -1,9 +1,7 @@
 -- Tokens in order, and the names and the functions that stand among them.
 use Rattle.std.proofs.Common.{◌≡◌, ℕ, ◌<◌, ◌≤◌, List, [], ◌∷◌, ◌++◌, refl, ap, sym, length, arith, Option, Some, None, true, false, if◌then◌else◌}
 use Rattle.js_lexer.specs.declared.token.Token.{Token}
-use Rattle.js_lexer.specs.Cut.{Cut}
 use Rattle.js_lexer.specs.Laws.{ArePlaced}
-use Rattle.js_lexer.proofs.Order.{tokens_in_order}
 use Rattle.js_tree.specs.declared.tree.Name.{Name}
 use Rattle.js_tree.specs.declared.tree.Spot.{Spot}
 use Rattle.js_grammar.specs.Sorts.{spot, named, name_at, kind_name}
@@ -24,16 +22,13 @@ placed_next : (bytes : List ℕ) (here : ℕ) (ts : List Token) → here ≤ len
 placed_next bytes here [] l h = l
 placed_next bytes here (t ∷ ts) l h = h.0.order
 
-placed_order : (bytes : List ℕ) (here : ℕ) (ts : List Token) → ArePlaced bytes here ts → InOrder (length bytes) ts
+-- tokens that are placed in a text stand in order before its end
+pub placed_order : (bytes : List ℕ) (here : ℕ) (ts : List Token) → ArePlaced bytes here ts → InOrder (length bytes) ts
 placed_order bytes here [] h = tt
 placed_order bytes here (t ∷ ts) h =
     let some = h.0.some in
     let later = placed_next bytes t.to ts h.0.within h.1 in
     (omega (arith, some, later), placed_order bytes t.to ts h.1)
-
--- the tokens of a text stand in order
-pub cut_order : (bytes : List ℕ) (ts : List Token) → Cut bytes ts → InOrder (length bytes) ts
-cut_order bytes ts h = placed_order bytes 0 ts (tokens_in_order bytes ts h)
 
 name_spot : (o : Option (List ℕ)) (s : Spot) (x : Name) → name_at o s ≡ Some x → x.spot ≡ s
 name_spot None s x h = cc
