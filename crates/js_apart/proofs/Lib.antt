@@ -1,0 +1,10 @@
+pub mod Bounds
+pub mod Order
+pub mod There
+pub mod Declared
+pub mod Spans
+pub mod Spelled
+pub mod Apart
+pub mod Nodes
+pub mod Counts
+pub mod Cut
