@@ -25,3 +25,13 @@ pub mod SoundScopes
 pub mod SoundKnown
 pub mod SoundResolved
 mod SoundExamples
+pub mod ApartBounds
+pub mod ApartOrder
+pub mod ApartThere
+pub mod ApartDeclared
+pub mod ApartSpans
+pub mod ApartSpelled
+pub mod ApartNames
+pub mod ApartNodes
+pub mod ApartCounts
+pub mod Spelling

@@ -6,3 +6,4 @@ pub mod Emits
 pub mod Resolved
 pub mod Starts
 pub mod Parts
+pub mod Spelled

@@ -1,8 +1,7 @@
 -- The parts of a resolved program.
-use Rattle.std.specs.Prelude.{ℕ, ◌<◌, List, length, map}
+use Rattle.std.specs.Prelude.{ℕ, List, map}
 use Rattle.js_tree.specs.Plain.{PlainItem}
 use Rattle.js_program.specs.PlainProgram.{PlainProgram, statements}
-use Rattle.js_program.specs.Sound.{IsSound}
 use Rattle.js_program.specs.Views.{plain_node, plain_body, plain_constant}
 use Rattle.js_program.specs.Views as v
 use Rattle.js_names.specs.Scopes.{top}
@@ -22,7 +21,3 @@ abbrev pub parts_from : List PlainItem → List Place → PlainProgram
 parts_from items ps =
     let x = items_piece ps 0 items in
     v.program_with x.nodes x.functions (map (constant_of items ps) (constants_of (assigned_in ps) ps)) (body_of ps top 0 (statements x.parts) (first_line ps))
-
--- a program that is sound where its lists are counted by 32 bits
-abbrev pub IsSoundCounted : PlainProgram → Type 0
-IsSoundCounted p = length p.nodes < 4294967296 → length p.functions < 4294967296 → length p.constants < 4294967296 → IsSound p

@@ -1,11 +1,13 @@
 //! From a tree to its program.
-ghost use Rattle.std.specs.Prelude.{◌≡◌, ◌≢◌, ◌<◌, ◌↔◌, None, Some, IfOk, IfErr, IsTrue, map};
+ghost use Rattle.std.specs.Prelude.{◌≡◌, ◌≢◌, Some, IfOk, IfErr, map};
 ghost use Rattle.js_tree.specs.Views.{plain_item, plain_tree};
+ghost use Rattle.js_program.specs.Sound.{IsSound};
 ghost use Rattle.js_names.specs.Rules.{name_fault};
 ghost use Rattle.js_names.specs.Slots.{assigned_in, slots_of};
 ghost use Rattle.js_names.specs.Views.{held_in, place_of};
-ghost use Rattle.js_resolver.specs.Parts.{IsSoundCounted, parts_from, plain_parts};
-ghost use Rattle.js_resolver.specs.Resolved.{program_of_tree, resolved};
+ghost use Rattle.js_resolver.specs.Parts.{parts_from, plain_parts};
+ghost use Rattle.js_resolver.specs.Resolved.{resolved};
+ghost use Rattle.js_resolver.specs.Spelled.{IsSpelled};
 
 use crate::constants::constant_starts;
 use crate::emit::emit_items;
@@ -38,7 +40,9 @@ fn parts_of(alloc: Global, tables: &NameTables, items: &[Item]) -> Result<Parts,
     let constants = constant_starts(alloc, tables, items)?;
     let top = tables.body(alloc, TOP, 0, Content::Statements(numbers), tables.line())?;
     let Emitter {
-        nodes, functions, ..
+        nodes,
+        functions,
+        ..
     } = emitter;
     Ok(Parts {
         nodes,
@@ -48,52 +52,34 @@ fn parts_of(alloc: Global, tables: &NameTables, items: &[Item]) -> Result<Parts,
     })
 }
 
-// Whether 32 bits count a list.
-fn is_counted(number: usize) -> bool
-    ensures { IsTrue result ↔ number < 4294967296 }
+// The program of these parts. Takes no memory.
+fn program_of(parts: Parts) -> Program
+    requires { IsSound (plain_parts parts) }
+    ensures { result ≡ plain_parts parts }
 {
-    number <= u32::MAX as usize
-}
-
-// The program of these parts. A list past 32 bits is more than memory holds.
-fn program_of(parts: Parts) -> Result<Program, AllocError>
-    requires { IsSoundCounted (plain_parts parts) }
-    ensures { IfOk result (λ p. p ≡ plain_parts parts) }
-{
-    let Parts {
-        nodes,
-        functions,
-        constants,
-        top,
-    } = parts;
-    if is_counted(nodes.len()) && is_counted(functions.len()) && is_counted(constants.len()) {
-        Ok(Program::new(nodes, functions, constants, top))
-    } else {
-        Err(AllocError)
-    }
+    Program::new(parts.nodes, parts.functions, parts.constants, parts.top)
 }
 
 // The program of these items, from what the check of names answers of their places.
 fn program_of_names(alloc: Global, names: Names, items: &[Item]) -> Result<Program, AllocError>
     requires assigned { names.assigned.keys ≡ assigned_in (map place_of names.places.items) }
     requires slots { (f : _) → held_in names.slots f ≡ slots_of (assigned_in (map place_of names.places.items)) f (map place_of names.places.items) }
-    requires sound { IsSoundCounted (parts_from (map plain_item items.now) (map place_of names.places.items)) }
+    requires sound { IsSound (parts_from (map plain_item items.now) (map place_of names.places.items)) }
     ensures { IfOk result (λ p. p ≡ parts_from (map plain_item items.now) (map place_of names.places.items)) }
 {
     let tables = NameTables::new(alloc, names)?;
     let parts = parts_of(alloc, &tables, items)?;
-    program_of(parts)
+    Ok(program_of(parts))
 }
 
-/// The program of a tree, exactly where no place breaks a rule of names. Else the fault of the first place that
-/// breaks one. Takes memory for the places, their tables and the program.
+/// The program of a tree that tokens spell, exactly where no place breaks a rule of names. Else the fault of the
+/// first place that breaks one. Takes memory for the places, their tables and the program.
 ///
 /// # Errors
 ///
-/// The fault of a name; or `Memory`, where no memory was left, or where the program has more nodes, functions or
-/// constants than 32 bits count.
+/// The fault of a name; or `Memory`, where no memory was left.
 pub fn resolve(alloc: Global, tree: &Tree) -> Result<Program, NameFault>
-    requires sound { name_fault (plain_tree tree.now) ≡ None → IsSoundCounted (program_of_tree (plain_tree tree.now)) }
+    requires spelled { IsSpelled (plain_tree tree.now) }
     ensures resolved { IfOk result (λ p. resolved (plain_tree tree.now) ≡ Some p) }
     ensures refused { IfErr result (λ f. f ≢ NameFault.Memory → name_fault (plain_tree tree.now) ≡ Some f) }
 {

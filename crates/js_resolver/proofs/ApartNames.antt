@@ -4,7 +4,6 @@ use Rattle.std.proofs.lemmas.Bool.{false≢true}
 use Rattle.std.specs.Prelude.{is_some}
 use Rattle.std.specs.List.{flat_map}
 use Rattle.js_lexer.specs.declared.token.Token.{Token}
-use Rattle.js_lexer.specs.Laws.{ArePlaced}
 use Rattle.js_tree.specs.Plain.{PlainItem}
 use Rattle.js_grammar.specs.Grammar.{SpellsTree}
 use Rattle.js_names.specs.declared.place.Declared.{Declared}
@@ -16,6 +15,7 @@ use Rattle.js_names.specs.Sites.{Site, begin_site, program_spot, item_sites, pro
 use Rattle.js_names.specs.Places.{Place, see, places, declared_at}
 use Rattle.js_names.specs.Slots.{held_by, parameter_in, parameter_at, is_begin}
 use Rattle.js_resolver.specs.Variables.{second}
+use Rattle.js_resolver.specs.Spelled.{next, InOrder}
 use Rattle.js_resolver.proofs.SoundFunctions.{begun}
 use Rattle.js_resolver.proofs.SoundKnown.{AllDeclared}
 use Rattle.js_resolver.proofs.SoundLists.{In, HasPlace}
@@ -23,11 +23,11 @@ use Rattle.js_resolver.proofs.SoundPlaces.{is_name}
 use Rattle.js_resolver.proofs.SoundProgram.{program_scopes}
 use Rattle.js_resolver.proofs.SoundResolved.{StandApart}
 use Rattle.js_resolver.proofs.SoundRoom.{NoRepeats}
-use Rattle.js_apart.proofs.Bounds.{Ascend, ascend_from, ascend_in, ascend_apart}
-use Rattle.js_apart.proofs.Order.{next, InOrder, placed_order, names_in}
-use Rattle.js_apart.proofs.Declared.{IsFound, AllFound, program_own, program_vars}
-use Rattle.js_apart.proofs.Spans.{Lie, Spans}
-use Rattle.js_apart.proofs.Spelled.{tree_spans}
+use Rattle.js_resolver.proofs.ApartBounds.{Ascend, ascend_from, ascend_in, ascend_apart}
+use Rattle.js_resolver.proofs.ApartOrder.{names_in}
+use Rattle.js_resolver.proofs.ApartDeclared.{IsFound, AllFound, program_own, program_vars}
+use Rattle.js_resolver.proofs.ApartSpans.{Lie, Spans}
+use Rattle.js_resolver.proofs.ApartSpelled.{tree_spans}
 
 -- places of one kind with keys of their own
 
@@ -158,7 +158,3 @@ spelled_apart end ts items l order spelled =
       inner = outside;
       parameters = λ f. ascend_apart (next end ts) end (held_by f (flat_map parameter_in (map see (first ++ ss)))) (held_ascend f (next end ts) end (first ++ ss) lie.names);
     }
-
--- tokens in order in a text of less than 2 ^ 32 bytes keep them apart
-pub placed_apart : (bytes : List ℕ) (ts : List Token) (items : List PlainItem) → length bytes ≤ 4294967295 → ArePlaced bytes 0 ts → SpellsTree ts items → StandApart items
-placed_apart bytes ts items l placed spelled = spelled_apart (length bytes) ts items l (placed_order bytes 0 ts placed) spelled

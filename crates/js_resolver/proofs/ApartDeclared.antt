@@ -12,7 +12,7 @@ use Rattle.js_names.specs.declared.place.What.{What}
 use Rattle.js_names.specs.Scopes.{Scope, top, named, one_var, entry, own_declarator, own_declarators, own_of, own_of_all, own_of_start, own_of_item, var_declarator, var_declarators, vars_of, vars_of_form, vars_of_all, vars_of_start, vars_of_item, parameters, block_scope, for_scope, each_scope, each_role, function_scope, program_scope}
 use Rattle.js_names.specs.Sites.{Site, site, in_function, parameter_sites, declared_role}
 use Rattle.js_names.specs.Places.{found, found_var, declared_at}
-use Rattle.js_apart.proofs.There.{There, AllThere, there_left, there_right, AllOf, of_append, own_there, vars_there}
+use Rattle.js_resolver.proofs.ApartThere.{There, AllThere, there_left, there_right, AllOf, of_append, own_there, vars_there}
 
 own_declarator_of : (f : ℕ) (direct : Bool) (kind : DeclareKind) (name : Name) (value : PlainPerhaps) (end : ℕ) → AllOf f (own_declarator f direct kind name value end)
 own_declarator_of f direct const_word name value end = (refl, tt)

@@ -16,10 +16,10 @@ use Rattle.js_names.specs.declared.place.What.{What}
 use Rattle.js_names.specs.Scopes.{Scope, top, own_declarator, own_declarators, own_of, own_of_all, own_of_start, own_of_item, var_declarator, var_declarators, vars_of, vars_of_all, vars_of_start, vars_of_item, block_scope, for_scope, each_scope, function_scope}
 use Rattle.js_names.specs.Sites.{site, declared_role, object_of, called_builtin, value_builtin, in_function, in_loop, expr_sites, form_sites, exprs_sites, fields_sites, perhaps_sites, declarators_sites, start_sites, stmt_sites, stmt_form_sites, stmts_sites, item_sites}
 use Rattle.js_names.specs.Places.{found, found_var}
-use Rattle.js_apart.proofs.Order.{name_place}
-use Rattle.js_apart.proofs.There.{AllThere, there_left, there_right}
-use Rattle.js_apart.proofs.Declared.{AllFound, block_own, for_own, function_own, function_vars, parameters_found, declarator_found, each_found}
-use Rattle.js_apart.proofs.Spans.{Spans, nothing, and_then, after, up_to, ended, unless, member_spans, at_name, read_spans, assign_spans, header_spans, function_spans, declared_spans}
+use Rattle.js_resolver.proofs.ApartOrder.{name_place}
+use Rattle.js_resolver.proofs.ApartThere.{AllThere, there_left, there_right}
+use Rattle.js_resolver.proofs.ApartDeclared.{AllFound, block_own, for_own, function_own, function_vars, parameters_found, declarator_found, each_found}
+use Rattle.js_resolver.proofs.ApartSpans.{Spans, nothing, and_then, after, up_to, ended, unless, member_spans, at_name, read_spans, assign_spans, header_spans, function_spans, declared_spans}
 
 -- `var` declares nothing for its list
 no_own : (look : List ℕ → Option Declared) (f : ℕ) (direct : Bool) (ds : List PlainDeclarator) → AllThere look f (own_declarators f direct DeclareKind.Var (declarators_of ds))

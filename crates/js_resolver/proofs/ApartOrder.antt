@@ -1,34 +1,11 @@
--- Tokens in order, and the names and the functions that stand among them.
-use Rattle.std.proofs.Common.{◌≡◌, ℕ, ◌<◌, ◌≤◌, List, [], ◌∷◌, ◌++◌, refl, ap, sym, length, arith, Option, Some, None, true, false, if◌then◌else◌}
+-- The names that stand among tokens.
+use Rattle.std.proofs.Common.{◌≡◌, ℕ, List, [], ◌∷◌, ◌++◌, refl, ap, sym, Option, Some, None, true, false, if◌then◌else◌}
 use Rattle.js_lexer.specs.declared.token.Token.{Token}
-use Rattle.js_lexer.specs.Laws.{ArePlaced}
 use Rattle.js_tree.specs.declared.tree.Name.{Name}
 use Rattle.js_tree.specs.declared.tree.Spot.{Spot}
 use Rattle.js_grammar.specs.Sorts.{spot, named, name_at, kind_name}
 use Rattle.js_names.specs.Sites.{Site}
 use Rattle.js_resolver.proofs.SoundPlaces.{is_name}
-
--- the place of the first token, or the end where there is none
-abbrev pub next : ℕ → List Token → ℕ
-next end [] = end
-next end (t ∷ ts) = t.from
-
--- each token stands before the one behind it, and the last before the end
-abbrev pub InOrder : ℕ → List Token → Type 0
-InOrder end [] = Unit {0}
-InOrder end (t ∷ ts) = (t.from < next end ts) × InOrder end ts
-
-placed_next : (bytes : List ℕ) (here : ℕ) (ts : List Token) → here ≤ length bytes → ArePlaced bytes here ts → here ≤ next (length bytes) ts
-placed_next bytes here [] l h = l
-placed_next bytes here (t ∷ ts) l h = h.0.order
-
--- tokens that are placed in a text stand in order before its end
-pub placed_order : (bytes : List ℕ) (here : ℕ) (ts : List Token) → ArePlaced bytes here ts → InOrder (length bytes) ts
-placed_order bytes here [] h = tt
-placed_order bytes here (t ∷ ts) h =
-    let some = h.0.some in
-    let later = placed_next bytes t.to ts h.0.within h.1 in
-    (omega (arith, some, later), placed_order bytes t.to ts h.1)
 
 name_spot : (o : Option (List ℕ)) (s : Spot) (x : Name) → name_at o s ≡ Some x → x.spot ≡ s
 name_spot None s x h = cc

@@ -11,11 +11,12 @@ use Rattle.js_names.specs.declared.place.What.{What}
 use Rattle.js_names.specs.Scopes.{Scope}
 use Rattle.js_names.specs.Sites.{Site, site, read_site, assign_site, is_undefined, is_reserved, member_sites, in_function, begin_site, parameter_sites}
 use Rattle.js_names.specs.Slots.{is_begin}
+use Rattle.js_resolver.specs.Spelled.{next, InOrder}
 use Rattle.js_resolver.proofs.SoundFunctions.{begun, begun-append}
 use Rattle.js_resolver.proofs.SoundPlaces.{is_name}
-use Rattle.js_apart.proofs.Bounds.{Ascend, ascend_bounds, ascend_from, ascend_to, ascend_append}
-use Rattle.js_apart.proofs.Order.{next, InOrder, name_place, names_in, names-append}
-use Rattle.js_apart.proofs.Declared.{IsFound, AllFound, found_append}
+use Rattle.js_resolver.proofs.ApartBounds.{Ascend, ascend_bounds, ascend_from, ascend_to, ascend_append}
+use Rattle.js_resolver.proofs.ApartOrder.{name_place, names_in, names-append}
+use Rattle.js_resolver.proofs.ApartDeclared.{IsFound, AllFound, found_append}
 
 -- the names and the functions stand between the first token and the rest, and the rest is in order
 pub record Lie (end : ℕ) (ts rest : List Token) (ss : List Site) : Type 0 where

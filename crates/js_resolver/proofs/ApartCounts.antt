@@ -15,15 +15,16 @@ use Rattle.js_names.specs.Slots.{is_among, joins, assigned_in, constant_at, cons
 use Rattle.js_resolver.specs.Variables.{capture_slots}
 use Rattle.js_resolver.specs.Nodes.{items_piece}
 use Rattle.js_resolver.specs.Resolved.{constant_of, program_of_tree}
+use Rattle.js_resolver.specs.Spelled.{next, InOrder}
 use Rattle.js_resolver.proofs.SoundFunctions.{begun, captures_in_order, items_listed}
 use Rattle.js_resolver.proofs.SoundPlaces.{is_name}
 use Rattle.js_resolver.proofs.SoundProgram.{program_scopes}
-use Rattle.js_apart.proofs.Bounds.{Ascend}
-use Rattle.js_apart.proofs.Order.{next, InOrder, names_in}
-use Rattle.js_apart.proofs.Declared.{program_own, program_vars}
-use Rattle.js_apart.proofs.Spans.{Lie, Spans}
-use Rattle.js_apart.proofs.Spelled.{tree_spans}
-use Rattle.js_apart.proofs.Nodes.{items_few}
+use Rattle.js_resolver.proofs.ApartBounds.{Ascend}
+use Rattle.js_resolver.proofs.ApartOrder.{names_in}
+use Rattle.js_resolver.proofs.ApartDeclared.{program_own, program_vars}
+use Rattle.js_resolver.proofs.ApartSpans.{Lie, Spans}
+use Rattle.js_resolver.proofs.ApartSpelled.{tree_spans}
+use Rattle.js_resolver.proofs.ApartNodes.{items_few}
 
 ascend_few : (low high : ℕ) (xs : List ℕ) → Ascend low high xs → low + length xs ≤ high
 ascend_few low high [] h = omega (arith, h)
