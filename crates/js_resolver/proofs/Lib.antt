@@ -1,5 +1,17 @@
 mod Examples
 pub mod Naming
+pub mod Standing
+pub mod Bodies
+pub mod Freshness
+pub mod Starting
+pub mod Emitting
+pub mod TreeForms
+pub mod Loops
+pub mod FormArms
+pub mod StmtArms
+pub mod FunctionArms
+pub mod CallArms
+pub mod Parts
 pub mod SoundParts
 pub mod SoundOrder
 pub mod SoundFunctions
@@ -13,3 +25,13 @@ pub mod SoundScopes
 pub mod SoundKnown
 pub mod SoundResolved
 mod SoundExamples
+pub mod ApartBounds
+pub mod ApartOrder
+pub mod ApartThere
+pub mod ApartDeclared
+pub mod ApartSpans
+pub mod ApartSpelled
+pub mod ApartNames
+pub mod ApartNodes
+pub mod ApartCounts
+pub mod Spelling

@@ -12,8 +12,8 @@ use js_names::{Declared, Role, Seen, TOP, What, is_constant};
 use js_program::Variable;
 use std::alloc::{AllocError, Global};
 
-// Where a number stands in a set. A place past 32 bits is more than memory holds.
-fn index_in(set: &IndexSet<u32>, number: u32) -> Result<u32, AllocError>
+/// Where a number stands in a set. A place past 32 bits is more than memory holds.
+pub fn index_in(set: &IndexSet<u32>, number: u32) -> Result<u32, AllocError>
     ensures { IfOk result (λ n. n ≡ index_in set.now.keys number) }
 {
     let index = set.get_index_of(&number).unwrap_or(0);

@@ -1,0 +1,190 @@
+-- Loops over forms that stand one after the other: what is done and what is left make the whole.
+use Rattle.std.proofs.Common.{◌≡◌, ℕ, ◌+◌, ◌<◌, List, [], ◌∷◌, ◌++◌, ◌∙◌, ap, refl, sym, subst, length, map, drop, get_or, Option, Some, None, Bool, true, false, append_assoc, append-nil}
+use Rattle.std.specs.Prelude.{option_map, option_to_list, is_some}
+use Rattle.std.proofs.lemmas.List.{drop_more, map-append}
+use Rattle.js_tree.specs.declared.tree.Expr.{Expr}
+use Rattle.js_tree.specs.declared.tree.Field.{Field}
+use Rattle.js_tree.specs.declared.tree.Declarator.{Declarator, out-Declarator}
+use Rattle.js_tree.specs.declared.tree.Item.{Item}
+use Rattle.js_tree.specs.declared.tree.Stmt.{Stmt}
+use Rattle.js_tree.specs.Plain.{PlainField, PlainFields, PlainDeclarator, PlainDeclarators, no_fields, field_in, no_declarators, declarator_in, exprs_of, fields_of, declarators_of, stmts_of}
+use Rattle.js_tree.specs.Views.{perhaps, plain_expr, plain_field, plain_declarator, plain_stmt, plain_item}
+use Rattle.js_program.specs.declared.node.Declared.{Declared}
+use Rattle.js_program.specs.declared.node.Variable.{Variable}
+use Rattle.js_program.specs.PlainProgram.{PlainDeclared}
+use Rattle.js_program.specs.Views.{plain_declared}
+use Rattle.js_names.specs.Places.{Place}
+use Rattle.js_names.specs.Scopes.{is_present}
+use Rattle.js_resolver.specs.declared.emitter.Emitter.{Emitter}
+use Rattle.js_resolver.specs.Variables.{named_at}
+use Rattle.js_resolver.specs.Nodes.{Piece, none, beside, after, expr_piece, exprs_piece, fields_piece, keyed, perhaps_piece, perhaps_part, parts_after, declarators_piece, declared_of, stmt_piece, stmts_piece, item_piece, items_piece}
+use Rattle.js_resolver.specs.Emits.{count, Adds, Emits, EmitsMore, EmitsFields, EmitsDeclarators, EmitsPerhaps, Leaves, tree_perhaps}
+use Rattle.js_resolver.proofs.Emitting.{counts, leaves_all, leaves_none, leaves_more, numbers_more}
+use Rattle.js_resolver.proofs.TreeForms.{field_is, declarator_is}
+
+-- and the numbers so far
+pub record Remains (start now : Emitter) (numbers : List ℕ) (rest whole : Piece) : Type 0 where
+  pub leaves : Leaves start now rest whole
+  pub parts : numbers ++ rest.parts ≡ whole.parts
+
+pub remains_all : (a : Emitter) (ns : List ℕ) (w : Piece) → ns ≡ [] → Remains a a ns w w
+remains_all a ns w e = record { leaves = leaves_all a w; parts = ap (λ z. z ++ w.parts) e }
+
+pub remains_none : (a b : Emitter) (ns : List ℕ) (w : Piece) → Remains a b ns none w → Emits a b ns w
+remains_none a b ns w h = record { adds = leaves_none a b w h.leaves; parts = sym (append-nil ns) ∙ h.parts }
+
+pub remains_more : (f : ℕ → Piece) (a b c : Emitter) (ms ns ks : List ℕ) (x w : Piece) → Remains a b ms (beside x (f (after (count b) x))) w → Adds b c x → ks ≡ ms ++ ns → ns ≡ x.parts → Remains a c ks (f (count c)) w
+remains_more f a b c ms ns ks x w h k e p = record {
+  leaves = leaves_more f a b c x w h.leaves k;
+  parts = numbers_more f b c ms ns ks w.parts x h.parts e p k;
+}
+
+at_next : {X : Type 0} (xs : List X) (i : ℕ) (d x : X) → i < length xs → x ≡ get_or xs i d → drop i xs ≡ x ∷ drop (i + 1) xs
+at_next xs i d x h e = drop_more xs i d h ∙ ap (λ z. z ∷ drop (i + 1) xs) (sym e)
+
+pub exprs_more : (ps : List Place) (xs : List Expr) (i : ℕ) (d x : Expr) (a b c : Emitter) (ms ks : List ℕ) (n : ℕ) (w : Piece) → i < length xs → x ≡ get_or xs i d
+    → Remains a b ms (exprs_piece ps (count b) (exprs_of (map plain_expr (drop i xs)))) w → Emits b c (n ∷ []) (expr_piece ps (count b) (plain_expr x)) → ks ≡ ms ++ n ∷ []
+    → Remains a c ks (exprs_piece ps (count c) (exprs_of (map plain_expr (drop (i + 1) xs)))) w
+unfolding exprs_piece
+exprs_more ps xs i d x a b c ms ks n w h e r k q =
+    remains_more (λ m. exprs_piece ps m (exprs_of (map plain_expr (drop (i + 1) xs)))) a b c ms (n ∷ []) ks (expr_piece ps (count b) (plain_expr x)) w
+    (subst (λ z. Remains a b ms (exprs_piece ps (count b) (exprs_of (map plain_expr z))) w) (at_next xs i d x h e) r) k.adds q k.parts
+
+pub stmts_more : (ps : List Place) (xs : List Stmt) (i : ℕ) (d x : Stmt) (a b c : Emitter) (ms ks : List ℕ) (n : ℕ) (w : Piece) → i < length xs → x ≡ get_or xs i d
+    → Remains a b ms (stmts_piece ps (count b) (stmts_of (map plain_stmt (drop i xs)))) w → Emits b c (n ∷ []) (stmt_piece ps (count b) (plain_stmt x)) → ks ≡ ms ++ n ∷ []
+    → Remains a c ks (stmts_piece ps (count c) (stmts_of (map plain_stmt (drop (i + 1) xs)))) w
+unfolding stmts_piece
+stmts_more ps xs i d x a b c ms ks n w h e r k q =
+    remains_more (λ m. stmts_piece ps m (stmts_of (map plain_stmt (drop (i + 1) xs)))) a b c ms (n ∷ []) ks (stmt_piece ps (count b) (plain_stmt x)) w
+    (subst (λ z. Remains a b ms (stmts_piece ps (count b) (stmts_of (map plain_stmt z))) w) (at_next xs i d x h e) r) k.adds q k.parts
+
+pub items_more : (ps : List Place) (xs : List Item) (i : ℕ) (d x : Item) (a b c : Emitter) (ms ks : List ℕ) (w : Piece) → i < length xs → x ≡ get_or xs i d
+    → Remains a b ms (items_piece ps (count b) (map plain_item (drop i xs))) w → EmitsMore b c ms ks (item_piece ps (count b) (plain_item x))
+    → Remains a c ks (items_piece ps (count c) (map plain_item (drop (i + 1) xs))) w
+unfolding items_piece
+items_more ps xs i d x a b c ms ks w h e r k =
+    remains_more (λ m. items_piece ps m (map plain_item (drop (i + 1) xs))) a b c ms (item_piece ps (count b) (plain_item x)).parts ks (item_piece ps (count b) (plain_item x)) w
+    (subst (λ z. Remains a b ms (items_piece ps (count b) (map plain_item z)) w) (at_next xs i d x h e) r) k.adds k.more refl
+
+-- fields
+
+pub record RemainsFields (ps : List Place) (start now : Emitter) (pairs : List (List ℕ × ℕ)) (rest all : List Field) : Type 0 where
+  pub leaves : Leaves start now (fields_piece ps (count now) (fields_of (map plain_field rest))) (fields_piece ps (count start) (fields_of (map plain_field all)))
+  pub pairs_are : pairs ++ keyed (fields_of (map plain_field rest)) (fields_piece ps (count now) (fields_of (map plain_field rest))).parts
+      ≡ keyed (fields_of (map plain_field all)) (fields_piece ps (count start) (fields_of (map plain_field all))).parts
+
+field_step_pairs : (ps : List Place) (pairs : List (List ℕ × ℕ)) (key : List ℕ) (n b : ℕ) (x y : Piece) (fs : PlainFields) (e : _) → n ∷ [] ≡ x.parts → keyed (field_in key e fs) (x.parts ++ y.parts) ≡ (key, n) ∷ keyed fs y.parts
+field_step_pairs ps pairs key n b x y fs e h = ap (λ z. keyed (field_in key e fs) (z ++ y.parts)) (sym h)
+
+pub fields_more : (ps : List Place) (xs : List Field) (i : ℕ) (d x : Field) (a b c : Emitter) (ms ks : List (List ℕ × ℕ)) (n : ℕ) → i < length xs → x ≡ get_or xs i d
+    → RemainsFields ps a b ms (drop i xs) xs → Emits b c (n ∷ []) (expr_piece ps (count b) (plain_expr x.value)) → ks ≡ ms ++ (x.key, n) ∷ []
+    → RemainsFields ps a c ks (drop (i + 1) xs) xs
+unfolding fields_piece
+fields_more ps xs i d x a b c ms ks n h e r k q =
+    let rest = drop (i + 1) xs in
+    let fs = fields_of (map plain_field rest) in
+    let px = expr_piece ps (count b) (plain_expr x.value) in
+    let py = fields_piece ps (after (count b) px) fs in
+    let is : fields_of (map plain_field (drop i xs)) ≡ field_in x.key (plain_expr x.value) fs =
+        ap (λ z. fields_of (map plain_field z)) (at_next xs i d x h e) ∙ ap (λ (z : PlainField). field_in z.key z.value fs) (field_is x) in
+    let all = fields_of (map plain_field xs) in
+    let w = fields_piece ps (count a) all in
+    let l : Leaves a b (beside px py) w = subst (λ z. Leaves a b (fields_piece ps (count b) z) w) is r.leaves in
+    let p : ms ++ keyed (field_in x.key (plain_expr x.value) fs) (px.parts ++ py.parts) ≡ keyed all w.parts = subst (λ z. ms ++ keyed z (fields_piece ps (count b) z).parts ≡ keyed all w.parts) is r.pairs_are in
+    record {
+      leaves = leaves_more (λ m. fields_piece ps m fs) a b c px w l k.adds;
+      pairs_are = ap (λ m. ks ++ keyed fs (fields_piece ps m fs).parts) (counts b c px k.adds)
+          ∙ (ap (λ z. z ++ keyed fs py.parts) q
+          ∙ (append_assoc ms ((x.key, n) ∷ []) (keyed fs py.parts)
+          ∙ (ap (λ z. ms ++ keyed (field_in x.key (plain_expr x.value) fs) (z ++ py.parts)) k.parts ∙ p)));
+    }
+
+pub fields_all : (ps : List Place) (a : Emitter) (ms : List (List ℕ × ℕ)) (xs : List Field) → ms ≡ [] → RemainsFields ps a a ms xs xs
+fields_all ps a ms xs e = record {
+  leaves = leaves_all a (fields_piece ps (count a) (fields_of (map plain_field xs)));
+  pairs_are = ap (λ z. z ++ keyed (fields_of (map plain_field xs)) (fields_piece ps (count a) (fields_of (map plain_field xs))).parts) e;
+}
+
+pub fields_none : (ps : List Place) (a b : Emitter) (ms : List (List ℕ × ℕ)) (rest xs : List Field) → rest ≡ [] → RemainsFields ps a b ms rest xs → EmitsFields ps a b ms xs
+unfolding fields_piece
+fields_none ps a b ms rest xs e r =
+    let h : RemainsFields ps a b ms [] xs = subst (λ z. RemainsFields ps a b ms z xs) e r in
+    record { adds = leaves_none a b (fields_piece ps (count a) (fields_of (map plain_field xs))) h.leaves; pairs_are = sym (append-nil ms) ∙ h.pairs_are }
+
+-- declarators
+
+abbrev one_declared : Variable → Option ℕ → PlainDeclared
+one_declared variable value = record { variable = variable; value = value }
+
+part_is : (o : Option ℕ) (b : Bool) (ns : List ℕ) → is_some o ≡ b → perhaps_part b (option_to_list o ++ ns) ≡ o
+part_is None b ns e = subst (λ z. perhaps_part z ns ≡ None) e refl
+part_is (Some n) b ns e = subst (λ z. perhaps_part z (n ∷ ns) ≡ Some n) e refl
+
+after_is : (o : Option ℕ) (b : Bool) (ns : List ℕ) → is_some o ≡ b → parts_after b (option_to_list o ++ ns) ≡ ns
+after_is None b ns e = subst (λ z. parts_after z ns ≡ ns) e refl
+after_is (Some n) b ns e = subst (λ z. parts_after z (n ∷ ns) ≡ ns) e refl
+
+pub record RemainsDeclarators (ps : List Place) (start now : Emitter) (declared : List Declared) (rest all : List Declarator) : Type 0 where
+  pub leaves : Leaves start now (declarators_piece ps (count now) (declarators_of (map plain_declarator rest))) (declarators_piece ps (count start) (declarators_of (map plain_declarator all)))
+  pub declared_are : map plain_declared declared ++ declared_of ps (declarators_of (map plain_declarator rest)) (declarators_piece ps (count now) (declarators_of (map plain_declarator rest))).parts
+      ≡ declared_of ps (declarators_of (map plain_declarator all)) (declarators_piece ps (count start) (declarators_of (map plain_declarator all))).parts
+
+pub declarators_more : (ps : List Place) (xs : List Declarator) (i : ℕ) (d x : Declarator) (a b c : Emitter) (ms ks : List Declared) (m : Declared) → i < length xs → x ≡ get_or xs i d
+    → RemainsDeclarators ps a b ms (drop i xs) xs → EmitsPerhaps b c m.value (is_present (tree_perhaps (out-Declarator x).value)) (perhaps_piece ps (count b) (tree_perhaps (out-Declarator x).value))
+    → m.variable ≡ named_at ps (out-Declarator x).name.spot.at → ks ≡ ms ++ m ∷ []
+    → RemainsDeclarators ps a c ks (drop (i + 1) xs) xs
+unfolding declarators_piece
+declarators_more ps xs i d x a b c ms ks m h e r k v q =
+    let rest = drop (i + 1) xs in
+    let ds = declarators_of (map plain_declarator rest) in
+    let name = (out-Declarator x).name in
+    let value = tree_perhaps (out-Declarator x).value in
+    let end = (out-Declarator x).end in
+    let px = perhaps_piece ps (count b) value in
+    let py = declarators_piece ps (after (count b) px) ds in
+    let is : declarators_of (map plain_declarator (drop i xs)) ≡ declarator_in name value end ds =
+        ap (λ z. declarators_of (map plain_declarator z)) (at_next xs i d x h e) ∙ ap (λ (z : PlainDeclarator). declarator_in z.name z.value z.end ds) (declarator_is x) in
+    let all = declarators_of (map plain_declarator xs) in
+    let w = declarators_piece ps (count a) all in
+    let l : Leaves a b (beside px py) w = subst (λ z. Leaves a b (declarators_piece ps (count b) z) w) is r.leaves in
+    let p : map plain_declared ms ++ declared_of ps (declarator_in name value end ds) (px.parts ++ py.parts) ≡ declared_of ps all w.parts =
+        subst (λ z. map plain_declared ms ++ declared_of ps z (declarators_piece ps (count b) z).parts ≡ declared_of ps all w.parts) is r.declared_are in
+    let one : one_declared (m.variable) (m.value) ∷ declared_of ps ds py.parts ≡ declared_of ps (declarator_in name value end ds) (px.parts ++ py.parts) =
+        ap (λ z. one_declared (z) (m.value) ∷ declared_of ps ds py.parts) v
+        ∙ (ap (λ z. one_declared (named_at ps name.spot.at) (z) ∷ declared_of ps ds py.parts) (sym (part_is m.value (is_present value) py.parts k.same))
+        ∙ (ap (λ z. one_declared (named_at ps name.spot.at) (perhaps_part (is_present value) (option_to_list m.value ++ py.parts)) ∷ declared_of ps ds z) (sym (after_is m.value (is_present value) py.parts k.same))
+        ∙ ap (λ z. declared_of ps (declarator_in name value end ds) (z ++ py.parts)) k.parts)) in
+    record {
+      leaves = leaves_more (λ n. declarators_piece ps n ds) a b c px w l k.adds;
+      declared_are = ap (λ n. map plain_declared ks ++ declared_of ps ds (declarators_piece ps n ds).parts) (counts b c px k.adds)
+          ∙ (ap (λ z. map plain_declared z ++ declared_of ps ds py.parts) q
+          ∙ (ap (λ z. z ++ declared_of ps ds py.parts) (map-append plain_declared ms (m ∷ []))
+          ∙ (append_assoc (map plain_declared ms) (map plain_declared (m ∷ [])) (declared_of ps ds py.parts)
+          ∙ (ap (λ z. map plain_declared ms ++ z) one ∙ p))));
+    }
+
+pub declarators_all : (ps : List Place) (a : Emitter) (ms : List Declared) (xs : List Declarator) → ms ≡ [] → RemainsDeclarators ps a a ms xs xs
+declarators_all ps a ms xs e = record {
+  leaves = leaves_all a (declarators_piece ps (count a) (declarators_of (map plain_declarator xs)));
+  declared_are = ap (λ z. map plain_declared z ++ declared_of ps (declarators_of (map plain_declarator xs)) (declarators_piece ps (count a) (declarators_of (map plain_declarator xs))).parts) e;
+}
+
+pub declarators_none : (ps : List Place) (a b : Emitter) (ms : List Declared) (rest xs : List Declarator) → rest ≡ [] → RemainsDeclarators ps a b ms rest xs → EmitsDeclarators ps a b ms xs
+unfolding declarators_piece
+declarators_none ps a b ms rest xs e r =
+    let h : RemainsDeclarators ps a b ms [] xs = subst (λ z. RemainsDeclarators ps a b ms z xs) e r in
+    record { adds = leaves_none a b (declarators_piece ps (count a) (declarators_of (map plain_declarator xs))) h.leaves; declared_are = sym (append-nil (map plain_declared ms)) ∙ h.declared_are }
+
+-- the ends of the loops
+
+pub exprs_done : (ps : List Place) (a b : Emitter) (ns : List ℕ) (rest : List Expr) (w : Piece) → rest ≡ [] → Remains a b ns (exprs_piece ps (count b) (exprs_of (map plain_expr rest))) w → Emits a b ns w
+unfolding exprs_piece
+exprs_done ps a b ns rest w e r = remains_none a b ns w (subst (λ z. Remains a b ns (exprs_piece ps (count b) (exprs_of (map plain_expr z))) w) e r)
+
+pub stmts_done : (ps : List Place) (a b : Emitter) (ns : List ℕ) (rest : List Stmt) (w : Piece) → rest ≡ [] → Remains a b ns (stmts_piece ps (count b) (stmts_of (map plain_stmt rest))) w → Emits a b ns w
+unfolding stmts_piece
+stmts_done ps a b ns rest w e r = remains_none a b ns w (subst (λ z. Remains a b ns (stmts_piece ps (count b) (stmts_of (map plain_stmt z))) w) e r)
+
+pub items_done : (ps : List Place) (a b : Emitter) (ns : List ℕ) (rest : List Item) (w : Piece) → rest ≡ [] → Remains a b ns (items_piece ps (count b) (map plain_item rest)) w → Emits a b ns w
+unfolding items_piece
+items_done ps a b ns rest w e r = remains_none a b ns w (subst (λ z. Remains a b ns (items_piece ps (count b) (map plain_item z)) w) e r)

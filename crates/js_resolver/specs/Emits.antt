@@ -1,0 +1,101 @@
+-- What the walk over a tree adds to what it has emitted.
+use Rattle.std.specs.Prelude.{◌≡◌, ℕ, Bool, false, List, [], ◌∷◌, ◌++◌, Option, Some, None, map, length, option_map, option_to_list, is_some, if◌then◌else◌}
+use Rattle.std.specs.List.{insert}
+use Rattle.js_tree.specs.declared.tree.Expr.{Expr}
+use Rattle.js_tree.specs.declared.tree.Declarator.{Declarator}
+use Rattle.js_tree.specs.declared.tree.Field.{Field}
+use Rattle.js_tree.specs.declared.tree.StmtForm.{StmtForm, fold-StmtForm}
+use Rattle.js_tree.specs.Plain.{PlainExpr, PlainExprs, PlainForm, PlainField, PlainDeclarator, PlainPerhaps, PlainStart, PlainStmt, PlainStmtForm, fields_of, declarators_of}
+use Rattle.js_tree.specs.Views.{perhaps, plain_expr, plain_declarator, plain_field, form_step, start_step, stmt_form_step, declarator_step, expr_step, field_step, stmt_step}
+use Rattle.js_program.specs.declared.builtin.Builtin.{Builtin}
+use Rattle.js_program.specs.declared.node.NodeForm.{NodeForm}
+use Rattle.js_program.specs.declared.node.Declared.{Declared}
+use Rattle.js_program.specs.PlainProgram.{PlainNode, PlainNodeForm, PlainBody}
+use Rattle.js_program.specs.Views.{plain_node, plain_node_form, plain_body, plain_declared}
+use Rattle.js_names.specs.Places.{Place}
+use Rattle.js_resolver.specs.declared.emitter.Emitter.{Emitter}
+use Rattle.js_resolver.specs.Nodes.{Piece, after, arguments_piece, beside, call_node, expr_node, stmt_node, expr_piece, expr_parts, form_parts, exprs_piece, fields_piece, floors_division, keyed, method_of, declarators_piece, declared_of, stmt_parts}
+
+abbrev pub nodes_of : Emitter → List PlainNode
+nodes_of e = map plain_node e.nodes.items
+
+abbrev pub functions_of : Emitter → List PlainBody
+functions_of e = map plain_body e.functions.items
+
+-- the number of the next node
+abbrev pub count : Emitter → ℕ
+count e = length e.nodes.items
+
+-- one more node, which has this number
+pub record Puts (old new : Emitter) (line : ℕ) (form : NodeForm) (number : ℕ) : Type 0 where
+  pub nodes : nodes_of new ≡ nodes_of old ++ record { line = line; form = plain_node_form form } ∷ []
+  pub functions : functions_of new ≡ functions_of old
+  pub next : number ≡ count old
+
+-- the nodes and functions of a piece stand at the end
+pub record Adds (old new : Emitter) (piece : Piece) : Type 0 where
+  pub nodes : nodes_of new ≡ nodes_of old ++ piece.nodes
+  pub functions : functions_of new ≡ functions_of old ++ piece.functions
+
+-- and these are the numbers of its forms
+pub record Emits (old new : Emitter) (numbers : List ℕ) (piece : Piece) : Type 0 where
+  pub adds : Adds old new piece
+  pub parts : numbers ≡ piece.parts
+
+-- and this is the form that they are the parts of
+pub record Forms (old new : Emitter) (node : NodeForm) (shape : List ℕ → PlainNodeForm) (piece : Piece) : Type 0 where
+  pub adds : Adds old new piece
+  pub form : plain_node_form node ≡ shape piece.parts
+
+abbrev pub FormsExpr : List Place → Emitter → Emitter → NodeForm → PlainForm → Type 0
+FormsExpr ps old new form f = Forms old new form (expr_node ps f) (form_parts ps (count old) f)
+
+abbrev pub FormsStmt : List Place → Emitter → Emitter → NodeForm → PlainStmtForm → Type 0
+FormsStmt ps old new form f = Forms old new form (stmt_node ps f) (stmt_parts ps (count old) f)
+
+-- the keys of fields with the numbers of their values
+pub record EmitsFields (ps : List Place) (old new : Emitter) (pairs : List (List ℕ × ℕ)) (fs : List Field) : Type 0 where
+  pub adds : Adds old new (fields_piece ps (count old) (fields_of (map plain_field fs)))
+  pub pairs_are : pairs ≡ keyed (fields_of (map plain_field fs)) (fields_piece ps (count old) (fields_of (map plain_field fs))).parts
+
+-- declared variables with the numbers of their values
+pub record EmitsDeclarators (ps : List Place) (old new : Emitter) (declared : List Declared) (ds : List Declarator) : Type 0 where
+  pub adds : Adds old new (declarators_piece ps (count old) (declarators_of (map plain_declarator ds)))
+  pub declared_are : map plain_declared declared ≡ declared_of ps (declarators_of (map plain_declarator ds)) (declarators_piece ps (count old) (declarators_of (map plain_declarator ds))).parts
+
+-- a part that may be absent
+pub record EmitsPerhaps (old new : Emitter) (number : Option ℕ) (present : Bool) (piece : Piece) : Type 0 where
+  pub adds : Adds old new piece
+  pub parts : option_to_list number ≡ piece.parts
+  pub same : is_some number ≡ present
+
+abbrev pub tree_perhaps : Option Expr → PlainPerhaps
+tree_perhaps e = perhaps (option_map plain_expr e)
+
+-- what is left of some forms, so that all of them make a whole
+pub record Leaves (start now : Emitter) (rest whole : Piece) : Type 0 where
+  pub nodes : nodes_of now ++ rest.nodes ≡ nodes_of start ++ whole.nodes
+  pub functions : functions_of now ++ rest.functions ≡ functions_of start ++ whole.functions
+
+abbrev pub plain_stmt_form : StmtForm → PlainStmtForm
+plain_stmt_form = fold-StmtForm PlainForm PlainStart PlainStmtForm PlainDeclarator PlainExpr PlainField PlainStmt form_step start_step stmt_form_step declarator_step expr_step field_step stmt_step
+
+-- a call of a form of the language
+abbrev pub FormsBuiltin : List Place → Emitter → Emitter → NodeForm → Builtin → PlainExprs → Type 0
+FormsBuiltin ps old new form f es = Forms old new form (call_node (Some f) None (floors_division (Some f) es)) (arguments_piece ps (count old) (floors_division (Some f) es) es)
+
+-- a call of anything else
+abbrev pub FormsCalled : List Place → Emitter → Emitter → NodeForm → PlainExpr → PlainExprs → Type 0
+FormsCalled ps old new form e es =
+    let x = if is_some (method_of e) then expr_parts ps (count old) e else expr_piece ps (count old) e in
+    Forms old new form (call_node None (method_of e) false) (beside x (exprs_piece ps (after (count old) x) es))
+
+-- one more function, before those from this place on
+pub record PutsBody (old new : Emitter) (place : ℕ) (body : PlainBody) : Type 0 where
+  pub nodes : nodes_of new ≡ nodes_of old
+  pub functions : functions_of new ≡ insert (functions_of old) place body
+
+-- more numbers
+pub record EmitsMore (old new : Emitter) (before numbers : List ℕ) (piece : Piece) : Type 0 where
+  pub adds : Adds old new piece
+  pub more : numbers ≡ before ++ piece.parts

@@ -1,0 +1,21 @@
+-- Trees that tokens spell.
+use Rattle.std.specs.Prelude.{ℕ, ◌<◌, List, [], ◌∷◌}
+use Rattle.js_lexer.specs.declared.token.Token.{Token}
+use Rattle.js_tree.specs.Plain.{PlainItem}
+use Rattle.js_grammar.specs.Trees.{IsTree}
+
+-- the place of the first token, or the end where there is none
+abbrev pub next : ℕ → List Token → ℕ
+next end [] = end
+next end (t ∷ ts) = t.from
+
+-- each token stands before the one behind it, and the last before the end
+abbrev pub InOrder : ℕ → List Token → Type 0
+InOrder end [] = Unit {0}
+InOrder end (t ∷ ts) = (t.from < next end ts) × InOrder end ts
+
+-- tokens in order, of which 1,048,576 places allow no more, spell the tree, with nesting at most 200
+pub record IsSpelled (items : List PlainItem) : Type 0 where
+  pub tokens : List Token
+  pub order : InOrder 1048576 tokens
+  pub tree : IsTree 200 tokens items

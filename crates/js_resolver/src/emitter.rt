@@ -1,0 +1,38 @@
+//! Nodes and functions, as the walk over a tree emits them.
+ghost use Rattle.std.specs.Prelude.{◌≡◌, ◌+◌, ◌≤◌, IfOk, OnOk, length};
+ghost use Rattle.std.specs.List.{insert};
+ghost use Rattle.js_program.specs.Views.{plain_body};
+ghost use Rattle.js_resolver.specs.Emits.{Puts, nodes_of, functions_of};
+
+use js_program::{Body, Node, NodeForm};
+use std::alloc::{AllocError, Global};
+
+/// The nodes and the functions that are emitted so far.
+#[derive(Drop)]
+pub struct Emitter {
+    pub alloc: Global,
+    pub nodes: Vec<Node>,
+    pub functions: Vec<Body>,
+}
+
+/// One more node, and its number. A number past 32 bits is more than memory holds.
+pub fn put_node(emitter: &mut Emitter, line: u32, form: NodeForm) -> Result<u32, AllocError>
+    ensures { IfOk result (λ n. Puts emitter.old emitter.new line form n) }
+{
+    let number = emitter.nodes.len();
+    if number > u32::MAX as usize {
+        return Err(AllocError);
+    }
+    emitter.nodes.push(Node { line, form })?;
+    Ok(number as u32)
+}
+
+/// A function before those that stand at this place and after it.
+pub fn put_function(emitter: &mut Emitter, place: usize, body: Body) -> Result<(), AllocError>
+    requires { place ≤ length emitter.old.functions.items }
+    ensures nodes { OnOk result (emitter.new.nodes.items ≡ emitter.old.nodes.items) }
+    ensures functions { OnOk result (emitter.new.functions.items ≡ insert emitter.old.functions.items place body) }
+{
+    emitter.functions.insert(place, body)?;
+    Ok(())
+}

@@ -1,0 +1,105 @@
+//! The variables that are not declared yet as a block begins.
+ghost use Rattle.std.specs.Prelude.{◌≡◌, ◌++◌, IfOk, OnOk, false, map};
+ghost use Rattle.js_tree.specs.Plain.{declarators_of, stmts_of};
+ghost use Rattle.js_tree.specs.Views.{plain_declarator, plain_start, plain_stmt};
+ghost use Rattle.js_names.specs.Scopes.{own_declarators, own_of, own_of_all, own_of_start};
+ghost use Rattle.js_names.specs.Views.{own_of_declarator};
+ghost use Rattle.js_resolver.specs.Nodes.{fresh};
+
+use crate::name_tables::NameTables;
+use js_program::Variable;
+use js_tree::{Declarator, DeclareKind, Start, Stmt, StmtForm};
+use std::alloc::{AllocError, Global};
+
+// The variable of a declarator of `let` or `const`.
+fn push_declarator(
+    tables: &NameTables,
+    variables: &mut Vec<Variable>,
+    kind: DeclareKind,
+    declarator: &Declarator,
+) -> Result<(), AllocError>
+    ensures { OnOk result (variables.new.items ≡ variables.old.items ++ fresh tables.now (own_of_declarator 0 false kind declarator.now)) }
+{
+    match kind {
+        DeclareKind::Const | DeclareKind::Let => {
+            variables.push(tables.variable(declarator.name.spot.at))?;
+            Ok(())
+        }
+        DeclareKind::Var => Ok(()),
+    }
+}
+
+// The variables of some declarators.
+fn push_declarators(
+    tables: &NameTables,
+    variables: &mut Vec<Variable>,
+    kind: DeclareKind,
+    declarators: &[Declarator],
+) -> Result<(), AllocError>
+    ensures { OnOk result (variables.new.items ≡ variables.old.items ++ fresh tables.now (own_declarators 0 false kind (declarators_of (map plain_declarator declarators.now)))) }
+{
+    for declarator in declarators {
+        push_declarator(tables, variables, kind, declarator)?;
+    }
+    Ok(())
+}
+
+// The variables that a statement declares for its block.
+fn push_stmt(
+    tables: &NameTables,
+    variables: &mut Vec<Variable>,
+    stmt: &Stmt,
+) -> Result<(), AllocError>
+    ensures { OnOk result (variables.new.items ≡ variables.old.items ++ fresh tables.now (own_of 0 false (plain_stmt stmt.now))) }
+{
+    match &stmt.form {
+        StmtForm::Declaration(kind, declarators) => {
+            push_declarators(tables, variables, *kind, declarators)
+        }
+        _ => Ok(()),
+    }
+}
+
+/// The `let` and `const` variables of a block.
+pub fn block_variables(
+    alloc: Global,
+    tables: &NameTables,
+    body: &[Stmt],
+) -> Result<Vec<Variable>, AllocError>
+    ensures { IfOk result (λ v. v.items ≡ fresh tables.now (own_of_all 0 false (stmts_of (map plain_stmt body.now)))) }
+{
+    let mut variables = Vec::new(alloc);
+    for stmt in body {
+        push_stmt(tables, &mut variables, stmt)?;
+    }
+    Ok(variables)
+}
+
+/// The `let` and `const` variables of the head of a `for`.
+pub fn start_variables(
+    alloc: Global,
+    tables: &NameTables,
+    start: &Start,
+) -> Result<Vec<Variable>, AllocError>
+    ensures { IfOk result (λ v. v.items ≡ fresh tables.now (own_of_start 0 (plain_start start.now))) }
+{
+    let mut variables = Vec::new(alloc);
+    push_start(tables, &mut variables, start)?;
+    Ok(variables)
+}
+
+// The variables that the head of a `for` declares.
+fn push_start(
+    tables: &NameTables,
+    variables: &mut Vec<Variable>,
+    start: &Start,
+) -> Result<(), AllocError>
+    ensures { OnOk result (variables.new.items ≡ variables.old.items ++ fresh tables.now (own_of_start 0 (plain_start start.now))) }
+{
+    match start {
+        Start::Declares(_, kind, declarators) => {
+            push_declarators(tables, variables, *kind, declarators)
+        }
+        _ => Ok(()),
+    }
+}

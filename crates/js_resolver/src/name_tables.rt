@@ -1,0 +1,250 @@
+//! What the names and functions of a program stand for, by look-ups.
+ghost use Rattle.std.specs.Prelude.{◌≡◌, IfOk, map, length, nat_eq};
+ghost use Rattle.indexmap.specs.IndexMap.{get};
+ghost use Rattle.js_program.specs.Views.{plain_body, plain_content};
+ghost use Rattle.js_names.specs.Slots.{assigned_in, captures, constants_of, functions_in, slots_of, vars_of};
+ghost use Rattle.js_names.specs.Views.{held_in, place_of};
+ghost use Rattle.js_resolver.specs.Tables.{first_line};
+ghost use Rattle.js_resolver.specs.Variables.{around_of, around_there, body_of, capture_slots, code_at, known_in, name_key, named_at, named_there, owner_key, var_slots};
+
+use crate::tables::{
+    constants_of, functions_around, functions_in, index_in, named_places, slots_among,
+};
+use indexmap::{IndexMap, IndexSet};
+use js_names::{Names, Seen, TOP, captured, slot_count, vars};
+use js_program::{Body, Content, Variable};
+use std::alloc::{AllocError, Global};
+use std::marker::Model;
+
+/// The constants and the variables of a program.
+#[derive(Drop)]
+pub struct Meanings {
+    /// The constants, in the order of their numbers.
+    pub constants: IndexSet<u32>,
+    /// What the name at each place of the text stands for.
+    pub variables: IndexMap<u32, Variable>,
+}
+
+/// The functions of a program.
+#[derive(Drop)]
+pub struct Functions {
+    /// The functions, in the order of their numbers.
+    pub codes: IndexSet<u32>,
+    /// The function around each function.
+    pub around: IndexMap<u32, u32>,
+}
+
+/// What functions copy, and what is undefined as they begin.
+#[derive(Drop)]
+pub struct Holdings {
+    /// The captures of each function.
+    pub captured: IndexMap<u32, IndexSet<u32>>,
+    /// The `var`s of each function.
+    pub vars: IndexMap<u32, IndexSet<u32>>,
+}
+
+/// The places of a program, with tables of what stands there. Contracts see the places.
+#[derive(Drop)]
+pub struct NameTables {
+    places: Vec<Seen>,
+    meanings: Meanings,
+    functions: Functions,
+    /// The variables of each function, in the order of their slots.
+    slots: IndexMap<u32, IndexSet<u32>>,
+    holdings: Holdings,
+}
+
+impl Model for NameTables {
+    ghost use Rattle.std.specs.Prelude.{List, map};
+    ghost use Rattle.js_names.specs.Places.{Place};
+    ghost use Rattle.js_names.specs.Views.{place_of};
+    ghost use Rattle.js_resolver.specs.StandsFor.{StandsFor};
+
+    ghost Value = { List Place };
+
+    ghost view = { λ t. map place_of t.places.items };
+
+    ghost invariant = { λ t. StandsFor t.meanings.variables t.meanings.constants.keys t.functions.codes.keys t.functions.around t.slots t.holdings.captured t.holdings.vars (map place_of t.places.items) };
+}
+
+// A number of 32 bits; a greater one is more than memory holds.
+fn counted(number: usize) -> Result<u32, AllocError>
+    ensures { IfOk result (λ n. n ≡ number) }
+{
+    if number > u32::MAX as usize {
+        return Err(AllocError);
+    }
+    Ok(number as u32)
+}
+
+// The constants, and what the name at each place of the text stands for.
+fn meanings_of(
+    alloc: Global,
+    assigned: &IndexSet<u32>,
+    slots: &IndexMap<u32, IndexSet<u32>>,
+    places: &[Seen],
+) -> Result<Meanings, AllocError>
+    ensures constants { IfOk result (λ t. t.constants.keys ≡ constants_of assigned.now.keys (map place_of places.now)) }
+    ensures variables { IfOk result (λ t. (q : _) → get nat_eq t.variables q ≡ known_in name_key (named_there assigned.now.keys t.constants.keys (λ f. held_in slots.now f)) q (map place_of places.now)) }
+{
+    let constants = constants_of(alloc, assigned, places)?;
+    let variables = named_places(alloc, assigned, &constants, slots, places)?;
+    Ok(Meanings {
+        constants,
+        variables,
+    })
+}
+
+// The functions, and the function around each of them.
+fn functions_of(alloc: Global, places: &[Seen]) -> Result<Functions, AllocError>
+    ensures codes { IfOk result (λ t. t.codes.keys ≡ functions_in (map place_of places.now)) }
+    ensures around { IfOk result (λ t. (q : _) → get nat_eq t.around q ≡ known_in owner_key around_there q (map place_of places.now)) }
+{
+    let codes = functions_in(alloc, places)?;
+    let around = functions_around(alloc, places)?;
+    Ok(Functions { codes, around })
+}
+
+// The captures and the `var`s of each function.
+fn holdings_of(
+    alloc: Global,
+    assigned: &IndexSet<u32>,
+    places: &[Seen],
+) -> Result<Holdings, AllocError>
+    ensures captured { IfOk result (λ t. (f : _) → held_in t.captured f ≡ captures assigned.now.keys f (map place_of places.now)) }
+    ensures vars { IfOk result (λ t. (f : _) → held_in t.vars f ≡ vars_of assigned.now.keys f (map place_of places.now)) }
+{
+    let captured = captured(alloc, assigned, places)?;
+    let vars = vars(alloc, assigned, places)?;
+    Ok(Holdings { captured, vars })
+}
+
+impl NameTables {
+    /// The tables of the places that the check of names answers.
+    pub fn new(alloc: Global, names: Names) -> Result<NameTables, AllocError>
+        requires assigned { names.assigned.keys ≡ assigned_in (map place_of names.places.items) }
+        requires slots { (f : _) → held_in names.slots f ≡ slots_of (assigned_in (map place_of names.places.items)) f (map place_of names.places.items) }
+        ensures { IfOk result (λ t. t ≡ map place_of names.places.items) }
+    {
+        let Names {
+            places,
+            assigned,
+            slots,
+        } = names;
+        let meanings = meanings_of(alloc, &assigned, &slots, &places)?;
+        let functions = functions_of(alloc, &places)?;
+        let holdings = holdings_of(alloc, &assigned, &places)?;
+        Ok(NameTables {
+            places,
+            meanings,
+            functions,
+            slots,
+            holdings,
+        })
+    }
+
+    /// What the name at a place of the text stands for. Takes no memory.
+    pub fn variable(&self, at: u32) -> Variable
+        ensures { result ≡ named_at self.now at }
+    {
+        match self.meanings.variables.get(&at) {
+            Some(variable) => *variable,
+            None => Variable::Slot(0),
+        }
+    }
+
+    /// The number of the function that begins at a place of the text. Takes no memory; its only error is a
+    /// number past 32 bits.
+    pub fn code(&self, at: u32) -> Result<u32, AllocError>
+        ensures { IfOk result (λ n. n ≡ code_at self.now at) }
+    {
+        index_in(&self.functions.codes, at)
+    }
+
+    /// The constants, in the order of their declarations. Takes no memory.
+    pub fn constants(&self) -> &[u32]
+        ensures { result.now ≡ constants_of (assigned_in self.now) self.now }
+    {
+        self.meanings.constants.as_slice()
+    }
+
+    /// The places, in text order. Takes no memory.
+    pub fn places(&self) -> &[Seen]
+        ensures { map place_of result.now ≡ self.now }
+    {
+        &self.places
+    }
+
+    /// The line of the first token of the program. Takes no memory.
+    pub fn line(&self) -> u32
+        ensures { result ≡ first_line self.now }
+    {
+        match self.places.first() {
+            Some(place) => place.name.spot.line,
+            None => 1,
+        }
+    }
+
+    // The function around a function.
+    fn outer(&self, function: u32) -> u32
+        ensures { result ≡ around_of self.now function }
+    {
+        match self.functions.around.get(&function) {
+            Some(around) => *around,
+            None => TOP,
+        }
+    }
+
+    // For each captured value of a function, its slot in the function around.
+    fn capture_slots(&self, alloc: Global, function: u32) -> Result<Vec<u32>, AllocError>
+        ensures { IfOk result (λ v. v.items ≡ capture_slots self.now function) }
+    {
+        let around = self.outer(function);
+        match self.holdings.captured.get(&function) {
+            Some(variables) => slots_among(alloc, &self.slots, around, variables.as_slice()),
+            None => Ok(Vec::new(alloc)),
+        }
+    }
+
+    // The slots of a function's `var`s.
+    fn var_slots(&self, alloc: Global, function: u32) -> Result<Vec<u32>, AllocError>
+        ensures { IfOk result (λ v. v.items ≡ var_slots self.now function) }
+    {
+        match self.holdings.vars.get(&function) {
+            Some(variables) => slots_among(alloc, &self.slots, function, variables.as_slice()),
+            None => Ok(Vec::new(alloc)),
+        }
+    }
+
+    // How many slots a function needs.
+    fn slot_total(&self, function: u32) -> usize
+        ensures { result ≡ length (slots_of (assigned_in self.now) function self.now) }
+    {
+        slot_count(&self.slots, function)
+    }
+
+    /// The function that begins at a place of the text, with what a call of it runs.
+    pub fn body(
+        &self,
+        alloc: Global,
+        function: u32,
+        parameters: usize,
+        content: Content,
+        line: u32,
+    ) -> Result<Body, AllocError>
+        ensures { IfOk result (λ b. plain_body b ≡ body_of self.now function parameters (plain_content content) line) }
+    {
+        let parameters = counted(parameters)?;
+        let slots = counted(self.slot_total(function))?;
+        let captures = self.capture_slots(alloc, function)?;
+        let vars = self.var_slots(alloc, function)?;
+        Ok(Body {
+            parameters,
+            slots,
+            captures,
+            vars,
+            content,
+            line,
+        })
+    }
+}

@@ -1,0 +1,89 @@
+//! From a tree to its program.
+ghost use Rattle.std.specs.Prelude.{◌≡◌, ◌≢◌, Some, IfOk, IfErr, map};
+ghost use Rattle.js_tree.specs.Views.{plain_item, plain_tree};
+ghost use Rattle.js_program.specs.Sound.{IsSound};
+ghost use Rattle.js_names.specs.Rules.{name_fault};
+ghost use Rattle.js_names.specs.Slots.{assigned_in, slots_of};
+ghost use Rattle.js_names.specs.Views.{held_in, place_of};
+ghost use Rattle.js_resolver.specs.Parts.{parts_from, plain_parts};
+ghost use Rattle.js_resolver.specs.Resolved.{resolved};
+ghost use Rattle.js_resolver.specs.Spelled.{IsSpelled};
+
+use crate::constants::constant_starts;
+use crate::emit::emit_items;
+use crate::emitter::Emitter;
+use crate::name_tables::NameTables;
+use js_names::{NameFault, Names, TOP, check_names};
+use js_program::{Body, ConstantStart, Content, Node, Program};
+use js_tree::{Item, Tree};
+use std::alloc::{AllocError, Global};
+
+/// The parts of a resolved program.
+#[derive(Drop)]
+struct Parts {
+    nodes: Vec<Node>,
+    functions: Vec<Body>,
+    constants: Vec<ConstantStart>,
+    top: Body,
+}
+
+// The parts of the program that these items are, from the tables of its names.
+fn parts_of(alloc: Global, tables: &NameTables, items: &[Item]) -> Result<Parts, AllocError>
+    ensures { IfOk result (λ p. plain_parts p ≡ parts_from (map plain_item items.now) tables.now) }
+{
+    let mut emitter = Emitter {
+        alloc,
+        nodes: Vec::new(alloc),
+        functions: Vec::new(alloc),
+    };
+    let numbers = emit_items(tables, &mut emitter, items)?;
+    let constants = constant_starts(alloc, tables, items)?;
+    let top = tables.body(alloc, TOP, 0, Content::Statements(numbers), tables.line())?;
+    let Emitter {
+        nodes,
+        functions,
+        ..
+    } = emitter;
+    Ok(Parts {
+        nodes,
+        functions,
+        constants,
+        top,
+    })
+}
+
+// The program of these parts. Takes no memory.
+fn program_of(parts: Parts) -> Program
+    requires { IsSound (plain_parts parts) }
+    ensures { result ≡ plain_parts parts }
+{
+    Program::new(parts.nodes, parts.functions, parts.constants, parts.top)
+}
+
+// The program of these items, from what the check of names answers of their places.
+fn program_of_names(alloc: Global, names: Names, items: &[Item]) -> Result<Program, AllocError>
+    requires assigned { names.assigned.keys ≡ assigned_in (map place_of names.places.items) }
+    requires slots { (f : _) → held_in names.slots f ≡ slots_of (assigned_in (map place_of names.places.items)) f (map place_of names.places.items) }
+    requires sound { IsSound (parts_from (map plain_item items.now) (map place_of names.places.items)) }
+    ensures { IfOk result (λ p. p ≡ parts_from (map plain_item items.now) (map place_of names.places.items)) }
+{
+    let tables = NameTables::new(alloc, names)?;
+    let parts = parts_of(alloc, &tables, items)?;
+    Ok(program_of(parts))
+}
+
+/// The program of a tree that tokens spell, exactly where no place breaks a rule of names. Else the fault of the
+/// first place that breaks one. Takes memory for the places, their tables and the program.
+///
+/// # Errors
+///
+/// The fault of a name; or `Memory`, where no memory was left.
+pub fn resolve(alloc: Global, tree: &Tree) -> Result<Program, NameFault>
+    requires spelled { IsSpelled (plain_tree tree.now) }
+    ensures resolved { IfOk result (λ p. resolved (plain_tree tree.now) ≡ Some p) }
+    ensures refused { IfErr result (λ f. f ≢ NameFault.Memory → name_fault (plain_tree tree.now) ≡ Some f) }
+{
+    let names = check_names(alloc, tree)?;
+    let program = program_of_names(alloc, names, &tree.items)?;
+    Ok(program)
+}
