@@ -85,6 +85,15 @@ arrow_block_is k n v = ap plain_form (sym (rolls-ArrowBlock k n v)) ∙ fold-rol
 pub function_is : (k : Spot) (n : Vec Name Global) (v : Vec Stmt Global) → plain_form (Function k n v) ≡ p.function k n.items (stmts_of (map plain_stmt v.items))
 function_is k n v = ap plain_form (sym (rolls-Function k n v)) ∙ fold-roll-Form PlainForm PlainStart PlainStmtForm PlainDeclarator PlainExpr PlainField PlainStmt form_step start_step stmt_form_step declarator_step expr_step field_step stmt_step _
 
+-- whole expressions of two kinds
+
+pub member_whole : (e : Expr) (b : Box Expr Global) (w : List ℕ) (x : Expr) → e.form ≡ Member b w → x ≡ b.value → plain_expr e ≡ p.at e.parens e.line (p.member (plain_expr x) w)
+member_whole e b w x h d = expr_is e ∙ ap (p.at e.parens e.line) (ap plain_form h ∙ (member_is b w ∙ ap (λ z. p.member (plain_expr z) w) (sym d)))
+
+pub binary_whole : (e : Expr) (o : Operator) (b d : Box Expr Global) (x y : Expr) → e.form ≡ Binary o b d → x ≡ b.value → y ≡ d.value → plain_expr e ≡ p.at e.parens e.line (p.binary o (plain_expr x) (plain_expr y))
+binary_whole e o b d x y h k m =
+    expr_is e ∙ ap (p.at e.parens e.line) (ap plain_form h ∙ (binary_is o b d ∙ (ap (λ z. p.binary o (plain_expr z) (plain_expr d.value)) (sym k) ∙ ap (λ z. p.binary o (plain_expr x) (plain_expr z)) (sym m))))
+
 pub declarator_is : (d : Declarator) → plain_declarator d ≡ record { name = (out-Declarator d).name; value = perhaps (option_map plain_expr (out-Declarator d).value); end = (out-Declarator d).end }
 declarator_is d = search (rules, fold_out-Declarator)
 
