@@ -1,8 +1,10 @@
 -- Members and calls, which may be forms of the language.
-use Rattle.std.proofs.Common.{◌≡◌, ℕ, ◌+◌, List, [], ◌∷◌, ◌++◌, ◌∙◌, ap, refl, sym, subst, length, map, Option, Some, None, Bool, true, false, arith, if◌then◌else◌}
+use Rattle.std.proofs.Common.{◌≡◌, ℕ, ◌+◌, ◌-◌, ◌≤◌, drop, get_or, take, List, [], ◌∷◌, ◌++◌, ◌∙◌, ap, refl, sym, subst, length, map, Option, Some, None, Bool, true, false, arith, if◌then◌else◌}
+use Rattle.std.proofs.lemmas.List.{drop_more, take_all, length-drop}
 use Rattle.std.specs.Prelude.{Result, Ok, Err, IfOk, Vec, is_some}
 use Rattle.std.specs.declared.alloc.Global.{Global}
 use Rattle.js_tree.specs.declared.tree.Expr.{Expr}
+use Rattle.js_tree.specs.declared.tree.Operator.{Operator}
 use Rattle.js_tree.specs.declared.tree.Operator.TheVariants.{Divide}
 use Rattle.js_tree.specs.Plain as p
 use Rattle.js_tree.specs.Plain.{PlainExpr, PlainExprs, exprs_of}
@@ -18,7 +20,7 @@ use Rattle.js_resolver.specs.declared.emit.Called.{Called}
 use Rattle.js_resolver.specs.declared.emit.Called.TheVariants as C
 use Rattle.js_resolver.specs.declared.emitter.Emitter.{Emitter}
 use Rattle.js_resolver.specs.Nodes.{Piece, none, after, arguments_piece, begins_with_division, beside, call_node, expr_parts, expr_piece, exprs_piece, form_parts, floors_division, is_division, member_node, method_of}
-use Rattle.js_resolver.specs.Emits.{count, Adds, Emits, EmitsCallee, EmitsCalled, Forms, FormsCall, FormsExpr, FormsBuiltin, builtin_in, word_in, parts_in, called_piece, callee_piece}
+use Rattle.js_resolver.specs.Emits.{count, is_divide, Adds, Emits, EmitsCallee, EmitsCalled, Forms, FormsCall, FormsExpr, FormsBuiltin, builtin_in, word_in, parts_in, called_piece, callee_piece}
 use Rattle.js_resolver.proofs.Emitting.{adds_both, adds_none, counts, emits_both, emits_none}
 
 pub member_builtin : (ps : List Place) (a : Emitter) (x : PlainExpr) (t : List ℕ) (f : Builtin) (w : Vec ℕ Global) → value_builtin x t ≡ Some f → w.items ≡ [] → FormsExpr ps a a (N.Builtin f w) (p.member x t)
@@ -63,8 +65,25 @@ floor_divides ps a b c d first l r parens line es whole i j w o e g h k =
     subst (λ z. FormsBuiltin ps a d (N.FloorDivide i j w) Floor z) (sym (o ∙ ap (λ z. p.expr_in z es) e)) (record { adds = all.adds; form = ap (call_node (Some Floor) None true) all.parts })
 
 -- and of anything else
+
+pub divides_is : (o : Operator) → is_divide o ≡ true → o ≡ Divide
+divides_is Divide e = refl
+divides_is _ e = cc
+
+pub divides_not : (o : Operator) (parens line : ℕ) (l r : PlainExpr) → is_divide o ≡ false → is_division (p.at parens line (p.binary o l r)) ≡ false
+divides_not Divide parens line l r e = cc
+divides_not _ parens line l r e = refl
+
 pub floor_plain : (first : PlainExpr) (es all : PlainExprs) → all ≡ p.expr_in first es → is_division first ≡ false → floors_division (Some Floor) all ≡ false
 floor_plain first es all o e = ap begins_with_division o ∙ e
+
+-- arguments of which there is a first
+pub first_and_rest : (xs : List Expr) (d x : Expr) → 1 ≤ length xs → x ≡ get_or xs 0 d → xs ≡ x ∷ take (length xs - 1) (drop 1 xs)
+first_and_rest xs d x h e =
+    drop_more xs 0 d (omega arith) ∙ (ap (λ z. z ∷ drop 1 xs) (sym e) ∙ ap (λ z. x ∷ z) (sym (take_all (length xs - 1) (drop 1 xs) (omega (arith, length-drop 1 xs)))))
+
+pub exprs_first : (xs ys : List Expr) (x : Expr) → xs ≡ x ∷ ys → exprs_of (map plain_expr xs) ≡ p.expr_in (plain_expr x) (exprs_of (map plain_expr ys))
+exprs_first xs ys x e = ap (λ z. exprs_of (map plain_expr z)) e
 
 -- a method
 pub called_method : (ps : List Place) (a b : Emitter) (e x : PlainExpr) (parens line : ℕ) (t : List ℕ) (i : ℕ) → e ≡ p.at parens line (p.member x t) → value_builtin x t ≡ None
@@ -85,12 +104,18 @@ called_other ps a b e i q g = record {
   word = sym q;
 }
 
+-- a form that was not found
+pub no_value : (o r : Option Builtin) → o ≡ r → is_some o ≡ false → r ≡ None
+no_value None r e h = sym e
+no_value (Some f) r e h = cc
+
 -- a member that is a form of the language is no method
 pub no_method : (e x : PlainExpr) (parens line : ℕ) (t : List ℕ) → e ≡ p.at parens line (p.member x t) → is_some (value_builtin x t) ≡ true → method_of e ≡ None
 no_method e x parens line t q v = ap method_of q ∙ ap (λ z. if z then None else Some t) v
 
 -- a form of the language that is called
 pub callee_builtin : (ps : List Place) (a : Emitter) (e : PlainExpr) (f : Builtin) → called_builtin e ≡ Some f → EmitsCallee ps a a (C.Builtin f) e
+unfolding EmitsCallee
 callee_builtin ps a e f q = record {
   emits = subst (λ o. Emits a a [] (if is_some o then none else called_piece ps (count a) e)) (sym q) (emits_none a);
   builtin = sym q;
@@ -99,6 +124,7 @@ callee_builtin ps a e f q = record {
 
 -- and anything else
 pub callee_called : {E : Type 0} (r : Result Called E) (ps : List Place) (a b : Emitter) (e : PlainExpr) → called_builtin e ≡ None → IfOk r (λ x. EmitsCalled ps a b x e) → IfOk r (λ x. EmitsCallee ps a b x e)
+unfolding EmitsCallee
 callee_called (Err y) ps a b e q h = tt
 callee_called (Ok x) ps a b e q h = record {
   emits = subst (λ o. Emits a b (parts_in x) (if is_some o then none else called_piece ps (count a) e)) (sym q) h.emits;
@@ -124,7 +150,7 @@ call_node_is f (Some b) v w d parts e h = ap (λ z. call_node z v d parts) e
 call_node_is f None v w d parts e h = ap (λ z. call_node z v d parts) e ∙ ap (λ z. call_node None z d parts) (h refl)
 
 pub call_whole : (ps : List Place) (a b c : Emitter) (x : NodeForm) (called : Called) (e : PlainExpr) (es : PlainExprs) → EmitsCallee ps a b called e → FormsCall ps b c x called es → FormsExpr ps a c x (p.call e es)
-unfolding form_parts
+unfolding form_parts EmitsCallee
 call_whole ps a b c x called e es h k =
     let u = callee_piece ps (count a) e in
     let f = called_builtin e in

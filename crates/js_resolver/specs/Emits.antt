@@ -1,9 +1,11 @@
 -- What the walk over a tree adds to what it has emitted.
-use Rattle.std.specs.Prelude.{◌≡◌, ℕ, Bool, false, List, [], ◌∷◌, ◌++◌, Option, Some, None, map, length, option_map, option_to_list, is_some, if◌then◌else◌}
+use Rattle.std.specs.Prelude.{◌≡◌, ℕ, Bool, true, false, List, [], ◌∷◌, ◌++◌, Option, Some, None, map, length, option_map, option_to_list, is_some, if◌then◌else◌}
 use Rattle.std.specs.List.{insert}
 use Rattle.js_tree.specs.declared.tree.Expr.{Expr}
 use Rattle.js_tree.specs.declared.tree.Declarator.{Declarator}
 use Rattle.js_tree.specs.declared.tree.Field.{Field}
+use Rattle.js_tree.specs.declared.tree.Operator.{Operator}
+use Rattle.js_tree.specs.declared.tree.Operator.TheVariants.{Divide}
 use Rattle.js_tree.specs.declared.tree.StmtForm.{StmtForm, fold-StmtForm}
 use Rattle.js_tree.specs.Plain.{PlainExpr, PlainExprs, PlainForm, PlainField, PlainDeclarator, PlainPerhaps, PlainStart, PlainStmt, PlainStmtForm, fields_of, declarators_of}
 use Rattle.js_tree.specs.Views.{perhaps, plain_expr, plain_declarator, plain_field, form_step, start_step, stmt_form_step, declarator_step, expr_step, field_step, stmt_step}
@@ -83,6 +85,10 @@ pub record Leaves (start now : Emitter) (rest whole : Piece) : Type 0 where
 abbrev pub plain_stmt_form : StmtForm → PlainStmtForm
 plain_stmt_form = fold-StmtForm PlainForm PlainStart PlainStmtForm PlainDeclarator PlainExpr PlainField PlainStmt form_step start_step stmt_form_step declarator_step expr_step field_step stmt_step
 
+abbrev pub is_divide : Operator → Bool
+is_divide Divide = true
+is_divide _ = false
+
 -- a call of a form of the language
 abbrev pub FormsBuiltin : List Place → Emitter → Emitter → NodeForm → Builtin → PlainExprs → Type 0
 FormsBuiltin ps old new form f es = Forms old new form (call_node (Some f) None (floors_division (Some f) es)) (arguments_piece ps (count old) (floors_division (Some f) es) es)
@@ -116,10 +122,13 @@ pub record EmitsCalled (ps : List Place) (old new : Emitter) (called : Called) (
   pub builtin : builtin_in called ≡ None
   pub word : word_in called ≡ method_of e
 
-pub record EmitsCallee (ps : List Place) (old new : Emitter) (called : Called) (e : PlainExpr) : Type 0 where
+pub record EmittedCallee (ps : List Place) (old new : Emitter) (called : Called) (e : PlainExpr) : Type 0 where
   pub emits : Emits old new (parts_in called) (callee_piece ps (count old) e)
   pub builtin : builtin_in called ≡ called_builtin e
   pub word : called_builtin e ≡ None → word_in called ≡ method_of e
+
+unfoldable pub EmitsCallee : List Place → Emitter → Emitter → Called → PlainExpr → Type 0
+EmitsCallee ps old new called e = EmittedCallee ps old new called e
 
 -- the arguments of a call, after what is called
 abbrev pub FormsCall : List Place → Emitter → Emitter → NodeForm → Called → PlainExprs → Type 0

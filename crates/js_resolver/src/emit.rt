@@ -11,7 +11,7 @@ ghost use Rattle.js_program.specs.Views.{plain_content, plain_node_form};
 ghost use Rattle.js_names.specs.Scopes.{is_present};
 ghost use Rattle.js_resolver.specs.Variables.{body_of};
 ghost use Rattle.js_resolver.specs.Nodes.{expr_node, expr_piece, exprs_piece, function_piece, has_start, item_piece, items_piece, perhaps_piece, start_piece, stmt_piece, stmts_piece};
-ghost use Rattle.js_resolver.specs.Emits.{Adds, Emits, EmitsMore, EmitsFields, EmitsDeclarators, EmitsPerhaps, EmitsCallee, EmitsCalled, FormsExpr, FormsStmt, FormsBuiltin, FormsCall, PutsBody, count, plain_stmt_form, tree_perhaps};
+ghost use Rattle.js_resolver.specs.Emits.{Adds, Emits, EmitsMore, EmitsFields, EmitsDeclarators, EmitsPerhaps, EmitsCallee, EmitsCalled, FormsExpr, FormsStmt, FormsBuiltin, FormsCall, PutsBody, count, is_divide, plain_stmt_form, tree_perhaps};
 
 use crate::emitter::{Emitter, put_function, put_node};
 use crate::fresh::{block_variables, start_variables};
@@ -23,7 +23,6 @@ use js_tree::{Declarator, Expr, Field, Form, Item, Name, Operator, Spot, Start, 
 use std::alloc::{AllocError, Global};
 
 // The form of a name that is read.
-#[tactic(auto)]
 fn read_form(tables: &NameTables, name: &Name) -> NodeForm
     ensures { plain_node_form result ≡ expr_node tables.now (t.use_of name.now) [] }
 {
@@ -215,6 +214,13 @@ fn emit_builtin(
     }
 }
 
+// Whether the operator divides.
+fn is_divide(operator: Operator) -> bool
+    ensures { result ≡ is_divide operator }
+{
+    matches!(operator, Operator::Divide)
+}
+
 // A call of `Math.floor`: a division is not rounded first.
 #[cycle(emit)]
 fn emit_floor(
@@ -227,7 +233,7 @@ fn emit_floor(
     match arguments {
         [] => Ok(NodeForm::Builtin(Builtin::Floor, Vec::new(emitter.alloc))),
         [first, rest @ ..] => match &first.form {
-            Form::Binary(Operator::Divide, left, right) => {
+            Form::Binary(operator, left, right) if is_divide(*operator) => {
                 let divided = emit_expr(tables, emitter, left)?;
                 let divisor = emit_expr(tables, emitter, right)?;
                 let others = emit_exprs(tables, emitter, rest)?;
@@ -480,7 +486,6 @@ fn emit_stmts(
 
 // A function with this content, before the functions inside it. Each function moves those inside it by one place, so
 // that a function is moved as often as functions stand around it, which are at most 200.
-#[tactic(auto)]
 fn put_body(
     tables: &NameTables,
     emitter: &mut Emitter,

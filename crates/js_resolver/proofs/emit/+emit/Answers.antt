@@ -1,19 +1,24 @@
-use Rattle.std.proofs.Common.{◌≡◌, ◌∷◌, ◌++◌, [], ◌∙◌, ap, refl, sym, subst, arith, map, drop, length}
-use Rattle.std.proofs.lemmas.List.{drop_all}
+use Rattle.std.proofs.Common.{◌≡◌, ◌∷◌, ◌++◌, ◌-◌, [], ◌∙◌, ap, refl, sym, subst, arith, rules, map, drop, take, length}
+use Rattle.std.proofs.lemmas.List.{drop_all, nil_from_length}
+use Rattle.std.specs.Prelude.{IfOk, is_some}
 use Rattle.js_tree.specs.Plain as p
 use Rattle.js_tree.specs.Plain.{exprs_of, stmts_of}
 use Rattle.js_tree.specs.Views.{plain_expr, plain_form, plain_stmt, plain_start}
+use Rattle.js_program.specs.declared.builtin.Builtin.TheVariants.{Floor}
 use Rattle.js_program.specs.PlainProgram as n
 use Rattle.js_names.specs.Sites.{value_builtin, called_builtin}
 use Rattle.js_program.specs.declared.node.NodeForm.TheVariants as N
-use Rattle.js_resolver.specs.Nodes.{exprs_piece, expr_piece, stmts_piece, stmt_piece}
-use Rattle.js_resolver.specs.Emits.{count, tree_perhaps, FormsExpr}
+use Rattle.js_resolver.specs.declared.emit.Called.TheVariants as C
+use Rattle.js_resolver.specs.Nodes.{is_division, method_of, exprs_piece, expr_piece, stmts_piece, stmt_piece}
+use Rattle.js_resolver.specs.Emits.{count, tree_perhaps, EmitsCalled, FormsExpr, FormsBuiltin, FormsCall}
 use Rattle.js_resolver.proofs.FormArms as f
 use Rattle.js_resolver.proofs.StmtArms as s
 use Rattle.js_resolver.proofs.FunctionArms as k
 use Rattle.js_resolver.proofs.CallArms as m
 use Rattle.js_resolver.proofs.Loops as l
+use Rattle.js_resolver.proofs.TreeForms.{expr_is, member_whole, binary_whole, not_member, not_binary}
 use Rattle.js_resolver.proofs.emit.+emit.Goals as goal
+use Rattle.js_resolver.proofs.emit.+emit.Goals.{emit_called-in_default-via-in-Member+else-is_none, emit_called-in_default-via-in_default, emit_floor-in_default-via-in-Binary+else-is_divide, emit_floor-in_default-via-in_default}
 
 pub emit_expr-returns : goal.emit_expr-returns
 emit_expr-returns t c =
@@ -108,28 +113,44 @@ emit_callee-returns-in-None t c =
     m.callee_called c.emit_called.result c.args.tables.now c.args.emitter.now c.emit_called.new.emitter (plain_expr c.args.callee.now) (sym c.called_builtin.ensures ∙ c.in-None.is) c.emit_called.ensures
 
 pub emit_called-returns-in_ok-copy-in-Member : goal.emit_called-returns-in_ok-copy-in-Member
-emit_called-returns-in_ok-copy-in-Member t c = ?
+emit_called-returns-in_ok-copy-in-Member t c =
+    subst (λ z. EmitsCalled c.args.tables.now c.args.emitter.now c.emit_expr.new.emitter (C.Method c.in_ok-object-in-Member.object z) (plain_expr c.args.callee.now)) (sym c.in_ok-copy-in-Member.ensures)
+    (m.called_method c.args.tables.now c.args.emitter.now c.emit_expr.new.emitter (plain_expr c.args.callee.now) (plain_expr c.deref-in-Member.result.now) c.args.callee.now.parens c.args.callee.now.line c.in-Member.word c.in_ok-object-in-Member.object
+    (member_whole c.args.callee.now c.in-Member.object c.in-Member.word c.deref-in-Member.result.now c.in-Member.is c.deref-in-Member.ensures)
+    (m.no_value c.value_builtin.result (value_builtin (plain_expr c.deref-in-Member.result.now) c.in-Member.word)
+    (c.value_builtin.ensures ∙ (ap (value_builtin (plain_expr c.deref.result.now)) c.as_str.ensures ∙ ap (λ z. value_builtin (plain_expr z) c.in-Member.word) (c.deref.ensures ∙ sym c.deref-in-Member.ensures))) c.if-is_none.ensures)
+    c.in_ok-object-in-Member.ensures)
 
 pub emit_called-returns-in_ok-called-in_default : goal.emit_called-returns-in_ok-called-in_default
-emit_called-returns-in_ok-called-in_default t c = ?
+emit_called-returns-in_ok-called-in_default t c =
+    m.called_other c.args.tables.now c.args.emitter.now c.emit_expr-in_default.new.emitter (plain_expr c.args.callee.now) c.in_ok-called-in_default.called (elim c.in_default.branch [ emit_called-in_default-via-in-Member+else-is_none w ↦
+      m.no_method (plain_expr c.args.callee.now) (plain_expr w.deref.result.now) c.args.callee.now.parens c.args.callee.now.line w.in-Member.word (member_whole c.args.callee.now w.in-Member.object w.in-Member.word w.deref.result.now w.in-Member.is w.deref.ensures)
+      (ap is_some (sym (w.value_builtin.ensures ∙ ap (value_builtin (plain_expr w.deref.result.now)) w.as_str.ensures)) ∙ w.if-is_none.ensures)
+    | emit_called-in_default-via-in_default w ↦ ap method_of (expr_is c.args.callee.now) ∙ not_member c.args.callee.now.form w.in_default.not-Member c.args.callee.now.parens c.args.callee.now.line ])
+    c.in_ok-called-in_default.ensures
 
 pub emit_arguments-returns-in-Builtin : goal.emit_arguments-returns-in-Builtin
-emit_arguments-returns-in-Builtin t c = ?
+emit_arguments-returns-in-Builtin t c = subst (λ z. IfOk c.emit_builtin.result (λ x. FormsCall c.args.tables.now c.args.emitter.now c.emit_builtin.new.emitter x z (exprs_of (map plain_expr c.args.arguments.now)))) (sym c.in-Builtin.is) c.emit_builtin.ensures
 
 pub emit_arguments-returns-in_ok-others-in-Method : goal.emit_arguments-returns-in_ok-others-in-Method
-emit_arguments-returns-in_ok-others-in-Method t c = ?
+emit_arguments-returns-in_ok-others-in-Method t c =
+    subst (λ z. FormsCall c.args.tables.now c.args.emitter.now c.emit_exprs.new.emitter (N.Method c.in-Method.object c.in-Method.word c.in_ok-others-in-Method.others) z (exprs_of (map plain_expr c.args.arguments.now))) (sym c.in-Method.is)
+    (m.arguments_method c.args.tables.now c.args.emitter.now c.emit_exprs.new.emitter c.in-Method.object c.in-Method.word (exprs_of (map plain_expr c.args.arguments.now)) c.in_ok-others-in-Method.others c.in_ok-others-in-Method.ensures)
 
 pub emit_arguments-returns-in_ok-others-in-Other : goal.emit_arguments-returns-in_ok-others-in-Other
-emit_arguments-returns-in_ok-others-in-Other t c = ?
+emit_arguments-returns-in_ok-others-in-Other t c =
+    subst (λ z. FormsCall c.args.tables.now c.args.emitter.now c.emit_exprs-in-Other.new.emitter (N.Call c.in-Other.called c.in_ok-others-in-Other.others) z (exprs_of (map plain_expr c.args.arguments.now))) (sym c.in-Other.is)
+    (m.arguments_other c.args.tables.now c.args.emitter.now c.emit_exprs-in-Other.new.emitter c.in-Other.called (exprs_of (map plain_expr c.args.arguments.now)) c.in_ok-others-in-Other.others c.in_ok-others-in-Other.ensures)
 
 pub emit_builtin-returns-in-Floor : goal.emit_builtin-returns-in-Floor
-emit_builtin-returns-in-Floor t c = ?
+emit_builtin-returns-in-Floor t c = subst (λ z. IfOk c.emit_floor.result (λ x. FormsBuiltin c.args.tables.now c.args.emitter.now c.emit_floor.new.emitter x z (exprs_of (map plain_expr c.args.arguments.now)))) (sym c.in-Floor.is) c.emit_floor.ensures
 
 pub emit_builtin-returns-in_ok-numbers-in_default : goal.emit_builtin-returns-in_ok-numbers-in_default
-emit_builtin-returns-in_ok-numbers-in_default t c = ?
+emit_builtin-returns-in_ok-numbers-in_default t c =
+    m.builtin_plain c.args.tables.now c.args.emitter.now c.emit_exprs.new.emitter c.args.builtin (exprs_of (map plain_expr c.args.arguments.now)) c.in_ok-numbers-in_default.numbers (m.not_floor c.args.builtin (exprs_of (map plain_expr c.args.arguments.now)) c.in_default.not-Floor) c.in_ok-numbers-in_default.ensures
 
 pub emit_floor-returns-in-empty : goal.emit_floor-returns-in-empty
-emit_floor-returns-in-empty t c = ?
+emit_floor-returns-in-empty t c = m.floor_none c.args.tables.now c.args.emitter.now c.args.arguments.now c.new.result (nil_from_length c.args.arguments.now (omega arith)) c.new.ensures.items
 
 pub emit_function-returns : goal.emit_function-returns
 emit_function-returns t c =
@@ -272,3 +293,23 @@ emit_declarators-loop-declarator-init t c = l.declarators_all c.args.tables.now 
 pub emit_declarators-returns : goal.emit_declarators-returns
 emit_declarators-returns t c =
     l.declarators_none c.args.tables.now c.args.emitter.now c.loop-declarator.emitter c.loop-declarator.declared.items (drop c.loop-declarator.declarator-index c.args.declarators.now) c.args.declarators.now (drop_all c.loop-declarator.declarator-index c.args.declarators.now (omega arith)) c.loop-declarator.invariant
+
+pub emit_floor-returns-in_ok-others-in-Binary : goal.emit_floor-returns-in_ok-others-in-Binary
+emit_floor-returns-in_ok-others-in-Binary t c =
+    m.floor_divides c.args.tables.now c.args.emitter.now c.emit_expr.new.emitter c.emit_expr-in-Binary.new.emitter c.emit_exprs.new.emitter (plain_expr c.first-item.result) (plain_expr c.deref.result.now) (plain_expr c.deref-in-Binary.result.now) c.first-item.result.parens c.first-item.result.line
+    (exprs_of (map plain_expr (take (length c.args.arguments.now - 1) (drop 1 c.args.arguments.now)))) (exprs_of (map plain_expr c.args.arguments.now)) c.in_ok-divided-in-Binary.divided c.in_ok-divisor-in-Binary.divisor c.in_ok-others-in-Binary.others
+    (m.exprs_first c.args.arguments.now (take (length c.args.arguments.now - 1) (drop 1 c.args.arguments.now)) c.first-item.result (m.first_and_rest c.args.arguments.now c.first-item.result c.first-item.result c.in-len1-up.len_at_least c.first-item.is))
+    (binary_whole c.first-item.result c.in-Binary.operator c.in-Binary.left c.in-Binary.right c.deref.result.now c.deref-in-Binary.result.now c.in-Binary.is c.deref.ensures c.deref-in-Binary.ensures
+    ∙ ap (λ z. p.at c.first-item.result.parens c.first-item.result.line (p.binary z (plain_expr c.deref.result.now) (plain_expr c.deref-in-Binary.result.now))) (m.divides_is c.in-Binary.operator (sym c.is_divide.ensures ∙ c.if-is_divide.true)))
+    c.in_ok-divided-in-Binary.ensures c.in_ok-divisor-in-Binary.ensures c.in_ok-others-in-Binary.ensures
+
+pub emit_floor-returns-in_ok-numbers-in_default : goal.emit_floor-returns-in_ok-numbers-in_default
+emit_floor-returns-in_ok-numbers-in_default t c =
+    let rest = take (length c.args.arguments.now - 1) (drop 1 c.args.arguments.now) in
+    m.builtin_plain c.args.tables.now c.args.emitter.now c.emit_exprs-in_default.new.emitter Floor (exprs_of (map plain_expr c.args.arguments.now)) c.in_ok-numbers-in_default.numbers
+    (m.floor_plain (plain_expr c.first-item.result) (exprs_of (map plain_expr rest)) (exprs_of (map plain_expr c.args.arguments.now)) (m.exprs_first c.args.arguments.now rest c.first-item.result (m.first_and_rest c.args.arguments.now c.first-item.result c.first-item.result c.in-len1-up.len_at_least c.first-item.is))
+    (elim c.in_default.branch [ emit_floor-in_default-via-in-Binary+else-is_divide w ↦
+      ap is_division (binary_whole c.first-item.result w.in-Binary.operator w.in-Binary.left w.in-Binary.right w.in-Binary.left.value w.in-Binary.right.value w.in-Binary.is refl refl)
+      ∙ m.divides_not w.in-Binary.operator c.first-item.result.parens c.first-item.result.line (plain_expr w.in-Binary.left.value) (plain_expr w.in-Binary.right.value) (sym w.is_divide.ensures ∙ w.if-is_divide.false)
+    | emit_floor-in_default-via-in_default w ↦ ap is_division (expr_is c.first-item.result) ∙ not_binary c.first-item.result.form w.in_default.not-Binary c.first-item.result.parens c.first-item.result.line ]))
+    c.in_ok-numbers-in_default.ensures
