@@ -156,7 +156,7 @@ call_whole ps a b c x called e es h k =
     let f = called_builtin e in
     let d = floors_division f es in
     let j : Forms b c x (λ parts. call_node (builtin_in called) (word_in called) d (parts_in called ++ parts)) (arguments_piece ps (count b) d es) =
-        subst (λ o. Forms b c x (λ parts. call_node (builtin_in called) (word_in called) (floors_division o es) (parts_in called ++ parts)) (arguments_piece ps (count b) (floors_division o es) es)) h.builtin k in
+    subst (λ o. Forms b c x (λ parts. call_node (builtin_in called) (word_in called) (floors_division o es) (parts_in called ++ parts)) (arguments_piece ps (count b) (floors_division o es) es)) h.builtin k in
     let m : count b ≡ after (count a) u = counts a b u h.emits.adds in
     record {
       adds = adds_both (λ z. arguments_piece ps z d es) a b c u h.emits.adds j.adds;

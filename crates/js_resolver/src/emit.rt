@@ -35,11 +35,7 @@ fn read_form(tables: &NameTables, name: &Name) -> NodeForm
 
 // An expression, and its number.
 #[cycle(emit)]
-fn emit_expr(
-    tables: &NameTables,
-    emitter: &mut Emitter,
-    e: &Expr,
-) -> Result<u32, AllocError>
+fn emit_expr(tables: &NameTables, emitter: &mut Emitter, e: &Expr) -> Result<u32, AllocError>
     ensures { IfOk result (λ x. Emits emitter.old emitter.new (x ∷ []) (expr_piece tables.now (count emitter.old) (plain_expr e.now))) }
 {
     let form = emit_form(tables, emitter, &e.form)?;
@@ -260,7 +256,14 @@ fn emit_arrow(
 {
     let place = emitter.functions.len();
     let number = emit_expr(tables, emitter, value)?;
-    put_body(tables, emitter, place, spot, names, Content::OneValue(number))?;
+    put_body(
+        tables,
+        emitter,
+        place,
+        spot,
+        names,
+        Content::OneValue(number),
+    )?;
     let code = tables.code(spot.at)?;
     Ok(NodeForm::Function(code))
 }
@@ -294,7 +297,14 @@ fn emit_body(
 {
     let place = emitter.functions.len();
     let numbers = emit_stmts(tables, emitter, body)?;
-    put_body(tables, emitter, place, spot, names, Content::Statements(numbers))
+    put_body(
+        tables,
+        emitter,
+        place,
+        spot,
+        names,
+        Content::Statements(numbers),
+    )
 }
 
 // Expressions.
@@ -392,11 +402,7 @@ fn emit_start(
 
 // A statement, and its number.
 #[cycle(emit)]
-fn emit_stmt(
-    tables: &NameTables,
-    emitter: &mut Emitter,
-    stmt: &Stmt,
-) -> Result<u32, AllocError>
+fn emit_stmt(tables: &NameTables, emitter: &mut Emitter, stmt: &Stmt) -> Result<u32, AllocError>
     ensures { IfOk result (λ x. Emits emitter.old emitter.new (x ∷ []) (stmt_piece tables.now (count emitter.old) (plain_stmt stmt.now))) }
 {
     let form = emit_stmt_form(tables, emitter, &stmt.form)?;

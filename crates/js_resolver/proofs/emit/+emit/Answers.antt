@@ -123,10 +123,12 @@ emit_called-returns-in_ok-copy-in-Member t c =
 
 pub emit_called-returns-in_ok-called-in_default : goal.emit_called-returns-in_ok-called-in_default
 emit_called-returns-in_ok-called-in_default t c =
-    m.called_other c.args.tables.now c.args.emitter.now c.emit_expr-in_default.new.emitter (plain_expr c.args.callee.now) c.in_ok-called-in_default.called (elim c.in_default.branch [ emit_called-in_default-via-in-Member+else-is_none w ↦
-      m.no_method (plain_expr c.args.callee.now) (plain_expr w.deref.result.now) c.args.callee.now.parens c.args.callee.now.line w.in-Member.word (member_whole c.args.callee.now w.in-Member.object w.in-Member.word w.deref.result.now w.in-Member.is w.deref.ensures)
-      (ap is_some (sym (w.value_builtin.ensures ∙ ap (value_builtin (plain_expr w.deref.result.now)) w.as_str.ensures)) ∙ w.if-is_none.ensures)
-    | emit_called-in_default-via-in_default w ↦ ap method_of (expr_is c.args.callee.now) ∙ not_member c.args.callee.now.form w.in_default.not-Member c.args.callee.now.parens c.args.callee.now.line ])
+    m.called_other c.args.tables.now c.args.emitter.now c.emit_expr-in_default.new.emitter (plain_expr c.args.callee.now) c.in_ok-called-in_default.called (elim c.in_default.branch [
+      | emit_called-in_default-via-in-Member+else-is_none w ↦
+          m.no_method (plain_expr c.args.callee.now) (plain_expr w.deref.result.now) c.args.callee.now.parens c.args.callee.now.line w.in-Member.word (member_whole c.args.callee.now w.in-Member.object w.in-Member.word w.deref.result.now w.in-Member.is w.deref.ensures)
+          (ap is_some (sym (w.value_builtin.ensures ∙ ap (value_builtin (plain_expr w.deref.result.now)) w.as_str.ensures)) ∙ w.if-is_none.ensures)
+      | emit_called-in_default-via-in_default w ↦ ap method_of (expr_is c.args.callee.now) ∙ not_member c.args.callee.now.form w.in_default.not-Member c.args.callee.now.parens c.args.callee.now.line
+    ])
     c.in_ok-called-in_default.ensures
 
 pub emit_arguments-returns-in-Builtin : goal.emit_arguments-returns-in-Builtin
@@ -308,8 +310,10 @@ emit_floor-returns-in_ok-numbers-in_default t c =
     let rest = take (length c.args.arguments.now - 1) (drop 1 c.args.arguments.now) in
     m.builtin_plain c.args.tables.now c.args.emitter.now c.emit_exprs-in_default.new.emitter Floor (exprs_of (map plain_expr c.args.arguments.now)) c.in_ok-numbers-in_default.numbers
     (m.floor_plain (plain_expr c.first-item.result) (exprs_of (map plain_expr rest)) (exprs_of (map plain_expr c.args.arguments.now)) (m.exprs_first c.args.arguments.now rest c.first-item.result (m.first_and_rest c.args.arguments.now c.first-item.result c.first-item.result c.in-len1-up.len_at_least c.first-item.is))
-    (elim c.in_default.branch [ emit_floor-in_default-via-in-Binary+else-is_divide w ↦
-      ap is_division (binary_whole c.first-item.result w.in-Binary.operator w.in-Binary.left w.in-Binary.right w.in-Binary.left.value w.in-Binary.right.value w.in-Binary.is refl refl)
-      ∙ m.divides_not w.in-Binary.operator c.first-item.result.parens c.first-item.result.line (plain_expr w.in-Binary.left.value) (plain_expr w.in-Binary.right.value) (sym w.is_divide.ensures ∙ w.if-is_divide.false)
-    | emit_floor-in_default-via-in_default w ↦ ap is_division (expr_is c.first-item.result) ∙ not_binary c.first-item.result.form w.in_default.not-Binary c.first-item.result.parens c.first-item.result.line ]))
+    (elim c.in_default.branch [
+      | emit_floor-in_default-via-in-Binary+else-is_divide w ↦
+          ap is_division (binary_whole c.first-item.result w.in-Binary.operator w.in-Binary.left w.in-Binary.right w.in-Binary.left.value w.in-Binary.right.value w.in-Binary.is refl refl)
+          ∙ m.divides_not w.in-Binary.operator c.first-item.result.parens c.first-item.result.line (plain_expr w.in-Binary.left.value) (plain_expr w.in-Binary.right.value) (sym w.is_divide.ensures ∙ w.if-is_divide.false)
+      | emit_floor-in_default-via-in_default w ↦ ap is_division (expr_is c.first-item.result) ∙ not_binary c.first-item.result.form w.in_default.not-Binary c.first-item.result.parens c.first-item.result.line
+    ]))
     c.in_ok-numbers-in_default.ensures
