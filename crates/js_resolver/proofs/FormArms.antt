@@ -23,11 +23,13 @@ use Rattle.js_program.specs.declared.node.Variable.{Variable}
 use Rattle.js_program.specs.PlainProgram as n
 use Rattle.js_program.specs.Views.{plain_node_form}
 use Rattle.js_names.specs.Places.{Place}
+use Rattle.js_resolver.specs.declared.emit.Called.{Called}
 use Rattle.js_resolver.specs.declared.emitter.Emitter.{Emitter}
 use Rattle.js_resolver.specs.Variables.{named_at, code_at}
 use Rattle.js_resolver.specs.Nodes.{none, beside, closed, expr_node, expr_piece, form_parts, exprs_piece, fields_piece, stmts_piece, keyed}
-use Rattle.js_resolver.specs.Emits.{count, Puts, Adds, Emits, EmitsFields, FormsExpr}
+use Rattle.js_resolver.specs.Emits.{count, Puts, Adds, Emits, EmitsCallee, EmitsFields, FormsCall, FormsExpr}
 use Rattle.js_resolver.proofs.Emitting.{emits_none, emits_both, forms_expr, if_forms_expr, if_closes}
+use Rattle.js_resolver.proofs.CallArms.{call_whole}
 use Rattle.js_resolver.proofs.TreeForms.{expr_is, number_is, words_is, truth_is, null_is, use_is, list_is, fields_is, member_is, index_is, call_is, unary_is, update_is, binary_is, conditional_is, assign_is, arrow_value_is, arrow_block_is, function_is}
 
 pub number_arm : (ps : List Place) (a : Emitter) (f : Form) (k : _) → f ≡ Number k
@@ -107,10 +109,12 @@ pub member_arm : (ps : List Place) {E : Type 0} (r : Result NodeForm E) (a b : E
 unfolding form_parts
 member_arm ps r a b f l t x h d0 k = if_forms_expr r ps a b (p.member (plain_expr x) t) (plain_form f) (ap (λ z. p.member (plain_expr z) t) d0 ∙ sym (ap plain_form h ∙ member_is l t)) k
 
-pub call_arm : (ps : List Place) {E : Type 0} (r : Result NodeForm E) (a b : Emitter) (f : Form) (l : Box Expr Global) (v : Vec Expr Global) (x : Expr) (xs : List Expr) → f ≡ Call l v → x ≡ l.value → xs ≡ v.items → IfOk r (λ w. FormsExpr ps a b w (p.call (plain_expr x) (exprs_of (map plain_expr xs))))
-    → IfOk r (λ w. FormsExpr ps a b w (plain_form f))
-unfolding form_parts
-call_arm ps r a b f l v x xs h d0 d1 k = if_forms_expr r ps a b (p.call (plain_expr x) (exprs_of (map plain_expr xs))) (plain_form f) ((ap (λ z. p.call (plain_expr z) (exprs_of (map plain_expr xs))) d0 ∙ ap (λ z. p.call (plain_expr l.value) (exprs_of (map plain_expr z))) d1) ∙ sym (ap plain_form h ∙ call_is l v)) k
+pub call_arm : (ps : List Place) {E : Type 0} (r : Result NodeForm E) (a b c : Emitter) (f : Form) (l : Box Expr Global) (v : Vec Expr Global) (x : Expr) (xs : List Expr) (called : Called) → f ≡ Call l v → x ≡ l.value → xs ≡ v.items → EmitsCallee ps a b called (plain_expr x)
+    → IfOk r (λ w. FormsCall ps b c w called (exprs_of (map plain_expr xs))) → IfOk r (λ w. FormsExpr ps a c w (plain_form f))
+call_arm ps (Err y) a b c f l v x xs called h d0 d1 k m = tt
+call_arm ps (Ok w) a b c f l v x xs called h d0 d1 k m =
+    subst (FormsExpr ps a c w) ((ap (λ z. p.call (plain_expr z) (exprs_of (map plain_expr xs))) d0 ∙ ap (λ z. p.call (plain_expr l.value) (exprs_of (map plain_expr z))) d1) ∙ sym (ap plain_form h ∙ call_is l v))
+    (call_whole ps a b c w called (plain_expr x) (exprs_of (map plain_expr xs)) k m)
 
 pub arrow_value_arm : (ps : List Place) {E : Type 0} (r : Result NodeForm E) (a b : Emitter) (f : Form) (s : Spot) (v : Vec Name Global) (l : Box Expr Global) (ns : List Name) (x : Expr) → f ≡ ArrowValue s v l → ns ≡ v.items → x ≡ l.value → IfOk r (λ w. FormsExpr ps a b w (p.arrow_value s ns (plain_expr x)))
     → IfOk r (λ w. FormsExpr ps a b w (plain_form f))

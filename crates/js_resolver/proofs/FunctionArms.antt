@@ -1,16 +1,20 @@
 -- Functions, each before those inside it.
-use Rattle.std.proofs.Common.{◌≡◌, ℕ, ◌+◌, ◌≤◌, List, [], ◌∷◌, ◌++◌, ◌∙◌, ap, refl, sym, subst, length, map, take, drop, arith, length-append}
+use Rattle.std.proofs.Common.{◌≡◌, ℕ, ◌+◌, ◌≤◌, List, [], ◌∷◌, ◌++◌, ◌∙◌, ap, refl, sym, subst, length, map, take, drop, arith, append-nil, length-append}
 use Rattle.std.specs.Prelude.{Result, Ok, Err, IfOk, OnOk, Vec}
+use Rattle.std.specs.declared.alloc.Global.{Global}
 use Rattle.std.specs.List.{insert}
 use Rattle.std.proofs.lemmas.List.{length-map}
 use Rattle.std.proofs.Math.Seq.{take-append_seam, drop-append_seam}
 use Rattle.indexmap.proofs.SetLemmas.{map-insert}
 use Rattle.js_tree.specs.declared.tree.Expr.{Expr}
+use Rattle.js_tree.specs.declared.tree.Item.{Item}
+use Rattle.js_tree.specs.declared.tree.Item.TheVariants.{Statement, Function}
 use Rattle.js_tree.specs.declared.tree.Name.{Name}
 use Rattle.js_tree.specs.declared.tree.Spot.{Spot}
+use Rattle.js_tree.specs.declared.tree.Stmt.{Stmt}
 use Rattle.js_tree.specs.Plain as p
-use Rattle.js_tree.specs.Plain.{PlainStmts}
-use Rattle.js_tree.specs.Views.{plain_expr}
+use Rattle.js_tree.specs.Plain.{PlainStmts, stmts_of}
+use Rattle.js_tree.specs.Views.{plain_expr, plain_item, plain_stmt}
 use Rattle.js_program.specs.declared.node.Body.{Body}
 use Rattle.js_program.specs.declared.node.NodeForm.{NodeForm}
 use Rattle.js_program.specs.declared.node.NodeForm.TheVariants as N
@@ -20,8 +24,8 @@ use Rattle.js_program.specs.Views.{plain_body, plain_node, plain_node_form}
 use Rattle.js_names.specs.Places.{Place}
 use Rattle.js_resolver.specs.declared.emitter.Emitter.{Emitter}
 use Rattle.js_resolver.specs.Variables.{body_of, code_at}
-use Rattle.js_resolver.specs.Nodes.{Piece, expr_piece, form_parts, function_piece, one_value, stmts_piece}
-use Rattle.js_resolver.specs.Emits.{nodes_of, functions_of, count, Adds, Emits, FormsExpr, PutsBody}
+use Rattle.js_resolver.specs.Nodes.{Piece, expr_piece, form_parts, function_piece, item_piece, one_value, stmt_piece, stmts_piece}
+use Rattle.js_resolver.specs.Emits.{nodes_of, functions_of, count, Adds, Emits, EmitsMore, FormsExpr, PutsBody}
 
 inserted : {A : Type 0} (xs ys : List A) (y : A) → insert (xs ++ ys) (length xs) y ≡ xs ++ y ∷ ys
 inserted xs ys y = ap (λ z. z ++ y ∷ drop (length xs) (xs ++ ys)) (take-append_seam xs ys) ∙ ap (λ z. xs ++ y ∷ z) (drop-append_seam xs ys)
@@ -75,3 +79,20 @@ arrow_form ps a b c place spot names x i code e h k q = record {
   adds = function_adds ps a b c place spot names (i ∷ []) one_value (expr_piece ps (count a) (plain_expr x)) e h k;
   form = ap (λ z. n.function z) q;
 }
+
+-- what a program lists
+
+pub statement_item : (ps : List Place) (a b : Emitter) (i : Item) (x : Stmt) (ms ks : List ℕ) (k : ℕ) → i ≡ Statement x → Emits a b (k ∷ []) (stmt_piece ps (count a) (plain_stmt x)) → ks ≡ ms ++ k ∷ []
+    → EmitsMore a b ms ks (item_piece ps (count a) (plain_item i))
+unfolding item_piece
+statement_item ps a b i x ms ks k h e q = subst (λ z. EmitsMore a b ms ks (item_piece ps (count a) (plain_item z))) (sym h) (record { adds = e.adds; more = q ∙ ap (λ z. ms ++ z) e.parts })
+
+pub function_item : {A E : Type 0} (r : Result A E) (ps : List Place) (a b : Emitter) (i : Item) (spot : Spot) (name : Name) (v : Vec Name Global) (u : Vec Stmt Global) (names : List Name) (ss : List Stmt) (ms : List ℕ) → i ≡ Function spot name v u → names ≡ v.items → ss ≡ u.items
+    → OnOk r (Adds a b (function_piece ps spot names n.statements (stmts_piece ps (count a) (stmts_of (map plain_stmt ss))))) → OnOk r (EmitsMore a b ms ms (item_piece ps (count a) (plain_item i)))
+unfolding item_piece
+function_item (Err y) ps a b i spot name v u names ss ms h d e k = tt
+function_item (Ok y) ps a b i spot name v u names ss ms h d e k =
+    let all : Adds a b (function_piece ps spot v.items n.statements (stmts_piece ps (count a) (stmts_of (map plain_stmt u.items)))) =
+    subst (λ z. Adds a b (function_piece ps spot z n.statements (stmts_piece ps (count a) (stmts_of (map plain_stmt u.items))))) d
+    (subst (λ z. Adds a b (function_piece ps spot names n.statements (stmts_piece ps (count a) (stmts_of (map plain_stmt z))))) e k) in
+    subst (λ z. EmitsMore a b ms ms (item_piece ps (count a) (plain_item z))) (sym h) (record { adds = all; more = sym (append-nil ms) })

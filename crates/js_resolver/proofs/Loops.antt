@@ -86,7 +86,7 @@ fields_more ps xs i d x a b c ms ks n h e r k q =
     let px = expr_piece ps (count b) (plain_expr x.value) in
     let py = fields_piece ps (after (count b) px) fs in
     let is : fields_of (map plain_field (drop i xs)) ≡ field_in x.key (plain_expr x.value) fs =
-        ap (λ z. fields_of (map plain_field z)) (at_next xs i d x h e) ∙ ap (λ (z : PlainField). field_in z.key z.value fs) (field_is x) in
+    ap (λ z. fields_of (map plain_field z)) (at_next xs i d x h e) ∙ ap (λ (z : PlainField). field_in z.key z.value fs) (field_is x) in
     let all = fields_of (map plain_field xs) in
     let w = fields_piece ps (count a) all in
     let l : Leaves a b (beside px py) w = subst (λ z. Leaves a b (fields_piece ps (count b) z) w) is r.leaves in
@@ -143,17 +143,17 @@ declarators_more ps xs i d x a b c ms ks m h e r k v q =
     let px = perhaps_piece ps (count b) value in
     let py = declarators_piece ps (after (count b) px) ds in
     let is : declarators_of (map plain_declarator (drop i xs)) ≡ declarator_in name value end ds =
-        ap (λ z. declarators_of (map plain_declarator z)) (at_next xs i d x h e) ∙ ap (λ (z : PlainDeclarator). declarator_in z.name z.value z.end ds) (declarator_is x) in
+    ap (λ z. declarators_of (map plain_declarator z)) (at_next xs i d x h e) ∙ ap (λ (z : PlainDeclarator). declarator_in z.name z.value z.end ds) (declarator_is x) in
     let all = declarators_of (map plain_declarator xs) in
     let w = declarators_piece ps (count a) all in
     let l : Leaves a b (beside px py) w = subst (λ z. Leaves a b (declarators_piece ps (count b) z) w) is r.leaves in
     let p : map plain_declared ms ++ declared_of ps (declarator_in name value end ds) (px.parts ++ py.parts) ≡ declared_of ps all w.parts =
-        subst (λ z. map plain_declared ms ++ declared_of ps z (declarators_piece ps (count b) z).parts ≡ declared_of ps all w.parts) is r.declared_are in
+    subst (λ z. map plain_declared ms ++ declared_of ps z (declarators_piece ps (count b) z).parts ≡ declared_of ps all w.parts) is r.declared_are in
     let one : one_declared (m.variable) (m.value) ∷ declared_of ps ds py.parts ≡ declared_of ps (declarator_in name value end ds) (px.parts ++ py.parts) =
-        ap (λ z. one_declared (z) (m.value) ∷ declared_of ps ds py.parts) v
-        ∙ (ap (λ z. one_declared (named_at ps name.spot.at) (z) ∷ declared_of ps ds py.parts) (sym (part_is m.value (is_present value) py.parts k.same))
-        ∙ (ap (λ z. one_declared (named_at ps name.spot.at) (perhaps_part (is_present value) (option_to_list m.value ++ py.parts)) ∷ declared_of ps ds z) (sym (after_is m.value (is_present value) py.parts k.same))
-        ∙ ap (λ z. declared_of ps (declarator_in name value end ds) (z ++ py.parts)) k.parts)) in
+    ap (λ z. one_declared (z) (m.value) ∷ declared_of ps ds py.parts) v
+    ∙ (ap (λ z. one_declared (named_at ps name.spot.at) (z) ∷ declared_of ps ds py.parts) (sym (part_is m.value (is_present value) py.parts k.same))
+    ∙ (ap (λ z. one_declared (named_at ps name.spot.at) (perhaps_part (is_present value) (option_to_list m.value ++ py.parts)) ∷ declared_of ps ds z) (sym (after_is m.value (is_present value) py.parts k.same))
+    ∙ ap (λ z. declared_of ps (declarator_in name value end ds) (z ++ py.parts)) k.parts)) in
     record {
       leaves = leaves_more (λ n. declarators_piece ps n ds) a b c px w l k.adds;
       declared_are = ap (λ n. map plain_declared ks ++ declared_of ps ds (declarators_piece ps n ds).parts) (counts b c px k.adds)

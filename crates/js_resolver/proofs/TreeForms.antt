@@ -1,5 +1,5 @@
 -- The plain form of each expression and statement, from those of its parts.
-use Rattle.std.proofs.Common.{◌≡◌, ℕ, rules, List, ◌∙◌, ap, sym, map, Option}
+use Rattle.std.proofs.Common.{◌≡◌, ℕ, rules, List, ◌∙◌, ap, sym, map, Option, None, false}
 use Rattle.std.specs.Prelude.{Vec, option_map}
 use Rattle.std.specs.declared.alloc.Global.{Global}
 use Rattle.std.specs.declared.boxed.Box.{Box}
@@ -16,13 +16,14 @@ use Rattle.js_tree.specs.declared.tree.Declarator.{Declarator, out-Declarator, f
 use Rattle.js_tree.specs.declared.tree.Start.{Start, Nothing, Evaluates, fold-roll-Start}
 use Rattle.js_tree.specs.declared.tree.Start.TheVariants.{rolls-Nothing, rolls-Evaluates}
 use Rattle.js_tree.specs.declared.tree.Stmt.{Stmt}
-use Rattle.js_tree.specs.declared.tree.StmtForm.{Empty, Expression, Break, Continue, ReturnNothing, Return, fold-roll-StmtForm}
+use Rattle.js_tree.specs.declared.tree.StmtForm.{StmtForm, Empty, Expression, Break, Continue, ReturnNothing, Return, fold-roll-StmtForm}
 use Rattle.js_tree.specs.declared.tree.StmtForm.TheVariants.{rolls-Empty, rolls-Expression, rolls-Break, rolls-Continue, rolls-ReturnNothing, rolls-Return}
-use Rattle.js_tree.specs.declared.tree.Form.{Form, Number, Words, Truth, Null, Use, List as ListOf, Fields, Member, Index, Call, Unary, Update, Binary, Conditional, Assign, ArrowValue, ArrowBlock, Function, fold-Form, fold-roll-Form}
+use Rattle.js_tree.specs.declared.tree.Form.{Form, Number, Words, Truth, Null, Use, List as ListOf, Fields, Member, Index, Call, Unary, Update, Binary, Conditional, Assign, ArrowValue, ArrowBlock, Function, Form-F, out-Form, roll-Form, roll-out-Form, fold-Form, fold-roll-Form}
 use Rattle.js_tree.specs.declared.tree.Form.TheVariants.{rolls-Number, rolls-Words, rolls-Truth, rolls-Null, rolls-Use, rolls-List, rolls-Fields, rolls-Member, rolls-Index, rolls-Call, rolls-Unary, rolls-Update, rolls-Binary, rolls-Conditional, rolls-Assign, rolls-ArrowValue, rolls-ArrowBlock, rolls-Function}
 use Rattle.js_tree.specs.Plain as p
 use Rattle.js_tree.specs.Plain.{PlainExpr, PlainForm, PlainField, PlainDeclarator, PlainPerhaps, PlainStart, PlainStmt, PlainStmtForm, exprs_of, fields_of, stmts_of}
 use Rattle.js_tree.specs.Views.{perhaps, plain_expr, plain_form, plain_field, plain_declarator, plain_start, plain_stmt, form_step, start_step, stmt_form_step, declarator_step, expr_step, field_step, stmt_step}
+use Rattle.js_resolver.specs.Nodes.{is_division, method_of}
 use Rattle.js_resolver.specs.Emits.{plain_stmt_form}
 
 pub expr_is : (e : Expr) → plain_expr e ≡ p.at e.parens e.line (plain_form e.form)
@@ -84,6 +85,31 @@ arrow_block_is k n v = ap plain_form (sym (rolls-ArrowBlock k n v)) ∙ fold-rol
 
 pub function_is : (k : Spot) (n : Vec Name Global) (v : Vec Stmt Global) → plain_form (Function k n v) ≡ p.function k n.items (stmts_of (map plain_stmt v.items))
 function_is k n v = ap plain_form (sym (rolls-Function k n v)) ∙ fold-roll-Form PlainForm PlainStart PlainStmtForm PlainDeclarator PlainExpr PlainField PlainStmt form_step start_step stmt_form_step declarator_step expr_step field_step stmt_step _
+
+-- whole expressions of two kinds
+
+pub member_whole : (e : Expr) (b : Box Expr Global) (w : List ℕ) (x : Expr) → e.form ≡ Member b w → x ≡ b.value → plain_expr e ≡ p.at e.parens e.line (p.member (plain_expr x) w)
+member_whole e b w x h d = expr_is e ∙ ap (p.at e.parens e.line) (ap plain_form h ∙ (member_is b w ∙ ap (λ z. p.member (plain_expr z) w) (sym d)))
+
+pub binary_whole : (e : Expr) (o : Operator) (b d : Box Expr Global) (x y : Expr) → e.form ≡ Binary o b d → x ≡ b.value → y ≡ d.value → plain_expr e ≡ p.at e.parens e.line (p.binary o (plain_expr x) (plain_expr y))
+binary_whole e o b d x y h k m =
+    expr_is e ∙ ap (p.at e.parens e.line) (ap plain_form h ∙ (binary_is o b d ∙ (ap (λ z. p.binary o (plain_expr z) (plain_expr d.value)) (sym k) ∙ ap (λ z. p.binary o (plain_expr x) (plain_expr z)) (sym m))))
+
+-- what other expressions are not
+
+no_member : (o : Form-F Form Start StmtForm Declarator Expr Field Stmt) (f : Form) → roll-Form o ≡ f → ((b : Box Expr Global) (w : List ℕ) → f ≡ Member b w → ⊥) → (parens line : ℕ) → method_of (p.at parens line (plain_form f)) ≡ None
+no_member (Form-F.Member b w) f e h parens line = absurd (h b w (sym e ∙ rolls-Member b w))
+no_member o f e h parens line = ap (λ z. method_of (p.at parens line (plain_form z))) (sym e) ∙ ap (λ z. method_of (p.at parens line z)) (fold-roll-Form PlainForm PlainStart PlainStmtForm PlainDeclarator PlainExpr PlainField PlainStmt form_step start_step stmt_form_step declarator_step expr_step field_step stmt_step o)
+
+pub not_member : (f : Form) → ((b : Box Expr Global) (w : List ℕ) → f ≡ Member b w → ⊥) → (parens line : ℕ) → method_of (p.at parens line (plain_form f)) ≡ None
+not_member f h parens line = no_member (out-Form f) f (roll-out-Form f) h parens line
+
+no_binary : (o : Form-F Form Start StmtForm Declarator Expr Field Stmt) (f : Form) → roll-Form o ≡ f → ((k : Operator) (b d : Box Expr Global) → f ≡ Binary k b d → ⊥) → (parens line : ℕ) → is_division (p.at parens line (plain_form f)) ≡ false
+no_binary (Form-F.Binary k b d) f e h parens line = absurd (h k b d (sym e ∙ rolls-Binary k b d))
+no_binary o f e h parens line = ap (λ z. is_division (p.at parens line (plain_form z))) (sym e) ∙ ap (λ z. is_division (p.at parens line z)) (fold-roll-Form PlainForm PlainStart PlainStmtForm PlainDeclarator PlainExpr PlainField PlainStmt form_step start_step stmt_form_step declarator_step expr_step field_step stmt_step o)
+
+pub not_binary : (f : Form) → ((k : Operator) (b d : Box Expr Global) → f ≡ Binary k b d → ⊥) → (parens line : ℕ) → is_division (p.at parens line (plain_form f)) ≡ false
+not_binary f h parens line = no_binary (out-Form f) f (roll-out-Form f) h parens line
 
 pub declarator_is : (d : Declarator) → plain_declarator d ≡ record { name = (out-Declarator d).name; value = perhaps (option_map plain_expr (out-Declarator d).value); end = (out-Declarator d).end }
 declarator_is d = search (rules, fold_out-Declarator)

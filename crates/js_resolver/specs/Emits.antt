@@ -1,9 +1,11 @@
 -- What the walk over a tree adds to what it has emitted.
-use Rattle.std.specs.Prelude.{◌≡◌, ℕ, Bool, false, List, [], ◌∷◌, ◌++◌, Option, Some, None, map, length, option_map, option_to_list, is_some, if◌then◌else◌}
+use Rattle.std.specs.Prelude.{◌≡◌, ℕ, Bool, true, false, List, [], ◌∷◌, ◌++◌, Option, Some, None, map, length, option_map, option_to_list, is_some, if◌then◌else◌}
 use Rattle.std.specs.List.{insert}
 use Rattle.js_tree.specs.declared.tree.Expr.{Expr}
 use Rattle.js_tree.specs.declared.tree.Declarator.{Declarator}
 use Rattle.js_tree.specs.declared.tree.Field.{Field}
+use Rattle.js_tree.specs.declared.tree.Operator.{Operator}
+use Rattle.js_tree.specs.declared.tree.Operator.TheVariants.{Divide}
 use Rattle.js_tree.specs.declared.tree.StmtForm.{StmtForm, fold-StmtForm}
 use Rattle.js_tree.specs.Plain.{PlainExpr, PlainExprs, PlainForm, PlainField, PlainDeclarator, PlainPerhaps, PlainStart, PlainStmt, PlainStmtForm, fields_of, declarators_of}
 use Rattle.js_tree.specs.Views.{perhaps, plain_expr, plain_declarator, plain_field, form_step, start_step, stmt_form_step, declarator_step, expr_step, field_step, stmt_step}
@@ -13,8 +15,11 @@ use Rattle.js_program.specs.declared.node.Declared.{Declared}
 use Rattle.js_program.specs.PlainProgram.{PlainNode, PlainNodeForm, PlainBody}
 use Rattle.js_program.specs.Views.{plain_node, plain_node_form, plain_body, plain_declared}
 use Rattle.js_names.specs.Places.{Place}
+use Rattle.js_names.specs.Sites.{called_builtin}
+use Rattle.js_resolver.specs.declared.emit.Called.{Called}
+use Rattle.js_resolver.specs.declared.emit.Called.TheVariants as C
 use Rattle.js_resolver.specs.declared.emitter.Emitter.{Emitter}
-use Rattle.js_resolver.specs.Nodes.{Piece, after, arguments_piece, beside, call_node, expr_node, stmt_node, expr_piece, expr_parts, form_parts, exprs_piece, fields_piece, floors_division, keyed, method_of, declarators_piece, declared_of, stmt_parts}
+use Rattle.js_resolver.specs.Nodes.{Piece, none, after, arguments_piece, beside, call_node, expr_node, stmt_node, expr_piece, expr_parts, form_parts, exprs_piece, fields_piece, floors_division, keyed, method_of, declarators_piece, declared_of, stmt_parts}
 
 abbrev pub nodes_of : Emitter → List PlainNode
 nodes_of e = map plain_node e.nodes.items
@@ -80,15 +85,56 @@ pub record Leaves (start now : Emitter) (rest whole : Piece) : Type 0 where
 abbrev pub plain_stmt_form : StmtForm → PlainStmtForm
 plain_stmt_form = fold-StmtForm PlainForm PlainStart PlainStmtForm PlainDeclarator PlainExpr PlainField PlainStmt form_step start_step stmt_form_step declarator_step expr_step field_step stmt_step
 
+abbrev pub is_divide : Operator → Bool
+is_divide Divide = true
+is_divide _ = false
+
 -- a call of a form of the language
 abbrev pub FormsBuiltin : List Place → Emitter → Emitter → NodeForm → Builtin → PlainExprs → Type 0
 FormsBuiltin ps old new form f es = Forms old new form (call_node (Some f) None (floors_division (Some f) es)) (arguments_piece ps (count old) (floors_division (Some f) es) es)
 
--- a call of anything else
-abbrev pub FormsCalled : List Place → Emitter → Emitter → NodeForm → PlainExpr → PlainExprs → Type 0
-FormsCalled ps old new form e es =
-    let x = if is_some (method_of e) then expr_parts ps (count old) e else expr_piece ps (count old) e in
-    Forms old new form (call_node None (method_of e) false) (beside x (exprs_piece ps (after (count old) x) es))
+-- what is called: a form of the language, a method with its word, or anything else with its number
+
+abbrev pub builtin_in : Called → Option Builtin
+builtin_in (C.Builtin f) = Some f
+builtin_in (C.Method i word) = None
+builtin_in (C.Other i) = None
+
+abbrev pub word_in : Called → Option (List ℕ)
+word_in (C.Builtin f) = None
+word_in (C.Method i word) = Some word
+word_in (C.Other i) = None
+
+abbrev pub parts_in : Called → List ℕ
+parts_in (C.Builtin f) = []
+parts_in (C.Method i word) = i ∷ []
+parts_in (C.Other i) = i ∷ []
+
+-- a method's object, or the whole of what is called
+abbrev pub called_piece : List Place → ℕ → PlainExpr → Piece
+called_piece ps b e = if is_some (method_of e) then expr_parts ps b e else expr_piece ps b e
+
+abbrev pub callee_piece : List Place → ℕ → PlainExpr → Piece
+callee_piece ps b e = if is_some (called_builtin e) then none else called_piece ps b e
+
+pub record EmitsCalled (ps : List Place) (old new : Emitter) (called : Called) (e : PlainExpr) : Type 0 where
+  pub emits : Emits old new (parts_in called) (called_piece ps (count old) e)
+  pub builtin : builtin_in called ≡ None
+  pub word : word_in called ≡ method_of e
+
+pub record EmittedCallee (ps : List Place) (old new : Emitter) (called : Called) (e : PlainExpr) : Type 0 where
+  pub emits : Emits old new (parts_in called) (callee_piece ps (count old) e)
+  pub builtin : builtin_in called ≡ called_builtin e
+  pub word : called_builtin e ≡ None → word_in called ≡ method_of e
+
+unfoldable pub EmitsCallee : List Place → Emitter → Emitter → Called → PlainExpr → Type 0
+EmitsCallee ps old new called e = EmittedCallee ps old new called e
+
+-- the arguments of a call, after what is called
+abbrev pub FormsCall : List Place → Emitter → Emitter → NodeForm → Called → PlainExprs → Type 0
+FormsCall ps old new form called es =
+    Forms old new form (λ parts. call_node (builtin_in called) (word_in called) (floors_division (builtin_in called) es) (parts_in called ++ parts))
+    (arguments_piece ps (count old) (floors_division (builtin_in called) es) es)
 
 -- one more function, before those from this place on
 pub record PutsBody (old new : Emitter) (place : ℕ) (body : PlainBody) : Type 0 where

@@ -1,5 +1,5 @@
 //! The walk over a tree, which emits a node for each form as it ends, and each function before those inside it.
-#![tactic(none)]
+#![tactic(auto)]
 
 ghost use Rattle.std.specs.Prelude.{◌≡◌, ◌∷◌, ◌≤◌, [], IfOk, OnOk, length, map};
 ghost use Rattle.js_tree.specs.Plain as t;
@@ -11,7 +11,7 @@ ghost use Rattle.js_program.specs.Views.{plain_content, plain_node_form};
 ghost use Rattle.js_names.specs.Scopes.{is_present};
 ghost use Rattle.js_resolver.specs.Variables.{body_of};
 ghost use Rattle.js_resolver.specs.Nodes.{expr_node, expr_piece, exprs_piece, function_piece, has_start, item_piece, items_piece, perhaps_piece, start_piece, stmt_piece, stmts_piece};
-ghost use Rattle.js_resolver.specs.Emits.{Adds, Emits, EmitsMore, EmitsFields, EmitsDeclarators, EmitsPerhaps, FormsExpr, FormsStmt, FormsBuiltin, FormsCalled, PutsBody, count, plain_stmt_form, tree_perhaps};
+ghost use Rattle.js_resolver.specs.Emits.{Adds, Emits, EmitsMore, EmitsFields, EmitsDeclarators, EmitsPerhaps, EmitsCallee, EmitsCalled, FormsExpr, FormsStmt, FormsBuiltin, FormsCall, PutsBody, count, is_divide, plain_stmt_form, tree_perhaps};
 
 use crate::emitter::{Emitter, put_function, put_node};
 use crate::fresh::{block_variables, start_variables};
@@ -23,7 +23,6 @@ use js_tree::{Declarator, Expr, Field, Form, Item, Name, Operator, Spot, Start, 
 use std::alloc::{AllocError, Global};
 
 // The form of a name that is read.
-#[tactic(auto)]
 fn read_form(tables: &NameTables, name: &Name) -> NodeForm
     ensures { plain_node_form result ≡ expr_node tables.now (t.use_of name.now) [] }
 {
@@ -36,11 +35,7 @@ fn read_form(tables: &NameTables, name: &Name) -> NodeForm
 
 // An expression, and its number.
 #[cycle(emit)]
-fn emit_expr(
-    tables: &NameTables,
-    emitter: &mut Emitter,
-    e: &Expr,
-) -> Result<u32, AllocError>
+fn emit_expr(tables: &NameTables, emitter: &mut Emitter, e: &Expr) -> Result<u32, AllocError>
     ensures { IfOk result (λ x. Emits emitter.old emitter.new (x ∷ []) (expr_piece tables.now (count emitter.old) (plain_expr e.now))) }
 {
     let form = emit_form(tables, emitter, &e.form)?;
@@ -76,7 +71,10 @@ fn emit_form(
             let index = emit_expr(tables, emitter, right)?;
             Ok(NodeForm::Index(object, index))
         }
-        Form::Call(callee, arguments) => emit_call(tables, emitter, callee, arguments),
+        Form::Call(callee, arguments) => {
+            let called = emit_callee(tables, emitter, callee)?;
+            emit_arguments(tables, emitter, called, arguments)
+        }
         Form::Unary(sign, operand) => {
             let operand = emit_expr(tables, emitter, operand)?;
             Ok(NodeForm::Unary(*sign, operand))
@@ -126,19 +124,70 @@ fn emit_member(
     }
 }
 
-// A call.
+// What is called, with the numbers of its parts.
+#[derive(Drop)]
+enum Called {
+    Builtin(Builtin),
+    Method(u32, Text),
+    Other(u32),
+}
+
+// What a call calls.
 #[cycle(emit)]
-fn emit_call(
+fn emit_callee(
     tables: &NameTables,
     emitter: &mut Emitter,
     callee: &Expr,
-    arguments: &[Expr],
-) -> Result<NodeForm, AllocError>
-    ensures { IfOk result (λ x. FormsExpr tables.now emitter.old emitter.new x (t.call (plain_expr callee.now) (exprs_of (map plain_expr arguments.now)))) }
+) -> Result<Called, AllocError>
+    ensures { IfOk result (λ x. EmitsCallee tables.now emitter.old emitter.new x (plain_expr callee.now)) }
 {
     match called_builtin(callee) {
-        Some(builtin) => emit_builtin(tables, emitter, builtin, arguments),
-        None => emit_called(tables, emitter, callee, arguments),
+        Some(builtin) => Ok(Called::Builtin(builtin)),
+        None => emit_called(tables, emitter, callee),
+    }
+}
+
+// A function or a method that is called.
+#[cycle(emit)]
+fn emit_called(
+    tables: &NameTables,
+    emitter: &mut Emitter,
+    callee: &Expr,
+) -> Result<Called, AllocError>
+    ensures { IfOk result (λ x. EmitsCalled tables.now emitter.old emitter.new x (plain_expr callee.now)) }
+{
+    match &callee.form {
+        Form::Member(object, word) if value_builtin(object, word.as_str()).is_none() => {
+            let object = emit_expr(tables, emitter, object)?;
+            Ok(Called::Method(object, word.copy()?))
+        }
+        _ => {
+            let called = emit_expr(tables, emitter, callee)?;
+            Ok(Called::Other(called))
+        }
+    }
+}
+
+// The arguments of a call, and the form of the call.
+#[cycle(emit)]
+fn emit_arguments(
+    tables: &NameTables,
+    emitter: &mut Emitter,
+    called: Called,
+    arguments: &[Expr],
+) -> Result<NodeForm, AllocError>
+    ensures { IfOk result (λ x. FormsCall tables.now emitter.old emitter.new x called (exprs_of (map plain_expr arguments.now))) }
+{
+    match called {
+        Called::Builtin(builtin) => emit_builtin(tables, emitter, builtin, arguments),
+        Called::Method(object, word) => {
+            let others = emit_exprs(tables, emitter, arguments)?;
+            Ok(NodeForm::Method(object, word, others))
+        }
+        Called::Other(called) => {
+            let others = emit_exprs(tables, emitter, arguments)?;
+            Ok(NodeForm::Call(called, others))
+        }
     }
 }
 
@@ -152,8 +201,8 @@ fn emit_builtin(
 ) -> Result<NodeForm, AllocError>
     ensures { IfOk result (λ x. FormsBuiltin tables.now emitter.old emitter.new x builtin (exprs_of (map plain_expr arguments.now))) }
 {
-    match (builtin, arguments) {
-        (Builtin::Floor, [first, rest @ ..]) => emit_floor(tables, emitter, first, rest),
+    match builtin {
+        Builtin::Floor => emit_floor(tables, emitter, arguments),
         _ => {
             let numbers = emit_exprs(tables, emitter, arguments)?;
             Ok(NodeForm::Builtin(builtin, numbers))
@@ -161,53 +210,36 @@ fn emit_builtin(
     }
 }
 
+// Whether the operator divides.
+fn is_divide(operator: Operator) -> bool
+    ensures { result ≡ is_divide operator }
+{
+    matches!(operator, Operator::Divide)
+}
+
 // A call of `Math.floor`: a division is not rounded first.
 #[cycle(emit)]
 fn emit_floor(
     tables: &NameTables,
     emitter: &mut Emitter,
-    first: &Expr,
-    rest: &[Expr],
-) -> Result<NodeForm, AllocError>
-    ensures { IfOk result (λ x. FormsBuiltin tables.now emitter.old emitter.new x Floor (t.expr_in (plain_expr first.now) (exprs_of (map plain_expr rest.now)))) }
-{
-    match &first.form {
-        Form::Binary(Operator::Divide, left, right) => {
-            let divided = emit_expr(tables, emitter, left)?;
-            let divisor = emit_expr(tables, emitter, right)?;
-            let others = emit_exprs(tables, emitter, rest)?;
-            Ok(NodeForm::FloorDivide(divided, divisor, others))
-        }
-        _ => {
-            let number = emit_expr(tables, emitter, first)?;
-            let mut numbers = emit_exprs(tables, emitter, rest)?;
-            numbers.insert(0, number)?;
-            Ok(NodeForm::Builtin(Builtin::Floor, numbers))
-        }
-    }
-}
-
-// A call of a function or a method.
-#[cycle(emit)]
-fn emit_called(
-    tables: &NameTables,
-    emitter: &mut Emitter,
-    callee: &Expr,
     arguments: &[Expr],
 ) -> Result<NodeForm, AllocError>
-    ensures { IfOk result (λ x. FormsCalled tables.now emitter.old emitter.new x (plain_expr callee.now) (exprs_of (map plain_expr arguments.now))) }
+    ensures { IfOk result (λ x. FormsBuiltin tables.now emitter.old emitter.new x Floor (exprs_of (map plain_expr arguments.now))) }
 {
-    match &callee.form {
-        Form::Member(object, word) if value_builtin(object, word.as_str()).is_none() => {
-            let object = emit_expr(tables, emitter, object)?;
-            let others = emit_exprs(tables, emitter, arguments)?;
-            Ok(NodeForm::Method(object, word.copy()?, others))
-        }
-        _ => {
-            let called = emit_expr(tables, emitter, callee)?;
-            let others = emit_exprs(tables, emitter, arguments)?;
-            Ok(NodeForm::Call(called, others))
-        }
+    match arguments {
+        [] => Ok(NodeForm::Builtin(Builtin::Floor, Vec::new(emitter.alloc))),
+        [first, rest @ ..] => match &first.form {
+            Form::Binary(operator, left, right) if is_divide(*operator) => {
+                let divided = emit_expr(tables, emitter, left)?;
+                let divisor = emit_expr(tables, emitter, right)?;
+                let others = emit_exprs(tables, emitter, rest)?;
+                Ok(NodeForm::FloorDivide(divided, divisor, others))
+            }
+            _ => {
+                let numbers = emit_exprs(tables, emitter, arguments)?;
+                Ok(NodeForm::Builtin(Builtin::Floor, numbers))
+            }
+        },
     }
 }
 
@@ -224,7 +256,14 @@ fn emit_arrow(
 {
     let place = emitter.functions.len();
     let number = emit_expr(tables, emitter, value)?;
-    put_body(tables, emitter, place, spot, names, Content::OneValue(number))?;
+    put_body(
+        tables,
+        emitter,
+        place,
+        spot,
+        names,
+        Content::OneValue(number),
+    )?;
     let code = tables.code(spot.at)?;
     Ok(NodeForm::Function(code))
 }
@@ -258,7 +297,14 @@ fn emit_body(
 {
     let place = emitter.functions.len();
     let numbers = emit_stmts(tables, emitter, body)?;
-    put_body(tables, emitter, place, spot, names, Content::Statements(numbers))
+    put_body(
+        tables,
+        emitter,
+        place,
+        spot,
+        names,
+        Content::Statements(numbers),
+    )
 }
 
 // Expressions.
@@ -356,11 +402,7 @@ fn emit_start(
 
 // A statement, and its number.
 #[cycle(emit)]
-fn emit_stmt(
-    tables: &NameTables,
-    emitter: &mut Emitter,
-    stmt: &Stmt,
-) -> Result<u32, AllocError>
+fn emit_stmt(tables: &NameTables, emitter: &mut Emitter, stmt: &Stmt) -> Result<u32, AllocError>
     ensures { IfOk result (λ x. Emits emitter.old emitter.new (x ∷ []) (stmt_piece tables.now (count emitter.old) (plain_stmt stmt.now))) }
 {
     let form = emit_stmt_form(tables, emitter, &stmt.form)?;
@@ -448,8 +490,8 @@ fn emit_stmts(
     Ok(numbers)
 }
 
-// A function with this content, before the functions inside it.
-#[tactic(auto)]
+// A function with this content, before the functions inside it. Each function moves those inside it by one place, so
+// that a function is moved as often as functions stand around it, which are at most 200.
 fn put_body(
     tables: &NameTables,
     emitter: &mut Emitter,

@@ -1,21 +1,27 @@
-use Rattle.std.proofs.Common.{◌≡◌, ◌∷◌, [], ◌∙◌, ap, refl, sym, subst, arith, map, drop, length}
+use Rattle.std.proofs.Common.{◌≡◌, ◌∷◌, ◌++◌, ◌-◌, [], ◌∙◌, ap, refl, sym, subst, arith, rules, map, drop, take, length}
+use Rattle.std.proofs.lemmas.List.{drop_all, nil_from_length}
+use Rattle.std.specs.Prelude.{IfOk, is_some}
 use Rattle.js_tree.specs.Plain as p
 use Rattle.js_tree.specs.Plain.{exprs_of, stmts_of}
 use Rattle.js_tree.specs.Views.{plain_expr, plain_form, plain_stmt, plain_start}
+use Rattle.js_program.specs.declared.builtin.Builtin.TheVariants.{Floor}
 use Rattle.js_program.specs.PlainProgram as n
 use Rattle.js_names.specs.Sites.{value_builtin, called_builtin}
 use Rattle.js_program.specs.declared.node.NodeForm.TheVariants as N
-use Rattle.js_resolver.specs.Nodes.{exprs_piece, expr_piece, stmts_piece, stmt_piece}
-use Rattle.js_resolver.specs.Emits.{count, tree_perhaps, FormsExpr}
+use Rattle.js_resolver.specs.declared.emit.Called.TheVariants as C
+use Rattle.js_resolver.specs.Nodes.{is_division, method_of, exprs_piece, expr_piece, stmts_piece, stmt_piece}
+use Rattle.js_resolver.specs.Emits.{count, tree_perhaps, EmitsCalled, FormsExpr, FormsBuiltin, FormsCall}
 use Rattle.js_resolver.proofs.FormArms as f
 use Rattle.js_resolver.proofs.StmtArms as s
 use Rattle.js_resolver.proofs.FunctionArms as k
 use Rattle.js_resolver.proofs.CallArms as m
 use Rattle.js_resolver.proofs.Loops as l
+use Rattle.js_resolver.proofs.TreeForms.{expr_is, member_whole, binary_whole, not_member, not_binary}
 use Rattle.js_resolver.proofs.emit.+emit.Goals as goal
+use Rattle.js_resolver.proofs.emit.+emit.Goals.{emit_called-in_default-via-in-Member+else-is_none, emit_called-in_default-via-in_default, emit_floor-in_default-via-in-Binary+else-is_divide, emit_floor-in_default-via-in_default}
 
-pub emit_expr-returns-in_ok-form : goal.emit_expr-returns-in_ok-form
-emit_expr-returns-in_ok-form t c =
+pub emit_expr-returns : goal.emit_expr-returns
+emit_expr-returns t c =
     f.expr_closed c.args.tables.now c.put_node.result c.args.emitter.now c.emit_form.new.emitter c.put_node.new.emitter c.args.e.now c.in_ok-form.form c.in_ok-form.ensures c.put_node.ensures
 
 pub emit_form-returns-in-Number : goal.emit_form-returns-in-Number
@@ -54,9 +60,9 @@ pub emit_form-returns-in_ok-index-in-Index : goal.emit_form-returns-in_ok-index-
 emit_form-returns-in_ok-index-in-Index t c =
     f.index_arm c.args.tables.now c.args.emitter.now c.emit_expr.new.emitter c.emit_expr-in-Index.new.emitter c.args.form.now c.in-Index.left c.in-Index.right c.deref-in-Index.result.now c.deref-in-Index-2.result.now c.in_ok-object-in-Index.object c.in_ok-index-in-Index.index c.in-Index.is c.deref-in-Index.ensures c.deref-in-Index-2.ensures c.in_ok-object-in-Index.ensures c.in_ok-index-in-Index.ensures
 
-pub emit_form-returns-in-Call : goal.emit_form-returns-in-Call
-emit_form-returns-in-Call t c =
-    f.call_arm c.args.tables.now c.emit_call.result c.args.emitter.now c.emit_call.new.emitter c.args.form.now c.in-Call.callee c.in-Call.arguments c.deref-in-Call.result.now c.deref-in-Call-2.result.now c.in-Call.is c.deref-in-Call.ensures c.deref-in-Call-2.ensures.value c.emit_call.ensures
+pub emit_form-returns-in_ok-called-in-Call : goal.emit_form-returns-in_ok-called-in-Call
+emit_form-returns-in_ok-called-in-Call t c =
+    f.call_arm c.args.tables.now c.emit_arguments.result c.args.emitter.now c.emit_callee.new.emitter c.emit_arguments.new.emitter c.args.form.now c.in-Call.callee c.in-Call.arguments c.deref-in-Call.result.now c.deref-in-Call-2.result.now c.in_ok-called-in-Call.called c.in-Call.is c.deref-in-Call.ensures c.deref-in-Call-2.ensures.value c.in_ok-called-in-Call.ensures c.emit_arguments.ensures
 
 pub emit_form-returns-in_ok-operand-in-Unary : goal.emit_form-returns-in_ok-operand-in-Unary
 emit_form-returns-in_ok-operand-in-Unary t c =
@@ -98,33 +104,75 @@ pub emit_member-returns-in_ok-copy-in-None : goal.emit_member-returns-in_ok-copy
 emit_member-returns-in_ok-copy-in-None t c =
     subst (λ z. FormsExpr c.args.tables.now c.args.emitter.now c.emit_expr.new.emitter (N.Member c.in_ok-object-in-None.object z) (p.member (plain_expr c.args.object.now) c.args.word.now)) (sym c.in_ok-copy-in-None.ensures) (m.member_plain c.args.tables.now c.args.emitter.now c.emit_expr.new.emitter (plain_expr c.args.object.now) c.args.word.now c.in_ok-object-in-None.object (sym (c.value_builtin.ensures ∙ ap (value_builtin (plain_expr c.args.object.now)) c.as_str.ensures) ∙ c.in-None.is) c.in_ok-object-in-None.ensures)
 
-pub emit_call-returns-in-Some : goal.emit_call-returns-in-Some
-emit_call-returns-in-Some t c =
-    m.call_builtin c.emit_builtin.result c.args.tables.now c.args.emitter.now c.emit_builtin.new.emitter (plain_expr c.args.callee.now) (exprs_of (map plain_expr c.args.arguments.now)) c.in-Some.builtin (sym c.called_builtin.ensures ∙ c.in-Some.is) c.emit_builtin.ensures
+pub emit_callee-returns-in-Some : goal.emit_callee-returns-in-Some
+emit_callee-returns-in-Some t c =
+    m.callee_builtin c.args.tables.now c.args.emitter.now (plain_expr c.args.callee.now) c.in-Some.builtin (sym c.called_builtin.ensures ∙ c.in-Some.is)
 
-pub emit_call-returns-in-None : goal.emit_call-returns-in-None
-emit_call-returns-in-None t c =
-    m.call_called c.emit_called.result c.args.tables.now c.args.emitter.now c.emit_called.new.emitter (plain_expr c.args.callee.now) (exprs_of (map plain_expr c.args.arguments.now)) (sym c.called_builtin.ensures ∙ c.in-None.is) c.emit_called.ensures
+pub emit_callee-returns-in-None : goal.emit_callee-returns-in-None
+emit_callee-returns-in-None t c =
+    m.callee_called c.emit_called.result c.args.tables.now c.args.emitter.now c.emit_called.new.emitter (plain_expr c.args.callee.now) (sym c.called_builtin.ensures ∙ c.in-None.is) c.emit_called.ensures
 
-pub emit_function-returns-in_ok-code : goal.emit_function-returns-in_ok-code
-emit_function-returns-in_ok-code t c =
+pub emit_called-returns-in_ok-copy-in-Member : goal.emit_called-returns-in_ok-copy-in-Member
+emit_called-returns-in_ok-copy-in-Member t c =
+    subst (λ z. EmitsCalled c.args.tables.now c.args.emitter.now c.emit_expr.new.emitter (C.Method c.in_ok-object-in-Member.object z) (plain_expr c.args.callee.now)) (sym c.in_ok-copy-in-Member.ensures)
+    (m.called_method c.args.tables.now c.args.emitter.now c.emit_expr.new.emitter (plain_expr c.args.callee.now) (plain_expr c.deref-in-Member.result.now) c.args.callee.now.parens c.args.callee.now.line c.in-Member.word c.in_ok-object-in-Member.object
+    (member_whole c.args.callee.now c.in-Member.object c.in-Member.word c.deref-in-Member.result.now c.in-Member.is c.deref-in-Member.ensures)
+    (m.no_value c.value_builtin.result (value_builtin (plain_expr c.deref-in-Member.result.now) c.in-Member.word)
+    (c.value_builtin.ensures ∙ (ap (value_builtin (plain_expr c.deref.result.now)) c.as_str.ensures ∙ ap (λ z. value_builtin (plain_expr z) c.in-Member.word) (c.deref.ensures ∙ sym c.deref-in-Member.ensures))) c.if-is_none.ensures)
+    c.in_ok-object-in-Member.ensures)
+
+pub emit_called-returns-in_ok-called-in_default : goal.emit_called-returns-in_ok-called-in_default
+emit_called-returns-in_ok-called-in_default t c =
+    m.called_other c.args.tables.now c.args.emitter.now c.emit_expr-in_default.new.emitter (plain_expr c.args.callee.now) c.in_ok-called-in_default.called (elim c.in_default.branch [
+      | emit_called-in_default-via-in-Member+else-is_none w ↦
+          m.no_method (plain_expr c.args.callee.now) (plain_expr w.deref.result.now) c.args.callee.now.parens c.args.callee.now.line w.in-Member.word (member_whole c.args.callee.now w.in-Member.object w.in-Member.word w.deref.result.now w.in-Member.is w.deref.ensures)
+          (ap is_some (sym (w.value_builtin.ensures ∙ ap (value_builtin (plain_expr w.deref.result.now)) w.as_str.ensures)) ∙ w.if-is_none.ensures)
+      | emit_called-in_default-via-in_default w ↦ ap method_of (expr_is c.args.callee.now) ∙ not_member c.args.callee.now.form w.in_default.not-Member c.args.callee.now.parens c.args.callee.now.line
+    ])
+    c.in_ok-called-in_default.ensures
+
+pub emit_arguments-returns-in-Builtin : goal.emit_arguments-returns-in-Builtin
+emit_arguments-returns-in-Builtin t c = subst (λ z. IfOk c.emit_builtin.result (λ x. FormsCall c.args.tables.now c.args.emitter.now c.emit_builtin.new.emitter x z (exprs_of (map plain_expr c.args.arguments.now)))) (sym c.in-Builtin.is) c.emit_builtin.ensures
+
+pub emit_arguments-returns-in_ok-others-in-Method : goal.emit_arguments-returns-in_ok-others-in-Method
+emit_arguments-returns-in_ok-others-in-Method t c =
+    subst (λ z. FormsCall c.args.tables.now c.args.emitter.now c.emit_exprs.new.emitter (N.Method c.in-Method.object c.in-Method.word c.in_ok-others-in-Method.others) z (exprs_of (map plain_expr c.args.arguments.now))) (sym c.in-Method.is)
+    (m.arguments_method c.args.tables.now c.args.emitter.now c.emit_exprs.new.emitter c.in-Method.object c.in-Method.word (exprs_of (map plain_expr c.args.arguments.now)) c.in_ok-others-in-Method.others c.in_ok-others-in-Method.ensures)
+
+pub emit_arguments-returns-in_ok-others-in-Other : goal.emit_arguments-returns-in_ok-others-in-Other
+emit_arguments-returns-in_ok-others-in-Other t c =
+    subst (λ z. FormsCall c.args.tables.now c.args.emitter.now c.emit_exprs-in-Other.new.emitter (N.Call c.in-Other.called c.in_ok-others-in-Other.others) z (exprs_of (map plain_expr c.args.arguments.now))) (sym c.in-Other.is)
+    (m.arguments_other c.args.tables.now c.args.emitter.now c.emit_exprs-in-Other.new.emitter c.in-Other.called (exprs_of (map plain_expr c.args.arguments.now)) c.in_ok-others-in-Other.others c.in_ok-others-in-Other.ensures)
+
+pub emit_builtin-returns-in-Floor : goal.emit_builtin-returns-in-Floor
+emit_builtin-returns-in-Floor t c = subst (λ z. IfOk c.emit_floor.result (λ x. FormsBuiltin c.args.tables.now c.args.emitter.now c.emit_floor.new.emitter x z (exprs_of (map plain_expr c.args.arguments.now)))) (sym c.in-Floor.is) c.emit_floor.ensures
+
+pub emit_builtin-returns-in_ok-numbers-in_default : goal.emit_builtin-returns-in_ok-numbers-in_default
+emit_builtin-returns-in_ok-numbers-in_default t c =
+    m.builtin_plain c.args.tables.now c.args.emitter.now c.emit_exprs.new.emitter c.args.builtin (exprs_of (map plain_expr c.args.arguments.now)) c.in_ok-numbers-in_default.numbers (m.not_floor c.args.builtin (exprs_of (map plain_expr c.args.arguments.now)) c.in_default.not-Floor) c.in_ok-numbers-in_default.ensures
+
+pub emit_floor-returns-in-empty : goal.emit_floor-returns-in-empty
+emit_floor-returns-in-empty t c = m.floor_none c.args.tables.now c.args.emitter.now c.args.arguments.now c.new.result (nil_from_length c.args.arguments.now (omega arith)) c.new.ensures.items
+
+pub emit_function-returns : goal.emit_function-returns
+emit_function-returns t c =
     k.function_form c.args.tables.now c.args.emitter.now c.emit_body.new.emitter c.args.spot c.args.names.now (stmts_of (map plain_stmt c.args.body.now)) c.in_ok-code.code c.in_ok-code.ensures c.in_ok-emit_body.ensures
 
-pub emit_arrow-returns-in_ok-code : goal.emit_arrow-returns-in_ok-code
-emit_arrow-returns-in_ok-code t c =
-    k.arrow_form c.args.tables.now c.args.emitter.now c.emit_expr.new.emitter c.put_body.new.emitter c.len-place.result c.args.spot c.args.names.now c.args.value.now c.in_ok-number.number c.in_ok-code.code c.len-place.ensures c.in_ok-number.ensures c.in_ok-put_body.ensures c.in_ok-code.ensures
+pub emit_arrow-returns : goal.emit_arrow-returns
+emit_arrow-returns t c =
+    k.arrow_form c.args.tables.now c.args.emitter.now c.emit_expr.new.emitter c.put_body.new.emitter c.len-place.result c.args.spot c.args.names.now c.args.value.now c.in_ok-number.number c.in_ok-code.code (c.len-place.ensures ∙ c.args.emitter.now.functions.ok.0) c.in_ok-number.ensures c.in_ok-put_body.ensures c.in_ok-code.ensures
 
 pub emit_arrow-put_body-requires : goal.emit_arrow-put_body-requires
 emit_arrow-put_body-requires t c =
-    k.place_is_there c.args.emitter.now c.emit_expr.new.emitter (expr_piece c.args.tables.now (count c.args.emitter.now) (plain_expr c.args.value.now)) c.len-place.result c.len-place.ensures c.in_ok-number.ensures.adds
+    k.place_is_there c.args.emitter.now c.emit_expr.new.emitter (expr_piece c.args.tables.now (count c.args.emitter.now) (plain_expr c.args.value.now)) c.len-place.result (c.len-place.ensures ∙ c.args.emitter.now.functions.ok.0) c.in_ok-number.ensures.adds
 
-pub emit_body-returns-in_ok-numbers : goal.emit_body-returns-in_ok-numbers
-emit_body-returns-in_ok-numbers t c =
-    k.on_function_adds c.put_body.result c.args.tables.now c.args.emitter.now c.emit_stmts.new.emitter c.put_body.new.emitter c.len-place.result c.args.spot c.args.names.now c.in_ok-numbers.numbers.items n.statements (stmts_piece c.args.tables.now (count c.args.emitter.now) (stmts_of (map plain_stmt c.args.body.now))) c.len-place.ensures c.in_ok-numbers.ensures c.put_body.ensures
+pub emit_body-returns : goal.emit_body-returns
+emit_body-returns t c =
+    k.on_function_adds c.put_body.result c.args.tables.now c.args.emitter.now c.emit_stmts.new.emitter c.put_body.new.emitter c.len-place.result c.args.spot c.args.names.now c.in_ok-numbers.numbers.items n.statements (stmts_piece c.args.tables.now (count c.args.emitter.now) (stmts_of (map plain_stmt c.args.body.now))) (c.len-place.ensures ∙ c.args.emitter.now.functions.ok.0) c.in_ok-numbers.ensures c.put_body.ensures
 
 pub emit_body-put_body-requires : goal.emit_body-put_body-requires
 emit_body-put_body-requires t c =
-    k.place_is_there c.args.emitter.now c.emit_stmts.new.emitter (stmts_piece c.args.tables.now (count c.args.emitter.now) (stmts_of (map plain_stmt c.args.body.now))) c.len-place.result c.len-place.ensures c.in_ok-numbers.ensures.adds
+    k.place_is_there c.args.emitter.now c.emit_stmts.new.emitter (stmts_piece c.args.tables.now (count c.args.emitter.now) (stmts_of (map plain_stmt c.args.body.now))) c.len-place.result (c.len-place.ensures ∙ c.args.emitter.now.functions.ok.0) c.in_ok-numbers.ensures.adds
 
 pub emit_perhaps-returns-in_ok-number-in-Some : goal.emit_perhaps-returns-in_ok-number-in-Some
 emit_perhaps-returns-in_ok-number-in-Some t c =
@@ -146,8 +194,8 @@ pub emit_start-returns-in_ok-number-in-Evaluates : goal.emit_start-returns-in_ok
 emit_start-returns-in_ok-number-in-Evaluates t c =
     s.evaluates_arm c.args.tables.now c.args.emitter.now c.emit_expr.new.emitter c.args.start.now c.in-Evaluates.e c.in_ok-number-in-Evaluates.number c.in-Evaluates.is c.in_ok-number-in-Evaluates.ensures
 
-pub emit_stmt-returns-in_ok-form : goal.emit_stmt-returns-in_ok-form
-emit_stmt-returns-in_ok-form t c =
+pub emit_stmt-returns : goal.emit_stmt-returns
+emit_stmt-returns t c =
     s.stmt_closed c.args.tables.now c.put_node.result c.args.emitter.now c.emit_stmt_form.new.emitter c.put_node.new.emitter c.args.stmt.now c.in_ok-form.form c.in_ok-form.ensures c.put_node.ensures
 
 pub emit_stmt_form-returns-in-Empty : goal.emit_stmt_form-returns-in-Empty
@@ -156,7 +204,7 @@ emit_stmt_form-returns-in-Empty t c =
 
 pub emit_stmt_form-returns-in_ok-numbers-in-Block : goal.emit_stmt_form-returns-in_ok-numbers-in-Block
 emit_stmt_form-returns-in_ok-numbers-in-Block t c =
-    s.block_arm c.args.tables.now c.args.emitter.now c.emit_stmts.new.emitter c.args.form.now c.in-Block.body c.deref.result.now c.deref-2.result.now c.in_ok-variables-in-Block.variables c.in_ok-numbers-in-Block.numbers c.in-Block.is c.deref.ensures.value c.deref-2.ensures.value c.in_ok-variables-in-Block.ensures c.in_ok-numbers-in-Block.ensures
+    s.block_arm c.args.tables.now c.args.emitter.now c.emit_stmts.new.emitter c.args.form.now c.in-Block.body c.deref.result.now c.deref-in-Block.result.now c.in_ok-variables-in-Block.variables c.in_ok-numbers-in-Block.numbers c.in-Block.is c.deref.ensures.value c.deref-in-Block.ensures.value c.in_ok-variables-in-Block.ensures c.in_ok-numbers-in-Block.ensures
 
 pub emit_stmt_form-returns-in_ok-declared-in-Declaration : goal.emit_stmt_form-returns-in_ok-declared-in-Declaration
 emit_stmt_form-returns-in_ok-declared-in-Declaration t c =
@@ -213,3 +261,59 @@ emit_stmts-loop-stmt-preserved t c =
 pub emit_declarators-loop-declarator-preserved : goal.emit_declarators-loop-declarator-preserved
 emit_declarators-loop-declarator-preserved t c =
     l.declarators_more c.args.tables.now c.args.declarators.now c.loop-declarator.declarator-index c.declarator-item.result c.declarator-item.result c.args.emitter.now c.loop-declarator.emitter c.emit_perhaps.new.emitter c.loop-declarator.declared.items c.push.new.self.items (record { variable = c.variable-variable.result; value = c.in_ok-value.value }) (omega arith) c.declarator-item.is c.loop-declarator.invariant c.in_ok-value.ensures c.variable-variable.ensures c.in_ok-push.ensures.items
+
+pub emit_fields-loop-field-preserved : goal.emit_fields-loop-field-preserved
+emit_fields-loop-field-preserved t c =
+    l.fields_more c.args.tables.now c.args.fields.now c.loop-field.field-index c.field-item.result c.field-item.result c.args.emitter.now c.loop-field.emitter c.emit_expr.new.emitter c.loop-field.pairs.items c.push.new.self.items c.in_ok-number.number (omega arith) c.field-item.is c.loop-field.invariant c.in_ok-number.ensures (c.in_ok-push.ensures.items ∙ ap (λ z. c.loop-field.pairs.items ++ (z, c.in_ok-number.number) ∷ []) c.in_ok-copy.ensures)
+
+pub emit_exprs-loop-e-init : goal.emit_exprs-loop-e-init
+emit_exprs-loop-e-init t c =
+    l.remains_all c.args.emitter.now c.new-numbers.result.items (exprs_piece c.args.tables.now (count c.args.emitter.now) (exprs_of (map plain_expr c.args.es.now))) c.new-numbers.ensures.items
+
+pub emit_exprs-returns : goal.emit_exprs-returns
+emit_exprs-returns t c =
+    l.exprs_done c.args.tables.now c.args.emitter.now c.loop-e.emitter c.loop-e.numbers.items (drop c.loop-e.e-index c.args.es.now) (exprs_piece c.args.tables.now (count c.args.emitter.now) (exprs_of (map plain_expr c.args.es.now))) (drop_all c.loop-e.e-index c.args.es.now (omega arith)) c.loop-e.invariant
+
+pub emit_stmts-loop-stmt-init : goal.emit_stmts-loop-stmt-init
+emit_stmts-loop-stmt-init t c =
+    l.remains_all c.args.emitter.now c.new-numbers.result.items (stmts_piece c.args.tables.now (count c.args.emitter.now) (stmts_of (map plain_stmt c.args.body.now))) c.new-numbers.ensures.items
+
+pub emit_stmts-returns : goal.emit_stmts-returns
+emit_stmts-returns t c =
+    l.stmts_done c.args.tables.now c.args.emitter.now c.loop-stmt.emitter c.loop-stmt.numbers.items (drop c.loop-stmt.stmt-index c.args.body.now) (stmts_piece c.args.tables.now (count c.args.emitter.now) (stmts_of (map plain_stmt c.args.body.now))) (drop_all c.loop-stmt.stmt-index c.args.body.now (omega arith)) c.loop-stmt.invariant
+
+pub emit_fields-loop-field-init : goal.emit_fields-loop-field-init
+emit_fields-loop-field-init t c = l.fields_all c.args.tables.now c.args.emitter.now c.new-pairs.result.items c.args.fields.now c.new-pairs.ensures.items
+
+pub emit_fields-returns : goal.emit_fields-returns
+emit_fields-returns t c =
+    l.fields_none c.args.tables.now c.args.emitter.now c.loop-field.emitter c.loop-field.pairs.items (drop c.loop-field.field-index c.args.fields.now) c.args.fields.now (drop_all c.loop-field.field-index c.args.fields.now (omega arith)) c.loop-field.invariant
+
+pub emit_declarators-loop-declarator-init : goal.emit_declarators-loop-declarator-init
+emit_declarators-loop-declarator-init t c = l.declarators_all c.args.tables.now c.args.emitter.now c.new-declared.result.items c.args.declarators.now c.new-declared.ensures.items
+
+pub emit_declarators-returns : goal.emit_declarators-returns
+emit_declarators-returns t c =
+    l.declarators_none c.args.tables.now c.args.emitter.now c.loop-declarator.emitter c.loop-declarator.declared.items (drop c.loop-declarator.declarator-index c.args.declarators.now) c.args.declarators.now (drop_all c.loop-declarator.declarator-index c.args.declarators.now (omega arith)) c.loop-declarator.invariant
+
+pub emit_floor-returns-in_ok-others-in-Binary : goal.emit_floor-returns-in_ok-others-in-Binary
+emit_floor-returns-in_ok-others-in-Binary t c =
+    m.floor_divides c.args.tables.now c.args.emitter.now c.emit_expr.new.emitter c.emit_expr-in-Binary.new.emitter c.emit_exprs.new.emitter (plain_expr c.first-item.result) (plain_expr c.deref.result.now) (plain_expr c.deref-in-Binary.result.now) c.first-item.result.parens c.first-item.result.line
+    (exprs_of (map plain_expr (take (length c.args.arguments.now - 1) (drop 1 c.args.arguments.now)))) (exprs_of (map plain_expr c.args.arguments.now)) c.in_ok-divided-in-Binary.divided c.in_ok-divisor-in-Binary.divisor c.in_ok-others-in-Binary.others
+    (m.exprs_first c.args.arguments.now (take (length c.args.arguments.now - 1) (drop 1 c.args.arguments.now)) c.first-item.result (m.first_and_rest c.args.arguments.now c.first-item.result c.first-item.result c.in-len1-up.len_at_least c.first-item.is))
+    (binary_whole c.first-item.result c.in-Binary.operator c.in-Binary.left c.in-Binary.right c.deref.result.now c.deref-in-Binary.result.now c.in-Binary.is c.deref.ensures c.deref-in-Binary.ensures
+    ∙ ap (λ z. p.at c.first-item.result.parens c.first-item.result.line (p.binary z (plain_expr c.deref.result.now) (plain_expr c.deref-in-Binary.result.now))) (m.divides_is c.in-Binary.operator (sym c.is_divide.ensures ∙ c.if-is_divide.true)))
+    c.in_ok-divided-in-Binary.ensures c.in_ok-divisor-in-Binary.ensures c.in_ok-others-in-Binary.ensures
+
+pub emit_floor-returns-in_ok-numbers-in_default : goal.emit_floor-returns-in_ok-numbers-in_default
+emit_floor-returns-in_ok-numbers-in_default t c =
+    let rest = take (length c.args.arguments.now - 1) (drop 1 c.args.arguments.now) in
+    m.builtin_plain c.args.tables.now c.args.emitter.now c.emit_exprs-in_default.new.emitter Floor (exprs_of (map plain_expr c.args.arguments.now)) c.in_ok-numbers-in_default.numbers
+    (m.floor_plain (plain_expr c.first-item.result) (exprs_of (map plain_expr rest)) (exprs_of (map plain_expr c.args.arguments.now)) (m.exprs_first c.args.arguments.now rest c.first-item.result (m.first_and_rest c.args.arguments.now c.first-item.result c.first-item.result c.in-len1-up.len_at_least c.first-item.is))
+    (elim c.in_default.branch [
+      | emit_floor-in_default-via-in-Binary+else-is_divide w ↦
+          ap is_division (binary_whole c.first-item.result w.in-Binary.operator w.in-Binary.left w.in-Binary.right w.in-Binary.left.value w.in-Binary.right.value w.in-Binary.is refl refl)
+          ∙ m.divides_not w.in-Binary.operator c.first-item.result.parens c.first-item.result.line (plain_expr w.in-Binary.left.value) (plain_expr w.in-Binary.right.value) (sym w.is_divide.ensures ∙ w.if-is_divide.false)
+      | emit_floor-in_default-via-in_default w ↦ ap is_division (expr_is c.first-item.result) ∙ not_binary c.first-item.result.form w.in_default.not-Binary c.first-item.result.parens c.first-item.result.line
+    ]))
+    c.in_ok-numbers-in_default.ensures
