@@ -2,11 +2,11 @@
 use Rattle.std.specs.Prelude.{◌≡◌, ◌⊎◌, ℕ, List, [], ◌∷◌, ◌++◌, Option, Some, None, IfSome, IsSomeAnd, codes}
 use Rattle.bp_base.specs.Worlds.{Holdings}
 use Rattle.bp_base.specs.Pieces.{Appends, AppendsFront}
-use Rattle.js_tree.specs.Plain.{PlainItem}
+use Rattle.js_program.specs.PlainProgram.{PlainProgram}
 use Rattle.js_straight.specs.declared.script.Straight.{Straight}
 use Rattle.bp_script.specs.declared.refusal.Refusal.{Refusal}
 use Rattle.bp_script.specs.Refusals as refusals
-use Rattle.bp_script.specs.Programs.{AreAccepted, IsScript, IsOther, IsRefused}
+use Rattle.bp_script.specs.Programs.{IsProgram, IsScript, IsOther, IsRefused}
 use Rattle.bp_arbiter.specs.Straight.{text_alone}
 use Rattle.bp_quiet.specs.Quiet.{EndsQuiet}
 use Rattle.bp_cli.specs.declared.words.Verb.{Verb}
@@ -32,7 +32,7 @@ RunsQuiet bytes = (script : List Straight) × IsScript bytes script × EndsQuiet
 
 -- the bytes are an accepted program
 abbrev pub IsAccepted : List ℕ → Type 0
-IsAccepted bytes = (tree : List PlainItem) × AreAccepted bytes tree
+IsAccepted bytes = (program : PlainProgram) × IsProgram bytes program
 
 abbrev pub accepted_line : List ℕ
 accepted_line = codes "accepted\n"

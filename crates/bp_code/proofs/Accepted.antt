@@ -5,9 +5,9 @@ use Rattle.js_names.specs.declared.place.NameFault.{NameFault}
 use Rattle.js_names.specs.Rules.{name_fault}
 use Rattle.js_program.specs.PlainProgram.{PlainProgram}
 use Rattle.js_resolver.specs.Resolved.{resolved, unless_fault, program_of_tree}
-use Rattle.bp_script.specs.Programs.{AreAccepted}
+use Rattle.bp_script.specs.Programs.{AreAccepted, IsProgram}
 use Rattle.bp_script.proofs.Once.{same_tree}
-use Rattle.bp_code.specs.Accepted.{IsProgram, OneProgram, EachIsOne}
+use Rattle.bp_code.specs.Accepted.{OneProgram, EachIsOne}
 
 some_same : (p q : PlainProgram) → Some p ≡ Some q → p ≡ q
 some_same p q h = cc

@@ -2,17 +2,10 @@
 use Rattle.std.specs.Prelude.{◌≡◌, ℕ, List, Some}
 use Rattle.js_tree.specs.Plain.{PlainItem}
 use Rattle.js_program.specs.PlainProgram.{PlainProgram}
-use Rattle.js_resolver.specs.Resolved.{resolved}
-use Rattle.bp_script.specs.Programs.{AreAccepted}
+use Rattle.bp_script.specs.Programs.{AreAccepted, IsProgram}
 use Rattle.bp_log.specs.Options.{PlainOptions}
 use Rattle.bp_log.specs.declared.record.Record.{Record}
 use Rattle.bp_code.specs.Code.{records_alone, text_of, text_alone}
-
--- the bytes are an accepted program, resolved so
-pub record IsProgram (bytes : List ℕ) (program : PlainProgram) : Type 0 where
-  pub tree : List PlainItem
-  pub accepted : AreAccepted bytes tree
-  pub is_resolved : resolved tree ≡ Some program
 
 -- the records of the run of these bytes without injectors
 abbrev pub RunsAlone : List ℕ → PlainOptions → (ℕ → ℕ) → List Record → Type 0

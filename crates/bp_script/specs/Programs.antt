@@ -13,6 +13,8 @@ use Rattle.js_grammar.specs.Trees.{IsTree, HasNoTree}
 use Rattle.js_grammar.specs.Unsupported.{first_unsupported}
 use Rattle.js_names.specs.declared.place.NameFault.{NameFault}
 use Rattle.js_names.specs.Rules.{name_fault}
+use Rattle.js_program.specs.PlainProgram.{PlainProgram}
+use Rattle.js_resolver.specs.Resolved.{resolved}
 use Rattle.js_straight.specs.declared.script.Straight.{Straight}
 use Rattle.js_straight.specs.Straight.{script_of}
 use Rattle.bp_script.specs.declared.refusal.Kind.{Kind}
@@ -36,6 +38,12 @@ pub record AreSpelled (bytes : List ℕ) (tree : List PlainItem) : Type 0 where
 pub record AreAccepted (bytes : List ℕ) (tree : List PlainItem) : Type 0 where
   pub spelled : AreSpelled bytes tree
   pub named : name_fault tree ≡ None
+
+-- and the tree is this program
+pub record IsProgram (bytes : List ℕ) (program : PlainProgram) : Type 0 where
+  pub tree : List PlainItem
+  pub accepted : AreAccepted bytes tree
+  pub is_resolved : resolved tree ≡ Some program
 
 -- the tree is this straight script
 pub record IsScript (bytes : List ℕ) (script : List Straight) : Type 0 where

@@ -1,21 +1,23 @@
-//! Bytes read as a straight script.
+//! Bytes read as a program, and as a straight script.
 ghost use Rattle.std.specs.Prelude.{◌≡◌, ◌≤◌, ◌<◌, length, IfOk, IfErr};
 ghost use Rattle.js_lexer.specs.Gaps.{line_of};
 ghost use Rattle.js_lexer.specs.Lexed.{IsRefusal};
 ghost use Rattle.js_tree.specs.Views.{plain_tree};
-ghost use Rattle.bp_script.specs.Programs.{AreSpelled, AreAccepted, IsScript};
+ghost use Rattle.bp_script.specs.Programs.{AreSpelled, AreAccepted, IsProgram, IsScript};
 ghost use Rattle.bp_script.specs.Faults.{IsScriptFault, IsProgramFault, fault_of_parse, fault_of_names, of_name, of_line};
 
 use crate::refusal::{Kind, Refusal, Rule};
 use js_lexer::{LexFault, lex, line_at};
 use js_names::{NameFault, check_names};
 use js_parser::{ParseFault, parse};
+use js_program::Program;
+use js_resolver::resolve;
 use js_straight::{Script, script_of};
 use js_tree::{Name, Tree};
 use std::alloc::{AllocError, Global};
 use thiserror::Error;
 
-/// Why bytes were not read as a straight script.
+/// Why bytes were not read as a program or as a straight script.
 #[derive(Debug, Drop, Error)]
 pub enum ScriptFault {
     /// They are refused.
@@ -122,20 +124,41 @@ fn tree_of(alloc: Global, bytes: &[u8]) -> Result<Tree, ScriptFault>
     }
 }
 
-/// The tree of an accepted program.
-///
-/// # Errors
-///
-/// `Refused` exactly where the bytes are refused so, and never as `NotStraight`; bytes are never both accepted
-/// and refused (`one_reading`).
-pub fn accept(alloc: Global, bytes: &[u8]) -> Result<Tree, ScriptFault>
-    ensures accepted { IfOk result (λ t. AreAccepted bytes.now (plain_tree t)) }
+/// The tree that the bytes spell.
+fn short_tree_of(alloc: Global, bytes: &[u8]) -> Result<Tree, ScriptFault>
+    ensures tree { IfOk result (λ t. AreSpelled bytes.now (plain_tree t)) }
     ensures refused { IfErr result (IsProgramFault bytes.now) }
 {
     if bytes.len() > 1_048_576 {
         return Err(ScriptFault::Refused(Refusal::TooLong));
     }
-    let tree = tree_of(alloc, bytes)?;
+    tree_of(alloc, bytes)
+}
+
+/// The program that the bytes are, where they are accepted.
+///
+/// # Errors
+///
+/// `Refused` exactly where the bytes are refused so, and never as `NotStraight`; bytes are never both accepted
+/// and refused (`one_reading`).
+#[tactic(auto, using(crate::proofs::Programs::spelled, crate::proofs::Programs::program_is))]
+pub fn accept(alloc: Global, bytes: &[u8]) -> Result<Program, ScriptFault>
+    ensures program { IfOk result (IsProgram bytes.now) }
+    ensures refused { IfErr result (IsProgramFault bytes.now) }
+{
+    let tree = short_tree_of(alloc, bytes)?;
+    match resolve(alloc, &tree) {
+        Ok(program) => Ok(program),
+        Err(fault) => Err(no_names(fault)),
+    }
+}
+
+/// The tree of an accepted program.
+fn accepted_tree(alloc: Global, bytes: &[u8]) -> Result<Tree, ScriptFault>
+    ensures accepted { IfOk result (λ t. AreAccepted bytes.now (plain_tree t)) }
+    ensures refused { IfErr result (IsProgramFault bytes.now) }
+{
+    let tree = short_tree_of(alloc, bytes)?;
     match check_names(alloc, &tree) {
         Ok(_) => Ok(tree),
         Err(fault) => Err(no_names(fault)),
@@ -151,7 +174,7 @@ pub fn read_script(alloc: Global, bytes: &[u8]) -> Result<Script, ScriptFault>
     ensures script { IfOk result (IsScript bytes.now) }
     ensures refused { IfErr result (IsScriptFault bytes.now) }
 {
-    let tree = accept(alloc, bytes)?;
+    let tree = accepted_tree(alloc, bytes)?;
     match script_of(alloc, &tree)? {
         Some(script) => Ok(script),
         None => Err(ScriptFault::Refused(Refusal::NotStraight)),
