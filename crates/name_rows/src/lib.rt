@@ -1,4 +1,4 @@
-//! Tests of the rules of names, as tables: a line is a script and what accepting says of it.
+//! Tests of the rules of names, as tables in which a line is a script and what accepting says of it, and of programs.
 #![tactic(auto)]
 
 #[cfg(test)]
@@ -7,6 +7,8 @@ mod answers;
 mod captures;
 #[cfg(test)]
 mod places;
+#[cfg(test)]
+mod programs;
 #[cfg(test)]
 mod scopes;
 #[cfg(test)]
