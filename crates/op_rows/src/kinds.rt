@@ -7,24 +7,18 @@ use std::process::Abort;
 use std::test::Fail;
 
 // One value of each kind.
-fn samples(alloc: Global) -> Result<Vec<Value>, Fail> {
-    let mut all = Vec::new(alloc);
-    for word in [
-        "undefined",
-        "null",
-        "true",
-        "7",
-        "\"a\"",
-        "[]",
-        "{}",
-        "event [\"go\"]",
-        "all",
-        "function",
-    ] {
-        all.push(value_of(alloc, word)?)?;
-    }
-    Ok(all)
-}
+const KINDS: &str = r#"
+undefined
+null
+true
+7
+"a"
+[]
+{}
+event ["go"]
+all
+function
+"#;
 
 // `t` and `f` for a truth value, `n` for a whole number, `w` for a text, `x` for the fault `type`.
 fn mark(answer: &Result<Value, OpFault>) -> u8 {
@@ -38,147 +32,157 @@ fn mark(answer: &Result<Value, OpFault>) -> u8 {
     }
 }
 
-fn agree(rt: &impl Abort, alloc: Global, op: Op, grid: &[&str]) -> Result<(), Fail> {
-    let values = samples(alloc)?;
-    assert_eq!(rt; values.len(), grid.len());
-    for (left, row) in values.iter().zip(grid) {
-        assert_eq!(rt; values.len(), row.len());
-        for (right, want) in values.iter().zip(row.as_bytes()) {
-            let answer = apply(alloc, op, left, right);
-            assert_eq!(rt; mark(&answer), *want, "{op:?} {left:?} {right:?}");
-        }
+// The marks of the operator on the value and each kind.
+fn marks(alloc: Global, op: Op, left: &str) -> Result<String, Fail> {
+    let value = value_of(alloc, left)?;
+    let mut all = String::new(alloc);
+    for right in KINDS.trim().lines() {
+        let other = value_of(alloc, right)?;
+        all.push(char::from(mark(&apply(alloc, op, &value, &other))))?;
+    }
+    Ok(all)
+}
+
+fn agree(rt: &impl Abort, alloc: Global, op: Op, grid: &str) -> Result<(), Fail> {
+    assert_eq!(rt; grid.trim().lines().count(), KINDS.trim().lines().count());
+    for (left, want) in KINDS.trim().lines().zip(grid.trim().lines()) {
+        let found = marks(alloc, op, left)?;
+        assert_eq!(rt; found.as_str(), want, "{op:?} {left}");
     }
     Ok(())
 }
 
+// Texts are joined, and whole numbers added.
+const ADDED: &str = "
+xxxxwxxxxx
+xxxxwxxxxx
+xxxxwxxxxx
+xxxnwxxxxx
+wwwwwxxxxx
+xxxxxxxxxx
+xxxxxxxxxx
+xxxxxxxxxx
+xxxxxxxxxx
+xxxxxxxxxx
+";
+
+// Only two whole numbers have an answer, a whole number.
+const WHOLE: &str = "
+xxxxxxxxxx
+xxxxxxxxxx
+xxxxxxxxxx
+xxxnxxxxxx
+xxxxxxxxxx
+xxxxxxxxxx
+xxxxxxxxxx
+xxxxxxxxxx
+xxxxxxxxxx
+xxxxxxxxxx
+";
+
+// Only two whole numbers have an answer, and 7 stands so to 7.
+const HOLDS: &str = "
+xxxxxxxxxx
+xxxxxxxxxx
+xxxxxxxxxx
+xxxtxxxxxx
+xxxxxxxxxx
+xxxxxxxxxx
+xxxxxxxxxx
+xxxxxxxxxx
+xxxxxxxxxx
+xxxxxxxxxx
+";
+
+// Only two whole numbers have an answer, and 7 does not stand so to 7.
+const FAILS: &str = "
+xxxxxxxxxx
+xxxxxxxxxx
+xxxxxxxxxx
+xxxfxxxxxx
+xxxxxxxxxx
+xxxxxxxxxx
+xxxxxxxxxx
+xxxxxxxxxx
+xxxxxxxxxx
+xxxxxxxxxx
+";
+
+// Contents of one kind are compared; lists, fields, sets and functions are not.
+const SAME: &str = "
+tfffffffff
+ftffffffff
+fftfffffff
+ffftffffff
+fffftfffff
+fffffxffff
+ffffffxfff
+ffffffftff
+ffffffffxf
+fffffffffx
+";
+
+// The opposite.
+const NOT_SAME: &str = "
+fttttttttt
+tftttttttt
+ttfttttttt
+tttftttttt
+ttttfttttt
+tttttxtttt
+ttttttxttt
+tttttttftt
+ttttttttxt
+tttttttttx
+";
+
+// `null` and `undefined` are equal, and differ from all else; other kinds are not compared.
+const EQUAL: &str = "
+ttffffffff
+ttffffffff
+fftxxxxxxx
+ffxtxxxxxx
+ffxxtxxxxx
+ffxxxxxxxx
+ffxxxxxxxx
+ffxxxxxtxx
+ffxxxxxxxx
+ffxxxxxxxx
+";
+
+// The opposite.
+const NOT_EQUAL: &str = "
+fftttttttt
+fftttttttt
+ttfxxxxxxx
+ttxfxxxxxx
+ttxxfxxxxx
+ttxxxxxxxx
+ttxxxxxxxx
+ttxxxxxfxx
+ttxxxxxxxx
+ttxxxxxxxx
+";
+
 #[test]
-fn joined_and_added(rt: HostRuntime) -> Result<(), Fail> {
-    agree(
-        &rt,
-        rt.alloc(),
-        Op::Add,
-        &[
-            "xxxxwxxxxx",
-            "xxxxwxxxxx",
-            "xxxxwxxxxx",
-            "xxxnwxxxxx",
-            "wwwwwxxxxx",
-            "xxxxxxxxxx",
-            "xxxxxxxxxx",
-            "xxxxxxxxxx",
-            "xxxxxxxxxx",
-            "xxxxxxxxxx",
-        ],
-    )
-}
-
-const NONE: &str = "xxxxxxxxxx";
-
-// Only two whole numbers have an answer.
-fn whole_numbers_give(
-    rt: &impl Abort,
-    alloc: Global,
-    op: Op,
-    row: &'static str,
-) -> Result<(), Fail> {
-    agree(
-        rt,
-        alloc,
-        op,
-        &[NONE, NONE, NONE, row, NONE, NONE, NONE, NONE, NONE, NONE],
-    )
-}
-
-#[test]
-fn whole_numbers_alone(rt: HostRuntime) -> Result<(), Fail> {
-    for (op, row) in [
-        (Op::Subtract, "xxxnxxxxxx"),
-        (Op::Multiply, "xxxnxxxxxx"),
-        (Op::Divide, "xxxnxxxxxx"),
-        (Op::FloorDivide, "xxxnxxxxxx"),
-        (Op::Remainder, "xxxnxxxxxx"),
-        (Op::Less, "xxxfxxxxxx"),
-        (Op::LessEqual, "xxxtxxxxxx"),
-        (Op::Greater, "xxxfxxxxxx"),
-        (Op::GreaterEqual, "xxxtxxxxxx"),
+fn every_pair_of_kinds(rt: HostRuntime) -> Result<(), Fail> {
+    for (op, grid) in [
+        (Op::Add, ADDED),
+        (Op::Subtract, WHOLE),
+        (Op::Multiply, WHOLE),
+        (Op::Divide, WHOLE),
+        (Op::FloorDivide, WHOLE),
+        (Op::Remainder, WHOLE),
+        (Op::Less, FAILS),
+        (Op::LessEqual, HOLDS),
+        (Op::Greater, FAILS),
+        (Op::GreaterEqual, HOLDS),
+        (Op::Same, SAME),
+        (Op::NotSame, NOT_SAME),
+        (Op::Equal, EQUAL),
+        (Op::NotEqual, NOT_EQUAL),
     ] {
-        whole_numbers_give(&rt, rt.alloc(), op, row)?;
+        agree(&rt, rt.alloc(), op, grid)?;
     }
     Ok(())
-}
-
-#[test]
-fn the_same(rt: HostRuntime) -> Result<(), Fail> {
-    agree(
-        &rt,
-        rt.alloc(),
-        Op::Same,
-        &[
-            "tfffffffff",
-            "ftffffffff",
-            "fftfffffff",
-            "ffftffffff",
-            "fffftfffff",
-            "fffffxffff",
-            "ffffffxfff",
-            "ffffffftff",
-            "ffffffffxf",
-            "fffffffffx",
-        ],
-    )?;
-    agree(
-        &rt,
-        rt.alloc(),
-        Op::NotSame,
-        &[
-            "fttttttttt",
-            "tftttttttt",
-            "ttfttttttt",
-            "tttftttttt",
-            "ttttfttttt",
-            "tttttxtttt",
-            "ttttttxttt",
-            "tttttttftt",
-            "ttttttttxt",
-            "tttttttttx",
-        ],
-    )
-}
-
-#[test]
-fn equal(rt: HostRuntime) -> Result<(), Fail> {
-    agree(
-        &rt,
-        rt.alloc(),
-        Op::Equal,
-        &[
-            "ttffffffff",
-            "ttffffffff",
-            "fftxxxxxxx",
-            "ffxtxxxxxx",
-            "ffxxtxxxxx",
-            "ffxxxxxxxx",
-            "ffxxxxxxxx",
-            "ffxxxxxtxx",
-            "ffxxxxxxxx",
-            "ffxxxxxxxx",
-        ],
-    )?;
-    agree(
-        &rt,
-        rt.alloc(),
-        Op::NotEqual,
-        &[
-            "fftttttttt",
-            "fftttttttt",
-            "ttfxxxxxxx",
-            "ttxfxxxxxx",
-            "ttxxfxxxxx",
-            "ttxxxxxxxx",
-            "ttxxxxxxxx",
-            "ttxxxxxfxx",
-            "ttxxxxxxxx",
-            "ttxxxxxxxx",
-        ],
-    )
 }

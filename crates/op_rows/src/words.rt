@@ -4,8 +4,8 @@ ghost use Rattle.std.specs.Result.{ForOk};
 ghost use Rattle.js_value.specs.Value.{IsSortedValue};
 ghost use Rattle.js_value.specs.Views.{plain_value};
 
-use js_ops::{OpFault, make, member};
-use js_value::{Make, SetTree, Text, Value, event_of, event_text};
+use js_ops::{OpFault, make, member, method};
+use js_value::{Make, Method, SetTree, Text, Value, event_of, event_text};
 use std::alloc::Global;
 use std::test::Fail;
 
@@ -36,30 +36,100 @@ fn list(alloc: Global, item: Value) -> Result<Value, Fail>
     Ok(make(alloc, Make::List, &[item], &[])?)
 }
 
-/// The value of JSON; of `event` and the text of an event; of `undefined`, `function`, `all` and `none`; of
-/// `[undefined]`, `[none]` and `[[none]]`.
+// The fields with the key `a` alone.
+fn fields(alloc: Global, item: Value) -> Result<Value, Fail>
+    requires { IsSortedValue (plain_value item) }
+    ensures { IfOk result (λ v. IsSortedValue (plain_value v)) }
+{
+    let key = text(alloc, "a")?;
+    Ok(make(alloc, Make::Fields, &[item], &[key])?)
+}
+
+fn function(alloc: Global) -> Value
+    ensures { IsSortedValue (plain_value result) }
+{
+    Value::Function {
+        code: 3,
+        captured: Vec::new(alloc),
+    }
+}
+
+fn predicate(alloc: Global, name: Value) -> Result<Value, Fail>
+    requires { IsSortedValue (plain_value name) }
+    ensures { IfOk result (λ v. IsSortedValue (plain_value v)) }
+{
+    Ok(make(alloc, Make::Set, &[name, function(alloc)], &[])?)
+}
+
+fn joined_to_all(alloc: Global, item: Value) -> Result<Value, Fail>
+    requires { IsSortedValue (plain_value item) }
+    ensures { IfOk result (λ v. IsSortedValue (plain_value v)) }
+{
+    let all = Value::Set(SetTree::All);
+    Ok(method(alloc, Method::Or, &all, &[item])?)
+}
+
+// A text of this many bytes, which weighs one more.
+fn letters(alloc: Global, count: u32) -> Result<Value, Fail>
+    ensures { IfOk result (λ v. IsSortedValue (plain_value v)) }
+{
+    let mut word = String::new(alloc);
+    for _ in 0..count {
+        word.push('a')?;
+    }
+    Ok(Value::Words(Text::new(word)))
+}
+
+// This many lists, one in another; 2 to 64.
+fn lists(alloc: Global, count: u32) -> Result<Value, Fail>
+    ensures { IfOk result (λ v. IsSortedValue (plain_value v)) }
+{
+    let mut line = String::new(alloc);
+    for _ in 1..count {
+        line.push('[')?;
+    }
+    for _ in 1..count {
+        line.push(']')?;
+    }
+    list(alloc, data(alloc, line.as_str())?)
+}
+
+fn sized(alloc: Global, count: u32, name: &str) -> Result<Value, Fail>
+    ensures { IfOk result (λ v. IsSortedValue (plain_value v)) }
+{
+    match name {
+        "letters" => letters(alloc, count),
+        "letters in a list" => list(alloc, letters(alloc, count)?),
+        "letters as a predicate" => predicate(alloc, letters(alloc, count)?),
+        "lists" => lists(alloc, count),
+        "lists in fields" => fields(alloc, lists(alloc, count)?),
+        "lists joined to all" => joined_to_all(alloc, lists(alloc, count)?),
+        _ => Err("no value has this name")?,
+    }
+}
+
+/// The value of JSON without blanks; of `event` and the text of an event; of `undefined`, `function`, `all` and `none`;
+/// of `[undefined]`, `[none]` and `[[none]]`; of a number and `letters`, `lists` or what is made of them.
 pub fn value_of(alloc: Global, word: &str) -> Result<Value, Fail>
     ensures { IfOk result (λ v. IsSortedValue (plain_value v)) }
 {
     match word {
         "undefined" => Ok(Value::Undefined),
-        "function" => Ok(Value::Function {
-            code: 3,
-            captured: Vec::new(alloc),
-        }),
+        "function" => Ok(function(alloc)),
         "all" => Ok(Value::Set(SetTree::All)),
         "none" => Ok(Value::Set(SetTree::Nothing)),
         "[undefined]" => list(alloc, Value::Undefined),
         "[none]" => list(alloc, Value::Set(SetTree::Nothing)),
         "[[none]]" => list(alloc, list(alloc, Value::Set(SetTree::Nothing))?),
-        _ => match word.strip_prefix("event ") {
-            Some(line) => event(alloc, line),
+        _ => match word.split_once(" ") {
+            Some(("event", line)) => event(alloc, line),
+            Some((count, name)) => sized(alloc, count.parse::<u32>()?, name),
             None => data(alloc, word),
         },
     }
 }
 
-// The JSON of data, as what stands in the text of an event behind its name.
+// The JSON of data, as what stands in the text of an event behind its name; `too large` where no event can hold it.
 fn shown_data(alloc: Global, v: Value) -> Result<String, Fail>
     requires { IsSortedValue (plain_value v) }
 {
@@ -70,7 +140,7 @@ fn shown_data(alloc: Global, v: Value) -> Result<String, Fail>
             let front = line.as_str().strip_suffix("]").ok_or("no list")?;
             Ok(String::from_str(alloc, front.strip_prefix("[\"\",").ok_or("no data")?)?)
         }
-        _ => Err("no data")?,
+        _ => Ok(String::from_str(alloc, "too large")?),
     }
 }
 
@@ -88,14 +158,5 @@ pub fn shown(alloc: Global, answer: Result<Value, OpFault>) -> Result<String, Fa
         }
         Ok(Value::Set(set)) => Ok(format!(in alloc; "{set:?}")?),
         Ok(other) => shown_data(alloc, other),
-    }
-}
-
-/// `ok`, or the name of the fault.
-pub fn outcome(answer: &Result<Value, OpFault>) -> &'static str {
-    match answer {
-        Ok(_) => "ok",
-        Err(OpFault::Fault(fault)) => fault.name(),
-        Err(OpFault::Memory) => "memory",
     }
 }

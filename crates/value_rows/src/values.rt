@@ -1,3 +1,4 @@
+//! Weights, nestings, truth and texts of values and sets, and the names of faults.
 use js_value::{
     Event, Fault, SetTree, Text, Value, Whole, copy, copy_set, nesting, nesting_of_set, text_of,
     truthy, weight, weight_of_set,
@@ -21,45 +22,6 @@ fn go(alloc: Global) -> Result<Event, Fail> {
     Ok(Event::new(text(alloc, "go")?, None)?)
 }
 
-// Whether the value has this weight, nesting, truth and text, and its copy this weight.
-fn shows(
-    alloc: Global,
-    value: &Value,
-    weighs: u64,
-    deep: u64,
-    holds: bool,
-    prints: Option<&str>,
-) -> Result<bool, Fail> {
-    let found = text_of(alloc, value)?;
-    let same_text = match (found, prints) {
-        (None, None) => true,
-        (Some(text), Some(wanted)) => text.as_str() == wanted,
-        _ => false,
-    };
-    let again = copy(alloc, value)?;
-    Ok(
-        same_text
-            && weight(value) == weighs
-            && nesting(value) == deep
-            && truthy(value) == holds
-            && weight(&again) == weighs,
-    )
-}
-
-#[test]
-fn values_without_parts(rt: HostRuntime) -> Result<(), Fail> {
-    let alloc = rt.alloc();
-    assert!(rt; shows(alloc, &Value::Undefined, 1, 1, false, Some("undefined"))?);
-    assert!(rt; shows(alloc, &Value::Null, 1, 1, false, Some("null"))?);
-    assert!(rt; shows(alloc, &Value::Truth(true), 1, 1, true, Some("true"))?);
-    assert!(rt; shows(alloc, &Value::Truth(false), 1, 1, false, Some("false"))?);
-    assert!(rt; shows(alloc, &whole(0)?, 1, 1, false, Some("0"))?);
-    assert!(rt; shows(alloc, &whole(-42)?, 1, 1, true, Some("-42"))?);
-    assert!(rt; shows(alloc, &words(alloc, "")?, 1, 1, false, Some(""))?);
-    assert!(rt; shows(alloc, &words(alloc, "é")?, 3, 1, true, Some("é"))?);
-    Ok(())
-}
-
 // `[1,{"key":go}]`
 fn list_of_fields(alloc: Global) -> Result<Value, Fail> {
     let fields = vec![in alloc; (text(alloc, "key")?, Value::Event(go(alloc)?))]?;
@@ -72,26 +34,63 @@ fn function(alloc: Global) -> Result<Value, Fail> {
     Ok(Value::Function { code: 0, captured })
 }
 
-#[test]
-fn values_with_parts(rt: HostRuntime) -> Result<(), Fail> {
-    let alloc = rt.alloc();
-    assert!(rt; shows(alloc, &Value::List(Vec::new(alloc)), 1, 1, true, None)?);
-    assert!(rt; shows(alloc, &list_of_fields(alloc)?, 11, 4, true, None)?);
-    assert!(rt; shows(alloc, &Value::Event(go(alloc)?), 4, 2, true, None)?);
-    assert!(rt; shows(alloc, &Value::Set(SetTree::All), 1, 1, true, None)?);
-    assert!(rt; shows(alloc, &function(alloc)?, 5, 2, true, None)?);
-    Ok(())
+fn value_named(alloc: Global, name: &str) -> Result<Value, Fail> {
+    match name {
+        "undefined" => Ok(Value::Undefined),
+        "null" => Ok(Value::Null),
+        "true" => Ok(Value::Truth(true)),
+        "false" => Ok(Value::Truth(false)),
+        "zero" => whole(0),
+        "less than zero" => whole(-42),
+        "empty text" => words(alloc, ""),
+        "text of two bytes" => words(alloc, "é"),
+        "empty list" => Ok(Value::List(Vec::new(alloc))),
+        "list of fields" => list_of_fields(alloc),
+        "event" => Ok(Value::Event(go(alloc)?)),
+        "set" => Ok(Value::Set(SetTree::All)),
+        "function" => function(alloc),
+        _ => Err("no value has this name")?,
+    }
 }
 
-// Whether the set and its copy have this weight and nesting.
-fn weighs(alloc: Global, set: &SetTree, heavy: u64, deep: u64) -> Result<bool, Fail> {
-    let again = copy_set(alloc, set)?;
-    Ok(
-        weight_of_set(set) == heavy
-            && nesting_of_set(set) == deep
-            && weight_of_set(&again) == heavy
-            && nesting_of_set(&again) == deep,
-    )
+// The weight, the nesting, the truth and the text.
+fn shown(alloc: Global, value: &Value) -> Result<String, Fail> {
+    let sizes = format!(in alloc; "{} {} {}", weight(value), nesting(value), truthy(value))?;
+    match text_of(alloc, value)? {
+        Some(text) => Ok(format!(in alloc; "{} {:?}", sizes.as_str(), text.as_str())?),
+        None => Ok(sizes),
+    }
+}
+
+// A value, its weight, its nesting, its truth and its text, if it has one.
+const VALUES: &str = r#"
+undefined --> 1 1 false "undefined"
+null --> 1 1 false "null"
+true --> 1 1 true "true"
+false --> 1 1 false "false"
+zero --> 1 1 false "0"
+less than zero --> 1 1 true "-42"
+empty text --> 1 1 false ""
+text of two bytes --> 3 1 true "é"
+empty list --> 1 1 true
+list of fields --> 11 4 true
+event --> 4 2 true
+set --> 1 1 true
+function --> 5 2 true
+"#;
+
+#[test]
+fn values_and_their_copies(rt: HostRuntime) -> Result<(), Fail> {
+    let alloc = rt.alloc();
+    for line in VALUES.trim().lines() {
+        let (name, want) = line.split_once(" --> ").ok_or("no sizes")?;
+        let value = value_named(alloc, name)?;
+        let found = shown(alloc, &value)?;
+        assert_eq!(rt; found.as_str(), want, "{name}");
+        let copied = shown(alloc, &copy(alloc, &value)?)?;
+        assert_eq!(rt; copied.as_str(), want, "the copy of {name}");
+    }
+    Ok(())
 }
 
 fn predicate(alloc: Global) -> Result<SetTree, Fail> {
@@ -113,34 +112,56 @@ fn any(alloc: Global) -> Result<SetTree, Fail> {
     Ok(SetTree::Any(vec![in alloc; SetTree::Only(go(alloc)?), other]?))
 }
 
+fn set_named(alloc: Global, name: &str) -> Result<SetTree, Fail> {
+    match name {
+        "all" => Ok(SetTree::All),
+        "an event" => Ok(SetTree::Only(go(alloc)?)),
+        "a predicate" => predicate(alloc),
+        "an event or none" => either(alloc),
+        "an event and not all" => any(alloc),
+        _ => Err("no set has this name")?,
+    }
+}
+
+fn shown_set(alloc: Global, set: &SetTree) -> Result<String, Fail> {
+    Ok(format!(in alloc; "{} {}", weight_of_set(set), nesting_of_set(set))?)
+}
+
+// A set, its weight and its nesting.
+const SETS: &str = "
+all --> 1 1
+an event --> 4 2
+a predicate --> 12 2
+an event or none --> 6 3
+an event and not all --> 7 3
+";
+
 #[test]
-fn sets_weigh(rt: HostRuntime) -> Result<(), Fail> {
+fn sets_and_their_copies(rt: HostRuntime) -> Result<(), Fail> {
     let alloc = rt.alloc();
-    assert!(rt; weighs(alloc, &SetTree::All, 1, 1)?);
-    assert!(rt; weighs(alloc, &SetTree::Only(go(alloc)?), 4, 2)?);
-    assert!(rt; weighs(alloc, &predicate(alloc)?, 12, 2)?);
-    assert!(rt; weighs(alloc, &either(alloc)?, 6, 3)?);
-    assert!(rt; weighs(alloc, &any(alloc)?, 7, 3)?);
+    for line in SETS.trim().lines() {
+        let (name, want) = line.split_once(" --> ").ok_or("no sizes")?;
+        let set = set_named(alloc, name)?;
+        let found = shown_set(alloc, &set)?;
+        assert_eq!(rt; found.as_str(), want, "{name}");
+        let copied = shown_set(alloc, &copy_set(alloc, &set)?)?;
+        assert_eq!(rt; copied.as_str(), want, "the copy of {name}");
+    }
     Ok(())
 }
 
 #[test]
-fn faults_have_names(rt: HostRuntime) -> Result<(), Fail> {
-    for (fault, wanted) in [
-        (Fault::Whole, "whole"),
-        (Fault::Fraction, "fraction"),
-        (Fault::Zero, "zero"),
-        (Fault::Mistyped, "type"),
-        (Fault::Early, "early"),
-        (Fault::Index, "index"),
-        (Fault::Weight, "weight"),
-        (Fault::Nesting, "nesting"),
-        (Fault::Depth, "depth"),
-        (Fault::Mode, "mode"),
-        (Fault::Statement, "statement"),
-        (Fault::Truth, "truth"),
-    ] {
-        assert_eq!(rt; fault.name(), wanted);
-    }
-    Ok(())
+fn faults_have_names(rt: HostRuntime) {
+    assert_eq!(rt; Fault::Whole.name(), "whole");
+    assert_eq!(rt; Fault::Fraction.name(), "fraction");
+    assert_eq!(rt; Fault::Zero.name(), "zero");
+    assert_eq!(rt; Fault::Mistyped.name(), "type");
+    assert_eq!(rt; Fault::Early.name(), "early");
+    assert_eq!(rt; Fault::Index.name(), "index");
+    assert_eq!(rt; Fault::Weight.name(), "weight");
+    assert_eq!(rt; Fault::Nesting.name(), "nesting");
+    assert_eq!(rt; Fault::Depth.name(), "depth");
+    assert_eq!(rt; Fault::Mode.name(), "mode");
+    assert_eq!(rt; Fault::Statement.name(), "statement");
+    assert_eq!(rt; Fault::Truth.name(), "truth");
 }
