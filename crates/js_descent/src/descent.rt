@@ -1,8 +1,10 @@
 //! The readers of forms.
-ghost use Rattle.std.specs.Prelude.{◌≡◌, ◌<◌, ◌≤◌, ◌+◌, ◌∷◌, length, IfOk};
-ghost use Rattle.js_tree.specs.Views.{plain_expr};
+ghost use Rattle.std.specs.Prelude.{◌≡◌, ◌<◌, ◌≤◌, ◌+◌, ◌∷◌, length, option_map, IfOk};
+ghost use Rattle.js_tree.specs.Views.{plain_expr, plain_start, plain_stmt};
+ghost use Rattle.js_tree.specs.Views.{perhaps as perhaps_tree};
 ghost use Rattle.js_grammar.specs.Tokens.{step, is_const};
 ghost use Rattle.js_descent.specs.First.{at_first};
+ghost use Rattle.js_descent.specs.Behind.{second_at, branches_at, otherwise_at, looped_at, stepped_at, tested_at};
 ghost use Rattle.js_grammar.specs.Grammar.{Assignment, Operators};
 ghost use Rattle.js_grammar.specs.Reader.{readers, run, operated_step, postfix_at, break_at, continue_at, round_at, function_at, assign_at as assign_read, assignment as assignment_read, statement as statement_read, primary, primary_at, elements, field_at, fields, declarator, declarators_of_kind, statements as statements_read, closed_statements, called, member_turn, index_turn, call_turn, signed, step_at as step_read, operators, choice, arrow, body_at, test, block_at, declaration_at, if_at, while_at, start, perhaps, for_three_at, each_at, for_each_at, for_at, return_at, expression_at};
 ghost use Rattle.js_steps.specs.Seen.{seen};
@@ -542,15 +544,53 @@ pub fn choice_of<'a>(alloc: Global, tokens: &'a [Lexeme], inner: u32) -> Result<
 {
     let line = line_at(tokens);
     let test = operators_of(alloc, 6, tokens, inner)?;
-    let Ok(rest) = skip(test.rest, Sort::Question) else {
-        return Ok(test);
-    };
-    if test.depth > inner {
-        return Err(no_tree(test.rest));
+    match skip(test.rest, Sort::Question) {
+        Ok(rest) => branches_of(alloc, line, test, rest, inner),
+        Err(_) => Ok(test),
     }
-    let first = assignment(alloc, rest, inner)?;
+}
+
+/// A test and two branches, behind its `?`.
+#[cycle(descent)]
+#[tactic(auto, using(crate::proofs::Using::after_none))]
+pub fn branches_of<'a>(
+    alloc: Global,
+    line: u32,
+    test: ReadExpr<'_>,
+    tokens: &'a [Lexeme],
+    inner: u32,
+) -> Result<ReadExpr<'a>, Stop>
+    requires { inner < 200 }
+    ensures read { IsExpr (branches_at inner line (plain_expr test.entry.tree) (seen tokens.now)) result }
+    ensures within { IfOk result (λ found. found.depth ≤ inner + 1) }
+    ensures shorter { IfOk result (λ found. length found.rest.now < length tokens.now) }
+{
+    if test.depth > inner {
+        return Err(no_tree(tokens));
+    }
+    let first = assignment(alloc, tokens, inner)?;
     let rest = skip(first.rest, Sort::Colon)?;
-    let second = assignment(alloc, rest, inner)?;
+    second_of(alloc, line, test, first, rest, inner)
+}
+
+/// The second branch, behind its `:`.
+#[cycle(descent)]
+pub fn second_of<'a>(
+    alloc: Global,
+    line: u32,
+    test: ReadExpr<'_>,
+    first: ReadExpr<'_>,
+    tokens: &'a [Lexeme],
+    inner: u32,
+) -> Result<ReadExpr<'a>, Stop>
+    requires room { inner < 200 }
+    requires test { test.depth ≤ inner }
+    requires first { first.depth ≤ inner }
+    ensures read { IsExpr (second_at inner line (plain_expr test.entry.tree) (plain_expr first.entry.tree) (seen tokens.now)) result }
+    ensures within { IfOk result (λ found. found.depth ≤ inner + 1) }
+    ensures shorter { IfOk result (λ found. length found.rest.now < length tokens.now) }
+{
+    let second = assignment(alloc, tokens, inner)?;
     build::conditional_of(alloc, line, test, first, second)
 }
 
@@ -765,10 +805,30 @@ pub fn if_of<'a>(
 {
     let test = test_of(alloc, tokens, inner)?;
     let found = body_of(alloc, test.rest, inner)?;
-    let Ok(rest) = skip(found.rest, Sort::Else) else {
-        return statements::if_of(alloc, line, test, found);
-    };
-    let other = body_of(alloc, rest, inner)?;
+    match skip(found.rest, Sort::Else) {
+        Ok(rest) => otherwise_of(alloc, line, test, found, rest, inner),
+        Err(_) => statements::if_of(alloc, line, test, found),
+    }
+}
+
+/// A condition with an `else`, behind that word.
+#[cycle(descent)]
+pub fn otherwise_of<'a>(
+    alloc: Global,
+    line: u32,
+    test: ReadExpr<'_>,
+    found: ReadStmt<'_>,
+    tokens: &'a [Lexeme],
+    inner: u32,
+) -> Result<ReadStmt<'a>, Stop>
+    requires room { inner < 200 }
+    requires test { test.depth ≤ inner }
+    requires body { found.depth ≤ inner }
+    ensures read { IsStmt (otherwise_at inner line (plain_expr test.entry.tree) (plain_stmt found.entry.tree) (seen tokens.now)) result }
+    ensures within { IfOk result (λ whole. whole.depth ≤ inner + 1) }
+    ensures shorter { IfOk result (λ whole. length whole.rest.now < length tokens.now) }
+{
+    let other = body_of(alloc, tokens, inner)?;
     statements::if_else_of(alloc, line, test, found, other)
 }
 
@@ -848,11 +908,73 @@ pub fn three_of<'a>(
 {
     let first = start_of(alloc, tokens, inner)?;
     let rest = skip(first.rest, Sort::Semicolon)?;
-    let test = perhaps_of(alloc, rest, Sort::Semicolon, inner)?;
+    tested_of(alloc, line, first, rest, inner)
+}
+
+/// A loop with three parts, behind its first `;`.
+#[cycle(descent)]
+#[tactic(auto, using(crate::proofs::Using::after_none))]
+pub fn tested_of<'a>(
+    alloc: Global,
+    line: u32,
+    first: ReadStart<'_>,
+    tokens: &'a [Lexeme],
+    inner: u32,
+) -> Result<ReadStmt<'a>, Stop>
+    requires room { inner < 200 }
+    requires first { first.depth ≤ inner }
+    ensures read { IsStmt (tested_at inner line (plain_start first.entry.tree) (seen tokens.now)) result }
+    ensures within { IfOk result (λ found. found.depth ≤ inner + 1) }
+    ensures shorter { IfOk result (λ found. length found.rest.now < length tokens.now) }
+{
+    let test = perhaps_of(alloc, tokens, Sort::Semicolon, inner)?;
     let rest = skip(test.rest, Sort::Semicolon)?;
-    let last = perhaps_of(alloc, rest, Sort::RightParen, inner)?;
+    stepped_of(alloc, line, first, test, rest, inner)
+}
+
+/// A loop with three parts, behind its second `;`.
+#[cycle(descent)]
+#[tactic(auto, using(crate::proofs::Using::after_none))]
+pub fn stepped_of<'a>(
+    alloc: Global,
+    line: u32,
+    first: ReadStart<'_>,
+    test: ReadPerhaps<'_>,
+    tokens: &'a [Lexeme],
+    inner: u32,
+) -> Result<ReadStmt<'a>, Stop>
+    requires room { inner < 200 }
+    requires first { first.depth ≤ inner }
+    requires test { test.depth ≤ inner }
+    ensures read { IsStmt (stepped_at inner line (plain_start first.entry.tree) (perhaps_tree (option_map plain_expr test.entry.tree)) (seen tokens.now)) result }
+    ensures within { IfOk result (λ found. found.depth ≤ inner + 1) }
+    ensures shorter { IfOk result (λ found. length found.rest.now < length tokens.now) }
+{
+    let last = perhaps_of(alloc, tokens, Sort::RightParen, inner)?;
     let rest = skip(last.rest, Sort::RightParen)?;
-    let found = body_of(alloc, rest, inner)?;
+    looped_of(alloc, line, first, test, last, rest, inner)
+}
+
+/// The body of a loop with three parts.
+#[cycle(descent)]
+pub fn looped_of<'a>(
+    alloc: Global,
+    line: u32,
+    first: ReadStart<'_>,
+    test: ReadPerhaps<'_>,
+    last: ReadPerhaps<'_>,
+    tokens: &'a [Lexeme],
+    inner: u32,
+) -> Result<ReadStmt<'a>, Stop>
+    requires room { inner < 200 }
+    requires first { first.depth ≤ inner }
+    requires test { test.depth ≤ inner }
+    requires last { last.depth ≤ inner }
+    ensures read { IsStmt (looped_at inner line (plain_start first.entry.tree) (perhaps_tree (option_map plain_expr test.entry.tree)) (perhaps_tree (option_map plain_expr last.entry.tree)) (seen tokens.now)) result }
+    ensures within { IfOk result (λ found. found.depth ≤ inner + 1) }
+    ensures shorter { IfOk result (λ found. length found.rest.now < length tokens.now) }
+{
+    let found = body_of(alloc, tokens, inner)?;
     statements::for_of(alloc, line, first, test, last, found)
 }
 

@@ -60,6 +60,12 @@ decreases-signed_of l = 64 * l.inner + 23
 abbrev pub decreases-choice_of : goal.decreases-choice_of
 decreases-choice_of l = 64 * l.inner + 31
 
+abbrev pub decreases-branches_of : goal.decreases-branches_of
+decreases-branches_of l = 64 * l.inner + 28
+
+abbrev pub decreases-second_of : goal.decreases-second_of
+decreases-second_of l = 64 * l.inner + 27
+
 abbrev pub decreases-arrow_of : goal.decreases-arrow_of
 decreases-arrow_of l = 64 * l.inner + 10
 
@@ -87,6 +93,9 @@ decreases-declaration_of l = 64 * l.inner + 10
 abbrev pub decreases-if_of : goal.decreases-if_of
 decreases-if_of l = 64 * l.inner + 10
 
+abbrev pub decreases-otherwise_of : goal.decreases-otherwise_of
+decreases-otherwise_of l = 64 * l.inner + 8
+
 abbrev pub decreases-while_of : goal.decreases-while_of
 decreases-while_of l = 64 * l.inner + 10
 
@@ -97,7 +106,16 @@ abbrev pub decreases-perhaps_of : goal.decreases-perhaps_of
 decreases-perhaps_of l = 64 * l.inner + 10
 
 abbrev pub decreases-three_of : goal.decreases-three_of
-decreases-three_of l = 64 * l.inner + 11
+decreases-three_of l = 64 * l.inner + 14
+
+abbrev pub decreases-tested_of : goal.decreases-tested_of
+decreases-tested_of l = 64 * l.inner + 13
+
+abbrev pub decreases-stepped_of : goal.decreases-stepped_of
+decreases-stepped_of l = 64 * l.inner + 12
+
+abbrev pub decreases-looped_of : goal.decreases-looped_of
+decreases-looped_of l = 64 * l.inner + 11
 
 abbrev pub decreases-each_of : goal.decreases-each_of
 decreases-each_of l = 64 * l.inner + 10
@@ -106,7 +124,7 @@ abbrev pub decreases-for_each_of : goal.decreases-for_each_of
 decreases-for_each_of l = 64 * l.inner + 11
 
 abbrev pub decreases-for_of : goal.decreases-for_of
-decreases-for_of l = 64 * l.inner + 12
+decreases-for_of l = 64 * l.inner + 15
 
 abbrev pub decreases-return_of : goal.decreases-return_of
 decreases-return_of l = 64 * l.inner + 10
