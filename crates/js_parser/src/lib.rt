@@ -2,7 +2,6 @@
 #![tactic(auto)]
 
 mod fault;
-mod parser;
 mod program;
 mod refused;
 

@@ -9,8 +9,8 @@ ghost use Rattle.js_steps.specs.Parsed.{IsItem};
 ghost use Rattle.js_parser.specs.Parse.{IsItems, IsLineIn, IsParseFault, IsFault};
 
 use crate::fault::ParseFault;
-use crate::parser::{closed_of, statement_of};
 use crate::refused::unsupported_line;
+use js_descent::{closed_of, statement_of};
 use js_grammar::Sort;
 use js_lexer::Token;
 use js_steps::cursor::{is_sort, name, next, spot_of};

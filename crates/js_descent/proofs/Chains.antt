@@ -15,7 +15,7 @@ use Rattle.js_steps.specs.declared.stop.Stop.{Stop}
 use Rattle.js_steps.specs.declared.stop.Stop.TheVariants.{NoTree, Memory}
 use Rattle.js_steps.specs.Seen.{seen}
 use Rattle.js_steps.specs.Parsed.{IsExpr}
-use Rattle.js_parser.proofs.Using.{operated_turn, operators_none}
+use Rattle.js_descent.proofs.Using.{operated_turn, operators_none}
 
 -- a tree that is too deep takes no operator
 chain_deep : (n line k : ℕ) (op : Operator) (a : PlainExpr) (t : Token) (ts : List Token) → operator_at k t ≡ Some op → n < nesting a →

@@ -1,8 +1,8 @@
-//! Reads tokens by recursive descent.
+//! The readers of forms.
 ghost use Rattle.std.specs.Prelude.{◌≡◌, ◌<◌, ◌≤◌, ◌+◌, ◌∷◌, length, IfOk};
 ghost use Rattle.js_tree.specs.Views.{plain_expr};
 ghost use Rattle.js_grammar.specs.Tokens.{step, is_const};
-ghost use Rattle.js_parser.specs.First.{at_first};
+ghost use Rattle.js_descent.specs.First.{at_first};
 ghost use Rattle.js_grammar.specs.Grammar.{Assignment, Operators};
 ghost use Rattle.js_grammar.specs.Reader.{readers, run, operated_step, postfix_at, break_at, continue_at, round_at, function_at, assign_at as assign_read, assignment as assignment_read, statement as statement_read, primary, primary_at, elements, field_at, fields, declarator, declarators_of_kind, statements as statements_read, closed_statements, called, member_turn, index_turn, call_turn, signed, step_at as step_read, operators, choice, arrow, body_at, test, block_at, declaration_at, if_at, while_at, start, perhaps, for_three_at, each_at, for_each_at, for_at, return_at, expression_at};
 ghost use Rattle.js_steps.specs.Seen.{seen};
@@ -112,7 +112,7 @@ fn continue_behind<'a>(token: &Lexeme, tokens: &'a [Lexeme]) -> Result<ReadStmt<
 }
 
 /// An expression within the room.
-#[cycle(parser)]
+#[cycle(descent)]
 #[tactic(auto, using(crate::proofs::Using::no_room, crate::proofs::Using::assignment_in))]
 pub fn assignment<'a>(alloc: Global, tokens: &'a [Lexeme], room: u32) -> Result<ReadExpr<'a>, Stop>
     requires { room ≤ 200 }
@@ -127,7 +127,7 @@ pub fn assignment<'a>(alloc: Global, tokens: &'a [Lexeme], room: u32) -> Result<
 }
 
 /// An operand within the room.
-#[cycle(parser)]
+#[cycle(descent)]
 #[tactic(auto, using(crate::proofs::Using::no_room, crate::proofs::Using::operators_in))]
 pub fn operand<'a>(
     alloc: Global,
@@ -148,7 +148,7 @@ pub fn operand<'a>(
 }
 
 /// Declarators within the room.
-#[cycle(parser)]
+#[cycle(descent)]
 #[tactic(auto, using(crate::proofs::Using::no_room_declarators, crate::proofs::Using::declarators_in))]
 pub fn declarators<'a>(
     alloc: Global,
@@ -168,7 +168,7 @@ pub fn declarators<'a>(
 }
 
 /// A statement within the room.
-#[cycle(parser)]
+#[cycle(descent)]
 #[tactic(auto, using(crate::proofs::Using::no_room_stmt, crate::proofs::Using::statement_in))]
 pub fn statement<'a>(alloc: Global, tokens: &'a [Lexeme], room: u32) -> Result<ReadStmt<'a>, Stop>
     requires { room ≤ 200 }
@@ -183,7 +183,7 @@ pub fn statement<'a>(alloc: Global, tokens: &'a [Lexeme], room: u32) -> Result<R
 }
 
 /// An expression in parentheses, behind the first.
-#[cycle(parser)]
+#[cycle(descent)]
 #[tactic(auto, using(crate::proofs::Using::after_none))]
 pub fn round_of<'a>(alloc: Global, tokens: &'a [Lexeme], inner: u32) -> Result<ReadExpr<'a>, Stop>
     requires { inner < 200 }
@@ -197,7 +197,7 @@ pub fn round_of<'a>(alloc: Global, tokens: &'a [Lexeme], inner: u32) -> Result<R
 }
 
 /// Statements and `}`.
-#[cycle(parser)]
+#[cycle(descent)]
 #[tactic(auto, using(crate::proofs::Using::after_none))]
 pub fn closed_of<'a>(alloc: Global, tokens: &'a [Lexeme], inner: u32) -> Result<ReadStmts<'a>, Stop>
     requires { inner ≤ 200 }
@@ -211,7 +211,7 @@ pub fn closed_of<'a>(alloc: Global, tokens: &'a [Lexeme], inner: u32) -> Result<
 }
 
 /// A function expression, behind its word.
-#[cycle(parser)]
+#[cycle(descent)]
 pub fn function_of<'a>(
     alloc: Global,
     token: &Lexeme,
@@ -229,7 +229,7 @@ pub fn function_of<'a>(
 }
 
 /// A primary expression.
-#[cycle(parser)]
+#[cycle(descent)]
 pub fn primary_of<'a>(alloc: Global, tokens: &'a [Lexeme], inner: u32) -> Result<ReadExpr<'a>, Stop>
     requires { inner < 200 }
     ensures read { IsExpr (primary inner (readers inner) (seen tokens.now)) result }
@@ -261,7 +261,7 @@ pub fn primary_of<'a>(alloc: Global, tokens: &'a [Lexeme], inner: u32) -> Result
 }
 
 /// Expressions separated by commas, and the mark that closes them.
-#[cycle(parser)]
+#[cycle(descent)]
 #[tactic(auto, using(crate::proofs::Using::elements_turn, crate::proofs::Using::map_push, crate::proofs::Using::next_element_none, crate::proofs::Using::elements_begin))]
 pub fn elements_to<'a>(
     alloc: Global,
@@ -290,7 +290,7 @@ pub fn elements_to<'a>(
 }
 
 /// A field.
-#[cycle(parser)]
+#[cycle(descent)]
 pub fn field_of<'a>(alloc: Global, tokens: &'a [Lexeme], inner: u32) -> Result<ReadField<'a>, Stop>
     requires { inner < 200 }
     ensures read { IsField (at_first (field_at inner (readers inner)) (seen tokens.now)) result }
@@ -313,7 +313,7 @@ pub fn field_of<'a>(alloc: Global, tokens: &'a [Lexeme], inner: u32) -> Result<R
 }
 
 /// Fields and `}`, behind the `{`.
-#[cycle(parser)]
+#[cycle(descent)]
 #[tactic(auto, using(crate::proofs::Using::fields_turn, crate::proofs::Using::map_push_field, crate::proofs::Using::next_field_none, crate::proofs::Using::fields_begin))]
 pub fn fields_of<'a>(
     alloc: Global,
@@ -363,7 +363,7 @@ pub fn member_at<'a>(
 }
 
 /// An element, behind its bracket.
-#[cycle(parser)]
+#[cycle(descent)]
 #[tactic(auto, using(crate::proofs::Using::after_none))]
 pub fn index_at<'a>(
     alloc: Global,
@@ -386,7 +386,7 @@ pub fn index_at<'a>(
 }
 
 /// A call, behind its parenthesis.
-#[cycle(parser)]
+#[cycle(descent)]
 pub fn call_at<'a>(
     alloc: Global,
     line: u32,
@@ -408,7 +408,7 @@ pub fn call_at<'a>(
 }
 
 /// A primary, and so many of `.word`, `[ expression ]` and `( arguments )`.
-#[cycle(parser)]
+#[cycle(descent)]
 #[tactic(auto, using(crate::proofs::Using::called_turn))]
 pub fn called_of<'a>(alloc: Global, tokens: &'a [Lexeme], inner: u32) -> Result<ReadExpr<'a>, Stop>
     requires { inner < 200 }
@@ -432,7 +432,7 @@ pub fn called_of<'a>(alloc: Global, tokens: &'a [Lexeme], inner: u32) -> Result<
 }
 
 /// A postfix or a call, where no unary operator stands; or `++` or `--` and a name.
-#[cycle(parser)]
+#[cycle(descent)]
 #[tactic(auto, using(crate::proofs::Using::held_none))]
 pub fn unsigned_of<'a>(
     alloc: Global,
@@ -458,7 +458,7 @@ pub fn unsigned_of<'a>(
 }
 
 /// A unary operator and its operand, or none.
-#[cycle(parser)]
+#[cycle(descent)]
 pub fn signed_of<'a>(alloc: Global, tokens: &'a [Lexeme], inner: u32) -> Result<ReadExpr<'a>, Stop>
     requires { inner < 200 }
     ensures read { IsExpr (signed inner (readers inner) (seen tokens.now)) result }
@@ -476,7 +476,7 @@ pub fn signed_of<'a>(alloc: Global, tokens: &'a [Lexeme], inner: u32) -> Result<
 }
 
 /// An operand and so many operators of the level with their operands, to the left.
-#[cycle(parser)]
+#[cycle(descent)]
 #[tactic(auto, using(crate::proofs::Using::operated_turn))]
 pub fn chain_of<'a>(
     alloc: Global,
@@ -509,7 +509,7 @@ pub fn chain_of<'a>(
 }
 
 /// Operands with operators tighter than the level between them.
-#[cycle(parser)]
+#[cycle(descent)]
 #[tactic(auto, using(crate::proofs::Using::operators_next, crate::proofs::Using::operators_refused, crate::proofs::Using::operators_none))]
 pub fn operators_of<'a>(
     alloc: Global,
@@ -532,7 +532,7 @@ pub fn operators_of<'a>(
 }
 
 /// A test and two branches, or the test alone.
-#[cycle(parser)]
+#[cycle(descent)]
 #[tactic(auto, using(crate::proofs::Using::after_none, crate::proofs::Using::choice_alone))]
 pub fn choice_of<'a>(alloc: Global, tokens: &'a [Lexeme], inner: u32) -> Result<ReadExpr<'a>, Stop>
     requires { inner < 200 }
@@ -555,7 +555,7 @@ pub fn choice_of<'a>(alloc: Global, tokens: &'a [Lexeme], inner: u32) -> Result<
 }
 
 /// An arrow function.
-#[cycle(parser)]
+#[cycle(descent)]
 #[tactic(auto, using(crate::proofs::Using::body_value))]
 pub fn arrow_of<'a>(
     alloc: Global,
@@ -581,7 +581,7 @@ pub fn arrow_of<'a>(
 }
 
 /// An assignment to a name.
-#[cycle(parser)]
+#[cycle(descent)]
 pub fn assign_of<'a>(alloc: Global, tokens: &'a [Lexeme], inner: u32) -> Result<ReadExpr<'a>, Stop>
     requires { inner < 200 }
     ensures read { IsExpr (at_first (assign_read inner (readers inner)) (seen tokens.now)) result }
@@ -601,7 +601,7 @@ pub fn assign_of<'a>(alloc: Global, tokens: &'a [Lexeme], inner: u32) -> Result<
 }
 
 /// An expression.
-#[cycle(parser)]
+#[cycle(descent)]
 pub fn assignment_of<'a>(
     alloc: Global,
     tokens: &'a [Lexeme],
@@ -625,7 +625,7 @@ pub fn assignment_of<'a>(
 }
 
 /// A declared name and its value, if it has one.
-#[cycle(parser)]
+#[cycle(descent)]
 #[tactic(auto, using(crate::proofs::Using::value_alone, crate::proofs::Using::value_none))]
 pub fn declarator_of<'a>(
     alloc: Global,
@@ -654,7 +654,7 @@ pub fn declarator_of<'a>(
 }
 
 /// Declarators separated by commas.
-#[cycle(parser)]
+#[cycle(descent)]
 #[tactic(auto, using(crate::proofs::Using::declarators_turn, crate::proofs::Using::map_push_declarator, crate::proofs::Using::next_declarator_stop))]
 pub fn declarators_of<'a>(
     alloc: Global,
@@ -679,7 +679,7 @@ pub fn declarators_of<'a>(
 }
 
 /// Statements up to `}` or the end of the text.
-#[cycle(parser)]
+#[cycle(descent)]
 #[tactic(auto, using(crate::proofs::Using::statements_turn, crate::proofs::Using::map_push_stmt))]
 pub fn statements_of<'a>(
     alloc: Global,
@@ -702,7 +702,7 @@ pub fn statements_of<'a>(
 }
 
 /// Any statement but a `const` or `let` declaration.
-#[cycle(parser)]
+#[cycle(descent)]
 pub fn body_of<'a>(alloc: Global, tokens: &'a [Lexeme], inner: u32) -> Result<ReadStmt<'a>, Stop>
     requires { inner ≤ 200 }
     ensures read { IsStmt (body_at inner (readers inner) (seen tokens.now)) result }
@@ -716,7 +716,7 @@ pub fn body_of<'a>(alloc: Global, tokens: &'a [Lexeme], inner: u32) -> Result<Re
 }
 
 /// An expression in parentheses.
-#[cycle(parser)]
+#[cycle(descent)]
 #[tactic(auto, using(crate::proofs::Using::after_none))]
 pub fn test_of<'a>(alloc: Global, tokens: &'a [Lexeme], inner: u32) -> Result<ReadExpr<'a>, Stop>
     requires { inner ≤ 200 }
@@ -731,7 +731,7 @@ pub fn test_of<'a>(alloc: Global, tokens: &'a [Lexeme], inner: u32) -> Result<Re
 }
 
 /// A declaration, behind its word.
-#[cycle(parser)]
+#[cycle(descent)]
 pub fn declaration_of<'a>(
     alloc: Global,
     line: u32,
@@ -750,7 +750,7 @@ pub fn declaration_of<'a>(
 }
 
 /// A condition, behind its word.
-#[cycle(parser)]
+#[cycle(descent)]
 #[tactic(auto, using(crate::proofs::Using::else_alone))]
 pub fn if_of<'a>(
     alloc: Global,
@@ -773,7 +773,7 @@ pub fn if_of<'a>(
 }
 
 /// A loop, behind its word.
-#[cycle(parser)]
+#[cycle(descent)]
 pub fn while_of<'a>(
     alloc: Global,
     line: u32,
@@ -791,7 +791,7 @@ pub fn while_of<'a>(
 }
 
 /// What a `for` begins with.
-#[cycle(parser)]
+#[cycle(descent)]
 pub fn start_of<'a>(alloc: Global, tokens: &'a [Lexeme], inner: u32) -> Result<ReadStart<'a>, Stop>
     requires { inner < 200 }
     ensures read { IsStart (start inner (readers inner) (seen tokens.now)) result }
@@ -813,7 +813,7 @@ pub fn start_of<'a>(alloc: Global, tokens: &'a [Lexeme], inner: u32) -> Result<R
 }
 
 /// An expression that may be absent before a mark.
-#[cycle(parser)]
+#[cycle(descent)]
 pub fn perhaps_of<'a>(
     alloc: Global,
     tokens: &'a [Lexeme],
@@ -833,7 +833,7 @@ pub fn perhaps_of<'a>(
 }
 
 /// A loop with three parts, behind its parenthesis.
-#[cycle(parser)]
+#[cycle(descent)]
 #[tactic(auto, using(crate::proofs::Using::after_none))]
 pub fn three_of<'a>(
     alloc: Global,
@@ -857,7 +857,7 @@ pub fn three_of<'a>(
 }
 
 /// A loop over a list, behind `of`.
-#[cycle(parser)]
+#[cycle(descent)]
 #[tactic(auto, using(crate::proofs::Using::after_none))]
 pub fn each_of<'a>(
     alloc: Global,
@@ -879,7 +879,7 @@ pub fn each_of<'a>(
 }
 
 /// A loop over a list, behind its parenthesis.
-#[cycle(parser)]
+#[cycle(descent)]
 #[tactic(auto, using(crate::proofs::Using::held_none, crate::proofs::Using::each_none))]
 pub fn for_each_of<'a>(
     alloc: Global,
@@ -906,7 +906,7 @@ pub fn for_each_of<'a>(
 }
 
 /// A `for`, behind its word.
-#[cycle(parser)]
+#[cycle(descent)]
 #[tactic(auto, using(crate::proofs::Using::after_none))]
 pub fn for_of<'a>(
     alloc: Global,
@@ -928,7 +928,7 @@ pub fn for_of<'a>(
 }
 
 /// A `return`, behind its word.
-#[cycle(parser)]
+#[cycle(descent)]
 pub fn return_of<'a>(
     alloc: Global,
     token: &Lexeme,
@@ -951,7 +951,7 @@ pub fn return_of<'a>(
 }
 
 /// An expression as a statement.
-#[cycle(parser)]
+#[cycle(descent)]
 pub fn expression_of<'a>(
     alloc: Global,
     tokens: &'a [Lexeme],
@@ -969,7 +969,7 @@ pub fn expression_of<'a>(
 }
 
 /// A statement.
-#[cycle(parser)]
+#[cycle(descent)]
 pub fn statement_of<'a>(
     alloc: Global,
     tokens: &'a [Lexeme],

@@ -4,8 +4,8 @@ use Rattle.js_tree.specs.Nesting.{nesting}
 use Rattle.js_grammar.specs.Reader.{readers, operators}
 use Rattle.js_steps.specs.Seen.{seen}
 use Rattle.js_steps.specs.Parsed.{IsExpr}
-use Rattle.js_parser.proofs.Chains.{chain_refused, chain_next, operators_missed}
-use Rattle.js_parser.proofs.parser.+parser.Goals as goal
+use Rattle.js_descent.proofs.Chains.{chain_refused, chain_next, operators_missed}
+use Rattle.js_descent.proofs.descent.+descent.Goals as goal
 
 pub chain_of-returns-then-left-inner-clause-read : goal.chain_of-returns-then-left-inner-clause-read
 chain_of-returns-then-left-inner-clause-read t c =

@@ -24,7 +24,7 @@ use Rattle.js_steps.specs.declared.stop.Stop.TheVariants.{NoTree, Memory}
 use Rattle.js_steps.proofs.Loops as loops
 use Rattle.js_steps.proofs.Using as using
 use Rattle.js_steps.proofs.Rows as rows
-use Rattle.js_parser.specs.First.{at_first}
+use Rattle.js_descent.specs.First.{at_first}
 
 -- room
 

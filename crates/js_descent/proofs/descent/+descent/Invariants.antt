@@ -2,7 +2,7 @@ use Rattle.std.proofs.Common.{◌≡◌, ◌<◌, ◌≤◌, ◌+◌, ◌*◌, l
 use Rattle.js_tree.specs.Views.{plain_expr, plain_field, plain_declarator, plain_stmt}
 use Rattle.js_grammar.specs.Reader.{readers, run, called_step, called, elements_step, elements, fields_step, fields, declarators_step, declarators_of_kind, operated_step, operators, statements_step, statements}
 use Rattle.js_steps.specs.Seen.{seen}
-use Rattle.js_parser.proofs.parser.+parser.Given as goal
+use Rattle.js_descent.proofs.descent.+descent.Given as goal
 
 -- each call has less room, or the same room and a tighter form
 
