@@ -1,6 +1,9 @@
-//! Rows of tokens.
-use js_lexer::{Kind, Token, lex};
+//! Bytes and their tokens.
+use js_lexer::{Kind, Token, lex, line_at};
+use percent_encoding::percent_decode;
 use std::alloc::{AllocError, Global};
+use std::process::Abort;
+use std::test::Fail;
 
 fn shown_token(alloc: Global, token: &Token) -> Result<String, AllocError> {
     let text = match &token.kind {
@@ -22,7 +25,7 @@ fn shown_token(alloc: Global, token: &Token) -> Result<String, AllocError> {
 }
 
 /// The tokens with ` | ` between, or the refusal.
-pub fn shown(alloc: Global, bytes: &[u8]) -> Result<String, AllocError> {
+fn shown(alloc: Global, bytes: &[u8]) -> Result<String, AllocError> {
     if bytes.len() > 1_048_576 {
         return format!(in alloc; "too long");
     }
@@ -41,28 +44,20 @@ pub fn shown(alloc: Global, bytes: &[u8]) -> Result<String, AllocError> {
     Ok(all)
 }
 
-#[cfg(test)]
-mod tests {
-    use super::*;
-    use js_lexer::line_at;
-    use percent_encoding::percent_decode;
-    use std::process::Abort;
-    use std::test::Fail;
-
-    /// Each line has bytes, some of them as `%` and two digits, and behind `-->` their tokens or refusal.
-    fn agree(rt: &impl Abort, alloc: Global, table: &str) -> Result<(), Fail> {
-        for line in table.trim().lines() {
-            let (left, right) = line.split_once("-->").ok_or("no tokens")?;
-            let mut bytes = Vec::new(alloc);
-            percent_decode(left.trim().as_bytes()).append_to(&mut bytes)?;
-            let found = shown(alloc, bytes.as_slice())?;
-            assert_eq!(rt; found.as_str(), right.trim(), "{line}");
-        }
-        Ok(())
+/// Each line has bytes, some of them as `%` and two digits, and behind `-->` their tokens or refusal.
+fn agree(rt: &impl Abort, alloc: Global, table: &str) -> Result<(), Fail> {
+    for line in table.trim().lines() {
+        let (left, right) = line.split_once("-->").ok_or("no tokens")?;
+        let mut bytes = Vec::new(alloc);
+        percent_decode(left.trim().as_bytes()).append_to(&mut bytes)?;
+        let found = shown(alloc, bytes.as_slice())?;
+        assert_eq!(rt; found.as_str(), right.trim(), "{line}");
     }
+    Ok(())
+}
 
-    // Numbers in four forms.
-    const NUMBERS: &str = r#"
+// Numbers in four forms.
+const NUMBERS: &str = r#"
 9007199254740991 --> new number 9007199254740991 0-16 line 1
 9007199254740992 --> NumberRange(0)
 9007199254740992n --> NumberRange(0)
@@ -107,8 +102,8 @@ let a = 1.5 --> Unsupported(8)
 1..a --> Unsupported(0)
 "#;
 
-    // Literals.
-    const LITERALS: &str = r#"
+// Literals.
+const LITERALS: &str = r#"
 '' --> new text "" 0-2 line 1
 "a'b" --> new text "a'b" 0-5 line 1
 'abc --> OpenText(0)
@@ -123,8 +118,8 @@ let a = 1.5 --> Unsupported(8)
 'a%e2%80%a8b' c --> new text "a\u{2028}b" 0-7 line 1 | name c 8-9 line 2
 "#;
 
-    // Wrong escapes.
-    const ESCAPES: &str = r#"
+// Wrong escapes.
+const ESCAPES: &str = r#"
 '\1' --> Escape(1)
 '\9' --> Escape(1)
 '\00' --> Escape(1)
@@ -153,8 +148,8 @@ let a = 1.5 --> Unsupported(8)
 'ab%0a\x --> OpenText(0)
 "#;
 
-    // The longest marks.
-    const MARKS: &str = r#"
+// The longest marks.
+const MARKS: &str = r#"
 a?.5:1 --> new name a 0-1 line 1 | mark ?. 1-3 line 1 | number 5 3-4 line 1 | mark : 4-5 line 1 | number 1 5-6 line 1
 ...5 --> new mark ... 0-3 line 1 | number 5 3-4 line 1
 .. --> new mark . 0-1 line 1 | mark . 1-2 line 1
@@ -173,16 +168,16 @@ a%e2%80%83b --> Character(1)
 %00 --> Character(0)
 "#;
 
-    // Names and words.
-    const WORDS: &str = r#"
+// Names and words.
+const WORDS: &str = r#"
 -->
 a $_0 lets typeof of --> new name a 0-1 line 1 | name $_0 2-5 line 1 | name lets 6-10 line 1 | word typeof 11-17 line 1 | name of 18-20 line 1
 const let var function return if else --> new word const 0-5 line 1 | word let 6-9 line 1 | word var 10-13 line 1 | word function 14-22 line 1 | word return 23-29 line 1 | word if 30-32 line 1 | word else 33-37 line 1
 while for break continue true false null --> new word while 0-5 line 1 | word for 6-9 line 1 | word break 10-15 line 1 | word continue 16-24 line 1 | word true 25-29 line 1 | word false 30-35 line 1 | word null 36-40 line 1
 "#;
 
-    // Gaps and lines.
-    const GAPS: &str = r#"
+// Gaps and lines.
+const GAPS: &str = r#"
 a%0ab%0dc%0d%0ad%e2%80%a8e%e2%80%a9f --> new name a 0-1 line 1 | new name b 2-3 line 2 | new name c 4-5 line 3 | new name d 7-8 line 4 | new name e 11-12 line 5 | new name f 15-16 line 6
 %ef%bb%bfa%c2%a0b%09c%0bd%0ce f --> new name a 3-4 line 1 | name b 6-7 line 1 | name c 8-9 line 1 | name d 10-11 line 1 | name e 12-13 line 1 | name f 14-15 line 1
 a//b%0d%0ac// --> new name a 0-1 line 1 | new name c 6-7 line 2
@@ -196,43 +191,42 @@ a /* --> OpenText(2)
 %0a%0a a --> new name a 3-4 line 3
 "#;
 
-    // Bytes that are no text.
-    const NO_TEXT: &str = r#"
+// Bytes that are no text.
+const NO_TEXT: &str = r#"
 a%ff --> Utf8(1)
 ` %ff --> Utf8(2)
 '%e2%80 --> Utf8(1)
 %ed%a0%80 --> Utf8(0)
 "#;
 
-    #[test]
-    fn bytes_have_their_tokens(rt: HostRuntime) -> Result<(), Fail> {
-        for table in [NUMBERS, LITERALS, ESCAPES, MARKS, WORDS, GAPS, NO_TEXT] {
-            agree(&rt, rt.alloc(), table)?;
-        }
-        Ok(())
+#[test]
+fn bytes_have_their_tokens(rt: HostRuntime) -> Result<(), Fail> {
+    for table in [NUMBERS, LITERALS, ESCAPES, MARKS, WORDS, GAPS, NO_TEXT] {
+        agree(&rt, rt.alloc(), table)?;
     }
+    Ok(())
+}
 
-    #[test]
-    fn the_longest_text(rt: HostRuntime) -> Result<(), Fail> {
-        let blank = vec![in rt.alloc(); b' '; 1_048_576]?;
-        assert_eq!(rt; shown(rt.alloc(), &blank)?.as_str(), "");
-        Ok(())
-    }
+#[test]
+fn the_longest_text(rt: HostRuntime) -> Result<(), Fail> {
+    let blank = vec![in rt.alloc(); b' '; 1_048_576]?;
+    assert_eq!(rt; shown(rt.alloc(), &blank)?.as_str(), "");
+    Ok(())
+}
 
-    #[test]
-    fn lines_of_places(rt: HostRuntime) {
-        let bytes = b"a\r\nb\n\xe2\x80\xa8c";
-        for (place, line) in [
-            (0, 1),
-            (1, 1),
-            (2, 1),
-            (3, 2),
-            (4, 2),
-            (5, 3),
-            (8, 4),
-            (9, 4),
-        ] {
-            assert_eq!(rt; line_at(bytes, place), line, "at {place}");
-        }
+#[test]
+fn lines_of_places(rt: HostRuntime) {
+    let bytes = b"a\r\nb\n\xe2\x80\xa8c";
+    for (place, line) in [
+        (0, 1),
+        (1, 1),
+        (2, 1),
+        (3, 2),
+        (4, 2),
+        (5, 3),
+        (8, 4),
+        (9, 4),
+    ] {
+        assert_eq!(rt; line_at(bytes, place), line, "at {place}");
     }
 }

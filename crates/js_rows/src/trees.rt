@@ -1,4 +1,4 @@
-//! Rows of trees.
+//! Texts and their trees.
 use js_data::{Text, Whole};
 use js_lexer::lex;
 use js_parser::parse;
@@ -7,6 +7,8 @@ use js_tree::{
     Step, Stmt, StmtForm, Tree,
 };
 use std::alloc::{AllocError, Global};
+use std::process::Abort;
+use std::test::Fail;
 
 fn sign_text(sign: Sign) -> &'static str {
     match sign {
@@ -423,7 +425,7 @@ fn shown_tree(alloc: Global, tree: &Tree) -> Result<String, AllocError> {
 
 /// The tree of a text, as lists in parentheses, each with its form first and a `'` for each pair round an expression;
 /// or the refusal.
-pub fn shown(alloc: Global, bytes: &[u8]) -> Result<String, AllocError> {
+fn shown(alloc: Global, bytes: &[u8]) -> Result<String, AllocError> {
     if bytes.len() > 1_048_576 {
         return format!(in alloc; "too long");
     }
@@ -437,37 +439,19 @@ pub fn shown(alloc: Global, bytes: &[u8]) -> Result<String, AllocError> {
     }
 }
 
-#[cfg(test)]
-mod tests {
-    use super::*;
-    use std::process::Abort;
-    use std::test::Fail;
-
-    /// The text in which `\n` stands for each line end.
-    fn text_of(alloc: Global, cell: &str) -> Result<String, AllocError> {
-        let mut text = String::new(alloc);
-        for (place, line) in cell.split("\\n").enumerate() {
-            if place > 0 {
-                text.push('\n')?;
-            }
-            text.push_str(line)?;
-        }
-        Ok(text)
+/// Each line has a text, in which `\n` stands for a line end, and behind `-->` its tree or refusal.
+fn agree(rt: &impl Abort, alloc: Global, table: &str) -> Result<(), Fail> {
+    for line in table.trim().lines() {
+        let (left, right) = line.split_once("-->").ok_or("no tree")?;
+        let text = left.trim().replace(alloc, "\\n", "\n")?;
+        let found = shown(alloc, text.as_str().as_bytes())?;
+        assert_eq!(rt; found.as_str(), right.trim(), "{line}");
     }
+    Ok(())
+}
 
-    /// Each line has a text, in which `\n` stands for a line end, and behind `-->` its tree or refusal.
-    fn agree(rt: &impl Abort, alloc: Global, table: &str) -> Result<(), Fail> {
-        for line in table.trim().lines() {
-            let (left, right) = line.split_once("-->").ok_or("no tree")?;
-            let text = text_of(alloc, left.trim())?;
-            let found = shown(alloc, text.as_str().as_bytes())?;
-            assert_eq!(rt; found.as_str(), right.trim(), "{line}");
-        }
-        Ok(())
-    }
-
-    // A program lists statements and functions.
-    const PROGRAMS: &str = r#"
+// A program lists statements and functions.
+const PROGRAMS: &str = r#"
 -->
 a; b --> a b
 function f(x, y) { return x } --> (function f (x y) {(return x)})
@@ -483,8 +467,8 @@ a } --> NoTree(1)
 { a --> NoTree(1)
 "#;
 
-    // Statements, by their first token.
-    const STATEMENTS: &str = r#"
+// Statements, by their first token.
+const STATEMENTS: &str = r#"
 {} --> {}
 { a; { b } } --> {a {b}}
 const a = 1 --> (const (a 1))
@@ -517,8 +501,8 @@ while (a); --> (while a ;)
 break; continue; return; return a --> break continue return (return a)
 "#;
 
-    // Loops with three parts, and over lists.
-    const LOOPS: &str = r#"
+// Loops with three parts, and over lists.
+const LOOPS: &str = r#"
 for (let i = 0; i < 3; i++) a --> (for (let (i 0)) (< i 3) (_++ i) a)
 for (;;) {} --> (for _ _ _ {})
 for (i = 0; ; ) a --> (for (= i 0) _ _ a)
@@ -543,8 +527,8 @@ for (let i = 0; i < 3\ni++) a --> NoTree(2)
 for (a; b; c; d) e --> NoTree(1)
 "#;
 
-    // Bodies are no lexical declarations.
-    const BODIES: &str = r#"
+// Bodies are no lexical declarations.
+const BODIES: &str = r#"
 if (a) let b = 1 --> NoTree(1)
 if (a) const b = 1 --> NoTree(1)
 if (a) var b = 1 --> (if a (var (b 1)))
@@ -557,8 +541,8 @@ while (a) { let b } --> (while a {(let b)})
 while (a) while (b) return --> (while a (while b return))
 "#;
 
-    // Where the end of a statement may be absent.
-    const ENDS: &str = r#"
+// Where the end of a statement may be absent.
+const ENDS: &str = r#"
 a b --> NoTree(1)
 a\nb --> a b
 { a } --> {a}
@@ -604,8 +588,8 @@ a\n++b --> a (++_ b)
 a ++\nb --> (_++ a) b
 "#;
 
-    // Assignments, arrows and conditionals.
-    const ASSIGNMENTS: &str = r#"
+// Assignments, arrows and conditionals.
+const ASSIGNMENTS: &str = r#"
 a = b = c --> (= a (= b c))
 a += b -= c *= d /= e %= f --> (+= a (-= b (*= c (/= d (%= e f)))))
 a.b = c --> NoTree(1)
@@ -638,8 +622,8 @@ a || b ? c : d => e --> (? (|| a b) c (=> (d) e))
 a ? b --> NoTree(1)
 "#;
 
-    // Operators, by their level.
-    const OPERATORS: &str = r#"
+// Operators, by their level.
+const OPERATORS: &str = r#"
 a - b - c --> (- (- a b) c)
 a - (b - c) --> (- a '(- b c))
 a || b && c --> (|| a (&& b c))
@@ -668,8 +652,8 @@ a.b++ --> NoTree(1)
 a\n++ --> NoTree(2)
 "#;
 
-    // Calls and primaries.
-    const CALLS: &str = r#"
+// Calls and primaries.
+const CALLS: &str = r#"
 a.b[c](d).e --> (. (call (at (. a b) c) d) e)
 a.if.switch.__proto__ --> (. (. (. a if) switch) __proto__)
 !a.b() --> (! (call (. a b)))
@@ -704,8 +688,8 @@ f(function g() {}) --> NoTree(1)
 a = if --> NoTree(1)
 "#;
 
-    // Unsupported tokens come first.
-    const UNSUPPORTED: &str = r#"
+// Unsupported tokens come first.
+const UNSUPPORTED: &str = r#"
 switch (a) {} --> Unsupported(1)
 a & b --> Unsupported(1)
 a\n** b --> Unsupported(2)
@@ -727,51 +711,51 @@ a.b\n~c ^ d --> Unsupported(2)
 let a = 1 let b\nthis --> Unsupported(2)
 "#;
 
-    // A script without semicolons.
-    const SCRIPT: &str = r#"
+// A script without semicolons.
+const SCRIPT: &str = r#"
 const f = () => {\n  return\n  1\n}\nconst g = x => x\nconst h = g\n(2)\nbp.registerBThread("A", () => {\n  bp.log.info(f())\n  bp.log.info(h)\n})\n --> (const (f (=> () {return 1}))) (const (g (=> (x) x))) (const (h (call g 2))) (call (. bp registerBThread) "A" (=> () {(call (. (. bp log) info) (call f)) (call (. (. bp log) info) h)}))
 "#;
 
-    #[test]
-    fn texts_have_their_trees(rt: HostRuntime) -> Result<(), Fail> {
-        for table in [
-            PROGRAMS,
-            STATEMENTS,
-            LOOPS,
-            BODIES,
-            ENDS,
-            ASSIGNMENTS,
-            OPERATORS,
-            CALLS,
-            UNSUPPORTED,
-            SCRIPT,
-        ] {
-            agree(&rt, rt.alloc(), table)?;
-        }
-        Ok(())
+#[test]
+fn texts_have_their_trees(rt: HostRuntime) -> Result<(), Fail> {
+    for table in [
+        PROGRAMS,
+        STATEMENTS,
+        LOOPS,
+        BODIES,
+        ENDS,
+        ASSIGNMENTS,
+        OPERATORS,
+        CALLS,
+        UNSUPPORTED,
+        SCRIPT,
+    ] {
+        agree(&rt, rt.alloc(), table)?;
     }
+    Ok(())
+}
 
-    /// A text between so many fronts and so many backs.
-    fn nested(
-        alloc: Global,
-        front: &str,
-        times: usize,
-        middle: &str,
-        back: &str,
-    ) -> Result<String, AllocError> {
-        let mut text = String::new(alloc);
-        for _ in 0..times {
-            text.push_str(front)?;
-        }
-        text.push_str(middle)?;
-        for _ in 0..times {
-            text.push_str(back)?;
-        }
-        Ok(text)
+/// A text between so many fronts and so many backs.
+fn nested(
+    alloc: Global,
+    front: &str,
+    times: usize,
+    middle: &str,
+    back: &str,
+) -> Result<String, AllocError> {
+    let mut text = String::new(alloc);
+    for _ in 0..times {
+        text.push_str(front)?;
     }
+    text.push_str(middle)?;
+    for _ in 0..times {
+        text.push_str(back)?;
+    }
+    Ok(text)
+}
 
-    // Fronts, how many, the middle and the backs: so many nest, and one more does not.
-    const NESTINGS: &str = "
+// Fronts, how many, the middle and the backs: so many nest, and one more does not.
+const NESTINGS: &str = "
 {|200||}
 {|199|;|}
 (|198|a|)
@@ -788,23 +772,22 @@ b?c:|198|a|
 if(a)|199|;|
 ";
 
-    fn tree_of_nested(alloc: Global, line: &str, more: usize) -> Result<String, Fail> {
-        let (front, rest) = line.split_once("|").ok_or("no number")?;
-        let (times, rest) = rest.split_once("|").ok_or("no middle")?;
-        let (middle, back) = rest.split_once("|").ok_or("no back")?;
-        let count = times.parse::<usize>()?.saturating_add(more);
-        let text = nested(alloc, front, count, middle, back)?;
-        Ok(shown(alloc, text.as_str().as_bytes())?)
-    }
+fn tree_of_nested(alloc: Global, line: &str, more: usize) -> Result<String, Fail> {
+    let (front, rest) = line.split_once("|").ok_or("no number")?;
+    let (times, rest) = rest.split_once("|").ok_or("no middle")?;
+    let (middle, back) = rest.split_once("|").ok_or("no back")?;
+    let count = times.parse::<usize>()?.saturating_add(more);
+    let text = nested(alloc, front, count, middle, back)?;
+    Ok(shown(alloc, text.as_str().as_bytes())?)
+}
 
-    #[test]
-    fn nesting_of_at_most_200(rt: HostRuntime) -> Result<(), Fail> {
-        for line in NESTINGS.trim().lines() {
-            let most = tree_of_nested(rt.alloc(), line, 0)?;
-            assert_ne!(rt; most.as_str(), "NoTree(1)", "{line}");
-            let past = tree_of_nested(rt.alloc(), line, 1)?;
-            assert_eq!(rt; past.as_str(), "NoTree(1)", "{line}");
-        }
-        Ok(())
+#[test]
+fn nesting_of_at_most_200(rt: HostRuntime) -> Result<(), Fail> {
+    for line in NESTINGS.trim().lines() {
+        let most = tree_of_nested(rt.alloc(), line, 0)?;
+        assert_ne!(rt; most.as_str(), "NoTree(1)", "{line}");
+        let past = tree_of_nested(rt.alloc(), line, 1)?;
+        assert_eq!(rt; past.as_str(), "NoTree(1)", "{line}");
     }
+    Ok(())
 }
