@@ -1,5 +1,7 @@
 //! Tables of tests of the front end.
 #![tactic(auto)]
 
-pub mod tokens;
-pub mod trees;
+#[cfg(test)]
+mod tokens;
+#[cfg(test)]
+mod trees;

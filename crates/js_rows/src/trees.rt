@@ -1,4 +1,4 @@
-//! Rows of trees.
+//! Texts and their trees.
 use js_data::{Text, Whole};
 use js_lexer::lex;
 use js_parser::parse;
@@ -7,6 +7,8 @@ use js_tree::{
     Step, Stmt, StmtForm, Tree,
 };
 use std::alloc::{AllocError, Global};
+use std::process::Abort;
+use std::test::Fail;
 
 fn sign_text(sign: Sign) -> &'static str {
     match sign {
@@ -423,7 +425,7 @@ fn shown_tree(alloc: Global, tree: &Tree) -> Result<String, AllocError> {
 
 /// The tree of a text, as lists in parentheses, each with its form first and a `'` for each pair round an expression;
 /// or the refusal.
-pub fn shown(alloc: Global, bytes: &[u8]) -> Result<String, AllocError> {
+fn shown(alloc: Global, bytes: &[u8]) -> Result<String, AllocError> {
     if bytes.len() > 1_048_576 {
         return format!(in alloc; "too long");
     }
@@ -437,397 +439,355 @@ pub fn shown(alloc: Global, bytes: &[u8]) -> Result<String, AllocError> {
     }
 }
 
-#[cfg(test)]
-mod tests {
-    use super::*;
-    use std::process::Abort;
-    use std::test::Fail;
-
-    fn agree(rt: &impl Abort, alloc: Global, rows: &[(&str, &str)]) -> Result<(), AllocError> {
-        for (text, want) in rows {
-            let found = shown(alloc, text.as_bytes())?;
-            assert_eq!(rt; found.as_str(), *want, "{text}");
-        }
-        Ok(())
+/// Each line has a text, in which `\n` stands for a line end, and behind `-->` its tree or refusal.
+fn agree(rt: &impl Abort, alloc: Global, table: &str) -> Result<(), Fail> {
+    for line in table.trim().lines() {
+        let (left, right) = line.split_once("-->").ok_or("no tree")?;
+        let text = left.trim().replace(alloc, "\\n", "\n")?;
+        let found = shown(alloc, text.as_str().as_bytes())?;
+        assert_eq!(rt; found.as_str(), right.trim(), "{line}");
     }
+    Ok(())
+}
 
-    #[test]
-    fn programs_list_statements_and_functions(rt: HostRuntime) -> Result<(), Fail> {
-        let rows: [(&str, &str); 13] = [
-            ("", ""),
-            ("a; b", "a b"),
-            (
-                "function f(x, y) { return x }",
-                "(function f (x y) {(return x)})",
-            ),
-            (
-                "function f() {} function g(x,) {} a",
-                "(function f () {}) (function g (x) {}) a",
-            ),
-            ("function () {}", "NoTree(1)"),
-            ("function f {}", "NoTree(1)"),
-            ("function f() a", "NoTree(1)"),
-            ("{ function f() {} }", "NoTree(1)"),
-            ("if (a) function f() {}", "NoTree(1)"),
-            ("function f() { function g() {} }", "NoTree(1)"),
-            ("function if() {}", "NoTree(1)"),
-            ("a }", "NoTree(1)"),
-            ("{ a", "NoTree(1)"),
-        ];
-        agree(&rt, rt.alloc(), &rows)?;
-        Ok(())
-    }
+// A program lists statements and functions.
+const PROGRAMS: &str = r#"
+-->
+a; b --> a b
+function f(x, y) { return x } --> (function f (x y) {(return x)})
+function f() {} function g(x,) {} a --> (function f () {}) (function g (x) {}) a
+function () {} --> NoTree(1)
+function f {} --> NoTree(1)
+function f() a --> NoTree(1)
+{ function f() {} } --> NoTree(1)
+if (a) function f() {} --> NoTree(1)
+function f() { function g() {} } --> NoTree(1)
+function if() {} --> NoTree(1)
+a } --> NoTree(1)
+{ a --> NoTree(1)
+"#;
 
-    #[test]
-    fn statements_by_their_first_token(rt: HostRuntime) -> Result<(), Fail> {
-        let rows: [(&str, &str); 30] = [
-            ("{}", "{}"),
-            ("{ a; { b } }", "{a {b}}"),
-            ("const a = 1", "(const (a 1))"),
-            ("let a, b = 2, c", "(let a (b 2) c)"),
-            ("var a", "(var a)"),
-            ("const a", "NoTree(1)"),
-            ("const a = 1, b", "NoTree(1)"),
-            ("let a = 1, ;", "NoTree(1)"),
-            ("let if = 1", "NoTree(1)"),
-            ("let switch = 1", "Unsupported(1)"),
-            ("let of = 1", "(let (of 1))"),
-            ("{}.a", "NoTree(1)"),
-            ("function f() {}()", "NoTree(1)"),
-            ("(function() {})()", "(call '(function () {}))"),
-            ("({a: 1})", "'(fields (a 1))"),
-            ("!function() {}", "(! (function () {}))"),
-            ("if (a) b; else c", "(if a b c)"),
-            ("if (a) b", "(if a b)"),
-            ("if (a) if (b) c; else d", "(if a (if b c d))"),
-            ("if (a) { if (b) c } else d", "(if a {(if b c)} d)"),
-            ("if (a) b; else if (c) d; else e", "(if a b (if c d e))"),
-            ("if (a) b\nelse c", "(if a b c)"),
-            ("if (a) b else c", "NoTree(1)"),
-            ("if a b", "NoTree(1)"),
-            ("if (a)", "NoTree(1)"),
-            ("else a", "NoTree(1)"),
-            ("while (a) b", "(while a b)"),
-            ("while (a);", "(while a ;)"),
-            (";;", "; ;"),
-            (
-                "break; continue; return; return a",
-                "break continue return (return a)",
-            ),
-        ];
-        agree(&rt, rt.alloc(), &rows)?;
-        Ok(())
-    }
+// Statements, by their first token.
+const STATEMENTS: &str = r#"
+{} --> {}
+{ a; { b } } --> {a {b}}
+const a = 1 --> (const (a 1))
+let a, b = 2, c --> (let a (b 2) c)
+var a --> (var a)
+const a --> NoTree(1)
+const a = 1, b --> NoTree(1)
+let a = 1, ; --> NoTree(1)
+let if = 1 --> NoTree(1)
+let switch = 1 --> Unsupported(1)
+let of = 1 --> (let (of 1))
+{}.a --> NoTree(1)
+function f() {}() --> NoTree(1)
+(function() {})() --> (call '(function () {}))
+({a: 1}) --> '(fields (a 1))
+!function() {} --> (! (function () {}))
+if (a) b; else c --> (if a b c)
+if (a) b --> (if a b)
+if (a) if (b) c; else d --> (if a (if b c d))
+if (a) { if (b) c } else d --> (if a {(if b c)} d)
+if (a) b; else if (c) d; else e --> (if a b (if c d e))
+if (a) b\nelse c --> (if a b c)
+if (a) b else c --> NoTree(1)
+if a b --> NoTree(1)
+if (a) --> NoTree(1)
+else a --> NoTree(1)
+while (a) b --> (while a b)
+while (a); --> (while a ;)
+;; --> ; ;
+break; continue; return; return a --> break continue return (return a)
+"#;
 
-    #[test]
-    fn loops_with_three_parts_and_over_lists(rt: HostRuntime) -> Result<(), Fail> {
-        let rows: [(&str, &str); 22] = [
-            (
-                "for (let i = 0; i < 3; i++) a",
-                "(for (let (i 0)) (< i 3) (_++ i) a)",
-            ),
-            ("for (;;) {}", "(for _ _ _ {})"),
-            ("for (i = 0; ; ) a", "(for (= i 0) _ _ a)"),
-            ("for (; a; ) b", "(for _ a _ b)"),
-            ("for (; ; a) b", "(for _ _ a b)"),
-            ("for (var i, j = 1; ; ) a", "(for (var i (j 1)) _ _ a)"),
-            ("for (const x = 1; ; ) a", "(for (const (x 1)) _ _ a)"),
-            ("for (const x; ; ) a", "NoTree(1)"),
-            ("for ({}; ; ) a", "(for (fields) _ _ a)"),
-            ("for (function() {}; ; ) a", "(for (function () {}) _ _ a)"),
-            ("for (const x of xs) a", "(of const x xs a)"),
-            ("for (let x of a.b()) {}", "(of let x (call (. a b)) {})"),
-            ("for (let x of a = b) {}", "(of let x (= a b) {})"),
-            ("for (var x of xs) a", "NoTree(1)"),
-            ("for (x of xs) a", "NoTree(1)"),
-            ("for (let if of xs) a", "NoTree(1)"),
-            ("for (let of of xs) a", "(of let of xs a)"),
-            ("for (let of = 1; ; ) a", "(for (let (of 1)) _ _ a)"),
-            ("for (a; b) c", "NoTree(1)"),
-            ("for (let i = 0\ni < 3; i++) a", "NoTree(2)"),
-            ("for (let i = 0; i < 3\ni++) a", "NoTree(2)"),
-            ("for (a; b; c; d) e", "NoTree(1)"),
-        ];
-        agree(&rt, rt.alloc(), &rows)?;
-        Ok(())
-    }
+// Loops with three parts, and over lists.
+const LOOPS: &str = r#"
+for (let i = 0; i < 3; i++) a --> (for (let (i 0)) (< i 3) (_++ i) a)
+for (;;) {} --> (for _ _ _ {})
+for (i = 0; ; ) a --> (for (= i 0) _ _ a)
+for (; a; ) b --> (for _ a _ b)
+for (; ; a) b --> (for _ _ a b)
+for (var i, j = 1; ; ) a --> (for (var i (j 1)) _ _ a)
+for (const x = 1; ; ) a --> (for (const (x 1)) _ _ a)
+for (const x; ; ) a --> NoTree(1)
+for ({}; ; ) a --> (for (fields) _ _ a)
+for (function() {}; ; ) a --> (for (function () {}) _ _ a)
+for (const x of xs) a --> (of const x xs a)
+for (let x of a.b()) {} --> (of let x (call (. a b)) {})
+for (let x of a = b) {} --> (of let x (= a b) {})
+for (var x of xs) a --> NoTree(1)
+for (x of xs) a --> NoTree(1)
+for (let if of xs) a --> NoTree(1)
+for (let of of xs) a --> (of let of xs a)
+for (let of = 1; ; ) a --> (for (let (of 1)) _ _ a)
+for (a; b) c --> NoTree(1)
+for (let i = 0\ni < 3; i++) a --> NoTree(2)
+for (let i = 0; i < 3\ni++) a --> NoTree(2)
+for (a; b; c; d) e --> NoTree(1)
+"#;
 
-    #[test]
-    fn bodies_are_no_lexical_declarations(rt: HostRuntime) -> Result<(), Fail> {
-        let rows: [(&str, &str); 10] = [
-            ("if (a) let b = 1", "NoTree(1)"),
-            ("if (a) const b = 1", "NoTree(1)"),
-            ("if (a) var b = 1", "(if a (var (b 1)))"),
-            ("if (a) b; else let c = 1", "NoTree(1)"),
-            ("if (a) b; else var c", "(if a b (var c))"),
-            ("while (a) let b", "NoTree(1)"),
-            ("for (;;) let a", "NoTree(1)"),
-            ("for (const x of y) const z = 1", "NoTree(1)"),
-            ("while (a) { let b }", "(while a {(let b)})"),
-            ("while (a) while (b) return", "(while a (while b return))"),
-        ];
-        agree(&rt, rt.alloc(), &rows)?;
-        Ok(())
-    }
+// Bodies are no lexical declarations.
+const BODIES: &str = r#"
+if (a) let b = 1 --> NoTree(1)
+if (a) const b = 1 --> NoTree(1)
+if (a) var b = 1 --> (if a (var (b 1)))
+if (a) b; else let c = 1 --> NoTree(1)
+if (a) b; else var c --> (if a b (var c))
+while (a) let b --> NoTree(1)
+for (;;) let a --> NoTree(1)
+for (const x of y) const z = 1 --> NoTree(1)
+while (a) { let b } --> (while a {(let b)})
+while (a) while (b) return --> (while a (while b return))
+"#;
 
-    #[test]
-    fn ends_may_be_absent(rt: HostRuntime) -> Result<(), Fail> {
-        let rows: [(&str, &str); 43] = [
-            ("a b", "NoTree(1)"),
-            ("a\nb", "a b"),
-            ("{ a }", "{a}"),
-            ("a\n;b", "a b"),
-            ("let a = 1 let b = 2", "NoTree(1)"),
-            ("let a = 1\nlet b = 2", "(let (a 1)) (let (b 2))"),
-            ("a\n(b)", "(call a b)"),
-            ("a\n[b]", "(at a b)"),
-            ("a++\n(b)", "(_++ a) 'b"),
-            ("a--\n[b]", "(_-- a) (list b)"),
-            ("++a\n(b)", "NoTree(2)"),
-            ("a = () => {}\n(b)", "(= a (=> () {})) 'b"),
-            ("a = () => {}\n[b]", "(= a (=> () {})) (list b)"),
-            ("a = () => {}\n+ b", "(= a (=> () {})) (+ b)"),
-            ("a = () => {}\n- b", "(= a (=> () {})) (- b)"),
-            ("a = () => {} (b)", "NoTree(1)"),
-            ("a = () => {}\n* b", "NoTree(2)"),
-            ("a = b => c\n(d)", "(= a (=> (b) (call c d)))"),
-            ("a = (() => {})\n(b)", "(= a (call '(=> () {}) b))"),
-            (
-                "let f = function() {}\n(b)",
-                "(let (f (call (function () {}) b)))",
-            ),
-            ("a\n+ b", "(+ a b)"),
-            ("a\n- b", "(- a b)"),
-            ("a++\n+ b", "(+ (_++ a) b)"),
-            ("let a\n(b)", "(let a) 'b"),
-            ("let a\n[b]", "(let a) (list b)"),
-            ("let a\n+ b", "(let a) (+ b)"),
-            ("let a\n- b", "(let a) (- b)"),
-            ("break\n(a)", "break 'a"),
-            ("continue\n[a]", "continue (list a)"),
-            ("return\n- a", "return (- a)"),
-            ("return\n(a)", "return 'a"),
-            ("return\na", "return a"),
-            ("return (\na)", "(return 'a)"),
-            ("break a", "NoTree(1)"),
-            ("continue\n;a", "continue a"),
-            ("if (a) break\n; else b", "(if a break b)"),
-            ("a\n.b", "(. a b)"),
-            ("a\n* b", "(* a b)"),
-            ("a\n? b : c", "(? a b c)"),
-            ("a\n= b", "(= a b)"),
-            ("let a = b\n, c", "(let (a b) c)"),
-            ("a\n++b", "a (++_ b)"),
-            ("a ++\nb", "(_++ a) b"),
-        ];
-        agree(&rt, rt.alloc(), &rows)?;
-        Ok(())
-    }
+// Where the end of a statement may be absent.
+const ENDS: &str = r#"
+a b --> NoTree(1)
+a\nb --> a b
+{ a } --> {a}
+a\n;b --> a b
+let a = 1 let b = 2 --> NoTree(1)
+let a = 1\nlet b = 2 --> (let (a 1)) (let (b 2))
+a\n(b) --> (call a b)
+a\n[b] --> (at a b)
+a++\n(b) --> (_++ a) 'b
+a--\n[b] --> (_-- a) (list b)
+++a\n(b) --> NoTree(2)
+a = () => {}\n(b) --> (= a (=> () {})) 'b
+a = () => {}\n[b] --> (= a (=> () {})) (list b)
+a = () => {}\n+ b --> (= a (=> () {})) (+ b)
+a = () => {}\n- b --> (= a (=> () {})) (- b)
+a = () => {} (b) --> NoTree(1)
+a = () => {}\n* b --> NoTree(2)
+a = b => c\n(d) --> (= a (=> (b) (call c d)))
+a = (() => {})\n(b) --> (= a (call '(=> () {}) b))
+let f = function() {}\n(b) --> (let (f (call (function () {}) b)))
+a\n+ b --> (+ a b)
+a\n- b --> (- a b)
+a++\n+ b --> (+ (_++ a) b)
+let a\n(b) --> (let a) 'b
+let a\n[b] --> (let a) (list b)
+let a\n+ b --> (let a) (+ b)
+let a\n- b --> (let a) (- b)
+break\n(a) --> break 'a
+continue\n[a] --> continue (list a)
+return\n- a --> return (- a)
+return\n(a) --> return 'a
+return\na --> return a
+return (\na) --> (return 'a)
+break a --> NoTree(1)
+continue\n;a --> continue a
+if (a) break\n; else b --> (if a break b)
+a\n.b --> (. a b)
+a\n* b --> (* a b)
+a\n? b : c --> (? a b c)
+a\n= b --> (= a b)
+let a = b\n, c --> (let (a b) c)
+a\n++b --> a (++_ b)
+a ++\nb --> (_++ a) b
+"#;
 
-    #[test]
-    fn assignments_arrows_and_conditionals(rt: HostRuntime) -> Result<(), Fail> {
-        let rows: [(&str, &str); 30] = [
-            ("a = b = c", "(= a (= b c))"),
-            (
-                "a += b -= c *= d /= e %= f",
-                "(+= a (-= b (*= c (/= d (%= e f)))))",
-            ),
-            ("a.b = c", "NoTree(1)"),
-            ("(a) = c", "NoTree(1)"),
-            ("1 = a", "NoTree(1)"),
-            ("a + b = c", "NoTree(1)"),
-            ("a, b", "NoTree(1)"),
-            ("x => x", "(=> (x) x)"),
-            ("() => a", "(=> () a)"),
-            ("(a, b) => a", "(=> (a b) a)"),
-            ("(a, b,) => a", "(=> (a b) a)"),
-            ("(,) => a", "NoTree(1)"),
-            ("(a, 1) => a", "NoTree(1)"),
-            ("((a)) => b", "NoTree(1)"),
-            ("a => b => c", "(=> (a) (=> (b) c))"),
-            ("a => { return a }", "(=> (a) {(return a)})"),
-            ("a => ({})", "(=> (a) '(fields))"),
-            ("a => {}.b", "NoTree(1)"),
-            ("a => b = c", "(=> (a) (= b c))"),
-            ("a + b => c", "NoTree(1)"),
-            ("a =>\nb", "(=> (a) b)"),
-            ("a\n=> b", "NoTree(2)"),
-            ("(a)\n=> b", "NoTree(2)"),
-            ("if => a", "NoTree(1)"),
-            ("a ? b : c", "(? a b c)"),
-            ("a ? b : c ? d : e", "(? a b (? c d e))"),
-            ("a ? b ? c : d : e", "(? a (? b c d) e)"),
-            ("a ? b = 1 : c = 2", "(? a (= b 1) (= c 2))"),
-            ("a || b ? c : d => e", "(? (|| a b) c (=> (d) e))"),
-            ("a ? b", "NoTree(1)"),
-        ];
-        agree(&rt, rt.alloc(), &rows)?;
-        Ok(())
-    }
+// Assignments, arrows and conditionals.
+const ASSIGNMENTS: &str = r#"
+a = b = c --> (= a (= b c))
+a += b -= c *= d /= e %= f --> (+= a (-= b (*= c (/= d (%= e f)))))
+a.b = c --> NoTree(1)
+(a) = c --> NoTree(1)
+1 = a --> NoTree(1)
+a + b = c --> NoTree(1)
+a, b --> NoTree(1)
+x => x --> (=> (x) x)
+() => a --> (=> () a)
+(a, b) => a --> (=> (a b) a)
+(a, b,) => a --> (=> (a b) a)
+(,) => a --> NoTree(1)
+(a, 1) => a --> NoTree(1)
+((a)) => b --> NoTree(1)
+a => b => c --> (=> (a) (=> (b) c))
+a => { return a } --> (=> (a) {(return a)})
+a => ({}) --> (=> (a) '(fields))
+a => {}.b --> NoTree(1)
+a => b = c --> (=> (a) (= b c))
+a + b => c --> NoTree(1)
+a =>\nb --> (=> (a) b)
+a\n=> b --> NoTree(2)
+(a)\n=> b --> NoTree(2)
+if => a --> NoTree(1)
+a ? b : c --> (? a b c)
+a ? b : c ? d : e --> (? a b (? c d e))
+a ? b ? c : d : e --> (? a (? b c d) e)
+a ? b = 1 : c = 2 --> (? a (= b 1) (= c 2))
+a || b ? c : d => e --> (? (|| a b) c (=> (d) e))
+a ? b --> NoTree(1)
+"#;
 
-    #[test]
-    fn operators_by_level(rt: HostRuntime) -> Result<(), Fail> {
-        let rows: [(&str, &str); 26] = [
-            ("a - b - c", "(- (- a b) c)"),
-            ("a - (b - c)", "(- a '(- b c))"),
-            ("a || b && c", "(|| a (&& b c))"),
-            ("a && b || c", "(|| (&& a b) c)"),
-            ("a && b == c", "(&& a (== b c))"),
-            ("a === b !== c == d != e", "(!= (== (!== (=== a b) c) d) e)"),
-            ("a == b < c", "(== a (< b c))"),
-            ("a < b <= c > d >= e", "(>= (> (<= (< a b) c) d) e)"),
-            ("a < b + c", "(< a (+ b c))"),
-            ("a + b * c - d", "(- (+ a (* b c)) d)"),
-            ("a * b / c % d", "(% (/ (* a b) c) d)"),
-            ("a +", "NoTree(1)"),
-            ("* a", "NoTree(1)"),
-            ("!-+a", "(! (- (+ a)))"),
-            ("-a * b", "(* (- a) b)"),
-            ("a - -b", "(- a (- b))"),
-            ("+ ++a", "(+ (++_ a))"),
-            ("--a", "(--_ a)"),
-            ("++a.b", "NoTree(1)"),
-            ("++1", "NoTree(1)"),
-            ("++ ++a", "NoTree(1)"),
-            ("- a--", "(- (_-- a))"),
-            ("a++ + b", "(+ (_++ a) b)"),
-            ("a.b++", "NoTree(1)"),
-            ("(a)++", "NoTree(1)"),
-            ("a\n++", "NoTree(2)"),
-        ];
-        agree(&rt, rt.alloc(), &rows)?;
-        Ok(())
-    }
+// Operators, by their level.
+const OPERATORS: &str = r#"
+a - b - c --> (- (- a b) c)
+a - (b - c) --> (- a '(- b c))
+a || b && c --> (|| a (&& b c))
+a && b || c --> (|| (&& a b) c)
+a && b == c --> (&& a (== b c))
+a === b !== c == d != e --> (!= (== (!== (=== a b) c) d) e)
+a == b < c --> (== a (< b c))
+a < b <= c > d >= e --> (>= (> (<= (< a b) c) d) e)
+a < b + c --> (< a (+ b c))
+a + b * c - d --> (- (+ a (* b c)) d)
+a * b / c % d --> (% (/ (* a b) c) d)
+a + --> NoTree(1)
+* a --> NoTree(1)
+!-+a --> (! (- (+ a)))
+-a * b --> (* (- a) b)
+a - -b --> (- a (- b))
++ ++a --> (+ (++_ a))
+--a --> (--_ a)
+++a.b --> NoTree(1)
+++1 --> NoTree(1)
+++ ++a --> NoTree(1)
+- a-- --> (- (_-- a))
+a++ + b --> (+ (_++ a) b)
+a.b++ --> NoTree(1)
+(a)++ --> NoTree(1)
+a\n++ --> NoTree(2)
+"#;
 
-    #[test]
-    fn calls_and_primaries(rt: HostRuntime) -> Result<(), Fail> {
-        let rows: [(&str, &str); 32] = [
-            ("a.b[c](d).e", "(. (call (at (. a b) c) d) e)"),
-            ("a.if.switch.__proto__", "(. (. (. a if) switch) __proto__)"),
-            ("!a.b()", "(! (call (. a b)))"),
-            ("f(a)(b, c,)", "(call (call f a) b c)"),
-            ("f(,)", "NoTree(1)"),
-            ("f(a b)", "NoTree(1)"),
-            ("a[]", "NoTree(1)"),
-            ("a[b, c]", "NoTree(1)"),
-            ("a.'b'", "NoTree(1)"),
-            ("1 .a", "(. 1 a)"),
-            ("f(x => x, {a})", "(call f (=> (x) x) (fields (a a)))"),
-            ("0x1F", "31"),
-            ("'x y'", "\"x y\""),
-            ("[true, false, null]", "(list true false null)"),
-            ("[]", "(list)"),
-            ("[1,]", "(list 1)"),
-            ("[,]", "NoTree(1)"),
-            ("[1,,2]", "NoTree(1)"),
-            ("a = {b: c}", "(= a (fields (b c)))"),
-            (
-                "({a: 1, 'b c': 2, if: 3, switch: 4, d,})",
-                "'(fields (a 1) (b c 2) (if 3) (switch 4) (d d))",
-            ),
-            ("({,})", "NoTree(1)"),
-            ("({1: a})", "NoTree(1)"),
-            ("({if})", "NoTree(1)"),
-            ("({'a'})", "NoTree(1)"),
-            ("({a() {}})", "NoTree(1)"),
-            ("({[a]: 1})", "NoTree(1)"),
-            ("({a = 1})", "NoTree(1)"),
-            (
-                "f(function(x) { return x })",
-                "(call f (function (x) {(return x)}))",
-            ),
-            ("f(function g() {})", "NoTree(1)"),
-            ("()", "NoTree(1)"),
-            ("((a))", "''a"),
-            ("a = if", "NoTree(1)"),
-        ];
-        agree(&rt, rt.alloc(), &rows)?;
-        Ok(())
-    }
+// Calls and primaries.
+const CALLS: &str = r#"
+a.b[c](d).e --> (. (call (at (. a b) c) d) e)
+a.if.switch.__proto__ --> (. (. (. a if) switch) __proto__)
+!a.b() --> (! (call (. a b)))
+f(a)(b, c,) --> (call (call f a) b c)
+f(,) --> NoTree(1)
+f(a b) --> NoTree(1)
+a[] --> NoTree(1)
+a[b, c] --> NoTree(1)
+a.'b' --> NoTree(1)
+1 .a --> (. 1 a)
+f(x => x, {a}) --> (call f (=> (x) x) (fields (a a)))
+0x1F --> 31
+'x y' --> "x y"
+[true, false, null] --> (list true false null)
+[] --> (list)
+[1,] --> (list 1)
+[,] --> NoTree(1)
+[1,,2] --> NoTree(1)
+a = {b: c} --> (= a (fields (b c)))
+({a: 1, 'b c': 2, if: 3, switch: 4, d,}) --> '(fields (a 1) (b c 2) (if 3) (switch 4) (d d))
+({,}) --> NoTree(1)
+({1: a}) --> NoTree(1)
+({if}) --> NoTree(1)
+({'a'}) --> NoTree(1)
+({a() {}}) --> NoTree(1)
+({[a]: 1}) --> NoTree(1)
+({a = 1}) --> NoTree(1)
+f(function(x) { return x }) --> (call f (function (x) {(return x)}))
+f(function g() {}) --> NoTree(1)
+() --> NoTree(1)
+((a)) --> ''a
+a = if --> NoTree(1)
+"#;
 
-    #[test]
-    fn unsupported_tokens_come_first(rt: HostRuntime) -> Result<(), Fail> {
-        let rows: [(&str, &str); 19] = [
-            ("switch (a) {}", "Unsupported(1)"),
-            ("a & b", "Unsupported(1)"),
-            ("a\n** b", "Unsupported(2)"),
-            ("a?.b", "Unsupported(1)"),
-            ("f(...a)", "Unsupported(1)"),
-            ("new A()", "Unsupported(1)"),
-            ("a\n\nin b", "Unsupported(3)"),
-            ("try {} catch (e) {}", "Unsupported(1)"),
-            ("({switch: 1}).switch", "(. '(fields (switch 1)) switch)"),
-            ("({__proto__: 1})", "Unsupported(1)"),
-            ("({'__proto__': 1})", "Unsupported(1)"),
-            ("({__proto__})", "'(fields (__proto__ __proto__))"),
-            ("c ? a.__proto__ : 1", "(? c (. a __proto__) 1)"),
-            ("c ? __proto__ : 1", "Unsupported(1)"),
-            ("a ? new : b", "NoTree(1)"),
-            ("a ? ~ : b", "Unsupported(1)"),
-            ("a.~b", "NoTree(1)"),
-            ("a.b\n~c ^ d", "Unsupported(2)"),
-            ("let a = 1 let b\nthis", "Unsupported(2)"),
-        ];
-        agree(&rt, rt.alloc(), &rows)?;
-        Ok(())
-    }
+// Unsupported tokens come first.
+const UNSUPPORTED: &str = r#"
+switch (a) {} --> Unsupported(1)
+a & b --> Unsupported(1)
+a\n** b --> Unsupported(2)
+a?.b --> Unsupported(1)
+f(...a) --> Unsupported(1)
+new A() --> Unsupported(1)
+a\n\nin b --> Unsupported(3)
+try {} catch (e) {} --> Unsupported(1)
+({switch: 1}).switch --> (. '(fields (switch 1)) switch)
+({__proto__: 1}) --> Unsupported(1)
+({'__proto__': 1}) --> Unsupported(1)
+({__proto__}) --> '(fields (__proto__ __proto__))
+c ? a.__proto__ : 1 --> (? c (. a __proto__) 1)
+c ? __proto__ : 1 --> Unsupported(1)
+a ? new : b --> NoTree(1)
+a ? ~ : b --> Unsupported(1)
+a.~b --> NoTree(1)
+a.b\n~c ^ d --> Unsupported(2)
+let a = 1 let b\nthis --> Unsupported(2)
+"#;
 
-    /// A text between so many fronts and so many backs.
-    fn nested(
-        alloc: Global,
-        front: &str,
-        times: usize,
-        middle: &str,
-        back: &str,
-    ) -> Result<String, AllocError> {
-        let mut text = String::new(alloc);
-        for _ in 0..times {
-            text.push_str(front)?;
-        }
-        text.push_str(middle)?;
-        for _ in 0..times {
-            text.push_str(back)?;
-        }
-        Ok(text)
-    }
+// A script without semicolons.
+const SCRIPT: &str = r#"
+const f = () => {\n  return\n  1\n}\nconst g = x => x\nconst h = g\n(2)\nbp.registerBThread("A", () => {\n  bp.log.info(f())\n  bp.log.info(h)\n})\n --> (const (f (=> () {return 1}))) (const (g (=> (x) x))) (const (h (call g 2))) (call (. bp registerBThread) "A" (=> () {(call (. (. bp log) info) (call f)) (call (. (. bp log) info) h)}))
+"#;
 
-    #[test]
-    fn nesting_of_at_most_200(rt: HostRuntime) -> Result<(), Fail> {
-        let rows = [
-            ("{", 200, "", "}"),
-            ("{", 199, ";", "}"),
-            ("(", 198, "a", ")"),
-            ("[", 198, "a", "]"),
-            ("f(", 198, "a", ")"),
-            ("", 198, "f", "()"),
-            ("", 198, "a", ".b()"),
-            ("", 198, "a", "[b]"),
-            ("", 198, "a", "-b"),
-            ("- ", 198, "a", ""),
-            ("a=", 198, "a", ""),
-            ("a=>", 198, "a", ""),
-            ("b?c:", 198, "a", ""),
-            ("if(a)", 199, ";", ""),
-        ];
-        for (front, times, middle, back) in rows {
-            let text = nested(rt.alloc(), front, times, middle, back)?;
-            let found = shown(rt.alloc(), text.as_str().as_bytes())?;
-            assert_ne!(rt; found.as_str(), "NoTree(1)", "{front}{middle}{back}");
-            let text = nested(rt.alloc(), front, times.saturating_add(1), middle, back)?;
-            let found = shown(rt.alloc(), text.as_str().as_bytes())?;
-            assert_eq!(rt; found.as_str(), "NoTree(1)", "{front}{middle}{back}");
-        }
-        Ok(())
+#[test]
+fn texts_have_their_trees(rt: HostRuntime) -> Result<(), Fail> {
+    for table in [
+        PROGRAMS,
+        STATEMENTS,
+        LOOPS,
+        BODIES,
+        ENDS,
+        ASSIGNMENTS,
+        OPERATORS,
+        CALLS,
+        UNSUPPORTED,
+        SCRIPT,
+    ] {
+        agree(&rt, rt.alloc(), table)?;
     }
+    Ok(())
+}
 
-    #[test]
-    fn a_script_without_semicolons(rt: HostRuntime) -> Result<(), Fail> {
-        let text =
-            "const f = () => {\n  return\n  1\n}\nconst g = x => x\nconst h = g\n(2)\nbp.registerBThread(\"A\", () => {\n  bp.log.info(f())\n  bp.log.info(h)\n})\n";
-        let want =
-            "(const (f (=> () {return 1}))) (const (g (=> (x) x))) (const (h (call g 2))) (call (. bp registerBThread) \"A\" (=> () {(call (. (. bp log) info) (call f)) (call (. (. bp log) info) h)}))";
-        let found = shown(rt.alloc(), text.as_bytes())?;
-        assert_eq!(rt; found.as_str(), want);
-        Ok(())
+/// A text between so many fronts and so many backs.
+fn nested(
+    alloc: Global,
+    front: &str,
+    times: usize,
+    middle: &str,
+    back: &str,
+) -> Result<String, AllocError> {
+    let mut text = String::new(alloc);
+    for _ in 0..times {
+        text.push_str(front)?;
     }
+    text.push_str(middle)?;
+    for _ in 0..times {
+        text.push_str(back)?;
+    }
+    Ok(text)
+}
+
+// Fronts, how many, the middle and the backs: so many nest, and one more does not.
+const NESTINGS: &str = "
+{|200||}
+{|199|;|}
+(|198|a|)
+[|198|a|]
+f(|198|a|)
+|198|f|()
+|198|a|.b()
+|198|a|[b]
+|198|a|-b
+- |198|a|
+a=|198|a|
+a=>|198|a|
+b?c:|198|a|
+if(a)|199|;|
+";
+
+fn tree_of_nested(alloc: Global, line: &str, more: usize) -> Result<String, Fail> {
+    let (front, rest) = line.split_once("|").ok_or("no number")?;
+    let (times, rest) = rest.split_once("|").ok_or("no middle")?;
+    let (middle, back) = rest.split_once("|").ok_or("no back")?;
+    let count = times.parse::<usize>()?.saturating_add(more);
+    let text = nested(alloc, front, count, middle, back)?;
+    Ok(shown(alloc, text.as_str().as_bytes())?)
+}
+
+#[test]
+fn nesting_of_at_most_200(rt: HostRuntime) -> Result<(), Fail> {
+    for line in NESTINGS.trim().lines() {
+        let most = tree_of_nested(rt.alloc(), line, 0)?;
+        assert_ne!(rt; most.as_str(), "NoTree(1)", "{line}");
+        let past = tree_of_nested(rt.alloc(), line, 1)?;
+        assert_eq!(rt; past.as_str(), "NoTree(1)", "{line}");
+    }
+    Ok(())
 }
