@@ -6,7 +6,7 @@ ghost use Rattle.js_grammar.specs.Tokens.{step, is_const};
 ghost use Rattle.js_descent.specs.First.{at_first};
 ghost use Rattle.js_descent.specs.Behind.{second_at, branches_at, otherwise_at, looped_at, stepped_at, tested_at};
 ghost use Rattle.js_grammar.specs.Grammar.{Assignment, Operators};
-ghost use Rattle.js_grammar.specs.Reader.{readers, run, operated_step, postfix_at, break_at, continue_at, round_at, function_at, assign_at as assign_read, assignment as assignment_read, statement as statement_read, primary, primary_at, elements, field_at, fields, declarator, declarators_of_kind, statements as statements_read, closed_statements, called, member_turn, index_turn, call_turn, signed, step_at as step_read, operators, choice, arrow, body_at, test, block_at, declaration_at, if_at, while_at, start, perhaps, for_three_at, each_at, for_each_at, for_at, return_at, expression_at};
+ghost use Rattle.js_grammar.specs.Reader.{readers, run, operated_step, postfix_at, break_at, continue_at, round_at, function_at, assign_at as assign_read, assignment as assignment_read, statement as statement_read, primary, primary_at, elements, field_at, fields, declarator, declarators_of_kind, statements as statements_read, closed_statements, called, member_turn, index_turn, call_turn, signed, step_at as step_read, operators, choice, arrow, body_at, test, else_after, block_at, declaration_at, if_at, while_at, start, perhaps, for_three_at, each_at, for_each_at, for_at, return_at, expression_at};
 ghost use Rattle.js_steps.specs.Seen.{seen};
 ghost use Rattle.js_steps.specs.Parsed.{IsExpr, IsExprs, IsPerhaps, IsField, IsFields, IsDeclarator, IsDeclarators, IsStart, IsStmt, IsStmts, IsTurn};
 
@@ -791,7 +791,6 @@ pub fn declaration_of<'a>(
 
 /// A condition, behind its word.
 #[cycle(descent)]
-#[tactic(auto, using(crate::proofs::Using::else_alone))]
 pub fn if_of<'a>(
     alloc: Global,
     line: u32,
@@ -805,6 +804,26 @@ pub fn if_of<'a>(
 {
     let test = test_of(alloc, tokens, inner)?;
     let found = body_of(alloc, test.rest, inner)?;
+    else_of(alloc, line, test, found, inner)
+}
+
+/// What stands behind a test and a body: `else` and another body, or nothing of the condition.
+#[cycle(descent)]
+#[tactic(auto, using(crate::proofs::Using::else_alone))]
+pub fn else_of<'a>(
+    alloc: Global,
+    line: u32,
+    test: ReadExpr<'_>,
+    found: ReadStmt<'a>,
+    inner: u32,
+) -> Result<ReadStmt<'a>, Stop>
+    requires room { inner < 200 }
+    requires test { test.depth ≤ inner }
+    requires body { found.depth ≤ inner }
+    ensures read { IsStmt (else_after inner (readers inner) line (plain_expr test.entry.tree) (plain_stmt found.entry.tree) (seen found.entry.rest.now)) result }
+    ensures within { IfOk result (λ whole. whole.depth ≤ inner + 1) }
+    ensures shorter { IfOk result (λ whole. length whole.rest.now ≤ length found.entry.rest.now) }
+{
     match skip(found.rest, Sort::Else) {
         Ok(rest) => otherwise_of(alloc, line, test, found, rest, inner),
         Err(_) => statements::if_of(alloc, line, test, found),

@@ -96,6 +96,9 @@ decreases-if_of l = 64 * l.inner + 10
 abbrev pub decreases-otherwise_of : goal.decreases-otherwise_of
 decreases-otherwise_of l = 64 * l.inner + 8
 
+abbrev pub decreases-else_of : goal.decreases-else_of
+decreases-else_of l = 64 * l.inner + 9
+
 abbrev pub decreases-while_of : goal.decreases-while_of
 decreases-while_of l = 64 * l.inner + 10
 
