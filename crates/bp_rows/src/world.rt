@@ -2,7 +2,9 @@
 
 use bp_base::{MemorySink, MemoryWorld};
 use bp_cli::command;
+use percent_encoding::percent_decode;
 use std::alloc::Global;
+use std::process::Abort;
 use std::sync::Wait;
 use std::test::Fail;
 use std::thread::Threads;
@@ -31,10 +33,10 @@ pub const NONE: Fails<'static> = Fails {
 };
 
 /// Runs `bp` with these words in a world that holds the script as `script.js`.
-pub fn run_with<R: Threads + Wait + Sync>(
+pub fn run_words<R: Threads + Wait + Sync>(
     rt: &R,
     alloc: Global,
-    words: &[&str],
+    words: &[String],
     script: &[u8],
     fails: Fails<'_>,
 ) -> Result<Ran, Fail> {
@@ -42,11 +44,7 @@ pub fn run_with<R: Threads + Wait + Sync>(
     world.hold("script.js".to_string(alloc)?, script.to_vec(alloc)?)?;
     world.fail("script.js".to_string(alloc)?, fails.input.to_vec(alloc)?)?;
     let mut out = MemorySink::new(alloc, 1_000_000, fails.output.to_vec(alloc)?)?;
-    let mut given = Vec::new(alloc);
-    for word in words {
-        given.push(word.to_string(alloc)?)?;
-    }
-    let status = command(rt, alloc, &given, &mut world, &mut out);
+    let status = command(rt, alloc, words, &mut world, &mut out);
     Ok(Ran {
         code: status.code,
         note: status.note.as_str().to_string(alloc)?,
@@ -54,7 +52,53 @@ pub fn run_with<R: Threads + Wait + Sync>(
     })
 }
 
-/// Runs the script, and no call fails.
-pub fn run<R: Threads + Wait + Sync>(rt: &R, alloc: Global, script: &[u8]) -> Result<Ran, Fail> {
-    run_with(rt, alloc, &["run", "script.js"], script, NONE)
+/// Runs `bp` with the words that stand between the `|` of the line.
+pub fn run_with<R: Threads + Wait + Sync>(
+    rt: &R,
+    alloc: Global,
+    line: &str,
+    script: &[u8],
+    fails: Fails<'_>,
+) -> Result<Ran, Fail> {
+    let mut words = Vec::new(alloc);
+    for word in line.split("|") {
+        words.push(word.to_string(alloc)?)?;
+    }
+    run_words(rt, alloc, &words, script, fails)
+}
+
+/// The words have this status and this note, and print this.
+pub fn tells<R: Threads + Wait + Sync + Abort>(
+    rt: &R,
+    alloc: Global,
+    words: &str,
+    script: &[u8],
+    want: (u8, &str, &str),
+) -> Result<(), Fail> {
+    let (code, note, printed) = want;
+    let ran = run_with(rt, alloc, words, script, NONE)?;
+    assert_eq!(rt; ran.note.as_str(), note, "{words}");
+    assert_eq!(rt; ran.code, code, "{words}");
+    assert!(rt; ran.printed.as_slice() == printed.as_bytes(), "{words}");
+    Ok(())
+}
+
+/// The words fail with this status and this note, and print nothing.
+pub fn fails_with<R: Threads + Wait + Sync + Abort>(
+    rt: &R,
+    alloc: Global,
+    words: &str,
+    script: &[u8],
+    code: u8,
+    note: &str,
+) -> Result<(), Fail> {
+    tells(rt, alloc, words, script, (code, note, ""))
+}
+
+/// The bytes of a cell, in which `\n` stands for a line end, and `%` and two digits for a byte.
+pub fn bytes_of(alloc: Global, cell: &str) -> Result<Vec<u8>, Fail> {
+    let text = cell.replace(alloc, "\\n", "\n")?;
+    let mut bytes = Vec::new(alloc);
+    percent_decode(text.as_bytes()).append_to(&mut bytes)?;
+    Ok(bytes)
 }
