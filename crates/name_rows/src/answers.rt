@@ -1,34 +1,43 @@
-//! What accepting says of a script.
+//! What is answered to a program.
 use bp_script::{ScriptFault, accept};
+use js_data::Text;
 use std::alloc::Global;
 use std::process::Abort;
 use std::test::Fail;
 
+fn text(alloc: Global, s: &str) -> Result<Text, Fail> {
+    Ok(Text::new(String::from_str(alloc, s)?))
+}
+
 /// `accepted`, or the words of the refusal.
-pub fn answer(alloc: Global, script: &str) -> Result<String, Fail> {
-    match accept(alloc, script.as_bytes()) {
-        Ok(_) => Ok(String::from_str(alloc, "accepted")?),
-        Err(ScriptFault::Refused(refusal)) => {
-            let note = refusal.note(alloc)?;
-            Ok(String::from_str(alloc, note.as_str())?)
-        }
-        Err(ScriptFault::Memory) => Err("no memory was left")?,
+pub fn answer(alloc: Global, program: &str) -> Result<Text, Fail> {
+    match accept(alloc, program.as_bytes()) {
+        Ok(_) => text(alloc, "accepted"),
+        Err(ScriptFault::Refused(refusal)) => Ok(refusal.note(alloc)?),
+        Err(ScriptFault::Memory) => text(alloc, "memory"),
     }
 }
 
-// A line is a script, in which `¶` stands for a line end, and what is said of it.
-fn row(rt: &impl Abort, alloc: Global, line: &str) -> Result<(), Fail> {
-    let (script, want) = line.rsplit_once(" --> ").ok_or("no answer")?;
-    let script = script.replace(alloc, "¶", "\n")?;
-    let found = answer(alloc, script.as_str())?;
-    assert_eq!(rt; found.as_str(), want, "{line}");
-    Ok(())
+/// The text in which each `\n` of the cell is a line end.
+pub fn program_of(alloc: Global, cell: &str) -> Result<String, Fail> {
+    let mut program = String::new(alloc);
+    for line in cell.split("\\n") {
+        program.push_str(line)?;
+        program.push('\n')?;
+    }
+    Ok(program)
 }
 
-/// Each line of a table.
-pub fn rows(rt: &impl Abort, alloc: Global, table: &str) -> Result<(), Fail> {
+/// Each line has a program, in which `\n` stands for a line end, the mark `-->`, and its answer: `accepted`, or the
+/// words behind `refused line`.
+pub fn agree(rt: &impl Abort, alloc: Global, table: &str) -> Result<(), Fail> {
     for line in table.trim().lines() {
-        row(rt, alloc, line)?;
+        let (cell, want) = line.split_once(" --> ").ok_or("no answer")?;
+        let program = program_of(alloc, cell)?;
+        let found = answer(alloc, program.as_str())?;
+        let words = found.as_str();
+        let short = words.strip_prefix("refused line ").unwrap_or(words);
+        assert_eq!(rt; short, want, "{line}");
     }
     Ok(())
 }

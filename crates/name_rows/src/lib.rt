@@ -1,15 +1,11 @@
-//! Tests of the rules of names, as tables in which a line is a script and what accepting says of it, and of programs.
+//! Tests of the rules of names, as tables in which a line is a program and what accepting says of it, and of programs.
 #![tactic(auto)]
 
 #[cfg(test)]
 mod answers;
 #[cfg(test)]
-mod captures;
-#[cfg(test)]
-mod places;
-#[cfg(test)]
 mod programs;
 #[cfg(test)]
-mod scopes;
+mod rules;
 #[cfg(test)]
 mod slots;

@@ -1,80 +1,106 @@
-//! How many slots a function may need: 256 and one more.
-use crate::answers::answer;
+//! The number of parameters, variables and captures of one function.
+use crate::answers::{answer, program_of};
 use std::alloc::Global;
 use std::process::Abort;
 use std::test::Fail;
 
-// `begin`, then `front NAME back` for so many names, then `end`.
-fn script(
-    alloc: Global,
-    names: usize,
-    begin: &str,
-    front: &str,
-    back: &str,
-    end: &str,
-) -> Result<String, Fail> {
-    let mut script = String::from_str(alloc, begin)?;
-    for number in 0..names {
-        script.push_str(front)?;
-        script.push_str(format!(in alloc; "x{number}")?.as_str())?;
-        script.push_str(back)?;
+// The part so many times, each time with another name in place of its `#`.
+fn repeat(text: &mut String, part: &str, count: u32) -> Result<(), Fail> {
+    let (before, behind) = part.split_once("#").ok_or("no name")?;
+    for number in 0..count {
+        text.push_str(before)?;
+        write!(text, "v{number}")?;
+        text.push_str(behind)?;
     }
-    script.push_str(end)?;
-    Ok(script)
-}
-
-// A line has what stands before the names, before and behind each, and behind them all, and what is said of 257 names;
-// 256 are accepted.
-fn row(rt: &impl Abort, alloc: Global, line: &str) -> Result<(), Fail> {
-    let (rest, want) = line.rsplit_once(" --> ").ok_or("no answer")?;
-    let (begin, rest) = rest.split_once(" # ").ok_or("no begin")?;
-    let (front, rest) = rest.split_once(" # ").ok_or("no front")?;
-    let (back, end) = rest.split_once(" # ").ok_or("no back")?;
-    let begin = begin.replace(alloc, "¶", "\n")?;
-    let most = script(alloc, 256, begin.as_str(), front, back, end)?;
-    assert_eq!(rt;
-        answer(alloc, most.as_str())?.as_str(),
-        "accepted",
-        "{line}"
-    );
-    let more = script(alloc, 257, begin.as_str(), front, back, end)?;
-    assert_eq!(rt; answer(alloc, more.as_str())?.as_str(), want, "{line}");
     Ok(())
 }
 
-// Parameters, variables, captures and a mixture, in a function and at the top level, where constants take no slot. The
-// line is that of the function's first token, and the breach stands there, before any other in the function.
-const SLOTS: &str = r"
-( #  # , # ) => 1 --> refused line 1: slots
-¶¶function f( #  # , # ) {} --> refused line 3: slots
-() => { # let  # ;  # } --> refused line 1: slots
-() => { # { let  # }  # } --> refused line 1: slots
-() => { # var  # ;  # } --> refused line 1: slots
-{ # let  # ;  # } --> refused line 1: slots
-¶{ # let  # ;  # } --> refused line 2: slots
-";
-
-// A function with so many variables, and one in it on the second line that has a parameter and uses them all.
-fn uses_of(alloc: Global, names: usize) -> Result<String, Fail> {
-    let mut whole = script(alloc, names, "() => { ", "let ", "; ", "\n() => ")?;
-    whole.push_str(script(alloc, names, "p => { ", "", "; ", "} }")?.as_str())?;
-    Ok(whole)
+// The text with each part between `«` and `»` so many times.
+fn widened(alloc: Global, shape: &str, count: u32) -> Result<String, Fail> {
+    let mut text = String::new(alloc);
+    for piece in shape.split("«") {
+        match piece.split_once("»") {
+            Some((part, behind)) => {
+                repeat(&mut text, part, count)?;
+                text.push_str(behind)?;
+            }
+            None => text.push_str(piece)?,
+        }
+    }
+    Ok(text)
 }
+
+fn agree(rt: &impl Abort, alloc: Global, table: &str) -> Result<(), Fail> {
+    for line in table.trim().lines() {
+        let (left, want) = line.split_once(" --> ").ok_or("no answer")?;
+        let (count, cell) = left.split_once(" ").ok_or("no number")?;
+        let shape = program_of(alloc, cell)?;
+        let program = widened(alloc, shape.as_str(), count.parse::<u32>()?)?;
+        let found = answer(alloc, program.as_str())?;
+        assert_eq!(rt; found.as_str(), want, "{line}");
+    }
+    Ok(())
+}
+
+// A function has at most 256 parameters and variables. Each line has a number of names, a program in which what stands
+// between `«` and `»` comes so many times, and its answer.
+const VARIABLES: &str = r#"
+256 (function(«#,») { }) --> accepted
+257 (function(«#,») { }) --> refused line 1: slots
+256 function f(«#,») { } --> accepted
+257 ;\nfunction f(«#,») { } --> refused line 2: slots
+256 (() => { «let #; »}) --> accepted
+257 1;\n(() => {\n«let #; »}) --> refused line 2: slots
+256 (() => { «const # = 1; »}) --> accepted
+257 (() => { «const # = 1; »}) --> refused line 1: slots
+256 (() => { var v0; var v0; «var #; »}) --> accepted
+257 (() => { «{ var #; } »}) --> refused line 1: slots
+256 (v0 => { «var #; »}) --> accepted
+256 (() => { «{ let #; } »}) --> accepted
+257 (() => { «{ let #; } »}) --> refused line 1: slots
+256 (() => { «for (const # of []) { } »}) --> accepted
+257 (() => { «for (const # of []) { } »}) --> refused line 1: slots
+255 (a => { «let #; »}) --> accepted
+256 (a => { «let #; »}) --> refused line 1: slots
+256 (() => { «let #; »(() => { let a }) }) --> accepted
+"#;
+
+// So has the top level, where constants are not counted; its place is the program's first token.
+const TOP_LEVEL: &str = r#"
+257 «let #; » --> accepted
+257 «const # = 1; » --> accepted
+257 «var #; » --> accepted
+257 «function #() { } » --> accepted
+256 «{ let #; } » --> accepted
+257 \n«{ let #; } » --> refused line 2: slots
+256 «for (let # = 0; ; ) { } » --> accepted
+257 «for (let # = 0; ; ) { } » --> refused line 1: slots
+256 let a; «{ let #; } » --> accepted
+255 let a; a = 1; «{ let #; } » --> accepted
+256 let a; a = 1; «{ let #; } » --> refused line 1: slots
+256 var a; var a; «{ let #; } » --> refused line 1: slots
+"#;
+
+// Captures are counted in the function that uses them, and in those through which they are handed; constants are no
+// captures.
+const CAPTURES: &str = r#"
+256 (() => { «let #; »(() => { «#; »}) }) --> accepted
+256 (() => { «let #; »\n(() => { let a; «#; »}) }) --> refused line 2: slots
+255 (() => { «let #; »(a => { «#; »}) }) --> accepted
+256 (() => { «let #; »\n(a => { «#; »}) }) --> refused line 2: slots
+256 (() => { «let #; »(() => { «#; »«#; »}) }) --> accepted
+256 (() => { «let #; »(() => { (() => { «#; »}) }) }) --> accepted
+256 (() => { «let #; »\n(() => { let a;\n(() => { «#; »}) }) }) --> refused line 2: slots
+255 (() => { «let #; »(() => { let a; (() => { «#; »}) }) }) --> accepted
+256 { «let #; »(() => { «#; »}) } --> accepted
+256 { «let #; »\n(a => { «#; »}) } --> refused line 2: slots
+257 «const # = 1; »(() => { «#; »}) --> accepted
+257 «function #() { } »(a => { «#; »}) --> accepted
+"#;
 
 #[test]
 fn at_most_256_slots(rt: HostRuntime) -> Result<(), Fail> {
-    let alloc = rt.alloc();
-    for line in SLOTS.trim().lines() {
-        row(&rt, alloc, line)?;
-    }
-    let constants = script(alloc, 300, "", "let ", "; ", "")?;
-    assert_eq!(rt; answer(alloc, constants.as_str())?.as_str(), "accepted");
-    let most = uses_of(alloc, 255)?;
-    assert_eq!(rt; answer(alloc, most.as_str())?.as_str(), "accepted");
-    let more = uses_of(alloc, 256)?;
-    assert_eq!(rt;
-        answer(alloc, more.as_str())?.as_str(),
-        "refused line 2: slots"
-    );
-    Ok(())
+    agree(&rt, rt.alloc(), VARIABLES)?;
+    agree(&rt, rt.alloc(), TOP_LEVEL)?;
+    agree(&rt, rt.alloc(), CAPTURES)
 }
