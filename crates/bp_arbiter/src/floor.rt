@@ -19,7 +19,7 @@ use std::mem;
 const MOST_THREADS: usize = 4096;
 
 /// A configuration, and the numbers of the b-threads that are to be run in it.
-#[derive(Debug, Drop)]
+#[derive(Debug)]
 pub struct Floor {
     /// The b-threads, in the order in which they registered.
     pub threads: Vec<Thread>,
@@ -37,6 +37,21 @@ pub struct Floor {
     pub verdict: Option<Verdict>,
     /// The b-threads that are to be run, in order.
     pub wave: Vec<usize>,
+}
+
+impl Drop for Floor {
+    fn drop(self) {
+        let Floor {
+            threads: _,
+            drawn: _,
+            injectors: _,
+            transitions: _,
+            weight: _,
+            lines: _,
+            verdict: _,
+            wave: _,
+        } = self;
+    }
 }
 
 /// Marks the b-thread of this number as ended.

@@ -24,13 +24,25 @@ pub enum Picked {
 
 /// A straight script that is run. Contracts see it as the script, the options, the records so far,
 /// and whether memory gave out.
-#[derive(Debug, Drop)]
+#[derive(Debug)]
 pub struct Runner {
     script: Script,
     options: Options,
     floor: Floor,
     records: Vec<Record>,
     broken: bool,
+}
+
+impl Drop for Runner {
+    fn drop(self) {
+        let Runner {
+            script: _,
+            options: _,
+            floor: _,
+            records: _,
+            broken: _,
+        } = self;
+    }
 }
 
 impl Model for Runner {
@@ -103,7 +115,14 @@ impl Runner {
     pub fn into_records(self) -> Records
         ensures { result ≡ self.records }
     {
-        Records::new(self.records)
+        let Runner {
+            script: _,
+            options: _,
+            floor: _,
+            records,
+            broken: _,
+        } = self;
+        Records::new(records)
     }
 }
 

@@ -6,7 +6,7 @@ use js_data::Event;
 use std::marker::Model;
 
 /// One thing that is recorded of a run.
-#[derive(Debug, Drop)]
+#[derive(Debug)]
 pub enum Record {
     /// An event of this injector entered the queue.
     In(u32, Event),
@@ -18,6 +18,18 @@ pub enum Record {
     Sel(Event),
     /// The run ended.
     End(Verdict),
+}
+
+impl Drop for Record {
+    fn drop(self) {
+        match self {
+            Record::In(_, _) => {}
+            Record::Bad(_, _) => {}
+            Record::Eof(_) => {}
+            Record::Sel(_) => {}
+            Record::End(_) => {}
+        }
+    }
 }
 
 /// What is recorded of a run, in order. Contracts see it as the list.

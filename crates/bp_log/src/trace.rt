@@ -6,7 +6,7 @@ use js_data::{Event, Text};
 use std::marker::Model;
 
 /// A line of the trace.
-#[derive(Debug, Drop)]
+#[derive(Debug)]
 pub enum Line {
     /// This event was selected, which a b-thread requested.
     Event(Event),
@@ -20,6 +20,19 @@ pub enum Line {
     Interrupted(Text),
     /// The run ended.
     Verdict(Verdict),
+}
+
+impl Drop for Line {
+    fn drop(self) {
+        match self {
+            Line::Event(_) => {}
+            Line::External(_) => {}
+            Line::Log(_, _) => {}
+            Line::Done(_) => {}
+            Line::Interrupted(_) => {}
+            Line::Verdict(_) => {}
+        }
+    }
 }
 
 /// The lines of a trace, in order. Contracts see them as the list.

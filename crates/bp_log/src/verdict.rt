@@ -14,7 +14,7 @@ pub enum Place {
 }
 
 /// What a run ends in.
-#[derive(Debug, Drop)]
+#[derive(Debug)]
 pub enum Verdict {
     /// Nothing can be selected any more, after so many transitions.
     Quiet(u32),
@@ -34,6 +34,22 @@ pub enum Verdict {
     Weight,
     /// This injector had a bad line, with its number.
     Bad(u32, u32),
+}
+
+impl Drop for Verdict {
+    fn drop(self) {
+        match self {
+            Verdict::Quiet(_) => {}
+            Verdict::Violated(_, _) => {}
+            Verdict::Fault(_, _, _) => {}
+            Verdict::Spent(_) => {}
+            Verdict::Steps(_) => {}
+            Verdict::Queue => {}
+            Verdict::Threads => {}
+            Verdict::Weight => {}
+            Verdict::Bad(_, _) => {}
+        }
+    }
 }
 
 impl Place {

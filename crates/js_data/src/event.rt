@@ -14,10 +14,16 @@ use thiserror::Error;
 ///
 /// Its type keeps that its weight is at most 1,024 and its nesting at most 64, and that the keys of
 /// fields are sorted by their bytes and distinct at every level of its data.
-#[derive(Debug, Drop)]
+#[derive(Debug)]
 pub struct Event {
     name: Text,
     extra: Option<Data>,
+}
+
+impl Drop for Event {
+    fn drop(self) {
+        let Event { name: _, extra: _ } = self;
+    }
 }
 
 impl Model for Event {

@@ -4,7 +4,7 @@ use std::alloc::{AllocError, AllocFailed};
 use thiserror::Error;
 
 /// What a token is.
-#[derive(Debug, Drop)]
+#[derive(Debug)]
 pub enum Kind {
     /// A name that is no word.
     Name(Text),
@@ -16,6 +16,20 @@ pub enum Kind {
     Words(Text),
     /// A mark, also one that the language refuses.
     Mark(Text),
+}
+
+// It is let go by one call, written out: so a function that lets a token go has one thing to show for it, and not
+// one for each kind.
+impl Drop for Kind {
+    fn drop(self) {
+        match self {
+            Kind::Name(_) => {}
+            Kind::Word(_) => {}
+            Kind::Number(_) => {}
+            Kind::Words(_) => {}
+            Kind::Mark(_) => {}
+        }
+    }
 }
 
 /// A token, with the bytes from `from` to before `to`, at its line from 1.

@@ -21,7 +21,7 @@ pub struct Declared {
 }
 
 /// The form of a node, with the numbers of its parts in the order in which they begin in the text.
-#[derive(Debug, Drop)]
+#[derive(Debug)]
 pub enum NodeForm {
     Number(Whole),
     Words(Text),
@@ -68,6 +68,48 @@ pub enum NodeForm {
     Continue,
     ReturnNothing,
     Return(u32),
+}
+
+// It is let go by one call, written out: so a function that lets a node go has one thing to show for it, and not
+// one for each form.
+impl Drop for NodeForm {
+    fn drop(self) {
+        match self {
+            NodeForm::Number(_) => {}
+            NodeForm::Words(_) => {}
+            NodeForm::Truth(_) => {}
+            NodeForm::Null => {}
+            NodeForm::Undefined => {}
+            NodeForm::Read(_) => {}
+            NodeForm::List(_) => {}
+            NodeForm::Fields(_) => {}
+            NodeForm::Member(_, _) => {}
+            NodeForm::Index(_, _) => {}
+            NodeForm::Call(_, _) => {}
+            NodeForm::Method(_, _, _) => {}
+            NodeForm::Builtin(_, _) => {}
+            NodeForm::FloorDivide(_, _, _) => {}
+            NodeForm::Unary(_, _) => {}
+            NodeForm::Update(_, _, _) => {}
+            NodeForm::Binary(_, _, _) => {}
+            NodeForm::Conditional(_, _, _) => {}
+            NodeForm::Assign(_, _, _) => {}
+            NodeForm::Function(_) => {}
+            NodeForm::Empty => {}
+            NodeForm::Block(_, _) => {}
+            NodeForm::Declaration(_, _) => {}
+            NodeForm::Expression(_) => {}
+            NodeForm::If(_, _) => {}
+            NodeForm::IfElse(_, _, _) => {}
+            NodeForm::While(_, _) => {}
+            NodeForm::For(_, _, _, _, _) => {}
+            NodeForm::ForOf(_, _, _) => {}
+            NodeForm::Break => {}
+            NodeForm::Continue => {}
+            NodeForm::ReturnNothing => {}
+            NodeForm::Return(_) => {}
+        }
+    }
 }
 
 /// A statement or an expression: the line of its first token, and its form.

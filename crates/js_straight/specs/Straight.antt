@@ -1,5 +1,6 @@
 -- Straight scripts: which trees are one, and which script each is.
 use Rattle.std.specs.Prelude.{ℕ, Bool, true, false, ◌&&◌, ◌||◌, ◌==◌, nat_le, List, [], ◌∷◌, length, Option, Some, None, is_some, option_map, option_and_then, codes, if◌then◌else◌}
+use Rattle.std.specs.Char.{is_ascii_alphanumeric}
 use Rattle.std.specs.List.{list_all}
 use Rattle.std.specs.Str.{bytes_eq}
 use Rattle.js_data.specs.Event.{PlainEvent}
@@ -11,8 +12,7 @@ pub use Rattle.js_straight.specs.declared.script.Straight.{Straight}
 
 -- an ASCII letter, a digit or a space
 abbrev pub is_name_byte : ℕ → Bool
-is_name_byte b =
-    (nat_le 97 b && nat_le b 122) || (nat_le 65 b && nat_le b 90) || (nat_le 48 b && nat_le b 57) || b == 32
+is_name_byte b = is_ascii_alphanumeric b || b == 32
 
 -- from 1 to 64 letters, digits and spaces
 abbrev pub is_name : List ℕ → Bool

@@ -1,5 +1,5 @@
 //! Trees read as straight scripts.
-ghost use Rattle.std.specs.Prelude.{◌≡◌, ◌≤◌, ◌&&◌, nat_le, length, is_some, [], ◌∷◌, None, Some, IfOk, map, option_map, if◌then◌else◌};
+ghost use Rattle.std.specs.Prelude.{◌≡◌, ◌≤◌, ◌&&◌, true, nat_le, length, is_none, [], ◌∷◌, None, Some, IfOk, map, option_map, if◌then◌else◌};
 ghost use Rattle.std.specs.List.{list_all};
 ghost use Rattle.js_tree.specs.Plain.{exprs_of, fields_of, stmts_of};
 ghost use Rattle.js_tree.specs.Views.{plain_expr, plain_field, plain_stmt, plain_item, plain_tree};
@@ -14,7 +14,7 @@ use std::alloc::Global;
 fn is_name_byte(byte: u8) -> bool
     ensures { result ≡ is_name_byte byte }
 {
-    matches!(byte, b'a'..=b'z' | b'A'..=b'Z' | b'0'..=b'9' | b' ')
+    byte.is_ascii_alphanumeric() || byte == b' '
 }
 
 /// Whether all are letters, digits and spaces.
@@ -114,50 +114,28 @@ fn event_in(e: &Expr) -> Result<Option<Event>, Memory>
     }
 }
 
-/// The event beside nothing that stands already.
-fn alone(before: Option<Event>, event: Event) -> Option<Option<Event>>
-    ensures { result ≡ (if is_some before then None else Some (Some event)) }
+/// Puts the event where none stands yet, and says whether none did.
+fn put(place: &mut Option<Event>, event: Event) -> bool
+    ensures free { result ≡ is_none place.old }
+    ensures put { result ≡ true → place.new ≡ Some event }
 {
-    match before {
-        Some(_) => None,
-        None => Some(Some(event)),
+    if place.is_some() {
+        return false;
     }
+    *place = Some(event);
+    true
 }
 
-/// The point with an event under a key, where the key is one of a point's and does not stand yet.
-fn with_part(key: &str, event: Event, point: Point) -> Option<Point>
-    ensures { result ≡ with_part key.now event point }
+/// Puts an event under a key of the point, and says whether the key is one of a point's and did not stand yet.
+fn with_part(key: &str, event: Event, point: &mut Point) -> bool
+    ensures { (if result then Some point.new else None) ≡ with_part key.now event point.old }
 {
-    let Point {
-        request,
-        wait_for,
-        block,
-    } = point;
-    if key == "request" {
-        let request = alone(request, event)?;
-        return Some(Point {
-            request,
-            wait_for,
-            block,
-        });
+    match key {
+        "request" => put(&mut point.request, event),
+        "waitFor" => put(&mut point.wait_for, event),
+        "block" => put(&mut point.block, event),
+        _ => false,
     }
-    if key == "waitFor" {
-        let wait_for = alone(wait_for, event)?;
-        return Some(Point {
-            request,
-            wait_for,
-            block,
-        });
-    }
-    if key == "block" {
-        let block = alone(block, event)?;
-        return Some(Point {
-            request,
-            wait_for,
-            block,
-        });
-    }
-    None
 }
 
 /// The point of these fields.
@@ -173,10 +151,9 @@ fn with_parts(parts: &[Field]) -> Result<Option<Point>, Memory>
         let Some(event) = event_in(&part.value)? else {
             return Ok(None);
         };
-        let Some(next) = with_part(part.key.as_str(), event, point) else {
+        if !with_part(part.key.as_str(), event, &mut point) {
             return Ok(None);
-        };
-        point = next;
+        }
     }
     Ok(Some(point))
 }

@@ -6,7 +6,7 @@ use std::marker::Model;
 
 /// What a b-thread asks at a point: at most one event that it requests, one that it waits for and one that it
 /// blocks.
-#[derive(Debug, Drop)]
+#[derive(Debug)]
 pub struct Point {
     /// The event that it requests.
     pub request: Option<Event>,
@@ -14,6 +14,16 @@ pub struct Point {
     pub wait_for: Option<Event>,
     /// The event that it blocks.
     pub block: Option<Event>,
+}
+
+impl Drop for Point {
+    fn drop(self) {
+        let Point {
+            request: _,
+            wait_for: _,
+            block: _,
+        } = self;
+    }
 }
 
 /// The points of a b-thread, which contracts see as a list.

@@ -115,7 +115,6 @@ pub struct Expr {
 }
 
 /// The form of an expression.
-#[derive(Drop)]
 #[cycle(tree)]
 pub enum Form {
     Number(Whole),
@@ -141,6 +140,34 @@ pub enum Form {
     ArrowBlock(Spot, Vec<Name>, Vec<Stmt>),
     /// `function (params) { statements }`
     Function(Spot, Vec<Name>, Vec<Stmt>),
+}
+
+// The forms are let go by one call each, written out: so a function that lets a tree go has one thing to show for
+// it, and not one for each form.
+impl Drop for Form {
+    #[cycle(tree)]
+    fn drop(self) {
+        match self {
+            Form::Number(_) => {}
+            Form::Words(_) => {}
+            Form::Truth(_) => {}
+            Form::Null => {}
+            Form::Use(_) => {}
+            Form::List(_) => {}
+            Form::Fields(_) => {}
+            Form::Member(_, _) => {}
+            Form::Index(_, _) => {}
+            Form::Call(_, _) => {}
+            Form::Unary(_, _) => {}
+            Form::Update(_, _, _) => {}
+            Form::Binary(_, _, _) => {}
+            Form::Conditional(_, _, _) => {}
+            Form::Assign(_, _, _) => {}
+            Form::ArrowValue(_, _, _) => {}
+            Form::ArrowBlock(_, _, _) => {}
+            Form::Function(_, _, _) => {}
+        }
+    }
 }
 
 /// A field; `name` alone is short for `name: name`.
@@ -179,7 +206,6 @@ pub struct Stmt {
 }
 
 /// The form of a statement.
-#[derive(Drop)]
 #[cycle(tree)]
 pub enum StmtForm {
     Empty,
@@ -196,6 +222,27 @@ pub enum StmtForm {
     Continue(Spot),
     ReturnNothing(Spot),
     Return(Spot, Expr),
+}
+
+impl Drop for StmtForm {
+    #[cycle(tree)]
+    fn drop(self) {
+        match self {
+            StmtForm::Empty => {}
+            StmtForm::Block(_) => {}
+            StmtForm::Declaration(_, _) => {}
+            StmtForm::Expression(_) => {}
+            StmtForm::If(_, _) => {}
+            StmtForm::IfElse(_, _, _) => {}
+            StmtForm::While(_, _) => {}
+            StmtForm::For(_, _, _, _) => {}
+            StmtForm::ForOf(_, _, _, _) => {}
+            StmtForm::Break(_) => {}
+            StmtForm::Continue(_) => {}
+            StmtForm::ReturnNothing(_) => {}
+            StmtForm::Return(_, _) => {}
+        }
+    }
 }
 
 /// What a program lists: a statement, or a function declaration with the place of its first token.

@@ -10,7 +10,7 @@ use std::alloc::Global;
 
 /// A set of events, as the tree of what it was made of.
 #[cycle(value)]
-#[derive(Debug, Drop)]
+#[derive(Debug)]
 pub enum SetTree {
     /// This event alone.
     Only(Event),
@@ -41,7 +41,7 @@ pub enum SetTree {
 
 /// A value of a script.
 #[cycle(value)]
-#[derive(Debug, Drop)]
+#[derive(Debug)]
 pub enum Value {
     /// Undefined.
     Undefined,
@@ -68,6 +68,50 @@ pub enum Value {
         /// What the function captured.
         captured: Vec<Value>,
     },
+}
+
+// Sets and values are let go by one call each, written out: so a function that lets one go has one thing to show
+// for it, and not one for each kind.
+impl Drop for SetTree {
+    #[cycle(value)]
+    fn drop(self) {
+        match self {
+            SetTree::Only(_) => {}
+            SetTree::Any(_) => {}
+            SetTree::All => {}
+            SetTree::Nothing => {}
+            SetTree::Or(_, _) => {}
+            SetTree::And(_, _) => {}
+            SetTree::Xor(_, _) => {}
+            SetTree::Negate(_) => {}
+            SetTree::Predicate {
+                name: _,
+                code: _,
+                captured: _,
+            } => {}
+        }
+    }
+}
+
+impl Drop for Value {
+    #[cycle(value)]
+    fn drop(self) {
+        match self {
+            Value::Undefined => {}
+            Value::Null => {}
+            Value::Truth(_) => {}
+            Value::Whole(_) => {}
+            Value::Words(_) => {}
+            Value::List(_) => {}
+            Value::Fields(_) => {}
+            Value::Event(_) => {}
+            Value::Set(_) => {}
+            Value::Function {
+                code: _,
+                captured: _,
+            } => {}
+        }
+    }
 }
 
 /// Whether a condition takes the value for true: all but undefined, null, false, 0 and the empty text.
