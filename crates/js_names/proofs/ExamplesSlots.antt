@@ -12,24 +12,20 @@ use Rattle.js_names.proofs.Build.{name, one, uses, arrow, made, declares, does, 
 use Rattle.js_tree.specs.declared.tree.Name.{Name}
 use Rattle.js_tree.specs.Plain.{PlainExpr, PlainStmt}
 
--- the names a0, a1, .. and their uses, from a place on
+-- names that differ in their one letter, their declarations and their uses, from a place on
 abbrev names : ℕ → ℕ → List Name
 names zero p = []
-names (suc n) p = name (97 ∷ n ∷ []) p ∷ names n (p + 4)
+names (suc n) p = name (n ∷ []) p ∷ names n (p + 4)
 
 abbrev lets : ℕ → ℕ → List PlainStmt
 lets zero p = []
-lets (suc n) p = declares Let (97 ∷ n ∷ []) p one (p + 4) ∷ lets n (p + 10)
+lets (suc n) p = declares Let (n ∷ []) p one (p + 4) ∷ lets n (p + 10)
 
 abbrev use_all : ℕ → ℕ → List PlainStmt
 use_all zero p = []
-use_all (suc n) p = does (uses (97 ∷ n ∷ []) p) ∷ use_all n (p + 4)
+use_all (suc n) p = does (uses (n ∷ []) p) ∷ use_all n (p + 4)
 
--- a function with 256 parameters, and one with 257
-pub parameters_256 : name_fault (items (does (arrow 0 (names 256 1) one) ∷ [])) ≡ None
-unfolding program_scope function_scope block_scope for_scope each_scope expr_sites form_sites exprs_sites fields_sites perhaps_sites declarators_sites start_sites stmt_sites stmt_form_sites stmts_sites item_sites program_sites found found_var functions_of repeated blocked see places assigned_in holdings slots_of slot_count fault_at name_fault
-parameters_256 = refl
-
+-- a function with 257 parameters; that one may have 256 is seen below, at its captures
 pub parameters_257 : name_fault (items (does (arrow 0 (names 257 1) one) ∷ [])) ≡ Some (Slots (name [] 0))
 unfolding program_scope function_scope block_scope for_scope each_scope expr_sites form_sites exprs_sites fields_sites perhaps_sites declarators_sites start_sites stmt_sites stmt_form_sites stmts_sites item_sites program_sites found found_var functions_of repeated blocked see places assigned_in holdings slots_of slot_count fault_at name_fault
 parameters_257 = refl
@@ -43,17 +39,17 @@ pub variables_257 : name_fault (items (does (made 1 [] (lets 257 20)) ∷ [])) �
 unfolding program_scope function_scope block_scope for_scope each_scope expr_sites form_sites exprs_sites fields_sites perhaps_sites declarators_sites start_sites stmt_sites stmt_form_sites stmts_sites item_sites program_sites found found_var functions_of repeated blocked see places assigned_in holdings slots_of slot_count fault_at name_fault
 variables_257 = refl
 
--- an inner function with 256 captures and no other slot, and with a parameter besides: the inner one begins at 5000
-pub captures_256 : name_fault (items (does (made 1 (names 256 10) (does (arrow 5000 [] (made 5010 [] (use_all 256 5020))) ∷ [])) ∷ [])) ≡ None
+-- a function with 256 parameters; in it, an inner function with 256 captures and no other slot, and with a parameter besides: the inner one begins at 5000
+pub captures_256 : name_fault (items (does (arrow 1 (names 256 10) (arrow 5000 [] (made 5010 [] (use_all 256 5020)))) ∷ [])) ≡ None
 unfolding program_scope function_scope block_scope for_scope each_scope expr_sites form_sites exprs_sites fields_sites perhaps_sites declarators_sites start_sites stmt_sites stmt_form_sites stmts_sites item_sites program_sites found found_var functions_of repeated blocked see places assigned_in holdings slots_of slot_count fault_at name_fault
 captures_256 = refl
 
-pub captures_256_and_a_parameter : name_fault (items (does (made 1 (names 256 10) (does (made 5000 (name (codes "b") 5005 ∷ []) (use_all 256 5020)) ∷ [])) ∷ [])) ≡ Some (Slots (name [] 5000))
+pub captures_256_and_a_parameter : name_fault (items (does (made 1 (names 256 10) (does (made 5000 (name (codes "bb") 5005 ∷ []) (use_all 256 5020)) ∷ [])) ∷ [])) ≡ Some (Slots (name [] 5000))
 unfolding program_scope function_scope block_scope for_scope each_scope expr_sites form_sites exprs_sites fields_sites perhaps_sites declarators_sites start_sites stmt_sites stmt_form_sites stmts_sites item_sites program_sites found found_var functions_of repeated blocked see places assigned_in holdings slots_of slot_count fault_at name_fault
 captures_256_and_a_parameter = refl
 
--- 300 constants at the top level take no slots; 257 variables of a block do
-pub constants_take_no_slots : name_fault (items (lets 300 4)) ≡ None
+-- 257 constants at the top level take no slots; 257 variables of a block do
+pub constants_take_no_slots : name_fault (items (lets 257 4)) ≡ None
 unfolding program_scope function_scope block_scope for_scope each_scope expr_sites form_sites exprs_sites fields_sites perhaps_sites declarators_sites start_sites stmt_sites stmt_form_sites stmts_sites item_sites program_sites found found_var functions_of repeated blocked see places assigned_in holdings slots_of slot_count fault_at name_fault
 constants_take_no_slots = refl
 

@@ -26,7 +26,7 @@ use Rattle.js_names.specs.Scopes.{Scope, function_scope}
 use Rattle.js_names.specs.Sites.{Site, expr_sites, form_sites, exprs_sites, fields_sites, declarators_sites, stmt_sites, stmts_sites, read_site, assign_site, member_sites, object_of, value_builtin, called_builtin, begin_site, parameter_sites, in_function}
 use Rattle.js_names.specs.Views.{tree_sites, field_sites, declarator_sites, tree_stmt_sites, arrow_sites, body_sites}
 
-expr_is : (e : Expr) → plain_expr e ≡ p.at e.parens e.line (plain_form e.form)
+pub expr_is : (e : Expr) → plain_expr e ≡ p.at e.parens e.line (plain_form e.form)
 expr_is e = search (rules, fold_out-Expr)
 
 field_is : (f : Field) → plain_field f ≡ record { key = f.key; value = plain_expr f.value }
@@ -83,7 +83,7 @@ pub null_sites : (s : List Scope) (a : Around) (e : Expr) → e.form ≡ Null �
 unfolding form_sites
 null_sites s a e h = form_at s a e Null _ h (null_is)
 
-use_is : (n : Name) → plain_form (Use n) ≡ p.use_of n
+pub use_is : (n : Name) → plain_form (Use n) ≡ p.use_of n
 use_is n = ap plain_form (sym (rolls-Use n)) ∙ fold-roll-Form PlainForm PlainStart PlainStmtForm PlainDeclarator PlainExpr PlainField PlainStmt form_step start_step stmt_form_step declarator_step expr_step field_step stmt_step _
 
 pub use_sites : (s : List Scope) (a : Around) (e : Expr) (n : Name) → e.form ≡ (Use n) → read_site s a n ≡ tree_sites s a e
@@ -104,21 +104,21 @@ pub in_fields_sites : (s : List Scope) (a : Around) (e : Expr) (v : Vec Field Gl
 unfolding form_sites
 in_fields_sites s a e v xs h h1 = ap (flat_map (field_sites s a)) h1 ∙ (fields_flat s a v.items ∙ form_at s a e (Fields v) _ h (fields_is v))
 
-member_is : (b : Box Expr Global) (w : List ℕ) → plain_form (Member b w) ≡ p.member (plain_expr b.value) w
+pub member_is : (b : Box Expr Global) (w : List ℕ) → plain_form (Member b w) ≡ p.member (plain_expr b.value) w
 member_is b w = ap plain_form (sym (rolls-Member b w)) ∙ fold-roll-Form PlainForm PlainStart PlainStmtForm PlainDeclarator PlainExpr PlainField PlainStmt form_step start_step stmt_form_step declarator_step expr_step field_step stmt_step _
 
 pub in_member_sites : (s : List Scope) (a : Around) (e : Expr) (b : Box Expr Global) (w : List ℕ) (x : Expr) → e.form ≡ (Member b w) → x ≡ b.value → member_sites s a (object_of (plain_expr x)) w (is_some (value_builtin (plain_expr x) w)) (tree_sites s a x) ≡ tree_sites s a e
 unfolding form_sites
 in_member_sites s a e b w x h h1 = ap (λ z. member_sites s a (object_of (plain_expr z)) w (is_some (value_builtin (plain_expr z) w)) (tree_sites s a z)) h1 ∙ form_at s a e (Member b w) _ h (member_is b w)
 
-index_is : (b : Box Expr Global) (d : Box Expr Global) → plain_form (Index b d) ≡ p.index (plain_expr b.value) (plain_expr d.value)
+pub index_is : (b : Box Expr Global) (d : Box Expr Global) → plain_form (Index b d) ≡ p.index (plain_expr b.value) (plain_expr d.value)
 index_is b d = ap plain_form (sym (rolls-Index b d)) ∙ fold-roll-Form PlainForm PlainStart PlainStmtForm PlainDeclarator PlainExpr PlainField PlainStmt form_step start_step stmt_form_step declarator_step expr_step field_step stmt_step _
 
 pub index_sites : (s : List Scope) (a : Around) (e : Expr) (b : Box Expr Global) (d : Box Expr Global) (x : Expr) (y : Expr) → e.form ≡ (Index b d) → x ≡ b.value → y ≡ d.value → tree_sites s a x ++ tree_sites s a y ≡ tree_sites s a e
 unfolding form_sites
 index_sites s a e b d x y h h1 h2 = ap (λ z. tree_sites s a z ++ tree_sites s a y) h1 ∙ (ap (λ z. tree_sites s a b.value ++ tree_sites s a z) h2 ∙ form_at s a e (Index b d) _ h (index_is b d))
 
-call_is : (b : Box Expr Global) (v : Vec Expr Global) → plain_form (Call b v) ≡ p.call (plain_expr b.value) (exprs_of (map plain_expr v.items))
+pub call_is : (b : Box Expr Global) (v : Vec Expr Global) → plain_form (Call b v) ≡ p.call (plain_expr b.value) (exprs_of (map plain_expr v.items))
 call_is b v = ap plain_form (sym (rolls-Call b v)) ∙ fold-roll-Form PlainForm PlainStart PlainStmtForm PlainDeclarator PlainExpr PlainField PlainStmt form_step start_step stmt_form_step declarator_step expr_step field_step stmt_step _
 
 pub call_sites : (s : List Scope) (a : Around) (e : Expr) (b : Box Expr Global) (v : Vec Expr Global) (x : Expr) (xs : List Expr) → e.form ≡ (Call b v) → x ≡ b.value → xs ≡ v.items → (if is_some (called_builtin (plain_expr x)) then [] else tree_sites s a x) ++ flat_map (tree_sites s a) xs ≡ tree_sites s a e
@@ -139,21 +139,21 @@ pub update_sites : (s : List Scope) (a : Around) (e : Expr) (k : Step) (f : Fix)
 unfolding form_sites
 update_sites s a e k f n h = form_at s a e (Update k f n) _ h (update_is k f n)
 
-binary_is : (k : Operator) (b : Box Expr Global) (d : Box Expr Global) → plain_form (Binary k b d) ≡ p.binary k (plain_expr b.value) (plain_expr d.value)
+pub binary_is : (k : Operator) (b : Box Expr Global) (d : Box Expr Global) → plain_form (Binary k b d) ≡ p.binary k (plain_expr b.value) (plain_expr d.value)
 binary_is k b d = ap plain_form (sym (rolls-Binary k b d)) ∙ fold-roll-Form PlainForm PlainStart PlainStmtForm PlainDeclarator PlainExpr PlainField PlainStmt form_step start_step stmt_form_step declarator_step expr_step field_step stmt_step _
 
 pub binary_sites : (s : List Scope) (a : Around) (e : Expr) (k : Operator) (b : Box Expr Global) (d : Box Expr Global) (x : Expr) (y : Expr) → e.form ≡ (Binary k b d) → x ≡ b.value → y ≡ d.value → tree_sites s a x ++ tree_sites s a y ≡ tree_sites s a e
 unfolding form_sites
 binary_sites s a e k b d x y h h1 h2 = ap (λ z. tree_sites s a z ++ tree_sites s a y) h1 ∙ (ap (λ z. tree_sites s a b.value ++ tree_sites s a z) h2 ∙ form_at s a e (Binary k b d) _ h (binary_is k b d))
 
-conditional_is : (b : Box Expr Global) (d : Box Expr Global) (f : Box Expr Global) → plain_form (Conditional b d f) ≡ p.conditional (plain_expr b.value) (plain_expr d.value) (plain_expr f.value)
+pub conditional_is : (b : Box Expr Global) (d : Box Expr Global) (f : Box Expr Global) → plain_form (Conditional b d f) ≡ p.conditional (plain_expr b.value) (plain_expr d.value) (plain_expr f.value)
 conditional_is b d f = ap plain_form (sym (rolls-Conditional b d f)) ∙ fold-roll-Form PlainForm PlainStart PlainStmtForm PlainDeclarator PlainExpr PlainField PlainStmt form_step start_step stmt_form_step declarator_step expr_step field_step stmt_step _
 
 pub conditional_sites : (s : List Scope) (a : Around) (e : Expr) (b : Box Expr Global) (d : Box Expr Global) (f : Box Expr Global) (x : Expr) (y : Expr) (w : Expr) → e.form ≡ (Conditional b d f) → x ≡ b.value → y ≡ d.value → w ≡ f.value → tree_sites s a x ++ (tree_sites s a y ++ tree_sites s a w) ≡ tree_sites s a e
 unfolding form_sites
 conditional_sites s a e b d f x y w h h1 h2 h3 = ap (λ z. tree_sites s a z ++ (tree_sites s a y ++ tree_sites s a w)) h1 ∙ (ap (λ z. tree_sites s a b.value ++ (tree_sites s a z ++ tree_sites s a w)) h2 ∙ (ap (λ z. tree_sites s a b.value ++ (tree_sites s a d.value ++ tree_sites s a z)) h3 ∙ form_at s a e (Conditional b d f) _ h (conditional_is b d f)))
 
-assign_is : (k : AssignOp) (n : Name) (b : Box Expr Global) → plain_form (Assign k n b) ≡ p.assign k n (plain_expr b.value)
+pub assign_is : (k : AssignOp) (n : Name) (b : Box Expr Global) → plain_form (Assign k n b) ≡ p.assign k n (plain_expr b.value)
 assign_is k n b = ap plain_form (sym (rolls-Assign k n b)) ∙ fold-roll-Form PlainForm PlainStart PlainStmtForm PlainDeclarator PlainExpr PlainField PlainStmt form_step start_step stmt_form_step declarator_step expr_step field_step stmt_step _
 
 pub assign_sites : (s : List Scope) (a : Around) (e : Expr) (k : AssignOp) (n : Name) (b : Box Expr Global) (x : Expr) → e.form ≡ (Assign k n b) → x ≡ b.value → assign_site s a n ++ tree_sites s a x ≡ tree_sites s a e
@@ -172,7 +172,7 @@ arrow_is s k ns x =
     let inner = function_scope k.at ns (stmts_of []) ∷ s in
     head_first (begin_site inner k.at k) (parameter_sites inner (in_function k.at) ns) (tree_sites inner (in_function k.at) x)
 
-arrow_value_is : (k : Spot) (n : Vec Name Global) (b : Box Expr Global) → plain_form (ArrowValue k n b) ≡ p.arrow_value k n.items (plain_expr b.value)
+pub arrow_value_is : (k : Spot) (n : Vec Name Global) (b : Box Expr Global) → plain_form (ArrowValue k n b) ≡ p.arrow_value k n.items (plain_expr b.value)
 arrow_value_is k n b = ap plain_form (sym (rolls-ArrowValue k n b)) ∙ fold-roll-Form PlainForm PlainStart PlainStmtForm PlainDeclarator PlainExpr PlainField PlainStmt form_step start_step stmt_form_step declarator_step expr_step field_step stmt_step _
 
 pub arrow_value_sites : (s : List Scope) (a : Around) (e : Expr) (k : Spot) (n : Vec Name Global) (b : Box Expr Global) (ns : List Name) (x : Expr) → e.form ≡ (ArrowValue k n b) → ns ≡ n.items → x ≡ b.value → arrow_sites s k ns x ≡ tree_sites s a e
@@ -190,14 +190,14 @@ body_is s k ns ss =
     head_first (begin_site inner k.at k) (parameter_sites inner (in_function k.at) ns) (flat_map (tree_stmt_sites inner (in_function k.at)) ss)
     ∙ ap (λ z. begin_site inner k.at k ++ (parameter_sites inner (in_function k.at) ns ++ z)) (stmts_flat inner (in_function k.at) ss)
 
-arrow_block_is : (k : Spot) (n : Vec Name Global) (v : Vec Stmt Global) → plain_form (ArrowBlock k n v) ≡ p.arrow_block k n.items (stmts_of (map plain_stmt v.items))
+pub arrow_block_is : (k : Spot) (n : Vec Name Global) (v : Vec Stmt Global) → plain_form (ArrowBlock k n v) ≡ p.arrow_block k n.items (stmts_of (map plain_stmt v.items))
 arrow_block_is k n v = ap plain_form (sym (rolls-ArrowBlock k n v)) ∙ fold-roll-Form PlainForm PlainStart PlainStmtForm PlainDeclarator PlainExpr PlainField PlainStmt form_step start_step stmt_form_step declarator_step expr_step field_step stmt_step _
 
 pub arrow_block_sites : (s : List Scope) (a : Around) (e : Expr) (k : Spot) (n : Vec Name Global) (v : Vec Stmt Global) (ns : List Name) (ss : List Stmt) → e.form ≡ (ArrowBlock k n v) → ns ≡ n.items → ss ≡ v.items → body_sites s k ns ss ≡ tree_sites s a e
 unfolding form_sites
 arrow_block_sites s a e k n v ns ss h h1 h2 = ap (λ z. body_sites s k z ss) h1 ∙ (ap (λ z. body_sites s k n.items z) h2 ∙ (body_is s k n.items v.items ∙ form_at s a e (ArrowBlock k n v) _ h (arrow_block_is k n v)))
 
-function_is : (k : Spot) (n : Vec Name Global) (v : Vec Stmt Global) → plain_form (Function k n v) ≡ p.function k n.items (stmts_of (map plain_stmt v.items))
+pub function_is : (k : Spot) (n : Vec Name Global) (v : Vec Stmt Global) → plain_form (Function k n v) ≡ p.function k n.items (stmts_of (map plain_stmt v.items))
 function_is k n v = ap plain_form (sym (rolls-Function k n v)) ∙ fold-roll-Form PlainForm PlainStart PlainStmtForm PlainDeclarator PlainExpr PlainField PlainStmt form_step start_step stmt_form_step declarator_step expr_step field_step stmt_step _
 
 pub function_sites : (s : List Scope) (a : Around) (e : Expr) (k : Spot) (n : Vec Name Global) (v : Vec Stmt Global) (ns : List Name) (ss : List Stmt) → e.form ≡ (Function k n v) → ns ≡ n.items → ss ≡ v.items → body_sites s k ns ss ≡ tree_sites s a e

@@ -16,19 +16,15 @@ soonest_more F xs i x a b fault all h e f s inv =
     ∙ (sym (at_drop_more (λ ys. fold (λ f p. sooner f (F p)) a (map place_of ys)) xs i x h) ∙ inv)
 
 -- what the lists that the check makes say of the program
-pub fault_of_places : (items : List PlainItem) (seen s1 s2 s3 : List Seen) (assigned : List ℕ) (sets : Sets) (r : Option NameFault) → map place_of seen ≡ places items → s1 ≡ seen → s2 ≡ seen → s3 ≡ seen
-    → assigned ≡ assigned_in (map place_of s1) → ((f : ℕ) → held_in sets f ≡ slots_of assigned f (map place_of s2))
-    → r ≡ soonest (fault_at assigned (λ g. length (held_in sets g))) (map place_of s3) → r ≡ name_fault items
+pub fault_of_places : (items : List PlainItem) (seen s : List Seen) (assigned : List ℕ) (sets : Sets) (r : Option NameFault) → map place_of seen ≡ places items → s ≡ seen → assigned ≡ assigned_in (places items)
+    → ((f : ℕ) → held_in sets f ≡ slots_of (assigned_in (places items)) f (places items)) → r ≡ soonest (fault_at assigned (λ g. length (held_in sets g))) (map place_of s) → r ≡ name_fault items
 unfolding name_fault slot_count
-fault_of_places items seen s1 s2 s3 assigned sets r e d1 d2 d3 a h k =
+fault_of_places items seen s assigned sets r e d a h k =
     let ps = places items in
-    let p1 : map place_of s1 ≡ ps = ap (map place_of) d1 ∙ e in
-    let p2 : map place_of s2 ≡ ps = ap (map place_of) d2 ∙ e in
-    let p3 : map place_of s3 ≡ ps = ap (map place_of) d3 ∙ e in
-    k ∙ (ap (λ c. soonest (fault_at assigned c) (map place_of s3)) (λ i f. ap length (h f) i)
-    ∙ (ap (λ z. soonest (fault_at assigned (λ f. length (slots_of assigned f z))) (map place_of s3)) p2
-    ∙ (ap (λ z. soonest (fault_at assigned (λ f. length (slots_of assigned f ps))) z) p3
-    ∙ ap (λ z. soonest (fault_at z (λ f. length (slots_of z f ps))) ps) (a ∙ ap assigned_in p1))))
+    let taken = assigned_in ps in
+    k ∙ (ap (λ c. soonest (fault_at assigned c) (map place_of s)) (λ i f. ap length (h f) i)
+    ∙ (ap (λ z. soonest (fault_at assigned (λ f. length (slots_of taken f ps))) z) (ap (map place_of) d ∙ e)
+    ∙ ap (λ z. soonest (fault_at z (λ f. length (slots_of taken f ps))) ps) a))
 
 -- the variables that something assigns, and the slots
 pub assigned_of_places : (items : List PlainItem) (seen s1 : List Seen) (assigned : List ℕ) → map place_of seen ≡ places items → s1 ≡ seen → assigned ≡ assigned_in (map place_of s1) → assigned ≡ assigned_in (places items)

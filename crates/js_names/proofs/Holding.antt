@@ -53,12 +53,12 @@ flat_map_seen f (x ∷ xs) = ap (λ z. f (place_of x) ++ z) (flat_map_seen f xs)
 from_empty : (a b : Sets) (hs : List Holding) → a.entries ≡ [] → Holds a b hs → (q : ℕ) → held_in b q ≡ fold joins [] (held_by q hs)
 from_empty a b hs e t q = t q ∙ ap (λ es. fold joins (keys_of (lookup (nat_eq q) es)) (held_by q hs)) e
 
-pub slots_taken : (assigned : List ℕ) (ps : List Seen) (a b c d : Sets) → a.entries ≡ []
-    → Holds a b (flat_map (λ p. parameter_in (place_of p)) ps) → Holds b c (flat_map (λ p. captures_in assigned (place_of p)) ps) → Holds c d (flat_map (λ p. variable_in assigned (place_of p)) ps)
+pub slots_taken : (assigned : List ℕ) (ps : List Seen) (a d : Sets) → a.entries ≡ []
+    → Holds a d (flat_map (λ p. parameter_in (place_of p)) ps ++ (flat_map (λ p. captures_in assigned (place_of p)) ps ++ flat_map (λ p. variable_in assigned (place_of p)) ps))
     → (q : ℕ) → held_in d q ≡ slots_of assigned q (map place_of ps)
 unfolding slots_of holdings
-slots_taken assigned ps a b c d e h k t q =
-    from_empty a d _ e (holds_both a b d _ _ h (holds_both b c d _ _ k t)) q
+slots_taken assigned ps a d e h q =
+    from_empty a d _ e h q
     ∙ (ap (λ xs. fold joins [] (held_by q (xs ++ (flat_map (λ p. captures_in assigned (place_of p)) ps ++ flat_map (λ p. variable_in assigned (place_of p)) ps)))) (flat_map_seen parameter_in ps)
     ∙ (ap (λ xs. fold joins [] (held_by q (flat_map parameter_in (map place_of ps) ++ (xs ++ flat_map (λ p. variable_in assigned (place_of p)) ps)))) (flat_map_seen (captures_in assigned) ps)
     ∙ ap (λ xs. fold joins [] (held_by q (flat_map parameter_in (map place_of ps) ++ (flat_map (captures_in assigned) (map place_of ps) ++ xs)))) (flat_map_seen (variable_in assigned) ps)))

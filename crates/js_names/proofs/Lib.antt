@@ -10,4 +10,5 @@ pub mod Holding
 pub mod Firsts
 pub mod Adding
 pub mod Exprs
+pub mod Spots
 pub mod Stmts

@@ -129,7 +129,6 @@ fn soonest(
 }
 
 /// The places of a program that breaks no rule of names, and what each function holds.
-#[derive(Drop)]
 pub struct Names {
     /// The places in text order.
     pub places: Vec<Seen>,
@@ -137,6 +136,33 @@ pub struct Names {
     pub assigned: IndexSet<u32>,
     /// For each function, and for the top level, the variables in its slots.
     pub slots: IndexMap<u32, IndexSet<u32>>,
+}
+
+// They are let go by one call, written out.
+impl Drop for Names {
+    fn drop(self) {
+        let Names {
+            places: _,
+            assigned: _,
+            slots: _,
+        } = self;
+    }
+}
+
+// The places of a tree, and what each function holds, whether or not a rule is broken.
+fn names_of(alloc: Global, tree: &Tree) -> Result<Names, AllocError>
+    ensures places { IfOk result (λ n. map place_of n.places.items ≡ places (plain_tree tree.now)) }
+    ensures assigned { IfOk result (λ n. n.assigned.keys ≡ assigned_in (places (plain_tree tree.now))) }
+    ensures slots { IfOk result (λ n. (f : _) → held_in n.slots f ≡ slots_of (assigned_in (places (plain_tree tree.now))) f (places (plain_tree tree.now))) }
+{
+    let places = places_of(alloc, tree)?;
+    let assigned = assigned_in(alloc, &places)?;
+    let slots = slots(alloc, &assigned, &places)?;
+    Ok(Names {
+        places,
+        assigned,
+        slots,
+    })
 }
 
 /// The places of a tree, exactly where none breaks a rule of names. Else the fault of the first place that
@@ -148,16 +174,10 @@ pub fn check_names(alloc: Global, tree: &Tree) -> Result<Names, NameFault>
     ensures slots { IfOk result (λ n. (f : _) → held_in n.slots f ≡ slots_of (assigned_in (places (plain_tree tree.now))) f (places (plain_tree tree.now))) }
     ensures refused { IfErr result (λ f. f ≢ NameFault.Memory → name_fault (plain_tree tree.now) ≡ Some f) }
 {
-    let places = places_of(alloc, tree)?;
-    let assigned = assigned_in(alloc, &places)?;
-    let slots = slots(alloc, &assigned, &places)?;
-    let first = soonest(&assigned, &slots, &places)?;
+    let names = names_of(alloc, tree)?;
+    let first = soonest(&names.assigned, &names.slots, &names.places)?;
     match first {
         Some(fault) => Err(fault),
-        None => Ok(Names {
-            places,
-            assigned,
-            slots,
-        }),
+        None => Ok(names),
     }
 }

@@ -1,5 +1,5 @@
 //! The variables that each function holds in its slots.
-ghost use Rattle.std.specs.Prelude.{◌≡◌, ◌∷◌, [], false, IfOk, OnOk, map, length, nat_eq};
+ghost use Rattle.std.specs.Prelude.{◌≡◌, ◌∷◌, [], ◌++◌, false, IfOk, OnOk, map, length, nat_eq};
 ghost use Rattle.std.specs.List.{flat_map};
 ghost use Rattle.indexmap.specs.IndexMap.{get};
 ghost use Rattle.js_names.specs.Slots.{hold, holds_all, copies, inside, holdings, slots_of, captures, captures_in, parameter_in, variable_in, var_in, vars_of};
@@ -174,6 +174,22 @@ fn hold_variables(
     Ok(())
 }
 
+// All that the functions hold, in the order of their slots.
+fn hold_all(
+    alloc: Global,
+    held: &mut IndexMap<u32, IndexSet<u32>>,
+    assigned: &IndexSet<u32>,
+    places: &[Seen],
+) -> Result<(), AllocError>
+    ensures { OnOk result (Holds held.old held.new (flat_map (λ p. parameter_in (place_of p)) places.now
+        ++ (flat_map (λ p. captures_in assigned.now.keys (place_of p)) places.now ++ flat_map (λ p. variable_in assigned.now.keys (place_of p)) places.now))) }
+{
+    hold_parameters(alloc, held, places)?;
+    hold_all_captures(alloc, held, assigned, places)?;
+    hold_variables(alloc, held, assigned, places)?;
+    Ok(())
+}
+
 /// The variables of each function and of the top level, in the order of their slots.
 pub fn slots(
     alloc: Global,
@@ -183,9 +199,7 @@ pub fn slots(
     ensures { IfOk result (λ m. (f : _) → held_in m f ≡ slots_of assigned.now.keys f (map place_of places.now)) }
 {
     let mut held = IndexMap::new(alloc);
-    hold_parameters(alloc, &mut held, places)?;
-    hold_all_captures(alloc, &mut held, assigned, places)?;
-    hold_variables(alloc, &mut held, assigned, places)?;
+    hold_all(alloc, &mut held, assigned, places)?;
     Ok(held)
 }
 

@@ -8,7 +8,6 @@ use std::alloc::Global;
 pub const TOP: u32 = u32::MAX;
 
 /// A block, a `for`, a function or the program: its own names, and the `var` names declared at any depth in it.
-#[derive(Drop)]
 pub struct Scope {
     pub own: IndexMap<String, Declared>,
     pub vars: IndexMap<String, Declared>,
@@ -16,6 +15,18 @@ pub struct Scope {
     pub whole: bool,
     /// The place of the function that it belongs to.
     pub owner: u32,
+}
+
+// It is let go by one call, written out.
+impl Drop for Scope {
+    fn drop(self) {
+        let Scope {
+            own: _,
+            vars: _,
+            whole: _,
+            owner: _,
+        } = self;
+    }
 }
 
 /// A walk over a tree: the scopes around where it is, the innermost last, and the places that it has met.

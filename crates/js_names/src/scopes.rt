@@ -22,33 +22,31 @@ use std::alloc::{AllocError, Global};
 pub fn block_scope(alloc: Global, owner: u32, body: &[Stmt]) -> Result<Scope, AllocError>
     ensures { IfOk result (λ s. scope_of s ≡ block_scope owner (stmts_of (map plain_stmt body.now))) }
 {
-    let mut own = IndexMap::new(alloc);
-    declare_own_stmts(alloc, &mut own, owner, false, body)?;
-    let mut vars = IndexMap::new(alloc);
-    declare_list_vars(alloc, &mut vars, owner, false, body)?;
-    Ok(Scope {
-        own,
-        vars,
+    let mut scope = Scope {
+        own: IndexMap::new(alloc),
+        vars: IndexMap::new(alloc),
         whole: false,
         owner,
-    })
+    };
+    declare_own_stmts(alloc, &mut scope.own, owner, false, body)?;
+    declare_list_vars(alloc, &mut scope.vars, owner, false, body)?;
+    Ok(scope)
 }
 
 /// The scope of a `for` with three parts.
 pub fn for_scope(alloc: Global, owner: u32, start: &Start, body: &Stmt) -> Result<Scope, AllocError>
     ensures { IfOk result (λ s. scope_of s ≡ for_scope owner (plain_start start.now) (plain_stmt body.now)) }
 {
-    let mut own = IndexMap::new(alloc);
-    declare_start_own(alloc, &mut own, owner, start)?;
-    let mut vars = IndexMap::new(alloc);
-    declare_start_vars(alloc, &mut vars, owner, start)?;
-    declare_stmt_vars(alloc, &mut vars, owner, false, body)?;
-    Ok(Scope {
-        own,
-        vars,
+    let mut scope = Scope {
+        own: IndexMap::new(alloc),
+        vars: IndexMap::new(alloc),
         whole: false,
         owner,
-    })
+    };
+    declare_start_own(alloc, &mut scope.own, owner, start)?;
+    declare_start_vars(alloc, &mut scope.vars, owner, start)?;
+    declare_stmt_vars(alloc, &mut scope.vars, owner, false, body)?;
+    Ok(scope)
 }
 
 /// The scope of a `for` over a list.
@@ -70,16 +68,15 @@ pub fn each_scope(
         direct: false,
         given: 0,
     };
-    let mut own = IndexMap::new(alloc);
-    declare_own(alloc, &mut own, name, declared)?;
-    let mut vars = IndexMap::new(alloc);
-    declare_stmt_vars(alloc, &mut vars, owner, false, body)?;
-    Ok(Scope {
-        own,
-        vars,
+    let mut scope = Scope {
+        own: IndexMap::new(alloc),
+        vars: IndexMap::new(alloc),
         whole: false,
         owner,
-    })
+    };
+    declare_own(alloc, &mut scope.own, name, declared)?;
+    declare_stmt_vars(alloc, &mut scope.vars, owner, false, body)?;
+    Ok(scope)
 }
 
 // The place after the last `var` of this name that has a value.
@@ -139,17 +136,16 @@ pub fn function_scope(
 ) -> Result<Scope, AllocError>
     ensures { IfOk result (λ s. scope_of s ≡ function_scope owner names.now (stmts_of (map plain_stmt body.now))) }
 {
-    let mut vars = IndexMap::new(alloc);
-    declare_list_vars(alloc, &mut vars, owner, true, body)?;
-    let mut own = IndexMap::new(alloc);
-    declare_parameters(alloc, &mut own, &vars, owner, names)?;
-    declare_own_stmts(alloc, &mut own, owner, true, body)?;
-    Ok(Scope {
-        own,
-        vars,
+    let mut scope = Scope {
+        own: IndexMap::new(alloc),
+        vars: IndexMap::new(alloc),
         whole: true,
         owner,
-    })
+    };
+    declare_list_vars(alloc, &mut scope.vars, owner, true, body)?;
+    declare_parameters(alloc, &mut scope.own, &scope.vars, owner, names)?;
+    declare_own_stmts(alloc, &mut scope.own, owner, true, body)?;
+    Ok(scope)
 }
 
 // Declares the `let`, `const` or function name of an item of the program.
@@ -222,14 +218,13 @@ fn vars_of_items(
 pub fn program_scope(alloc: Global, tree: &Tree) -> Result<Scope, AllocError>
     ensures { IfOk result (λ s. scope_of s ≡ program_scope (plain_tree tree.now)) }
 {
-    let mut own = IndexMap::new(alloc);
-    own_of_items(alloc, &mut own, &tree.items)?;
-    let mut vars = IndexMap::new(alloc);
-    vars_of_items(alloc, &mut vars, &tree.items)?;
-    Ok(Scope {
-        own,
-        vars,
+    let mut scope = Scope {
+        own: IndexMap::new(alloc),
+        vars: IndexMap::new(alloc),
         whole: true,
         owner: TOP,
-    })
+    };
+    own_of_items(alloc, &mut scope.own, &tree.items)?;
+    vars_of_items(alloc, &mut scope.vars, &tree.items)?;
+    Ok(scope)
 }

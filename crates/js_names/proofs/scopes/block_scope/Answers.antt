@@ -13,7 +13,7 @@ unfolding block_scope
 returns c =
     let o = c.args.owner in
     let ss = c.args.body.now in
-    scope_made c.new-own.result c.declare_own_stmts.new.map c.new-vars.result c.declare_list_vars.new.map (flat_map (own_of_stmt o false) ss) (flat_map (vars_of_stmt o false) ss) false o
-    c.new-own.ensures.empty c.new-vars.ensures.empty c.in_ok-declare_own_stmts.ensures c.in_ok-declare_list_vars.ensures
+    scope_made c.new.result c.declare_own_stmts.new.map c.new-2.result c.declare_list_vars.new.map (flat_map (own_of_stmt o false) ss) (flat_map (vars_of_stmt o false) ss) false o
+    c.new.ensures.empty c.new-2.ensures.empty c.in_ok-declare_own_stmts.ensures c.in_ok-declare_list_vars.ensures
     ∙ sym (ap (λ xs. scope_with xs (vars_of_all o false (stmts_of (map plain_stmt ss))) false o) (own_of_stmts o false ss)
     ∙ ap (λ ys. scope_with (flat_map (own_of_stmt o false) ss) ys false o) (vars_of_stmts o false ss))

@@ -10,7 +10,7 @@ unfolding each_scope
 returns c =
     let o = c.args.owner in
     let n = c.args.name.now in
-    scope_made c.new-own.result c.declare_own.new.map c.new-vars.result c.declare_stmt_vars.new.map (entry n (each_role c.args.kind) n.spot.at o false 0 ∷ []) (vars_of o false (plain_stmt c.args.body.now)) false o
-    c.new-own.ensures.empty c.new-vars.ensures.empty
-    (subst (λ r. TakesOwn c.new-own.result c.declare_own.new.map (entry n r n.spot.at o false 0 ∷ [])) c.each_role-role.ensures c.in_ok-declare_own.ensures)
+    scope_made c.new.result c.declare_own.new.map c.new-2.result c.declare_stmt_vars.new.map (entry n (each_role c.args.kind) n.spot.at o false 0 ∷ []) (vars_of o false (plain_stmt c.args.body.now)) false o
+    c.new.ensures.empty c.new-2.ensures.empty
+    (subst (λ r. TakesOwn c.new.result c.declare_own.new.map (entry n r n.spot.at o false 0 ∷ [])) c.each_role-role.ensures c.in_ok-declare_own.ensures)
     c.in_ok-declare_stmt_vars.ensures

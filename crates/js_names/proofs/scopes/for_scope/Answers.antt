@@ -11,6 +11,6 @@ returns c =
     let o = c.args.owner in
     let b = plain_start c.args.start.now in
     let s = plain_stmt c.args.body.now in
-    scope_made c.new-own.result c.declare_start_own.new.map c.new-vars.result c.declare_stmt_vars.new.map (own_of_start o b) (vars_of_start o b ++ vars_of o false s) false o
-    c.new-own.ensures.empty c.new-vars.ensures.empty c.in_ok-declare_start_own.ensures
-    (vars_both c.new-vars.result c.declare_start_vars.new.map c.declare_stmt_vars.new.map (vars_of_start o b) (vars_of o false s) c.in_ok-declare_start_vars.ensures c.in_ok-declare_stmt_vars.ensures)
+    scope_made c.new.result c.declare_start_own.new.map c.new-2.result c.declare_stmt_vars.new.map (own_of_start o b) (vars_of_start o b ++ vars_of o false s) false o
+    c.new.ensures.empty c.new-2.ensures.empty c.in_ok-declare_start_own.ensures
+    (vars_both c.new-2.result c.declare_start_vars.new.map c.declare_stmt_vars.new.map (vars_of_start o b) (vars_of o false s) c.in_ok-declare_start_vars.ensures c.in_ok-declare_stmt_vars.ensures)

@@ -17,10 +17,10 @@ returns c =
     let vs = flat_map (vars_of_stmt o true) ss in
     let os = flat_map (own_of_stmt o true) ss in
     let vars = c.declare_list_vars.new.map in
-    scope_made c.new-own.result c.declare_own_stmts.new.map c.new-vars.result vars (parameters o (in_map vars) ns ++ os) vs true o
-    c.new-own.ensures.empty c.new-vars.ensures.empty
-    (own_both c.new-own.result c.declare_parameters.new.own c.declare_own_stmts.new.map (parameters o (in_map vars) ns) os c.in_ok-declare_parameters.ensures c.in_ok-declare_own_stmts.ensures)
+    scope_made c.new.result c.declare_own_stmts.new.map c.new-2.result vars (parameters o (in_map vars) ns ++ os) vs true o
+    c.new.ensures.empty c.new-2.ensures.empty
+    (own_both c.new.result c.declare_parameters.new.own c.declare_own_stmts.new.map (parameters o (in_map vars) ns) os c.in_ok-declare_parameters.ensures c.in_ok-declare_own_stmts.ensures)
     c.in_ok-declare_list_vars.ensures
-    ∙ (ap (λ f. scope_with (parameters o f ns ++ os) vs true o) (in_map_is c.new-vars.result vars vs c.new-vars.ensures.empty c.in_ok-declare_list_vars.ensures)
+    ∙ (ap (λ f. scope_with (parameters o f ns ++ os) vs true o) (in_map_is c.new-2.result vars vs c.new-2.ensures.empty c.in_ok-declare_list_vars.ensures)
     ∙ sym (ap (λ xs. scope_with (parameters o (λ q. one_var (named q (vars_of_all o true (stmts_of (map plain_stmt ss))))) ns ++ xs) (vars_of_all o true (stmts_of (map plain_stmt ss))) true o) (own_of_stmts o true ss)
     ∙ ap (λ ys. scope_with (parameters o (λ q. one_var (named q ys)) ns ++ os) ys true o) (vars_of_stmts o true ss)))

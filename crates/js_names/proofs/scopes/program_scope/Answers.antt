@@ -12,8 +12,8 @@ returns c =
     let is = c.args.tree.now.items.items in
     let xs = c.deref.result.now in
     let ys = c.deref-2.result.now in
-    scope_made c.new-own.result c.own_of_items.new.own c.new-vars.result c.vars_of_items.new.vars (flat_map own_of_tree_item xs) (flat_map vars_of_tree_item ys) true top
-    c.new-own.ensures.empty c.new-vars.ensures.empty c.in_ok-own_of_items.ensures c.in_ok-vars_of_items.ensures
+    scope_made c.new.result c.own_of_items.new.own c.new-2.result c.vars_of_items.new.vars (flat_map own_of_tree_item xs) (flat_map vars_of_tree_item ys) true top
+    c.new.ensures.empty c.new-2.ensures.empty c.in_ok-own_of_items.ensures c.in_ok-vars_of_items.ensures
     ∙ (ap (λ z. scope_with (flat_map own_of_tree_item z) (flat_map vars_of_tree_item ys) true top) c.deref.ensures.value
     ∙ (ap (λ z. scope_with (flat_map own_of_tree_item is) (flat_map vars_of_tree_item z) true top) c.deref-2.ensures.value
     ∙ (ap (λ z. scope_with z (flat_map vars_of_tree_item is) true top) (own_of_tree is)
