@@ -19,6 +19,3 @@ pub use next::{Next, Selection};
 pub use runner::{Picked, Runner};
 pub use running::{RunFault, run};
 pub use thread::Thread;
-
-#[cfg(test)]
-mod tests;

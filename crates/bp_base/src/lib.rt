@@ -17,6 +17,3 @@ pub use moving::{ReadError, read_all, write_all};
 pub use outside::{Failed, Memory, Sink, Source, World, WorldError};
 pub use system::{FileSource, FileWorld, StreamSink};
 pub use world::MemoryWorld;
-
-#[cfg(test)]
-mod tests;

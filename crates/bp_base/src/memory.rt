@@ -11,12 +11,23 @@ use std::alloc::Global;
 use std::marker::Model;
 
 /// Bytes in memory, read from their front.
-#[derive(Debug, Drop)]
+#[derive(Debug)]
 pub struct MemorySource {
     bytes: Vec<u8>,
     at: usize,
     calls: Calls,
     faults: u64,
+}
+
+impl Drop for MemorySource {
+    fn drop(self) {
+        let MemorySource {
+            bytes: _,
+            at: _,
+            calls: _,
+            faults: _,
+        } = self;
+    }
 }
 
 impl Model for MemorySource {
@@ -87,12 +98,23 @@ impl Source for MemorySource {
 }
 
 /// Bytes that are written into memory, with room for a number of them.
-#[derive(Debug, Drop)]
+#[derive(Debug)]
 pub struct MemorySink {
     bytes: Vec<u8>,
     room: u64,
     calls: Calls,
     faults: u64,
+}
+
+impl Drop for MemorySink {
+    fn drop(self) {
+        let MemorySink {
+            bytes: _,
+            room: _,
+            calls: _,
+            faults: _,
+        } = self;
+    }
 }
 
 impl Model for MemorySink {

@@ -11,7 +11,7 @@ use std::alloc::Global;
 use std::marker::Model;
 
 /// Bytes under names, in memory.
-#[derive(Debug, Drop)]
+#[derive(Debug)]
 pub struct MemoryWorld {
     alloc: Global,
     room: u64,
@@ -20,6 +20,20 @@ pub struct MemoryWorld {
     asked: Vec<String>,
     calls: Calls,
     read_faults: u64,
+}
+
+impl Drop for MemoryWorld {
+    fn drop(self) {
+        let MemoryWorld {
+            alloc: _,
+            room: _,
+            held: _,
+            failing: _,
+            asked: _,
+            calls: _,
+            read_faults: _,
+        } = self;
+    }
 }
 
 impl Model for MemoryWorld {

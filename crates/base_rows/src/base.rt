@@ -1,43 +1,51 @@
-use crate::*;
+// Sources, sinks and worlds, in memory and of the system.
+use bp_base::{
+    Failed, FileWorld, MemorySink, MemorySource, MemoryWorld, ReadError, Sink, Source, StreamSink,
+    World, WorldError, read_all, write_all,
+};
+use std::alloc::Global;
+use std::process::Abort;
 use std::test::Fail;
 use std::{fs, io};
 
 const NAME: &str = "bp_base_test";
 
+// Five bytes, read to their end within a limit, where a call fails; and how often the source failed.
+fn read_is(
+    rt: &impl Abort,
+    alloc: Global,
+    fails: u64,
+    limit: u64,
+    answer: Result<usize, ReadError>,
+    faults: u64,
+) -> Result<(), Fail> {
+    let mut source = MemorySource::new(b"hello".to_vec(alloc)?, [fails].to_vec(alloc)?);
+    let read = read_all(alloc, &mut source, limit);
+    assert_eq!(rt; read.map(|bytes| bytes.len()), answer);
+    assert_eq!(rt; source.faults(), faults);
+    Ok(())
+}
+
 #[test]
 fn bytes_in_memory_are_read_to_their_end(rt: HostRuntime) -> Result<(), Fail> {
     let alloc = rt.alloc();
-    // The bytes, the calls that fail, the limit, and the answer.
-    for (fails, limit, answer) in [
-        (0, 5, Ok(5)),
-        (0, 4, Err(ReadError::TooLong)),
-        (1, 5, Err(ReadError::Fault)),
-        (2, 5, Err(ReadError::Fault)),
-        (3, 5, Ok(5)),
-    ] {
-        let fails = [fails].to_vec(alloc)?;
-        let mut source = MemorySource::new(b"hello".to_vec(alloc)?, fails);
-        let read = read_all(alloc, &mut source, limit);
-        assert_eq!(rt; read.map(|bytes| bytes.len()), answer);
-        assert_eq!(rt; source.faults(), u64::from(answer == Err(ReadError::Fault)));
-    }
-    Ok(())
+    read_is(&rt, alloc, 0, 5, Ok(5), 0)?;
+    read_is(&rt, alloc, 0, 4, Err(ReadError::TooLong), 0)?;
+    read_is(&rt, alloc, 1, 5, Err(ReadError::Fault), 1)?;
+    read_is(&rt, alloc, 2, 5, Err(ReadError::Fault), 1)?;
+    read_is(&rt, alloc, 3, 5, Ok(5), 0)
 }
 
 #[test]
 fn a_sink_takes_what_it_has_room_for(rt: HostRuntime) -> Result<(), Fail> {
     let alloc = rt.alloc();
     let mut sink = MemorySink::new(alloc, 5, [2].to_vec(alloc)?)?;
-    for (piece, answer) in [
-        ("", Ok(())),
-        ("ab", Ok(())),
-        ("c", Err(Failed)),
-        ("", Ok(())),
-        ("cdef", Err(Failed)),
-        ("cde", Ok(())),
-    ] {
-        assert_eq!(rt; write_all(&mut sink, piece.as_bytes()), answer, "{piece}");
-    }
+    assert_eq!(rt; write_all(&mut sink, b""), Ok(()));
+    assert_eq!(rt; write_all(&mut sink, b"ab"), Ok(()));
+    assert_eq!(rt; write_all(&mut sink, b"c"), Err(Failed));
+    assert_eq!(rt; write_all(&mut sink, b""), Ok(()));
+    assert_eq!(rt; write_all(&mut sink, b"cdef"), Err(Failed));
+    assert_eq!(rt; write_all(&mut sink, b"cde"), Ok(()));
     assert_eq!(rt; sink.written(), b"abcde".as_slice());
     assert_eq!(rt; sink.faults(), 2);
     Ok(())

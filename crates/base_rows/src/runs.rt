@@ -1,5 +1,5 @@
-//! Each public call once, on the script without b-threads.
-use crate::{Picked, RunFault, Runner, line_of, print, run};
+// Runs of straight scripts: each public call once, on the script without b-threads.
+use bp_arbiter::{Picked, RunFault, Runner, line_of, print, run};
 use bp_base::MemorySink;
 use bp_log::{Line, Options, Verdict};
 use js_straight::Script;
