@@ -61,15 +61,24 @@ fn push_joined(alloc: Global, joined: &mut Vec<Value>, value: &Value) -> Result<
     }
 }
 
+// Puts the values of each list at the end, and any other value itself.
+fn push_all_joined(alloc: Global, joined: &mut Vec<Value>, values: &[Value]) -> Result<(), Memory>
+    ensures { OnOk result (map plain_value joined.new.items
+        ≡ map plain_value joined.old.items ++ flat_map joined_values (map plain_value values.now)) }
+{
+    for value in values {
+        push_joined(alloc, joined, value)?;
+    }
+    Ok(())
+}
+
 fn join_all(alloc: Global, items: &[Value], args: &[Value]) -> Result<Value, OpFault>
     ensures { AnswersAs (made_value (list (value_list_of
         (map plain_value items.now ++ flat_map joined_values (map plain_value args.now))))) result }
 {
     let mut joined = Vec::new(alloc);
     push_all(alloc, &mut joined, items)?;
-    for arg in args {
-        push_joined(alloc, &mut joined, arg)?;
-    }
+    push_all_joined(alloc, &mut joined, args)?;
     made(Value::List(joined))
 }
 

@@ -7,7 +7,9 @@ ghost use Rattle.js_ops.specs.Answers.{AnswersAs};
 
 use crate::kind::kind_of;
 use crate::limits::{made, made_whole};
-use crate::numbers::{difference, floor_quotient, product, quotient, remainder, sum};
+use crate::numbers::{
+    added, difference, floor_quotient, opposite, product, quotient, remainder, subtracted, sum,
+};
 use crate::op_fault::{MISTYPED, OpFault};
 use crate::rule::Rule;
 use crate::rules::rule_of;
@@ -19,6 +21,16 @@ macro_rules! of_wholes {
     ($left:expr, $right:expr, |$m:ident, $n:ident| $answer:expr) => {
         match ($left, $right) {
             (Value::Whole($m), Value::Whole($n)) => $answer,
+            _ => Err(MISTYPED),
+        }
+    };
+}
+
+// What is answered for a whole number; all else is the fault `type`.
+macro_rules! of_whole {
+    ($value:expr, |$n:ident| $answer:expr) => {
+        match $value {
+            Value::Whole($n) => $answer,
             _ => Err(MISTYPED),
         }
     };
@@ -115,12 +127,11 @@ fn of_one(op: Unary, v: &Value) -> Result<Value, OpFault>
     ensures answer { AnswersAs (unary_of op (plain_value v.now)) result }
     ensures memory { result ≢ Err OpFault.Memory }
 {
-    match (op, v) {
-        (Unary::Not, _) => Ok(Value::Truth(!truthy(v))),
-        (Unary::Minus, Value::Whole(n)) => made_whole(-n.get()),
-        (Unary::Plus, Value::Whole(n)) => made_whole(n.get()),
-        (Unary::Increment, Value::Whole(n)) => made_whole(n.get() + 1),
-        (Unary::Decrement, Value::Whole(n)) => made_whole(n.get() - 1),
-        _ => Err(MISTYPED),
+    match op {
+        Unary::Not => Ok(Value::Truth(!truthy(v))),
+        Unary::Minus => of_whole!(v, |n| made_whole(opposite(n.get()))),
+        Unary::Plus => of_whole!(v, |n| made_whole(n.get())),
+        Unary::Increment => of_whole!(v, |n| made_whole(added(n.get(), 1))),
+        Unary::Decrement => of_whole!(v, |n| made_whole(subtracted(n.get(), 1))),
     }
 }
