@@ -20,10 +20,10 @@ pub fn put_node(emitter: &mut Emitter, line: u32, form: NodeForm) -> Result<u32,
     ensures { IfOk result (λ n. Puts emitter.old emitter.new line form n) }
 {
     let number = emitter.nodes.len();
+    emitter.nodes.push(Node { line, form })?;
     if number > u32::MAX as usize {
         return Err(AllocError);
     }
-    emitter.nodes.push(Node { line, form })?;
     Ok(number as u32)
 }
 

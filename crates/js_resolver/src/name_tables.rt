@@ -17,7 +17,6 @@ use std::alloc::{AllocError, Global};
 use std::marker::Model;
 
 /// The constants and the variables of a program.
-#[derive(Drop)]
 pub struct Meanings {
     /// The constants, in the order of their numbers.
     pub constants: IndexSet<u32>,
@@ -25,13 +24,32 @@ pub struct Meanings {
     pub variables: IndexMap<u32, Variable>,
 }
 
+// They are let go by one call, written out.
+impl Drop for Meanings {
+    fn drop(self) {
+        let Meanings {
+            constants: _,
+            variables: _,
+        } = self;
+    }
+}
+
 /// The functions of a program.
-#[derive(Drop)]
 pub struct Functions {
     /// The functions, in the order of their numbers.
     pub codes: IndexSet<u32>,
     /// The function around each function.
     pub around: IndexMap<u32, u32>,
+}
+
+// They are let go by one call, written out.
+impl Drop for Functions {
+    fn drop(self) {
+        let Functions {
+            codes: _,
+            around: _,
+        } = self;
+    }
 }
 
 /// What functions copy, and what is undefined as they begin.
@@ -44,14 +62,24 @@ pub struct Holdings {
 }
 
 /// The places of a program, with tables of what stands there. Contracts see the places.
-#[derive(Drop)]
 pub struct NameTables {
-    places: Vec<Seen>,
+    /// The places, and the variables of each function in the order of their slots.
+    names: Names,
     meanings: Meanings,
     functions: Functions,
-    /// The variables of each function, in the order of their slots.
-    slots: IndexMap<u32, IndexSet<u32>>,
     holdings: Holdings,
+}
+
+// They are let go by one call, written out.
+impl Drop for NameTables {
+    fn drop(self) {
+        let NameTables {
+            names: _,
+            meanings: _,
+            functions: _,
+            holdings: _,
+        } = self;
+    }
 }
 
 impl Model for NameTables {
@@ -62,9 +90,18 @@ impl Model for NameTables {
 
     ghost Value = { List Place };
 
-    ghost view = { λ t. map place_of t.places.items };
+    ghost view = { λ t. map place_of t.names.places.items };
 
-    ghost invariant = { λ t. StandsFor t.meanings.variables t.meanings.constants.keys t.functions.codes.keys t.functions.around t.slots t.holdings.captured t.holdings.vars (map place_of t.places.items) };
+    ghost invariant = { λ t. StandsFor t.meanings.variables t.meanings.constants.keys t.functions.codes.keys t.functions.around t.names.slots t.holdings.captured t.holdings.vars (map place_of t.names.places.items) };
+}
+
+// What a call of a function has room for.
+#[derive(Drop)]
+struct Room {
+    parameters: u32,
+    slots: u32,
+    captures: Vec<u32>,
+    vars: Vec<u32>,
 }
 
 // A number of 32 bits; a greater one is more than memory holds.
@@ -126,19 +163,13 @@ impl NameTables {
         requires slots { (f : _) → held_in names.slots f ≡ slots_of (assigned_in (map place_of names.places.items)) f (map place_of names.places.items) }
         ensures { IfOk result (λ t. t ≡ map place_of names.places.items) }
     {
-        let Names {
-            places,
-            assigned,
-            slots,
-        } = names;
-        let meanings = meanings_of(alloc, &assigned, &slots, &places)?;
-        let functions = functions_of(alloc, &places)?;
-        let holdings = holdings_of(alloc, &assigned, &places)?;
+        let meanings = meanings_of(alloc, &names.assigned, &names.slots, &names.places)?;
+        let functions = functions_of(alloc, &names.places)?;
+        let holdings = holdings_of(alloc, &names.assigned, &names.places)?;
         Ok(NameTables {
-            places,
+            names,
             meanings,
             functions,
-            slots,
             holdings,
         })
     }
@@ -172,14 +203,14 @@ impl NameTables {
     pub fn places(&self) -> &[Seen]
         ensures { map place_of result.now ≡ self.now }
     {
-        &self.places
+        &self.names.places
     }
 
     /// The line of the first token of the program. Takes no memory.
     pub fn line(&self) -> u32
         ensures { result ≡ first_line self.now }
     {
-        match self.places.first() {
+        match self.names.places.first() {
             Some(place) => place.name.spot.line,
             None => 1,
         }
@@ -201,7 +232,7 @@ impl NameTables {
     {
         let around = self.outer(function);
         match self.holdings.captured.get(&function) {
-            Some(variables) => slots_among(alloc, &self.slots, around, variables.as_slice()),
+            Some(variables) => slots_among(alloc, &self.names.slots, around, variables.as_slice()),
             None => Ok(Vec::new(alloc)),
         }
     }
@@ -211,7 +242,12 @@ impl NameTables {
         ensures { IfOk result (λ v. v.items ≡ var_slots self.now function) }
     {
         match self.holdings.vars.get(&function) {
-            Some(variables) => slots_among(alloc, &self.slots, function, variables.as_slice()),
+            Some(variables) => slots_among(
+                alloc,
+                &self.names.slots,
+                function,
+                variables.as_slice(),
+            ),
             None => Ok(Vec::new(alloc)),
         }
     }
@@ -220,7 +256,26 @@ impl NameTables {
     fn slot_total(&self, function: u32) -> usize
         ensures { result ≡ length (slots_of (assigned_in self.now) function self.now) }
     {
-        slot_count(&self.slots, function)
+        slot_count(&self.names.slots, function)
+    }
+
+    // What a call of a function has room for.
+    fn room(&self, alloc: Global, function: u32, parameters: usize) -> Result<Room, AllocError>
+        ensures parameters { IfOk result (λ r. r.parameters ≡ parameters) }
+        ensures slots { IfOk result (λ r. r.slots ≡ length (slots_of (assigned_in self.now) function self.now)) }
+        ensures captures { IfOk result (λ r. r.captures.items ≡ capture_slots self.now function) }
+        ensures vars { IfOk result (λ r. r.vars.items ≡ var_slots self.now function) }
+    {
+        let parameters = counted(parameters)?;
+        let slots = counted(self.slot_total(function))?;
+        let captures = self.capture_slots(alloc, function)?;
+        let vars = self.var_slots(alloc, function)?;
+        Ok(Room {
+            parameters,
+            slots,
+            captures,
+            vars,
+        })
     }
 
     /// The function that begins at a place of the text, with what a call of it runs.
@@ -234,15 +289,12 @@ impl NameTables {
     ) -> Result<Body, AllocError>
         ensures { IfOk result (λ b. plain_body b ≡ body_of self.now function parameters (plain_content content) line) }
     {
-        let parameters = counted(parameters)?;
-        let slots = counted(self.slot_total(function))?;
-        let captures = self.capture_slots(alloc, function)?;
-        let vars = self.var_slots(alloc, function)?;
+        let room = self.room(alloc, function, parameters)?;
         Ok(Body {
-            parameters,
-            slots,
-            captures,
-            vars,
+            parameters: room.parameters,
+            slots: room.slots,
+            captures: room.captures,
+            vars: room.vars,
             content,
             line,
         })

@@ -1,13 +1,20 @@
 //! From a tree to its program.
-ghost use Rattle.std.specs.Prelude.{◌≡◌, ◌≢◌, Some, IfOk, IfErr, map};
+ghost use Rattle.std.specs.Prelude.{◌≡◌, ◌≢◌, Some, IfOk, IfErr, OnOk, map};
 ghost use Rattle.js_tree.specs.Views.{plain_item, plain_tree};
+ghost use Rattle.js_program.specs.PlainProgram.{statements};
 ghost use Rattle.js_program.specs.Sound.{IsSound};
+ghost use Rattle.js_program.specs.Views.{plain_body};
+ghost use Rattle.js_names.specs.Scopes.{top};
 ghost use Rattle.js_names.specs.Rules.{name_fault};
 ghost use Rattle.js_names.specs.Slots.{assigned_in, slots_of};
 ghost use Rattle.js_names.specs.Views.{held_in, place_of};
+ghost use Rattle.js_resolver.specs.Emits.{Adds, count};
+ghost use Rattle.js_resolver.specs.Nodes.{items_piece};
 ghost use Rattle.js_resolver.specs.Parts.{parts_from, plain_parts};
 ghost use Rattle.js_resolver.specs.Resolved.{resolved};
 ghost use Rattle.js_resolver.specs.Spelled.{IsSpelled};
+ghost use Rattle.js_resolver.specs.Tables.{first_line};
+ghost use Rattle.js_resolver.specs.Variables.{body_of};
 
 use crate::constants::constant_starts;
 use crate::emit::emit_items;
@@ -27,18 +34,28 @@ struct Parts {
     top: Body,
 }
 
+// The nodes and functions of these items, and what the top level runs.
+fn emit_top(tables: &NameTables, emitter: &mut Emitter, items: &[Item]) -> Result<Body, AllocError>
+    ensures emitted { OnOk result (Adds emitter.old emitter.new (items_piece tables.now (count emitter.old) (map plain_item items.now))) }
+    ensures body { IfOk result (λ b. plain_body b ≡ body_of tables.now top 0 (statements (items_piece tables.now (count emitter.old) (map plain_item items.now)).parts) (first_line tables.now)) }
+{
+    let numbers = emit_items(tables, emitter, items)?;
+    let alloc = emitter.alloc;
+    let top = tables.body(alloc, TOP, 0, Content::Statements(numbers), tables.line())?;
+    Ok(top)
+}
+
 // The parts of the program that these items are, from the tables of its names.
 fn parts_of(alloc: Global, tables: &NameTables, items: &[Item]) -> Result<Parts, AllocError>
     ensures { IfOk result (λ p. plain_parts p ≡ parts_from (map plain_item items.now) tables.now) }
 {
+    let constants = constant_starts(alloc, tables, items)?;
     let mut emitter = Emitter {
         alloc,
         nodes: Vec::new(alloc),
         functions: Vec::new(alloc),
     };
-    let numbers = emit_items(tables, &mut emitter, items)?;
-    let constants = constant_starts(alloc, tables, items)?;
-    let top = tables.body(alloc, TOP, 0, Content::Statements(numbers), tables.line())?;
+    let top = emit_top(tables, &mut emitter, items)?;
     let Emitter {
         nodes,
         functions,

@@ -1,9 +1,8 @@
-use Rattle.std.proofs.Common.{◌∙◌}
 use Rattle.js_program.specs.Views.{plain_content}
 use Rattle.js_resolver.proofs.Bodies.{body_made}
 use Rattle.js_resolver.proofs.name_tables.NameTables.body.Goals as goal
 
 pub returns : goal.returns
 returns c =
-    body_made c.args.self.now c.args.function c.args.parameters c.in_ok-parameters.parameters c.in_ok-slots.slots c.in_ok-captures.captures.items c.in_ok-vars.vars.items (plain_content c.args.content) c.args.line c.in_ok-parameters.ensures
-    (c.in_ok-slots.ensures ∙ c.slot_total.ensures) c.in_ok-captures.ensures c.in_ok-vars.ensures
+    let r = c.in_ok-room.room in
+    body_made c.args.self.now c.args.function c.args.parameters r.parameters r.slots r.captures.items r.vars.items (plain_content c.args.content) c.args.line c.in_ok-room.ensures.parameters c.in_ok-room.ensures.slots c.in_ok-room.ensures.captures c.in_ok-room.ensures.vars
