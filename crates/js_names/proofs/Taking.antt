@@ -19,13 +19,13 @@ use Rattle.js_names.specs.declared.place.Declared.{Declared}
 use Rattle.js_tree.specs.declared.tree.Declarator.{Declarator}
 use Rattle.js_tree.specs.declared.tree.DeclareKind.{DeclareKind}
 use Rattle.js_tree.specs.declared.tree.Stmt.{Stmt}
-use Rattle.js_tree.specs.declared.tree.StmtForm.{StmtForm, Declaration, Block, IfElse, For}
+use Rattle.js_tree.specs.declared.tree.StmtForm.{StmtForm, Declaration, Block, IfElse, For, If, While, ForOf}
 use Rattle.std.specs.Prelude.{Vec, Result, Ok, Err, OnOk}
 use Rattle.js_tree.specs.Plain.{declarators_of, stmts_of}
 use Rattle.js_tree.specs.Views.{plain_declarator, plain_stmt, plain_start}
 use Rattle.js_names.specs.Scopes.{Entry, first, named, one_var, merge, parameter, parameters, own_declarators, var_declarators, own_of, own_of_all, vars_of, vars_of_all, own_of_start, vars_of_start}
 use Rattle.js_names.specs.Places.{or_else}
-use Rattle.js_names.proofs.Trees.{with_form, declaration_is, block_is, if_else_is, for_is, start_is}
+use Rattle.js_names.proofs.Trees.{with_form, declaration_is, block_is, if_else_is, for_is, start_is, if_is, while_is, for_of_is}
 use Rattle.js_tree.specs.declared.tree.Expr.{Expr}
 use Rattle.js_tree.specs.declared.tree.Start.{Start, Declares}
 use Rattle.std.specs.declared.boxed.Box.{Box}
@@ -201,6 +201,18 @@ pub vars_of_for : (owner : ℕ) (direct : Bool) (s : Stmt) (head : Start) (test 
 vars_of_for owner direct s head test next b x e h =
     ap (λ z. vars_of_start owner (plain_start head) ++ vars_of_stmt owner false z) h
     ∙ sym (ap (vars_of owner direct) (with_form s (For head test next b) _ e (for_is head test next b)))
+
+-- a statement that is the only part of another
+pub vars_of_if : (owner : ℕ) (direct : Bool) (s : Stmt) (test : Expr) (b : Box Stmt Global) (x : Stmt) → s.form ≡ If test b → x ≡ b.value → vars_of_stmt owner false x ≡ vars_of_stmt owner direct s
+vars_of_if owner direct s test b x e h = ap (vars_of_stmt owner false) h ∙ sym (ap (vars_of owner direct) (with_form s (If test b) _ e (if_is test b)))
+
+pub vars_of_while : (owner : ℕ) (direct : Bool) (s : Stmt) (test : Expr) (b : Box Stmt Global) (x : Stmt) → s.form ≡ While test b → x ≡ b.value → vars_of_stmt owner false x ≡ vars_of_stmt owner direct s
+vars_of_while owner direct s test b x e h = ap (vars_of_stmt owner false) h ∙ sym (ap (vars_of owner direct) (with_form s (While test b) _ e (while_is test b)))
+
+pub vars_of_each : (owner : ℕ) (direct : Bool) (s : Stmt) (kind : DeclareKind) (name : Name) (list : Expr) (b : Box Stmt Global) (x : Stmt) → s.form ≡ ForOf kind name list b → x ≡ b.value
+    → vars_of_stmt owner false x ≡ vars_of_stmt owner direct s
+vars_of_each owner direct s kind name list b x e h =
+    ap (vars_of_stmt owner false) h ∙ sym (ap (vars_of owner direct) (with_form s (ForOf kind name list b) _ e (for_of_is kind name list b)))
 
 -- two steps, the second of which is the answer
 pub vars_on_ok_both : {A E : Type 0} (r : Result A E) (a b c : Names) (xs ys zs : List Entry) → xs ++ ys ≡ zs → TakesVars a b xs → OnOk r (TakesVars b c ys) → OnOk r (TakesVars a c zs)

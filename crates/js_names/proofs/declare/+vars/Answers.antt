@@ -1,6 +1,6 @@
 use Rattle.std.proofs.Common.{arith}
 use Rattle.js_names.specs.Views.{vars_of_stmt}
-use Rattle.js_names.proofs.Taking.{vars_more, vars_on_ok, vars_on_ok_both, vars_of_block, vars_of_declaration, vars_of_if_else, vars_of_for}
+use Rattle.js_names.proofs.Taking.{vars_more, vars_on_ok, vars_on_ok_both, vars_of_block, vars_of_declaration, vars_of_if, vars_of_if_else, vars_of_while, vars_of_for, vars_of_each}
 use Rattle.js_names.proofs.declare.+vars.Goals as goal
 
 pub declare_list_vars-loop-stmt-preserved : goal.declare_list_vars-loop-stmt-preserved
@@ -35,3 +35,21 @@ declare_stmt_vars-returns-in_ok-declare_start_vars-in-For t c =
     (vars_of_for c.args.owner c.args.direct c.args.stmt.now c.in-For.start c.in-For.field-1 c.in-For.field-2 c.in-For.body c.deref-in-For.result.now
     c.in-For.is c.deref-in-For.ensures)
     c.in_ok-declare_start_vars-in-For.ensures c.declare_stmt_vars-in-For.ensures
+
+pub declare_stmt_vars-returns-in-If : goal.declare_stmt_vars-returns-in-If
+declare_stmt_vars-returns-in-If t c =
+    vars_on_ok c.declare_stmt_vars.result c.args.map.now c.declare_stmt_vars.new.map _ _
+    (vars_of_if c.args.owner c.args.direct c.args.stmt.now c.in-If.field-0 c.in-If.body c.deref-in-If.result.now c.in-If.is c.deref-in-If.ensures)
+    c.declare_stmt_vars.ensures
+
+pub declare_stmt_vars-returns-in-While : goal.declare_stmt_vars-returns-in-While
+declare_stmt_vars-returns-in-While t c =
+    vars_on_ok c.declare_stmt_vars-in-While.result c.args.map.now c.declare_stmt_vars-in-While.new.map _ _
+    (vars_of_while c.args.owner c.args.direct c.args.stmt.now c.in-While.field-0 c.in-While.body c.deref-in-While.result.now c.in-While.is c.deref-in-While.ensures)
+    c.declare_stmt_vars-in-While.ensures
+
+pub declare_stmt_vars-returns-in-ForOf : goal.declare_stmt_vars-returns-in-ForOf
+declare_stmt_vars-returns-in-ForOf t c =
+    vars_on_ok c.declare_stmt_vars-in-ForOf.result c.args.map.now c.declare_stmt_vars-in-ForOf.new.map _ _
+    (vars_of_each c.args.owner c.args.direct c.args.stmt.now c.in-ForOf.field-0 c.in-ForOf.field-1 c.in-ForOf.field-2 c.in-ForOf.body c.deref-in-ForOf.result.now c.in-ForOf.is c.deref-in-ForOf.ensures)
+    c.declare_stmt_vars-in-ForOf.ensures
