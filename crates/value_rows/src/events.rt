@@ -1,8 +1,8 @@
 //! Texts of events, both ways; copies of events, and texts in quotes.
+use crate::lines::{Lines, agree};
 use js_value::{Data, Event, EventError, Text, Whole, copy_data, event_of, event_text, quoted};
 use percent_encoding::percent_decode;
 use std::alloc::Global;
-use std::process::Abort;
 use std::test::Fail;
 
 fn text(alloc: Global, s: &str) -> Result<Text, Fail> {
@@ -12,7 +12,7 @@ fn text(alloc: Global, s: &str) -> Result<Text, Fail> {
 // The bytes of a cell, some of them as `%` and two digits.
 fn bytes_of(alloc: Global, cell: &str) -> Result<Vec<u8>, Fail> {
     let mut bytes = Vec::new(alloc);
-    percent_decode(cell.trim().as_bytes()).append_to(&mut bytes)?;
+    percent_decode(cell.as_bytes()).append_to(&mut bytes)?;
     Ok(bytes)
 }
 
@@ -77,55 +77,90 @@ null --> no event
 ["%ff"] --> no event
 "#;
 
-// A line has the bytes of a text, the mark `-->`, and the text of the event that is read from them, or that there is
-// none; read again, that text gives itself.
-fn agree(rt: &impl Abort, alloc: Global, table: &str) -> Result<(), Fail> {
-    for line in table.trim().lines() {
-        let (left, right) = line.split_once("-->").ok_or("no answer")?;
-        let want = bytes_of(alloc, right)?;
-        let found = shown(alloc, bytes_of(alloc, left)?.as_slice())?;
-        assert!(rt; found.as_str().as_bytes() == want.as_slice(), "{line}");
-        let again = shown(alloc, want.as_slice())?;
-        assert!(rt; again.as_str().as_bytes() == want.as_slice(), "{line}");
-    }
-    Ok(())
+// Whether the text of the event that is read from the bytes is what is wanted.
+fn reads_as(alloc: Global, bytes: &[u8], want: &[u8]) -> Result<bool, Fail> {
+    Ok(shown(alloc, bytes)?.as_str().as_bytes() == want)
+}
+
+fn cell_reads_as(alloc: Global, cell: &str, want: &[u8]) -> Result<bool, Fail> {
+    reads_as(alloc, bytes_of(alloc, cell)?.as_slice(), want)
+}
+
+/// Whether the bytes of the cell are the text of the event whose own text is wanted, or of none where `no event` is
+/// wanted; read again, what is wanted gives itself.
+pub fn agrees(alloc: Global, cell: &str, want: &str) -> Result<bool, Fail> {
+    let text = bytes_of(alloc, want)?;
+    Ok(
+        cell_reads_as(alloc, cell, text.as_slice())?
+            && reads_as(alloc, text.as_slice(), text.as_slice())?,
+    )
 }
 
 #[test]
 fn texts_read_as_events(rt: HostRuntime) -> Result<(), Fail> {
-    agree(&rt, rt.alloc(), READ)?;
-    agree(&rt, rt.alloc(), REFUSED)
+    agree(&rt, rt.alloc(), Lines::Events, READ)?;
+    agree(&rt, rt.alloc(), Lines::Events, REFUSED)
 }
 
-// Whether a text is that of an event: the head, so many times the front, so many times the back, and the end.
-fn is_event(alloc: Global, parts: [&str; 4], times: u32) -> Result<bool, Fail> {
-    let [head, front, back, end] = parts;
-    let mut line = String::from_str(alloc, head)?;
+fn push_times(line: &mut String, part: &str, times: u32) -> Result<(), Fail> {
     for _ in 0..times {
-        line.push_str(front)?;
+        line.push_str(part)?;
     }
-    for _ in 0..times {
-        line.push_str(back)?;
-    }
-    line.push_str(end)?;
-    match event_of(alloc, line.as_bytes()) {
-        Ok(_) => Ok(true),
-        Err(EventError::NotEvent) => Ok(false),
-        Err(EventError::Memory) => Err("memory")?,
+    Ok(())
+}
+
+// The text of an event whose data are so many lists, one in another.
+fn lists(alloc: Global, times: u32) -> Result<String, Fail> {
+    let mut line = String::from_str(alloc, "[\"x\",")?;
+    push_times(&mut line, "[", times)?;
+    push_times(&mut line, "]", times)?;
+    line.push_str("]")?;
+    Ok(line)
+}
+
+// The text of an event whose name has so many letters.
+fn letters(alloc: Global, times: u32) -> Result<String, Fail> {
+    let mut line = String::from_str(alloc, "[\"")?;
+    push_times(&mut line, "a", times)?;
+    line.push_str("\"]")?;
+    Ok(line)
+}
+
+fn sized(alloc: Global, cell: &str) -> Result<String, Fail> {
+    let (count, name) = cell.split_once(" ").ok_or("no count")?;
+    match name {
+        "lists" => lists(alloc, count.parse::<u32>()?),
+        "letters" => letters(alloc, count.parse::<u32>()?),
+        _ => Err("no text has this name")?,
     }
 }
+
+fn outcome(alloc: Global, line: &str) -> &'static str {
+    match event_of(alloc, line.as_bytes()) {
+        Ok(_) => "event",
+        Err(EventError::NotEvent) => "no event",
+        Err(EventError::Memory) => "memory",
+    }
+}
+
+/// Whether the text of this size has this outcome.
+pub fn has_outcome(alloc: Global, cell: &str, want: &str) -> Result<bool, Fail> {
+    Ok(outcome(alloc, sized(alloc, cell)?.as_str()) == want)
+}
+
+// How deep lists may nest in the data of an event, and how long its name may be.
+const LIMITS: &str = "
+1 lists --> event
+63 lists --> event
+64 lists --> no event
+200 lists --> no event
+1022 letters --> event
+1023 letters --> no event
+";
 
 #[test]
 fn events_stay_within_their_limits(rt: HostRuntime) -> Result<(), Fail> {
-    let lists = ["[\"x\",", "[", "]", "]"];
-    assert!(rt; is_event(rt.alloc(), lists, 1)?);
-    assert!(rt; is_event(rt.alloc(), lists, 63)?);
-    assert!(rt; !is_event(rt.alloc(), lists, 64)?);
-    assert!(rt; !is_event(rt.alloc(), lists, 200)?);
-    let letters = ["[\"", "a", "", "\"]"];
-    assert!(rt; is_event(rt.alloc(), letters, 1022)?);
-    assert!(rt; !is_event(rt.alloc(), letters, 1023)?);
-    Ok(())
+    agree(&rt, rt.alloc(), Lines::Limits, LIMITS)
 }
 
 fn event(alloc: Global, name: &str, number: i64) -> Result<Event, Fail> {
@@ -138,27 +173,42 @@ fn copies_as_five(alloc: Global, made: &Event, name: &str) -> Result<bool, Fail>
     Ok(made.copy()?.same(&event(alloc, name, 5)?))
 }
 
-fn copied_number(event: &Event) -> Result<i64, Fail> {
-    match copy_data(event.data().ok_or("no data")?)? {
-        Data::Whole(found) => Ok(found.get()),
-        _ => Err("no number")?,
+// Whether the copy of the event `go` with the number is the event of this name with the number 5.
+fn copies(alloc: Global, number: i64, name: &str) -> Result<bool, Fail> {
+    copies_as_five(alloc, &event(alloc, "go", number)?, name)
+}
+
+fn number_in(tree: &Data) -> Option<i64> {
+    match tree {
+        Data::Whole(number) => Some(number.get()),
+        _ => None,
     }
+}
+
+fn copied_number(event: &Event) -> Result<Option<i64>, Fail> {
+    Ok(number_in(&copy_data(event.data().ok_or("no data")?)?))
+}
+
+// Whether the copy of the data of an event with the number is the number.
+fn copies_number(alloc: Global, number: i64) -> Result<bool, Fail> {
+    Ok(copied_number(&event(alloc, "go", number)?)? == Some(number))
 }
 
 #[test]
 fn copies_are_the_same(rt: HostRuntime) -> Result<(), Fail> {
-    let five = event(rt.alloc(), "go", 5)?;
-    assert!(rt; copies_as_five(rt.alloc(), &five, "go")?);
-    assert!(rt; !copies_as_five(rt.alloc(), &five, "no")?);
-    let less = event(rt.alloc(), "go", -7)?;
-    assert!(rt; !copies_as_five(rt.alloc(), &less, "go")?);
-    assert_eq!(rt; copied_number(&less)?, -7);
+    assert!(rt; copies(rt.alloc(), 5, "go")?);
+    assert!(rt; !copies(rt.alloc(), 5, "no")?);
+    assert!(rt; !copies(rt.alloc(), -7, "go")?);
+    assert!(rt; copies_number(rt.alloc(), -7)?);
     Ok(())
+}
+
+fn is_quoted(alloc: Global, name: &str, want: &str) -> Result<bool, Fail> {
+    Ok(quoted(alloc, &text(alloc, name)?)?.as_str() == want)
 }
 
 #[test]
 fn names_are_quoted(rt: HostRuntime) -> Result<(), Fail> {
-    let found = quoted(rt.alloc(), &text(rt.alloc(), "a\"\\\u{b}/é")?)?;
-    assert_eq!(rt; found.as_str(), r#""a\"\\\u000b/é""#);
+    assert!(rt; is_quoted(rt.alloc(), "a\"\\\u{b}/é", r#""a\"\\\u000b/é""#)?);
     Ok(())
 }

@@ -4,4 +4,6 @@
 #[cfg(test)]
 mod events;
 #[cfg(test)]
+mod lines;
+#[cfg(test)]
 mod values;

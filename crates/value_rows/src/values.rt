@@ -1,9 +1,11 @@
 //! Weights, nestings, truth and texts of values and sets, and the names of faults.
+use crate::lines::{Lines, agree};
 use js_value::{
     Event, Fault, SetTree, Text, Value, Whole, copy, copy_set, nesting, nesting_of_set, text_of,
     truthy, weight, weight_of_set,
 };
 use std::alloc::Global;
+use std::process::Abort;
 use std::test::Fail;
 
 fn text(alloc: Global, s: &str) -> Result<Text, Fail> {
@@ -20,6 +22,10 @@ fn whole(n: i64) -> Result<Value, Fail> {
 
 fn go(alloc: Global) -> Result<Event, Fail> {
     Ok(Event::new(text(alloc, "go")?, None)?)
+}
+
+fn event(alloc: Global) -> Result<Value, Fail> {
+    Ok(Value::Event(go(alloc)?))
 }
 
 // `[1,{"key":go}]`
@@ -46,7 +52,7 @@ fn value_named(alloc: Global, name: &str) -> Result<Value, Fail> {
         "text of two bytes" => words(alloc, "é"),
         "empty list" => Ok(Value::List(Vec::new(alloc))),
         "list of fields" => list_of_fields(alloc),
-        "event" => Ok(Value::Event(go(alloc)?)),
+        "event" => event(alloc),
         "set" => Ok(Value::Set(SetTree::All)),
         "function" => function(alloc),
         _ => Err("no value has this name")?,
@@ -79,18 +85,23 @@ set --> 1 1 true
 function --> 5 2 true
 "#;
 
+fn is_shown(alloc: Global, value: &Value, want: &str) -> Result<bool, Fail> {
+    Ok(shown(alloc, value)?.as_str() == want)
+}
+
+fn copy_is_shown(alloc: Global, value: &Value, want: &str) -> Result<bool, Fail> {
+    is_shown(alloc, &copy(alloc, value)?, want)
+}
+
+/// Whether the value of this name and its copy are shown as wanted.
+pub fn value_agrees(alloc: Global, name: &str, want: &str) -> Result<bool, Fail> {
+    let value = value_named(alloc, name)?;
+    Ok(is_shown(alloc, &value, want)? && copy_is_shown(alloc, &value, want)?)
+}
+
 #[test]
 fn values_and_their_copies(rt: HostRuntime) -> Result<(), Fail> {
-    let alloc = rt.alloc();
-    for line in VALUES.trim().lines() {
-        let (name, want) = line.split_once(" --> ").ok_or("no sizes")?;
-        let value = value_named(alloc, name)?;
-        let found = shown(alloc, &value)?;
-        assert_eq!(rt; found.as_str(), want, "{name}");
-        let copied = shown(alloc, &copy(alloc, &value)?)?;
-        assert_eq!(rt; copied.as_str(), want, "the copy of {name}");
-    }
-    Ok(())
+    agree(&rt, rt.alloc(), Lines::Values, VALUES)
 }
 
 fn predicate(alloc: Global) -> Result<SetTree, Fail> {
@@ -136,32 +147,41 @@ an event or none --> 6 3
 an event and not all --> 7 3
 ";
 
+fn set_is_shown(alloc: Global, set: &SetTree, want: &str) -> Result<bool, Fail> {
+    Ok(shown_set(alloc, set)?.as_str() == want)
+}
+
+fn set_copy_is_shown(alloc: Global, set: &SetTree, want: &str) -> Result<bool, Fail> {
+    set_is_shown(alloc, &copy_set(alloc, set)?, want)
+}
+
+/// Whether the set of this name and its copy are shown as wanted.
+pub fn set_agrees(alloc: Global, name: &str, want: &str) -> Result<bool, Fail> {
+    let set = set_named(alloc, name)?;
+    Ok(set_is_shown(alloc, &set, want)? && set_copy_is_shown(alloc, &set, want)?)
+}
+
 #[test]
 fn sets_and_their_copies(rt: HostRuntime) -> Result<(), Fail> {
-    let alloc = rt.alloc();
-    for line in SETS.trim().lines() {
-        let (name, want) = line.split_once(" --> ").ok_or("no sizes")?;
-        let set = set_named(alloc, name)?;
-        let found = shown_set(alloc, &set)?;
-        assert_eq!(rt; found.as_str(), want, "{name}");
-        let copied = shown_set(alloc, &copy_set(alloc, &set)?)?;
-        assert_eq!(rt; copied.as_str(), want, "the copy of {name}");
-    }
-    Ok(())
+    agree(&rt, rt.alloc(), Lines::Sets, SETS)
+}
+
+fn is_named(rt: &impl Abort, fault: Fault, name: &str) {
+    assert_eq!(rt; fault.name(), name);
 }
 
 #[test]
 fn faults_have_names(rt: HostRuntime) {
-    assert_eq!(rt; Fault::Whole.name(), "whole");
-    assert_eq!(rt; Fault::Fraction.name(), "fraction");
-    assert_eq!(rt; Fault::Zero.name(), "zero");
-    assert_eq!(rt; Fault::Mistyped.name(), "type");
-    assert_eq!(rt; Fault::Early.name(), "early");
-    assert_eq!(rt; Fault::Index.name(), "index");
-    assert_eq!(rt; Fault::Weight.name(), "weight");
-    assert_eq!(rt; Fault::Nesting.name(), "nesting");
-    assert_eq!(rt; Fault::Depth.name(), "depth");
-    assert_eq!(rt; Fault::Mode.name(), "mode");
-    assert_eq!(rt; Fault::Statement.name(), "statement");
-    assert_eq!(rt; Fault::Truth.name(), "truth");
+    is_named(&rt, Fault::Whole, "whole");
+    is_named(&rt, Fault::Fraction, "fraction");
+    is_named(&rt, Fault::Zero, "zero");
+    is_named(&rt, Fault::Mistyped, "type");
+    is_named(&rt, Fault::Early, "early");
+    is_named(&rt, Fault::Index, "index");
+    is_named(&rt, Fault::Weight, "weight");
+    is_named(&rt, Fault::Nesting, "nesting");
+    is_named(&rt, Fault::Depth, "depth");
+    is_named(&rt, Fault::Mode, "mode");
+    is_named(&rt, Fault::Statement, "statement");
+    is_named(&rt, Fault::Truth, "truth");
 }
