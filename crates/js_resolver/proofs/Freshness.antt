@@ -1,6 +1,6 @@
 -- The variables of a block, one declaration after the other.
-use Rattle.std.proofs.Common.{◌≡◌, ℕ, ◌+◌, ◌<◌, List, [], ◌∷◌, ◌++◌, ◌∙◌, ap, sym, map, length, drop, get_or, append_assoc}
-use Rattle.std.proofs.lemmas.List.{drop_more, map-append}
+use Rattle.std.proofs.Common.{◌≡◌, ℕ, ◌+◌, ◌<◌, ◌≤◌, List, [], ◌∷◌, ◌++◌, ◌∙◌, ap, sym, map, length, drop, get_or, append_assoc, append-nil}
+use Rattle.std.proofs.lemmas.List.{drop_more, drop_all, map-append}
 use Rattle.js_program.specs.declared.node.Variable.{Variable}
 use Rattle.js_names.specs.Scopes.{Entry}
 use Rattle.js_names.specs.Places.{Place}
@@ -20,3 +20,8 @@ fresh_more ps one all xs i d x a b w s h e inv k =
     ∙ (ap (λ z. a ++ z) (sym (map-append (λ (y : Entry). named_at ps y.declared.place) (one first) (all rest)))
     ∙ (ap (λ z. a ++ fresh ps z) (sym (s first rest))
     ∙ (ap (λ z. a ++ fresh ps (all z)) (sym (drop_more xs i d h)) ∙ inv)))))
+
+-- and after the last turn
+pub fresh_none : {X : Type 0} (ps : List Place) (all : List X → List Entry) (xs : List X) (i : ℕ) (a w : List Variable) → all [] ≡ [] → length xs ≤ i → a ++ fresh ps (all (drop i xs)) ≡ w → a ≡ w
+fresh_none ps all xs i a w s h inv =
+    sym (append-nil a) ∙ (ap (λ z. a ++ fresh ps z) (sym s) ∙ (ap (λ z. a ++ fresh ps (all z)) (sym (drop_all i xs h)) ∙ inv))
