@@ -1,4 +1,6 @@
 //! Bytes and their tokens.
+ghost use Rattle.std.specs.Prelude.{◌≤◌};
+
 use js_lexer::{Kind, Token, lex, line_at};
 use percent_encoding::percent_decode;
 use std::alloc::{AllocError, Global};
@@ -201,10 +203,14 @@ a%ff --> Utf8(1)
 
 #[test]
 fn bytes_have_their_tokens(rt: HostRuntime) -> Result<(), Fail> {
-    for table in [NUMBERS, LITERALS, ESCAPES, MARKS, WORDS, GAPS, NO_TEXT] {
-        agree(&rt, rt.alloc(), table)?;
-    }
-    Ok(())
+    let alloc = rt.alloc();
+    agree(&rt, alloc, NUMBERS)?;
+    agree(&rt, alloc, LITERALS)?;
+    agree(&rt, alloc, ESCAPES)?;
+    agree(&rt, alloc, MARKS)?;
+    agree(&rt, alloc, WORDS)?;
+    agree(&rt, alloc, GAPS)?;
+    agree(&rt, alloc, NO_TEXT)
 }
 
 #[test]
@@ -214,19 +220,25 @@ fn the_longest_text(rt: HostRuntime) -> Result<(), Fail> {
     Ok(())
 }
 
+// The line of a place in a text of four lines.
+fn line_is(rt: &impl Abort, place: u32, line: u32)
+    requires { place ≤ 9 }
+{
+    assert_eq!(rt;
+        line_at(b"a\r\nb\n\xe2\x80\xa8c", place),
+        line,
+        "at {place}"
+    );
+}
+
 #[test]
 fn lines_of_places(rt: HostRuntime) {
-    let bytes = b"a\r\nb\n\xe2\x80\xa8c";
-    for (place, line) in [
-        (0, 1),
-        (1, 1),
-        (2, 1),
-        (3, 2),
-        (4, 2),
-        (5, 3),
-        (8, 4),
-        (9, 4),
-    ] {
-        assert_eq!(rt; line_at(bytes, place), line, "at {place}");
-    }
+    line_is(&rt, 0, 1);
+    line_is(&rt, 1, 1);
+    line_is(&rt, 2, 1);
+    line_is(&rt, 3, 2);
+    line_is(&rt, 4, 2);
+    line_is(&rt, 5, 3);
+    line_is(&rt, 8, 4);
+    line_is(&rt, 9, 4);
 }

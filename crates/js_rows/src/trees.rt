@@ -718,21 +718,17 @@ const f = () => {\n  return\n  1\n}\nconst g = x => x\nconst h = g\n(2)\nbp.regi
 
 #[test]
 fn texts_have_their_trees(rt: HostRuntime) -> Result<(), Fail> {
-    for table in [
-        PROGRAMS,
-        STATEMENTS,
-        LOOPS,
-        BODIES,
-        ENDS,
-        ASSIGNMENTS,
-        OPERATORS,
-        CALLS,
-        UNSUPPORTED,
-        SCRIPT,
-    ] {
-        agree(&rt, rt.alloc(), table)?;
-    }
-    Ok(())
+    let alloc = rt.alloc();
+    agree(&rt, alloc, PROGRAMS)?;
+    agree(&rt, alloc, STATEMENTS)?;
+    agree(&rt, alloc, LOOPS)?;
+    agree(&rt, alloc, BODIES)?;
+    agree(&rt, alloc, ENDS)?;
+    agree(&rt, alloc, ASSIGNMENTS)?;
+    agree(&rt, alloc, OPERATORS)?;
+    agree(&rt, alloc, CALLS)?;
+    agree(&rt, alloc, UNSUPPORTED)?;
+    agree(&rt, alloc, SCRIPT)
 }
 
 /// A text between so many fronts and so many backs.
