@@ -1,4 +1,4 @@
-//! Tables of calls. A line has the name of a call, the values that it is on and its answer, with ` | ` between.
+//! Calls by their names, on values by their words.
 ghost use Rattle.std.specs.Prelude.{map, IfOk};
 ghost use Rattle.js_value.specs.Value.{IsSortedValue, AreSortedValues};
 ghost use Rattle.js_value.specs.Lists.{value_list_of};
@@ -6,9 +6,8 @@ ghost use Rattle.js_value.specs.Views.{plain_value};
 
 use crate::words::{shown, text, value_of};
 use js_ops::{OpFault, apply, index, make, member, method, unary};
-use js_value::{Fault, Make, Method, Op, Unary, Value};
+use js_value::{Fault, Make, Method, Op, Text, Unary, Value};
 use std::alloc::Global;
-use std::process::Abort;
 use std::test::Fail;
 
 fn operator(name: &str) -> Option<Op> {
@@ -80,20 +79,35 @@ fn place_of(alloc: Global, words: &str) -> Result<String, Fail> {
     shown(alloc, index(alloc, &value, &place))
 }
 
+// What the method answers on the value of the word with these arguments.
+fn called_with(alloc: Global, name: Method, on: &str, args: &[Value]) -> Result<String, Fail>
+    requires { AreSortedValues (value_list_of (map plain_value args.now)) }
+{
+    let target = value_of(alloc, on)?;
+    shown(alloc, method(alloc, name, &target, args))
+}
+
+fn called_with_two(
+    alloc: Global,
+    name: Method,
+    on: &str,
+    words: (&str, &str),
+) -> Result<String, Fail> {
+    let (first, second) = words;
+    let one = value_of(alloc, first)?;
+    let two = value_of(alloc, second)?;
+    called_with(alloc, name, on, &[one, two])
+}
+
 // What the method answers with no argument, one or two.
 fn called(alloc: Global, name: Method, words: &str) -> Result<String, Fail> {
     let Some((on, rest)) = words.split_once(" | ") else {
-        let target = value_of(alloc, words)?;
-        return shown(alloc, method(alloc, name, &target, &[]));
+        return called_with(alloc, name, words, &[]);
     };
-    let target = value_of(alloc, on)?;
-    let Some((first, second)) = rest.split_once(" | ") else {
-        let one = value_of(alloc, rest)?;
-        return shown(alloc, method(alloc, name, &target, &[one]));
-    };
-    let one = value_of(alloc, first)?;
-    let two = value_of(alloc, second)?;
-    shown(alloc, method(alloc, name, &target, &[one, two]))
+    match rest.split_once(" | ") {
+        None => called_with(alloc, name, on, &[value_of(alloc, rest)?]),
+        Some(words) => called_with_two(alloc, name, on, words),
+    }
 }
 
 // The making of what has no keys.
@@ -109,18 +123,21 @@ fn made_of(alloc: Global, kind: Make, parts: &[Value]) -> Result<Value, OpFault>
     }
 }
 
+fn made_of_two(alloc: Global, kind: Make, first: &str, second: &str) -> Result<String, Fail> {
+    let one = value_of(alloc, first)?;
+    let two = value_of(alloc, second)?;
+    shown(alloc, made_of(alloc, kind, &[one, two]))
+}
+
 // What is made of no part, one or two.
 fn made(alloc: Global, kind: Make, words: &str) -> Result<String, Fail> {
     if words == "" {
         return shown(alloc, made_of(alloc, kind, &[]));
     }
-    let Some((first, second)) = words.split_once(" | ") else {
-        let one = value_of(alloc, words)?;
-        return shown(alloc, made_of(alloc, kind, &[one]));
-    };
-    let one = value_of(alloc, first)?;
-    let two = value_of(alloc, second)?;
-    shown(alloc, made_of(alloc, kind, &[one, two]))
+    match words.split_once(" | ") {
+        None => shown(alloc, made_of(alloc, kind, &[value_of(alloc, words)?])),
+        Some((first, second)) => made_of_two(alloc, kind, first, second),
+    }
 }
 
 // The fields of one key.
@@ -131,12 +148,29 @@ fn field(alloc: Global, words: &str) -> Result<String, Fail> {
     shown(alloc, make(alloc, Make::Fields, &[part], &[key]))
 }
 
+// The fields of the two keys, with one value.
+fn fields_of_two(alloc: Global, keys: &[Text; 2], word: &str) -> Result<String, Fail> {
+    let first = value_of(alloc, word)?;
+    let second = value_of(alloc, word)?;
+    shown(alloc, make(alloc, Make::Fields, &[first, second], keys))
+}
+
 // The fields of one key that stands twice, with one value.
 fn field_twice(alloc: Global, words: &str) -> Result<String, Fail> {
     let (name, word) = words.split_once(" | ").ok_or("no value")?;
     let keys = [text(alloc, name)?, text(alloc, name)?];
-    let parts = [value_of(alloc, word)?, value_of(alloc, word)?];
-    shown(alloc, make(alloc, Make::Fields, &parts, &keys))
+    fields_of_two(alloc, &keys, word)
+}
+
+// The fields of the three keys with the values 1, 2 and 3.
+fn fields_of_three(alloc: Global, keys: &[Text; 3]) -> Result<String, Fail> {
+    let first = value_of(alloc, "1")?;
+    let second = value_of(alloc, "2")?;
+    let third = value_of(alloc, "3")?;
+    shown(
+        alloc,
+        make(alloc, Make::Fields, &[first, second, third], keys),
+    )
 }
 
 // The fields of three keys with the values 1, 2 and 3.
@@ -148,12 +182,7 @@ fn three_fields(alloc: Global, words: &str) -> Result<String, Fail> {
         text(alloc, second)?,
         text(alloc, third)?,
     ];
-    let parts = [
-        value_of(alloc, "1")?,
-        value_of(alloc, "2")?,
-        value_of(alloc, "3")?,
-    ];
-    shown(alloc, make(alloc, Make::Fields, &parts, &keys))
+    fields_of_three(alloc, &keys)
 }
 
 fn other(alloc: Global, name: &str, words: &str) -> Result<String, Fail> {
@@ -185,13 +214,8 @@ pub fn answer(alloc: Global, name: &str, words: &str) -> Result<String, Fail> {
     }
 }
 
-/// Each line's call has its answer.
-pub fn agree(rt: &impl Abort, alloc: Global, table: &str) -> Result<(), Fail> {
-    for line in table.trim().lines() {
-        let (call, want) = line.rsplit_once(" | ").ok_or("no answer")?;
-        let (name, words) = call.split_once(" | ").unwrap_or((call, ""));
-        let found = answer(alloc, name, words)?;
-        assert_eq!(rt; found.as_str(), want, "{line}");
-    }
-    Ok(())
+/// Whether the call, a name and the values that it is on, has this answer.
+pub fn answers(alloc: Global, call: &str, want: &str) -> Result<bool, Fail> {
+    let (name, words) = call.split_once(" | ").unwrap_or((call, ""));
+    Ok(answer(alloc, name, words)?.as_str() == want)
 }

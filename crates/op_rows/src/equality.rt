@@ -1,7 +1,7 @@
 //! Equality of what values hold, and `!`.
 use crate::calls::answer;
+use crate::lines::{Lines, agree};
 use std::alloc::Global;
-use std::process::Abort;
 use std::test::Fail;
 
 // The opposite answer, and the same fault.
@@ -13,28 +13,31 @@ fn opposite(word: &str) -> &str {
     }
 }
 
-fn gives(rt: &impl Abort, alloc: Global, name: &str, words: &str, want: &str) -> Result<(), Fail> {
-    let found = answer(alloc, name, words)?;
-    assert_eq!(rt; found.as_str(), want, "{name} {words}");
-    Ok(())
+fn gives(alloc: Global, name: &str, words: &str, want: &str) -> Result<bool, Fail> {
+    Ok(answer(alloc, name, words)?.as_str() == want)
 }
 
-fn equality_of(rt: &impl Abort, alloc: Global, line: &str) -> Result<(), Fail> {
-    let (rest, equal) = line.rsplit_once(" | ").ok_or("no answer")?;
+/// Whether the two values, with whether they are the same behind them, are equal as wanted; the opposite operators
+/// answer the opposite.
+pub fn are_equal(alloc: Global, rest: &str, equal: &str) -> Result<bool, Fail> {
     let (pair, same) = rest.rsplit_once(" | ").ok_or("one answer")?;
-    gives(rt, alloc, "===", pair, same)?;
-    gives(rt, alloc, "==", pair, equal)?;
-    gives(rt, alloc, "!==", pair, opposite(same))?;
-    gives(rt, alloc, "!=", pair, opposite(equal))
+    Ok(
+        gives(alloc, "===", pair, same)?
+            && gives(alloc, "==", pair, equal)?
+            && gives(alloc, "!==", pair, opposite(same))?
+            && gives(alloc, "!=", pair, opposite(equal))?,
+    )
 }
 
-fn no_number(rt: &impl Abort, alloc: Global, line: &str) -> Result<(), Fail> {
-    let (word, falsy) = line.rsplit_once(" | ").ok_or("no answer")?;
-    gives(rt, alloc, "not", word, falsy)?;
-    gives(rt, alloc, "minus", word, "type")?;
-    gives(rt, alloc, "plus", word, "type")?;
-    gives(rt, alloc, "increment", word, "type")?;
-    gives(rt, alloc, "decrement", word, "type")
+/// Whether `!` answers this of the value, and every other operator the fault `type`.
+pub fn is_no_number(alloc: Global, word: &str, falsy: &str) -> Result<bool, Fail> {
+    Ok(
+        gives(alloc, "not", word, falsy)?
+            && gives(alloc, "minus", word, "type")?
+            && gives(alloc, "plus", word, "type")?
+            && gives(alloc, "increment", word, "type")?
+            && gives(alloc, "decrement", word, "type")?,
+    )
 }
 
 // Two values, and whether they are the same and whether they are equal.
@@ -84,11 +87,6 @@ function | false
 
 #[test]
 fn contents_are_compared(rt: HostRuntime) -> Result<(), Fail> {
-    for line in PAIRS.trim().lines() {
-        equality_of(&rt, rt.alloc(), line)?;
-    }
-    for line in NO_NUMBERS.trim().lines() {
-        no_number(&rt, rt.alloc(), line)?;
-    }
-    Ok(())
+    agree(&rt, rt.alloc(), Lines::Pairs, PAIRS)?;
+    agree(&rt, rt.alloc(), Lines::NoNumbers, NO_NUMBERS)
 }

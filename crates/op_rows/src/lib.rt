@@ -10,6 +10,8 @@ mod kinds;
 #[cfg(test)]
 mod limits;
 #[cfg(test)]
+mod lines;
+#[cfg(test)]
 mod numbers;
 #[cfg(test)]
 mod parts;

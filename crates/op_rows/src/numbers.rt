@@ -1,5 +1,5 @@
 //! Whole numbers at the ends of their range, divisions, comparisons, and texts that are joined.
-use crate::calls::agree;
+use crate::lines::{Lines, agree};
 use std::test::Fail;
 
 // Operators of two values, and of one number.
@@ -77,5 +77,5 @@ decrement | 0 | -1
 
 #[test]
 fn operators_of_two_values_and_of_one_number(rt: HostRuntime) -> Result<(), Fail> {
-    agree(&rt, rt.alloc(), NUMBERS)
+    agree(&rt, rt.alloc(), Lines::Calls, NUMBERS)
 }

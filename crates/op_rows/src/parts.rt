@@ -1,5 +1,5 @@
 //! Members, places, methods and making.
-use crate::calls::agree;
+use crate::lines::{Lines, agree};
 use std::test::Fail;
 
 // Members and places.
@@ -126,7 +126,7 @@ no fields | {}
 
 #[test]
 fn members_methods_and_making(rt: HostRuntime) -> Result<(), Fail> {
-    agree(&rt, rt.alloc(), MEMBERS)?;
-    agree(&rt, rt.alloc(), METHODS)?;
-    agree(&rt, rt.alloc(), MAKING)
+    agree(&rt, rt.alloc(), Lines::Calls, MEMBERS)?;
+    agree(&rt, rt.alloc(), Lines::Calls, METHODS)?;
+    agree(&rt, rt.alloc(), Lines::Calls, MAKING)
 }

@@ -5,7 +5,7 @@ ghost use Rattle.js_value.specs.Value.{IsSortedValue};
 ghost use Rattle.js_value.specs.Views.{plain_value};
 
 use js_ops::{OpFault, make, member, method};
-use js_value::{Make, Method, SetTree, Text, Value, event_of, event_text};
+use js_value::{Event, Make, Method, SetTree, Text, Value, event_of, event_text};
 use std::alloc::Global;
 use std::test::Fail;
 
@@ -21,12 +21,18 @@ fn event(alloc: Global, word: &str) -> Result<Value, Fail>
     Ok(Value::Event(found))
 }
 
+fn data_of(alloc: Global, event: &Value) -> Result<Value, Fail>
+    requires { IsSortedValue (plain_value event.now) }
+    ensures { IfOk result (λ v. IsSortedValue (plain_value v)) }
+{
+    Ok(member(alloc, event, &text(alloc, "data")?)?)
+}
+
 fn data(alloc: Global, word: &str) -> Result<Value, Fail>
     ensures { IfOk result (λ v. IsSortedValue (plain_value v)) }
 {
     let line = format!(in alloc; "[\"\",{word}]")?;
-    let held = event(alloc, line.as_str())?;
-    Ok(member(alloc, &held, &text(alloc, "data")?)?)
+    data_of(alloc, &event(alloc, line.as_str())?)
 }
 
 fn list(alloc: Global, item: Value) -> Result<Value, Fail>
@@ -69,14 +75,19 @@ fn joined_to_all(alloc: Global, item: Value) -> Result<Value, Fail>
     Ok(method(alloc, Method::Or, &all, &[item])?)
 }
 
+fn push_times(line: &mut String, part: &str, times: u32) -> Result<(), Fail> {
+    for _ in 0..times {
+        line.push_str(part)?;
+    }
+    Ok(())
+}
+
 // A text of this many bytes, which weighs one more.
 fn letters(alloc: Global, count: u32) -> Result<Value, Fail>
     ensures { IfOk result (λ v. IsSortedValue (plain_value v)) }
 {
     let mut word = String::new(alloc);
-    for _ in 0..count {
-        word.push('a')?;
-    }
+    push_times(&mut word, "a", count)?;
     Ok(Value::Words(Text::new(word)))
 }
 
@@ -85,12 +96,8 @@ fn lists(alloc: Global, count: u32) -> Result<Value, Fail>
     ensures { IfOk result (λ v. IsSortedValue (plain_value v)) }
 {
     let mut line = String::new(alloc);
-    for _ in 1..count {
-        line.push('[')?;
-    }
-    for _ in 1..count {
-        line.push(']')?;
-    }
+    push_times(&mut line, "[", count.saturating_sub(1))?;
+    push_times(&mut line, "]", count.saturating_sub(1))?;
     list(alloc, data(alloc, line.as_str())?)
 }
 
@@ -129,18 +136,45 @@ pub fn value_of(alloc: Global, word: &str) -> Result<Value, Fail>
     }
 }
 
+// The JSON of the data of an event without a name.
+fn data_in(alloc: Global, held: &Event) -> Result<String, Fail> {
+    let line = event_text(alloc, held)?;
+    let front = line.as_str().strip_suffix("]").ok_or("no list")?;
+    Ok(String::from_str(alloc, front.strip_prefix("[\"\",").ok_or("no data")?)?)
+}
+
 // The JSON of data, as what stands in the text of an event behind its name; `too large` where no event can hold it.
 fn shown_data(alloc: Global, v: Value) -> Result<String, Fail>
     requires { IsSortedValue (plain_value v) }
 {
     let name = Value::Words(text(alloc, "")?);
-    match make(alloc, Make::Event, &[name, v], &[]) {
-        Ok(Value::Event(held)) => {
-            let line = event_text(alloc, &held)?;
-            let front = line.as_str().strip_suffix("]").ok_or("no list")?;
-            Ok(String::from_str(alloc, front.strip_prefix("[\"\",").ok_or("no data")?)?)
-        }
+    match &make(alloc, Make::Event, &[name, v], &[]) {
+        Ok(Value::Event(held)) => data_in(alloc, held),
         _ => Ok(String::from_str(alloc, "too large")?),
+    }
+}
+
+fn shown_event(alloc: Global, event: &Event) -> Result<String, Fail> {
+    let line = event_text(alloc, event)?;
+    Ok(format!(in alloc; "event {}", line.as_str())?)
+}
+
+// The word of what is no data.
+fn shown_as_no_data(alloc: Global, v: &Value) -> Result<Option<String>, Fail> {
+    match v {
+        Value::Undefined => Ok(Some(String::from_str(alloc, "undefined")?)),
+        Value::Event(event) => Ok(Some(shown_event(alloc, event)?)),
+        Value::Set(set) => Ok(Some(format!(in alloc; "{set:?}")?)),
+        _ => Ok(None),
+    }
+}
+
+fn shown_value(alloc: Global, v: Value) -> Result<String, Fail>
+    requires { IsSortedValue (plain_value v) }
+{
+    match shown_as_no_data(alloc, &v)? {
+        Some(word) => Ok(word),
+        None => shown_data(alloc, v),
     }
 }
 
@@ -151,12 +185,6 @@ pub fn shown(alloc: Global, answer: Result<Value, OpFault>) -> Result<String, Fa
     match answer {
         Err(OpFault::Fault(fault)) => Ok(String::from_str(alloc, fault.name())?),
         Err(OpFault::Memory) => Ok(String::from_str(alloc, "memory")?),
-        Ok(Value::Undefined) => Ok(String::from_str(alloc, "undefined")?),
-        Ok(Value::Event(event)) => {
-            let line = event_text(alloc, &event)?;
-            Ok(format!(in alloc; "event {}", line.as_str())?)
-        }
-        Ok(Value::Set(set)) => Ok(format!(in alloc; "{set:?}")?),
-        Ok(other) => shown_data(alloc, other),
+        Ok(value) => shown_value(alloc, value),
     }
 }
