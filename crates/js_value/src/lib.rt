@@ -6,7 +6,7 @@ pub mod value;
 pub mod values;
 
 pub use js_data::{
-    Data, Event, Events, Fault, Memory, Numbers, Text, Texts, TooHeavy, Whole, are_equal,
+    Data, Event, Fault, Memory, Text, TooHeavy, Whole, are_equal,
     copy_data, data_nesting, data_weight, text_weight,
 };
 pub use js_json::{EventError, event_of, event_text, quoted};
