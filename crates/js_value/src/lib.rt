@@ -16,7 +16,7 @@ pub use js_data::{
 };
 pub use js_json::{EventError, event_of, event_text, quoted};
 pub use op::{Make, Method, Op, Unary};
-pub use reading::{copy, event_value, text_of, truthy, words};
+pub use reading::{copy, event_value, push_text, text_of, truthy, words};
 pub use sets::{called_on, set_of_value};
 pub use size::{nesting, weight};
 pub use value::{EventSet, Items, Pairs, SetTree, Value};
