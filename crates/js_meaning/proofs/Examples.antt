@@ -134,3 +134,25 @@ pub unset_var : comes_to Thread 100
     ≡ ends (v.whole (pos 1)) 92 (says (codes "undefined") ∷ [])
 unfolding evaluation eval within
 unset_var = refl
+
+-- let a = 5, b = a - 1; let f = () => a - b; return f(): declared in order, and captured in order
+pub captures_in_order : comes_to Thread 100
+    (whole 5 ∷ slot 0 ∷ whole 1 ∷ one (p.binary op.Subtract 1 2) ∷ one (p.declaration Let (given 0 0 ∷ given 1 3 ∷ [])) ∷ one (p.function 1) ∷ one (p.declaration Let (given 2 5 ∷ []))
+    ∷ slot 2 ∷ one (p.call 7 []) ∷ one (p.return_of 8) ∷ slot 0 ∷ slot 1 ∷ one (p.binary op.Subtract 10 11) ∷ [])
+    (statements 3 (4 ∷ 6 ∷ 9 ∷ []) ∷ record { parameters = 0; slots = 2; captures = 0 ∷ 1 ∷ []; vars = []; content = p.one_value 12; line = 1 } ∷ [])
+    ≡ ends (v.whole (pos 1)) 87 []
+unfolding evaluation eval within
+captures_in_order = refl
+
+-- let x; return x
+pub let_without_value : comes_to Thread 100 (one (p.declaration Let (record { variable = Slot 0; value = None } ∷ [])) ∷ slot 0 ∷ one (p.return_of 1) ∷ []) (statements 1 (0 ∷ 2 ∷ []) ∷ []) ≡ ends v.undefined 97 []
+unfolding evaluation eval within
+let_without_value = refl
+
+-- 1() with 200 calls active: that it is no function comes before the depth
+pub no_function_at_the_deepest :
+    eval (record { base = bare (program (whole 1 ∷ on 5 (p.call 0 []) ∷ []) [] [] (statements 0 [])); mode = Thread; budget = 100 }) 1
+    (record { slots = []; constants = None; calls = 200; fuel = 100; replies = []; effects = []; delivered = 0 })
+    ≡ broken fault.Mistyped 5 (left 98 [])
+unfolding eval within
+no_function_at_the_deepest = refl

@@ -1,8 +1,7 @@
 -- A relation between two ways to go on from a state, which holds of what begins no node and through each way to combine, holds of what every form does.
-use Rattle.std.proofs.Common.{◌≡◌, ℕ, suc, ◌+◌, Bool, true, false, cond, List, [], ◌∷◌, ◌++◌, Option, Some, None, Ok, Err, refl, sym, ◌∙◌}
-use Rattle.std.specs.Prelude.{pos, slice_get, unwrap_or, nat_lt, codes, drop}
+use Rattle.std.proofs.Common.{◌≡◌, ℕ, suc, ◌+◌, Bool, true, false, cond, List, [], ◌∷◌, ◌++◌, Option, Some, None, Ok, Err, refl}
+use Rattle.std.specs.Prelude.{pos, unwrap_or, nat_lt, codes, drop}
 use Rattle.std.specs.Str.{bytes_eq}
-use Rattle.std.proofs.lemmas.Bool.{false≢true}
 use Rattle.js_data.specs.declared.fault.Fault.{Fault}
 use Rattle.js_data.specs.declared.fault.Fault.TheVariants as fault
 use Rattle.js_tree.specs.declared.tree.Step.{Step}
@@ -37,7 +36,7 @@ use Rattle.js_meaning.specs.Variables.{in_slot, held, set_slot, set_variable, un
 use Rattle.js_meaning.specs.Calls.{max_calls, body_of, after_call, method_named, applies, sequence, in_order, runs, enters, calls, for_each_from, for_each_call, calls_method}
 use Rattle.js_meaning.specs.Forms.{argument, does_to_run, registers_thread, asks, asserted, enqueues_event, sets_handler, log_text, logs, floors, takes_effect, applies_form}
 use Rattle.js_meaning.specs.Expressions.{unary_for, step_for, op_for, op_before, by_rule, writes, updates, does_update, assigns, combines}
-use Rattle.js_meaning.specs.Statements.{after_turn, without_value, declares, does_declaration, does_if, does_if_else, tests, perhaps, one_turn, each, each_of}
+use Rattle.js_meaning.specs.Statements.{after_turn, without_value, declares, does_declaration, does_if_else, tests, perhaps, one_turn, each, each_of}
 use Rattle.js_meaning.specs.Meaning.{does, does_node}
 use Rattle.js_meaning.specs.Bodies.{Origin, the_top, function, runs_body}
 use Rattle.js_meaning.specs.Modes.{acts}

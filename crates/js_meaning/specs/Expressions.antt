@@ -25,7 +25,7 @@ use Rattle.js_ops.specs.Members.{member_of, index_of}
 use Rattle.js_ops.specs.Making.{make_of}
 use Rattle.js_program.specs.PlainProgram as p
 use Rattle.js_program.specs.PlainProgram.{PlainNodeForm}
-use Rattle.js_meaning.specs.State.{Setting, State, Completion, broke, continued, returned, Outcome, went, ◌>>=◌, gives, leaves, answered}
+use Rattle.js_meaning.specs.State.{Setting, State, broke, continued, returned, Outcome, went, ◌>>=◌, gives, leaves, answered}
 use Rattle.js_meaning.specs.Variables.{in_slot, held, set_slot, if_declared, captured}
 use Rattle.js_meaning.specs.Calls.{body_of, calls, calls_method}
 use Rattle.js_meaning.specs.Forms.{argument, applies_form}
