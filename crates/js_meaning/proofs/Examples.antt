@@ -7,7 +7,7 @@ use Rattle.js_tree.specs.declared.tree.Sign.TheVariants as sign
 use Rattle.js_tree.specs.declared.tree.Step.TheVariants.{Increment}
 use Rattle.js_tree.specs.declared.tree.Fix.TheVariants.{After}
 use Rattle.js_tree.specs.declared.tree.Operator.TheVariants as op
-use Rattle.js_tree.specs.declared.tree.AssignOp.TheVariants.{Set}
+use Rattle.js_tree.specs.declared.tree.AssignOp.TheVariants.{Set, Add}
 use Rattle.js_tree.specs.declared.tree.DeclareKind.TheVariants.{Let, Var}
 use Rattle.js_value.specs.Value as v
 use Rattle.js_value.specs.Value.{PlainValue}
@@ -16,7 +16,7 @@ use Rattle.js_program.specs.declared.builtin.Mode.TheVariants.{Thread}
 use Rattle.js_program.specs.declared.node.Variable.TheVariants.{Slot}
 use Rattle.js_program.specs.PlainProgram as p
 use Rattle.js_program.specs.PlainProgram.{PlainNode, PlainBody}
-use Rattle.js_meaning.specs.State.{says, broken, spent}
+use Rattle.js_meaning.specs.State.{Outcome, says, broken, spent}
 use Rattle.js_meaning.specs.Meaning.{within, eval, turns_of}
 use Rattle.js_meaning.specs.Bodies.{the_top, bare, evaluation}
 use Rattle.js_meaning.proofs.Small.{on, one, whole, slot, constant, given, body, statements, program, comes_to, ends, left}
@@ -156,3 +156,30 @@ pub no_function_at_the_deepest :
     ≡ broken fault.Mistyped 5 (left 98 [])
 unfolding eval within
 no_function_at_the_deepest = refl
+
+-- let c = 9; let f = a => c; return f(1, 2): an argument that no parameter takes is dropped, and stands in no slot
+pub dropped_argument : comes_to Thread 100
+    (whole 9 ∷ one (p.declaration Let (given 0 0 ∷ [])) ∷ one (p.function 1) ∷ one (p.declaration Let (given 1 2 ∷ [])) ∷ slot 1 ∷ whole 1 ∷ whole 2 ∷ one (p.call 4 (5 ∷ 6 ∷ [])) ∷ one (p.return_of 7) ∷ slot 1 ∷ [])
+    (statements 2 (1 ∷ 3 ∷ 8 ∷ []) ∷ record { parameters = 1; slots = 2; captures = 0 ∷ []; vars = []; content = p.one_value 9; line = 1 } ∷ [])
+    ≡ ends (v.whole (pos 9)) 90 []
+unfolding evaluation eval within
+dropped_argument = refl
+
+-- { x++; let x }, { x = 1; let x } and { x += 1; let x }, with x on line 2
+abbrev before_let : PlainNode → Outcome
+before_let node =
+    comes_to Thread 100
+    (whole 1 ∷ node ∷ one (p.expression 1) ∷ one (p.declaration Let (record { variable = Slot 0; value = None } ∷ [])) ∷ one (p.block (0 ∷ []) (2 ∷ 3 ∷ [])) ∷ [])
+    (statements 1 (4 ∷ []) ∷ [])
+
+pub early_update : before_let (on 2 (p.update Increment After 0)) ≡ broken fault.Early 2 (left 97 [])
+unfolding evaluation eval within
+early_update = refl
+
+pub early_assignment : before_let (on 2 (p.assign Set 0 0)) ≡ broken fault.Early 2 (left 96 [])
+unfolding evaluation eval within
+early_assignment = refl
+
+pub early_sum : before_let (on 2 (p.assign Add 0 0)) ≡ broken fault.Early 2 (left 97 [])
+unfolding evaluation eval within
+early_sum = refl

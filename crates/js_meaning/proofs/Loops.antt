@@ -1,6 +1,6 @@
 -- The definitions compute: short circuits, loops, calls of functions, and forms in their modes.
 use Rattle.std.proofs.Common.{◌≡◌, ℕ, List, [], ◌∷◌, Some, None, refl}
-use Rattle.std.specs.Prelude.{pos, codes, true, false}
+use Rattle.std.specs.Prelude.{Bool, map, pos, codes, true, false}
 use Rattle.std.specs.Fmt.{digits}
 use Rattle.js_data.specs.declared.fault.Fault.TheVariants as fault
 use Rattle.js_tree.specs.declared.tree.Step.TheVariants.{Increment}
@@ -10,8 +10,10 @@ use Rattle.js_tree.specs.declared.tree.DeclareKind.TheVariants.{Let}
 use Rattle.js_value.specs.Value as v
 use Rattle.js_program.specs.declared.builtin.Builtin.{Builtin}
 use Rattle.js_program.specs.declared.builtin.Builtin.TheVariants as form
-use Rattle.js_program.specs.declared.builtin.Mode.TheVariants.{Thread, Handler, Predicate}
+use Rattle.js_program.specs.declared.builtin.Mode.{Mode}
+use Rattle.js_program.specs.declared.builtin.Mode.TheVariants.{Top, Thread, Handler, Predicate}
 use Rattle.js_program.specs.declared.node.Variable.TheVariants.{Slot}
+use Rattle.js_program.specs.Builtins.{has_effect_in}
 use Rattle.js_program.specs.PlainProgram as p
 use Rattle.js_program.specs.PlainProgram.{PlainNode, PlainBody}
 use Rattle.js_meaning.specs.State.{Outcome, says, enqueues, registers, handles, broken, violated, stopped}
@@ -84,11 +86,11 @@ pub for_each_no_function : comes_to Thread 100
 unfolding evaluation eval within
 for_each_no_function = refl
 
--- ({f: () => 5}).f(): a method of fields is the field's value, called
+-- ({f: a => a}).f(5): a method of fields is the field's value, called
 pub field_is_called : comes_to Thread 100
-    (one (p.function 1) ∷ one (p.fields (codes "f" ∷ []) (0 ∷ [])) ∷ one (p.method 1 (codes "f") []) ∷ one (p.return_of 2) ∷ whole 5 ∷ [])
-    (statements 0 (3 ∷ []) ∷ body 0 0 (p.one_value 4) ∷ [])
-    ≡ ends (v.whole (pos 5)) 95 []
+    (one (p.function 1) ∷ one (p.fields (codes "f" ∷ []) (0 ∷ [])) ∷ whole 5 ∷ one (p.method 1 (codes "f") (2 ∷ [])) ∷ one (p.return_of 3) ∷ slot 0 ∷ [])
+    (statements 0 (4 ∷ []) ∷ body 1 1 (p.one_value 5) ∷ [])
+    ≡ ends (v.whole (pos 5)) 94 []
 unfolding evaluation eval within
 field_is_called = refl
 
@@ -100,6 +102,24 @@ unfolding evaluation eval within
 arguments_before_callee = refl
 
 -- ---- forms and modes
+
+-- the forms in the order registerBThread, sync, Event, EventSet, all, none, ASSERT, enqueueExternalEvent, setInterruptHandler, log.info, floor
+abbrev forms_in : Mode → List Bool
+forms_in mode =
+    map (has_effect_in mode)
+    (form.RegisterBThread ∷ form.Sync ∷ form.Event ∷ form.EventSet ∷ form.All ∷ form.Nothing ∷ form.Assert ∷ form.EnqueueExternalEvent ∷ form.SetInterruptHandler ∷ form.LogInfo ∷ form.Floor ∷ [])
+
+pub forms_of_the_top : forms_in Top ≡ true ∷ false ∷ true ∷ true ∷ true ∷ true ∷ true ∷ true ∷ false ∷ true ∷ true ∷ []
+forms_of_the_top = refl
+
+pub forms_of_threads : forms_in Thread ≡ true ∷ true ∷ true ∷ true ∷ true ∷ true ∷ true ∷ true ∷ true ∷ true ∷ true ∷ []
+forms_of_threads = refl
+
+pub forms_of_handlers : forms_in Handler ≡ true ∷ false ∷ true ∷ true ∷ true ∷ true ∷ true ∷ true ∷ false ∷ true ∷ true ∷ []
+forms_of_handlers = refl
+
+pub forms_of_predicates : forms_in Predicate ≡ false ∷ false ∷ true ∷ true ∷ true ∷ true ∷ false ∷ false ∷ false ∷ false ∷ true ∷ []
+forms_of_predicates = refl
 
 -- bp.sync({}) in a handler is the fault `mode`, and bp.sync(1 / 0) there the fault of its argument
 pub sync_in_a_handler : comes_to Handler 100 (one (p.fields [] []) ∷ one (p.builtin form.Sync (0 ∷ [])) ∷ one (p.expression 1) ∷ []) (statements 0 (2 ∷ []) ∷ [])
