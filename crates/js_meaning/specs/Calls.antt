@@ -10,12 +10,9 @@ use Rattle.js_value.specs.declared.op.Method.TheVariants as method
 use Rattle.js_ops.specs.Members.{field_or_undefined}
 use Rattle.js_ops.specs.Methods.{method_of}
 use Rattle.js_program.specs.PlainProgram.{PlainProgram, PlainBody, PlainContent, statements, one_value}
+use Rattle.js_meaning.specs.declared.limits.TheConstants.{MOST_CALLS}
 use Rattle.js_meaning.specs.State.{Setting, State, Completion, returned, Outcome, went, ◌>>=◌, gives, leaves, breaks, answered}
 use Rattle.js_meaning.specs.Variables.{slots_of_call}
-
--- how many calls may be active
-abbrev pub max_calls : ℕ
-max_calls = 200
 
 -- a function of a number that no function has does nothing
 abbrev pub no_body : PlainBody
@@ -71,10 +68,10 @@ module _ (ev : ℕ → State → Outcome) where
       after_call s.slots s.calls (runs body.content (record s { slots = slots_of_call body captured args; calls = active }))
 
 module _ (g : Setting) (ev : ℕ → State → Outcome) where
-  -- a call of a value: what is no function can't be called, and neither can one more than 200
+  -- a call of a value: what is no function can't be called, and neither can one more than may be active
   abbrev pub calls : ℕ → PlainValue → List PlainValue → State → Outcome
   calls line (v.function code captured) args s =
-      cond (nat_lt s.calls max_calls) (enters ev (s.calls + 1) (body_of g.base.program code) (values_in captured) args) (breaks fault.Depth line) s
+      cond (nat_lt s.calls MOST_CALLS) (enters ev (s.calls + 1) (body_of g.base.program code) (values_in captured) args) (breaks fault.Depth line) s
   calls line _ args s = breaks fault.Mistyped line s
 
   -- `forEach`: the function is called with each element, its index and the list
