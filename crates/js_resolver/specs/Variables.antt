@@ -49,6 +49,15 @@ named ps p = let assigned = assigned_in ps in named_there assigned (constants_of
 unfoldable pub named_at : List Place → ℕ → Variable
 named_at ps at = unwrap_or (known_in name_key (named ps) at ps) (Slot 0)
 
+-- the slot of a variable: nothing that is assigned, updated or not yet declared is a constant, where no rule of names is broken
+abbrev pub slot_of : Variable → ℕ
+slot_of (Slot n) = n
+slot_of (Constant n) = 0
+
+-- the slot that the name at a place of the text stands for
+abbrev pub slot_at : List Place → ℕ → ℕ
+slot_at ps at = slot_of (named_at ps at)
+
 abbrev pub first_some : {A : Type 0} → A → List (Option A) → A
 first_some a [] = a
 first_some a (None ∷ os) = first_some a os
