@@ -1,18 +1,16 @@
 -- What is selected is requested by some or waits in the queue, and is blocked by none; and something is chosen wherever something can be.
-use Rattle.std.proofs.Common.{◌≡◌, ℕ, zero, suc, ◌+◌, ◌<◌, ◌≤◌, ◌%◌, Bool, true, false, not, ◌&&◌, ◌||◌, List, [], ◌∷◌, ◌++◌, length, map, refl, sym, ap, ◌∙◌, subst, arith, Option, Some, None, Result, Ok, Err, if◌then◌else◌, filter, find, flat_map, cond, slice_get, option_map, ◌⊎◌, inl, inr}
+use Rattle.std.proofs.Common.{◌≡◌, ℕ, zero, suc, ◌+◌, ◌<◌, ◌%◌, Bool, true, false, not, ◌&&◌, ◌||◌, List, [], ◌∷◌, length, refl, sym, ap, ◌∙◌, subst, arith, Option, Some, None, Ok, Err, if◌then◌else◌, filter, find, flat_map, cond, slice_get, option_map, ◌⊎◌, inl, inr}
 use Rattle.std.specs.Prelude.{ℤ, pos, negsuc, int_le, leb}
 use Rattle.std.specs.List.{list_any, list_all}
 use Rattle.std.proofs.lemmas.List.Folds.{list_any-append}
 use Rattle.std.proofs.lemmas.Map.Views.{any-filter_same}
-use Rattle.std.proofs.lemmas.Option.{slice_get-get_or}
 use Rattle.std.proofs.Math.Nat.{mod-lt}
 use Rattle.js_data.specs.Event.{PlainEvent, same_event}
 use Rattle.js_data.proofs.SameEvent.{same_event-sound, same_event-self}
 use Rattle.bp_log.specs.declared.options.Strategy.{Strategy}
 use Rattle.bp_log.specs.declared.options.Strategy.TheVariants.{Simple, Ordered, Priority}
-use Rattle.bp_run.specs.Bodies.{SetFault}
-use Rattle.bp_run.specs.Selecting.{Live, Has, Asked, both, without_fault, blocked, unblocked, first_unblocked, distinct, candidates, Enabled, or_queued, selectable, requests, requested}
-use Rattle.bp_run.specs.Choosing.{is_first_of, greater, priority_of, at_most, is_greatest, remaining, Choice, drawn_of, queued_at, chosen, choice}
+use Rattle.bp_run.specs.Selecting.{Live, Has, Asked, without_fault, blocked, unblocked, first_unblocked, distinct, candidates, Enabled, or_queued, selectable, requests, requested}
+use Rattle.bp_run.specs.Choosing.{is_first_of, priority_of, at_most, is_greatest, remaining, Choice, drawn_of, queued_at, chosen, choice}
 use Rattle.bp_run.specs.Chosen.{Stands, IsChosen, AllBlocked}
 use Rattle.bp_run.proofs.Numbers.{both_ok}
 
@@ -90,9 +88,11 @@ free_kept has ts e es xs h f =
     some_case : (x : PlainEvent) (b : Bool) → (b || among x xs) ≡ true → (b || among x es) ≡ true
     some_case x true k = refl
     some_case x false k = f.some x k
+
     free_case : (x : PlainEvent) (b : Bool) → same_event x e ≡ b → (b || among x xs) ≡ true → blocked has ts x ≡ Ok false
     free_case x true s k = subst (λ (y : PlainEvent). blocked has ts y ≡ Ok false) (sym (same_event-sound x e s)) h
     free_case x false s k = f.free x k
+
     all_case : (x : PlainEvent) (b : Bool) → (b || among x es) ≡ true → (blocked has ts x ≡ Ok true) ⊎ ((b || among x xs) ≡ true)
     all_case x true k = inr refl
     all_case x false k = f.all x k

@@ -1,6 +1,5 @@
 -- Merging only adds lines, and leaves what was counted as it is.
-use Rattle.std.proofs.Common.{◌≡◌, ◌+◌, ℕ, zero, suc, Bool, true, false, List, [], ◌∷◌, ◌++◌, length, refl, sym, ap, ◌∙◌, append_assoc, append-nil, Option, Some, None, if◌then◌else◌, ◌==◌, slice_get, map}
-use Rattle.js_data.specs.Event.{PlainEvent}
+use Rattle.std.proofs.Common.{◌≡◌, ◌+◌, ℕ, zero, suc, Bool, true, false, List, [], ◌∷◌, ◌++◌, length, refl, sym, ap, ◌∙◌, append_assoc, append-nil, Option, Some, None, if◌then◌else◌, ◌==◌, map}
 use Rattle.bp_log.specs.declared.limits.TheConstants.{MOST_WAITING, MOST_THREADS}
 use Rattle.bp_log.specs.declared.trace.Line.{Line}
 use Rattle.bp_log.specs.declared.trace.Line.TheVariants as trace
@@ -10,8 +9,8 @@ use Rattle.bp_log.specs.declared.verdict.Place.{Place}
 use Rattle.bp_run.specs.Bodies.{Code, Part, Effect, Outcome}
 use Rattle.bp_run.specs.Bodies.Effect.{Says, Enqueue, Register, Handler}
 use Rattle.bp_run.specs.Bodies.Outcome.{Stopped, Ended, Broken, Violated, Spent}
-use Rattle.bp_run.specs.Configuration.{Stand, Thread}
-use Rattle.bp_run.specs.Settling.{Entry, Pair, Ran, ran, unless_at, unless_over, stopped, said, queued, registered, with_effect, with_effects, with_end, with_outcome, with_part, merged, turn, at_rest, settle_in, settle, place_of, part_of, body_of}
+use Rattle.bp_run.specs.Configuration.{Stand}
+use Rattle.bp_run.specs.Settling.{Entry, Pair, Ran, ran, unless_at, unless_over, stopped, said, queued, registered, with_effect, with_effects, with_end, with_outcome, with_part, merged, turn, at_rest, settle_in, settle, place_of}
 use Rattle.bp_run.specs.Settling.Entry.{The_top, Runs, Stops}
 
 pub record Grown {Origin : Type 0} (c d : Stand Origin) : Type 0 where

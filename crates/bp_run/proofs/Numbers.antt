@@ -1,5 +1,5 @@
 -- Entries are of distinct registered b-threads, and an event does to each b-thread what its own statement says.
-use Rattle.std.proofs.Common.{◌≡◌, ℕ, zero, suc, ◌+◌, ◌<◌, ◌≤◌, Bool, true, false, List, [], ◌∷◌, ◌++◌, length, map, refl, sym, ap, ◌∙◌, subst, arith, Option, Some, None, Result, Ok, Err, if◌then◌else◌, ◌==◌, nat_eq, slice_get, option_map, length-append, add-one}
+use Rattle.std.proofs.Common.{◌≡◌, ℕ, zero, suc, ◌+◌, ◌<◌, ◌≤◌, Bool, true, false, List, [], ◌∷◌, ◌++◌, length, map, refl, sym, ap, ◌∙◌, subst, arith, Option, Some, None, Ok, Err, if◌then◌else◌, ◌==◌, nat_eq, slice_get, option_map, length-append, add-one}
 use Rattle.std.proofs.lemmas.Bool.{eqb-true, eq-eqb}
 use Rattle.std.proofs.lemmas.List.{map-append}
 use Rattle.std.specs.List.{cons_option}
@@ -8,16 +8,16 @@ use Rattle.bp_log.specs.declared.limits.TheConstants.{MOST_WAITING, MOST_THREADS
 use Rattle.bp_log.specs.declared.verdict.Verdict.{Verdict}
 use Rattle.bp_log.specs.declared.verdict.Verdict.TheVariants as verdict
 use Rattle.bp_log.specs.declared.verdict.Place.{Place}
-use Rattle.bp_run.specs.Bodies.{Code, Part, Effect, Outcome, SetFault}
+use Rattle.bp_run.specs.Bodies.{Code, Part, Effect, Outcome}
 use Rattle.bp_run.specs.Bodies.Effect.{Says, Enqueue, Register, Handler}
 use Rattle.bp_run.specs.Bodies.Outcome.{Stopped, Ended, Broken, Violated, Spent}
 use Rattle.bp_run.specs.Configuration.{Stand, Thread, change}
-use Rattle.bp_run.specs.Settling.{Entry, Pair, Ran, ran, unless_at, unless_over, stopped, said, queued, registered, with_effect, with_effects, with_end, with_outcome, with_part, merged, turn, place_of}
+use Rattle.bp_run.specs.Settling.{Entry, Pair, Ran, ran, unless_at, unless_over, stopped, queued, registered, with_effect, with_effects, with_end, with_outcome, with_part, merged, turn, place_of}
 use Rattle.bp_run.specs.Settling.Entry.{The_top, Runs, Stops}
 use Rattle.bp_run.specs.Selecting.{Live, Has, Asked, by_number, both, without_fault, stated, at_stop, live_from, live, requests}
 use Rattle.bp_run.specs.Choosing.{Touched, touched, reach, moves_if}
 use Rattle.bp_run.specs.Choosing.Touched.{Moves, Interrupts}
-use Rattle.bp_run.specs.Story.{touch, touch_all, step, stepped, entry_of}
+use Rattle.bp_run.specs.Story.{touch, touch_all, stepped, entry_of}
 use Rattle.bp_run.specs.Numbers.{number_of, number_in, numbers_from, IsRising, touch_at, after_touch, touch_of}
 use Rattle.bp_run.proofs.Turns.{length-change}
 

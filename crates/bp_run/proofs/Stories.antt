@@ -1,5 +1,5 @@
 -- What holds of every story.
-use Rattle.std.proofs.Common.{◌≡◌, ℕ, zero, suc, ◌+◌, ◌<◌, ◌≤◌, Bool, true, false, not, ◌&&◌, ◌==◌, nat_eq, nat_lt, List, [], ◌∷◌, ◌++◌, length, map, refl, sym, ap, subst, ◌∙◌, append_assoc, append-nil, Option, Some, None, Result, Ok, Err, if◌then◌else◌, option_and_then, arith, option_map}
+use Rattle.std.proofs.Common.{◌≡◌, ℕ, zero, suc, ◌+◌, ◌<◌, ◌≤◌, Bool, true, false, not, ◌&&◌, ◌==◌, nat_eq, nat_lt, List, [], ◌∷◌, ◌++◌, length, refl, sym, ap, subst, ◌∙◌, append_assoc, append-nil, Option, Some, None, Ok, Err, if◌then◌else◌, option_and_then, arith, option_map}
 use Rattle.std.specs.Prelude.{option_to_list}
 use Rattle.std.specs.List.{list_any}
 use Rattle.std.proofs.lemmas.Grind.{flat_map-append}
@@ -20,13 +20,13 @@ use Rattle.bp_log.specs.declared.verdict.Verdict.TheVariants as verdict
 use Rattle.bp_log.proofs.Equality.{first_part, verdict_path, verdict_refl}
 use Rattle.bp_run.specs.Bodies.{Code}
 use Rattle.bp_run.specs.Configuration.{Configuration, Stand}
-use Rattle.bp_run.specs.Settling.{Pair, settle, initial, queued, opening}
+use Rattle.bp_run.specs.Settling.{initial, queued, opening}
 use Rattle.bp_run.specs.Selecting.{Asked, live, selectable}
 use Rattle.bp_run.specs.Choosing.{Choice, choice, Touched, reach}
 use Rattle.bp_run.specs.Story.{Next, next, next_unless, next_choice, next_chosen, next_idle, step, stepped, move, may_come, has_room, is_over, if_selected, if_ended, over_with, line_of_choice, after_record, story_from, story, alone_from, alone, weight_after, record_of, after_next}
 use Rattle.bp_run.specs.Story.Next.{Ends, Selects, Waits}
 use Rattle.bp_run.specs.Text.{text}
-use Rattle.bp_run.proofs.Growing.{Grown, grown_settle}
+use Rattle.bp_run.proofs.Growing.{grown_settle}
 
 pub and_then_if : {A B : Type 0} (b : Bool) (g : A → Option B) (x : A) (d : B) → option_and_then g (if b then Some x else None) ≡ Some d → (b ≡ true) × (g x ≡ Some d)
 and_then_if true g x d h = (refl, h)
@@ -83,10 +83,12 @@ choice_selects l o c (Err f) ch r h = absurd (cc)
 choice_selects l o c (Ok None) ch r h = absurd (idle_not c c.bad ch r h)
 choice_selects l o c (Ok (Some d)) ch r h =
     let s = steps_left c.stand.transitions o.steps (nat_eq c.stand.transitions o.steps) (next_chosen c.stand d (reach l.has d.event (live l c.stand))) ch r refl h in
-    let k = chosen_selects c.stand d ch (reach l.has d.event (live l c.stand)) r s.1 in
-    (ap (λ (x : Choice). Ok (Some x)) k.0, s.0,
-    subst (λ (x : Choice). reach l.has x.event (live l c.stand) ≡ Ok r) k.0 k.1,
-    subst (λ (x : Choice). weight_after c.stand x.event r ≤ MOST_WEIGHT) k.0 k.2)
+    let k = chosen_selects c.stand d ch (reach l.has d.event (live l c.stand)) r s.1 in (
+      ap (λ (x : Choice). Ok (Some x)) k.0,
+      s.0,
+      subst (λ (x : Choice). reach l.has x.event (live l c.stand) ≡ Ok r) k.0 k.1,
+      subst (λ (x : Choice). weight_after c.stand x.event r ≤ MOST_WEIGHT) k.0 k.2,
+    )
 
 unless_selects : {O S : Type 0} (l : Code O S) (o : PlainOptions) (c : Configuration O) (v : Option Verdict) (ch : Choice) (r : List Touched) → c.stand.verdict ≡ v → next_unless l o c v ≡ Selects ch r → Selected l o c ch r
 unless_selects l o c (Some v) ch r e h = absurd (cc)

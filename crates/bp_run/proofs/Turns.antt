@@ -1,18 +1,15 @@
 -- Each turn after the first has a newly registered b-thread, so settling comes to rest within its turns.
-use Rattle.std.proofs.Common.{◌≡◌, ℕ, zero, suc, ◌+◌, ◌<◌, ◌≤◌, Bool, true, false, List, [], ◌∷◌, ◌++◌, length, refl, sym, ap, ◌∙◌, arith, Option, Some, None, if◌then◌else◌, ◌==◌, nat_eq, length-append, map, is_some}
+use Rattle.std.proofs.Common.{◌≡◌, ℕ, zero, suc, ◌+◌, ◌<◌, ◌≤◌, Bool, true, false, List, [], ◌∷◌, length, refl, sym, ap, ◌∙◌, arith, Option, Some, None, if◌then◌else◌, ◌==◌, nat_eq, length-append, map, is_some}
 use Rattle.std.proofs.lemmas.Bool.{eq-eqb}
-use Rattle.js_data.specs.Event.{PlainEvent}
 use Rattle.bp_log.specs.declared.limits.TheConstants.{MOST_WAITING, MOST_THREADS}
-use Rattle.bp_log.specs.declared.trace.Line.{Line}
-use Rattle.bp_log.specs.declared.trace.Line.TheVariants as trace
 use Rattle.bp_log.specs.declared.verdict.Verdict.{Verdict}
 use Rattle.bp_log.specs.declared.verdict.Verdict.TheVariants as verdict
 use Rattle.bp_log.specs.declared.verdict.Place.{Place}
 use Rattle.bp_run.specs.Bodies.{Code, Part, Effect, Outcome}
 use Rattle.bp_run.specs.Bodies.Effect.{Says, Enqueue, Register, Handler}
 use Rattle.bp_run.specs.Bodies.Outcome.{Stopped, Ended, Broken, Violated, Spent}
-use Rattle.bp_run.specs.Configuration.{Configuration, Stand, Thread, change, below}
-use Rattle.bp_run.specs.Settling.{Entry, Pair, Ran, ran, unless_at, unless_over, stopped, said, queued, registered, with_effect, with_effects, with_end, with_outcome, with_part, merged, turn, at_rest, settle_in, settle, place_of, part_of, body_of, opening, initial}
+use Rattle.bp_run.specs.Configuration.{Stand, change, below}
+use Rattle.bp_run.specs.Settling.{Entry, Pair, Ran, ran, unless_at, unless_over, stopped, queued, registered, with_effect, with_effects, with_end, with_outcome, with_part, merged, turn, at_rest, settle_in, settle, place_of, opening, initial}
 use Rattle.bp_run.specs.Settling.Entry.{The_top, Runs, Stops}
 
 -- as many entries as b-threads came, and no b-thread past the limit

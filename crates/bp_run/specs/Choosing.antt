@@ -1,11 +1,10 @@
 -- Which of the selectable events is chosen, and whom it reaches.
-use Rattle.std.specs.Prelude.{ℕ, ◌+◌, ◌%◌, Bool, true, false, List, [], ◌∷◌, ◌++◌, length, Option, Some, None, Result, Ok, Err, slice_get, filter, find, if◌then◌else◌, ℤ, int_le, option_map}
+use Rattle.std.specs.Prelude.{ℕ, ◌+◌, ◌%◌, Bool, true, false, List, [], ◌∷◌, length, Option, Some, None, Ok, Err, slice_get, filter, find, if◌then◌else◌, ℤ, int_le, option_map}
 use Rattle.std.specs.List.{list_any, list_all, cons_option}
 use Rattle.js_data.specs.Event.{PlainEvent, same_event}
 use Rattle.bp_log.specs.declared.options.Strategy.{Strategy}
 use Rattle.bp_log.specs.declared.options.Strategy.TheVariants.{Simple, Ordered, Priority}
-use Rattle.bp_run.specs.Bodies.{SetFault}
-use Rattle.bp_run.specs.Selecting.{Live, Has, Asked, by_number, both, without_fault, Enabled, selectable, requests}
+use Rattle.bp_run.specs.Selecting.{Live, Has, Asked, by_number, both, without_fault, selectable, requests}
 
 -- whether e is the first request of the b-thread that is among these events
 abbrev pub is_first_of : {Set : Type 0} → List PlainEvent → PlainEvent → Live Set → Bool

@@ -1,5 +1,5 @@
 -- Selection in the field's words: requested by some or waiting in the queue, and blocked by none.
-use Rattle.std.specs.Prelude.{◌≡◌, ℕ, Bool, true, false, List, Option, Some, None, Ok, slice_get}
+use Rattle.std.specs.Prelude.{◌≡◌, ℕ, true, false, List, Option, Some, None, Ok, slice_get}
 use Rattle.js_data.specs.Event.{PlainEvent}
 use Rattle.bp_run.specs.Selecting.{Live, Has, blocked, requested}
 use Rattle.bp_run.specs.Choosing.{Choice}

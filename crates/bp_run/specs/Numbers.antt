@@ -1,5 +1,5 @@
 -- Entries and what is touched, by the numbers of their b-threads.
-use Rattle.std.specs.Prelude.{ℕ, zero, suc, ◌+◌, ◌<◌, ◌≤◌, ◌==◌, Bool, true, List, [], ◌∷◌, ◌++◌, Option, Some, None, Result, Ok, if◌then◌else◌}
+use Rattle.std.specs.Prelude.{ℕ, zero, suc, ◌+◌, ◌<◌, ◌≤◌, ◌==◌, true, List, [], ◌∷◌, ◌++◌, Option, Some, None, Ok, if◌then◌else◌}
 use Rattle.js_data.specs.Event.{PlainEvent}
 use Rattle.bp_run.specs.Configuration.{Thread}
 use Rattle.bp_run.specs.Settling.{Entry}

@@ -1,5 +1,5 @@
 -- Which events can be selected: requested by some, blocked by none.
-use Rattle.std.specs.Prelude.{ℕ, suc, Bool, true, false, not, ◌||◌, List, [], ◌∷◌, ◌++◌, Option, Some, None, Result, Ok, Err, filter, flat_map, if◌then◌else◌}
+use Rattle.std.specs.Prelude.{ℕ, suc, Bool, true, false, not, ◌||◌, List, [], ◌∷◌, Option, Some, None, Result, Ok, Err, filter, flat_map, if◌then◌else◌}
 use Rattle.std.specs.List.{list_any, cons_option}
 use Rattle.js_data.specs.Event.{PlainEvent, same_event}
 use Rattle.bp_run.specs.Bodies.{Code, Statement, Outcome, SetFault}

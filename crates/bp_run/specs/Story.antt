@@ -1,5 +1,5 @@
 -- Transitions, and the runs that a list of records tells.
-use Rattle.std.specs.Prelude.{ℕ, zero, suc, ◌+◌, ◌*◌, Bool, true, false, not, ◌&&◌, ◌==◌, nat_lt, nat_eq, List, [], ◌∷◌, ◌++◌, length, map, Option, Some, None, Result, Ok, Err, filter, if◌then◌else◌, option_and_then, option_map, remove, count_by, slice_get}
+use Rattle.std.specs.Prelude.{ℕ, zero, suc, ◌+◌, ◌*◌, Bool, true, false, not, ◌&&◌, ◌==◌, nat_lt, nat_eq, List, [], ◌∷◌, ◌++◌, length, map, Option, Some, None, Ok, Err, filter, if◌then◌else◌, option_and_then, option_map, remove, count_by, slice_get}
 use Rattle.std.specs.List.{list_any}
 use Rattle.js_data.specs.Event.{PlainEvent, event_weight, same_event}
 use Rattle.js_data.specs.declared.fault.Fault.TheVariants.{Truth}
@@ -17,7 +17,7 @@ use Rattle.bp_run.specs.Bodies.{Code, SetFault}
 use Rattle.bp_run.specs.Bodies.SetFault.{Broken, Spent, NotTruth}
 use Rattle.bp_run.specs.Configuration.{Configuration, Stand, Thread, change, name_in}
 use Rattle.bp_run.specs.Settling.{Body, Entry, Pair, settle, initial, queued}
-use Rattle.bp_run.specs.Settling.Entry.{The_top, Runs, Stops}
+use Rattle.bp_run.specs.Settling.Entry.{Runs, Stops}
 use Rattle.bp_run.specs.Selecting.{live, Asked}
 use Rattle.bp_run.specs.Choosing.{Choice, choice, Touched, reach}
 use Rattle.bp_run.specs.Choosing.Touched.{Moves, Interrupts}

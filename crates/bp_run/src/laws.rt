@@ -16,6 +16,7 @@ ghost use Rattle.bp_run.specs.Numbers.{IsRising, number_of, touch_at, after_touc
 ghost use Rattle.bp_run.specs.Story as story;
 ghost use Rattle.bp_run.specs.Story.{story as told, alone, next, step, stepped};
 ghost use Rattle.bp_run.specs.Text.{text};
+
 use bp_log::limits::MOST_THREADS;
 
 /// With no injectors there is exactly one complete list of records that is a story.
