@@ -4,7 +4,7 @@ use Rattle.std.specs.Prelude.{codes}
 use Rattle.js_program.specs.declared.builtin.Builtin.TheVariants as form
 use Rattle.js_program.specs.PlainProgram as p
 use Rattle.js_program.specs.PlainProgram.{PlainNode, PlainBody}
-use Rattle.js_frames.proofs.Small.{one, statements, program}
+use Rattle.js_meaning.proofs.Small.{one, statements, program}
 use Rattle.bp_log.specs.Options.{PlainOptions}
 use Rattle.bp_code.specs.Code.{text_alone}
 
@@ -16,14 +16,14 @@ registers k name code =
 -- 5 nodes: bp.sync({request: bp.Event(name)});
 abbrev pub requests : ℕ → List ℕ → List PlainNode
 requests k name =
-    one (p.words name) ∷ one (p.builtin form.Event (k ∷ [])) ∷ one (p.fields ((codes "request", k + 1) ∷ []))
+    one (p.words name) ∷ one (p.builtin form.Event (k ∷ [])) ∷ one (p.fields (codes "request" ∷ []) ((k + 1) ∷ []))
     ∷ one (p.builtin form.Sync ((k + 2) ∷ [])) ∷ one (p.expression (k + 3)) ∷ []
 
 -- 7 nodes: bp.sync({waitFor: bp.Event(first), key: bp.Event(second)});
 abbrev pub waits : ℕ → List ℕ → List ℕ → List ℕ → List PlainNode
 waits k first key second =
     one (p.words first) ∷ one (p.builtin form.Event (k ∷ [])) ∷ one (p.words second) ∷ one (p.builtin form.Event ((k + 2) ∷ []))
-    ∷ one (p.fields ((codes "waitFor", k + 1) ∷ (key, k + 3) ∷ [])) ∷ one (p.builtin form.Sync ((k + 4) ∷ [])) ∷ one (p.expression (k + 5)) ∷ []
+    ∷ one (p.fields (codes "waitFor" ∷ key ∷ []) ((k + 1) ∷ (k + 3) ∷ [])) ∷ one (p.builtin form.Sync ((k + 4) ∷ [])) ∷ one (p.expression (k + 5)) ∷ []
 
 -- 3 nodes: bp.log.info(text);
 abbrev pub logs : ℕ → List ℕ → List PlainNode

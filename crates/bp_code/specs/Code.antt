@@ -1,15 +1,16 @@
--- An accepted program as the code that a run sees.
+-- A program as the code that a run sees.
 use Rattle.std.specs.Prelude.{ℕ, List, Option}
 use Rattle.js_value.specs.Value.{PlainSet}
 use Rattle.js_program.specs.PlainProgram.{PlainProgram}
-use Rattle.js_frames.specs.Meaning.{Ground, ground_of}
+use Rattle.js_meaning.specs.State.{Ground}
+use Rattle.js_meaning.specs.Bodies.{Origin, the_top, ground_of}
 use Rattle.bp_log.specs.Options.{PlainOptions}
 use Rattle.bp_log.specs.declared.record.Record.{Record}
 use Rattle.bp_run.specs.Bodies.{Code}
 use Rattle.bp_run.specs.Story.{alone}
 use Rattle.bp_run.specs.Text.{text}
-use Rattle.bp_sets.specs.Membership.{member}
-use Rattle.bp_thread.specs.After.{Origin, the_top, after, handling}
+use Rattle.bp_meaning.specs.Membership.{member}
+use Rattle.bp_meaning.specs.After.{after, handling}
 
 -- the code of a program whose constants are these
 abbrev pub code_on : Ground → ℕ → (ℕ → ℕ) → Code Origin PlainSet

@@ -1,6 +1,2 @@
-//! Accepted programs as the code that a run sees: the definitions.
+//! Programs as the code that a run sees: the definitions.
 #![tactic(auto)]
-
-mod laws;
-
-pub use laws::one_program;
