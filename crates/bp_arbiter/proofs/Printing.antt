@@ -5,7 +5,7 @@ use Rattle.std.proofs.lemmas.Grind.{flat_map-append}
 use Rattle.bp_base.specs.Pieces.{Appends, AppendsFront}
 use Rattle.bp_base.proofs.Appending.{appends-on}
 use Rattle.bp_log.specs.declared.trace.Line.{Line}
-use Rattle.bp_run.specs.Text.{whole_line, lines_text}
+use Rattle.bp_log.specs.Texts.{whole_line, lines_text}
 use Rattle.bp_arbiter.proofs.Searching.{drop_is}
 
 pub appends_nothing : (a : Option (List ℕ)) → Appends a [] a
