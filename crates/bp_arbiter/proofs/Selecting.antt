@@ -23,7 +23,7 @@ use Rattle.bp_arbiter.proofs.Distinct.{the_choice, no_word, drawn_of-distinct}
 
 -- ---- who blocks
 
-blocked_at : (e : PlainEvent) (n : ℕ) (o : Option Point) (rest : List (Live (Option PlainEvent))) (b : Bool) →
+pub blocked_at : (e : PlainEvent) (n : ℕ) (o : Option Point) (rest : List (Live (Option PlainEvent))) (b : Bool) →
     blocked has_in rest e ≡ Ok b → blocked has_in (cons_option (live_at n o) rest) e ≡ Ok (blocks_at e o || b)
 blocked_at e n None rest b h = h
 blocked_at e n (Some p) rest b h = rw h refl
@@ -35,7 +35,7 @@ blocked_is script e n (t ∷ ts) =
     ap (λ (front : Option (Live (Option PlainEvent))). blocked has_in (cons_option front rest) e) (live_is script n t)
     ∙ blocked_at e n (point_of script t) rest (is_blocked script ts e) (blocked_is script e (suc n) ts)
 
-free_at : (e : PlainEvent) (rest : List PlainEvent) (b : Bool) → (if b then rest else e ∷ rest) ≡ cond (not b) (e ∷ rest) rest
+pub free_at : (e : PlainEvent) (rest : List PlainEvent) (b : Bool) → (if b then rest else e ∷ rest) ≡ cond (not b) (e ∷ rest) rest
 free_at e rest true = refl
 free_at e rest false = refl
 
@@ -46,7 +46,7 @@ free_is script ts (e ∷ es) = rw (blocked_is script e 0 ts, free_is script ts e
 
 -- ---- what is requested
 
-requests_at : (n : ℕ) (o : Option Point) (rest : List (Live (Option PlainEvent))) (es : List PlainEvent) →
+pub requests_at : (n : ℕ) (o : Option Point) (rest : List (Live (Option PlainEvent))) (es : List PlainEvent) →
     flat_map (λ t. t.statement.request) rest ≡ es → flat_map (λ t. t.statement.request) (cons_option (live_at n o) rest) ≡ cons_option (request_at o) es
 requests_at n None rest es h = h
 requests_at n (Some p) rest es h = request_case p.request
@@ -65,7 +65,7 @@ requests_are script n (t ∷ ts) =
 
 -- ---- what is chosen
 
-or_nothing : (ts : List (Live (Option PlainEvent))) (es : List PlainEvent) → or_queued has_in ts [] (Ok es) ≡ Ok (record { inner = es; outer = None })
+pub or_nothing : (ts : List (Live (Option PlainEvent))) (es : List PlainEvent) → or_queued has_in ts [] (Ok es) ≡ Ok (record { inner = es; outer = None })
 or_nothing ts [] = refl
 or_nothing ts (e ∷ es) = refl
 
@@ -76,7 +76,7 @@ selectable_is script ts s h k =
     rw (h, k, requests_are script 0 ts, free_is script ts (distinct (filter_map (requested_by script) ts)))
     (or_nothing (live_from (straight_code script) 0 (map standing ts)) (filter (is_free script ts) (distinct (filter_map (requested_by script) ts))))
 
-chosen_at : (s : Strategy) (ts : List (Live (Option PlainEvent))) (queue : List PlainEvent) (d : ℕ) (es : List PlainEvent) → remaining s ts es ≡ es → chosen no_word s ts queue d es None ≡ drawn_of no_word d es
+pub chosen_at : (s : Strategy) (ts : List (Live (Option PlainEvent))) (queue : List PlainEvent) (d : ℕ) (es : List PlainEvent) → remaining s ts es ≡ es → chosen no_word s ts queue d es None ≡ drawn_of no_word d es
 chosen_at s ts queue d [] h = refl
 chosen_at s ts queue d (e ∷ es) h = ap (λ (xs : List PlainEvent). drawn_of no_word d xs) h
 
@@ -100,7 +100,7 @@ same_sym_at a b false false h k = refl
 same_sym_at a b true false h k = let f : same_event b a ≡ true = subst (λ (z : PlainEvent). same_event z a ≡ true) (same_event-sound a b h) (same_event-self a) in absurd (cc)
 same_sym_at a b false true h k = let f : same_event a b ≡ true = subst (λ (z : PlainEvent). same_event z b ≡ true) (same_event-sound b a k) (same_event-self b) in absurd (cc)
 
-pub same_sym : (a b : PlainEvent) → same_event a b ≡ same_event b a
+same_sym : (a b : PlainEvent) → same_event a b ≡ same_event b a
 same_sym a b = same_sym_at a b (same_event a b) (same_event b a) refl refl
 
 any_one : (e : PlainEvent) (o : Option PlainEvent) → list_any (same_event e) (option_to_list o) ≡ is_in o e
@@ -113,13 +113,13 @@ touched_by n true b r = refl
 touched_by n false true r = refl
 touched_by n false false r = refl
 
-reach_at : (e : PlainEvent) (n : ℕ) (o : Option Point) (rest : List (Live (Option PlainEvent))) (r : List Touched) →
+pub reach_at : (e : PlainEvent) (n : ℕ) (o : Option Point) (rest : List (Live (Option PlainEvent))) (r : List Touched) →
     reach has_in e rest ≡ Ok r → reach has_in e (cons_option (live_at n o) rest) ≡ Ok (map Moves (number_if (reached_at e o) n) ++ r)
 unfolding reach
 reach_at e n None rest r h = h
 reach_at e n (Some p) rest r h = rw (h, touched, any_one e p.request) (touched_by n (is_in p.request e) (is_in p.wait_for e) r)
 
-moves_append : (xs ys : List ℕ) → map Moves xs ++ map Moves ys ≡ map Moves (xs ++ ys)
+pub moves_append : (xs ys : List ℕ) → map Moves xs ++ map Moves ys ≡ map Moves (xs ++ ys)
 moves_append [] ys = refl
 moves_append (x ∷ xs) ys = ap (λ (r : List Touched). Moves x ∷ r) (moves_append xs ys)
 
