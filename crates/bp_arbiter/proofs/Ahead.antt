@@ -1,8 +1,8 @@
 -- How far a run is on the way to its end.
-use Rattle.std.proofs.Common.{◌≡◌, ℕ, zero, suc, ◌+◌, ◌-◌, ◌<◌, ◌≤◌, Bool, true, false, List, [], ◌∷◌, ◌++◌, length, take, drop, refl, ap, sym, ◌∙◌, subst, append_assoc, append-nil, length-append, add-one, arith, Option, Some, None, option_map, IsSomeAnd}
+use Rattle.std.proofs.Common.{◌≡◌, ℕ, zero, suc, ◌+◌, ◌-◌, ◌<◌, ◌≤◌, false, List, [], ◌∷◌, ◌++◌, length, drop, refl, ap, sym, ◌∙◌, subst, append_assoc, append-nil, length-append, arith, Option, Some, option_map, IsSomeAnd}
 use Rattle.bp_base.specs.Pieces.{Appends, AppendsFront}
 use Rattle.bp_base.proofs.Appending.{appends-on}
-use Rattle.bp_log.specs.Options.{PlainOptions, default_options}
+use Rattle.bp_log.specs.Options.{default_options}
 use Rattle.bp_log.specs.Records.{is_complete}
 use Rattle.bp_log.specs.Texts.{lines_text}
 use Rattle.bp_log.specs.declared.record.Record.{Record}
@@ -10,7 +10,6 @@ use Rattle.bp_log.specs.declared.record.Record.TheVariants.{In, Bad, Eof, Sel, E
 use Rattle.bp_log.specs.declared.trace.Line.{Line}
 use Rattle.bp_log.specs.declared.trace.Line.TheVariants as trace
 use Rattle.bp_log.specs.declared.verdict.Verdict.{Verdict}
-use Rattle.bp_run.specs.Bodies.{Code}
 use Rattle.bp_run.specs.Configuration.{Configuration}
 use Rattle.bp_run.specs.Settling.{initial}
 use Rattle.bp_run.specs.Choosing.{Choice, Touched}
@@ -20,7 +19,7 @@ use Rattle.bp_run.specs.Text.{text}
 use Rattle.bp_run.proofs.Stories.{alone_is, alone_on, text_prefix, move_lines, move_transitions, selects_steps, waits_not, initial_transitions, initial_reading}
 use Rattle.js_straight.specs.declared.script.Straight.{Straight}
 use Rattle.bp_arbiter.specs.declared.runner.Picked.{Picked}
-use Rattle.bp_arbiter.specs.declared.runner.Picked.TheVariants.{Moved, Wait, Over}
+use Rattle.bp_arbiter.specs.declared.runner.Picked.TheVariants.{Moved, Over}
 use Rattle.bp_arbiter.specs.Straight.{straight_code, text_alone}
 use Rattle.bp_arbiter.specs.Stand.{Stand, told, Takes}
 use Rattle.bp_arbiter.proofs.Runs.{stand}

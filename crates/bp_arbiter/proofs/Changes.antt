@@ -1,5 +1,5 @@
 -- B-threads as the definitions see them, one by one.
-use Rattle.std.proofs.Common.{◌≡◌, ℕ, zero, suc, ◌+◌, ◌<◌, Bool, true, false, List, [], ◌∷◌, ◌++◌, length, map, set, get_or, refl, sym, ap, ◌∙◌, arith, Option, Some, None, slice_get}
+use Rattle.std.proofs.Common.{◌≡◌, ℕ, zero, suc, ◌<◌, true, List, [], ◌∷◌, ◌++◌, length, map, set, get_or, refl, sym, ap, arith, Some, slice_get}
 use Rattle.bp_run.specs.Configuration.{Thread as Standing, change}
 use Rattle.bp_log.specs.declared.trace.Line.{Line}
 use Rattle.bp_log.specs.declared.trace.Line.TheVariants.{Done}

@@ -1,5 +1,5 @@
 -- B-threads that stand at a point, as the definitions see them.
-use Rattle.std.proofs.Common.{◌≡◌, ℕ, Bool, true, false, List, [], ◌∷◌, length, refl, Option, Some, None, slice_get, if◌then◌else◌}
+use Rattle.std.proofs.Common.{◌≡◌, ℕ, Bool, true, false, List, length, refl, Option, Some, None, slice_get, if◌then◌else◌}
 use Rattle.js_data.specs.Event.{PlainEvent}
 use Rattle.bp_run.specs.Selecting.{Live, at_stop, stated}
 use Rattle.js_straight.specs.declared.script.Point.{Point}

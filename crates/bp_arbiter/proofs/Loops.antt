@@ -1,12 +1,11 @@
 -- Steps of the loops over b-threads.
-use Rattle.std.proofs.Common.{◌≡◌, ℕ, zero, suc, ◌+◌, ◌<◌, ◌≤◌, true, false, List, [], ◌∷◌, ◌++◌, length, map, nat_eq, drop, get_or, add-one, refl, ap, sym, ◌∙◌, arith, Option, Some, None, slice_get}
+use Rattle.std.proofs.Common.{◌≡◌, ℕ, zero, suc, ◌+◌, ◌<◌, ◌≤◌, true, false, List, [], ◌∷◌, length, map, nat_eq, drop, get_or, add-one, refl, ap, sym, ◌∙◌, arith, Option, Some, None, slice_get}
 use Rattle.std.proofs.lemmas.Bool.{eqb-true, eq-eqb}
 use Rattle.std.proofs.Math.Seq.{drop-cons}
-use Rattle.js_data.specs.Event.{PlainEvent}
 use Rattle.bp_log.specs.declared.verdict.Verdict.{Verdict}
 use Rattle.bp_log.specs.declared.verdict.Place.TheVariants.{Top}
 use Rattle.bp_run.specs.Configuration.{Stand, Thread as Standing, empty}
-use Rattle.bp_run.specs.Settling.{Pair, Entry, Body, Ran, own_body, body_of, part_of, unless_at, unless_over, with_part, with_effects, ran, merged, turn, opening}
+use Rattle.bp_run.specs.Settling.{Pair, Entry, Body, own_body, body_of, part_of, unless_at, unless_over, with_part, with_effects, ran, merged, turn, opening}
 use Rattle.bp_run.specs.Settling.Entry.{Runs}
 use Rattle.bp_arbiter.specs.Straight.{straight_code, registrations}
 use Rattle.bp_arbiter.specs.Floor.{standing, body_in, run_by}

@@ -1,20 +1,18 @@
 -- What comes next for straight b-threads, case by case.
-use Rattle.std.proofs.Common.{◌≡◌, ℕ, zero, suc, ◌+◌, ◌*◌, ◌<◌, ◌≤◌, Bool, true, false, List, [], ◌∷◌, length, map, refl, ap, sym, ◌∙◌, subst, arith, Option, Some, None, Result, Ok, option_map, min, nat_lt, nat_eq, if◌then◌else◌, cond, count_by}
+use Rattle.std.proofs.Common.{◌≡◌, ℕ, suc, ◌+◌, ◌*◌, ◌<◌, ◌≤◌, Bool, true, false, List, [], ◌∷◌, length, map, refl, ap, sym, ◌∙◌, arith, Option, Some, None, Ok, option_map, min, nat_lt, nat_eq, if◌then◌else◌, cond, count_by}
 use Rattle.std.proofs.lemmas.List.Sums.{sum_by-cons}
 use Rattle.std.proofs.lemmas.Bool.{lt-ltb, le-ltb, eq-eqb, eqb-true}
 use Rattle.js_data.specs.Event.{PlainEvent, event_weight}
 use Rattle.bp_log.specs.Options.{PlainOptions}
-use Rattle.bp_log.specs.declared.options.Strategy.{Strategy}
-use Rattle.bp_log.specs.declared.options.Strategy.TheVariants.{Simple}
 use Rattle.bp_log.specs.declared.verdict.Verdict.{Verdict}
 use Rattle.bp_log.specs.declared.verdict.Verdict.TheVariants as verdict
 use Rattle.bp_log.specs.declared.limits.TheConstants.{MOST_WEIGHT}
 use Rattle.bp_run.specs.Configuration.{Configuration, Stand}
 use Rattle.bp_run.specs.Selecting.{Asked, live}
-use Rattle.bp_run.specs.Choosing.{Choice, choice, Touched, reach}
+use Rattle.bp_run.specs.Choosing.{Choice, Touched, reach}
 use Rattle.bp_run.specs.Choosing.Touched.{Moves}
 use Rattle.bp_run.specs.Story.{Next, next, next_unless, next_choice, next_idle, next_chosen, weight_after, is_move}
-use Rattle.bp_run.specs.Story.Next.{Ends, Selects, Waits}
+use Rattle.bp_run.specs.Story.Next.{Ends, Selects}
 use Rattle.js_straight.specs.declared.script.Straight.{Straight}
 use Rattle.bp_arbiter.specs.declared.thread.Thread.{Thread}
 use Rattle.bp_arbiter.specs.Straight.{straight_code, has_in}

@@ -1,9 +1,8 @@
 -- A step of a run, as its records tell it.
-use Rattle.std.proofs.Common.{◌≡◌, ℕ, ◌≤◌, arith, Bool, true, false, List, [], ◌∷◌, ◌++◌, refl, ap, sym, ◌∙◌, subst, append-nil, Option, Some, None, IsSomeAnd}
+use Rattle.std.proofs.Common.{◌≡◌, ℕ, ◌≤◌, arith, Bool, false, List, [], ◌++◌, refl, ap, sym, ◌∙◌, subst, append-nil, Option, Some, None, IsSomeAnd}
 use Rattle.std.specs.Prelude.{option_to_list}
 use Rattle.bp_log.specs.Options.{PlainOptions}
 use Rattle.bp_log.specs.declared.record.Record.{Record}
-use Rattle.bp_log.specs.declared.record.Record.TheVariants.{Sel, End}
 use Rattle.bp_log.specs.Records.{is_complete}
 use Rattle.bp_run.specs.Configuration.{Configuration, Stand as Standing, below}
 use Rattle.bp_run.specs.Settling.{initial}

@@ -1,21 +1,20 @@
 -- What the definitions select of straight b-threads.
-use Rattle.std.proofs.Common.{◌≡◌, ℕ, zero, suc, ◌+◌, Bool, true, false, not, ◌&&◌, ◌||◌, List, [], ◌∷◌, ◌++◌, length, map, refl, ap, sym, subst, ◌∙◌, Option, Some, None, Result, Ok, Err, option_map, filter, filter_map, find, cond, slice_get, if◌then◌else◌, flat_map}
+use Rattle.std.proofs.Common.{◌≡◌, ℕ, suc, Bool, true, false, not, ◌||◌, List, [], ◌∷◌, ◌++◌, map, refl, ap, subst, ◌∙◌, Option, Some, None, Ok, option_map, filter, filter_map, cond, if◌then◌else◌, flat_map}
 use Rattle.std.specs.Prelude.{option_to_list}
 use Rattle.std.specs.List.{list_any, cons_option}
 use Rattle.std.proofs.Math.Bool.{or-false}
 use Rattle.js_data.specs.Event.{PlainEvent, same_event}
 use Rattle.js_data.proofs.SameEvent.{same_event-sound, same_event-self}
 use Rattle.bp_log.specs.declared.options.Strategy.{Strategy}
-use Rattle.bp_log.specs.declared.options.Strategy.TheVariants.{Simple}
 use Rattle.bp_run.specs.Configuration.{Stand, Thread as Standing}
-use Rattle.bp_run.specs.Selecting.{Live, Asked, live_from, live, both, without_fault, blocked, unblocked, Enabled, or_queued, distinct, selectable}
+use Rattle.bp_run.specs.Selecting.{Live, Asked, live_from, live, both, without_fault, blocked, unblocked, or_queued, distinct, selectable}
 use Rattle.bp_run.specs.Choosing.{Choice, choice, chosen, drawn_of, remaining, Touched, touched, reach, moves_if}
 use Rattle.bp_run.specs.Choosing.Touched.{Moves}
 use Rattle.js_straight.specs.declared.script.Point.{Point}
 use Rattle.js_straight.specs.declared.script.Straight.{Straight}
 use Rattle.bp_arbiter.specs.declared.thread.Thread.{Thread}
-use Rattle.bp_arbiter.specs.Straight.{straight_code, has_in, statement_of, outcome_at, points_of, is_in}
-use Rattle.bp_arbiter.specs.Standing.{point_of, request_at, requested_by, blocks_at, blocks, reached_at, is_reached, is_blocked, is_free, first_free, has_another, number_if, reached_from}
+use Rattle.bp_arbiter.specs.Straight.{straight_code, has_in, is_in}
+use Rattle.bp_arbiter.specs.Standing.{point_of, request_at, requested_by, blocks_at, reached_at, is_reached, is_blocked, is_free, first_free, has_another, number_if, reached_from}
 use Rattle.bp_arbiter.specs.Floor.{standing}
 use Rattle.bp_arbiter.proofs.Lives.{live_at, live_is}
 use Rattle.bp_arbiter.proofs.Strategies.{remaining_is}

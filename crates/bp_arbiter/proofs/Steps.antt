@@ -1,5 +1,5 @@
 -- A transition, part by part.
-use Rattle.std.proofs.Common.{◌≡◌, ℕ, suc, ◌+◌, ◌*◌, ◌≤◌, List, [], ◌∷◌, ◌++◌, length, map, refl, ap, sym, ◌∙◌, arith, None, min}
+use Rattle.std.proofs.Common.{◌≡◌, ℕ, ◌+◌, ◌*◌, ◌≤◌, List, [], ◌∷◌, ◌++◌, length, map, refl, ap, sym, ◌∙◌, arith, None, min}
 use Rattle.js_data.specs.Event.{PlainEvent, event_weight}
 use Rattle.bp_log.specs.declared.limits.TheConstants.{MOST_WEIGHT}
 use Rattle.bp_log.specs.declared.trace.Line.{Line}

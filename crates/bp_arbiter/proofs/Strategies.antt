@@ -1,7 +1,7 @@
 -- Every strategy leaves all the events that can be selected, since each b-thread requests at most one, with priority 0.
-use Rattle.std.proofs.Common.{◌≡◌, ℕ, suc, Bool, true, false, not, ◌&&◌, ◌||◌, List, [], ◌∷◌, ◌++◌, map, refl, ap, sym, ◌∙◌, subst, Option, Some, None, filter, filter_map, find, cond, if◌then◌else◌}
-use Rattle.std.specs.Prelude.{option_to_list, pos, int_le, ℤ}
-use Rattle.std.specs.List.{list_any, list_all, cons_option}
+use Rattle.std.proofs.Common.{◌≡◌, ℕ, suc, Bool, true, false, ◌||◌, List, [], ◌∷◌, map, refl, ap, sym, ◌∙◌, subst, Option, Some, None, filter, filter_map, find, cond, if◌then◌else◌}
+use Rattle.std.specs.Prelude.{option_to_list, pos, ℤ}
+use Rattle.std.specs.List.{list_any, cons_option}
 use Rattle.js_data.specs.Event.{PlainEvent, same_event}
 use Rattle.bp_log.specs.declared.options.Strategy.{Strategy}
 use Rattle.bp_log.specs.declared.options.Strategy.TheVariants.{Simple, Ordered, Priority}
@@ -11,7 +11,7 @@ use Rattle.bp_run.specs.Choosing.{is_first_of, greater, priority_of, at_most, is
 use Rattle.js_straight.specs.declared.script.Point.{Point}
 use Rattle.js_straight.specs.declared.script.Straight.{Straight}
 use Rattle.bp_arbiter.specs.declared.thread.Thread.{Thread}
-use Rattle.bp_arbiter.specs.Straight.{straight_code, statement_of}
+use Rattle.bp_arbiter.specs.Straight.{straight_code}
 use Rattle.bp_arbiter.specs.Standing.{point_of, request_at, requested_by}
 use Rattle.bp_arbiter.specs.Floor.{standing}
 use Rattle.bp_arbiter.proofs.Distinct.{any-distinct}

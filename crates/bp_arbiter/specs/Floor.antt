@@ -1,7 +1,7 @@
 -- The configuration that a floor stands for, with what is to be run in it.
 use Rattle.std.specs.Prelude.{◌≡◌, ℕ, suc, ◌<◌, List, [], length, map, None, All}
 use Rattle.bp_run.specs.Configuration.{Configuration, Stand, Thread as Standing, below}
-use Rattle.bp_run.specs.Settling.{Pair, Entry, Body, unless_over, with_part, part_of, body_of}
+use Rattle.bp_run.specs.Settling.{Pair, Body, unless_over, with_part, part_of, body_of}
 use Rattle.bp_run.specs.Settling.Entry.{Runs}
 use Rattle.js_straight.specs.declared.script.Straight.{Straight}
 use Rattle.bp_arbiter.specs.Straight.{straight_code}

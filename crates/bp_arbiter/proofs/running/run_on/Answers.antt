@@ -1,4 +1,4 @@
-use Rattle.std.proofs.Common.{◌≡◌, ◌+◌, ◌≤◌, ◌∙◌, arith, ℕ, List, [], drop, length, ap, sym, subst, false}
+use Rattle.std.proofs.Common.{◌≡◌, ◌∙◌, arith, List, [], ap, sym, subst, false}
 use Rattle.std.proofs.lemmas.Result.{err_from_is_err_and}
 use Rattle.bp_base.specs.Pieces.{Appends}
 use Rattle.bp_log.specs.Options.{default_options}

@@ -1,5 +1,4 @@
-use Rattle.std.proofs.Common.{◌≡◌, ◌<◌, length, map, drop}
-use Rattle.std.specs.Prelude.{All}
+use Rattle.std.proofs.Common.{◌≡◌, map, drop}
 use Rattle.bp_run.specs.Choosing.Touched.{Moves}
 use Rattle.bp_run.specs.Story.{touch_all}
 use Rattle.bp_arbiter.specs.Floor.{standing}

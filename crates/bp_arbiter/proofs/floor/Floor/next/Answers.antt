@@ -1,4 +1,4 @@
-use Rattle.std.proofs.Common.{◌≡◌, ◌∙◌, ℕ, Bool, true, false, List, Option, Some, None, ap, sym, subst, refl, nat_eq, IfOk}
+use Rattle.std.proofs.Common.{◌≡◌, ◌∙◌, ℕ, false, List, None, ap, sym, subst, refl, nat_eq, IfOk}
 use Rattle.bp_log.specs.declared.verdict.Verdict.{Verdict}
 use Rattle.bp_log.specs.declared.verdict.Verdict.TheVariants as verdict
 use Rattle.bp_run.specs.Selecting.{live}
@@ -7,8 +7,8 @@ use Rattle.bp_run.specs.Story.{Next, next, next_chosen}
 use Rattle.bp_run.specs.Story.Next.{Ends}
 use Rattle.bp_arbiter.specs.declared.thread.Thread.{Thread}
 use Rattle.bp_arbiter.specs.Straight.{straight_code, has_in}
-use Rattle.bp_arbiter.specs.Standing.{first_free, has_another}
-use Rattle.bp_arbiter.specs.Following.{drawn_after, next_of}
+use Rattle.bp_arbiter.specs.Standing.{first_free}
+use Rattle.bp_arbiter.specs.Following.{next_of}
 use Rattle.bp_arbiter.specs.Floor.{stand_of, configuration_of}
 use Rattle.bp_arbiter.proofs.Nexts.{next_over, next_nothing, next_steps, next_chooses, differ}
 use Rattle.bp_arbiter.proofs.floor.Floor.next.Goals as goal

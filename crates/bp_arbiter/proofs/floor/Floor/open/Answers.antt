@@ -1,5 +1,4 @@
-use Rattle.std.proofs.Common.{◌≡◌, ◌∙◌, ap, sym, ℕ, None}
-use Rattle.bp_run.specs.Configuration.{Configuration, Stand, below}
+use Rattle.std.proofs.Common.{◌≡◌, ◌∙◌, ap, sym, ℕ}
 use Rattle.bp_run.specs.Settling.{Pair, settle, turn, opening}
 use Rattle.bp_run.proofs.Turns.{initial_from}
 use Rattle.bp_arbiter.specs.Straight.{straight_code}

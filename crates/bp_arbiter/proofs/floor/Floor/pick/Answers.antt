@@ -1,7 +1,7 @@
-use Rattle.std.proofs.Common.{◌≡◌, ◌∙◌, ◌+◌, ◌<◌, ◌≤◌, arith, map, None, ap, sym}
+use Rattle.std.proofs.Common.{◌≡◌, ◌∙◌, arith, map, None, ap, sym}
 use Rattle.bp_run.specs.Choosing.{Choice}
 use Rattle.bp_run.specs.Choosing.Touched.{Moves}
-use Rattle.bp_run.specs.Story.{Next, next}
+use Rattle.bp_run.specs.Story.{next}
 use Rattle.bp_run.specs.Story.Next.{Selects}
 use Rattle.bp_run.proofs.Stories.{selects_light, selects_steps}
 use Rattle.bp_arbiter.specs.declared.next.Next.{Next as Found}
