@@ -4,9 +4,10 @@ ghost use Rattle.bp_base.specs.Counts.{Rose};
 ghost use Rattle.bp_base.specs.Pieces.{Appends, AppendsFront};
 ghost use Rattle.js_data.specs.Faults.{fault_name};
 ghost use Rattle.js_data.specs.JsonText.{quoted_text};
-ghost use Rattle.bp_run.specs.Text.{place_text, verdict_text, line_text, whole_line, lines_text};
+ghost use Rattle.bp_log.specs.Texts.{place_text, verdict_text, line_text, whole_line, lines_text};
 
 use bp_base::{Failed, Sink, write_all};
+use bp_log::limits::{MOST_THREADS, MOST_WAITING, MOST_WEIGHT};
 use bp_log::{Line, Memory, Place, Verdict};
 use js_data::{Fault, Text};
 use js_json::{event_text, quoted};
@@ -55,7 +56,7 @@ fn place_of(alloc: Global, place: &Place) -> Result<Text, Memory>
     }
 }
 
-fn numbered(alloc: Global, start: &str, number: u32) -> Result<Text, Memory>
+fn numbered(alloc: Global, start: &str, number: u64) -> Result<Text, Memory>
     ensures { IfOk result (λ t. t ≡ start.now ++ decimal number) }
 {
     let mut text = start.to_string(alloc)?;
@@ -107,14 +108,14 @@ fn verdict_of(alloc: Global, verdict: &Verdict) -> Result<Text, Memory>
     ensures { IfOk result (λ t. t ≡ verdict_text verdict.now) }
 {
     match verdict {
-        Verdict::Quiet(transitions) => numbered(alloc, "quiet ", *transitions),
+        Verdict::Quiet(transitions) => numbered(alloc, "quiet ", u64::from(*transitions)),
         Verdict::Violated(place, said) => violated(alloc, place, said),
         Verdict::Fault(place, line, fault) => faulty(alloc, place, *line, *fault),
         Verdict::Spent(place) => followed(alloc, "spent ", &place_of(alloc, place)?),
-        Verdict::Steps(steps) => numbered(alloc, "limit steps ", *steps),
-        Verdict::Queue => Ok(Text::new("limit queue 16384".to_string(alloc)?)),
-        Verdict::Threads => Ok(Text::new("limit bthreads 4096".to_string(alloc)?)),
-        Verdict::Weight => Ok(Text::new("limit weight 16777216".to_string(alloc)?)),
+        Verdict::Steps(steps) => numbered(alloc, "limit steps ", u64::from(*steps)),
+        Verdict::Queue => numbered(alloc, "limit queue ", u64::from(MOST_WAITING)),
+        Verdict::Threads => numbered(alloc, "limit bthreads ", u64::from(MOST_THREADS)),
+        Verdict::Weight => numbered(alloc, "limit weight ", MOST_WEIGHT),
         Verdict::Bad(injector, line) => bad(alloc, *injector, *line),
     }
 }
@@ -130,7 +131,7 @@ fn logged(alloc: Global, place: &Place, said: &Text) -> Result<Text, Memory>
 }
 
 /// The text of a line of the trace, without its line end. Its only error is want of memory.
-#[tactic(auto, unfolding(bp_run::specs::Text::line_text))]
+#[tactic(auto, unfolding(bp_log::specs::Texts::line_text))]
 pub fn line_of(alloc: Global, line: &Line) -> Result<Text, Memory>
     ensures { IfOk result (λ t. t ≡ line_text line.now) }
 {

@@ -3,7 +3,7 @@ ghost use Rattle.std.specs.Prelude.{◌≡◌, ◌≤◌, [], false, length, dro
 ghost use Rattle.bp_base.specs.Counts.{Rose};
 ghost use Rattle.bp_base.specs.Pieces.{Appends, AppendsFront};
 ghost use Rattle.bp_log.specs.Options.{default_options};
-ghost use Rattle.bp_run.specs.Text.{lines_text};
+ghost use Rattle.bp_log.specs.Texts.{lines_text};
 ghost use Rattle.bp_arbiter.specs.Straight.{text_alone};
 
 use crate::lines::print_lines;
