@@ -140,13 +140,7 @@ fn given_at(direct: bool, declarator: &Declarator) -> u32
     ensures { result ≡ given_at direct (plain_declarator declarator.now).value (plain_declarator declarator.now).end }
 {
     match declarator.value {
-        Some(_) => {
-            if direct {
-                declarator.end
-            } else {
-                TOP
-            }
-        }
+        Some(_) => { if direct { declarator.end } else { TOP } }
         None => 0,
     }
 }

@@ -12,7 +12,9 @@ use crate::first::program_spot;
 use crate::forms::{called_builtin, object_of, value_builtin};
 use crate::place::{Around, Role, Seen, What};
 use crate::scope::{TOP, Walk};
-use crate::scopes::{block_scope, each_scope, for_scope, function_scope, list_scope, program_scope};
+use crate::scopes::{
+    block_scope, each_scope, for_scope, function_scope, list_scope, program_scope,
+};
 use crate::seeing::{
     declared_role, each_role, enter, in_function, in_loop, leave, put_begin, put_changed, put_name,
     put_parameters, put_read, put_word,

@@ -1,5 +1,5 @@
 -- What a scope declares is found in it.
-use Rattle.std.proofs.Common.{◌≡◌, ◌∙◌, ◌⊎◌, inl, inr, ℕ, List, [], ◌∷◌, ◌++◌, append_assoc, refl, ap, sym, subst, Option, Some, None, Bool, true, false, if◌then◌else◌}
+use Rattle.std.proofs.Common.{◌≡◌, ◌⊎◌, inl, inr, ℕ, List, [], ◌∷◌, ◌++◌, append_assoc, refl, ap, sym, subst, Option, Some, None, Bool, true, false, if◌then◌else◌}
 use Rattle.std.proofs.lemmas.Bool.{false≢true}
 use Rattle.std.proofs.lemmas.Slice.Eq.{bytes_eq-Decides}
 use Rattle.std.specs.Prelude.{is_some, max, nat_lt}
@@ -105,8 +105,8 @@ own_there f own vars scopes h k =
     let s = scope_with own vars true f in
     there_by (λ q. first (named q own)) (found (s ∷ scopes)) f true own
     (λ q t.
-        let r = earlier_kept f true (first (named q own)) (one_var (named q vars)) (λ d. first_kept f true own q d h) (λ d. var_kept f true vars q d k) (inl (ap is_some t.1)) in
-        (r.0, here_look s scopes q r.0 r.1, r.2))
+    let r = earlier_kept f true (first (named q own)) (one_var (named q vars)) (λ d. first_kept f true own q d h) (λ d. var_kept f true vars q d k) (inl (ap is_some t.1)) in
+    (r.0, here_look s scopes q r.0 r.1, r.2))
     (there_from first first_keeps f true [] own h)
 
 -- and its `var`s
@@ -115,6 +115,6 @@ vars_there f own vars scopes h k =
     let s = scope_with own vars true f in
     there_by (λ q. one_var (named q vars)) (found_var (s ∷ scopes)) f true vars
     (λ q t.
-        let r = earlier_kept f true (first (named q own)) (one_var (named q vars)) (λ d. first_kept f true own q d h) (λ d. var_kept f true vars q d k) (inr (ap is_some t.1)) in
-        (r.0, here_look_var s scopes q r.0 refl r.1, r.2))
+    let r = earlier_kept f true (first (named q own)) (one_var (named q vars)) (λ d. first_kept f true own q d h) (λ d. var_kept f true vars q d k) (inr (ap is_some t.1)) in
+    (r.0, here_look_var s scopes q r.0 refl r.1, r.2))
     (there_from one_var one_var_keeps f true [] vars k)

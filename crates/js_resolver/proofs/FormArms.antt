@@ -1,6 +1,6 @@
 -- The form of each expression, from the numbers of its parts.
-use Rattle.std.proofs.Common.{◌≡◌, ℕ, ◌+◌, List, [], ◌∷◌, ◌++◌, ◌∙◌, ap, refl, sym, subst, length, map, Option, Some, None, Bool, true, false, if◌then◌else◌}
-use Rattle.std.specs.Prelude.{Vec, Result, Ok, Err, IfOk, is_some}
+use Rattle.std.proofs.Common.{◌≡◌, ℕ, ◌+◌, List, [], ◌∷◌, ◌∙◌, ap, refl, sym, subst, length, map}
+use Rattle.std.specs.Prelude.{Vec, Result, Ok, Err, IfOk}
 use Rattle.std.specs.declared.alloc.Global.{Global}
 use Rattle.std.specs.declared.boxed.Box.{Box}
 use Rattle.js_tree.specs.declared.tree.Name.{Name}
@@ -24,9 +24,9 @@ use Rattle.js_program.specs.Views.{plain_node_form}
 use Rattle.js_names.specs.Places.{Place}
 use Rattle.js_resolver.specs.declared.emit.Called.{Called}
 use Rattle.js_resolver.specs.declared.emitter.Emitter.{Emitter}
-use Rattle.js_resolver.specs.Variables.{slot_at, code_at}
-use Rattle.js_resolver.specs.Nodes.{none, beside, closed, expr_node, expr_piece, form_parts, exprs_piece, fields_piece, stmts_piece, keys_of}
-use Rattle.js_resolver.specs.Emits.{count, Puts, Adds, Emits, EmitsCallee, FormsCall, FormsExpr}
+use Rattle.js_resolver.specs.Variables.{slot_at}
+use Rattle.js_resolver.specs.Nodes.{beside, expr_node, expr_piece, form_parts, exprs_piece, fields_piece, keys_of}
+use Rattle.js_resolver.specs.Emits.{count, Puts, Emits, EmitsCallee, FormsCall, FormsExpr}
 use Rattle.js_resolver.proofs.Emitting.{emits_none, emits_both, forms_expr, if_forms_expr, if_closes}
 use Rattle.js_resolver.proofs.CallArms.{call_whole}
 use Rattle.js_resolver.proofs.TreeForms.{expr_is, number_is, words_is, truth_is, null_is, use_is, list_is, fields_is, member_is, index_is, call_is, unary_is, update_is, binary_is, conditional_is, assign_is, arrow_value_is, arrow_block_is, function_is}

@@ -1,14 +1,14 @@
 -- Loops over forms that stand one after the other: what is done and what is left make the whole.
-use Rattle.std.proofs.Common.{◌≡◌, ℕ, ◌+◌, ◌<◌, ◌≤◌, List, [], ◌∷◌, ◌++◌, ◌∙◌, ap, refl, sym, subst, length, map, drop, get_or, Option, Some, None, Bool, true, false, append_assoc, append-nil}
-use Rattle.std.specs.Prelude.{option_map, option_to_list, is_some}
+use Rattle.std.proofs.Common.{◌≡◌, ℕ, ◌+◌, ◌<◌, ◌≤◌, List, [], ◌∷◌, ◌++◌, ◌∙◌, ap, refl, sym, subst, length, map, drop, get_or, Option, Some, None, Bool, append_assoc, append-nil}
+use Rattle.std.specs.Prelude.{option_to_list, is_some}
 use Rattle.std.proofs.lemmas.List.{drop_more, drop_all, map-append}
 use Rattle.js_tree.specs.declared.tree.Expr.{Expr}
 use Rattle.js_tree.specs.declared.tree.Field.{Field}
 use Rattle.js_tree.specs.declared.tree.Declarator.{Declarator, out-Declarator}
 use Rattle.js_tree.specs.declared.tree.Item.{Item}
 use Rattle.js_tree.specs.declared.tree.Stmt.{Stmt}
-use Rattle.js_tree.specs.Plain.{PlainField, PlainFields, PlainDeclarator, PlainDeclarators, no_fields, field_in, no_declarators, declarator_in, exprs_of, fields_of, declarators_of, stmts_of}
-use Rattle.js_tree.specs.Views.{perhaps, plain_expr, plain_field, plain_declarator, plain_stmt, plain_item}
+use Rattle.js_tree.specs.Plain.{PlainField, PlainDeclarator, field_in, declarator_in, exprs_of, fields_of, declarators_of, stmts_of}
+use Rattle.js_tree.specs.Views.{plain_expr, plain_field, plain_declarator, plain_stmt, plain_item}
 use Rattle.js_program.specs.declared.node.Declared.{Declared}
 use Rattle.js_program.specs.declared.node.Variable.{Variable}
 use Rattle.js_program.specs.PlainProgram.{PlainDeclared}

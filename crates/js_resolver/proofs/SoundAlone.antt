@@ -13,17 +13,17 @@ use Rattle.js_tree.specs.Plain.{PlainPerhaps, PlainDeclarators, PlainStart, Plai
 use Rattle.js_names.specs.declared.place.Declared.{Declared}
 use Rattle.js_names.specs.declared.place.Role.TheVariants.{Function}
 use Rattle.js_names.specs.declared.place.What.{What}
-use Rattle.js_names.specs.Scopes.{Scope, Entry, top, named, first, one_var, merge, own_declarator, own_declarators, own_of, own_of_item, var_declarator, var_declarators, vars_of, vars_of_form, vars_of_all, vars_of_start, vars_of_item, block_scope, for_scope, list_scope, each_scope, function_scope, program_scope}
+use Rattle.js_names.specs.Scopes.{Scope, Entry, top, named, first, one_var, merge, own_declarators, own_of, own_of_item, var_declarators, vars_of, vars_of_form, vars_of_all, vars_of_start, vars_of_item, block_scope, for_scope, list_scope, each_scope, function_scope, program_scope}
 use Rattle.js_names.specs.Sites.{Site, site, begin_site, parameter_sites, in_function, program_spot, program_sites, stmts_sites, item_sites}
 use Rattle.js_names.specs.Places.{Place, see, places, found, found_here, or_else, functions_of, declared_at, is_var, is_function}
-use Rattle.js_names.specs.Slots.{assigned_in, captures, copies, is_mention, is_constant, is_outer, can_copy, is_among, inside}
+use Rattle.js_names.specs.Slots.{assigned_in, captures, copies, is_mention, is_constant, is_outer, is_among, inside}
 use Rattle.js_resolver.proofs.SoundFunctions.{begun, begun-append, begun-parameters}
 use Rattle.js_resolver.proofs.SoundKnown.{earlier_is}
 use Rattle.js_resolver.proofs.SoundLists.{In, in-left, in-right, HasPlace}
 use Rattle.js_resolver.proofs.SoundPlaces.{captured}
 use Rattle.js_resolver.proofs.SoundProgram.{program_scopes, AllAlone}
 use Rattle.js_resolver.proofs.SoundRoom.{NoRepeats}
-use Rattle.js_resolver.proofs.SoundWalk.{IsClosed, AllIn, Walks, walks_append, walks_site, walks_function, stmt_walks, stmts_walks}
+use Rattle.js_resolver.proofs.SoundWalk.{IsClosed, AllIn, walks_append, walks_site, walks_function, stmt_walks, stmts_walks}
 use Rattle.js_resolver.proofs.ApartDeclared.{block_kept, for_kept, list_kept, turn_kept, function_kept}
 
 -- a variable of the top level that stands in its list, or is a `var`
@@ -168,7 +168,7 @@ inside_block f g s scopes w kept k =
 
 inside_function : (f g h : ℕ) (s : Scope) (scopes : List Scope) → s.whole ≡ true → s.owner ≡ h → ((q : List ℕ) (d : Declared) → found_here s q ≡ Some d → d.owner ≡ h) → (h ≡ f → ⊥) → IsInside f g scopes → IsInside f h (s ∷ scopes)
 unfolding functions_of found
-inside_function f g h s scopes w owner kept no k =
+inside_function f g h s scopes w owner kept absent k =
     let wider : (d : Declared) → In d.owner (k.before ++ f ∷ []) ⊎ IsLoose d → In d.owner (h ∷ (k.before ++ f ∷ [])) ⊎ IsLoose d = λ d r.
     elim r as (λ _. In d.owner (h ∷ (k.before ++ f ∷ [])) ⊎ IsLoose d) [ inl e ↦ inl (inr e) | inr e ↦ inr e ]
     in
@@ -181,7 +181,7 @@ inside_function f g h s scopes w owner kept no k =
     record {
       before = h ∷ k.before;
       around = ap (λ (b : Bool). (if b then s.owner ∷ [] else []) ++ functions_of scopes) w ∙ (ap (λ z. z ∷ functions_of scopes) owner ∙ ap (λ z. h ∷ z) k.around);
-      apart = λ m. elim m as (λ _. ⊥) [ inl e ↦ no (sym e) | inr e ↦ k.apart e ];
+      apart = λ m. elim m as (λ _. ⊥) [ inl e ↦ absent (sym e) | inr e ↦ k.apart e ];
       here = inl refl;
       found = λ q d e. look q d (found_here s q) refl e;
     }
@@ -193,7 +193,7 @@ inside_closed f = record {
   head = λ g start s scopes k. inside_block f g (for_scope g start s) scopes refl (for_kept g start s) k;
   list = λ g kind name scopes k. inside_block f g (list_scope g kind name) scopes refl (list_kept g kind name) k;
   turn = λ g kind name s scopes k. inside_block f g (each_scope g kind name s) scopes refl (turn_kept g kind name s) k;
-  function = λ g h names ss scopes no k. inside_function f g h (function_scope h names ss) scopes refl refl (function_kept h names ss) no k;
+  function = λ g h names ss scopes absent k. inside_function f g h (function_scope h names ss) scopes refl refl (function_kept h names ss) absent k;
 }
 
 inside_first : (f : ℕ) (names : List Name) (ss : PlainStmts) (items : List PlainItem) → IsInside f f (function_scope f names ss ∷ program_scopes items)
@@ -224,7 +224,7 @@ outside_closed f = record {
   head = λ g start s scopes k. k;
   list = λ g kind name scopes k. k;
   turn = λ g kind name s scopes k. k;
-  function = λ g h names ss scopes no k m. elim m as (λ _. ⊥) [ inl e ↦ no (sym e) | inr e ↦ k e ];
+  function = λ g h names ss scopes absent k m. elim m as (λ _. ⊥) [ inl e ↦ absent (sym e) | inr e ↦ k e ];
 }
 
 -- a place that has f copy nothing
@@ -247,19 +247,19 @@ inside_in o f (x ∷ xs) h =
 
 -- the functions inside that of a variable end before it
 stops : (f o : ℕ) (before rest : List ℕ) → (In f before → ⊥) → In o (before ++ f ∷ []) → In f (inside o (before ++ f ∷ rest)) → ⊥
-stops f o [] rest no h m =
+stops f o [] rest absent h m =
     let cases : (b : Bool) → (nat_eq f o ≡ b) → In f (if b then [] else f ∷ inside o rest) → ⊥ =
     λ b. elim b as (λ b. (nat_eq f o ≡ b) → In f (if b then [] else f ∷ inside o rest) → ⊥)
     [ true ↦ λ e k. k | false ↦ λ e k. elim h as (λ _. ⊥) [ inl z ↦ eqb-false f o e (sym z) | inr z ↦ z ] ]
     in
     cases (nat_eq f o) refl m
-stops f o (x ∷ before) rest no h m =
+stops f o (x ∷ before) rest absent h m =
     let cases : (b : Bool) → (nat_eq x o ≡ b) → In f (if b then [] else x ∷ inside o (before ++ f ∷ rest)) → ⊥ =
     λ b. elim b as (λ b. (nat_eq x o ≡ b) → In f (if b then [] else x ∷ inside o (before ++ f ∷ rest)) → ⊥) [
       | true ↦ λ e k. k
       | false ↦ λ e k. elim k as (λ _. ⊥) [
-        | inl z ↦ no (inl z)
-        | inr z ↦ elim h as (λ _. ⊥) [ inl y ↦ eqb-false x o e (sym y) | inr y ↦ stops f o before rest (λ v. no (inr v)) y z ]
+        | inl z ↦ absent (inl z)
+        | inr z ↦ elim h as (λ _. ⊥) [ inl y ↦ eqb-false x o e (sym y) | inr y ↦ stops f o before rest (λ v. absent (inr v)) y z ]
       ]
     ]
     in
@@ -305,31 +305,36 @@ parameters_spare f scopes g (x ∷ xs) = (quiet_spares f _ refl, parameters_spar
 own_spares : (items : List PlainItem) (spot : Spot) (name : Name) (names : List Name) (ss : PlainStmts) → (In spot.at (begun (stmts_sites (function_scope spot.at names ss ∷ program_scopes items) (in_function spot.at) ss)) → ⊥)
     → AllSpare spot.at (item_sites (program_scopes items) (t.function_of spot name names ss))
 unfolding item_sites
-own_spares items spot name names ss no =
+own_spares items spot name names ss absent =
     let f = spot.at in
     let inner = function_scope f names ss ∷ program_scopes items in
-    let sites = stmts_sites inner (in_function f) ss in
-    (quiet_spares f _ refl, quiet_spares f _ refl, spare_append f (parameter_sites inner (in_function f) names) sites (parameters_spare f inner f names)
-    (all_inside f sites (stmts_walks (IsInside f) f (inside_closed f) inner (in_function f) ss (inside_first f names ss items) no)))
+    let sites = stmts_sites inner (in_function f) ss in (
+      quiet_spares f _ refl,
+      (
+        quiet_spares f _ refl,
+        spare_append f (parameter_sites inner (in_function f) names) sites (parameters_spare f inner f names)
+            (all_inside f sites (stmts_walks (IsInside f) f (inside_closed f) inner (in_function f) ss (inside_first f names ss items) absent)),
+      ),
+    )
 
 -- and so do all other items
 other_spares : (f : ℕ) (scopes : List Scope) (i : PlainItem) → IsOutside f top scopes → (In f (begun (item_sites scopes i)) → ⊥) → AllSpare f (item_sites scopes i)
 unfolding item_sites
-other_spares f scopes (t.statement s) k no = all_outside f _ (stmt_walks (IsOutside f) f (outside_closed f) scopes (in_function top) s k no)
-other_spares f scopes (t.function_of spot name names ss) k no =
+other_spares f scopes (t.statement s) k absent = all_outside f _ (stmt_walks (IsOutside f) f (outside_closed f) scopes (in_function top) s k absent)
+other_spares f scopes (t.function_of spot name names ss) k absent =
     let inner = function_scope spot.at names ss ∷ scopes in
     let sites = stmts_sites inner (in_function spot.at) ss in
     let body = begin_site inner spot.at spot ++ (parameter_sites inner (in_function spot.at) names ++ sites) in
-    all_outside f _
+    all_outside f (site scopes (in_function top) (What.Declares Function) name ++ body)
     (walks_append (IsOutside f) f (site scopes (in_function top) (What.Declares Function) name) body (walks_site (IsOutside f) f scopes (in_function top) (What.Declares Function) name k)
-    (walks_function (IsOutside f) f (outside_closed f) scopes top spot names ss sites k (λ m. stmts_walks (IsOutside f) f (outside_closed f) inner (in_function spot.at) ss m)) no)
+    (walks_function (IsOutside f) f (outside_closed f) scopes top spot names ss sites k (λ m. stmts_walks (IsOutside f) f (outside_closed f) inner (in_function spot.at) ss m)) absent)
 
 others_spare : (f : ℕ) (scopes : List Scope) (is : List PlainItem) → IsOutside f top scopes → (In f (begun (flat_map (item_sites scopes) is)) → ⊥) → AllSpare f (flat_map (item_sites scopes) is)
-others_spare f scopes [] k no = tt
-others_spare f scopes (i ∷ is) k no =
+others_spare f scopes [] k absent = tt
+others_spare f scopes (i ∷ is) k absent =
     let here = item_sites scopes i in
     let rest = flat_map (item_sites scopes) is in
-    let both : In f (begun here ++ begun rest) → ⊥ = λ m. no (subst (In f) (sym (begun-append here rest)) m) in
+    let both : In f (begun here ++ begun rest) → ⊥ = λ m. absent (subst (In f) (sym (begun-append here rest)) m) in
     spare_append f here rest (other_spares f scopes i k (λ m. both (in-left f (begun here) (begun rest) m))) (others_spare f scopes is k (λ m. both (in-right f (begun here) (begun rest) m)))
 
 -- the places where declared functions begin

@@ -1,6 +1,6 @@
 -- Trees that no tokens spell, whose programs break no rule of names and yet are not sound.
 use Rattle.std.proofs.Common.{◌≡◌, ℕ, List, [], ◌∷◌, refl, true, false}
-use Rattle.std.specs.Prelude.{Some, None, codes}
+use Rattle.std.specs.Prelude.{None, codes}
 use Rattle.std.specs.List.{list_all}
 use Rattle.js_tree.specs.declared.tree.Name.{Name}
 use Rattle.js_tree.specs.declared.tree.Spot.{Spot}
@@ -14,7 +14,7 @@ use Rattle.js_names.specs.Places.{found, found_var, functions_of, repeated, bloc
 use Rattle.js_names.specs.Slots.{assigned_in, captures, holdings, vars_of, slot_count, slots_of, constants_of, functions_in}
 use Rattle.js_names.specs.Rules.{fault_at, name_fault}
 use Rattle.js_resolver.specs.Variables.{named_at, code_at, around_of, body_of}
-use Rattle.js_resolver.specs.Nodes.{expr_piece, expr_parts, form_parts, perhaps_piece, declarators_piece, stmt_piece, stmt_parts, stmts_piece, item_piece, items_piece}
+use Rattle.js_resolver.specs.Nodes.{expr_piece, form_parts, perhaps_piece, declarators_piece, stmt_piece, stmt_parts, stmts_piece, item_piece, items_piece}
 use Rattle.js_resolver.specs.Resolved.{program_of_tree}
 
 abbrev spot : ℕ → Spot

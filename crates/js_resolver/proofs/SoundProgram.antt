@@ -1,5 +1,5 @@
 -- A program whose places fit is sound.
-use Rattle.std.proofs.Common.{◌≡◌, ℕ, ◌+◌, ◌<◌, ◌≤◌, List, [], ◌∷◌, refl, subst, length, map, arith, Option, Some, None, Bool, true, false, if◌then◌else◌, nat_eq}
+use Rattle.std.proofs.Common.{◌≡◌, ◌∙◌, ℕ, ◌+◌, ◌<◌, ◌≤◌, List, [], ◌∷◌, refl, ap, subst, length, map, arith, Option, Some, None, Bool, true, false, if◌then◌else◌, nat_eq}
 use Rattle.std.proofs.lemmas.Bool.{le-leb, and_from}
 use Rattle.std.specs.Prelude.{option_map, slice_get}
 use Rattle.std.specs.List.{list_all, flat_map}
@@ -7,7 +7,7 @@ use Rattle.js_tree.specs.Plain.{PlainItem, statement, function_of}
 use Rattle.js_program.specs.PlainProgram.{PlainNode, PlainBody, PlainProgram, PlainConstant, of_function, undeclared, unset}
 use Rattle.js_program.specs.Sound.{node_fits, captures_nothing, constant_fits, IsSound}
 use Rattle.js_names.specs.declared.place.Declared.{Declared}
-use Rattle.js_names.specs.Scopes.{Scope, top, program_scope, function_scope}
+use Rattle.js_names.specs.Scopes.{Scope, top, program_scope}
 use Rattle.js_names.specs.Sites.{item_sites}
 use Rattle.js_names.specs.Places.{Place, places, functions_of, is_var}
 use Rattle.js_names.specs.Slots.{assigned_in, captures, constants_of, slots_of}

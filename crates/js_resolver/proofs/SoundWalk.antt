@@ -1,5 +1,5 @@
 -- What holds of the scopes of some forms holds of the scopes of each place in them, if it goes on into each scope that begins there.
-use Rattle.std.proofs.Common.{◌≡◌, ℕ, List, [], ◌∷◌, ◌++◌, ap, sym, subst, Option, Some, None, Bool, true, false, if◌then◌else◌}
+use Rattle.std.proofs.Common.{◌≡◌, ℕ, List, [], ◌∷◌, ◌++◌, sym, subst, Option, Some, None, Bool, true, false, if◌then◌else◌}
 use Rattle.std.specs.Prelude.{is_some}
 use Rattle.js_tree.specs.declared.tree.Name.{Name}
 use Rattle.js_tree.specs.declared.tree.Spot.{Spot}
@@ -11,7 +11,7 @@ use Rattle.js_names.specs.declared.place.Around.{Around}
 use Rattle.js_names.specs.declared.place.What.{What}
 use Rattle.js_names.specs.Scopes.{Scope, block_scope, for_scope, list_scope, each_scope, each_role, function_scope}
 use Rattle.js_names.specs.Sites.{Site, site, read_site, assign_site, is_undefined, is_reserved, object_of, called_builtin, value_builtin, member_sites, in_function, in_loop, begin_site, parameter_sites, declared_role, expr_sites, form_sites, exprs_sites, fields_sites, perhaps_sites, declarators_sites, start_sites, stmt_sites, stmt_form_sites, stmts_sites}
-use Rattle.js_resolver.proofs.SoundFunctions.{begun, begun-append, begun-parameters}
+use Rattle.js_resolver.proofs.SoundFunctions.{begun, begun-append}
 use Rattle.js_resolver.proofs.SoundLists.{In, in-left, in-right}
 use Rattle.std.proofs.Common.{inl, inr}
 
@@ -36,18 +36,18 @@ in_append P [] ys h k = k
 in_append P (x ∷ xs) ys h k = (h.0, in_append P xs ys h.1 k)
 
 pub walks_append : (P : ℕ → List Scope → Type 0) (f : ℕ) (xs ys : List Site) → Walks P f xs → Walks P f ys → Walks P f (xs ++ ys)
-walks_append P f xs ys g h no =
-    let both : In f (begun xs ++ begun ys) → ⊥ = λ m. no (subst (In f) (sym (begun-append xs ys)) m) in
+walks_append P f xs ys g h absent =
+    let both : In f (begun xs ++ begun ys) → ⊥ = λ m. absent (subst (In f) (sym (begun-append xs ys)) m) in
     in_append P xs ys (g (λ m. both (in-left f (begun xs) (begun ys) m))) (h (λ m. both (in-right f (begun xs) (begun ys) m)))
 
 pub walks_site : (P : ℕ → List Scope → Type 0) (f : ℕ) (scopes : List Scope) (a : Around) (what : What) (name : Name) → P a.owner scopes → Walks P f (site scopes a what name)
-walks_site P f scopes a what name k no = (k, tt)
+walks_site P f scopes a what name k absent = (k, tt)
 
 walks_read : (P : ℕ → List Scope → Type 0) (f : ℕ) (scopes : List Scope) (a : Around) (name : Name) → P a.owner scopes → Walks P f (read_site scopes a name)
 walks_read P f scopes a name k =
     elim (is_object name.text) as (λ b. Walks P f (if b then site scopes a What.Misuses name else (if is_undefined name.text then [] else site scopes a What.Reads name))) [
       | true ↦ walks_site P f scopes a What.Misuses name k
-      | false ↦ elim (is_undefined name.text) as (λ b. Walks P f (if b then [] else site scopes a What.Reads name)) [ true ↦ λ no. tt | false ↦ walks_site P f scopes a What.Reads name k ]
+      | false ↦ elim (is_undefined name.text) as (λ b. Walks P f (if b then [] else site scopes a What.Reads name)) [ true ↦ λ absent. tt | false ↦ walks_site P f scopes a What.Reads name k ]
     ]
 
 walks_assign : (P : ℕ → List Scope → Type 0) (f : ℕ) (scopes : List Scope) (a : Around) (name : Name) → P a.owner scopes → Walks P f (assign_site scopes a name)
@@ -56,11 +56,11 @@ walks_assign P f scopes a name k =
 
 walks_member : (P : ℕ → List Scope → Type 0) (f : ℕ) (scopes : List Scope) (a : Around) (object : Option Name) (word : List ℕ) (v : Bool) (sites : List Site) → P a.owner scopes → Walks P f sites → Walks P f (member_sites scopes a object word v sites)
 walks_member P f scopes a None word v sites k h = h
-walks_member P f scopes a (Some object) word true sites k h = λ no. tt
-walks_member P f scopes a (Some object) word false sites k h = walks_site P f scopes a What.Misuses _ k
+walks_member P f scopes a (Some object) word true sites k h = λ absent. tt
+walks_member P f scopes a (Some object) word false sites k h = λ absent. (k, tt)
 
 walks_unless : (P : ℕ → List Scope → Type 0) (f : ℕ) (b : Bool) (sites : List Site) → Walks P f sites → Walks P f (if b then [] else sites)
-walks_unless P f true sites h = λ no. tt
+walks_unless P f true sites h = λ absent. tt
 walks_unless P f false sites h = h
 
 walks_parameters : (P : ℕ → List Scope → Type 0) (f g : ℕ) (scopes : List Scope) (names : List Name) → P g scopes → AllIn P (parameter_sites scopes (in_function g) names)
@@ -71,11 +71,11 @@ walks_parameters P f g scopes (x ∷ xs) k = (k, walks_parameters P f g scopes x
 pub walks_function : (P : ℕ → List Scope → Type 0) (f : ℕ) (r : IsClosed P f) (scopes : List Scope) (g : ℕ) (spot : Spot) (names : List Name) (ss : PlainStmts) (sites : List Site) → P g scopes
     → (P spot.at (function_scope spot.at names ss ∷ scopes) → Walks P f sites)
     → Walks P f (begin_site (function_scope spot.at names ss ∷ scopes) spot.at spot ++ (parameter_sites (function_scope spot.at names ss ∷ scopes) (in_function spot.at) names ++ sites))
-walks_function P f r scopes g spot names ss sites k walk no =
+walks_function P f r scopes g spot names ss sites k walk absent =
     let inner = function_scope spot.at names ss ∷ scopes in
     let params = parameter_sites inner (in_function spot.at) names in
-    let m = r.function g spot.at names ss scopes (λ e. no (inl (sym e))) k in
-    let rest : In f (begun sites) → ⊥ = λ h. no (inr (subst (In f) (sym (begun-append params sites)) (in-right f (begun params) (begun sites) h))) in
+    let m = r.function g spot.at names ss scopes (λ e. absent (inl (sym e))) k in
+    let rest : In f (begun sites) → ⊥ = λ h. absent (inr (subst (In f) (sym (begun-append params sites)) (in-right f (begun params) (begun sites) h))) in
     (m, in_append P params sites (walks_parameters P f spot.at inner names m) (walk m rest))
 
 mutual
@@ -160,11 +160,10 @@ mutual
       let m = r.list a.owner kind name scopes k in
       walks_append P f (site listed a (What.Declares (each_role kind)) name) (expr_sites listed a e ++ stmt_sites inner (in_loop a) s) (walks_site P f listed a (What.Declares (each_role kind)) name m)
       (walks_append P f (expr_sites listed a e) (stmt_sites inner (in_loop a) s) (expr_walks P f r listed a e m) (stmt_walks P f r inner (in_loop a) s (r.turn a.owner kind name s scopes k)))
-  stmt_form_walks P f r scopes a (t.break_of spot) k = walks_site P f scopes a What.LoopWord _ k
-  stmt_form_walks P f r scopes a (t.continue_of spot) k = walks_site P f scopes a What.LoopWord _ k
-  stmt_form_walks P f r scopes a (t.return_nothing spot) k = walks_site P f scopes a What.Returns _ k
-  stmt_form_walks P f r scopes a (t.return_of spot e) k =
-      walks_append P f (site scopes a What.Returns _) (expr_sites scopes a e) (walks_site P f scopes a What.Returns _ k) (expr_walks P f r scopes a e k)
+  stmt_form_walks P f r scopes a (t.break_of spot) k = λ absent. (k, tt)
+  stmt_form_walks P f r scopes a (t.continue_of spot) k = λ absent. (k, tt)
+  stmt_form_walks P f r scopes a (t.return_nothing spot) k = λ absent. (k, tt)
+  stmt_form_walks P f r scopes a (t.return_of spot e) k = λ absent. (k, expr_walks P f r scopes a e k absent)
 
   pub stmts_walks : (P : ℕ → List Scope → Type 0) (f : ℕ) (r : IsClosed P f) (scopes : List Scope) (a : Around) (ss : PlainStmts) → P a.owner scopes → Walks P f (stmts_sites scopes a ss)
   stmts_walks P f r scopes a t.no_stmts k = λ h. tt

@@ -1,5 +1,5 @@
 -- Tables that stand for the places of a program, from what they are made of.
-use Rattle.std.proofs.Common.{◌≡◌, ℕ, List, ◌∙◌, ap, map, nat_eq}
+use Rattle.std.proofs.Common.{◌≡◌, ℕ, List, ◌∙◌, ap, nat_eq}
 use Rattle.std.specs.Prelude.{unwrap_or}
 use Rattle.indexmap.specs.IndexMap.{get}
 use Rattle.js_program.specs.declared.node.Variable.{Variable}

@@ -18,7 +18,7 @@ use Rattle.js_names.specs.Sites.{called_builtin}
 use Rattle.js_resolver.specs.declared.emit.Called.{Called}
 use Rattle.js_resolver.specs.declared.emit.Called.TheVariants as C
 use Rattle.js_resolver.specs.declared.emitter.Emitter.{Emitter}
-use Rattle.js_resolver.specs.Nodes.{Piece, none, after, arguments_piece, beside, call_node, expr_node, stmt_node, expr_piece, expr_parts, form_parts, exprs_piece, floors_division, method_of, declarators_piece, declared_of, stmt_parts}
+use Rattle.js_resolver.specs.Nodes.{Piece, none, arguments_piece, call_node, expr_node, stmt_node, expr_piece, expr_parts, form_parts, floors_division, method_of, declarators_piece, declared_of, stmt_parts}
 
 abbrev pub nodes_of : Emitter → List PlainNode
 nodes_of e = map plain_node e.nodes.items

@@ -1,11 +1,9 @@
 -- What each name of a program stands for, and what a function holds, from the places of the program.
-use Rattle.std.specs.Prelude.{ℕ, Bool, true, false, not, ◌&&◌, nat_eq, List, [], ◌∷◌, ◌++◌, Option, Some, None, map, length, position, unwrap_or, if◌then◌else◌}
-use Rattle.js_tree.specs.declared.tree.Name.{Name}
+use Rattle.std.specs.Prelude.{ℕ, nat_eq, List, [], ◌∷◌, Option, Some, None, map, length, position, unwrap_or, if◌then◌else◌}
 use Rattle.js_program.specs.declared.node.Variable.{Variable}
 use Rattle.js_program.specs.declared.node.Variable.TheVariants.{Slot, Constant}
 use Rattle.js_program.specs.PlainProgram.{PlainBody, PlainContent}
 use Rattle.js_names.specs.declared.place.Declared.{Declared}
-use Rattle.js_names.specs.declared.place.What.{What}
 use Rattle.js_names.specs.Scopes.{top}
 use Rattle.js_names.specs.Places.{Place, or_else}
 use Rattle.js_names.specs.Slots.{assigned_in, is_constant, is_begin, captures, vars_of, slots_of, constants_of, functions_in}

@@ -44,11 +44,7 @@ fn push_declarators(
 }
 
 // The slots of what a statement declares for its block.
-fn push_stmt(
-    tables: &NameTables,
-    slots: &mut Vec<u32>,
-    stmt: &Stmt,
-) -> Result<(), AllocError>
+fn push_stmt(tables: &NameTables, slots: &mut Vec<u32>, stmt: &Stmt) -> Result<(), AllocError>
     ensures { OnOk result (slots.new.items ≡ slots.old.items ++ fresh tables.now (own_of 0 false (plain_stmt stmt.now))) }
 {
     match &stmt.form {
@@ -88,11 +84,7 @@ pub fn start_slots(
 }
 
 // The slots of what the head of a `for` declares.
-fn push_start(
-    tables: &NameTables,
-    slots: &mut Vec<u32>,
-    start: &Start,
-) -> Result<(), AllocError>
+fn push_start(tables: &NameTables, slots: &mut Vec<u32>, start: &Start) -> Result<(), AllocError>
     ensures { OnOk result (slots.new.items ≡ slots.old.items ++ fresh tables.now (own_of_start 0 (plain_start start.now))) }
 {
     match start {
