@@ -306,6 +306,11 @@ pub logs_a_function : called_with form.LogInfo (2 ∷ []) ≡ broken fault.Misty
 unfolding evaluation eval within
 logs_a_function = refl
 
+-- bp.log.info(): a missing argument is undefined
+pub logs_undefined : called_with form.LogInfo [] ≡ ends v.undefined 98 (says (codes "undefined") ∷ [])
+unfolding evaluation eval within
+logs_undefined = refl
+
 -- bp.ASSERT(1, "n", 1): a truthy condition, and one argument too many
 pub assertion_holds : called_with form.Assert (0 ∷ 1 ∷ 0 ∷ []) ≡ ends v.undefined 95 []
 unfolding evaluation eval within
