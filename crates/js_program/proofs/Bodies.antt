@@ -1,9 +1,9 @@
 -- What a sound program keeps of each body.
-use Rattle.std.proofs.Common.{◌≡◌, ℕ, ◌+◌, ◌<◌, ◌≤◌, List, [], ◌∷◌, refl, subst, length, arith, Option, Some, None, Bool, true}
+use Rattle.std.proofs.Common.{◌≡◌, ℕ, ◌+◌, ◌<◌, ◌≤◌, List, [], ◌∷◌, refl, length, arith, Option, Some, None, true}
 use Rattle.std.proofs.lemmas.Bool.{and_parts, leb-true, eqb-true, false≢true}
 use Rattle.std.specs.Prelude.{◌&&◌, nat_le, slice_get}
 use Rattle.std.specs.List.{list_all}
-use Rattle.js_program.specs.PlainProgram.{PlainBody, PlainConstant, of_function, PlainProgram, content_parts}
+use Rattle.js_program.specs.PlainProgram.{PlainBody, of_function, PlainProgram, content_parts}
 use Rattle.js_program.specs.Sound.{all_below, node_fits, NodeFits, body_fits, captures_nothing, constant_fits, IsSound}
 use Rattle.js_program.proofs.Order.{all_at}
 use Rattle.js_program.proofs.Nodes.{node_below}
@@ -42,6 +42,7 @@ no_elements (x ∷ xs) e = absurd (omega arith)
 no_captures : (o : Option PlainBody) → captures_nothing o ≡ true → (b : PlainBody) × (o ≡ Some b) × (b.captures ≡ [])
 no_captures None h = absurd (false≢true h)
 no_captures (Some b) h = (b, refl, no_elements b.captures (eqb-true (length b.captures) 0 h))
+
 -- a declared function is there, and captures nothing
 pub declared_function : (p : PlainProgram) (k code : ℕ) → IsSound p → slice_get p.constants k ≡ Some (of_function code) → (b : PlainBody) × (slice_get p.functions code ≡ Some b) × (b.captures ≡ [])
 declared_function p k code h e = no_captures (slice_get p.functions code) (all_at (constant_fits p) p.constants k (of_function code) e h.starts)
