@@ -20,7 +20,7 @@ use Rattle.js_value.specs.declared.op.Make.TheVariants as make
 use Rattle.js_ops.specs.Made.{Answer, made}
 use Rattle.js_ops.specs.Operators.{value_of, unary_of}
 use Rattle.js_ops.specs.Members.{member_of, index_of, field_or_undefined}
-use Rattle.js_ops.specs.Methods.{method_of}
+use Rattle.js_ops.specs.Methods.{method_named, method_of}
 use Rattle.js_ops.specs.Making.{make_of}
 use Rattle.js_program.specs.declared.builtin.Builtin.{Builtin}
 use Rattle.js_program.specs.declared.builtin.Builtin.TheVariants as form
@@ -34,7 +34,7 @@ use Rattle.js_program.specs.PlainProgram.{PlainNode, PlainNodeForm, PlainBody, P
 use Rattle.js_meaning.specs.declared.limits.TheConstants.{MOST_CALLS}
 use Rattle.js_meaning.specs.State.{Setting, Effect, State, Completion, normal, broke, continued, returned, left_of, Outcome, went, violated, spends, ◌>>=◌, gives, leaves, breaks, answered}
 use Rattle.js_meaning.specs.Variables.{in_slot, held, set_slot, set_variable, undeclare, if_declared, slots_of_call, captured}
-use Rattle.js_meaning.specs.Calls.{body_of, after_call, method_named, applies, sequence, in_order, runs, enters, calls, for_each_from, for_each_call, calls_method}
+use Rattle.js_meaning.specs.Calls.{body_of, after_call, applies, sequence, in_order, runs, enters, calls, for_each_from, for_each_call, calls_method}
 use Rattle.js_meaning.specs.Forms.{argument, does_to_run, registers_thread, asks, asserted, enqueues_event, sets_handler, log_text, logs, floors, takes_effect, applies_form}
 use Rattle.js_meaning.specs.Expressions.{unary_for, step_for, op_for, op_before, by_rule, writes, updates, does_update, assigns, combines}
 use Rattle.js_meaning.specs.Statements.{after_turn, without_value, declares, does_declaration, does_if_else, tests, perhaps, one_turn, each, each_of}
