@@ -117,6 +117,10 @@ NeverBoth bytes = (tree : List PlainItem) (refusal : Refusal) → IsOther refusa
 abbrev pub OneProgram : List ℕ → Type 0
 OneProgram bytes = (a b : PlainProgram) → IsProgram bytes a → IsProgram bytes b → a ≡ b
 
+-- and each accepted tree is a program
+abbrev pub EachIsProgram : List ℕ → Type 0
+EachIsProgram bytes = (tree : List PlainItem) → AreAccepted bytes tree → (program : PlainProgram) × IsProgram bytes program
+
 -- no bytes are both a script and refused, nor two scripts
 abbrev pub NeverBothScript : List ℕ → Type 0
 NeverBothScript bytes = (script : List Straight) (refusal : Refusal) → IsScript bytes script → ¬ (IsRefused bytes refusal)
