@@ -1,9 +1,5 @@
 pub mod Agree
-pub mod Converted
-pub mod Equality
+pub mod Entering
 pub mod Floors
-pub mod Joining
-pub mod Lengths
-pub mod Putting
-pub mod Sorted
+pub mod Weights
 mod Examples

@@ -1,38 +1,38 @@
 //! The making of values.
-ghost use Rattle.std.specs.Prelude.{◌≡◌, map, IfOk, option_map};
-ghost use Rattle.js_data.specs.Views.{plain_data};
+ghost use Rattle.std.specs.Prelude.{◌≡◌, map, IfOk, IfSome, option_map};
+ghost use Rattle.js_data.specs.Views.{plain_data, plain_event};
 ghost use Rattle.js_data.specs.Event.{IsSortedExtra};
-ghost use Rattle.js_value.specs.Value.{IsSortedValue, AreSortedValues};
-ghost use Rattle.js_value.specs.Lists.{value_list_of};
 ghost use Rattle.js_value.specs.Views.{plain_value};
 ghost use Rattle.js_ops.specs.Made.{made_event};
 ghost use Rattle.js_ops.specs.Making.{extra_of as extra_that_is, event_of as event_that_is, event_of_parts as event_that_parts_make, predicate_of as predicate_that_is, predicate_of_parts as predicate_that_parts_make, make_of, KeysFit};
 ghost use Rattle.js_ops.specs.Answers.{AnswersAs};
 
-use crate::convert::data_of_value;
 use crate::fields::fields_of;
 use crate::limits::made;
 use crate::methods::push_all;
 use crate::op_fault::{MISTYPED, OpFault};
-use js_value::{Data, Event, Fault, Make, Memory, SetTree, Text, TooHeavy, Value, copy};
+use js_value::{
+    Data, Event, EventSet, Fault, Items, Make, Memory, Pairs, SetTree, Text, TooHeavy, Value,
+    data_of_value, event_value,
+};
 use std::alloc::Global;
 
-fn list_of(alloc: Global, parts: &[Value]) -> Result<Vec<Value>, Memory>
+fn copies(alloc: Global, parts: &[Value]) -> Result<Vec<Value>, Memory>
     ensures { IfOk result (λ v. map plain_value v.items ≡ map plain_value parts.now) }
 {
-    let mut items = Vec::new(alloc);
-    push_all(alloc, &mut items, parts)?;
-    Ok(items)
+    let mut values = Vec::with_capacity(alloc, parts.len())?;
+    push_all(&mut values, parts)?;
+    Ok(values)
 }
 
-fn new_event(name: Text, extra: Option<Data>) -> Result<Value, OpFault>
+fn new_event(alloc: Global, name: Text, extra: Option<Data>) -> Result<Value, OpFault>
     requires { IsSortedExtra (option_map plain_data extra) }
-    ensures { AnswersAs (made_event (record { name = name; extra = option_map plain_data extra })) result }
+    ensures { AnswersAs (made_event (plain_event name extra)) result }
 {
     match Event::new(name, extra) {
         Ok(event) => {
             event.keeps();
-            Ok(Value::Event(event))
+            Ok(event_value(alloc, event)?)
         }
         Err(TooHeavy::Weight) => Err(OpFault::Fault(Fault::Weight)),
         Err(TooHeavy::Nesting) => Err(OpFault::Fault(Fault::Nesting)),
@@ -41,19 +41,13 @@ fn new_event(name: Text, extra: Option<Data>) -> Result<Value, OpFault>
 
 // The data of an event: none for undefined, and else the data that the value is.
 fn extra_of(alloc: Global, v: &Value) -> Result<Option<Option<Data>>, Memory>
-    ensures { IfOk result (λ o. option_map (λ e. option_map plain_data e) o ≡ extra_that_is (plain_value v.now)) }
+    ensures extra { IfOk result (λ o. option_map (λ e. option_map plain_data e) o
+        ≡ extra_that_is (plain_value v.now)) }
+    ensures sorted { IfOk result (λ o. IfSome o (λ e. IsSortedExtra (option_map plain_data e))) }
 {
     match v {
         Value::Undefined => Ok(Some(None)),
-        Value::Null
-        | Value::Truth(_)
-        | Value::Whole(_)
-        | Value::Words(_)
-        | Value::List(_)
-        | Value::Fields(_)
-        | Value::Event(_)
-        | Value::Set(_)
-        | Value::Function { .. } => match data_of_value(alloc, v)? {
+        _ => match data_of_value(alloc, v)? {
             None => Ok(None),
             Some(tree) => Ok(Some(Some(tree))),
         },
@@ -61,7 +55,6 @@ fn extra_of(alloc: Global, v: &Value) -> Result<Option<Option<Data>>, Memory>
 }
 
 fn event_of(alloc: Global, name: &Value, extra: &Value) -> Result<Value, OpFault>
-    requires { IsSortedValue (plain_value extra.now) }
     ensures { AnswersAs (event_that_is (plain_value name.now) (plain_value extra.now)) result }
 {
     let Value::Words(text) = name else {
@@ -69,12 +62,11 @@ fn event_of(alloc: Global, name: &Value, extra: &Value) -> Result<Value, OpFault
     };
     match extra_of(alloc, extra)? {
         None => Err(MISTYPED),
-        Some(tree) => new_event(text.copy()?, tree),
+        Some(tree) => new_event(alloc, text.copy()?, tree),
     }
 }
 
 fn event_of_parts(alloc: Global, parts: &[Value]) -> Result<Value, OpFault>
-    requires { AreSortedValues (value_list_of (map plain_value parts.now)) }
     ensures { AnswersAs (event_that_parts_make (map plain_value parts.now)) result }
 {
     match parts {
@@ -88,13 +80,14 @@ fn predicate_of(alloc: Global, name: &Value, function: &Value) -> Result<Value, 
     ensures { AnswersAs (predicate_that_is (plain_value name.now) (plain_value function.now)) result }
 {
     match (name, function) {
-        (Value::Words(text), Value::Function { code, captured }) => made(Value::Set(
-            SetTree::Predicate {
-                name: text.copy()?,
+        (Value::Words(text), Value::Function { code, captured }) => {
+            let tree = SetTree::Predicate {
+                name: text.clone()?,
                 code: *code,
-                captured: list_of(alloc, captured.as_slice())?,
-            },
-        )),
+                captured: captured.copy()?,
+            };
+            made(Value::Set(EventSet::new(alloc, tree)?))
+        }
         _ => Err(MISTYPED),
     }
 }
@@ -118,23 +111,30 @@ fn predicate_of_parts(alloc: Global, parts: &[Value]) -> Result<Value, OpFault>
 /// `Fault` of `type` exactly where a part is of another kind or missing, of `weight` and `nesting` exactly
 /// where the value passes these limits, and `Memory`.
 pub fn make(alloc: Global, kind: Make, parts: &[Value], keys: &[Text]) -> Result<Value, OpFault>
-    requires keys { KeysFit kind keys.now (map plain_value parts.now) }
-    requires sorted { AreSortedValues (value_list_of (map plain_value parts.now)) }
-    ensures answer { AnswersAs (make_of kind (map plain_value parts.now) keys.now) result }
-    ensures sorted { IfOk result (λ x. IsSortedValue (plain_value x)) }
-{
-    made_of(alloc, kind, parts, keys)
-}
-
-fn made_of(alloc: Global, kind: Make, parts: &[Value], keys: &[Text]) -> Result<Value, OpFault>
-    requires keys { KeysFit kind keys.now (map plain_value parts.now) }
-    requires sorted { AreSortedValues (value_list_of (map plain_value parts.now)) }
+    requires { KeysFit kind keys.now (map plain_value parts.now) }
     ensures { AnswersAs (make_of kind (map plain_value parts.now) keys.now) result }
 {
+    make_from(alloc, kind, copies(alloc, parts)?, keys)
+}
+
+/// The same of parts that are given up.
+///
+/// # Errors
+///
+/// Those of `make`.
+pub fn make_from(
+    alloc: Global,
+    kind: Make,
+    parts: Vec<Value>,
+    keys: &[Text],
+) -> Result<Value, OpFault>
+    requires { KeysFit kind keys.now (map plain_value parts.items) }
+    ensures { AnswersAs (make_of kind (map plain_value parts.items) keys.now) result }
+{
     match kind {
-        Make::List => made(Value::List(list_of(alloc, parts)?)),
-        Make::Fields => made(Value::Fields(fields_of(alloc, keys, parts)?)),
-        Make::Event => event_of_parts(alloc, parts),
-        Make::Set => predicate_of_parts(alloc, parts),
+        Make::List => made(Value::List(Items::new(alloc, parts)?)),
+        Make::Fields => made(Value::Fields(Pairs::new(alloc, fields_of(alloc, keys, &parts)?)?)),
+        Make::Event => event_of_parts(alloc, &parts),
+        Make::Set => predicate_of_parts(alloc, &parts),
     }
 }

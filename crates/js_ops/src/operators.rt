@@ -1,8 +1,9 @@
 //! Binary and unary operators.
-ghost use Rattle.std.specs.Prelude.{◌≡◌, ◌≢◌, IfOk, Err};
-ghost use Rattle.js_value.specs.Value.{IsSortedValue, value_text};
+ghost use Rattle.std.specs.Prelude.{◌≡◌, ◌≢◌, IsTrue, Err, length, unwrap_or, []};
+ghost use Rattle.js_value.specs.Value.{value_text, whole};
+ghost use Rattle.js_value.specs.Parts.{words_in};
 ghost use Rattle.js_value.specs.Views.{plain_value};
-ghost use Rattle.js_ops.specs.Operators.{value_of, unary_of, by_rule, join as join_of, same_event as event_is_same, hold_same};
+ghost use Rattle.js_ops.specs.Operators.{value_of, unary_of, by_rule, join as join_of, hold_same};
 ghost use Rattle.js_ops.specs.Answers.{AnswersAs};
 
 use crate::kind::kind_of;
@@ -12,8 +13,8 @@ use crate::numbers::{
 };
 use crate::op_fault::{MISTYPED, OpFault};
 use crate::rule::Rule;
-use crate::rules::rule_of;
-use js_value::{Event, Op, Text, Unary, Value, text_of, truthy};
+use crate::rules::Rules;
+use js_value::{Fault, Op, Text, Unary, Value, Whole, push_text, truthy, words};
 use std::alloc::Global;
 
 // What is answered for two whole numbers; all else is the fault `type`.
@@ -36,24 +37,45 @@ macro_rules! of_whole {
     };
 }
 
+// Whether the two are texts that together pass the limit of weight.
+fn pass_limit(left: &Value, right: &Value) -> bool
+    ensures { IsTrue result → join_of (value_text (plain_value left.now)) (value_text (plain_value right.now))
+        ≡ Err Fault.Weight }
+{
+    match (left, right) {
+        (Value::Words(first), Value::Words(second)) => {
+            let bytes = (first.as_str().len() as u64).saturating_add(second.as_str().len() as u64);
+            bytes >= Value::MOST_WEIGHT
+        }
+        _ => false,
+    }
+}
+
+// The bytes of a text, and none for any other kind.
+fn bytes_of(v: &Value) -> usize
+    ensures { result ≡ length (unwrap_or (words_in (plain_value v.now)) []) }
+{
+    match v {
+        Value::Words(text) => text.as_str().len(),
+        _ => 0,
+    }
+}
+
 fn join(alloc: Global, left: &Value, right: &Value) -> Result<Value, OpFault>
     ensures { AnswersAs (join_of (value_text (plain_value left.now)) (value_text (plain_value right.now))) result }
 {
-    let Some(first) = text_of(alloc, left)? else {
+    if pass_limit(left, right) {
+        return Err(OpFault::Fault(Fault::Weight));
+    }
+    let bytes = bytes_of(left).saturating_add(bytes_of(right));
+    let mut text = String::with_capacity(alloc, bytes)?;
+    if !push_text(&mut text, left)? {
         return Err(MISTYPED);
-    };
-    let Some(second) = text_of(alloc, right)? else {
+    }
+    if !push_text(&mut text, right)? {
         return Err(MISTYPED);
-    };
-    let mut text = String::from_str(alloc, first.as_str())?;
-    text.push_str(second.as_str())?;
-    made(Value::Words(Text::new(text)))
-}
-
-fn same_event(left: &Event, right: &Event) -> bool
-    ensures { result ≡ event_is_same left.now right.now }
-{
-    left.same(right)
+    }
+    made(words(alloc, Text::new(text))?)
 }
 
 // Whether two values of one kind hold the same.
@@ -64,7 +86,7 @@ fn hold_same(left: &Value, right: &Value) -> bool
         (Value::Truth(a), Value::Truth(b)) => *a == *b,
         (Value::Whole(a), Value::Whole(b)) => a.get() == b.get(),
         (Value::Words(a), Value::Words(b)) => a.same(b),
-        (Value::Event(a), Value::Event(b)) => same_event(a, b),
+        (Value::Event(a), Value::Event(b)) => a.same(b),
         _ => false,
     }
 }
@@ -92,21 +114,61 @@ fn by_rule(alloc: Global, rule: Rule, left: &Value, right: &Value) -> Result<Val
     }
 }
 
+// The value of the operator on two whole numbers, which needs no table.
+fn on_wholes(op: Op, m: Whole, n: Whole) -> Result<Value, OpFault>
+    ensures { AnswersAs (value_of op (whole m) (whole n)) result }
+{
+    match op {
+        Op::Add => sum(m, n),
+        Op::Subtract => difference(m, n),
+        Op::Multiply => product(m, n),
+        Op::Divide => quotient(m, n),
+        Op::FloorDivide => floor_quotient(m, n),
+        Op::Remainder => remainder(m, n),
+        Op::Less => Ok(Value::Truth(m.get() < n.get())),
+        Op::LessEqual => Ok(Value::Truth(m.get() <= n.get())),
+        Op::Greater => Ok(Value::Truth(m.get() > n.get())),
+        Op::GreaterEqual => Ok(Value::Truth(m.get() >= n.get())),
+        Op::Same | Op::Equal => Ok(Value::Truth(m.get() == n.get())),
+        Op::NotSame | Op::NotEqual => Ok(Value::Truth(m.get() != n.get())),
+    }
+}
+
 /// The value of the operator on the two values. Takes memory for a text that is joined.
 ///
 /// # Errors
 ///
 /// `Fault` exactly where the rule of the operator and of the two kinds says so, and `Memory`.
 pub fn apply(alloc: Global, op: Op, left: &Value, right: &Value) -> Result<Value, OpFault>
-    ensures answer { AnswersAs (value_of op (plain_value left.now) (plain_value right.now)) result }
-    ensures sorted { IfOk result (λ x. IsSortedValue (plain_value x)) }
+    ensures { AnswersAs (value_of op (plain_value left.now) (plain_value right.now)) result }
 {
-    by_rule(
-        alloc,
-        rule_of(op, kind_of(left), kind_of(right)),
-        left,
-        right,
-    )
+    match (left, right) {
+        (Value::Whole(m), Value::Whole(n)) => on_wholes(op, *m, *n),
+        _ => apply_by(alloc, &Rules::new(), op, left, right),
+    }
+}
+
+/// The same by a table of the rules that is lent.
+///
+/// # Errors
+///
+/// Those of `apply`.
+pub fn apply_by(
+    alloc: Global,
+    rules: &Rules,
+    op: Op,
+    left: &Value,
+    right: &Value,
+) -> Result<Value, OpFault>
+    ensures { AnswersAs (value_of op (plain_value left.now) (plain_value right.now)) result }
+{
+    match (left, right) {
+        (Value::Whole(m), Value::Whole(n)) => on_wholes(op, *m, *n),
+        _ => {
+            let rule = rules.rule_of(op, kind_of(left), kind_of(right));
+            by_rule(alloc, rule, left, right)
+        }
+    }
 }
 
 /// The value of the operator on the value. Takes no memory.
@@ -116,14 +178,6 @@ pub fn apply(alloc: Global, op: Op, left: &Value, right: &Value) -> Result<Value
 /// `Fault` exactly where the rule says so: `type` for what is no whole number, but for `!`, and `whole`
 /// for a number out of range.
 pub fn unary(op: Unary, v: &Value) -> Result<Value, OpFault>
-    ensures answer { AnswersAs (unary_of op (plain_value v.now)) result }
-    ensures sorted { IfOk result (λ x. IsSortedValue (plain_value x)) }
-    ensures memory { result ≢ Err OpFault.Memory }
-{
-    of_one(op, v)
-}
-
-fn of_one(op: Unary, v: &Value) -> Result<Value, OpFault>
     ensures answer { AnswersAs (unary_of op (plain_value v.now)) result }
     ensures memory { result ≢ Err OpFault.Memory }
 {

@@ -7,5 +7,11 @@ pub use Rattle.js_data.specs.Faults
 pub use Rattle.js_json.specs.Json
 pub mod Value
 pub mod Lists
+pub mod Sizes
+pub mod Kept
+pub mod Parts
+pub mod DataValues
+pub mod Sets
 pub mod Views
+pub mod Falls
 pub mod Codes
