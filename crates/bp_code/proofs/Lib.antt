@@ -1,4 +1,3 @@
 mod Pieces
 mod Runs
 mod Verdicts
-pub mod Accepted

@@ -1,6 +1,4 @@
-//! Accepted programs as the code that a run sees: the definitions.
+//! Programs and options as the code that a run sees: the definitions, and the laws of their runs.
 #![tactic(auto)]
 
-mod laws;
-
-pub use laws::one_program;
+pub mod laws;

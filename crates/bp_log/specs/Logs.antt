@@ -1,0 +1,45 @@
+-- The text of a log: the options and the program of a run, and what was recorded of it.
+use Rattle.std.specs.Prelude.{ℕ, List, [], ◌∷◌, ◌++◌, length, flat_map, decimal, codes}
+use Rattle.js_data.specs.JsonText.{event_text}
+use Rattle.bp_log.specs.Options.{PlainOptions}
+use Rattle.bp_log.specs.Header.{PlainHeader}
+use Rattle.bp_log.specs.declared.options.Strategy.{Strategy}
+use Rattle.bp_log.specs.declared.options.Strategy.TheVariants.{Simple, Ordered, Priority}
+use Rattle.bp_log.specs.declared.record.Record.{Record}
+use Rattle.bp_log.specs.declared.record.Record.TheVariants.{In, Bad, Eof, Sel, End}
+use Rattle.bp_log.specs.Texts.{verdict_text}
+
+-- a record, without its line end
+unfoldable pub record_text : Record → List ℕ
+record_text (In j e) = codes "in " ++ decimal j ++ codes " " ++ event_text e
+record_text (Bad j line) = codes "bad " ++ decimal j ++ codes " " ++ decimal line
+record_text (Eof j) = codes "eof " ++ decimal j
+record_text (Sel e) = codes "sel " ++ event_text e
+record_text (End v) = codes "end " ++ verdict_text v
+
+abbrev pub whole_record : Record → List ℕ
+whole_record r = record_text r ++ 10 ∷ []
+
+unfoldable pub records_text : List Record → List ℕ
+records_text records = flat_map whole_record records
+
+abbrev pub strategy_name : Strategy → List ℕ
+strategy_name Simple = codes "simple"
+strategy_name Ordered = codes "ordered"
+strategy_name Priority = codes "priority"
+
+abbrev pub options_text : PlainOptions → List ℕ
+options_text o =
+    codes "strategy " ++ strategy_name o.strategy
+    ++ codes "\nseed " ++ decimal o.seed
+    ++ codes "\nbudget " ++ decimal o.budget
+    ++ codes "\nsteps " ++ decimal o.steps
+    ++ codes "\ninjectors " ++ decimal o.injectors
+
+abbrev pub header_text : PlainHeader → List ℕ
+header_text h =
+    codes "bp-log 1\n" ++ options_text h.options
+    ++ codes "\nprogram " ++ decimal (length h.program) ++ codes "\n" ++ h.program ++ codes "\n"
+
+unfoldable pub log_text : PlainHeader → List Record → List ℕ
+log_text h records = header_text h ++ records_text records

@@ -1,0 +1,8 @@
+//! What resolved programs mean: the outcome of each node, defined by recursion on its parts.
+#![tactic(auto)]
+
+pub mod laws;
+mod limits;
+
+pub use js_program::{Builtin, Mode};
+pub use limits::MOST_CALLS;
