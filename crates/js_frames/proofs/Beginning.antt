@@ -1,0 +1,120 @@
+-- What nodes do that begin.
+use Rattle.std.proofs.Common.{◌≡◌, ℕ, List, [], ◌∷◌, ◌++◌, Option, Some, None, Result, Ok, Err, refl, sym, ap, ◌∙◌, subst}
+use Rattle.std.specs.Prelude.{IfOk, slice_get, option_to_list}
+use Rattle.std.specs.declared.alloc.AllocError.{AllocError}
+use Rattle.js_tree.specs.declared.tree.Operator.{Operator}
+use Rattle.js_tree.specs.declared.tree.Operator.TheVariants as operator
+use Rattle.js_tree.specs.declared.tree.DeclareKind.{DeclareKind}
+use Rattle.js_value.specs.Value.{PlainValue}
+use Rattle.js_program.specs.PlainProgram as p
+use Rattle.js_program.specs.PlainProgram.{PlainNode, PlainNodeForm, PlainProgram, parts_of}
+use Rattle.js_program.specs.Views.{plain_node, plain_node_form}
+use Rattle.js_program.specs.declared.node.Node.{Node}
+use Rattle.js_program.specs.declared.node.NodeForm.{NodeForm}
+use Rattle.js_program.specs.declared.node.NodeForm.TheVariants as f
+use Rattle.js_meaning.specs.State.{State, Setting, ◌>>=◌}
+use Rattle.js_meaning.specs.Variables.{undeclare}
+use Rattle.js_meaning.specs.Calls.{sequence}
+use Rattle.js_meaning.specs.Meaning.{does, eval, turns_of}
+use Rattle.js_frames.specs.declared.step.Step.{Step}
+use Rattle.js_frames.specs.declared.step.Step.TheVariants.{Begin}
+use Rattle.js_frames.specs.declared.frame.Turns.{Turns}
+use Rattle.js_frames.specs.declared.frame.Sequence.TheVariants.{Block}
+use Rattle.js_frames.specs.declared.frame.Part.TheVariants.{First, Or, And}
+use Rattle.js_frames.specs.declared.frame.Frame.{Frame}
+use Rattle.js_frames.specs.declared.frame.Frame.TheVariants.{Waiting}
+use Rattle.js_frames.specs.Places.{Place}
+use Rattle.js_frames.specs.Frames.{rest, resume, parts_from, declaring_from, sequence_from, block_of}
+use Rattle.js_frames.specs.Fits.{IsNode, AreNodes, IsPerhapsNode, HasForm, IsShort, IsLong, TurnsFit, FrameFits}
+use Rattle.js_frames.specs.Leads.{pushed, operand_frame}
+use Rattle.js_frames.proofs.InOrder.{parts_wait}
+
+-- a frame that was made by a call
+pub wait_for : (old new : Place) (frame known : Frame) (part : ℕ) (r : Result Step AllocError) → frame ≡ known → IfOk r (λ step. (step ≡ Begin part) × (new ≡ pushed old frame)) → IfOk r (λ step. (step ≡ Begin part) × (new ≡ pushed old known))
+wait_for old new frame known part r e w = subst (λ q. IfOk r (λ step. (step ≡ Begin part) × (new ≡ pushed old q))) e w
+
+module _ (g : Setting) (n : ℕ) (found : Node) (at : slice_get g.base.program.nodes n ≡ Some (plain_node found)) where
+  abbrev with_form : NodeForm → PlainNode
+  with_form x = record { line = found.line; form = plain_node_form x }
+
+  module _ (form : NodeForm) (is : found.form ≡ form) (s : State) where
+    node_is : slice_get g.base.program.nodes n ≡ Some (with_form form)
+    node_is = at ∙ ap (λ x. Some (with_form x)) is
+
+    long_form : (x : NodeForm) → IsLong (plain_node_form x) → parts_from g (Some (with_form x)) [] s ≡ does g (eval g) (turns_of g) found.line (plain_node_form x) s
+    long_form (f.List ns) h = refl
+    long_form (f.Fields ks ns) h = refl
+    long_form (f.Call x ns) h = refl
+    long_form (f.Method x w ns) h = refl
+    long_form (f.Builtin x ns) h = refl
+    long_form (f.FloorDivide a b ns) h = refl
+    long_form _ h = absurd h
+
+    pub long_begins : (done : List PlainValue) → done ≡ [] → IsLong (plain_node_form form) → parts_from g (slice_get g.base.program.nodes n) done s ≡ does g (eval g) (turns_of g) found.line (plain_node_form form) s
+    long_begins done e h = ap (λ vs. parts_from g (slice_get g.base.program.nodes n) vs s) e ∙ ap (λ o. parts_from g o [] s) node_is ∙ long_form form h
+
+    -- a form with one or two parts, but no operator
+    abbrev IsPlain : NodeForm → Type 0
+    IsPlain (f.Member x w) = Unit {0}
+    IsPlain (f.Index x i) = Unit {0}
+    IsPlain (f.Unary sign x) = Unit {0}
+    IsPlain _ = ⊥
+
+    plain_form : (x : NodeForm) → IsPlain x → parts_from g (Some (with_form x)) [] s ≡ does g (eval g) (turns_of g) found.line (plain_node_form x) s
+    plain_form (f.Member x w) h = refl
+    plain_form (f.Index x i) h = refl
+    plain_form (f.Unary sign x) h = refl
+    plain_form _ h = absurd h
+
+    pub short_begins : (part : ℕ) → IsPlain form → slice_get (parts_of (plain_node_form form)) 0 ≡ Some part → resume g (Waiting (First n)) (eval g part s) ≡ does g (eval g) (turns_of g) found.line (plain_node_form form) s
+    unfolding rest resume
+    short_begins part h get =
+        parts_wait g (slice_get g.base.program.nodes n) (with_form form) node_is [] part get (rest g (First n)) (λ x now. refl) s
+        ∙ ap (λ o. parts_from g o [] s) node_is ∙ plain_form form h
+
+  module _ (left right : ℕ) (s : State) where
+    abbrev binary_waits : Operator → Type 0
+    binary_waits o = resume g (operand_frame o right n) (eval g left s) ≡ does g (eval g) (turns_of g) found.line (p.binary o left right) s
+
+    both_sides : (o : Operator) → found.form ≡ f.Binary o left right → parts_from g (Some (with_form (f.Binary o left right))) [] s ≡ does g (eval g) (turns_of g) found.line (p.binary o left right) s → resume g (Waiting (First n)) (eval g left s) ≡ does g (eval g) (turns_of g) found.line (p.binary o left right) s
+    unfolding rest resume
+    both_sides o is h =
+        parts_wait g (slice_get g.base.program.nodes n) (with_form (f.Binary o left right)) (node_is (f.Binary o left right) is s) [] left refl (rest g (First n)) (λ x now. refl) s
+        ∙ ap (λ q. parts_from g q [] s) (node_is (f.Binary o left right) is s) ∙ h
+
+    pub operand_begins : (o : Operator) → found.form ≡ f.Binary o left right → binary_waits o
+    unfolding rest resume
+    operand_begins operator.Or is = refl
+    operand_begins operator.And is = refl
+    operand_begins operator.Same is = both_sides operator.Same is refl
+    operand_begins operator.NotSame is = both_sides operator.NotSame is refl
+    operand_begins operator.Equal is = both_sides operator.Equal is refl
+    operand_begins operator.NotEqual is = both_sides operator.NotEqual is refl
+    operand_begins operator.Less is = both_sides operator.Less is refl
+    operand_begins operator.LessOrEqual is = both_sides operator.LessOrEqual is refl
+    operand_begins operator.Greater is = both_sides operator.Greater is refl
+    operand_begins operator.GreaterOrEqual is = both_sides operator.GreaterOrEqual is refl
+    operand_begins operator.Add is = both_sides operator.Add is refl
+    operand_begins operator.Subtract is = both_sides operator.Subtract is refl
+    operand_begins operator.Multiply is = both_sides operator.Multiply is refl
+    operand_begins operator.Divide is = both_sides operator.Divide is refl
+    operand_begins operator.Remainder is = both_sides operator.Remainder is refl
+
+  pub block_begins : (slots : _) (ns : _) (is : found.form ≡ f.Block slots ns) (s : State) → sequence_from g (Block n) 0 (undeclare slots.items s) ≡ sequence (eval g) ns.items (undeclare slots.items s)
+  block_begins slots ns is s = ap (λ o. sequence (eval g) (block_of o) (undeclare slots.items s)) (node_is (f.Block slots ns) is s)
+
+pub operand_fits : (program : PlainProgram) (o : Operator) (right n : ℕ) → IsNode program n → IsNode program right → HasForm IsShort program n → FrameFits program (operand_frame o right n)
+operand_fits program operator.Or right n i r h = r
+operand_fits program operator.And right n i r h = r
+operand_fits program _ right n i r h = (i, h)
+
+-- the parts of a `for`
+pub for_parts : (program : PlainProgram) (a b c : Option ℕ) (d : ℕ) → AreNodes program (option_to_list a ++ option_to_list b ++ option_to_list c ++ d ∷ []) → IsPerhapsNode program a × IsPerhapsNode program b × IsPerhapsNode program c × IsNode program d
+for_parts program None None None d h = (tt, tt, tt, h 0 d refl)
+for_parts program None None (Some c) d h = (tt, tt, h 0 c refl, h 1 d refl)
+for_parts program None (Some b) None d h = (tt, h 0 b refl, tt, h 1 d refl)
+for_parts program None (Some b) (Some c) d h = (tt, h 0 b refl, h 1 c refl, h 2 d refl)
+for_parts program (Some a) None None d h = (h 0 a refl, tt, tt, h 1 d refl)
+for_parts program (Some a) None (Some c) d h = (h 0 a refl, tt, h 1 c refl, h 2 d refl)
+for_parts program (Some a) (Some b) None d h = (h 0 a refl, h 1 b refl, tt, h 2 d refl)
+for_parts program (Some a) (Some b) (Some c) d h = (h 0 a refl, h 1 b refl, h 2 c refl, h 3 d refl)

@@ -1,0 +1,143 @@
+-- Calls of the machine.
+use Rattle.std.proofs.Common.{◌≡◌, ℕ, zero, suc, ◌+◌, ◌-◌, ◌<◌, ◌≤◌, Bool, true, false, cond, List, [], ◌∷◌, ◌++◌, length, drop, take, map, Option, Some, None, Result, Ok, Err, refl, sym, ap, ◌∙◌, subst, arith}
+use Rattle.std.specs.Prelude.{IfOk, slice_get, nat_lt, pos, replicate, unwrap_or, option_map}
+use Rattle.std.specs.declared.alloc.AllocError.{AllocError}
+use Rattle.js_data.specs.declared.fault.Fault.TheVariants as fault
+use Rattle.js_value.specs.Value as v
+use Rattle.js_value.specs.Value.{PlainValue, ValueList}
+use Rattle.js_value.specs.Lists.{values_in}
+use Rattle.js_value.specs.Views.{plain_value}
+use Rattle.js_value.specs.declared.value.Value.{Value}
+use Rattle.js_value.specs.declared.value.Value.TheVariants as value
+use Rattle.js_program.specs.PlainProgram as p
+use Rattle.js_program.specs.PlainProgram.{PlainContent, PlainBody, PlainProgram, content_parts}
+use Rattle.js_meaning.specs.State as js
+use Rattle.js_meaning.specs.State.{State, Setting, Outcome, went, ◌>>=◌, gives, leaves, breaks}
+use Rattle.js_meaning.specs.Variables.{padded, slots_of_call}
+use Rattle.js_meaning.specs.Calls.{no_body, body_of, after_call, sequence, runs, enters, calls, for_each_from, for_each_call}
+use Rattle.js_meaning.specs.declared.limits.TheConstants.{MOST_CALLS}
+use Rattle.js_meaning.specs.Meaning.{eval}
+use Rattle.js_frames.specs.declared.step.Step.{Step}
+use Rattle.js_frames.specs.declared.step.Step.TheVariants.{Begin, Give, Fail}
+use Rattle.js_frames.specs.declared.step.Completion.TheVariants.{Normal}
+use Rattle.js_value.specs.declared.value.Value.TheVariants.{Undefined}
+use Rattle.js_frames.specs.declared.frame.Walk.{Walk}
+use Rattle.js_frames.specs.declared.frame.Sequence.{Sequence}
+use Rattle.js_frames.specs.declared.frame.Part.TheVariants.{Statements, Returned, Walked}
+use Rattle.js_frames.specs.declared.frame.Frame.{Frame}
+use Rattle.js_frames.specs.declared.frame.Frame.TheVariants.{Waiting, Called}
+use Rattle.js_frames.specs.Places.{Place, Beside, setting_at, state_at}
+use Rattle.js_frames.specs.Frames.{rest, resume, plug, step_outcome, future, statements_in, statements_of, sequence_from, walk_from}
+use Rattle.js_frames.specs.Fits.{IsNode, AreNodes, SequenceFits, FrameFits, StackFits}
+use Rattle.js_frames.specs.Leads.{Rests, Leads, pushed, entered, first_of}
+use Rattle.js_frames.proofs.Lists.{drop_at, drop_past}
+use Rattle.js_frames.proofs.Steps.{plug_pushed, fits_pushed, on_ok, ok_both, wait_leads, completes_at, fails_at, moves}
+
+-- what a body does after it was entered, with the frame that waits for its first part
+abbrev pub body_frame : PlainContent → Sequence → Frame
+body_frame (p.statements ns) which = Waiting (Statements which 1)
+body_frame (p.one_value n) which = Waiting Returned
+
+-- the first node of a body is one of its parts
+pub first_part : (content : PlainContent) (n : ℕ) → first_of content ≡ Some n → slice_get (content_parts content) 0 ≡ Some n
+first_part (p.statements ns) n e = e
+first_part (p.one_value m) n e = e
+
+-- a body begins with its first node
+pub body_begins : (g : Setting) (content : PlainContent) (which : Sequence) (n : ℕ) (s : State) → statements_of g.base.program which ≡ statements_in content → first_of content ≡ Some n → resume g (body_frame content which) (eval g n s) ≡ runs (eval g) content s
+unfolding resume rest
+body_begins g (p.statements ns) which n s same first =
+    ap (λ l. eval g n s >>= λ _. sequence (eval g) (drop 1 l)) same
+    ∙ ap (λ l. sequence (eval g) l s) (sym (drop_at ns 0 n first))
+body_begins g (p.one_value m) which n s same first = let e : n ≡ m = cc in ap (λ k. eval g k s >>= λ x. went (js.returned x)) e
+
+-- a body that begins with none does nothing
+pub nothing_runs : (g : Setting) (content : PlainContent) (s : State) → first_of content ≡ None → leaves s ≡ runs (eval g) content s
+nothing_runs g (p.statements ns) s first = ap (λ l. sequence (eval g) l s) (sym (drop_past ns 0 first))
+nothing_runs g (p.one_value m) s first = cc
+
+module _ (base : js.Ground) (old : Place) (body : PlainBody) (active : ℕ) (captured args : List PlainValue) where
+  abbrev entering : State → Outcome
+  entering = enters (eval (setting_at base old)) active body captured args
+
+  pub enter_nothing : (step : Step) → step ≡ Give (Normal Undefined) → StackFits base.program old.stack → first_of body.content ≡ None → Leads base old entering old step
+  enter_nothing step e fits first =
+      subst (Leads base old entering old) (sym e)
+      (completes_at base old entering (Normal Undefined) fits (λ beside.
+      ap (after_call old.slots old.calls) (nothing_runs (setting_at base old) body.content (record (state_at old beside) { slots = slots_of_call body captured args; calls = active }) first)))
+
+  pub enter_leads : (mid new : Place) (slots : List (Option PlainValue)) (which : Sequence) (n : ℕ) (r : Result Step AllocError) → slots ≡ slots_of_call body captured args → mid ≡ entered old slots active → StackFits base.program old.stack → SequenceFits base.program which → FrameFits base.program (body_frame body.content which) → IsNode base.program n → statements_of base.program which ≡ statements_in body.content → first_of body.content ≡ Some n → IfOk r (λ step. (step ≡ Begin n) × (new ≡ pushed mid (body_frame body.content which))) → IfOk r (λ step. Leads base old entering new step)
+  enter_leads mid new slots which n r made e fits which_fits frame_fits inside same first w0 =
+      let w = subst (λ m. IfOk r (λ step. (step ≡ Begin n) × (new ≡ pushed m (body_frame body.content which)))) e w0 in
+      let there = entered old slots active in
+      let go = wait_leads base there new (runs (eval (setting_at base old)) body.content) r (body_frame body.content which) n (fits_pushed base.program old.stack (Called old.slots old.calls) fits tt) w frame_fits inside (λ s. body_begins (setting_at base old) body.content which n s same first) in
+      let begun = on_ok r (λ step x. x.0) w in
+      on_ok r (λ step both. let l = both.1 in record {
+        same = λ beside. l.same beside
+            ∙ enter_plug beside
+            ∙ ap (λ ss. plug (setting_at base old) old.stack (after_call old.slots old.calls (runs (eval (setting_at base old)) body.content (record (state_at old beside) { slots = ss; calls = active })))) made;
+        same_mode = l.same_mode;
+        same_budget = l.same_budget;
+        same_fuel = l.same_fuel;
+        stack_fits = l.stack_fits;
+        step_fits = l.step_fits;
+        rests = subst (λ q. Rests q old.stack new.stack) (sym both.0) tt;
+      }) (ok_both _ _ r begun go)
+    where
+      enter_plug : (beside : Beside) → plug (setting_at base old) (old.stack ++ Called old.slots old.calls ∷ []) (runs (eval (setting_at base old)) body.content (record (state_at old beside) { slots = slots; calls = active })) ≡ plug (setting_at base old) old.stack (after_call old.slots old.calls (runs (eval (setting_at base old)) body.content (record (state_at old beside) { slots = slots; calls = active })))
+      unfolding resume
+      enter_plug beside = plug_pushed (setting_at base old) old.stack (Called old.slots old.calls) _
+
+module _ (base : js.Ground) (old : Place) (line code : ℕ) (captured : ValueList) (args : List PlainValue) where
+  abbrev calling : State → Outcome
+  calling = calls (setting_at base old) (eval (setting_at base old)) line (v.function code captured) args
+
+  pub too_deep : (step : Step) → step ≡ Fail fault.Depth line → nat_lt old.calls MOST_CALLS ≡ false → StackFits base.program old.stack → Leads base old calling old step
+  too_deep step e room fits =
+      subst (Leads base old calling old) (sym e)
+      (fails_at base old calling fault.Depth line fits (λ beside.
+      ap (λ t. cond t (enters (eval (setting_at base old)) (old.calls + 1) (body_of base.program code) (values_in captured) args) (breaks fault.Depth line) (state_at old beside)) (sym room)))
+
+  pub no_function : (step : Step) → step ≡ Give (Normal Undefined) → nat_lt old.calls MOST_CALLS ≡ true → StackFits base.program old.stack → slice_get base.program.functions code ≡ None → Leads base old calling old step
+  no_function step e room fits none =
+      subst (Leads base old calling old) (sym e)
+      (completes_at base old calling (Normal Undefined) fits (λ beside.
+      ap (λ b. enters (eval (setting_at base old)) (old.calls + 1) b (values_in captured) args (state_at old beside)) (sym (ap (λ o. unwrap_or o no_body) none))
+      ∙ ap (λ t. cond t (enters (eval (setting_at base old)) (old.calls + 1) (body_of base.program code) (values_in captured) args) (breaks fault.Depth line) (state_at old beside)) (sym room)))
+
+  pub call_enters : (new : Place) (r : Result Step AllocError) (body : PlainBody) → slice_get base.program.functions code ≡ Some body → nat_lt old.calls MOST_CALLS ≡ true → IfOk r (λ step. Leads base old (enters (eval (setting_at base old)) (old.calls + 1) body (values_in captured) args) new step) → IfOk r (λ step. Leads base old calling new step)
+  call_enters new r body found room w =
+      on_ok r (λ step l. moves base old old new calling (enters (eval (setting_at base old)) (old.calls + 1) body (values_in captured) args) step refl refl refl refl (λ beside.
+      ap (λ b. enters (eval (setting_at base old)) (old.calls + 1) b (values_in captured) args (state_at old beside)) (sym (ap (λ o. unwrap_or o no_body) found))
+      ∙ ap (λ t. cond t (enters (eval (setting_at base old)) (old.calls + 1) (body_of base.program code) (values_in captured) args) (breaks fault.Depth line) (state_at old beside)) (sym room)) l) w
+
+-- a walk over a list
+module _ (g : Setting) (line : ℕ) (f : PlainValue) (items : PlainValue) where
+  pub nothing_walks : (index : ℕ) (xs : List PlainValue) (s : State) → ((x : PlainValue) (k : ℕ) → calls g (eval g) line f (x ∷ v.whole (pos k) ∷ items ∷ []) s ≡ leaves s) → for_each_from g (eval g) line f items index xs s ≡ leaves s
+  nothing_walks index [] s h = refl
+  nothing_walks index (x ∷ xs) s h =
+      ap (λ o. o >>= λ _. for_each_from g (eval g) line f items (suc index) xs) (h x index) ∙ nothing_walks (suc index) xs s h
+
+-- only a function can be called
+pub no_call : (g : Setting) (ev : ℕ → State → Outcome) (line : ℕ) (x : Value) (args : List PlainValue) (s : State) → ((code : ℕ) (cs : ValueList) → x ≡ value.Function code cs → ⊥) → breaks fault.Mistyped line s ≡ calls g ev line (plain_value x) args s
+no_call g ev line value.Undefined args s h = refl
+no_call g ev line value.Null args s h = refl
+no_call g ev line (value.Truth b) args s h = refl
+no_call g ev line (value.Whole n) args s h = refl
+no_call g ev line (value.Words w) args s h = refl
+no_call g ev line (value.List xs) args s h = refl
+no_call g ev line (value.Fields fs) args s h = refl
+no_call g ev line (value.Event e) args s h = refl
+no_call g ev line (value.Set e) args s h = refl
+no_call g ev line (value.Function c cs) args s h = absurd (h c cs refl)
+
+-- the next statement, and then the others
+pub next_statement : (g : Setting) (which : Sequence) (place n : ℕ) (s : State) → slice_get (statements_of g.base.program which) place ≡ Some n → (eval g n s >>= λ _. sequence_from g which (place + 1)) ≡ sequence_from g which place s
+next_statement g which place n s at = ap (λ l. sequence (eval g) l s) (sym (drop_at (statements_of g.base.program which) place n at))
+
+pub no_statement : (g : Setting) (which : Sequence) (place : ℕ) (s : State) → slice_get (statements_of g.base.program which) place ≡ None → leaves s ≡ sequence_from g which place s
+no_statement g which place s at = ap (λ l. sequence (eval g) l s) (sym (drop_past (statements_of g.base.program which) place at))
+
+-- the statements of a sequence are nodes
+pub statement_inside : (program : PlainProgram) (which : Sequence) (place n : ℕ) → AreNodes program (statements_of program which) → slice_get (statements_of program which) place ≡ Some n → IsNode program n
+statement_inside program which place n are at = are place n at

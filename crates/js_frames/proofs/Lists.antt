@@ -1,0 +1,31 @@
+-- Lists that are read from a place on.
+use Rattle.std.proofs.Common.{◌≡◌, ℕ, zero, suc, ◌+◌, ◌-◌, List, [], ◌∷◌, ◌++◌, length, drop, take, map, Option, Some, None, refl, sym, ap, ◌∙◌, arith}
+use Rattle.std.specs.Prelude.{slice_get, slice_set, fold, option_map, replicate, unwrap_or}
+use Rattle.js_value.specs.Value.{PlainValue}
+use Rattle.js_meaning.specs.State.{State}
+use Rattle.js_meaning.specs.Variables.{undeclare, set_slot}
+use Rattle.js_meaning.specs.Forms.{argument}
+
+-- what is left of a list from a place
+pub drop_at : {X : Type 0} (xs : List X) (k : ℕ) (x : X) → slice_get xs k ≡ Some x → drop k xs ≡ x ∷ drop (k + 1) xs
+drop_at [] k x h = cc
+drop_at (y ∷ xs) zero x h = let e : y ≡ x = cc in ap (λ z. z ∷ xs) e
+drop_at (y ∷ xs) (suc k) x h =
+    let e : suc (k + 1) ≡ suc k + 1 = omega arith in
+    drop_at xs k x h ∙ ap (λ j. x ∷ drop j (y ∷ xs)) e
+
+pub drop_past : {X : Type 0} (xs : List X) (k : ℕ) → slice_get xs k ≡ None → drop k xs ≡ []
+drop_past [] zero h = refl
+drop_past [] (suc k) h = refl
+drop_past (y ∷ xs) zero h = cc
+drop_past (y ∷ xs) (suc k) h = drop_past xs k h
+
+-- a block's variables
+pub undeclared_slots : (ks : List ℕ) (s : State) → undeclare ks s ≡ record s { slots = fold (λ slots k. slice_set slots k None) s.slots ks }
+undeclared_slots [] s = refl
+undeclared_slots (k ∷ ks) s = undeclared_slots ks (set_slot k None s)
+
+-- arguments that were cut behind a place
+pub argument_taken : (vs : List PlainValue) → argument 0 (take 1 vs) ≡ argument 0 vs
+argument_taken [] = refl
+argument_taken (v ∷ vs) = refl

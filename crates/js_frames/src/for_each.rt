@@ -1,0 +1,132 @@
+//! `forEach`.
+ghost use Rattle.std.specs.Prelude.{◌≡◌, ◌<◌, ◌∷◌, [], pos, IfOk, length, drop, option_map};
+ghost use Rattle.js_value.specs.Value.{PlainValue, function, list, whole};
+ghost use Rattle.js_value.specs.Lists.{values_in};
+ghost use Rattle.js_value.specs.Views.{plain_value};
+ghost use Rattle.js_meaning.specs.Variables.{padded};
+ghost use Rattle.js_meaning.specs.Calls.{for_each_call};
+ghost use Rattle.js_meaning.specs.Meaning.{eval};
+ghost use Rattle.js_frames.specs.Places.{here};
+ghost use Rattle.js_frames.specs.Frames.{walk_from};
+ghost use Rattle.js_frames.specs.Fits.{StackFits};
+ghost use Rattle.js_frames.specs.Leads.{Goes};
+
+use crate::calls::{first_in, function_of};
+use crate::engine::Engine;
+use crate::frame::{Frame, Part, Sequence, Walk};
+use crate::ground::Ground;
+use crate::step::{Step, leave, mistyped};
+use crate::values::{Values, item_at};
+use js_data::{Fault, Memory, Whole};
+use js_meaning::MOST_CALLS;
+use js_program::Body;
+use js_value::{Items, Value, copy};
+use std::alloc::{AllocError, Global};
+
+/// An index as a value: no list has more places than there are whole numbers.
+fn index_value(index: usize) -> Result<Value, Memory>
+    ensures { IfOk result (λ v. plain_value v ≡ whole (pos index)) }
+{
+    match i64::try_from(index) {
+        Ok(n) => match Whole::new(n) {
+            Some(number) => Ok(Value::Whole(number)),
+            None => Err(AllocError),
+        },
+        Err(_) => Err(AllocError),
+    }
+}
+
+/// The arguments of the function: the element, its index and the list, but no more than it has parameters.
+fn element_args(
+    alloc: Global,
+    wanted: u32,
+    item: &Value,
+    index: usize,
+    items: &Items,
+) -> Result<Values, Memory>
+    ensures { IfOk result (λ args. padded wanted args
+        ≡ padded wanted (plain_value item.now ∷ whole (pos index) ∷ list items.now ∷ [])) }
+{
+    let mut args = Values::new(alloc);
+    args.push(copy(item)?)?;
+    if wanted > 1 {
+        args.push(index_value(index)?)?;
+    }
+    if wanted > 2 {
+        args.push(Value::List(items.copy()?))?;
+    }
+    Ok(args)
+}
+
+impl Engine {
+    /// `forEach` with its arguments.
+    pub fn for_each(
+        &mut self,
+        base: &Ground,
+        line: u32,
+        items: Items,
+        mut args: Values,
+    ) -> Result<Step, Memory>
+        requires { StackFits base.now.program self.old.stack.items }
+        ensures { let g = here base.now self.old in Goes base.now self.old
+            (for_each_call g (eval g) line items args) self.new result }
+    {
+        match args.take(0) {
+            Value::Function { code, captured } => self.walk(
+                base,
+                Walk {
+                    code,
+                    captured,
+                    items,
+                    index: 0,
+                    line,
+                },
+            ),
+            _ => Ok(mistyped(line)),
+        }
+    }
+
+    /// The function is called with the element at the index, if there is one.
+    pub fn walk(&mut self, base: &Ground, walk: Walk) -> Result<Step, Memory>
+        requires { StackFits base.now.program self.old.stack.items }
+        ensures { Goes base.now self.old (walk_from (here base.now self.old) walk) self.new result }
+    {
+        let Some(item) = item_at(&walk.items, walk.index) else {
+            return Ok(leave());
+        };
+        if self.calls >= MOST_CALLS {
+            return Ok(Step::Fail(Fault::Depth, walk.line));
+        }
+        let Some(body) = function_of(base, walk.code) else {
+            return Ok(leave());
+        };
+        // A function that begins nothing does nothing for any element.
+        if first_in(&body.content).is_none() {
+            return Ok(leave());
+        }
+        let args = element_args(self.alloc, body.parameters, item, walk.index, &walk.items)?;
+        self.walk_on(base, body, walk, args)
+    }
+
+    /// The call for an element, and a frame for those behind it.
+    fn walk_on(
+        &mut self,
+        base: &Ground,
+        body: &Body,
+        walk: Walk,
+        args: Values,
+    ) -> Result<Step, Memory> {
+        let captured = walk.captured.copy()?;
+        let sequence = Sequence::Function(walk.code);
+        let active = self.calls + 1;
+        let further = Walk {
+            code: walk.code,
+            captured: walk.captured,
+            items: walk.items,
+            index: walk.index + 1,
+            line: walk.line,
+        };
+        self.stack.push(Frame::Waiting(Part::Walked(further)))?;
+        self.enter(base, body, sequence, active, &captured, args)
+    }
+}

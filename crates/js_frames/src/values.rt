@@ -1,0 +1,122 @@
+//! The values of parts that are done.
+ghost use Rattle.std.specs.Prelude.{◌≡◌, ◌++◌, ◌∷◌, [], length, map, take, drop, IfOk, OnOk, IfSome, option_map, slice_get, ◌+◌, ◌<◌, ◌^◌};
+ghost use Rattle.js_value.specs.Lists.{values_in};
+ghost use Rattle.js_value.specs.Views.{plain_value};
+ghost use Rattle.js_meaning.specs.Forms.{argument};
+ghost use Rattle.js_meaning.specs.Variables.{padded};
+
+use js_value::{Items, Memory, Value};
+use std::alloc::Global;
+use std::marker::Model;
+
+/// Values in order. Contracts see the list of their plain forms.
+#[derive(Drop)]
+pub struct Values {
+    items: Vec<Value>,
+}
+
+impl Model for Values {
+    ghost use Rattle.std.specs.Prelude.{List, map};
+    ghost use Rattle.std.specs.Coded.{coded_list};
+    ghost use Rattle.js_value.specs.Value.{PlainValue};
+    ghost use Rattle.js_value.specs.Codes.{value_code};
+
+    ghost Value = { List PlainValue };
+
+    ghost coded = { coded_list value_code };
+
+    ghost use Rattle.js_value.specs.Views.{plain_value};
+
+    ghost view = { λ l. map plain_value l.items.items };
+}
+
+impl Values {
+    /// No values. Takes no memory.
+    pub fn new(alloc: Global) -> Values
+        ensures { result ≡ [] }
+    {
+        Values {
+            items: Vec::new(alloc),
+        }
+    }
+
+    /// How many there are. Takes no memory.
+    pub fn len(&self) -> usize
+        ensures { result ≡ length self.now }
+    {
+        self.items.len()
+    }
+
+    /// The values, in order. Takes no memory.
+    pub fn as_slice(&self) -> &[Value]
+        ensures { map plain_value result.now ≡ self.now }
+    {
+        self.items.as_slice()
+    }
+
+    /// The values, given back. Takes no memory.
+    pub fn into_vec(self) -> Vec<Value>
+        ensures { map plain_value result.items ≡ self }
+    {
+        self.items
+    }
+
+    /// One more value.
+    pub fn push(&mut self, value: Value) -> Result<(), Memory>
+        ensures { OnOk result (self.new ≡ self.old ++ plain_value value ∷ []) }
+    {
+        self.items.push(value)?;
+        Ok(())
+    }
+
+    /// The value at a place, or undefined; it and those behind it are dropped. Takes no memory.
+    pub fn take(&mut self, place: usize) -> Value
+        ensures value { plain_value result ≡ argument place self.old }
+        ensures rest { self.new ≡ take place self.old }
+    {
+        if place >= self.items.len() {
+            return Value::Undefined;
+        }
+        let value = self.items.swap_remove(place);
+        self.items.truncate(place);
+        value
+    }
+
+    /// The first value, or undefined; the others stay. Takes no memory.
+    pub fn take_first(&mut self) -> Value
+        ensures value { plain_value result ≡ argument 0 self.old }
+        ensures rest { self.new ≡ drop 1 self.old }
+    {
+        if self.items.is_empty() {
+            return Value::Undefined;
+        }
+        self.items.remove(0)
+    }
+
+    /// As many values as asked for: further ones are dropped, and missing ones are undefined.
+    pub fn pad(&mut self, count: usize) -> Result<(), Memory>
+        ensures { OnOk result (self.new ≡ padded count self.old) }
+    {
+        self.items.truncate(count);
+        for _ in self.items.len()..count {
+            self.items.push(Value::Undefined)?;
+        }
+        Ok(())
+    }
+}
+
+/// The number at a place of a list. Takes no memory.
+pub fn number_at(numbers: &[u32], place: usize) -> Option<u32>
+    ensures value { result ≡ slice_get numbers.now place }
+    ensures room { IfSome result (λ _. place + 1 < 2 ^ 64) }
+{
+    numbers.get(place).copied()
+}
+
+/// The value at a place of a list. Takes no memory.
+pub fn item_at(items: &Items, place: usize) -> Option<&Value>
+    ensures value { option_map (λ v. plain_value v.now) result ≡ slice_get (values_in items.now) place }
+    ensures room { IfSome result (λ _. place + 1 < 2 ^ 64) }
+{
+    items.get(place)
+}
