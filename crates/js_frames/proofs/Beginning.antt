@@ -1,26 +1,29 @@
 -- What nodes do that begin.
-use Rattle.std.proofs.Common.{◌≡◌, ℕ, List, [], ◌∷◌, ◌++◌, Option, Some, None, Result, Ok, Err, refl, sym, ap, ◌∙◌, subst}
+use Rattle.std.proofs.Common.{◌≡◌, ℕ, map, List, [], ◌∷◌, ◌++◌, Option, Some, None, Result, Ok, Err, refl, sym, ap, ◌∙◌, subst}
 use Rattle.std.specs.Prelude.{IfOk, slice_get, option_to_list}
 use Rattle.std.specs.declared.alloc.AllocError.{AllocError}
 use Rattle.js_tree.specs.declared.tree.Operator.{Operator}
 use Rattle.js_tree.specs.declared.tree.Operator.TheVariants as operator
 use Rattle.js_tree.specs.declared.tree.DeclareKind.{DeclareKind}
 use Rattle.js_value.specs.Value.{PlainValue}
+use Rattle.js_value.specs.Views.{plain_value}
+use Rattle.js_value.specs.declared.value.Value.{Value}
 use Rattle.js_program.specs.PlainProgram as p
 use Rattle.js_program.specs.PlainProgram.{PlainNode, PlainNodeForm, PlainProgram, parts_of}
-use Rattle.js_program.specs.Views.{plain_node, plain_node_form}
+use Rattle.js_program.specs.Views.{plain_node, plain_node_form, plain_declared}
 use Rattle.js_program.specs.declared.node.Node.{Node}
 use Rattle.js_program.specs.declared.node.NodeForm.{NodeForm}
 use Rattle.js_program.specs.declared.node.NodeForm.TheVariants as f
 use Rattle.js_meaning.specs.State.{State, Setting, ◌>>=◌}
 use Rattle.js_meaning.specs.Variables.{undeclare}
 use Rattle.js_meaning.specs.Calls.{sequence}
+use Rattle.js_meaning.specs.Statements.{does_declaration}
 use Rattle.js_meaning.specs.Meaning.{does, eval, turns_of}
 use Rattle.js_frames.specs.declared.step.Step.{Step}
 use Rattle.js_frames.specs.declared.step.Step.TheVariants.{Begin}
 use Rattle.js_frames.specs.declared.frame.Turns.{Turns}
 use Rattle.js_frames.specs.declared.frame.Sequence.TheVariants.{Block}
-use Rattle.js_frames.specs.declared.frame.Part.TheVariants.{First, Or, And}
+use Rattle.js_frames.specs.declared.frame.Part.TheVariants.{First, Second, Or, And}
 use Rattle.js_frames.specs.declared.frame.Frame.{Frame}
 use Rattle.js_frames.specs.declared.frame.Frame.TheVariants.{Waiting}
 use Rattle.js_frames.specs.Places.{Place}
@@ -40,6 +43,16 @@ module _ (g : Setting) (n : ℕ) (found : Node) (at : slice_get g.base.program.n
   module _ (form : NodeForm) (is : found.form ≡ form) (s : State) where
     node_is : slice_get g.base.program.nodes n ≡ Some (with_form form)
     node_is = at ∙ ap (λ x. Some (with_form x)) is
+
+    -- the values of all parts are there
+    pub parts_with : (vs : List PlainValue) → parts_from g (Some (with_form form)) vs s ≡ parts_from g (slice_get g.base.program.nodes n) vs s
+    parts_with vs = ap (λ o. parts_from g o vs s) (sym node_is)
+
+    -- the first value is there, and the second part begins
+    pub second_waits : (first : Value) (part : ℕ) → slice_get (parts_of (plain_node_form form)) 1 ≡ Some part → resume g (Waiting (Second n first)) (eval g part s) ≡ parts_from g (slice_get g.base.program.nodes n) (plain_value first ∷ []) s
+    unfolding rest resume
+    second_waits first part get =
+        parts_wait g (slice_get g.base.program.nodes n) (with_form form) node_is (plain_value first ∷ []) part get (rest g (Second n first)) (λ x now. refl) s
 
     long_form : (x : NodeForm) → IsLong (plain_node_form x) → parts_from g (Some (with_form x)) [] s ≡ does g (eval g) (turns_of g) found.line (plain_node_form x) s
     long_form (f.List ns) h = refl
@@ -102,6 +115,9 @@ module _ (g : Setting) (n : ℕ) (found : Node) (at : slice_get g.base.program.n
 
   pub block_begins : (slots : _) (ns : _) (is : found.form ≡ f.Block slots ns) (s : State) → sequence_from g (Block n) 0 (undeclare slots.items s) ≡ sequence (eval g) ns.items (undeclare slots.items s)
   block_begins slots ns is s = ap (λ o. sequence (eval g) (block_of o) (undeclare slots.items s)) (node_is (f.Block slots ns) is s)
+
+  pub declaration_begins : (kind : DeclareKind) (ds : _) (is : found.form ≡ f.Declaration kind ds) (s : State) → declaring_from g (slice_get g.base.program.nodes n) 0 s ≡ does_declaration (eval g) kind (map plain_declared ds.items) s
+  declaration_begins kind ds is s = ap (λ o. declaring_from g o 0 s) (node_is (f.Declaration kind ds) is s)
 
 pub operand_fits : (program : PlainProgram) (o : Operator) (right n : ℕ) → IsNode program n → IsNode program right → HasForm IsShort program n → FrameFits program (operand_frame o right n)
 operand_fits program operator.Or right n i r h = r

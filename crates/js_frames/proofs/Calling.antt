@@ -1,6 +1,6 @@
 -- Calls of the machine.
 use Rattle.std.proofs.Common.{◌≡◌, ℕ, zero, suc, ◌+◌, ◌-◌, ◌<◌, ◌≤◌, Bool, true, false, cond, List, [], ◌∷◌, ◌++◌, length, drop, take, map, Option, Some, None, Result, Ok, Err, refl, sym, ap, ◌∙◌, subst, arith}
-use Rattle.std.specs.Prelude.{IfOk, slice_get, nat_lt, pos, replicate, unwrap_or, option_map}
+use Rattle.std.specs.Prelude.{IfOk, slice_get, slice_set, fold, nat_lt, pos, replicate, unwrap_or, option_map}
 use Rattle.std.specs.declared.alloc.AllocError.{AllocError}
 use Rattle.js_data.specs.declared.fault.Fault.TheVariants as fault
 use Rattle.js_value.specs.Value as v
@@ -18,7 +18,7 @@ use Rattle.js_meaning.specs.Calls.{no_body, body_of, after_call, sequence, runs,
 use Rattle.js_meaning.specs.declared.limits.TheConstants.{MOST_CALLS}
 use Rattle.js_meaning.specs.Meaning.{eval}
 use Rattle.js_frames.specs.declared.step.Step.{Step}
-use Rattle.js_frames.specs.declared.step.Step.TheVariants.{Begin, Give, Fail}
+use Rattle.js_frames.specs.declared.step.Step.TheVariants.{Begin, Give, Ask, Fail, Violate}
 use Rattle.js_frames.specs.declared.step.Completion.TheVariants.{Normal}
 use Rattle.js_value.specs.declared.value.Value.TheVariants.{Undefined}
 use Rattle.js_frames.specs.declared.frame.Walk.{Walk}
@@ -29,7 +29,11 @@ use Rattle.js_frames.specs.declared.frame.Frame.TheVariants.{Waiting, Called}
 use Rattle.js_frames.specs.Places.{Place, Beside, setting_at, state_at}
 use Rattle.js_frames.specs.Frames.{rest, resume, plug, step_outcome, future, statements_in, statements_of, sequence_from, walk_from}
 use Rattle.js_frames.specs.Fits.{IsNode, AreNodes, SequenceFits, FrameFits, StackFits}
-use Rattle.js_frames.specs.Leads.{Rests, Leads, pushed, entered, first_of}
+use Rattle.js_program.specs.Views.{plain_content}
+use Rattle.js_program.specs.declared.node.Content.{Content}
+use Rattle.js_program.specs.declared.node.Content.TheVariants as content
+use Rattle.js_frames.specs.Leads.{IsBegin, Rests, Leads, pushed, entered, first_of}
+use Rattle.js_frames.proofs.InOrder.{bind_same}
 use Rattle.js_frames.proofs.Lists.{drop_at, drop_past}
 use Rattle.js_frames.proofs.Steps.{plug_pushed, fits_pushed, on_ok, ok_both, wait_leads, completes_at, fails_at, moves}
 
@@ -141,3 +145,89 @@ no_statement g which place s at = ap (λ l. sequence (eval g) l s) (sym (drop_pa
 -- the statements of a sequence are nodes
 pub statement_inside : (program : PlainProgram) (which : Sequence) (place n : ℕ) → AreNodes program (statements_of program which) → slice_get (statements_of program which) place ≡ Some n → IsNode program n
 statement_inside program which place n are at = are place n at
+
+-- the frame of a body whose content is known
+pub statements_fit : (program : PlainProgram) (held : Content) (ns : _) (which : Sequence) → held ≡ content.Statements ns → SequenceFits program which → FrameFits program (body_frame (plain_content held) which)
+statements_fit program held ns which is h = subst (λ q. FrameFits program (body_frame (plain_content q) which)) (sym is) h
+
+pub statements_wait : (mid new : Place) (n : ℕ) (held : Content) (ns : _) (which : Sequence) (r : Result Step AllocError) → held ≡ content.Statements ns → IfOk r (λ step. (step ≡ Begin n) × (new ≡ pushed mid (Waiting (Statements which 1)))) → IfOk r (λ step. (step ≡ Begin n) × (new ≡ pushed mid (body_frame (plain_content held) which)))
+statements_wait mid new n held ns which r is w = subst (λ q. IfOk r (λ step. (step ≡ Begin n) × (new ≡ pushed mid (body_frame (plain_content q) which)))) (sym is) w
+
+pub value_fits : (program : PlainProgram) (held : Content) (m : ℕ) (which : Sequence) → held ≡ content.OneValue m → FrameFits program (body_frame (plain_content held) which)
+value_fits program held m which is = subst (λ q. FrameFits program (body_frame (plain_content q) which)) (sym is) tt
+
+pub value_waits : (mid new : Place) (n : ℕ) (held : Content) (m : ℕ) (which : Sequence) (r : Result Step AllocError) → held ≡ content.OneValue m → IfOk r (λ step. (step ≡ Begin n) × (new ≡ pushed mid (Waiting Returned))) → IfOk r (λ step. (step ≡ Begin n) × (new ≡ pushed mid (body_frame (plain_content held) which)))
+value_waits mid new n held m which r is w = subst (λ q. IfOk r (λ step. (step ≡ Begin n) × (new ≡ pushed mid (body_frame (plain_content q) which)))) (sym is) w
+
+-- the call for an element, and then the walk over those behind it
+module _ (base : js.Ground) (old new : Place) (w further : Walk) (body : PlainBody) (args : List PlainValue) where
+  abbrev calls_it : State → Outcome
+  calls_it = enters (eval (setting_at base old)) (old.calls + 1) body (values_in w.captured) args
+
+  pub walks_on : (x : PlainValue) (r : Result Step AllocError) → slice_get base.program.functions w.code ≡ Some body → nat_lt old.calls MOST_CALLS ≡ true → slice_get (values_in w.items) w.index ≡ Some x → padded body.parameters args ≡ padded body.parameters (x ∷ v.whole (pos w.index) ∷ v.list w.items ∷ []) → further ≡ record w { index = w.index + 1 } → StackFits base.program old.stack → IfOk r IsBegin → IfOk r (λ step. Leads base (pushed old (Waiting (Walked further))) calls_it new step) → IfOk r (λ step. Leads base old (walk_from (setting_at base old) w) new step)
+  walks_on x r found room get same is fits begins goes =
+      on_ok r (λ step both. let l = both.1 in record {
+        same = λ beside. l.same beside
+            ∙ plug_pushed (setting_at base old) old.stack (Waiting (Walked further)) (calls_it (state_at old beside))
+            ∙ ap (plug (setting_at base old) old.stack) (element beside);
+        same_mode = l.same_mode;
+        same_budget = l.same_budget;
+        same_fuel = l.same_fuel;
+        stack_fits = l.stack_fits;
+        step_fits = l.step_fits;
+        rests = begun_rests step old.stack new.stack both.0;
+      }) (ok_both _ _ r begins goes)
+    where
+      f : PlainValue
+      f = v.function w.code w.captured
+      begun_rests : (step : Step) (st st' : List Frame) → IsBegin step → Rests step st st'
+      begun_rests (Begin n) st st' h = tt
+      begun_rests (Give c) st st' h = absurd h
+      begun_rests (Ask s q l) st st' h = absurd h
+      begun_rests (Fail k l) st st' h = absurd h
+      begun_rests (Violate t) st st' h = absurd h
+      element : (beside : Beside) → resume (setting_at base old) (Waiting (Walked further)) (calls_it (state_at old beside)) ≡ walk_from (setting_at base old) w (state_at old beside)
+      unfolding resume rest
+      element beside =
+          let g : Setting = setting_at base old in
+          let s : State = state_at old beside in
+          let xs : List PlainValue = values_in w.items in
+          let given : List PlainValue = x ∷ v.whole (pos w.index) ∷ v.list w.items ∷ [] in
+          let one : w.index + 1 ≡ suc w.index = omega arith in
+          ap (λ o. o >>= λ _. walk_from g further)
+          (ap (λ ps. after_call s.slots s.calls (runs (eval g) body.content (record s { slots = fold (λ slots k. slice_set slots k (Some v.undefined)) (map Some (ps ++ values_in w.captured) ++ replicate (body.slots - (body.parameters + length (values_in w.captured))) None) body.vars; calls = old.calls + 1 }))) same
+          ∙ ap (λ b. enters (eval g) (old.calls + 1) b (values_in w.captured) given s) (sym (ap (λ o. unwrap_or o no_body) found))
+          ∙ ap (λ t. cond t (enters (eval g) (old.calls + 1) (body_of base.program w.code) (values_in w.captured) given) (breaks fault.Depth w.line) s) (sym room))
+          ∙ bind_same (calls g (eval g) w.line f given s) (λ _. walk_from g further) (λ _. for_each_from g (eval g) w.line f (v.list w.items) (suc w.index) (drop (w.index + 1) xs))
+          (λ y now. ap (λ q. walk_from g q now) is ∙ ap (λ k. for_each_from g (eval g) w.line f (v.list w.items) k (drop (w.index + 1) xs) now) one)
+          ∙ ap (λ l. for_each_from g (eval g) w.line f (v.list w.items) w.index l s) (sym (drop_at xs w.index x get))
+
+-- a walk that is over
+pub walk_over : (base : js.Ground) (old : Place) (w : Walk) (step : Step) → step ≡ Give (Normal Undefined) → StackFits base.program old.stack → slice_get (values_in w.items) w.index ≡ None → Leads base old (walk_from (setting_at base old) w) old step
+walk_over base old w step e fits get =
+    subst (Leads base old (walk_from (setting_at base old) w) old) (sym e)
+    (completes_at base old (walk_from (setting_at base old) w) (Normal Undefined) fits (λ b.
+    ap (λ l. for_each_from (setting_at base old) (eval (setting_at base old)) w.line (v.function w.code w.captured) (v.list w.items) w.index l (state_at old b)) (sym (drop_past (values_in w.items) w.index get))))
+
+-- a walk whose call is too deep
+pub walk_too_deep : (base : js.Ground) (old : Place) (w : Walk) (x : PlainValue) (step : Step) → step ≡ Fail fault.Depth w.line → StackFits base.program old.stack → slice_get (values_in w.items) w.index ≡ Some x → nat_lt old.calls MOST_CALLS ≡ false → Leads base old (walk_from (setting_at base old) w) old step
+walk_too_deep base old w x step e fits get room =
+    let g : Setting = setting_at base old in
+    let f : PlainValue = v.function w.code w.captured in
+    let xs : List PlainValue = values_in w.items in
+    let given : List PlainValue = x ∷ v.whole (pos w.index) ∷ v.list w.items ∷ [] in
+    subst (Leads base old (walk_from g w) old) (sym e)
+    (fails_at base old (walk_from g w) fault.Depth w.line fits (λ b.
+    ap (λ t. cond t (enters (eval g) (old.calls + 1) (body_of base.program w.code) (values_in w.captured) given) (breaks fault.Depth w.line) (state_at old b) >>= λ _. for_each_from g (eval g) w.line f (v.list w.items) (suc w.index) (drop (w.index + 1) xs)) (sym room)
+    ∙ ap (λ l. for_each_from g (eval g) w.line f (v.list w.items) w.index l (state_at old b)) (sym (drop_at xs w.index x get))))
+
+-- a walk with a function that begins nothing
+pub walk_nothing : (base : js.Ground) (old : Place) (w : Walk) (step : Step) → step ≡ Give (Normal Undefined) → StackFits base.program old.stack → nat_lt old.calls MOST_CALLS ≡ true → first_of (let b = body_of base.program w.code in b.content) ≡ None → Leads base old (walk_from (setting_at base old) w) old step
+walk_nothing base old w step e fits room none =
+    let g : Setting = setting_at base old in
+    let f : PlainValue = v.function w.code w.captured in
+    subst (Leads base old (walk_from g w) old) (sym e)
+    (completes_at base old (walk_from g w) (Normal Undefined) fits (λ b.
+    sym (nothing_walks g w.line f (v.list w.items) w.index (drop w.index (values_in w.items)) (state_at old b) (λ x k.
+    ap (λ t. cond t (enters (eval g) (old.calls + 1) (body_of base.program w.code) (values_in w.captured) (x ∷ v.whole (pos k) ∷ v.list w.items ∷ [])) (breaks fault.Depth w.line) (state_at old b)) room
+    ∙ ap (after_call old.slots old.calls) (sym (nothing_runs g (let q = body_of base.program w.code in q.content) (record (state_at old b) { slots = slots_of_call (body_of base.program w.code) (values_in w.captured) (x ∷ v.whole (pos k) ∷ v.list w.items ∷ []); calls = old.calls + 1 }) none))))))

@@ -1,8 +1,10 @@
 mod Lists
+mod Filling
 mod Steps
 mod Turning
 mod InOrder
 mod Beginning
 mod Calling
 mod Declaring
+mod Writing
 mod Pauses

@@ -1,9 +1,10 @@
 -- Lists that are read from a place on.
-use Rattle.std.proofs.Common.{◌≡◌, ℕ, zero, suc, ◌+◌, ◌-◌, List, [], ◌∷◌, ◌++◌, length, drop, take, map, Option, Some, None, refl, sym, ap, ◌∙◌, arith}
+use Rattle.std.proofs.Common.{◌≡◌, ℕ, zero, suc, ◌+◌, ◌-◌, ◌≤◌, List, [], ◌∷◌, ◌++◌, length, drop, take, map, Option, Some, None, refl, sym, ap, ◌∙◌, arith}
 use Rattle.std.specs.Prelude.{slice_get, slice_set, fold, option_map, replicate, unwrap_or}
-use Rattle.js_value.specs.Value.{PlainValue}
+use Rattle.js_value.specs.Value.{PlainValue, ValueFields}
+use Rattle.js_ops.specs.Making.{put, put_all}
 use Rattle.js_meaning.specs.State.{State}
-use Rattle.js_meaning.specs.Variables.{undeclare, set_slot}
+use Rattle.js_meaning.specs.Variables.{undeclare, set_slot, padded}
 use Rattle.js_meaning.specs.Forms.{argument}
 
 -- what is left of a list from a place
@@ -29,3 +30,21 @@ undeclared_slots (k ∷ ks) s = undeclared_slots ks (set_slot k None s)
 pub argument_taken : (vs : List PlainValue) → argument 0 (take 1 vs) ≡ argument 0 vs
 argument_taken [] = refl
 argument_taken (v ∷ vs) = refl
+
+-- what is more of keys or of values is dropped
+pub put_all_cut : (ks : List (List ℕ)) (vs : List PlainValue) (fs : ValueFields) → put_all (take (length (take (length ks) vs)) ks) (take (length ks) vs) fs ≡ put_all ks vs fs
+put_all_cut [] vs fs = refl
+put_all_cut (k ∷ ks) [] fs = refl
+put_all_cut (k ∷ ks) (x ∷ vs) fs = put_all_cut ks vs (put k x fs)
+
+-- no more arguments are read than there are parameters
+pub padded_one : (n : ℕ) (x i l : PlainValue) → n ≤ 1 → padded n (x ∷ []) ≡ padded n (x ∷ i ∷ l ∷ [])
+padded_one zero x i l h = refl
+padded_one (suc zero) x i l h = refl
+padded_one (suc (suc n)) x i l h = absurd (omega arith)
+
+pub padded_two : (n : ℕ) (x i l : PlainValue) → n ≤ 2 → padded n (x ∷ i ∷ []) ≡ padded n (x ∷ i ∷ l ∷ [])
+padded_two zero x i l h = refl
+padded_two (suc zero) x i l h = refl
+padded_two (suc (suc zero)) x i l h = refl
+padded_two (suc (suc (suc n))) x i l h = absurd (omega arith)

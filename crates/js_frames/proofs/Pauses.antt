@@ -33,7 +33,8 @@ use Rattle.js_frames.specs.declared.engine.Engine.{Engine}
 use Rattle.js_frames.specs.Places.{Place, Beside, plain_effects, place_of, setting_at, state_at, fresh}
 use Rattle.js_frames.specs.Frames.{plain_completion, resume, plug, step_outcome, future}
 use Rattle.js_frames.specs.Leads.{Leads, IsSettled, IsHeld, Advanced, Ran, node_does}
-use Rattle.js_frames.specs.Runs.{IsOfProgram, IsLost, Coming, Stands, untaken, asked_at, asked_by, line_asked, answer_by, constants_by, Waits, Asks, Answers, Spends, Says, Runs, pause_of, if_zero, pending_outcome, future_of}
+use Rattle.js_frames.specs.Fits.{StackFits}
+use Rattle.js_frames.specs.Runs.{PendingFits, IsOfProgram, IsLost, Coming, Stands, untaken, asked_at, asked_by, line_asked, answer_by, constants_by, Waits, Asks, Answers, Spends, Says, Runs, pause_of, if_zero, pending_outcome, future_of}
 
 -- what is over passes by all frames
 module _ (g : Setting) where
@@ -257,3 +258,26 @@ effects_taken old new effects same e base budget o replies begun taken h =
       mode_is = m ∙ h.mode_is;
       fuel = omega arith;
     }
+
+pub of_program_resumed : (old : Machine) (new : Engine) (event : PlainEvent) → IsSome (asked_by old) → place_of new ≡ record (place_of old.engine) { fuel = old.engine.budget } → (program : PlainProgram) → IsOfProgram program old → IsOfProgram program (record { engine = new; pending = Some (Resumed event) })
+unfolding IsOfProgram asked_by
+of_program_resumed old new event asking e program h = found old.pending asking (λ next. h next)
+  where
+    found : (o : Option Pending) → IsSome (asked_at o) → ((next : Pending) → o ≡ Some next → StackFits program old.engine.stack.items × PendingFits program next) → (next : Pending) → Some (Resumed event) ≡ Some next → StackFits program new.stack.items × PendingFits program next
+    found None i k next is = absurd i
+    found (Some q) i k next is =
+        let same : Resumed event ≡ next = cc in
+        (subst (λ (p : Place). StackFits program p.stack) (sym e) (k q refl).0, subst (PendingFits program) same tt)
+
+-- at `bp.sync` something is asked
+pub asks_at : (new : Engine) (last : Step) (stop : Pause) → stop ≡ pause_of new.fuel last → stop ≡ pause.AtSync → IsSome (asked_by (record { engine = new; pending = Some (Next last) }))
+unfolding asked_by
+asks_at new (Begin n) stop e h = absurd (never new.fuel (sym e ∙ h))
+  where
+    never : (fuel : ℕ) → if_zero fuel pause.Spent pause.More ≡ pause.AtSync → ⊥
+    never zero is = cc
+    never (suc f) is = cc
+asks_at new (Give c) stop e h = cc
+asks_at new (Ask s p line) stop e h = tt
+asks_at new (Fail f line) stop e h = cc
+asks_at new (Violate t) stop e h = cc

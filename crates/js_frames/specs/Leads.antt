@@ -1,8 +1,14 @@
 -- What one step of a machine, and many, keep.
-use Rattle.std.specs.Prelude.{◌⊎◌, ◌≡◌, ℕ, ◌+◌, ◌≤◌, List, [], ◌∷◌, ◌++◌, slice_get, IfOk, Option, Some, Result}
+use Rattle.std.specs.Prelude.{◌⊎◌, ◌≡◌, ℕ, ◌+◌, ◌≤◌, List, [], ◌∷◌, ◌++◌, slice_get, pos, IfOk, Option, Some, Result}
 use Rattle.std.specs.declared.alloc.AllocError.{AllocError}
+use Rattle.js_ops.specs.declared.op_fault.OpFault.{OpFault}
+use Rattle.js_ops.specs.declared.op_fault.OpFault.TheVariants as op_fault
 use Rattle.js_meaning.specs.State as js
+use Rattle.js_value.specs.Value as v
 use Rattle.js_value.specs.Value.{PlainValue}
+use Rattle.js_value.specs.Lists.{values_in}
+use Rattle.js_meaning.specs.Variables.{padded}
+use Rattle.js_frames.specs.declared.frame.Walk.{Walk}
 use Rattle.js_value.specs.Views.{plain_value}
 use Rattle.js_program.specs.PlainProgram as p
 use Rattle.js_program.specs.PlainProgram.{PlainContent, PlainProgram}
@@ -10,7 +16,7 @@ use Rattle.js_meaning.specs.State.{Setting, State, Outcome}
 use Rattle.js_meaning.specs.Meaning.{does_node, eval, turns_of}
 use Rattle.js_frames.specs.declared.step.Completion.TheVariants.{Normal}
 use Rattle.js_frames.specs.declared.step.Step.{Step}
-use Rattle.js_frames.specs.declared.step.Step.TheVariants.{Begin, Give}
+use Rattle.js_frames.specs.declared.step.Step.TheVariants.{Begin, Give, Fail}
 use Rattle.js_frames.specs.declared.frame.Frame.{Frame}
 use Rattle.js_frames.specs.declared.frame.Frame.TheVariants.{Waiting, Called}
 use Rattle.js_frames.specs.declared.frame.Part.TheVariants.{First, Or, And}
@@ -113,3 +119,18 @@ abbrev pub operand_frame : Operator → ℕ → ℕ → Frame
 operand_frame operator.Or right n = Waiting (Or right)
 operand_frame operator.And right n = Waiting (And right)
 operand_frame _ right n = Waiting (First n)
+
+abbrev pub IsBegin : Step → Type 0
+IsBegin (Begin n) = Unit {0}
+IsBegin step = ⊥
+
+-- the arguments for the element of a walk: those that a function with so many parameters takes
+abbrev pub AreElementArgs : Walk → ℕ → List PlainValue → Type 0
+AreElementArgs w wanted args =
+    (x : PlainValue) × (slice_get (values_in w.items) w.index ≡ Some x)
+    × (padded wanted args ≡ padded wanted (x ∷ v.whole (pos w.index) ∷ v.list w.items ∷ []))
+
+-- a fault of an operator is one of the line, unless memory was wanting
+abbrev pub FailsAs : OpFault → ℕ → Result Step AllocError → Type 0
+FailsAs (op_fault.Fault f) line r = IfOk r (λ step. step ≡ Fail f line)
+FailsAs op_fault.Memory line r = IfOk r (λ step. ⊥)

@@ -22,13 +22,14 @@ use crate::frame::{Frame, Part};
 use crate::ground::Ground;
 use crate::operators::{op_before, step_for};
 use crate::slots::Slots;
-use crate::step::{Step, answered, give};
+use crate::step::{Step, answered, failed, give};
 use js_data::{Fault, Memory};
 use js_ops::{OpFault, apply, made, unary};
 use js_program::Variable;
 use js_tree::{AssignOp, Fix, Step as Change};
 use js_value::{Items, Op, Value, copy};
 
+#[tactic(none)]
 impl Engine {
     /// The value of a variable, if it is declared. Takes no memory.
     fn held<'a>(&'a self, base: &'a Ground, variable: Variable) -> Option<&'a Value>
@@ -118,7 +119,7 @@ impl Engine {
                 self.slots.set(slot, Some(copy(&value)?));
                 Ok(give(value))
             }
-            Err(fault) => answered(Err(fault), line),
+            Err(fault) => failed(fault, line),
         }
     }
 
@@ -140,7 +141,7 @@ impl Engine {
                 self.slots.set(slot, Some(value));
                 Ok(give(old))
             }
-            Err(fault) => answered(Err(fault), line),
+            Err(fault) => failed(fault, line),
         }
     }
 

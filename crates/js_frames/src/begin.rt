@@ -12,7 +12,6 @@ use crate::frame::{Frame, Part, Turns};
 use crate::ground::Ground;
 use crate::nodes::node_of;
 use crate::step::{Completion, Step, answered, give, leave};
-use crate::values::Values;
 use js_data::{Memory, Text};
 use js_ops::made;
 use js_program::NodeForm;
@@ -52,6 +51,7 @@ fn operand(operator: Operator, right: u32, number: u32) -> Frame
     }
 }
 
+#[tactic(none)]
 impl Engine {
     /// What a node does that has begun.
     pub fn begin(&mut self, base: &Ground, number: u32) -> Result<Step, Memory>
@@ -60,7 +60,6 @@ impl Engine {
         ensures { Goes base.now self.old (node_does (here base.now self.old) number) self.new result }
     {
         let node = node_of(base, number);
-        let none = Values::new(self.alloc);
         match &node.form {
             NodeForm::Number(n) => Ok(give(Value::Whole(*n))),
             NodeForm::Words(text) => literal(self.alloc, text, node.line),
@@ -68,14 +67,14 @@ impl Engine {
             NodeForm::Null => Ok(give(Value::Null)),
             NodeForm::Undefined => Ok(give(Value::Undefined)),
             NodeForm::Read(variable) => self.read(base, *variable, node.line),
-            NodeForm::List(_) => self.go_on_parts(base, number, none),
-            NodeForm::Fields(_, _) => self.go_on_parts(base, number, none),
+            NodeForm::List(_) => self.begin_parts(base, number),
+            NodeForm::Fields(_, _) => self.begin_parts(base, number),
             NodeForm::Member(part, _) => self.wait(*part, Frame::Waiting(Part::First(number))),
             NodeForm::Index(part, _) => self.wait(*part, Frame::Waiting(Part::First(number))),
-            NodeForm::Call(_, _) => self.go_on_parts(base, number, none),
-            NodeForm::Method(_, _, _) => self.go_on_parts(base, number, none),
-            NodeForm::Builtin(_, _) => self.go_on_parts(base, number, none),
-            NodeForm::FloorDivide(_, _, _) => self.go_on_parts(base, number, none),
+            NodeForm::Call(_, _) => self.begin_parts(base, number),
+            NodeForm::Method(_, _, _) => self.begin_parts(base, number),
+            NodeForm::Builtin(_, _) => self.begin_parts(base, number),
+            NodeForm::FloorDivide(_, _, _) => self.begin_parts(base, number),
             NodeForm::Unary(_, part) => self.wait(*part, Frame::Waiting(Part::First(number))),
             NodeForm::Update(step, fix, slot) => self.update(base, *step, *fix, *slot, node.line),
             NodeForm::Binary(operator, left, right) => {

@@ -1,7 +1,7 @@
 //! Statements in order, and declarations.
-ghost use Rattle.std.specs.Prelude.{◌≡◌, slice_get};
+ghost use Rattle.std.specs.Prelude.{◌≡◌, ◌<◌, length, map, option_map, slice_get, IfSome};
 ghost use Rattle.js_value.specs.Views.{plain_value};
-ghost use Rattle.js_program.specs.Views.{plain_content, plain_node_form};
+ghost use Rattle.js_program.specs.Views.{plain_content, plain_declared, plain_node_form};
 ghost use Rattle.js_meaning.specs.Variables.{set_variable, undeclare};
 ghost use Rattle.js_frames.specs.Places.{here, place_of, put_at, undefined_at};
 ghost use Rattle.js_frames.specs.Frames.{statements_in, block_in, statements_of, sequence_from, declaring_from};
@@ -15,7 +15,7 @@ use crate::nodes::node_of;
 use crate::step::{Step, leave};
 use crate::values::number_at;
 use js_data::Memory;
-use js_program::{Content, NodeForm, Variable};
+use js_program::{Content, Declared, NodeForm, Variable};
 use js_tree::DeclareKind;
 use js_value::Value;
 
@@ -52,6 +52,15 @@ fn statements_of(base: &Ground, sequence: Sequence) -> &[u32]
     }
 }
 
+/// The declarator at a place. Takes no memory.
+fn declarator_at(declared: &[Declared], place: usize) -> Option<Declared>
+    ensures value { option_map plain_declared result ≡ slice_get (map plain_declared declared.now) place }
+    ensures room { IfSome result (λ _. place < length declared.now) }
+{
+    declared.get(place).copied()
+}
+
+#[tactic(none)]
 impl Engine {
     /// A block: its variables are not declared yet, and its first statement begins.
     pub fn block(&mut self, base: &Ground, slots: &[u32], number: u32) -> Result<Step, Memory>
@@ -101,7 +110,7 @@ impl Engine {
             unreachable!()
         };
         let mut at = place;
-        while let Some(declarator) = declared.get(at) {
+        while let Some(declarator) = declarator_at(declared, at) {
             at += 1;
             match declarator.value {
                 None => self.declare_without(*kind, declarator.variable),

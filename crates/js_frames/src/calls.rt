@@ -1,5 +1,5 @@
 //! Calls of functions.
-ghost use Rattle.std.specs.Prelude.{◌≡◌, ◌<◌, ◌+◌, [], Some, None, length, IfOk, OnOk, MatchOption, option_map, slice_get};
+ghost use Rattle.std.specs.Prelude.{◌≡◌, ◌<◌, ◌+◌, [], Some, None, length, IfOk, OnOk, IsSome, option_map, slice_get};
 ghost use Rattle.js_value.specs.Value.{function};
 ghost use Rattle.js_value.specs.Lists.{values_in};
 ghost use Rattle.js_value.specs.Views.{plain_value};
@@ -10,7 +10,7 @@ ghost use Rattle.js_meaning.specs.Meaning.{eval};
 ghost use Rattle.js_frames.specs.Places.{place_of, here};
 ghost use Rattle.js_frames.specs.Frames.{plain_completion, statements_in, statements_of};
 ghost use Rattle.js_frames.specs.Fits.{StackFits, AreNodes, SequenceFits};
-ghost use Rattle.js_frames.specs.Leads.{Goes, Gives, entered, first_of};
+ghost use Rattle.js_frames.specs.Leads.{Goes, Gives, IsBegin, entered, first_of};
 
 use crate::engine::Engine;
 use crate::frame::{Frame, Part, Sequence};
@@ -55,6 +55,7 @@ pub fn first_in(content: &Content) -> Option<u32>
     }
 }
 
+#[tactic(none)]
 impl Engine {
     /// A call of a value: what is no function cannot be called, and neither can one more than 200.
     pub fn call(
@@ -119,9 +120,10 @@ impl Engine {
         requires statements { statements_of base.now.program sequence ≡ statements_in (plain_content body.now.content) }
         requires sequence { SequenceFits base.now.program sequence }
         requires fits { StackFits base.now.program self.old.stack.items }
-        ensures { Goes base.now self.old
+        ensures goes { Goes base.now self.old
             (enters (eval (here base.now self.old)) active (plain_body body.now) (values_in captured.now) args)
             self.new result }
+        ensures begins { IsSome (first_of (plain_content body.now.content)) → IfOk result IsBegin }
     {
         let Some(first) = first_in(&body.content) else {
             return Ok(leave());

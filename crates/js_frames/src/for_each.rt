@@ -1,5 +1,5 @@
 //! `forEach`.
-ghost use Rattle.std.specs.Prelude.{◌≡◌, ◌<◌, ◌∷◌, [], pos, IfOk, length, drop, option_map};
+ghost use Rattle.std.specs.Prelude.{◌≡◌, ◌<◌, ◌+◌, ◌^◌, ◌∷◌, [], pos, IfOk, IsSome, Some, slice_get};
 ghost use Rattle.js_value.specs.Value.{PlainValue, function, list, whole};
 ghost use Rattle.js_value.specs.Lists.{values_in};
 ghost use Rattle.js_value.specs.Views.{plain_value};
@@ -9,7 +9,8 @@ ghost use Rattle.js_meaning.specs.Meaning.{eval};
 ghost use Rattle.js_frames.specs.Places.{here};
 ghost use Rattle.js_frames.specs.Frames.{walk_from};
 ghost use Rattle.js_frames.specs.Fits.{StackFits};
-ghost use Rattle.js_frames.specs.Leads.{Goes};
+ghost use Rattle.js_program.specs.Views.{plain_body, plain_content};
+ghost use Rattle.js_frames.specs.Leads.{Goes, first_of, AreElementArgs};
 
 use crate::calls::{first_in, function_of};
 use crate::engine::Engine;
@@ -58,6 +59,7 @@ fn element_args(
     Ok(args)
 }
 
+#[tactic(none)]
 impl Engine {
     /// `forEach` with its arguments.
     pub fn for_each(
@@ -115,7 +117,15 @@ impl Engine {
         body: &Body,
         walk: Walk,
         args: Values,
-    ) -> Result<Step, Memory> {
+    ) -> Result<Step, Memory>
+        requires room { self.old.calls < 200 }
+        requires places { walk.index + 1 < 2 ^ 64 }
+        requires found { slice_get base.now.program.functions walk.code ≡ Some (plain_body body.now) }
+        requires starts { IsSome (first_of (plain_content body.now.content)) }
+        requires args { AreElementArgs walk body.now.parameters args }
+        requires fits { StackFits base.now.program self.old.stack.items }
+        ensures { Goes base.now self.old (walk_from (here base.now self.old) walk) self.new result }
+    {
         let captured = walk.captured.copy()?;
         let sequence = Sequence::Function(walk.code);
         let active = self.calls + 1;

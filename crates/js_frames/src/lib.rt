@@ -1,5 +1,5 @@
 //! The frame machine: it runs the top level or a function of a program in slices, and stops at `bp.sync`.
-#![tactic(none)]
+#![tactic(auto)]
 
 mod assigning;
 mod begin;

@@ -4,6 +4,7 @@ ghost use Rattle.js_value.specs.Value.{PlainValue, list};
 ghost use Rattle.js_value.specs.Views.{plain_value};
 ghost use Rattle.js_ops.specs.Operators.{value_of};
 ghost use Rattle.js_ops.specs.Answers.{AnswersAs};
+ghost use Rattle.js_ops.specs.Making.{make_of};
 ghost use Rattle.js_ops.specs.Made.{Answer};
 ghost use Rattle.js_program.specs.PlainProgram.{parts_of};
 ghost use Rattle.js_program.specs.Views.{plain_node_form};
@@ -23,7 +24,7 @@ use crate::frame::{Frame, Part};
 use crate::ground::Ground;
 use crate::nodes::node_of;
 use crate::operators::{op_for, unary_for};
-use crate::step::{Step, answered, mistyped};
+use crate::step::{Step, answered, failed, mistyped};
 use crate::values::{Values, number_at};
 use js_data::{Fault, Memory, Text};
 use js_ops::{OpFault, apply, index, make_from, member, method, method_named, unary};
@@ -77,6 +78,22 @@ fn by_rule(alloc: Global, op: Option<Op>, left: &Value, right: &Value) -> Result
     }
 }
 
+/// The list of the values.
+fn made_list(alloc: Global, done: Values) -> Result<Value, OpFault>
+    ensures { AnswersAs (make_of Make.List done []) result }
+{
+    make_from(alloc, Make::List, done.into_vec(), &[])
+}
+
+/// The fields of the keys and the values; what is more of either is dropped.
+fn made_fields(alloc: Global, keys: &[Text], mut done: Values) -> Result<Value, OpFault>
+    ensures { AnswersAs (make_of Make.Fields done keys.now) result }
+{
+    done.cut(keys.len());
+    let count = done.len();
+    make_from(alloc, Make::Fields, done.into_vec(), &keys[..count])
+}
+
 /// A method that calls nothing.
 fn apply_method(alloc: Global, line: u32, on: &Value, word: &Text, args: &Values) -> Result<Step, Memory>
     ensures { IfOk result (Becomes (λ g. applies line (method_named word.now) (plain_value on.now) args.now)) }
@@ -96,7 +113,20 @@ fn floor_divide(alloc: Global, line: u32, mut done: Values) -> Result<Step, Memo
     answered(apply(alloc, Op::FloorDivide, &dividend, &divisor), line)
 }
 
+#[tactic(none)]
 impl Engine {
+    /// The first part begins, if there is one.
+    pub fn begin_parts(&mut self, base: &Ground, number: u32) -> Result<Step, Memory>
+        requires number { IsNode base.now.program number }
+        requires form { HasForm IsLong base.now.program number }
+        requires fits { StackFits base.now.program self.old.stack.items }
+        ensures { Goes base.now self.old
+            (parts_from (here base.now self.old) (slice_get base.now.program.nodes number) []) self.new result }
+    {
+        let none = Values::new(self.alloc);
+        self.go_on_parts(base, number, none)
+    }
+
     /// The next part begins, or the node has all values.
     pub fn go_on_parts(
         &mut self,
@@ -190,12 +220,8 @@ impl Engine {
             (combines g (eval g) node.now.line (plain_node_form node.now.form) done) self.new result }
     {
         match &node.form {
-            NodeForm::List(_) => {
-                answered(make_from(self.alloc, Make::List, done.into_vec(), &[]), node.line)
-            }
-            NodeForm::Fields(keys, _) => {
-                answered(make_from(self.alloc, Make::Fields, done.into_vec(), keys), node.line)
-            }
+            NodeForm::List(_) => answered(made_list(self.alloc, done), node.line),
+            NodeForm::Fields(keys, _) => answered(made_fields(self.alloc, keys, done), node.line),
             NodeForm::Call(_, _) => self.combine_call(base, node.line, done),
             NodeForm::Method(_, word, _) => self.combine_method(base, node.line, word, done),
             NodeForm::Builtin(form, _) => self.apply_form(base, node.line, *form, done),
@@ -270,7 +296,7 @@ impl Engine {
     {
         match field {
             Ok(function) => self.call(base, line, function, args),
-            Err(fault) => answered(Err(fault), line),
+            Err(fault) => failed(fault, line),
         }
     }
 

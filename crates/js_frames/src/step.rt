@@ -5,7 +5,7 @@ ghost use Rattle.js_value.specs.Views.{plain_value};
 ghost use Rattle.js_ops.specs.Answers.{AnswersAs};
 ghost use Rattle.js_ops.specs.Made.{Answer};
 ghost use Rattle.js_meaning.specs.State.{answered};
-ghost use Rattle.js_frames.specs.Leads.{Becomes};
+ghost use Rattle.js_frames.specs.Leads.{Becomes, FailsAs};
 
 use js_data::{Fault, Memory, Text};
 use js_ops::OpFault;
@@ -65,5 +65,15 @@ pub fn answered(answer: Result<Value, OpFault>, line: u32) -> Result<Step, Memor
         Ok(value) => Ok(give(value)),
         Err(OpFault::Fault(fault)) => Ok(Step::Fail(fault, line)),
         Err(OpFault::Memory) => Err(AllocError),
+    }
+}
+
+/// What a fault of an operator becomes.
+pub fn failed(fault: OpFault, line: u32) -> Result<Step, Memory>
+    ensures { FailsAs fault line result }
+{
+    match fault {
+        OpFault::Fault(fault) => Ok(Step::Fail(fault, line)),
+        OpFault::Memory => Err(AllocError),
     }
 }

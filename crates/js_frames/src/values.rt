@@ -93,6 +93,13 @@ impl Values {
         self.items.remove(0)
     }
 
+    /// At most so many values: further ones are dropped. Takes no memory.
+    pub fn cut(&mut self, count: usize)
+        ensures { self.new ≡ take count self.old }
+    {
+        self.items.truncate(count);
+    }
+
     /// As many values as asked for: further ones are dropped, and missing ones are undefined.
     pub fn pad(&mut self, count: usize) -> Result<(), Memory>
         ensures { OnOk result (self.new ≡ padded count self.old) }
