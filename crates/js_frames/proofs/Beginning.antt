@@ -28,7 +28,7 @@ use Rattle.js_frames.specs.declared.frame.Frame.{Frame}
 use Rattle.js_frames.specs.declared.frame.Frame.TheVariants.{Waiting}
 use Rattle.js_frames.specs.Places.{Place}
 use Rattle.js_frames.specs.Frames.{rest, resume, parts_from, declaring_from, sequence_from, block_of}
-use Rattle.js_frames.specs.Fits.{IsNode, AreNodes, IsPerhapsNode, HasForm, IsShort, IsLong, TurnsFit, FrameFits}
+use Rattle.js_frames.specs.Fits.{IsNode, AreNodes, IsPerhapsNode, HasForm, IsShort, IsDouble, IsLong, TurnsFit, FrameFits}
 use Rattle.js_frames.specs.Leads.{pushed, operand_frame}
 use Rattle.js_frames.proofs.InOrder.{parts_wait}
 
@@ -134,3 +134,34 @@ for_parts program (Some a) None None d h = (h 0 a refl, tt, tt, h 1 d refl)
 for_parts program (Some a) None (Some c) d h = (h 0 a refl, tt, h 1 c refl, h 2 d refl)
 for_parts program (Some a) (Some b) None d h = (h 0 a refl, h 1 b refl, tt, h 2 d refl)
 for_parts program (Some a) (Some b) (Some c) d h = (h 0 a refl, h 1 b refl, h 2 c refl, h 3 d refl)
+
+-- the forms with any number of parts
+pub long_only : (x : NodeForm) → IsLong (plain_node_form x) → ((ns : _) → x ≡ f.List ns → ⊥) → ((ks : _) (ns : _) → x ≡ f.Fields ks ns → ⊥) → ((a : ℕ) (ns : _) → x ≡ f.Call a ns → ⊥) → ((a : ℕ) (w : _) (ns : _) → x ≡ f.Method a w ns → ⊥) → ((b : _) (ns : _) → x ≡ f.Builtin b ns → ⊥) → ((a b : ℕ) (ns : _) → x ≡ f.FloorDivide a b ns → ⊥) → ⊥
+long_only (f.List ns) h a b c d e i = a ns refl
+long_only (f.Fields ks ns) h a b c d e i = b ks ns refl
+long_only (f.Call x ns) h a b c d e i = c x ns refl
+long_only (f.Method x w ns) h a b c d e i = d x w ns refl
+long_only (f.Builtin x ns) h a b c d e i = e x ns refl
+long_only (f.FloorDivide x y ns) h a b c d e i = i x y ns refl
+long_only _ h a b c d e i = h
+
+-- those with one or two
+pub short_only : (x : NodeForm) → IsShort (plain_node_form x) → ((a : ℕ) (w : _) → x ≡ f.Member a w → ⊥) → ((sign : _) (a : ℕ) → x ≡ f.Unary sign a → ⊥) → ((a b : ℕ) → x ≡ f.Index a b → ⊥) → ((o : Operator) (a b : ℕ) → x ≡ f.Binary o a b → ⊥) → ⊥
+short_only (f.Member y w) h a b c d = a y w refl
+short_only (f.Unary sign y) h a b c d = b sign y refl
+short_only (f.Index y i) h a b c d = c y i refl
+short_only (f.Binary o y z) h a b c d = d o y z refl
+short_only _ h a b c d = h
+
+-- those with two
+pub double_only : (x : NodeForm) → IsDouble (plain_node_form x) → ((a b : ℕ) → x ≡ f.Index a b → ⊥) → ((o : Operator) (a b : ℕ) → x ≡ f.Binary o a b → ⊥) → ⊥
+double_only (f.Index y i) h c d = c y i refl
+double_only (f.Binary o y z) h c d = d o y z refl
+double_only _ h c d = h
+
+-- the form of the node that was found
+pub form_here : (Is : PlainNodeForm → Type 0) (program : PlainProgram) (n : ℕ) (found : Node) → slice_get program.nodes n ≡ Some (plain_node found) → HasForm Is program n → Is (plain_node_form found.form)
+form_here Is program n found at h =
+    let same : Some h.0 ≡ Some (plain_node found) = sym h.1 ∙ at in
+    let node : h.0 ≡ plain_node found = cc in
+    subst (λ (q : PlainNode). Is q.form) node h.2

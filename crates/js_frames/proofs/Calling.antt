@@ -14,7 +14,9 @@ use Rattle.js_program.specs.PlainProgram.{PlainContent, PlainBody, PlainProgram,
 use Rattle.js_meaning.specs.State as js
 use Rattle.js_meaning.specs.State.{State, Setting, Outcome, went, ◌>>=◌, gives, leaves, breaks}
 use Rattle.js_meaning.specs.Variables.{padded, slots_of_call}
-use Rattle.js_meaning.specs.Calls.{no_body, body_of, after_call, sequence, runs, enters, calls, for_each_from, for_each_call}
+use Rattle.js_ops.specs.Methods.{method_named}
+use Rattle.js_meaning.specs.Forms.{argument}
+use Rattle.js_meaning.specs.Calls.{applies, calls_method, no_body, body_of, after_call, sequence, runs, enters, calls, for_each_from, for_each_call}
 use Rattle.js_meaning.specs.declared.limits.TheConstants.{MOST_CALLS}
 use Rattle.js_meaning.specs.Meaning.{eval}
 use Rattle.js_frames.specs.declared.step.Step.{Step}
@@ -231,3 +233,40 @@ walk_nothing base old w step e fits room none =
     sym (nothing_walks g w.line f (v.list w.items) w.index (drop w.index (values_in w.items)) (state_at old b) (λ x k.
     ap (λ t. cond t (enters (eval g) (old.calls + 1) (body_of base.program w.code) (values_in w.captured) (x ∷ v.whole (pos k) ∷ v.list w.items ∷ [])) (breaks fault.Depth w.line) (state_at old b)) room
     ∙ ap (after_call old.slots old.calls) (sym (nothing_runs g (let q = body_of base.program w.code in q.content) (record (state_at old b) { slots = slots_of_call (body_of base.program w.code) (values_in w.captured) (x ∷ v.whole (pos k) ∷ v.list w.items ∷ []); calls = old.calls + 1 }) none))))))
+
+-- a method that calls nothing
+pub no_method_call : (g : Setting) (ev : ℕ → State → Outcome) (line : ℕ) (word : List ℕ) (x : Value) (args : List PlainValue) (s : State) → ((fs : _) → x ≡ value.Fields fs → ⊥) → ((xs : ValueList) → x ≡ value.List xs → ⊥) → applies line (method_named word) (plain_value x) args s ≡ calls_method g ev line word (plain_value x) args s
+no_method_call g ev line word value.Undefined args s h k = refl
+no_method_call g ev line word value.Null args s h k = refl
+no_method_call g ev line word (value.Truth b) args s h k = refl
+no_method_call g ev line word (value.Whole n) args s h k = refl
+no_method_call g ev line word (value.Words w) args s h k = refl
+no_method_call g ev line word (value.List xs) args s h k = absurd (k xs refl)
+no_method_call g ev line word (value.Fields fs) args s h k = absurd (h fs refl)
+no_method_call g ev line word (value.Event e) args s h k = refl
+no_method_call g ev line word (value.Set e) args s h k = refl
+no_method_call g ev line word (value.Function c cs) args s h k = refl
+
+-- a walk begins at the first element
+pub walk_begins : (g : Setting) (ev : ℕ → State → Outcome) (line : ℕ) (items : ValueList) (args : List PlainValue) (code : ℕ) (captured : ValueList) (x : Value) (s : State) → x ≡ value.Function code captured → plain_value x ≡ argument 0 args → for_each_from g ev line (v.function code captured) (v.list items) 0 (values_in items) s ≡ for_each_call g ev line items args s
+walk_begins g ev line items [] code captured x s is e = let k : plain_value (value.Function code captured) ≡ v.undefined = subst (λ q. plain_value q ≡ v.undefined) is e in cc
+walk_begins g ev line items (y ∷ ys) code captured x s is e =
+    let k : v.function code captured ≡ y = subst (λ q. plain_value q ≡ y) is e in
+    ap (λ q. for_each_call g ev line items (q ∷ ys) s) k
+
+-- what is no function is none to walk with
+pub no_walk : (g : Setting) (ev : ℕ → State → Outcome) (line : ℕ) (items : ValueList) (args : List PlainValue) (x : Value) (s : State) → plain_value x ≡ argument 0 args → ((code : ℕ) (cs : ValueList) → x ≡ value.Function code cs → ⊥) → breaks fault.Mistyped line s ≡ for_each_call g ev line items args s
+no_walk g ev line items [] x s e h = refl
+no_walk g ev line items (y ∷ ys) x s e h = by_value x e h
+  where
+    by_value : (x : Value) → plain_value x ≡ y → ((code : ℕ) (cs : ValueList) → x ≡ value.Function code cs → ⊥) → breaks fault.Mistyped line s ≡ for_each_call g ev line items (y ∷ ys) s
+    by_value value.Undefined e h = ap (λ q. for_each_call g ev line items (q ∷ ys) s) e
+    by_value value.Null e h = ap (λ q. for_each_call g ev line items (q ∷ ys) s) e
+    by_value (value.Truth b) e h = ap (λ q. for_each_call g ev line items (q ∷ ys) s) e
+    by_value (value.Whole n) e h = ap (λ q. for_each_call g ev line items (q ∷ ys) s) e
+    by_value (value.Words w) e h = ap (λ q. for_each_call g ev line items (q ∷ ys) s) e
+    by_value (value.List xs) e h = ap (λ q. for_each_call g ev line items (q ∷ ys) s) e
+    by_value (value.Fields fs) e h = ap (λ q. for_each_call g ev line items (q ∷ ys) s) e
+    by_value (value.Event z) e h = ap (λ q. for_each_call g ev line items (q ∷ ys) s) e
+    by_value (value.Set z) e h = ap (λ q. for_each_call g ev line items (q ∷ ys) s) e
+    by_value (value.Function c cs) e h = absurd (h c cs refl)

@@ -7,4 +7,5 @@ mod Beginning
 mod Calling
 mod Declaring
 mod Writing
+mod Acting
 mod Pauses

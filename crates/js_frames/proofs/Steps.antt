@@ -273,3 +273,12 @@ begun_one base first at next new before at_step step last n begun r0 e fuel l k 
       stack_fits = k.stack_fits;
       step_fits = k.step_fits;
     }
+
+pub keeps_same : (base : js.Ground) (m : Place) (step : Step) → StackFits base.program m.stack → StepFits base.program step → Keeps base m step m step
+keeps_same base m step fits step_fits = record { same = λ beside. refl; same_mode = refl; same_budget = refl; same_fuel = refl; stack_fits = fits; step_fits = step_fits }
+
+pub keeps_given : (base : js.Ground) (old new : Place) (step : Step) (c : Completion) (r : Result Step AllocError) → step ≡ Give c → IfOk r (λ last. Keeps base old (Give c) new last) → IfOk r (λ last. Keeps base old step new last)
+keeps_given base old new step c r e w = subst (λ q. IfOk r (λ last. Keeps base old q new last)) (sym e) w
+
+pub becomes_at_ok : (base : js.Ground) (old : Place) (o : State → Outcome) (q : Setting → State → Outcome) (r : Result Step AllocError) → StackFits base.program old.stack → IfOk r (Becomes q) → ((beside : Beside) → q (setting_at base old) (state_at old beside) ≡ o (state_at old beside)) → IfOk r (λ step. Leads base old o old step)
+becomes_at_ok base old o q r fits w h = on_ok r (λ step b. stays_at base old o step fits (b.fits base.program) (λ beside. b.same (setting_at base old) (state_at old beside) ∙ h beside)) w

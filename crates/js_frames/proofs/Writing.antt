@@ -51,3 +51,15 @@ pub failed_goes : (base : js.Ground) (old : Place) (o : Answer → State → Out
 failed_goes base old o a (op_fault.Fault f) line r fits h w same =
     on_ok r (λ step e. subst (Leads base old (o a) old) (sym e) (fails_at base old (o a) f line fits (λ b. same f (state_at old b) ∙ ap (λ q. o q (state_at old b)) (sym h)))) w
 failed_goes base old o a op_fault.Memory line r fits h w same = on_ok r (λ step e. absurd e) w
+
+-- a value that was answered
+pub value_answered : (x : PlainValue) (r : Result Value OpFault) (value : Value) → AnswersAs (Ok x) r → r ≡ Ok value → plain_value value ≡ x
+value_answered x r value h e = let k : AnswersAs (Ok x) (Ok value) = subst (AnswersAs (Ok x)) e h in cc
+
+-- what answers a value fails for want of memory alone
+pub failed_never : (x : PlainValue) (r : Result Value OpFault) (fault : OpFault) (line : ℕ) (q : Result Step AllocError) (P : Step → Type 0) → AnswersAs (Ok x) r → r ≡ Err fault → FailsAs fault line q → IfOk q P
+failed_never x r fault line q P h e w = by_fault fault (subst (AnswersAs (Ok x)) e h) w
+  where
+    by_fault : (f : OpFault) → AnswersAs (Ok x) (Err f) → FailsAs f line q → IfOk q P
+    by_fault (op_fault.Fault f) k v = cc
+    by_fault op_fault.Memory k v = on_ok q (λ step i. absurd i) v

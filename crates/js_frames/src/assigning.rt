@@ -14,7 +14,7 @@ ghost use Rattle.js_meaning.specs.Meaning.{eval};
 ghost use Rattle.js_frames.specs.Places.{here, place_of, plain_ground, held_at};
 ghost use Rattle.js_frames.specs.Frames.{writes_behind};
 ghost use Rattle.js_frames.specs.Fits.{StackFits, IsNode};
-ghost use Rattle.js_frames.specs.Leads.{Goes};
+ghost use Rattle.js_frames.specs.Leads.{Goes, Becomes};
 
 use crate::calls::function_of;
 use crate::engine::Engine;
@@ -28,6 +28,20 @@ use js_ops::{OpFault, apply, made, unary};
 use js_program::Variable;
 use js_tree::{AssignOp, Fix, Step as Change};
 use js_value::{Items, Op, Value, copy};
+use std::alloc::Global;
+
+/// A function with these captured values.
+fn made_function(
+    alloc: Global,
+    code: u32,
+    values: Vec<Value>,
+    line: u32,
+) -> Result<Step, Memory>
+    ensures { IfOk result (Becomes (λ g. answered line (made (function code (value_list_of (map plain_value values.items)))))) }
+{
+    let captured = Items::new(alloc, values)?;
+    answered(made(Value::Function { code, captured }), line)
+}
 
 #[tactic(none)]
 impl Engine {
@@ -59,7 +73,10 @@ impl Engine {
     {
         match self.held(base, variable) {
             None => Ok(Step::Fail(Fault::Early, line)),
-            Some(value) => Ok(give(copy(value)?)),
+            Some(value) => {
+                let copied = copy(value)?;
+                Ok(give(copied))
+            }
         }
     }
 
@@ -116,7 +133,8 @@ impl Engine {
     {
         match answer {
             Ok(value) => {
-                self.slots.set(slot, Some(copy(&value)?));
+                let copied = copy(&value)?;
+                self.slots.set(slot, Some(copied));
                 Ok(give(value))
             }
             Err(fault) => failed(fault, line),
@@ -200,9 +218,9 @@ impl Engine {
         ensures { Goes base.now self.old
             (λ s. if_declared line (in_slot slot s.slots) (λ _. writes line slot (Ok (plain_value value))) s) self.new result }
     {
-        if self.slots.get(slot).is_none() {
+        let Some(_held) = self.slots.get(slot) else {
             return Ok(Step::Fail(Fault::Early, line));
-        }
+        };
         self.write(base, slot, Ok(value), line)
     }
 
@@ -231,12 +249,13 @@ impl Engine {
             (λ s. answered line (made (function code (value_list_of (captured (body_of base.now.program code).captures s.slots)))) s)
             self.new result }
     {
-        let values = match function_of(base, code) {
-            None => Vec::new(self.alloc),
-            Some(body) => self.captured(&body.captures)?,
-        };
-        let captured = Items::new(self.alloc, values)?;
-        answered(made(Value::Function { code, captured }), line)
+        match function_of(base, code) {
+            None => made_function(self.alloc, code, Vec::new(self.alloc), line),
+            Some(body) => {
+                let values = self.captured(&body.captures)?;
+                made_function(self.alloc, code, values, line)
+            }
+        }
     }
 
     /// The values that stand in these slots now.
@@ -245,7 +264,8 @@ impl Engine {
     {
         let mut values = Vec::with_capacity(self.alloc, slots.len())?;
         for slot in slots {
-            values.push(self.slots.copy_of(*slot)?)?;
+            let value = self.slots.copy_of(*slot)?;
+            values.push(value)?;
         }
         Ok(values)
     }

@@ -37,7 +37,9 @@ fn turns(test: Option<u32>, body: u32, next: Option<u32>) -> Turns
 fn literal(alloc: Global, text: &Text, line: u32) -> Result<Step, Memory>
     ensures { IfOk result (Becomes (λ g. answered line (made (words text.now)))) }
 {
-    answered(made(words(alloc, text.copy()?)?), line)
+    let copied = text.copy()?;
+    let value = words(alloc, copied)?;
+    answered(made(value), line)
 }
 
 /// What waits for the left side of an operator.

@@ -49,12 +49,15 @@ fn element_args(
         ≡ padded wanted (plain_value item.now ∷ whole (pos index) ∷ list items.now ∷ [])) }
 {
     let mut args = Values::new(alloc);
-    args.push(copy(item)?)?;
+    let element = copy(item)?;
+    args.push(element)?;
     if wanted > 1 {
-        args.push(index_value(index)?)?;
+        let place = index_value(index)?;
+        args.push(place)?;
     }
     if wanted > 2 {
-        args.push(Value::List(items.copy()?))?;
+        let list = items.copy()?;
+        args.push(Value::List(list))?;
     }
     Ok(args)
 }
@@ -103,9 +106,9 @@ impl Engine {
             return Ok(leave());
         };
         // A function that begins nothing does nothing for any element.
-        if first_in(&body.content).is_none() {
+        let Some(_first) = first_in(&body.content) else {
             return Ok(leave());
-        }
+        };
         let args = element_args(self.alloc, body.parameters, item, walk.index, &walk.items)?;
         self.walk_on(base, body, walk, args)
     }

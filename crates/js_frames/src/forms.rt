@@ -36,7 +36,8 @@ fn data_text(alloc: Global, tree: &Data) -> Result<Text, Memory>
 fn set(alloc: Global, tree: SetTree) -> Result<Step, Memory>
     ensures { IfOk result (Becomes (λ g. gives (set (plain_set tree)))) }
 {
-    Ok(give(Value::Set(EventSet::new(alloc, tree)?)))
+    let made = EventSet::new(alloc, tree)?;
+    Ok(give(Value::Set(made)))
 }
 
 /// A statement asks. Takes no memory.
@@ -64,7 +65,8 @@ fn assert_with(line: u32, condition: &Value, text: &Value) -> Result<Step, Memor
     if truthy(condition) {
         Ok(leave())
     } else {
-        Ok(Step::Violate(words.copy()?))
+        let copied = words.copy()?;
+        Ok(Step::Violate(copied))
     }
 }
 
@@ -175,8 +177,9 @@ impl Engine {
     {
         match (name, function) {
             (Value::Words(text), Value::Function { code, captured }) => {
+                let name = text.copy()?;
                 let function = Value::Function { code, captured };
-                self.act(base, Effect::Register(text.copy()?, function))
+                self.act(base, Effect::Register(name, function))
             }
             _ => Ok(mistyped(line)),
         }
@@ -187,7 +190,10 @@ impl Engine {
         ensures { Goes base.now self.old (enqueues_event line (argument 0 args)) self.new result }
     {
         match args.take(0) {
-            Value::Event(event) => self.act(base, Effect::Enqueue(event.copy()?)),
+            Value::Event(event) => {
+                let copied = event.copy()?;
+                self.act(base, Effect::Enqueue(copied))
+            }
             _ => Ok(mistyped(line)),
         }
     }
@@ -208,7 +214,8 @@ impl Engine {
         requires { StackFits base.now.program self.old.stack.items }
         ensures { Goes base.now self.old (logs line (log_text (argument 0 args))) self.new result }
     {
-        match log_text(self.alloc, &args.take(0))? {
+        let value = args.take(0);
+        match log_text(self.alloc, &value)? {
             None => Ok(mistyped(line)),
             Some(text) => self.act(base, Effect::Line(text)),
         }

@@ -60,7 +60,8 @@ fn copies(alloc: Global, values: &[Value]) -> Result<Values, Memory>
 {
     let mut made = Values::new(alloc);
     for value in values {
-        made.push(copy(value)?)?;
+        let copied = copy(value)?;
+        made.push(copied)?;
     }
     Ok(made)
 }
@@ -72,7 +73,10 @@ fn step_of(alloc: Global, next: Pending) -> Result<Step, Memory>
 {
     match next {
         Pending::Next(step) => Ok(step),
-        Pending::Resumed(event) => Ok(give(event_value(alloc, event)?)),
+        Pending::Resumed(event) => {
+            let value = event_value(alloc, event)?;
+            Ok(give(value))
+        }
     }
 }
 
@@ -108,7 +112,8 @@ impl Machine {
     {
         let values = copies(alloc, args)?;
         let mut engine = Engine::new(alloc, mode, budget, None);
-        let step = engine.call(base, 0, copy(callee)?, values)?;
+        let function = copy(callee)?;
+        let step = engine.call(base, 0, function, values)?;
         Ok(Machine {
             engine,
             pending: Some(Pending::Next(step)),
@@ -221,6 +226,9 @@ fn pause_at(fuel: u64, step: &Step) -> Result<Pause, Memory>
         Step::Give(_) => Ok(Pause::Ended),
         Step::Ask(_, _, _) => Ok(Pause::AtSync),
         Step::Fail(fault, line) => Ok(Pause::Broken(*fault, *line)),
-        Step::Violate(text) => Ok(Pause::Violated(text.copy()?)),
+        Step::Violate(text) => {
+            let copied = text.copy()?;
+            Ok(Pause::Violated(copied))
+        }
     }
 }

@@ -1,5 +1,6 @@
 //! Nodes that evaluate all their parts, and then make one value.
-ghost use Rattle.std.specs.Prelude.{◌≡◌, ◌++◌, ◌∷◌, [], drop, slice_get, IfOk};
+ghost use Rattle.std.specs.Prelude.{◌≡◌, ◌++◌, ◌∷◌, [], drop, slice_get, IfOk, codes};
+ghost use Rattle.std.specs.Str.{bytes_eq};
 ghost use Rattle.js_value.specs.Value.{PlainValue, list};
 ghost use Rattle.js_value.specs.Views.{plain_value};
 ghost use Rattle.js_ops.specs.Operators.{value_of};
@@ -76,6 +77,13 @@ fn by_rule(alloc: Global, op: Option<Op>, left: &Value, right: &Value) -> Result
         None => Err(OpFault::Fault(Fault::Mistyped)),
         Some(op) => apply(alloc, op, left, right),
     }
+}
+
+/// Whether a method's word is that of `forEach`. Takes no memory.
+fn is_for_each(word: &Text) -> bool
+    ensures { result ≡ bytes_eq word.now (codes "forEach") }
+{
+    word.as_str() == "forEach"
 }
 
 /// The list of the values.
@@ -312,7 +320,7 @@ impl Engine {
         ensures { let g = here base.now self.old in Goes base.now self.old
             (calls_method g (eval g) line word.now (list items) args) self.new result }
     {
-        if word.as_str() == "forEach" {
+        if is_for_each(word) {
             self.for_each(base, line, items, args)
         } else {
             apply_method(self.alloc, line, &Value::List(items), word, &args)

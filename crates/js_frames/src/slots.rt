@@ -125,7 +125,8 @@ impl Slots {
         ensures { OnOk result (self.new ≡ self.old ++ map Some (map plain_value values.now)) }
     {
         for value in values {
-            self.push(Some(copy(value)?))?;
+            let copied = copy(value)?;
+            self.push(Some(copied))?;
         }
         Ok(())
     }
@@ -167,10 +168,10 @@ fn constant_start(alloc: Global, start: ConstantStart) -> Result<Option<Value>, 
     ensures { IfOk result (λ v. option_map plain_value v ≡ constant_start (plain_constant start)) }
 {
     match start {
-        ConstantStart::OfFunction(code) => Ok(Some(Value::Function {
-            code,
-            captured: Items::new(alloc, Vec::new(alloc))?,
-        })),
+        ConstantStart::OfFunction(code) => {
+            let captured = Items::new(alloc, Vec::new(alloc))?;
+            Ok(Some(Value::Function { code, captured }))
+        }
         ConstantStart::Undeclared => Ok(None),
         ConstantStart::Unset => Ok(Some(Value::Undefined)),
     }
@@ -182,7 +183,8 @@ pub fn constants_start(alloc: Global, program: &Program) -> Result<Constants, Me
 {
     let mut constants = Constants::new(alloc);
     for number in 0..program.constants() {
-        constants.push(constant_start(alloc, program.constant(number))?)?;
+        let value = constant_start(alloc, program.constant(number))?;
+        constants.push(value)?;
     }
     Ok(constants)
 }

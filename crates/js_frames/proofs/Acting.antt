@@ -1,0 +1,33 @@
+-- Effects of scripts.
+use Rattle.std.proofs.Common.{◌≡◌, ℕ, refl}
+use Rattle.js_data.specs.declared.fault.Fault.TheVariants as fault
+use Rattle.js_value.specs.Value.{PlainValue, ValueList}
+use Rattle.js_value.specs.Views.{plain_value}
+use Rattle.js_value.specs.declared.value.Value.{Value}
+use Rattle.js_value.specs.declared.value.Value.TheVariants as value
+use Rattle.js_meaning.specs.State.{State, breaks}
+use Rattle.js_meaning.specs.Forms.{enqueues_event, sets_handler}
+
+pub no_event : (line : ℕ) (x : Value) (s : State) → ((e : _) → x ≡ value.Event e → ⊥) → breaks fault.Mistyped line s ≡ enqueues_event line (plain_value x) s
+no_event line value.Undefined s h = refl
+no_event line value.Null s h = refl
+no_event line (value.Truth b) s h = refl
+no_event line (value.Whole n) s h = refl
+no_event line (value.Words w) s h = refl
+no_event line (value.List xs) s h = refl
+no_event line (value.Fields fs) s h = refl
+no_event line (value.Event e) s h = absurd (h e refl)
+no_event line (value.Set e) s h = refl
+no_event line (value.Function c cs) s h = refl
+
+pub no_handler : (line : ℕ) (x : Value) (s : State) → ((code : ℕ) (cs : ValueList) → x ≡ value.Function code cs → ⊥) → breaks fault.Mistyped line s ≡ sets_handler line (plain_value x) s
+no_handler line value.Undefined s h = refl
+no_handler line value.Null s h = refl
+no_handler line (value.Truth b) s h = refl
+no_handler line (value.Whole n) s h = refl
+no_handler line (value.Words w) s h = refl
+no_handler line (value.List xs) s h = refl
+no_handler line (value.Fields fs) s h = refl
+no_handler line (value.Event e) s h = refl
+no_handler line (value.Set e) s h = refl
+no_handler line (value.Function c cs) s h = absurd (h c cs refl)

@@ -1,0 +1,11 @@
+use Rattle.std.proofs.Common.{◌≡◌, None, Some, refl, sym, ap, ◌∙◌, subst}
+use Rattle.std.proofs.lemmas.Bool.{lt-ltb, le-ltb}
+use Rattle.js_frames.specs.Places.{plain_ground, place_of}
+use Rattle.js_frames.proofs.Calling.{walk_over, walk_too_deep, walk_nothing}
+use Rattle.js_frames.proofs.engine.Engine.walk.Goals as goal
+
+pub returns-in_default : goal.returns-in_default
+returns-in_default c = walk_over (plain_ground c.args.base.now) (place_of c.args.self.now) c.args.walk _ c.leave.ensures c.requires (sym c.in_default.ensures.value)
+
+pub returns-then-self-ge-MOST_CALLS : goal.returns-then-self-ge-MOST_CALLS
+returns-then-self-ge-MOST_CALLS c = walk_too_deep (plain_ground c.args.base.now) (place_of c.args.self.now) c.args.walk _ _ refl c.requires (sym c.in-Some.ensures.value) (le-ltb c.args.self.now.calls 200 c.if-self-ge-MOST_CALLS.true)
