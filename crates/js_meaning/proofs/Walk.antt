@@ -20,7 +20,7 @@ use Rattle.js_value.specs.declared.op.Make.TheVariants as make
 use Rattle.js_ops.specs.Made.{Answer, made}
 use Rattle.js_ops.specs.Operators.{value_of, unary_of}
 use Rattle.js_ops.specs.Members.{member_of, index_of, field_or_undefined}
-use Rattle.js_ops.specs.Methods.{method_of, method_named}
+use Rattle.js_ops.specs.Methods.{method_named, method_of}
 use Rattle.js_ops.specs.Making.{make_of}
 use Rattle.js_program.specs.declared.builtin.Builtin.{Builtin}
 use Rattle.js_program.specs.declared.builtin.Builtin.TheVariants as form

@@ -1,5 +1,5 @@
 -- Statements in order, arguments in order, and calls of functions.
-use Rattle.std.specs.Prelude.{ℕ, suc, ◌+◌, pos, cond, nat_lt, List, [], ◌∷◌, ◌++◌, slice_get, unwrap_or, Option, Some, None, codes, if◌then◌else◌}
+use Rattle.std.specs.Prelude.{ℕ, suc, ◌+◌, pos, cond, nat_lt, List, [], ◌∷◌, ◌++◌, slice_get, unwrap_or, Option, Some, None, codes}
 use Rattle.std.specs.Str.{bytes_eq}
 use Rattle.js_data.specs.declared.fault.Fault.TheVariants as fault
 use Rattle.js_value.specs.Value as v
@@ -7,7 +7,7 @@ use Rattle.js_value.specs.Value.{PlainValue, ValueList}
 use Rattle.js_value.specs.Lists.{values_in}
 use Rattle.js_value.specs.declared.op.Method.{Method}
 use Rattle.js_ops.specs.Members.{field_or_undefined}
-use Rattle.js_ops.specs.Methods.{method_of, method_named}
+use Rattle.js_ops.specs.Methods.{method_named, method_of}
 use Rattle.js_program.specs.PlainProgram.{PlainProgram, PlainBody, PlainContent, statements, one_value}
 use Rattle.js_meaning.specs.declared.limits.TheConstants.{MOST_CALLS}
 use Rattle.js_meaning.specs.State.{Setting, State, Completion, returned, Outcome, went, ◌>>=◌, gives, leaves, breaks, answered}

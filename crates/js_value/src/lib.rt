@@ -14,7 +14,7 @@ pub use js_data::{
     Data, Event, Fault, Memory, Text, TooHeavy, Whole, are_equal, copy_data, data_nesting,
     data_weight, text_weight,
 };
-pub use js_json::{EventError, event_of, event_text, quoted};
+pub use js_json::{EventError, data_text, event_of, event_text, quoted};
 pub use op::{Make, Method, Op, Unary};
 pub use reading::{copy, event_value, push_text, text_of, truthy, words};
 pub use sets::{called_on, set_of_value};
