@@ -1,6 +1,5 @@
 //! The forms of `bp` and `Math`, with their arguments.
 ghost use Rattle.std.specs.Prelude.{◌≡◌, cond, IfOk, option_map};
-ghost use Rattle.js_data.specs.Views.{plain_data};
 ghost use Rattle.js_data.specs.JsonText.{data_text};
 ghost use Rattle.js_value.specs.Value.{PlainValue, set};
 ghost use Rattle.js_value.specs.Views.{plain_value, plain_set};
@@ -16,21 +15,12 @@ use crate::engine::Engine;
 use crate::ground::Ground;
 use crate::step::{Step, answered, give, leave, mistyped};
 use crate::values::Values;
-use js_data::{Data, Fault, Memory, Text};
-use js_json::event_text;
+use js_data::{Fault, Memory, Text};
+use js_json::{data_text, event_text};
 use js_ops::make;
 use js_program::{Builtin, has_effect_in};
 use js_value::{EventSet, Make, SetTree, Value, data_of_value, text_of, truthy};
-use std::alloc::{AllocError, Global};
-
-/// The text of data as compact JSON.
-fn data_text(alloc: Global, tree: &Data) -> Result<Text, Memory>
-    ensures { IfOk result (λ t. t ≡ data_text (plain_data tree.now)) }
-{
-    let _alloc = alloc;
-    let _tree = tree;
-    Err(AllocError)
-}
+use std::alloc::Global;
 
 /// A set is given.
 fn set(alloc: Global, tree: SetTree) -> Result<Step, Memory>
@@ -96,6 +86,7 @@ fn log_text(alloc: Global, value: &Value) -> Result<Option<Text>, Memory>
 fn json_text(alloc: Global, value: &Value) -> Result<Option<Text>, Memory>
     ensures { IfOk result (λ o. o ≡ option_map data_text (value_data (plain_value value.now))) }
 {
+    value.keeps();
     match data_of_value(alloc, value)? {
         None => Ok(None),
         Some(tree) => Ok(Some(data_text(alloc, &tree)?)),
