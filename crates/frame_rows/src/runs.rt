@@ -37,7 +37,7 @@ fn push_effect(out: &mut String, alloc: Global, effect: &Effect) -> Result<(), A
 }
 
 fn push_effects(out: &mut String, alloc: Global, effects: &Effects) -> Result<(), AllocError> {
-    for effect in effects.as_slice() {
+    for effect in &effects.items {
         push_effect(out, alloc, effect)?;
     }
     Ok(())
@@ -84,7 +84,7 @@ fn event(alloc: Global) -> Result<Event, Fail> {
 
 /// The function that was registered first.
 fn registered(effects: Effects) -> Option<Value> {
-    for effect in effects.into_vec() {
+    for effect in effects.items {
         if let Effect::Register(_, function) = effect {
             return Some(function);
         }

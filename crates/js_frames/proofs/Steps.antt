@@ -2,6 +2,7 @@
 use Rattle.std.proofs.Common.{◌≡◌, ℕ, zero, suc, ◌+◌, ◌-◌, ◌<◌, Bool, true, false, cond, List, [], ◌∷◌, ◌++◌, length, drop, Option, Some, None, Result, Ok, Err, refl, sym, ap, ◌∙◌, subst, arith, inl, inr, ◌⊎◌}
 use Rattle.std.specs.Prelude.{IfOk, slice_get}
 use Rattle.std.specs.declared.alloc.AllocError.{AllocError}
+use Rattle.js_data.specs.declared.fault.Fault.{Fault}
 use Rattle.js_value.specs.Value.{PlainValue, undefined}
 use Rattle.js_value.specs.Views.{plain_value}
 use Rattle.js_value.specs.declared.value.Value.{Value}
@@ -117,7 +118,7 @@ module _ (base : js.Ground) where
   completes_at old o c fits h = stays_at old o (Give c) fits tt h
 
   -- a fault
-  pub fails_at : (old : Place) (o : State → Outcome) (f : _) (line : ℕ) → StackFits base.program old.stack → ((beside : Beside) → js.breaks f line (state_at old beside) ≡ o (state_at old beside)) → Leads base old o old (Fail f line)
+  pub fails_at : (old : Place) (o : State → Outcome) (f : Fault) (line : ℕ) → StackFits base.program old.stack → ((beside : Beside) → js.breaks f line (state_at old beside) ≡ o (state_at old beside)) → Leads base old o old (Fail f line)
   unfolding step_outcome
   fails_at old o f line fits h = stays_at old o (Fail f line) fits tt h
 

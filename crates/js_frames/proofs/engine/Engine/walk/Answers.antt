@@ -1,5 +1,9 @@
 use Rattle.std.proofs.Common.{◌≡◌, None, Some, refl, sym, ap, ◌∙◌, subst}
 use Rattle.std.proofs.lemmas.Bool.{lt-ltb, le-ltb}
+use Rattle.std.specs.Prelude.{unwrap_or}
+use Rattle.js_program.specs.PlainProgram.{PlainBody}
+use Rattle.js_meaning.specs.Calls.{no_body}
+use Rattle.js_frames.specs.Leads.{first_of}
 use Rattle.js_frames.specs.Places.{plain_ground, place_of}
 use Rattle.js_frames.proofs.Calling.{walk_over, walk_too_deep, walk_nothing}
 use Rattle.js_frames.proofs.engine.Engine.walk.Goals as goal
@@ -9,3 +13,9 @@ returns-in_default c = walk_over (plain_ground c.args.base.now) (place_of c.args
 
 pub returns-then-self-ge-MOST_CALLS : goal.returns-then-self-ge-MOST_CALLS
 returns-then-self-ge-MOST_CALLS c = walk_too_deep (plain_ground c.args.base.now) (place_of c.args.self.now) c.args.walk _ _ refl c.requires (sym c.in-Some.ensures.value) (le-ltb c.args.self.now.calls 200 c.if-self-ge-MOST_CALLS.true)
+
+pub returns-in_default-2 : goal.returns-in_default-2
+returns-in_default-2 c = walk_nothing (plain_ground c.args.base.now) (place_of c.args.self.now) c.args.walk _ c.leave-2.ensures c.requires (lt-ltb c.args.self.now.calls 200 c.if-self-ge-MOST_CALLS.false) (ap (λ o. first_of (let q : PlainBody = unwrap_or o no_body in q.content)) (sym c.in_default-2.ensures))
+
+pub returns-in_default-3 : goal.returns-in_default-3
+returns-in_default-3 c = walk_nothing (plain_ground c.args.base.now) (place_of c.args.self.now) c.args.walk _ c.leave-3.ensures c.requires (lt-ltb c.args.self.now.calls 200 c.if-self-ge-MOST_CALLS.false) (ap (λ o. first_of (let q : PlainBody = unwrap_or o no_body in q.content)) (sym c.in-Some-2.ensures) ∙ sym c.in_default-3.ensures)

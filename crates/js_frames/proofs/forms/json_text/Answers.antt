@@ -1,0 +1,8 @@
+use Rattle.std.proofs.Common.{Some}
+use Rattle.js_data.specs.Views.{plain_data}
+use Rattle.js_value.specs.Views.{plain_value}
+use Rattle.js_value.proofs.Sorted.{sorted_extra}
+use Rattle.js_frames.proofs.forms.json_text.Goals as goal
+
+pub data_text-requires : goal.data_text-requires
+data_text-requires c = sorted_extra (plain_value c.args.value.now) (Some (plain_data c.in-Some.tree)) c.keeps.ensures c.in-Some.ensures
