@@ -1,6 +1,6 @@
 -- Calls of the machine.
 use Rattle.std.proofs.Common.{◌≡◌, ℕ, zero, suc, ◌+◌, ◌-◌, ◌<◌, ◌≤◌, Bool, true, false, cond, List, [], ◌∷◌, ◌++◌, length, drop, take, map, Option, Some, None, Result, Ok, Err, refl, sym, ap, ◌∙◌, subst, arith}
-use Rattle.std.specs.Prelude.{IfOk, slice_get, slice_set, fold, nat_lt, pos, replicate, unwrap_or, option_map}
+use Rattle.std.specs.Prelude.{IfOk, OnOk, slice_get, slice_set, fold, nat_lt, pos, replicate, unwrap_or, option_map}
 use Rattle.std.specs.declared.alloc.AllocError.{AllocError}
 use Rattle.js_data.specs.declared.fault.Fault.TheVariants as fault
 use Rattle.js_value.specs.Value as v
@@ -23,12 +23,13 @@ use Rattle.js_frames.specs.declared.step.Step.{Step}
 use Rattle.js_frames.specs.declared.step.Step.TheVariants.{Begin, Give, Ask, Fail, Violate}
 use Rattle.js_frames.specs.declared.step.Completion.TheVariants.{Normal}
 use Rattle.js_value.specs.declared.value.Value.TheVariants.{Undefined}
+use Rattle.js_frames.specs.declared.engine.Engine.{Engine}
 use Rattle.js_frames.specs.declared.frame.Walk.{Walk}
 use Rattle.js_frames.specs.declared.frame.Sequence.{Sequence}
 use Rattle.js_frames.specs.declared.frame.Part.TheVariants.{Statements, Returned, Walked}
 use Rattle.js_frames.specs.declared.frame.Frame.{Frame}
 use Rattle.js_frames.specs.declared.frame.Frame.TheVariants.{Waiting, Called}
-use Rattle.js_frames.specs.Places.{Place, Beside, setting_at, state_at}
+use Rattle.js_frames.specs.Places.{Place, Beside, plain_effects, place_of, setting_at, state_at}
 use Rattle.js_frames.specs.Frames.{rest, resume, plug, step_outcome, future, statements_in, statements_of, sequence_from, walk_from}
 use Rattle.js_frames.specs.Fits.{IsNode, AreNodes, SequenceFits, FrameFits, StackFits}
 use Rattle.js_program.specs.Views.{plain_content}
@@ -270,3 +271,8 @@ no_walk g ev line items (y ∷ ys) x s e h = by_value x e h
     by_value (value.Event z) e h = ap (λ q. for_each_call g ev line items (q ∷ ys) s) e
     by_value (value.Set z) e h = ap (λ q. for_each_call g ev line items (q ∷ ys) s) e
     by_value (value.Function c cs) e h = absurd (h c cs refl)
+
+-- a call and a frame make no effects
+pub same_effects : (old mid new : Engine) (slots : List (Option PlainValue)) (active : ℕ) (part : ℕ) (frame : Frame) (r : Result Step AllocError) → place_of mid ≡ entered (place_of old) slots active → IfOk r (λ step. (step ≡ Begin part) × (place_of new ≡ pushed (place_of mid) frame)) → OnOk r (plain_effects new.effects ≡ plain_effects old.effects)
+same_effects old mid new slots active part frame (Ok step) e w = ap (λ (q : Place). q.effects) w.1 ∙ ap (λ (q : Place). q.effects) e
+same_effects old mid new slots active part frame (Err x) e w = tt

@@ -33,7 +33,7 @@ use Rattle.js_frames.specs.declared.engine.Engine.{Engine}
 use Rattle.js_frames.specs.Places.{Place, Beside, plain_effects, place_of, setting_at, state_at, fresh}
 use Rattle.js_frames.specs.Frames.{plain_completion, resume, plug, step_outcome, future}
 use Rattle.js_frames.specs.Leads.{Leads, IsSettled, IsHeld, Advanced, Ran, node_does}
-use Rattle.js_frames.specs.Fits.{StackFits}
+use Rattle.js_frames.specs.Fits.{StackFits, StepFits}
 use Rattle.js_frames.specs.Runs.{PendingFits, IsOfProgram, IsLost, Coming, Stands, untaken, asked_at, asked_by, line_asked, answer_by, constants_by, Waits, Asks, Answers, Spends, Says, Runs, pause_of, if_zero, pending_outcome, future_of}
 
 -- what is over passes by all frames
@@ -281,3 +281,9 @@ asks_at new (Give c) stop e h = cc
 asks_at new (Ask s p line) stop e h = tt
 asks_at new (Fail f line) stop e h = cc
 asks_at new (Violate t) stop e h = cc
+
+pub of_program_started : (program : PlainProgram) (new : Engine) (step : Step) → StackFits program new.stack.items → StepFits program step → IsOfProgram program (record { engine = new; pending = Some (Next step) })
+unfolding IsOfProgram
+of_program_started program new step fits step_fits = λ next e.
+    let same : Next step ≡ next = cc in
+    (fits, subst (PendingFits program) same step_fits)

@@ -7,7 +7,7 @@ ghost use Rattle.js_program.specs.PlainProgram.{content_parts};
 ghost use Rattle.js_program.specs.Views.{plain_body, plain_content};
 ghost use Rattle.js_meaning.specs.Calls.{body_of, enters, calls, answer_of};
 ghost use Rattle.js_meaning.specs.Meaning.{eval};
-ghost use Rattle.js_frames.specs.Places.{place_of, here};
+ghost use Rattle.js_frames.specs.Places.{place_of, here, plain_effects};
 ghost use Rattle.js_frames.specs.Frames.{plain_completion, statements_in, statements_of};
 ghost use Rattle.js_frames.specs.Fits.{StackFits, AreNodes, SequenceFits};
 ghost use Rattle.js_frames.specs.Leads.{Goes, Gives, IsBegin, entered, first_of};
@@ -66,8 +66,9 @@ impl Engine {
         args: Values,
     ) -> Result<Step, Memory>
         requires { StackFits base.now.program self.old.stack.items }
-        ensures { let g = here base.now self.old in Goes base.now self.old
+        ensures goes { let g = here base.now self.old in Goes base.now self.old
             (calls g (eval g) line (plain_value function) args) self.new result }
+        ensures effects { OnOk result (plain_effects self.new.effects ≡ plain_effects self.old.effects) }
     {
         match function {
             Value::Function { code, captured } => {
@@ -86,8 +87,9 @@ impl Engine {
         args: Values,
     ) -> Result<Step, Memory>
         requires { StackFits base.now.program self.old.stack.items }
-        ensures { let g = here base.now self.old in Goes base.now self.old
+        ensures goes { let g = here base.now self.old in Goes base.now self.old
             (calls g (eval g) line (function code captured.now) args) self.new result }
+        ensures effects { OnOk result (plain_effects self.new.effects ≡ plain_effects self.old.effects) }
     {
         if self.calls >= MOST_CALLS {
             return Ok(Step::Fail(Fault::Depth, line));
@@ -124,6 +126,7 @@ impl Engine {
             (enters (eval (here base.now self.old)) active (plain_body body.now) (values_in captured.now) args)
             self.new result }
         ensures begins { IsSome (first_of (plain_content body.now.content)) → IfOk result IsBegin }
+        ensures effects { OnOk result (plain_effects self.new.effects ≡ plain_effects self.old.effects) }
     {
         let Some(first) = first_in(&body.content) else {
             return Ok(leave());
@@ -161,9 +164,10 @@ impl Engine {
     /// The top level begins.
     pub fn begin_top(&mut self, base: &Ground) -> Result<Step, Memory>
         requires { StackFits base.now.program self.old.stack.items }
-        ensures { Goes base.now self.old
+        ensures goes { Goes base.now self.old
             (enters (eval (here base.now self.old)) 0 base.now.program.top [] [])
             self.new result }
+        ensures effects { OnOk result (plain_effects self.new.effects ≡ plain_effects self.old.effects) }
     {
         let captured = Items::new(self.alloc, Vec::new(self.alloc))?;
         let args = Values::new(self.alloc);

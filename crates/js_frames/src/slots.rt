@@ -111,10 +111,11 @@ impl Slots {
     }
 
     /// Moves values behind those that are there.
-    fn push_all(&mut self, values: Vec<Value>) -> Result<(), Memory>
-        ensures { OnOk result (self.new ≡ self.old ++ map Some (map plain_value values.items)) }
+    fn push_all(&mut self, values: &mut Values) -> Result<(), Memory>
+        ensures { OnOk result (self.new ≡ self.old ++ map Some values.old) }
     {
-        for value in values {
+        for place in 0..values.len() {
+            let value = values.put_out(place);
             self.push(Some(value))?;
         }
         Ok(())
@@ -155,7 +156,7 @@ impl Slots {
         let mut slots = Slots {
             items: Vec::with_capacity(alloc, body.slots as usize)?,
         };
-        slots.push_all(values.into_vec())?;
+        slots.push_all(&mut values)?;
         slots.push_copies(captured.as_slice())?;
         slots.fill(body.slots as usize)?;
         slots.unset(&body.vars);

@@ -1,5 +1,6 @@
 //! The values of parts that are done.
-ghost use Rattle.std.specs.Prelude.{◌≡◌, ◌++◌, ◌∷◌, [], length, map, take, drop, IfOk, OnOk, IfSome, option_map, slice_get, ◌+◌, ◌<◌, ◌^◌};
+ghost use Rattle.std.specs.Prelude.{◌≡◌, ◌++◌, ◌∷◌, [], length, map, take, drop, IfOk, OnOk, IfSome, option_map, slice_get, slice_set, Some, ◌+◌, ◌<◌, ◌^◌};
+ghost use Rattle.js_value.specs.Value.{undefined};
 ghost use Rattle.js_value.specs.Lists.{values_in};
 ghost use Rattle.js_value.specs.Views.{plain_value};
 ghost use Rattle.js_meaning.specs.Forms.{argument};
@@ -8,6 +9,7 @@ ghost use Rattle.js_meaning.specs.Variables.{padded};
 use js_value::{Items, Memory, Value};
 use std::alloc::Global;
 use std::marker::Model;
+use std::mem;
 
 /// Values in order. Contracts see the list of their plain forms.
 #[derive(Drop)]
@@ -67,6 +69,15 @@ impl Values {
     {
         self.items.push(value)?;
         Ok(())
+    }
+
+    /// The value at a place, with undefined left in its place. Takes no memory.
+    pub fn put_out(&mut self, place: usize) -> Value
+        requires { place < length self.old }
+        ensures value { Some (plain_value result) ≡ slice_get self.old place }
+        ensures rest { self.new ≡ slice_set self.old place undefined }
+    {
+        mem::replace(&mut self.items[place], Value::Undefined)
     }
 
     /// The value at a place, or undefined; it and those behind it are dropped. Takes no memory.

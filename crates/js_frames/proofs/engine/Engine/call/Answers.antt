@@ -1,4 +1,4 @@
-use Rattle.std.proofs.Common.{sym, ap, subst}
+use Rattle.std.proofs.Common.{refl, sym, ap, subst}
 use Rattle.js_value.specs.Views.{plain_value}
 use Rattle.js_meaning.specs.Calls.{calls}
 use Rattle.js_meaning.specs.Meaning.{eval}
@@ -12,12 +12,18 @@ use Rattle.js_frames.proofs.engine.Engine.call.Goals as goal
 pub returns-in-Function : goal.returns-in-Function
 returns-in-Function c =
     let g = here c.args.base.now c.args.self.now in
-    means_ok (plain_ground c.args.base.now) _ _ _ _ c.call_function.result c.call_function.ensures (λ s. ap (λ f. calls g (eval g) c.args.line (plain_value f) c.args.args s) (sym c.in-Function.is))
+    record {
+      goes = means_ok (plain_ground c.args.base.now) _ _ _ _ c.call_function.result c.call_function.ensures.goes (λ s. ap (λ f. calls g (eval g) c.args.line (plain_value f) c.args.args s) (sym c.in-Function.is));
+      effects = c.call_function.ensures.effects;
+    }
 
 pub returns-in_default : goal.returns-in_default
 unfolding step_outcome
 returns-in_default c =
     let g = here c.args.base.now c.args.self.now in
     let old = place_of c.args.self.now in
-    subst (Leads (plain_ground c.args.base.now) old (calls g (eval g) c.args.line (plain_value c.args.function) c.args.args) old) (sym c.mistyped.ensures)
-    (stays (plain_ground c.args.base.now) old _ _ c.requires tt (λ s. no_call g (eval g) c.args.line c.args.function c.args.args s c.in_default.not-Function))
+    record {
+      goes = subst (Leads (plain_ground c.args.base.now) old (calls g (eval g) c.args.line (plain_value c.args.function) c.args.args) old) (sym c.mistyped.ensures)
+        (stays (plain_ground c.args.base.now) old _ _ c.requires tt (λ s. no_call g (eval g) c.args.line c.args.function c.args.args s c.in_default.not-Function));
+      effects = refl;
+    }

@@ -13,7 +13,7 @@ pub returns-in-Ok : goal.returns-in-Ok
 returns-in-Ok c = λ x h.
     let g = here c.args.base.now c.args.self.now in
     subst (λ y. IfOk c.call.result (λ step. Leads (plain_ground c.args.base.now) (place_of c.args.self.now) (calls g (eval g) c.args.line y c.args.args) (place_of c.call.new.self) step))
-    (value_answered x c.args.field c.in-Ok.function h c.in-Ok.is) c.call.ensures
+    (value_answered x c.args.field c.in-Ok.function h c.in-Ok.is) c.call.ensures.goes
 
 pub returns-in-Err : goal.returns-in-Err
 returns-in-Err c = λ x h. failed_never x c.args.field c.in-Err.fault c.args.line c.failed.result _ h c.in-Err.is c.failed.ensures

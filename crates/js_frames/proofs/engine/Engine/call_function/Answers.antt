@@ -5,10 +5,10 @@ use Rattle.js_frames.proofs.Calling.{too_deep, no_function, call_enters}
 use Rattle.js_frames.proofs.engine.Engine.call_function.Goals as goal
 
 pub returns-then-self-ge-MOST_CALLS : goal.returns-then-self-ge-MOST_CALLS
-returns-then-self-ge-MOST_CALLS c = too_deep (plain_ground c.args.base.now) (place_of c.args.self.now) c.args.line c.args.code c.args.captured.now c.args.args _ refl (le-ltb c.args.self.now.calls 200 c.if-self-ge-MOST_CALLS.true) c.requires
+returns-then-self-ge-MOST_CALLS c = record { effects = refl; goes = too_deep (plain_ground c.args.base.now) (place_of c.args.self.now) c.args.line c.args.code c.args.captured.now c.args.args _ refl (le-ltb c.args.self.now.calls 200 c.if-self-ge-MOST_CALLS.true) c.requires }
 
 pub returns-in-None : goal.returns-in-None
-returns-in-None c = no_function (plain_ground c.args.base.now) (place_of c.args.self.now) c.args.line c.args.code c.args.captured.now c.args.args _ c.leave.ensures (lt-ltb c.args.self.now.calls 200 c.if-self-ge-MOST_CALLS.false) c.requires (sym c.in-None.ensures)
+returns-in-None c = record { effects = refl; goes = no_function (plain_ground c.args.base.now) (place_of c.args.self.now) c.args.line c.args.code c.args.captured.now c.args.args _ c.leave.ensures (lt-ltb c.args.self.now.calls 200 c.if-self-ge-MOST_CALLS.false) c.requires (sym c.in-None.ensures) }
 
 pub returns-in-Some : goal.returns-in-Some
-returns-in-Some c = call_enters (plain_ground c.args.base.now) (place_of c.args.self.now) c.args.line c.args.code c.args.captured.now c.args.args _ c.enter.result _ (sym c.in-Some.ensures) (lt-ltb c.args.self.now.calls 200 c.if-self-ge-MOST_CALLS.false) c.enter.ensures.goes
+returns-in-Some c = record { effects = c.enter.ensures.effects; goes = call_enters (plain_ground c.args.base.now) (place_of c.args.self.now) c.args.line c.args.code c.args.captured.now c.args.args _ c.enter.result _ (sym c.in-Some.ensures) (lt-ltb c.args.self.now.calls 200 c.if-self-ge-MOST_CALLS.false) c.enter.ensures.goes }
