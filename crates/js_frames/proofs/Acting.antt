@@ -1,12 +1,13 @@
 -- Effects of scripts.
-use Rattle.std.proofs.Common.{◌≡◌, ℕ, refl}
+use Rattle.std.proofs.Common.{◌≡◌, ℕ, List, refl}
 use Rattle.js_data.specs.declared.fault.Fault.TheVariants as fault
+use Rattle.js_value.specs.Value as v
 use Rattle.js_value.specs.Value.{PlainValue, ValueList}
 use Rattle.js_value.specs.Views.{plain_value}
 use Rattle.js_value.specs.declared.value.Value.{Value}
 use Rattle.js_value.specs.declared.value.Value.TheVariants as value
 use Rattle.js_meaning.specs.State.{State, breaks}
-use Rattle.js_meaning.specs.Forms.{enqueues_event, sets_handler}
+use Rattle.js_meaning.specs.Forms.{enqueues_event, sets_handler, registers_thread}
 
 pub no_event : (line : ℕ) (x : Value) (s : State) → ((e : _) → x ≡ value.Event e → ⊥) → breaks fault.Mistyped line s ≡ enqueues_event line (plain_value x) s
 no_event line value.Undefined s h = refl
@@ -31,3 +32,27 @@ no_handler line (value.Fields fs) s h = refl
 no_handler line (value.Event e) s h = refl
 no_handler line (value.Set e) s h = refl
 no_handler line (value.Function c cs) s h = absurd (h c cs refl)
+
+pub no_name : (line : ℕ) (x : Value) (f : PlainValue) (s : State) → ((w : _) → x ≡ value.Words w → ⊥) → breaks fault.Mistyped line s ≡ registers_thread line (plain_value x) f s
+no_name line value.Undefined f s h = refl
+no_name line value.Null f s h = refl
+no_name line (value.Truth b) f s h = refl
+no_name line (value.Whole n) f s h = refl
+no_name line (value.Words w) f s h = absurd (h w refl)
+no_name line (value.List xs) f s h = refl
+no_name line (value.Fields fs) f s h = refl
+no_name line (value.Event e) f s h = refl
+no_name line (value.Set e) f s h = refl
+no_name line (value.Function c cs) f s h = refl
+
+pub no_thread : (line : ℕ) (name : List ℕ) (x : Value) (s : State) → ((code : ℕ) (cs : ValueList) → x ≡ value.Function code cs → ⊥) → breaks fault.Mistyped line s ≡ registers_thread line (v.words name) (plain_value x) s
+no_thread line name value.Undefined s h = refl
+no_thread line name value.Null s h = refl
+no_thread line name (value.Truth b) s h = refl
+no_thread line name (value.Whole n) s h = refl
+no_thread line name (value.Words w) s h = refl
+no_thread line name (value.List xs) s h = refl
+no_thread line name (value.Fields fs) s h = refl
+no_thread line name (value.Event e) s h = refl
+no_thread line name (value.Set e) s h = refl
+no_thread line name (value.Function c cs) s h = absurd (h c cs refl)

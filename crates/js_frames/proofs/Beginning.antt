@@ -28,7 +28,7 @@ use Rattle.js_frames.specs.declared.frame.Frame.{Frame}
 use Rattle.js_frames.specs.declared.frame.Frame.TheVariants.{Waiting}
 use Rattle.js_frames.specs.Places.{Place}
 use Rattle.js_frames.specs.Frames.{rest, resume, parts_from, declaring_from, sequence_from, block_of}
-use Rattle.js_frames.specs.Fits.{IsNode, AreNodes, IsPerhapsNode, HasForm, IsShort, IsDouble, IsLong, TurnsFit, FrameFits}
+use Rattle.js_frames.specs.Fits.{IsNode, AreNodes, IsPerhapsNode, HasForm, IsShort, IsDouble, IsLong, IsDeclaration, TurnsFit, FrameFits}
 use Rattle.js_frames.specs.Leads.{pushed, operand_frame}
 use Rattle.js_frames.proofs.InOrder.{parts_wait}
 
@@ -158,6 +158,10 @@ pub double_only : (x : NodeForm) → IsDouble (plain_node_form x) → ((a b : �
 double_only (f.Index y i) h c d = c y i refl
 double_only (f.Binary o y z) h c d = d o y z refl
 double_only _ h c d = h
+
+pub declaration_only : (x : NodeForm) → IsDeclaration (plain_node_form x) → ((k : DeclareKind) (ds : _) → x ≡ f.Declaration k ds → ⊥) → ⊥
+declaration_only (f.Declaration k ds) h a = a k ds refl
+declaration_only _ h a = h
 
 -- the form of the node that was found
 pub form_here : (Is : PlainNodeForm → Type 0) (program : PlainProgram) (n : ℕ) (found : Node) → slice_get program.nodes n ≡ Some (plain_node found) → HasForm Is program n → Is (plain_node_form found.form)

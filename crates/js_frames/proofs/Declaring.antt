@@ -1,5 +1,5 @@
 -- Variables of the machine.
-use Rattle.std.proofs.Common.{◌≡◌, ℕ, ◌+◌, drop, List, [], ◌∷◌, Option, Some, None, Result, Ok, Err, refl, sym, ap, ◌∙◌, subst}
+use Rattle.std.proofs.Common.{◌≡◌, ℕ, zero, suc, ◌+◌, drop, List, [], ◌∷◌, Option, Some, None, Result, Ok, Err, refl, sym, ap, ◌∙◌, subst}
 use Rattle.std.specs.Prelude.{IfOk, slice_get, slice_set, option_map, unwrap_or}
 use Rattle.js_value.specs.Value.{PlainValue, undefined}
 use Rattle.js_program.specs.declared.node.Variable.{Variable}
@@ -7,7 +7,7 @@ use Rattle.js_program.specs.declared.node.Variable.TheVariants.{Slot, Constant}
 use Rattle.js_tree.specs.declared.tree.DeclareKind.{DeclareKind}
 use Rattle.js_tree.specs.declared.tree.DeclareKind.TheVariants.{Const, Let, Var}
 use Rattle.js_meaning.specs.State as js
-use Rattle.js_meaning.specs.State.{State, Setting, ◌>>=◌}
+use Rattle.js_meaning.specs.State.{State, Setting, leaves, ◌>>=◌}
 use Rattle.js_meaning.specs.Variables.{held, set_variable}
 use Rattle.js_meaning.specs.Statements.{without_value, declares, does_declaration}
 use Rattle.js_meaning.specs.Meaning.{eval}
@@ -15,10 +15,16 @@ use Rattle.js_program.specs.PlainProgram as p
 use Rattle.js_program.specs.PlainProgram.{PlainNode, PlainDeclared}
 use Rattle.std.specs.declared.alloc.AllocError.{AllocError}
 use Rattle.js_frames.specs.declared.step.Step.{Step}
-use Rattle.js_frames.specs.Frames.{declares_from, declaring_from}
-use Rattle.js_frames.specs.Leads.{Leads}
-use Rattle.js_frames.proofs.Lists.{drop_at}
-use Rattle.js_frames.proofs.Steps.{moves, moves_ok}
+use Rattle.js_frames.specs.Frames.{rest, resume, declares_from, declaring_from}
+use Rattle.js_frames.specs.Leads.{Leads, pushed}
+use Rattle.std.specs.List.{filter_map, cons_option}
+use Rattle.js_frames.specs.declared.step.Step.TheVariants.{Begin}
+use Rattle.js_frames.specs.declared.frame.Part.TheVariants.{Declared}
+use Rattle.js_frames.specs.declared.frame.Frame.TheVariants.{Waiting}
+use Rattle.js_frames.specs.Fits.{IsNode, FrameFits, StackFits}
+use Rattle.js_frames.proofs.InOrder.{bind_twice}
+use Rattle.js_frames.proofs.Lists.{drop_at, drop_past}
+use Rattle.js_frames.proofs.Steps.{moves, moves_ok, on_ok, wait_leads}
 use Rattle.js_frames.specs.Places.{Place, Beside, setting_at, state_at, put_at, undefined_at, held_at}
 
 -- where a declared variable has its value
@@ -121,3 +127,47 @@ onward_next base old n place mid new at next node kind ds d found is h e get non
 pub onward_leads : (base : js.Ground) (old : Place) (n place : ℕ) (mid new : Place) (at : ℕ) (step : Step) → Onward base old n place mid at → Leads base mid (declaring_from (setting_at base old) (slice_get base.program.nodes n) at) new step → Leads base old (declaring_from (setting_at base old) (slice_get base.program.nodes n) place) new step
 onward_leads base old n place mid new at step h l =
     moves base old mid new _ (declaring_from (setting_at base old) (slice_get base.program.nodes n) at) step h.stack_same h.mode_same h.budget_same h.fuel_same h.same l
+
+onward_setting : (base : js.Ground) (old : Place) (n place : ℕ) (mid : Place) (at : ℕ) → Onward base old n place mid at → setting_at base mid ≡ setting_at base old
+onward_setting base old n place mid at h =
+    ap (λ q. setting_at base (record mid { mode = q })) h.mode_same
+    ∙ ap (λ q. setting_at base (record old { budget = q })) h.budget_same
+
+-- a declarator with a value waits for it
+declarator_waits : (g : Setting) (n place : ℕ) (node : PlainNode) (kind : DeclareKind) (ds : List PlainDeclared) (d : PlainDeclared) (part : ℕ) (s : State) → slice_get g.base.program.nodes n ≡ Some node → node.form ≡ p.declaration kind ds → slice_get ds place ≡ Some d → d.value ≡ Some part → resume g (Waiting (Declared n d.variable (place + 1))) (eval g part s) ≡ declaring_from g (slice_get g.base.program.nodes n) place s
+unfolding rest resume
+declarator_waits g n place node kind ds d part s found is get value =
+    bind_twice (eval g part s) (λ v now. leaves (set_variable d.variable v now)) (λ _. does_declaration (eval g) kind (drop (place + 1) ds)) (λ x now. declaring_from g (slice_get g.base.program.nodes n) (place + 1) (set_variable d.variable x now))
+    (λ x now. ap (λ o. declaring_from g o (place + 1) (set_variable d.variable x now)) found ∙ ap (λ f. declares_from g f (place + 1) (set_variable d.variable x now)) is)
+    ∙ ap (λ v. declares (eval g) kind d.variable v s >>= λ _. does_declaration (eval g) kind (drop (place + 1) ds)) (sym value)
+    ∙ ap (λ l. does_declaration (eval g) kind l s) (sym (drop_at ds place d get))
+    ∙ ap (λ f. declares_from g f place s) (sym is)
+    ∙ ap (λ o. declaring_from g o place s) (sym found)
+
+pub onward_waits : (base : js.Ground) (old : Place) (n place : ℕ) (mid new : Place) (at : ℕ) (node : PlainNode) (kind : DeclareKind) (ds : List PlainDeclared) (d : PlainDeclared) (part : ℕ) (r : Result Step AllocError) → slice_get base.program.nodes n ≡ Some node → node.form ≡ p.declaration kind ds → Onward base old n place mid at → slice_get ds at ≡ Some d → d.value ≡ Some part → StackFits base.program old.stack → FrameFits base.program (Waiting (Declared n d.variable (at + 1))) → IsNode base.program part → IfOk r (λ step. (step ≡ Begin part) × (new ≡ pushed mid (Waiting (Declared n d.variable (at + 1))))) → IfOk r (λ step. Leads base old (declaring_from (setting_at base old) (slice_get base.program.nodes n) place) new step)
+onward_waits base old n place mid new at node kind ds d part r found is h get value fits frame_fits part_fits w =
+    on_ok r (λ step l. onward_leads base old n place mid new at step h l)
+    (wait_leads base mid new (declaring_from (setting_at base old) (slice_get base.program.nodes n) at) r (Waiting (Declared n d.variable (at + 1))) part (subst (StackFits base.program) (sym h.stack_same) fits) w frame_fits part_fits
+    (λ s. declarator_waits (setting_at base mid) n at node kind ds d part s found is get value
+    ∙ ap (λ g. declaring_from g (slice_get base.program.nodes n) at s) (onward_setting base old n place mid at h)))
+
+-- no declarator is left
+pub declaring_over : (g : Setting) (n place : ℕ) (node : PlainNode) (kind : DeclareKind) (ds : List PlainDeclared) (s : State) → slice_get g.base.program.nodes n ≡ Some node → node.form ≡ p.declaration kind ds → slice_get ds place ≡ None → leaves s ≡ declaring_from g (slice_get g.base.program.nodes n) place s
+declaring_over g n place node kind ds s found is get =
+    ap (λ l. does_declaration (eval g) kind l s) (sym (drop_past ds place get))
+    ∙ ap (λ f. declares_from g f place s) (sym is)
+    ∙ ap (λ o. declaring_from g o place s) (sym found)
+
+-- the value of a declarator is a part of its node
+pub declared_part : (ds : List PlainDeclared) (at : ℕ) (d : PlainDeclared) (part : ℕ) → slice_get ds at ≡ Some d → d.value ≡ Some part → (k : ℕ) × (slice_get (filter_map (λ (q : PlainDeclared). q.value) ds) k ≡ Some part)
+declared_part [] at d part get value = let e : None ≡ Some d = get in cc
+declared_part (x ∷ ds) zero d part get value =
+    let same : x ≡ d = cc in
+    (0, ap (λ o. slice_get (cons_option o (filter_map (λ (q : PlainDeclared). q.value) ds)) 0) (ap (λ (q : PlainDeclared). q.value) same ∙ value))
+declared_part (x ∷ ds) (suc at) d part get value =
+    let below = declared_part ds at d part get value in
+    behind x.value below.0 below.1
+  where
+    behind : (o : Option ℕ) (k : ℕ) → slice_get (filter_map (λ (q : PlainDeclared). q.value) ds) k ≡ Some part → (j : ℕ) × (slice_get (cons_option o (filter_map (λ (q : PlainDeclared). q.value) ds)) j ≡ Some part)
+    behind None k e = (k, e)
+    behind (Some y) k e = (suc k, e)

@@ -20,6 +20,17 @@ bind_same (violated text l) f g h = refl
 bind_same (spent l) f g h = refl
 bind_same (stopped x y line l) f g h = refl
 
+-- what goes on with a part's value, and then with what comes of that
+pub bind_twice : (o : Outcome) (f g h : PlainValue → State → Outcome) → ((x : PlainValue) (s : State) → h x s ≡ (f x s >>= g)) → (o >>= h) ≡ ((o >>= f) >>= g)
+bind_twice (went (normal x) s) f g h e = e x s
+bind_twice (went broke s) f g h e = refl
+bind_twice (went continued s) f g h e = refl
+bind_twice (went (returned x) s) f g h e = refl
+bind_twice (broken fault line l) f g h e = refl
+bind_twice (violated text l) f g h e = refl
+bind_twice (spent l) f g h e = refl
+bind_twice (stopped x y line l) f g h e = refl
+
 module _ (g : Setting) (o : Option PlainNode) (node : PlainNode) (at : o ≡ Some node) (done : List PlainValue) where
   -- the next part, and then the others
   pub parts_wait : (part : ℕ) → slice_get (parts_of node.form) (length done) ≡ Some part → (f : PlainValue → State → Outcome) → ((x : PlainValue) (s : State) → f x s ≡ parts_from g o (done ++ x ∷ []) s) → (s : State) → (eval g part s >>= f) ≡ parts_from g o done s

@@ -1,4 +1,5 @@
 mod Lists
+mod Nodes
 mod Filling
 mod Steps
 mod Turning

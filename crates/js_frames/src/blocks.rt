@@ -1,5 +1,5 @@
 //! Statements in order, and declarations.
-ghost use Rattle.std.specs.Prelude.{◌≡◌, ◌<◌, length, map, option_map, slice_get, IfSome};
+ghost use Rattle.std.specs.Prelude.{◌≡◌, ◌<◌, ◌+◌, ◌^◌, length, map, option_map, slice_get, IfSome};
 ghost use Rattle.js_value.specs.Views.{plain_value};
 ghost use Rattle.js_program.specs.Views.{plain_content, plain_declared, plain_node_form};
 ghost use Rattle.js_meaning.specs.Variables.{set_variable, undeclare};
@@ -45,6 +45,7 @@ fn statements_of(base: &Ground, sequence: Sequence) -> &[u32]
     ensures statements { result.now ≡ statements_of base.now.program sequence }
     ensures nodes { AreNodes base.now.program (statements_of base.now.program sequence) }
 {
+    base.keeps();
     match sequence {
         Sequence::Block(number) => block_in(&node_of(base, number).form),
         Sequence::Function(code) => statements_in(&base.program().function(code).content),
@@ -56,6 +57,7 @@ fn statements_of(base: &Ground, sequence: Sequence) -> &[u32]
 fn declarator_at(declared: &[Declared], place: usize) -> Option<Declared>
     ensures value { option_map plain_declared result ≡ slice_get (map plain_declared declared.now) place }
     ensures room { IfSome result (λ _. place < length declared.now) }
+    ensures fits { IfSome result (λ _. place + 1 < 2 ^ 64) }
 {
     declared.get(place).copied()
 }

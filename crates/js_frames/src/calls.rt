@@ -95,6 +95,7 @@ impl Engine {
             return Ok(Step::Fail(Fault::Depth, line));
         }
         let active = self.calls + 1;
+        base.keeps();
         match function_of(base, code) {
             None => Ok(leave()),
             Some(body) => self.enter(
@@ -169,6 +170,7 @@ impl Engine {
             self.new result }
         ensures effects { OnOk result (plain_effects self.new.effects ≡ plain_effects self.old.effects) }
     {
+        base.keeps();
         let captured = Items::new(self.alloc, Vec::new(self.alloc))?;
         let args = Values::new(self.alloc);
         self.enter(

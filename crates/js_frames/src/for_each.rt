@@ -8,7 +8,8 @@ ghost use Rattle.js_meaning.specs.Calls.{for_each_call};
 ghost use Rattle.js_meaning.specs.Meaning.{eval};
 ghost use Rattle.js_frames.specs.Places.{here};
 ghost use Rattle.js_frames.specs.Frames.{walk_from};
-ghost use Rattle.js_frames.specs.Fits.{StackFits};
+ghost use Rattle.js_frames.specs.Fits.{StackFits, AreNodes};
+ghost use Rattle.js_program.specs.PlainProgram.{content_parts};
 ghost use Rattle.js_program.specs.Views.{plain_body, plain_content};
 ghost use Rattle.js_frames.specs.Leads.{Goes, first_of, AreElementArgs};
 
@@ -110,6 +111,7 @@ impl Engine {
             return Ok(leave());
         };
         let args = element_args(self.alloc, body.parameters, item, walk.index, &walk.items)?;
+        base.keeps();
         self.walk_on(base, body, walk, args)
     }
 
@@ -124,6 +126,7 @@ impl Engine {
         requires room { self.old.calls < 200 }
         requires places { walk.index + 1 < 2 ^ 64 }
         requires found { slice_get base.now.program.functions walk.code ≡ Some (plain_body body.now) }
+        requires parts { AreNodes base.now.program (content_parts (plain_content body.now.content)) }
         requires starts { IsSome (first_of (plain_content body.now.content)) }
         requires args { AreElementArgs walk body.now.parameters args }
         requires fits { StackFits base.now.program self.old.stack.items }

@@ -1,7 +1,7 @@
 //! The forms of `bp` and `Math`, with their arguments.
 ghost use Rattle.std.specs.Prelude.{◌≡◌, cond, IfOk, option_map};
 ghost use Rattle.js_data.specs.JsonText.{data_text};
-ghost use Rattle.js_value.specs.Value.{PlainValue, set};
+ghost use Rattle.js_value.specs.Value.{PlainValue, set, words};
 ghost use Rattle.js_value.specs.Views.{plain_value, plain_set};
 ghost use Rattle.js_value.specs.DataValues.{value_data};
 ghost use Rattle.js_meaning.specs.State.{gives};
@@ -166,11 +166,29 @@ impl Engine {
         requires { StackFits base.now.program self.old.stack.items }
         ensures { Goes base.now self.old (registers_thread line (plain_value name.now) (plain_value function)) self.new result }
     {
-        match (name, function) {
-            (Value::Words(text), Value::Function { code, captured }) => {
-                let name = text.copy()?;
-                let function = Value::Function { code, captured };
-                self.act(base, Effect::Register(name, function))
+        match name {
+            Value::Words(text) => self.register_named(base, line, text, function),
+            _ => Ok(mistyped(line)),
+        }
+    }
+
+    fn register_named(
+        &mut self,
+        base: &Ground,
+        line: u32,
+        name: &Text,
+        function: Value,
+    ) -> Result<Step, Memory>
+        requires { StackFits base.now.program self.old.stack.items }
+        ensures { Goes base.now self.old (registers_thread line (words name.now) (plain_value function)) self.new result }
+    {
+        match function {
+            Value::Function { code, captured } => {
+                let copied = name.copy()?;
+                self.act(
+                    base,
+                    Effect::Register(copied, Value::Function { code, captured }),
+                )
             }
             _ => Ok(mistyped(line)),
         }

@@ -1,5 +1,6 @@
 //! What a machine stands on.
 ghost use Rattle.std.specs.Prelude.{◌≡◌, length};
+ghost use Rattle.js_program.specs.Sound.{IsSound};
 ghost use Rattle.js_meaning.specs.Bodies.{bare};
 ghost use Rattle.js_frames.specs.Places.{plain_ground};
 
@@ -37,6 +38,13 @@ impl Ground {
         ensures { result.now ≡ self.now.program }
     {
         &self.program
+    }
+
+    /// What its program keeps, as a fact for callers. Does nothing.
+    pub fn keeps(&self)
+        ensures { IsSound self.now.program }
+    {
+        self.program.keeps();
     }
 
     /// The constants. Takes no memory.

@@ -7,3 +7,9 @@ use Rattle.js_frames.proofs.engine.Engine.further.Goals as goal
 
 pub returns : goal.returns
 returns c = means_ok (plain_ground c.args.base.now) _ _ _ _ c.go_on_parts.result c.go_on_parts.ensures (λ s. ap (λ vs. parts_from (here c.args.base.now c.args.self.now) (slice_get (let b = c.args.base.now in let p = b.program in p.nodes) c.args.number) vs s) c.in_ok-push.ensures)
+
+pub go_on_parts-requires : goal.go_on_parts-requires
+go_on_parts-requires c = c.requires
+
+pub returns-in_err-push : goal.returns-in_err-push
+returns-in_err-push c = tt

@@ -1,10 +1,12 @@
 use Rattle.std.proofs.Common.{◌≡◌, None, Some, refl, sym, ap, ◌∙◌, subst}
 use Rattle.std.proofs.lemmas.Bool.{lt-ltb, le-ltb}
-use Rattle.std.specs.Prelude.{unwrap_or}
+use Rattle.std.specs.Prelude.{unwrap_or, IsSome}
 use Rattle.js_program.specs.PlainProgram.{PlainBody}
 use Rattle.js_meaning.specs.Calls.{no_body}
 use Rattle.js_frames.specs.Leads.{first_of}
 use Rattle.js_frames.specs.Places.{plain_ground, place_of}
+use Rattle.js_program.specs.Views.{plain_body}
+use Rattle.js_frames.proofs.Nodes.{function_parts}
 use Rattle.js_frames.proofs.Calling.{walk_over, walk_too_deep, walk_nothing}
 use Rattle.js_frames.proofs.engine.Engine.walk.Goals as goal
 
@@ -19,3 +21,22 @@ returns-in_default-2 c = walk_nothing (plain_ground c.args.base.now) (place_of c
 
 pub returns-in_default-3 : goal.returns-in_default-3
 returns-in_default-3 c = walk_nothing (plain_ground c.args.base.now) (place_of c.args.self.now) c.args.walk _ c.leave-3.ensures c.requires (lt-ltb c.args.self.now.calls 200 c.if-self-ge-MOST_CALLS.false) (ap (λ o. first_of (let q : PlainBody = unwrap_or o no_body in q.content)) (sym c.in-Some-2.ensures) ∙ sym c.in_default-3.ensures)
+
+pub returns-in_err-args : goal.returns-in_err-args
+returns-in_err-args c = tt
+
+pub walk_on-requires : goal.walk_on-requires
+walk_on-requires c =
+    let program = let b = c.args.base.now in b.program in
+    record {
+      room = c.if-self-ge-MOST_CALLS.false;
+      places = c.in-Some.ensures.room;
+      found = sym c.in-Some-2.ensures;
+      parts = function_parts program (let w = c.args.walk in w.code) (plain_body c.in-Some-2.body.now) c.keeps.ensures (sym c.in-Some-2.ensures);
+      starts = subst IsSome c.in-Some-3.ensures tt;
+      args = (_, sym c.in-Some.ensures.value, c.in_ok-args.ensures);
+      fits = c.requires;
+    }
+
+pub returns : goal.returns
+returns c = c.walk_on.ensures
