@@ -2,12 +2,12 @@
 use Rattle.std.proofs.Common.{◌≡◌, ℕ, List, refl}
 use Rattle.js_data.specs.declared.fault.Fault.TheVariants as fault
 use Rattle.js_value.specs.Value as v
-use Rattle.js_value.specs.Value.{PlainValue, ValueList}
+use Rattle.js_value.specs.Value.{PlainValue, ValueList, value_text}
 use Rattle.js_value.specs.Views.{plain_value}
 use Rattle.js_value.specs.declared.value.Value.{Value}
 use Rattle.js_value.specs.declared.value.Value.TheVariants as value
 use Rattle.js_meaning.specs.State.{State, breaks}
-use Rattle.js_meaning.specs.Forms.{enqueues_event, sets_handler, registers_thread}
+use Rattle.js_meaning.specs.Forms.{enqueues_event, sets_handler, registers_thread, asserted, floors, log_text}
 
 pub no_event : (line : ℕ) (x : Value) (s : State) → ((e : _) → x ≡ value.Event e → ⊥) → breaks fault.Mistyped line s ≡ enqueues_event line (plain_value x) s
 no_event line value.Undefined s h = refl
@@ -56,3 +56,39 @@ no_thread line name (value.Fields fs) s h = refl
 no_thread line name (value.Event e) s h = refl
 no_thread line name (value.Set e) s h = refl
 no_thread line name (value.Function c cs) s h = absurd (h c cs refl)
+
+pub no_text : (line : ℕ) (x : PlainValue) (t : Value) (s : State) → ((w : _) → t ≡ value.Words w → ⊥) → breaks fault.Mistyped line s ≡ asserted line x (plain_value t) s
+no_text line x value.Undefined s h = refl
+no_text line x value.Null s h = refl
+no_text line x (value.Truth b) s h = refl
+no_text line x (value.Whole n) s h = refl
+no_text line x (value.Words w) s h = absurd (h w refl)
+no_text line x (value.List xs) s h = refl
+no_text line x (value.Fields fs) s h = refl
+no_text line x (value.Event e) s h = refl
+no_text line x (value.Set e) s h = refl
+no_text line x (value.Function c cs) s h = refl
+
+pub no_whole : (line : ℕ) (x : Value) (s : State) → ((n : _) → x ≡ value.Whole n → ⊥) → breaks fault.Mistyped line s ≡ floors line (plain_value x) s
+no_whole line value.Undefined s h = refl
+no_whole line value.Null s h = refl
+no_whole line (value.Truth b) s h = refl
+no_whole line (value.Whole n) s h = absurd (h n refl)
+no_whole line (value.Words w) s h = refl
+no_whole line (value.List xs) s h = refl
+no_whole line (value.Fields fs) s h = refl
+no_whole line (value.Event e) s h = refl
+no_whole line (value.Set e) s h = refl
+no_whole line (value.Function c cs) s h = refl
+
+pub other_text : (x : Value) → ((e : _) → x ≡ value.Event e → ⊥) → ((xs : _) → x ≡ value.List xs → ⊥) → ((fs : _) → x ≡ value.Fields fs → ⊥) → value_text (plain_value x) ≡ log_text (plain_value x)
+other_text value.Undefined h i j = refl
+other_text value.Null h i j = refl
+other_text (value.Truth b) h i j = refl
+other_text (value.Whole n) h i j = refl
+other_text (value.Words w) h i j = refl
+other_text (value.List xs) h i j = absurd (i xs refl)
+other_text (value.Fields fs) h i j = absurd (j fs refl)
+other_text (value.Event e) h i j = absurd (h e refl)
+other_text (value.Set e) h i j = refl
+other_text (value.Function c cs) h i j = refl

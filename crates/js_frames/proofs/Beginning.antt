@@ -27,7 +27,7 @@ use Rattle.js_frames.specs.declared.frame.Part.TheVariants.{First, Second, Or, A
 use Rattle.js_frames.specs.declared.frame.Frame.{Frame}
 use Rattle.js_frames.specs.declared.frame.Frame.TheVariants.{Waiting}
 use Rattle.js_frames.specs.Places.{Place}
-use Rattle.js_frames.specs.Frames.{rest, resume, parts_from, declaring_from, sequence_from, block_of}
+use Rattle.js_frames.specs.Frames.{rest, resume, parts_from, declaring_from, sequence_from, block_of, block_in}
 use Rattle.js_frames.specs.Fits.{IsNode, AreNodes, IsPerhapsNode, HasForm, IsShort, IsDouble, IsLong, IsDeclaration, TurnsFit, FrameFits}
 use Rattle.js_frames.specs.Leads.{pushed, operand_frame}
 use Rattle.js_frames.proofs.InOrder.{parts_wait}
@@ -169,3 +169,14 @@ form_here Is program n found at h =
     let same : Some h.0 ≡ Some (plain_node found) = sym h.1 ∙ at in
     let node : h.0 ≡ plain_node found = cc in
     subst (λ (q : PlainNode). Is q.form) node h.2
+
+-- what waits for a left side that always has a right one
+pub operand_other : (o : Operator) (right n : ℕ) → (o ≡ operator.Or → ⊥) → (o ≡ operator.And → ⊥) → Waiting (First n) ≡ operand_frame o right n
+operand_other operator.Or right n h i = absurd (h refl)
+operand_other operator.And right n h i = absurd (i refl)
+operand_other _ right n h i = refl
+
+-- what is no block has no statements
+pub no_block : (x : NodeForm) → ((slots : _) (ns : _) → x ≡ f.Block slots ns → ⊥) → [] ≡ block_in (plain_node_form x)
+no_block (f.Block slots ns) h = absurd (h slots ns refl)
+no_block _ h = refl

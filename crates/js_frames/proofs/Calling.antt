@@ -16,11 +16,13 @@ use Rattle.js_meaning.specs.State.{State, Setting, Outcome, went, ◌>>=◌, giv
 use Rattle.js_meaning.specs.Variables.{padded, slots_of_call}
 use Rattle.js_ops.specs.Methods.{method_named}
 use Rattle.js_meaning.specs.Forms.{argument}
-use Rattle.js_meaning.specs.Calls.{applies, calls_method, no_body, body_of, after_call, sequence, runs, enters, calls, for_each_from, for_each_call}
+use Rattle.js_meaning.specs.Calls.{applies, calls_method, answer_of, no_body, body_of, after_call, sequence, runs, enters, calls, for_each_from, for_each_call}
 use Rattle.js_meaning.specs.declared.limits.TheConstants.{MOST_CALLS}
 use Rattle.js_meaning.specs.Meaning.{eval}
 use Rattle.js_frames.specs.declared.step.Step.{Step}
 use Rattle.js_frames.specs.declared.step.Step.TheVariants.{Begin, Give, Ask, Fail, Violate}
+use Rattle.js_frames.specs.declared.step.Completion.{Completion}
+use Rattle.js_frames.specs.declared.step.Completion.TheVariants as completion
 use Rattle.js_frames.specs.declared.step.Completion.TheVariants.{Normal}
 use Rattle.js_value.specs.declared.value.Value.TheVariants.{Undefined}
 use Rattle.js_frames.specs.declared.engine.Engine.{Engine}
@@ -30,7 +32,7 @@ use Rattle.js_frames.specs.declared.frame.Part.TheVariants.{Statements, Returned
 use Rattle.js_frames.specs.declared.frame.Frame.{Frame}
 use Rattle.js_frames.specs.declared.frame.Frame.TheVariants.{Waiting, Called}
 use Rattle.js_frames.specs.Places.{Place, Beside, plain_effects, place_of, setting_at, state_at}
-use Rattle.js_frames.specs.Frames.{rest, resume, plug, step_outcome, future, statements_in, statements_of, sequence_from, walk_from}
+use Rattle.js_frames.specs.Frames.{plain_completion, rest, resume, plug, step_outcome, future, statements_in, statements_of, sequence_from, walk_from}
 use Rattle.js_frames.specs.Fits.{IsNode, AreNodes, SequenceFits, FrameFits, StackFits}
 use Rattle.js_program.specs.Views.{plain_content}
 use Rattle.js_program.specs.declared.node.Content.{Content}
@@ -276,3 +278,9 @@ no_walk g ev line items (y ∷ ys) x s e h = by_value x e h
 pub same_effects : (old mid new : Engine) (slots : List (Option PlainValue)) (active : ℕ) (part : ℕ) (frame : Frame) (r : Result Step AllocError) → place_of mid ≡ entered (place_of old) slots active → IfOk r (λ step. (step ≡ Begin part) × (place_of new ≡ pushed (place_of mid) frame)) → OnOk r (plain_effects new.effects ≡ plain_effects old.effects)
 same_effects old mid new slots active part frame (Ok step) e w = ap (λ (q : Place). q.effects) w.1 ∙ ap (λ (q : Place). q.effects) e
 same_effects old mid new slots active part frame (Err x) e w = tt
+
+pub no_answer : (c : Completion) → ((x : Value) → c ≡ completion.Returned x → ⊥) → v.undefined ≡ answer_of (plain_completion c)
+no_answer (completion.Normal x) h = refl
+no_answer completion.Broke h = refl
+no_answer completion.Continued h = refl
+no_answer (completion.Returned x) h = absurd (h x refl)

@@ -2,6 +2,7 @@ mod Lists
 mod Nodes
 mod Filling
 mod Steps
+mod Becoming
 mod Turning
 mod InOrder
 mod Beginning

@@ -48,3 +48,14 @@ padded_two zero x i l h = refl
 padded_two (suc zero) x i l h = refl
 padded_two (suc (suc zero)) x i l h = refl
 padded_two (suc (suc (suc n))) x i l h = absurd (omega arith)
+
+-- of the keys as many are taken as there are values, at most all
+pub taken_keys : (ks : List (List ℕ)) (vs : List PlainValue) → length (take (length (take (length ks) vs)) ks) ≡ length (take (length ks) vs)
+taken_keys [] vs = refl
+taken_keys (k ∷ ks) [] = refl
+taken_keys (k ∷ ks) (x ∷ vs) = ap suc (taken_keys ks vs)
+
+pub taken_few : (ks : List (List ℕ)) (vs : List PlainValue) → length (take (length ks) vs) ≤ length ks
+taken_few [] vs = omega arith
+taken_few (k ∷ ks) [] = omega arith
+taken_few (k ∷ ks) (x ∷ vs) = let h = taken_few ks vs in omega arith

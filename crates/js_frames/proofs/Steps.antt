@@ -283,3 +283,12 @@ keeps_given base old new step c r e w = subst (λ q. IfOk r (λ last. Keeps base
 
 pub becomes_at_ok : (base : js.Ground) (old : Place) (o : State → Outcome) (q : Setting → State → Outcome) (r : Result Step AllocError) → StackFits base.program old.stack → IfOk r (Becomes q) → ((beside : Beside) → q (setting_at base old) (state_at old beside) ≡ o (state_at old beside)) → IfOk r (λ step. Leads base old o old step)
 becomes_at_ok base old o q r fits w h = on_ok r (λ step b. stays_at base old o step fits (b.fits base.program) (λ beside. b.same (setting_at base old) (state_at old beside) ∙ h beside)) w
+
+-- what picks one of its parts
+pub picks_begin : (program : PlainProgram) (o : Setting → State → Outcome) (n : ℕ) → IsNode program n → ((g : Setting) (s : State) → eval g n s ≡ o g s) → Picks program o (Begin n)
+unfolding step_outcome
+picks_begin program o n node h = record { same = h; fits = node }
+
+pub picks_give : (program : PlainProgram) (o : Setting → State → Outcome) (step : Step) (x : Value) → step ≡ Give (Normal x) → ((g : Setting) (s : State) → gives (plain_value x) s ≡ o g s) → Picks program o step
+unfolding step_outcome
+picks_give program o step x e h = subst (Picks program o) (sym e) (record { same = h; fits = tt })
