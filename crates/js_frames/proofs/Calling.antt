@@ -76,6 +76,7 @@ module _ (base : js.Ground) (old : Place) (body : PlainBody) (active : ℕ) (cap
       ap (after_call old.slots old.calls) (nothing_runs (setting_at base old) body.content (record (state_at old beside) { slots = slots_of_call body captured args; calls = active }) first)))
 
   pub enter_leads : (mid new : Place) (slots : List (Option PlainValue)) (which : Sequence) (n : ℕ) (r : Result Step AllocError) → slots ≡ slots_of_call body captured args → mid ≡ entered old slots active → StackFits base.program old.stack → SequenceFits base.program which → FrameFits base.program (body_frame body.content which) → IsNode base.program n → statements_of base.program which ≡ statements_in body.content → first_of body.content ≡ Some n → IfOk r (λ step. (step ≡ Begin n) × (new ≡ pushed mid (body_frame body.content which))) → IfOk r (λ step. Leads base old entering new step)
+  unfolding resume
   enter_leads mid new slots which n r made e fits which_fits frame_fits inside same first w0 =
       let w = subst (λ m. IfOk r (λ step. (step ≡ Begin n) × (new ≡ pushed m (body_frame body.content which)))) e w0 in
       let there = entered old slots active in
@@ -94,7 +95,6 @@ module _ (base : js.Ground) (old : Place) (body : PlainBody) (active : ℕ) (cap
       }) (ok_both _ _ r begun go)
     where
       enter_plug : (beside : Beside) → plug (setting_at base old) (old.stack ++ Called old.slots old.calls ∷ []) (runs (eval (setting_at base old)) body.content (record (state_at old beside) { slots = slots; calls = active })) ≡ plug (setting_at base old) old.stack (after_call old.slots old.calls (runs (eval (setting_at base old)) body.content (record (state_at old beside) { slots = slots; calls = active })))
-      unfolding resume
       enter_plug beside = plug_pushed (setting_at base old) old.stack (Called old.slots old.calls) _
 
 module _ (base : js.Ground) (old : Place) (line code : ℕ) (captured : ValueList) (args : List PlainValue) where
@@ -170,6 +170,7 @@ module _ (base : js.Ground) (old new : Place) (w further : Walk) (body : PlainBo
   calls_it = enters (eval (setting_at base old)) (old.calls + 1) body (values_in w.captured) args
 
   pub walks_on : (x : PlainValue) (r : Result Step AllocError) → slice_get base.program.functions w.code ≡ Some body → nat_lt old.calls MOST_CALLS ≡ true → slice_get (values_in w.items) w.index ≡ Some x → padded body.parameters args ≡ padded body.parameters (x ∷ v.whole (pos w.index) ∷ v.list w.items ∷ []) → further ≡ record w { index = w.index + 1 } → StackFits base.program old.stack → IfOk r IsBegin → IfOk r (λ step. Leads base (pushed old (Waiting (Walked further))) calls_it new step) → IfOk r (λ step. Leads base old (walk_from (setting_at base old) w) new step)
+  unfolding resume rest
   walks_on x r found room get same is fits begins goes =
       on_ok r (λ step both. let l = both.1 in record {
         same = λ beside. l.same beside
@@ -192,7 +193,6 @@ module _ (base : js.Ground) (old new : Place) (w further : Walk) (body : PlainBo
       begun_rests (Fail k l) st st' h = absurd h
       begun_rests (Violate t) st st' h = absurd h
       element : (beside : Beside) → resume (setting_at base old) (Waiting (Walked further)) (calls_it (state_at old beside)) ≡ walk_from (setting_at base old) w (state_at old beside)
-      unfolding resume rest
       element beside =
           let g : Setting = setting_at base old in
           let s : State = state_at old beside in

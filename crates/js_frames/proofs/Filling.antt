@@ -1,6 +1,9 @@
 -- Lists that grow at their end.
 use Rattle.std.proofs.Common.{◌≡◌, ℕ, zero, suc, ◌+◌, ◌-◌, ◌≤◌, ◌<◌, List, [], ◌∷◌, ◌++◌, length, ◌∙◌, ap, sym, refl, replicate, map, take, drop, arith, append_assoc, Option, Some, None}
-use Rattle.std.proofs.lemmas.List.{replicate_more}
+use Rattle.std.proofs.lemmas.List.{replicate_more, map-append, length-map, length-append, length-take, length-replicate}
+use Rattle.js_value.specs.Value.{PlainValue, undefined}
+use Rattle.js_program.specs.PlainProgram.{PlainBody}
+use Rattle.js_meaning.specs.Variables.{padded, slots_of_call}
 use Rattle.std.specs.Prelude.{fold, slice_set, slice_get}
 use Rattle.js_frames.proofs.Lists.{drop_at}
 
@@ -23,9 +26,42 @@ length_put (x ∷ xs) zero y = refl
 length_put (x ∷ xs) (suc k) y = ap suc (length_put xs k y)
 
 -- a value that was moved behind those that are there
-pub push_next : {X : Type 0} (ys zs : List (Option X)) (xs us : List X) (k : ℕ) (x : X) {u : X} → zs ≡ ys ++ Some x ∷ [] → Some x ≡ slice_get xs k → us ≡ slice_set xs k u → zs ++ map Some (drop (k + 1) us) ≡ ys ++ map Some (drop k xs)
-push_next ys zs xs us k x {u} e get put =
+pub push_next : {X : Type 0} (ys zs : List (Option X)) (xs us : List X) (k : ℕ) (x u : X) → zs ≡ ys ++ Some x ∷ [] → Some x ≡ slice_get xs k → us ≡ slice_set xs k u → zs ++ map Some (drop (k + 1) us) ≡ ys ++ map Some (drop k xs)
+push_next ys zs xs us k x u e get put =
     ap (λ l. l ++ map Some (drop (k + 1) us)) e
     ∙ append_assoc ys (Some x ∷ []) (map Some (drop (k + 1) us))
     ∙ ap (λ l. ys ++ (Some x ∷ map Some l)) (ap (drop (k + 1)) put ∙ drop_put xs k u)
     ∙ ap (λ l. ys ++ map Some l) (sym (drop_at xs k x (sym get)))
+
+-- one more element of a fold
+pub fold_next : {X Y : Type 0} (f : Y → X → Y) (y z : Y) (xs : List X) (k : ℕ) (x : X) → slice_get xs k ≡ Some x → z ≡ f y x → fold f z (drop (k + 1) xs) ≡ fold f y (drop k xs)
+fold_next f y z xs k x get e = ap (λ q. fold f q (drop (k + 1) xs)) e ∙ ap (fold f y) (sym (drop_at xs k x get))
+
+-- one more element that was made of the next
+pub moved_next : {X Y : Type 0} (f : X → Y) (ys zs : List Y) (xs : List X) (k : ℕ) (x : X) (y : Y) → zs ≡ ys ++ y ∷ [] → slice_get xs k ≡ Some x → y ≡ f x → zs ++ map f (drop (k + 1) xs) ≡ ys ++ map f (drop k xs)
+moved_next f ys zs xs k x y e get h =
+    ap (λ l. l ++ map f (drop (k + 1) xs)) e
+    ∙ append_assoc ys (y ∷ []) (map f (drop (k + 1) xs))
+    ∙ ap (λ q. ys ++ (q ∷ map f (drop (k + 1) xs))) h
+    ∙ ap (λ l. ys ++ map f l) (sym (drop_at xs k x get))
+
+pub copied_next : {X Y : Type 0} (f : X → Y) (ys zs : List (Option Y)) (xs : List X) (k : ℕ) (x : X) (y : Y) → zs ≡ ys ++ Some y ∷ [] → slice_get xs k ≡ Some x → y ≡ f x → zs ++ map Some (map f (drop (k + 1) xs)) ≡ ys ++ map Some (map f (drop k xs))
+copied_next f ys zs xs k x y e get h =
+    ap (λ l. l ++ map Some (map f (drop (k + 1) xs))) e
+    ∙ append_assoc ys (Some y ∷ []) (map Some (map f (drop (k + 1) xs)))
+    ∙ ap (λ q. ys ++ (Some q ∷ map Some (map f (drop (k + 1) xs)))) h
+    ∙ ap (λ l. ys ++ map Some (map f l)) (sym (drop_at xs k x get))
+
+pub padded_length : (n : ℕ) (vs : List PlainValue) → length (padded n vs) ≡ n
+padded_length n vs = omega (arith, length-append (take n vs) (replicate (n - length vs) undefined), length-take n vs, length-replicate (n - length vs) undefined)
+
+-- the slots of a call, as they are made
+pub slots_made : (body : PlainBody) (captured args : List PlainValue) (start a b c d : List (Option PlainValue)) → start ≡ [] → a ≡ start ++ map Some (padded body.parameters args) → b ≡ a ++ map Some captured → c ≡ b ++ replicate (body.slots - length b) None → d ≡ fold (λ slots k. slice_set slots k (Some undefined)) c body.vars → d ≡ slots_of_call body captured args
+slots_made body captured args start a b c d none first second third fourth =
+    let given = padded body.parameters args in
+    let all : b ≡ map Some (given ++ captured) =
+        second ∙ ap (λ l. l ++ map Some captured) (first ∙ ap (λ l. l ++ map Some given) none) ∙ sym (map-append Some given captured) in
+    let count : length b ≡ body.parameters + length captured =
+        ap length all ∙ length-map (given ++ captured) Some ∙ length-append given captured ∙ ap (λ k. k + length captured) (padded_length body.parameters args) in
+    fourth ∙ ap (λ l. fold (λ slots k. slice_set slots k (Some undefined)) l body.vars)
+    (third ∙ ap (λ l. l ++ replicate (body.slots - length b) None) all ∙ ap (λ k. map Some (given ++ captured) ++ replicate (body.slots - k) None) count)

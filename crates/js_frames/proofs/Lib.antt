@@ -1,5 +1,5 @@
 mod Lists
-mod Nodes
+mod Numbers
 mod Filling
 mod Steps
 mod Becoming

@@ -59,3 +59,14 @@ pub taken_few : (ks : List (List ℕ)) (vs : List PlainValue) → length (take (
 taken_few [] vs = omega arith
 taken_few (k ∷ ks) [] = omega arith
 taken_few (k ∷ ks) (x ∷ vs) = let h = taken_few ks vs in omega arith
+
+-- one element is put, and then all are seen otherwise
+pub put_mapped : {X Y : Type 0} (f : X → Y) (xs : List X) (k : ℕ) (x : X) → map f (slice_set xs k x) ≡ slice_set (map f xs) k (f x)
+put_mapped f [] k x = refl
+put_mapped f (y ∷ ys) zero x = refl
+put_mapped f (y ∷ ys) (suc k) x = ap (λ l. f y ∷ l) (put_mapped f ys k x)
+
+pub take_put : {X : Type 0} (xs : List X) (k : ℕ) (x : X) → take k (slice_set xs k x) ≡ take k xs
+take_put [] k x = refl
+take_put (y ∷ ys) zero x = refl
+take_put (y ∷ ys) (suc k) x = ap (λ l. y ∷ l) (take_put ys k x)

@@ -1,4 +1,5 @@
 -- What the pauses of a machine say.
+use Rattle.std.proofs.lemmas.Bool.{false≢true}
 use Rattle.std.specs.Prelude.{nat_lt, IsSome}
 use Rattle.std.proofs.Common.{inl, inr, Bool, true, false, cond, ◌≡◌, ℕ, zero, suc, ◌+◌, ◌<◌, List, [], ◌∷◌, ◌++◌, length, map, Option, Some, None, refl, sym, ap, ◌∙◌, subst, arith, append_assoc, append-nil}
 use Rattle.js_data.specs.Event.{PlainEvent}
@@ -34,7 +35,7 @@ use Rattle.js_frames.specs.Places.{Place, Beside, plain_effects, place_of, setti
 use Rattle.js_frames.specs.Frames.{plain_completion, resume, plug, step_outcome, future}
 use Rattle.js_frames.specs.Leads.{Leads, IsSettled, IsHeld, Advanced, Ran, node_does}
 use Rattle.js_frames.specs.Fits.{StackFits, StepFits}
-use Rattle.js_frames.specs.Runs.{PendingFits, IsOfProgram, IsLost, Coming, Stands, untaken, asked_at, asked_by, line_asked, answer_by, constants_by, Waits, Asks, Answers, Spends, Says, Runs, pause_of, if_zero, pending_outcome, future_of}
+use Rattle.js_frames.specs.Runs.{PendingFits, IsOfProgram, IsLost, Coming, Stands, untaken, asked_at, line_at, answer_at, asked_by, line_asked, answer_by, constants_by, Waits, Asks, Answers, Spends, Says, Runs, pause_of, if_zero, pending_outcome, future_of}
 
 -- what is over passes by all frames
 module _ (g : Setting) where
@@ -97,7 +98,7 @@ calls_give g ev line (v.set x) args s c t e = cc
 body_gives : (base : js.Ground) (b : ℕ) (o : Origin) (replies : List PlainEvent) (c : js.Completion) (s : State) → evaluation base b o replies ≡ went c s → IsValue c
 unfolding evaluation
 body_gives base b the_top replies c s e = called_gives _ _ _ c s e
-body_gives base b (function mode f args) replies c s e = calls_give _ _ 0 f args _ c s e
+body_gives base b (function mode f args) replies c s e = calls_give (setting_of base b (function mode f args)) (eval (setting_of base b (function mode f args))) 0 f args _ c s e
 
 -- ---- what a pause says
 
@@ -169,7 +170,7 @@ runs_on base old new next step last nodes more pending steps a budget o replies 
     let k = h.fuel in
     let b = r.same_budget in
     let comes : (later : List PlainEvent) → future base (place_of new) last (record { taken = taken; delivered = h.delivered; replies = later }) ≡ evaluation base budget o (replies ++ later) =
-    λ later. let beside_it = record { taken = taken; delivered = h.delivered; replies = later } in
+    λ later. let beside_it : Beside = record { taken = taken; delivered = h.delivered; replies = later } in
     r.same beside_it
     ∙ ap (plug (setting_at base (place_of old.engine)) old.engine.stack.items) (steps (setting_at base (place_of old.engine)) (state_at (place_of old.engine) beside_it))
     ∙ ap (λ q. future_of base (place_of old.engine) q beside_it) (sym is)
@@ -209,11 +210,11 @@ started base budget o engine new step e l0 =
 -- what is asked is pending
 pub what_asks : (q : Pending) → IsSome (asked_at (Some q)) → (s : Value) × (p : Value) × (line : ℕ) × (q ≡ Next (Ask s p line))
 what_asks (Next (Ask s p line)) i = (s, p, line, refl)
-what_asks (Next (Begin n)) i = absurd i
-what_asks (Next (Give c)) i = absurd i
-what_asks (Next (Fail f line)) i = absurd i
-what_asks (Next (Violate t)) i = absurd i
-what_asks (Resumed event) i = absurd i
+what_asks (Next (Begin n)) i = absurd (false≢true i)
+what_asks (Next (Give c)) i = absurd (false≢true i)
+what_asks (Next (Fail f line)) i = absurd (false≢true i)
+what_asks (Next (Violate t)) i = absurd (false≢true i)
+what_asks (Resumed event) i = absurd (false≢true i)
 
 -- a machine that is resumed stands for the body with one reply more
 pub resumed : (old : Machine) (new : Engine) (event : PlainEvent) → IsSome (asked_by old) → place_of new ≡ record (place_of old.engine) { fuel = old.engine.budget } → (base : js.Ground) (budget : ℕ) (o : Origin) (replies : List PlainEvent) (begun : ℕ) (taken : List js.Effect) → Stands base budget o replies begun taken old → Stands base budget o (replies ++ event ∷ []) 0 taken (record { engine = new; pending = Some (Resumed event) })
@@ -264,7 +265,7 @@ unfolding IsOfProgram asked_by
 of_program_resumed old new event asking e program h = found old.pending asking (λ next. h next)
   where
     found : (o : Option Pending) → IsSome (asked_at o) → ((next : Pending) → o ≡ Some next → StackFits program old.engine.stack.items × PendingFits program next) → (next : Pending) → Some (Resumed event) ≡ Some next → StackFits program new.stack.items × PendingFits program next
-    found None i k next is = absurd i
+    found None i k next is = absurd (false≢true i)
     found (Some q) i k next is =
         let same : Resumed event ≡ next = cc in
         (subst (λ (p : Place). StackFits program p.stack) (sym e) (k q refl).0, subst (PendingFits program) same tt)
@@ -278,7 +279,7 @@ asks_at new (Begin n) stop e h = absurd (never new.fuel (sym e ∙ h))
     never zero is = cc
     never (suc f) is = cc
 asks_at new (Give c) stop e h = cc
-asks_at new (Ask s p line) stop e h = tt
+asks_at new (Ask s p line) stop e h = refl
 asks_at new (Fail f line) stop e h = cc
 asks_at new (Violate t) stop e h = cc
 
@@ -287,3 +288,29 @@ unfolding IsOfProgram
 of_program_started program new step fits step_fits = λ next e.
     let same : Next step ≡ next = cc in
     (fits, subst (PendingFits program) same step_fits)
+
+-- only a step at `bp.sync` asks
+pub asks_only : (q : Step) → IsSome (asked_at (Some (Next q))) → ((x : Value) (y : Value) (line : ℕ) → q ≡ Ask x y line → ⊥) → ⊥
+asks_only (Begin n) h k = false≢true h
+asks_only (Give c) h k = false≢true h
+asks_only (Ask x y line) h k = k x y line refl
+asks_only (Fail f line) h k = false≢true h
+asks_only (Violate t) h k = false≢true h
+
+-- only what completes answers
+pub completes_only : (q : Step) → IsSome (answer_at (Some (Next q))) → ((c : Completion) → q ≡ Give c → ⊥) → ⊥
+completes_only (Begin n) h k = false≢true h
+completes_only (Give c) h k = k c refl
+completes_only (Ask x y line) h k = false≢true h
+completes_only (Fail f line) h k = false≢true h
+completes_only (Violate t) h k = false≢true h
+
+pub answers_only : (c : Completion) → IsSome (answer_at (Some (Next (Give c)))) → ((x : Value) → c ≡ Normal x → ⊥) → ⊥
+answers_only (Normal x) h k = k x refl
+answers_only Broke h k = false≢true h
+answers_only Continued h k = false≢true h
+answers_only (Returned x) h k = false≢true h
+
+pub more_than_none : {X : Type 0} (fuel : ℕ) (a b : X) → (fuel ≡ 0 → ⊥) → b ≡ if_zero fuel a b
+more_than_none zero a b h = absurd (h refl)
+more_than_none (suc n) a b h = refl

@@ -43,7 +43,6 @@ fn made_function(
     answered(made(Value::Function { code, captured }), line)
 }
 
-#[tactic(none)]
 impl Engine {
     /// The value of a variable, if it is declared. Takes no memory.
     fn held<'a>(&'a self, base: &'a Ground, variable: Variable) -> Option<&'a Value>

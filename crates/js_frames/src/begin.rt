@@ -53,7 +53,6 @@ fn operand(operator: Operator, right: u32, number: u32) -> Frame
     }
 }
 
-#[tactic(none)]
 impl Engine {
     /// What a node does that has begun.
     pub fn begin(&mut self, base: &Ground, number: u32) -> Result<Step, Memory>

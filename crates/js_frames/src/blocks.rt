@@ -62,7 +62,6 @@ fn declarator_at(declared: &[Declared], place: usize) -> Option<Declared>
     declared.get(place).copied()
 }
 
-#[tactic(none)]
 impl Engine {
     /// A block: its variables are not declared yet, and its first statement begins.
     pub fn block(&mut self, base: &Ground, slots: &[u32], number: u32) -> Result<Step, Memory>
@@ -133,7 +132,8 @@ impl Engine {
     {
         match kind {
             DeclareKind::Var => {}
-            DeclareKind::Const | DeclareKind::Let => self.put(variable, Value::Undefined),
+            DeclareKind::Const => self.put(variable, Value::Undefined),
+            DeclareKind::Let => self.put(variable, Value::Undefined),
         }
     }
 

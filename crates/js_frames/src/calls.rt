@@ -55,7 +55,6 @@ pub fn first_in(content: &Content) -> Option<u32>
     }
 }
 
-#[tactic(none)]
 impl Engine {
     /// A call of a value: what is no function cannot be called, and neither can one more than 200.
     pub fn call(

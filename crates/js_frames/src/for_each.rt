@@ -52,18 +52,19 @@ fn element_args(
     let mut args = Values::new(alloc);
     let element = copy(item)?;
     args.push(element)?;
-    if wanted > 1 {
-        let place = index_value(index)?;
-        args.push(place)?;
+    if wanted <= 1 {
+        return Ok(args);
     }
-    if wanted > 2 {
-        let list = items.copy()?;
-        args.push(Value::List(list))?;
+    let place = index_value(index)?;
+    args.push(place)?;
+    if wanted <= 2 {
+        return Ok(args);
     }
+    let list = items.copy()?;
+    args.push(Value::List(list))?;
     Ok(args)
 }
 
-#[tactic(none)]
 impl Engine {
     /// `forEach` with its arguments.
     pub fn for_each(

@@ -93,7 +93,6 @@ fn json_text(alloc: Global, value: &Value) -> Result<Option<Text>, Memory>
     }
 }
 
-#[tactic(none)]
 impl Engine {
     /// In a mode where the form has no effect it is the fault `mode`.
     pub fn apply_form(

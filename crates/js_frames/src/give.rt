@@ -14,7 +14,6 @@ use crate::step::{Completion, Step, leave};
 use js_data::Memory;
 use js_value::Value;
 
-#[tactic(none)]
 impl Engine {
     /// What a frame does once what it waits for completes.
     pub fn give(

@@ -19,7 +19,6 @@ use crate::values::item_at;
 use js_data::Memory;
 use js_value::{Items, Value, copy, truthy};
 
-#[tactic(none)]
 impl Engine {
     /// A `for`: its variables are not declared yet, and its first part begins, if it has one.
     pub fn start_loop(

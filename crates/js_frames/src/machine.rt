@@ -147,8 +147,14 @@ impl Machine {
         ensures { asked_by self.now ≡ Some (plain_value result.0.now, plain_value result.1.now) }
     {
         match &self.pending {
-            Some(Pending::Next(Step::Ask(statement, priority, _))) => (statement, priority),
-            _ => unreachable!(),
+            Some(next) => match next {
+                Pending::Next(step) => match step {
+                    Step::Ask(statement, priority, _) => (statement, priority),
+                    _ => unreachable!(),
+                },
+                Pending::Resumed(_) => unreachable!(),
+            },
+            None => unreachable!(),
         }
     }
 
@@ -158,8 +164,14 @@ impl Machine {
         ensures { line_asked self.now ≡ Some result }
     {
         match &self.pending {
-            Some(Pending::Next(Step::Ask(_, _, line))) => *line,
-            _ => unreachable!(),
+            Some(next) => match next {
+                Pending::Next(step) => match step {
+                    Step::Ask(_, _, line) => *line,
+                    _ => unreachable!(),
+                },
+                Pending::Resumed(_) => unreachable!(),
+            },
+            None => unreachable!(),
         }
     }
 
@@ -169,8 +181,17 @@ impl Machine {
         ensures { answer_by self.now ≡ Some (plain_value result.now) }
     {
         match &self.pending {
-            Some(Pending::Next(Step::Give(Completion::Normal(value)))) => value,
-            _ => unreachable!(),
+            Some(next) => match next {
+                Pending::Next(step) => match step {
+                    Step::Give(completion) => match completion {
+                        Completion::Normal(value) => value,
+                        _ => unreachable!(),
+                    },
+                    _ => unreachable!(),
+                },
+                Pending::Resumed(_) => unreachable!(),
+            },
+            None => unreachable!(),
         }
     }
 

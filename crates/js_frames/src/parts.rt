@@ -121,7 +121,6 @@ fn floor_divide(alloc: Global, line: u32, mut done: Values) -> Result<Step, Memo
     answered(apply(alloc, Op::FloorDivide, &dividend, &divisor), line)
 }
 
-#[tactic(none)]
 impl Engine {
     /// The first part begins, if there is one.
     pub fn begin_parts(&mut self, base: &Ground, number: u32) -> Result<Step, Memory>

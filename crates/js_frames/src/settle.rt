@@ -9,7 +9,6 @@ use crate::ground::Ground;
 use crate::step::{Completion, Step};
 use js_data::Memory;
 
-#[tactic(none)]
 impl Engine {
     /// Goes on until a node must begin, or something else must come from outside.
     fn settle(&mut self, base: &Ground, step: Step) -> Result<Step, Memory>

@@ -85,11 +85,11 @@ impl Values {
         ensures value { plain_value result ≡ argument place self.old }
         ensures rest { self.new ≡ take place self.old }
     {
-        if place >= self.items.len() {
+        if place >= self.len() {
             return Value::Undefined;
         }
-        let value = self.items.swap_remove(place);
-        self.items.truncate(place);
+        let value = self.put_out(place);
+        self.cut(place);
         value
     }
 
@@ -136,5 +136,9 @@ pub fn item_at(items: &Items, place: usize) -> Option<&Value>
     ensures value { option_map (λ v. plain_value v.now) result ≡ slice_get (values_in items.now) place }
     ensures room { IfSome result (λ _. place + 1 < 2 ^ 64) }
 {
-    items.get(place)
+    if place < items.len() {
+        items.get(place)
+    } else {
+        None
+    }
 }

@@ -1,4 +1,4 @@
-use Rattle.std.proofs.Common.{Some, sym, ap, ◌∙◌}
+use Rattle.std.proofs.Common.{sym, ap, ◌∙◌}
 use Rattle.std.specs.Prelude.{option_map}
 use Rattle.js_data.specs.JsonText.{data_text}
 use Rattle.js_value.specs.Views.{plain_value}
@@ -7,9 +7,6 @@ use Rattle.js_meaning.specs.Forms.{log_text}
 use Rattle.js_frames.proofs.Acting.{other_text}
 use Rattle.js_frames.proofs.Becoming.{ok_means}
 use Rattle.js_frames.proofs.forms.log_text.Goals as goal
-
-pub returns-in-Event : goal.returns-in-Event
-returns-in-Event c = ap Some c.in_ok-event_text.ensures.text ∙ ap (λ x. log_text (plain_value x)) (sym c.in-Event.is)
 
 pub returns-in-List : goal.returns-in-List
 returns-in-List c = ok_means c.json_text.result _ _ (ap (λ x. option_map data_text (value_data (plain_value x))) c.in-List.is ∙ ap (λ x. log_text (plain_value x)) (sym c.in-List.is)) c.json_text.ensures

@@ -8,7 +8,7 @@ use Rattle.js_frames.specs.Places.{plain_ground, here}
 use Rattle.js_program.specs.PlainProgram.{PlainBody, content_parts}
 use Rattle.js_frames.specs.Frames.{statements_in}
 use Rattle.js_frames.specs.Fits.{AreNodes}
-use Rattle.js_frames.proofs.Nodes.{top_parts}
+use Rattle.js_frames.proofs.Numbers.{top_parts}
 use Rattle.js_frames.proofs.Steps.{means_ok}
 use Rattle.js_frames.proofs.engine.Engine.begin_top.Goals as goal
 

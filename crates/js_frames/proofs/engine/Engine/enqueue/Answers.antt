@@ -11,11 +11,11 @@ use Rattle.js_frames.proofs.engine.Engine.enqueue.Goals as goal
 
 pub returns-in-Event : goal.returns-in-Event
 returns-in-Event c = means_ok (plain_ground c.args.base.now) _ _ _ _ c.act.result c.act.ensures
-    (λ s. ap (λ e. enqueues_event c.args.line (v.event e) s) c.in_ok-copied.ensures ∙ ap (λ x. enqueues_event c.args.line (plain_value x) s) (sym c.in-Event.is) ∙ ap (λ x. enqueues_event c.args.line x s) c.take.ensures.value)
+    (λ s. ap (λ e. enqueues_event c.args.line (v.event e) s) c.in_ok-copied-in-Event.ensures ∙ ap (λ x. enqueues_event c.args.line (plain_value x) s) (sym c.in-Event.is) ∙ ap (λ x. enqueues_event c.args.line x s) c.take.ensures.value)
 
-pub returns-in_default : goal.returns-in_default
+pub returns : goal.returns
 unfolding step_outcome
-returns-in_default c =
+returns c =
     let old = place_of c.args.self.now in
     subst (Leads (plain_ground c.args.base.now) old (enqueues_event c.args.line (argument 0 c.args.args)) old) (sym c.mistyped.ensures)
     (stays (plain_ground c.args.base.now) old _ _ c.requires tt (λ s. no_event c.args.line c.take.result s c.in_default.not-Event ∙ ap (λ x. enqueues_event c.args.line x s) c.take.ensures.value))

@@ -1,4 +1,5 @@
 use Rattle.std.proofs.Common.{◌≡◌, refl, sym, ap, ◌∙◌, subst, ◌++◌, [], ◌∷◌}
+use Rattle.std.proofs.lemmas.Bool.{false≢true}
 use Rattle.std.specs.Prelude.{IsSome, IfOk}
 use Rattle.js_program.specs.Views.{plain_body, plain_content}
 use Rattle.js_value.specs.Lists.{values_in}
@@ -12,7 +13,7 @@ use Rattle.js_frames.proofs.engine.Engine.enter.Goals as goal
 pub returns-in_default : goal.returns-in_default
 returns-in_default c = record {
   goes = enter_nothing (plain_ground c.args.base.now) (place_of c.args.self.now) (plain_body c.args.body.now) c.args.active (values_in c.args.captured.now) c.args.args _ c.leave.ensures c.requires.fits (sym c.in_default.ensures);
-  begins = λ h. absurd (subst IsSome (sym c.in_default.ensures) h);
+  begins = λ h. absurd (false≢true (subst IsSome (sym c.in_default.ensures) h));
   effects = refl;
 }
 

@@ -33,8 +33,8 @@ returns-in-Binary c = wait_leads (plain_ground c.args.base.now) (place_of c.args
     (part_is (plain_ground c.args.base.now) (place_of c.args.self.now) c.args.number c.node_of-node.result.now c.node_of-node.ensures.node _ c.in-Binary.is c.node_of-node.ensures.parts 1 _ refl)
     (λ s. second_waits (here c.args.base.now c.args.self.now) c.args.number c.node_of-node.result.now c.node_of-node.ensures.node _ c.in-Binary.is s c.args.value _ refl)
 
-pub unreachable-requires : goal.unreachable-requires
-unreachable-requires c = short_only (let n = c.node_of-node.result.now in n.form) (form_here IsShort (let b = c.args.base.now in b.program) c.args.number c.node_of-node.result.now c.node_of-node.ensures.node c.requires.form) c.in_default.not-Member c.in_default.not-Unary c.in_default.not-Index c.in_default.not-Binary
+pub unreachable-unreachable : goal.unreachable-unreachable
+unreachable-unreachable c = short_only (let n = c.node_of-node.result.now in n.form) (form_here IsShort (let b = c.args.base.now in b.program) c.args.number c.node_of-node.result.now c.node_of-node.ensures.node c.requires.form) c.in_default.not-Member c.in_default.not-Unary c.in_default.not-Index c.in_default.not-Binary
 
 pub node_of-node-requires : goal.node_of-node-requires
 node_of-node-requires c = c.requires.number

@@ -19,9 +19,9 @@ returns-in-None c =
     ap (λ l. answered c.args.line (made (v.function c.args.code (value_list_of (map plain_value l)))) (state_at old b)) c.new.ensures.items
     ∙ ap (λ o. answered c.args.line (made (v.function c.args.code (value_list_of (captured (let q : PlainBody = unwrap_or o no_body in q.captures) old.slots)))) (state_at old b)) c.in-None.ensures)
 
-pub returns-in-Some : goal.returns-in-Some
-returns-in-Some c =
+pub returns-in_ok-values-in-Some : goal.returns-in_ok-values-in-Some
+returns-in_ok-values-in-Some c =
     let old = place_of c.args.self.now in
     becomes_at_ok (plain_ground c.args.base.now) old _ _ c.made_function-in-Some.result c.requires c.made_function-in-Some.ensures (λ b.
-    ap (λ l. answered c.args.line (made (v.function c.args.code (value_list_of l))) (state_at old b)) c.in_ok-values.ensures
+    ap (λ l. answered c.args.line (made (v.function c.args.code (value_list_of l))) (state_at old b)) c.in_ok-values-in-Some.ensures
     ∙ ap (λ o. answered c.args.line (made (v.function c.args.code (value_list_of (captured (let q : PlainBody = unwrap_or o no_body in q.captures) old.slots)))) (state_at old b)) c.in-Some.ensures)

@@ -13,9 +13,9 @@ pub returns-in-Function : goal.returns-in-Function
 returns-in-Function c = means_ok (plain_ground c.args.base.now) _ _ _ _ c.act.result c.act.ensures
     (λ s. ap (λ x. sets_handler c.args.line (plain_value x) s) (sym c.in-Function.is) ∙ ap (λ x. sets_handler c.args.line x s) c.take.ensures.value)
 
-pub returns-in_default : goal.returns-in_default
+pub returns : goal.returns
 unfolding step_outcome
-returns-in_default c =
+returns c =
     let old = place_of c.args.self.now in
     subst (Leads (plain_ground c.args.base.now) old (sets_handler c.args.line (argument 0 c.args.args)) old) (sym c.mistyped.ensures)
     (stays (plain_ground c.args.base.now) old _ _ c.requires tt (λ s. no_handler c.args.line c.take.result s c.in_default.not-Function ∙ ap (λ x. sets_handler c.args.line x s) c.take.ensures.value))

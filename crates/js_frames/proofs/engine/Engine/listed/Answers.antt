@@ -14,9 +14,9 @@ returns-in-List c =
     let g = here c.args.base.now c.args.self.now in
     means_ok (plain_ground c.args.base.now) _ _ _ _ c.each.result c.each.ensures (λ s. ap (λ v. each_of (eval g) c.args.line c.args.slot c.args.body (plain_value v) s) (sym c.in-List.is))
 
-pub returns-in_default : goal.returns-in_default
+pub returns : goal.returns
 unfolding step_outcome
-returns-in_default c =
+returns c =
     let g = here c.args.base.now c.args.self.now in
     let old = place_of c.args.self.now in
     subst (Leads (plain_ground c.args.base.now) old (each_of (eval g) c.args.line c.args.slot c.args.body (plain_value c.args.value)) old) (sym c.mistyped.ensures)

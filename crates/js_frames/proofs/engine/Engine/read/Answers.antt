@@ -15,11 +15,11 @@ returns-in-None c =
     let old = place_of c.args.self.now in
     fails_at base old _ fault.Early c.args.line c.requires (λ b. ap (λ o. if_declared c.args.line o gives (state_at old b)) (c.in-None.ensures ∙ sym (held_here base c.args.variable old b)))
 
-pub returns-in-Some : goal.returns-in-Some
-returns-in-Some c =
+pub returns-in_ok-copied-in-Some : goal.returns-in_ok-copied-in-Some
+returns-in_ok-copied-in-Some c =
     let base = plain_ground c.args.base.now in
     let old = place_of c.args.self.now in
     subst (Leads base old (λ s. if_declared c.args.line (held base c.args.variable s) gives s) old) (sym c.give.ensures)
-    (completes_at base old _ (Normal c.in_ok-copied.copied) c.requires (λ b.
-    ap (λ y. gives y (state_at old b)) c.in_ok-copied.ensures
+    (completes_at base old _ (Normal c.in_ok-copied-in-Some.copied) c.requires (λ b.
+    ap (λ y. gives y (state_at old b)) c.in_ok-copied-in-Some.ensures
     ∙ ap (λ o. if_declared c.args.line o gives (state_at old b)) (c.in-Some.ensures ∙ sym (held_here base c.args.variable old b))))

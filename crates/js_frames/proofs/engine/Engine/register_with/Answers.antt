@@ -11,7 +11,7 @@ use Rattle.js_frames.proofs.engine.Engine.register_with.Goals as goal
 
 pub returns-in-Words : goal.returns-in-Words
 returns-in-Words c = means_ok (plain_ground c.args.base.now) _ _ _ _ c.register_named.result c.register_named.ensures
-    (λ s. ap (λ x. registers_thread c.args.line (plain_value x) (plain_value c.args.function) s) (sym c.in-Words.is))
+    (λ s. ap (λ n. registers_thread c.args.line (v.words n) (plain_value c.args.function) s) c.deref.ensures ∙ ap (λ x. registers_thread c.args.line (plain_value x) (plain_value c.args.function) s) (sym c.in-Words.is))
 
 pub register_named-requires : goal.register_named-requires
 register_named-requires c = c.requires

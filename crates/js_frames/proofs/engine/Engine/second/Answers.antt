@@ -17,8 +17,8 @@ pub returns-in-Binary : goal.returns-in-Binary
 returns-in-Binary c = becomes_ok (plain_ground c.args.base.now) (place_of c.args.self.now) _ _ c.answered-in-Binary.result c.requires.fits (c.answered-in-Binary.ensures _ (subst (λ o. AnswersAs (by_rule o (plain_value c.args.first) (plain_value c.args.value)) c.by_rule.result) c.op_for.ensures c.by_rule.ensures))
     (λ s. parts_with (here c.args.base.now c.args.self.now) c.args.number c.node_of-node.result.now c.node_of-node.ensures.node _ c.in-Binary.is s (plain_value c.args.first ∷ plain_value c.args.value ∷ []))
 
-pub unreachable-requires : goal.unreachable-requires
-unreachable-requires c = double_only (let n = c.node_of-node.result.now in n.form) (form_here IsDouble (let b = c.args.base.now in b.program) c.args.number c.node_of-node.result.now c.node_of-node.ensures.node c.requires.form) c.in_default.not-Index c.in_default.not-Binary
+pub unreachable-unreachable : goal.unreachable-unreachable
+unreachable-unreachable c = double_only (let n = c.node_of-node.result.now in n.form) (form_here IsDouble (let b = c.args.base.now in b.program) c.args.number c.node_of-node.result.now c.node_of-node.ensures.node c.requires.form) c.in_default.not-Index c.in_default.not-Binary
 
 pub node_of-node-requires : goal.node_of-node-requires
 node_of-node-requires c = c.requires.number

@@ -1,4 +1,7 @@
-use Rattle.std.proofs.Common.{refl, sym, ap}
+use Rattle.std.proofs.Common.{[], refl, sym, ap, ◌∙◌}
+use Rattle.js_value.specs.declared.op.Make.TheVariants as make
+use Rattle.js_ops.specs.Making.{make_of}
+use Rattle.js_meaning.specs.State.{answered}
 use Rattle.js_meaning.specs.Forms.{takes_effect}
 use Rattle.js_frames.specs.Places.{plain_ground, place_of, here}
 use Rattle.js_frames.proofs.Steps.{means_ok, becomes_ok, becomes}
@@ -29,10 +32,10 @@ pub log-requires : goal.log-requires
 log-requires c = c.requires
 
 pub returns-in-Event : goal.returns-in-Event
-returns-in-Event c = becomes_ok (plain_ground c.args.base.now) (place_of c.args.self.now) _ _ c.answered.result c.requires (c.answered.ensures _ c.make.ensures) (λ s. ap (λ f. takes_effect (let m = c.args.self.now in m.budget) c.args.line f c.args.args s) (sym c.in-Event.is))
+returns-in-Event c = becomes_ok (plain_ground c.args.base.now) (place_of c.args.self.now) _ _ c.answered.result c.requires (c.answered.ensures _ c.make.ensures) (λ s. ap (λ vs. answered c.args.line (make_of make.Event vs []) s) c.as_slice.ensures ∙ ap (λ f. takes_effect (let m = c.args.self.now in m.budget) c.args.line f c.args.args s) (sym c.in-Event.is))
 
 pub returns-in-EventSet : goal.returns-in-EventSet
-returns-in-EventSet c = becomes_ok (plain_ground c.args.base.now) (place_of c.args.self.now) _ _ c.answered-in-EventSet.result c.requires (c.answered-in-EventSet.ensures _ c.make-in-EventSet.ensures) (λ s. ap (λ f. takes_effect (let m = c.args.self.now in m.budget) c.args.line f c.args.args s) (sym c.in-EventSet.is))
+returns-in-EventSet c = becomes_ok (plain_ground c.args.base.now) (place_of c.args.self.now) _ _ c.answered-in-EventSet.result c.requires (c.answered-in-EventSet.ensures _ c.make-in-EventSet.ensures) (λ s. ap (λ vs. answered c.args.line (make_of make.Set vs []) s) c.as_slice-in-EventSet.ensures ∙ ap (λ f. takes_effect (let m = c.args.self.now in m.budget) c.args.line f c.args.args s) (sym c.in-EventSet.is))
 
 pub returns-in-All : goal.returns-in-All
 returns-in-All c = becomes_ok (plain_ground c.args.base.now) (place_of c.args.self.now) _ _ c.set.result c.requires c.set.ensures (λ s. ap (λ f. takes_effect (let m = c.args.self.now in m.budget) c.args.line f c.args.args s) (sym c.in-All.is))

@@ -16,8 +16,8 @@ returns-then-truthy c =
     let g = here c.args.base.now c.args.self.now in
     means_ok (plain_ground c.args.base.now) _ _ _ _ c.turn.result c.turn.ensures (λ s. if_true (is_truthy (plain_value c.args.value)) (λ now. after_turn (eval g (let t = c.args.turns in t.body) now) (again g (OfLoop c.args.turns))) leaves s c.if-truthy.ensures)
 
-pub returns-else-truthy : goal.returns-else-truthy
+pub returns : goal.returns
 unfolding rest again
-returns-else-truthy c =
+returns c =
     let g = here c.args.base.now c.args.self.now in
     left (plain_ground c.args.base.now) _ _ _ c.leave.ensures c.requires.fits (λ s. if_false (is_truthy (plain_value c.args.value)) (λ now. after_turn (eval g (let t = c.args.turns in t.body) now) (again g (OfLoop c.args.turns))) leaves s c.if-truthy.ensures)

@@ -6,7 +6,7 @@ use Rattle.js_meaning.specs.Calls.{no_body}
 use Rattle.js_frames.specs.Leads.{first_of}
 use Rattle.js_frames.specs.Places.{plain_ground, place_of}
 use Rattle.js_program.specs.Views.{plain_body}
-use Rattle.js_frames.proofs.Nodes.{function_parts}
+use Rattle.js_frames.proofs.Numbers.{function_parts}
 use Rattle.js_frames.proofs.Calling.{walk_over, walk_too_deep, walk_nothing}
 use Rattle.js_frames.proofs.engine.Engine.walk.Goals as goal
 
@@ -33,7 +33,7 @@ walk_on-requires c =
       places = c.in-Some.ensures.room;
       found = sym c.in-Some-2.ensures;
       parts = function_parts program (let w = c.args.walk in w.code) (plain_body c.in-Some-2.body.now) c.keeps.ensures (sym c.in-Some-2.ensures);
-      starts = subst IsSome c.in-Some-3.ensures tt;
+      starts = subst IsSome c.in-Some-3.ensures refl;
       args = (_, sym c.in-Some.ensures.value, c.in_ok-args.ensures);
       fits = c.requires;
     }

@@ -8,7 +8,7 @@ use Rattle.js_meaning.specs.Calls.{enters}
 use Rattle.js_meaning.specs.Meaning.{eval}
 use Rattle.js_frames.specs.Places.{Place, plain_ground, place_of, setting_at, here}
 use Rattle.js_frames.specs.Fits.{StackFits}
-use Rattle.js_frames.proofs.Nodes.{function_statements}
+use Rattle.js_frames.proofs.Numbers.{function_statements}
 use Rattle.js_frames.proofs.Steps.{means_ok}
 use Rattle.js_frames.proofs.Calling.{walks_on}
 use Rattle.js_frames.proofs.engine.Engine.walk_on.Goals as goal

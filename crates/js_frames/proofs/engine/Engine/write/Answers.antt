@@ -6,12 +6,12 @@ use Rattle.js_frames.specs.Leads.{Leads}
 use Rattle.js_frames.proofs.Writing.{written, failed_goes}
 use Rattle.js_frames.proofs.engine.Engine.write.Goals as goal
 
-pub returns-in-Ok : goal.returns-in-Ok
-returns-in-Ok c = λ a h.
+pub returns-in_ok-copied-in-Ok : goal.returns-in_ok-copied-in-Ok
+returns-in_ok-copied-in-Ok c = λ a h.
     let base = plain_ground c.args.base.now in
     let old = place_of c.args.self.now in
     subst (Leads base old (writes c.args.line c.args.slot a) (record old { slots = c.set.new.self })) (sym c.give.ensures)
-    (written base old c.args.slot c.args.line c.requires c.set.new.self c.in-Ok.value c.in_ok-copied.copied a (subst (AnswersAs a) c.in-Ok.is h) c.in_ok-copied.ensures c.set.ensures)
+    (written base old c.args.slot c.args.line c.requires c.set.new.self c.in-Ok.value c.in_ok-copied-in-Ok.copied a (subst (AnswersAs a) c.in-Ok.is h) c.in_ok-copied-in-Ok.ensures c.set.ensures)
 
 pub returns-in-Err : goal.returns-in-Err
 returns-in-Err c = λ a h.

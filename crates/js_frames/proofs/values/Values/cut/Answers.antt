@@ -1,0 +1,7 @@
+use Rattle.std.proofs.Common.{sym, ap, ◌∙◌, map, take}
+use Rattle.std.proofs.lemmas.List.{take-map}
+use Rattle.js_value.specs.Views.{plain_value}
+use Rattle.js_frames.proofs.values.Values.cut.Goals as goal
+
+pub returns : goal.returns
+returns c = ap (map plain_value) c.truncate.ensures.items ∙ sym (take-map plain_value c.args.count (let q = c.args.self.now in q.items.items))
