@@ -6,13 +6,17 @@ use Rattle.js_data.specs.declared.fault.Fault.{Fault}
 use Rattle.js_value.specs.Value.{PlainValue}
 use Rattle.js_value.specs.Views.{plain_value}
 use Rattle.js_value.specs.declared.value.Value.{Value}
-use Rattle.js_meaning.specs.State.{State, Setting, Outcome, violated, left_of, gives, breaks}
+use Rattle.js_meaning.specs.State.{State, Setting, Outcome, violated, left_of, gives, breaks, answered}
 use Rattle.js_meaning.specs.Forms.{asks}
 use Rattle.js_frames.specs.declared.step.Completion.TheVariants.{Normal}
 use Rattle.js_frames.specs.declared.step.Step.{Step}
 use Rattle.js_frames.specs.declared.step.Step.TheVariants.{Give, Ask, Fail, Violate}
 use Rattle.js_frames.specs.Frames.{step_outcome}
-use Rattle.js_frames.specs.Leads.{Becomes}
+use Rattle.js_ops.specs.Made.{Answer}
+use Rattle.js_ops.specs.Answers.{AnswersAs}
+use Rattle.js_ops.specs.declared.op_fault.OpFault.{OpFault}
+use Rattle.js_ops.specs.declared.op_fault.OpFault.TheVariants as op_fault
+use Rattle.js_frames.specs.Leads.{Becomes, FailsAs}
 
 pub gives_so : (o : Setting → State → Outcome) (step : Step) (x : Value) → step ≡ Give (Normal x) → ((g : Setting) (s : State) → gives (plain_value x) s ≡ o g s) → Becomes o step
 unfolding step_outcome
@@ -38,3 +42,10 @@ becomes_as o q (Err e) h b = tt
 pub ok_means : {X : Type 0} (r : Result X AllocError) (a b : X) → a ≡ b → IfOk r (λ x. x ≡ a) → IfOk r (λ x. x ≡ b)
 ok_means (Ok x) a b e h = h ∙ e
 ok_means (Err x) a b e h = tt
+
+-- a fault of an operator
+pub fails_as : (a : Answer) (fault : OpFault) (line : ℕ) (r : Result Step AllocError) → AnswersAs a (Err fault) → FailsAs fault line r → IfOk r (Becomes (λ g. answered line a))
+fails_as a (op_fault.Fault f) line (Ok step) h e = fails_so _ step f line e (λ g s. ap (λ q. answered line q s) (sym h))
+fails_as a (op_fault.Fault f) line (Err x) h e = tt
+fails_as a op_fault.Memory line (Ok step) h e = absurd e
+fails_as a op_fault.Memory line (Err x) h e = tt

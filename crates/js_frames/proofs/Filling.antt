@@ -1,5 +1,5 @@
 -- Lists that grow at their end.
-use Rattle.std.proofs.Common.{◌≡◌, ℕ, zero, suc, ◌+◌, ◌-◌, ◌≤◌, ◌<◌, List, [], ◌∷◌, ◌++◌, length, ◌∙◌, ap, sym, refl, replicate, map, take, drop, arith, append_assoc, Option, Some, None}
+use Rattle.std.proofs.Common.{◌≡◌, ℕ, zero, suc, ◌+◌, ◌-◌, ◌≤◌, ◌<◌, List, [], ◌∷◌, ◌++◌, length, ◌∙◌, ap, sym, refl, replicate, map, take, drop, arith, append_assoc, Option, Some, None, inl, inr, ◌⊎◌}
 use Rattle.std.proofs.lemmas.List.{replicate_more, map-append, length-map, length-append, length-take, length-replicate}
 use Rattle.js_value.specs.Value.{PlainValue, undefined}
 use Rattle.js_program.specs.PlainProgram.{PlainBody}
@@ -65,3 +65,9 @@ slots_made body captured args start a b c d none first second third fourth =
         ap length all ∙ length-map (given ++ captured) Some ∙ length-append given captured ∙ ap (λ k. k + length captured) (padded_length body.parameters args) in
     fourth ∙ ap (λ l. fold (λ slots k. slice_set slots k (Some undefined)) l body.vars)
     (third ∙ ap (λ l. l ++ replicate (body.slots - length b) None) all ∙ ap (λ k. map Some (given ++ captured) ++ replicate (body.slots - k) None) count)
+
+-- filled up to a count, or past it from the start
+pub filled : {X : Type 0} (x : X) (xs ys : List X) (start counter count : ℕ) → ys ≡ xs ++ replicate (counter - start) x → start ≤ counter → (counter ≡ start) ⊎ (counter ≤ count) → count ≤ counter → ys ≡ xs ++ replicate (count - start) x
+filled x xs ys start counter count e le so over =
+    let n : counter - start ≡ count - start = elim so [ inl same ↦ omega arith | inr few ↦ omega arith ] in
+    e ∙ ap (λ k. xs ++ replicate k x) n

@@ -310,7 +310,3 @@ answers_only (Normal x) h k = k x refl
 answers_only Broke h k = false≢true h
 answers_only Continued h k = false≢true h
 answers_only (Returned x) h k = false≢true h
-
-pub more_than_none : {X : Type 0} (fuel : ℕ) (a b : X) → (fuel ≡ 0 → ⊥) → b ≡ if_zero fuel a b
-more_than_none zero a b h = absurd (h refl)
-more_than_none (suc n) a b h = refl

@@ -136,7 +136,7 @@ impl Slots {
     fn fill(&mut self, count: usize) -> Result<(), Memory>
         ensures { OnOk result (self.new ≡ self.old ++ replicate (count - length self.old) None) }
     {
-        for _ in self.items.len()..count {
+        for _ in self.len()..count {
             self.push(None)?;
         }
         Ok(())

@@ -63,8 +63,7 @@ pub fn answered(answer: Result<Value, OpFault>, line: u32) -> Result<Step, Memor
 {
     match answer {
         Ok(value) => Ok(give(value)),
-        Err(OpFault::Fault(fault)) => Ok(Step::Fail(fault, line)),
-        Err(OpFault::Memory) => Err(AllocError),
+        Err(fault) => failed(fault, line),
     }
 }
 

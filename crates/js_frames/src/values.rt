@@ -115,9 +115,9 @@ impl Values {
     pub fn pad(&mut self, count: usize) -> Result<(), Memory>
         ensures { OnOk result (self.new ≡ padded count self.old) }
     {
-        self.items.truncate(count);
-        for _ in self.items.len()..count {
-            self.items.push(Value::Undefined)?;
+        self.cut(count);
+        for _ in self.len()..count {
+            self.push(Value::Undefined)?;
         }
         Ok(())
     }

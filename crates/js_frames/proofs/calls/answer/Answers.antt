@@ -7,5 +7,5 @@ use Rattle.js_frames.proofs.calls.answer.Goals as goal
 pub returns-in-Returned : goal.returns-in-Returned
 returns-in-Returned c = ap (λ q. answer_of (plain_completion q)) (sym c.in-Returned.is)
 
-pub returns-in_default : goal.returns-in_default
-returns-in_default c = no_answer c.args.completion c.in_default.not-Returned
+pub returns : goal.returns
+returns c = no_answer c.args.completion c.in_default.not-Returned

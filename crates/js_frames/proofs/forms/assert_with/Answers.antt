@@ -20,6 +20,6 @@ returns-then-truthy c = gives_so _ _ Undefined c.leave.ensures (λ g s.
 
 pub returns-in_ok-copied : goal.returns-in_ok-copied
 returns-in_ok-copied c = violates_so _ c.in_ok-copied.copied (λ g s.
-    ap (λ t. violated t (left_of s)) c.in_ok-copied.ensures
+    ap (λ t. violated t (left_of s)) (c.in_ok-copied.ensures ∙ c.deref.ensures)
     ∙ if_false (is_truthy (plain_value c.args.condition.now)) leaves _ s c.if-truthy.ensures
     ∙ ap (λ t. asserted c.args.line (plain_value c.args.condition.now) (plain_value t) s) (sym c.in-Words.is))

@@ -1,4 +1,5 @@
-use Rattle.std.proofs.Common.{Some}
+use Rattle.std.proofs.Common.{Some, sym, ap, ◌∙◌}
+use Rattle.std.specs.Prelude.{option_map}
 use Rattle.js_data.specs.Views.{plain_data}
 use Rattle.js_value.specs.Views.{plain_value}
 use Rattle.js_value.proofs.Sorted.{sorted_extra}

@@ -3,8 +3,12 @@ use Rattle.std.proofs.Common.{◌≡◌, [], refl, sym, ap, ◌∙◌, subst, So
 use Rattle.js_frames.specs.declared.frame.Part.TheVariants.{Choice}
 use Rattle.js_frames.specs.declared.frame.Frame.TheVariants.{Waiting}
 use Rattle.js_frames.specs.Places.{plain_ground, place_of, here}
-use Rattle.js_frames.specs.Fits.{IsShort, IsLong, IsDeclaration, TurnsFit}
-use Rattle.js_frames.specs.Frames.{rest, resume, loop, starts_loop}
+use Rattle.js_frames.specs.Fits.{AreNodes, IsShort, IsLong, IsDeclaration, TurnsFit}
+use Rattle.js_meaning.specs.Variables.{undeclare}
+use Rattle.js_program.specs.PlainProgram.{parts_of}
+use Rattle.js_program.specs.Views.{plain_node_form}
+use Rattle.js_frames.specs.declared.frame.Sequence.TheVariants.{Block}
+use Rattle.js_frames.specs.Frames.{rest, resume, loop, starts_loop, sequence_from}
 use Rattle.js_frames.specs.Leads.{operand_frame}
 use Rattle.js_frames.proofs.Steps.{begin_means, begin_waits, begin_gives, part_is, has_form, becomes_ok}
 use Rattle.js_frames.proofs.Beginning.{wait_for, long_begins, short_begins, operand_begins, operand_fits, block_begins, declaration_begins, for_parts}
@@ -106,7 +110,7 @@ pub assign-requires-clause-part : goal.assign-requires-clause-part
 assign-requires-clause-part c = part_is (plain_ground c.args.base.now) (place_of c.args.self.now) c.args.number c.node_of-node.result.now c.node_of-node.ensures.node _ c.in-Assign.is c.node_of-node.ensures.parts 0 _ refl
 
 pub returns-in-Block : goal.returns-in-Block
-returns-in-Block c = begin_means (plain_ground c.args.base.now) (place_of c.args.self.now) c.args.number c.node_of-node.result.now c.node_of-node.ensures.node _ c.in-Block.is _ c.block.result _ c.block.ensures (λ s. block_begins (here c.args.base.now c.args.self.now) c.args.number c.node_of-node.result.now c.node_of-node.ensures.node _ _ c.in-Block.is s)
+returns-in-Block c = begin_means (plain_ground c.args.base.now) (place_of c.args.self.now) c.args.number c.node_of-node.result.now c.node_of-node.ensures.node _ c.in-Block.is _ c.block.result _ c.block.ensures (λ s. ap (λ ks. sequence_from (here c.args.base.now c.args.self.now) (Block c.args.number) 0 (undeclare ks s)) c.deref.ensures.value ∙ block_begins (here c.args.base.now c.args.self.now) c.args.number c.node_of-node.result.now c.node_of-node.ensures.node _ _ c.in-Block.is s)
 
 pub returns-in-Declaration : goal.returns-in-Declaration
 returns-in-Declaration c = begin_means (plain_ground c.args.base.now) (place_of c.args.self.now) c.args.number c.node_of-node.result.now c.node_of-node.ensures.node _ c.in-Declaration.is _ c.go_on_declaring.result _ c.go_on_declaring.ensures (λ s. declaration_begins (here c.args.base.now c.args.self.now) c.args.number c.node_of-node.result.now c.node_of-node.ensures.node _ _ c.in-Declaration.is s)
@@ -127,4 +131,12 @@ pub test-requires-clause-turns : goal.test-requires-clause-turns
 test-requires-clause-turns c = subst (TurnsFit (let p = c.args.base.now in p.program)) (sym c.turns.ensures) (record { test = part_is (plain_ground c.args.base.now) (place_of c.args.self.now) c.args.number c.node_of-node.result.now c.node_of-node.ensures.node _ c.in-While.is c.node_of-node.ensures.parts 0 _ refl; body = part_is (plain_ground c.args.base.now) (place_of c.args.self.now) c.args.number c.node_of-node.result.now c.node_of-node.ensures.node _ c.in-While.is c.node_of-node.ensures.parts 1 _ refl; next = tt })
 
 pub returns-in-For : goal.returns-in-For
-returns-in-For c = begin_means (plain_ground c.args.base.now) (place_of c.args.self.now) c.args.number c.node_of-node.result.now c.node_of-node.ensures.node _ c.in-For.is _ c.start_loop.result _ c.start_loop.ensures (λ s. ap (λ t. starts_loop (here c.args.base.now c.args.self.now) (let v = c.in-For.slots in v.items) c.in-For.first t s) c.turns-in-For.ensures)
+returns-in-For c = begin_means (plain_ground c.args.base.now) (place_of c.args.self.now) c.args.number c.node_of-node.result.now c.node_of-node.ensures.node _ c.in-For.is _ c.start_loop.result _ c.start_loop.ensures (λ s. ap (λ ks. starts_loop (here c.args.base.now c.args.self.now) ks c.in-For.first c.turns-in-For.result s) c.deref-in-For.ensures.value ∙ ap (λ t. starts_loop (here c.args.base.now c.args.self.now) (let v = c.in-For.slots in v.items) c.in-For.first t s) c.turns-in-For.ensures)
+
+pub start_loop-requires-clause-first : goal.start_loop-requires-clause-first
+start_loop-requires-clause-first c = (for_parts (let p = c.args.base.now in p.program) c.in-For.first c.in-For.test c.in-For.next c.in-For.body (subst (λ f. AreNodes (let p = c.args.base.now in p.program) (parts_of (plain_node_form f))) c.in-For.is c.node_of-node.ensures.parts)).0
+
+pub start_loop-requires-clause-turns : goal.start_loop-requires-clause-turns
+start_loop-requires-clause-turns c =
+    let h = for_parts (let p = c.args.base.now in p.program) c.in-For.first c.in-For.test c.in-For.next c.in-For.body (subst (λ f. AreNodes (let p = c.args.base.now in p.program) (parts_of (plain_node_form f))) c.in-For.is c.node_of-node.ensures.parts) in
+    subst (TurnsFit (let p = c.args.base.now in p.program)) (sym c.turns-in-For.ensures) (record { test = h.1.0; next = h.1.1.0; body = h.1.1.1 })

@@ -17,9 +17,9 @@ returns-in-Function c =
       effects = c.call_function.ensures.effects;
     }
 
-pub returns-in_default : goal.returns-in_default
+pub returns : goal.returns
 unfolding step_outcome
-returns-in_default c =
+returns c =
     let g = here c.args.base.now c.args.self.now in
     let old = place_of c.args.self.now in
     record {

@@ -1,8 +1,11 @@
-use Rattle.std.proofs.Common.{refl, sym, ap}
+use Rattle.std.proofs.Common.{refl, sym, ap, ◌∙◌}
 use Rattle.js_program.specs.Views.{plain_node_form}
 use Rattle.js_meaning.specs.Expressions.{combines}
 use Rattle.js_meaning.specs.Meaning.{eval}
 use Rattle.js_frames.specs.Places.{plain_ground, place_of, here}
+use Rattle.js_value.specs.declared.op.Make.TheVariants as make
+use Rattle.js_ops.specs.Making.{make_of}
+use Rattle.js_meaning.specs.State.{answered}
 use Rattle.js_frames.proofs.Steps.{means_ok, becomes_ok}
 use Rattle.js_frames.proofs.Beginning.{long_only}
 use Rattle.js_frames.proofs.engine.Engine.combine.Goals as goal
@@ -11,7 +14,7 @@ pub returns-in-List : goal.returns-in-List
 returns-in-List c = becomes_ok (plain_ground c.args.base.now) (place_of c.args.self.now) _ _ c.answered.result c.requires.fits (c.answered.ensures _ c.made_list.ensures) (λ s. ap (λ f. combines (here c.args.base.now c.args.self.now) (eval (here c.args.base.now c.args.self.now)) (let n = c.args.node.now in n.line) (plain_node_form f) c.args.done s) (sym c.in-List.is))
 
 pub returns-in-Fields : goal.returns-in-Fields
-returns-in-Fields c = becomes_ok (plain_ground c.args.base.now) (place_of c.args.self.now) _ _ c.answered-in-Fields.result c.requires.fits (c.answered-in-Fields.ensures _ c.made_fields.ensures) (λ s. ap (λ f. combines (here c.args.base.now c.args.self.now) (eval (here c.args.base.now c.args.self.now)) (let n = c.args.node.now in n.line) (plain_node_form f) c.args.done s) (sym c.in-Fields.is))
+returns-in-Fields c = becomes_ok (plain_ground c.args.base.now) (place_of c.args.self.now) _ _ c.answered-in-Fields.result c.requires.fits (c.answered-in-Fields.ensures _ c.made_fields.ensures) (λ s. ap (λ ks. answered (let n = c.args.node.now in n.line) (make_of make.Fields c.args.done ks) s) c.deref.ensures.value ∙ ap (λ f. combines (here c.args.base.now c.args.self.now) (eval (here c.args.base.now c.args.self.now)) (let n = c.args.node.now in n.line) (plain_node_form f) c.args.done s) (sym c.in-Fields.is))
 
 pub returns-in-Call : goal.returns-in-Call
 returns-in-Call c = means_ok (plain_ground c.args.base.now) _ _ _ _ c.combine_call.result c.combine_call.ensures (λ s. ap (λ f. combines (here c.args.base.now c.args.self.now) (eval (here c.args.base.now c.args.self.now)) (let n = c.args.node.now in n.line) (plain_node_form f) c.args.done s) (sym c.in-Call.is))

@@ -11,5 +11,5 @@ pub returns : goal.returns
 returns c =
     let g = here c.args.base.now c.args.self.now in
     means_ok (plain_ground c.args.base.now) _ _ _ _ c.call.result c.call.ensures.goes
-    (λ s. ap (λ f. calls g (eval g) c.args.line f c.take_first-function.new.done s) c.take_first-function.ensures.value
+    (λ s. ap (λ f. calls g (eval g) c.args.line f c.take_first-function.new.self s) c.take_first-function.ensures.value
     ∙ ap (λ vs. calls g (eval g) c.args.line (argument 0 c.args.done) vs s) c.take_first-function.ensures.rest)

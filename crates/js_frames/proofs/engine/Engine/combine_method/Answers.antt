@@ -11,5 +11,5 @@ pub returns : goal.returns
 returns c =
     let g = here c.args.base.now c.args.self.now in
     means_ok (plain_ground c.args.base.now) _ _ _ _ c.call_method.result c.call_method.ensures
-    (λ s. ap (λ f. calls_method g (eval g) c.args.line c.args.word.now f c.take_first-on.new.done s) c.take_first-on.ensures.value
+    (λ s. ap (λ f. calls_method g (eval g) c.args.line c.args.word.now f c.take_first-on.new.self s) c.take_first-on.ensures.value
     ∙ ap (λ vs. calls_method g (eval g) c.args.line c.args.word.now (argument 0 c.args.done) vs s) c.take_first-on.ensures.rest)

@@ -11,7 +11,7 @@ use Rattle.js_frames.proofs.engine.Engine.enqueue.Goals as goal
 
 pub returns-in-Event : goal.returns-in-Event
 returns-in-Event c = means_ok (plain_ground c.args.base.now) _ _ _ _ c.act.result c.act.ensures
-    (λ s. ap (λ e. enqueues_event c.args.line (v.event e) s) c.in_ok-copied-in-Event.ensures ∙ ap (λ x. enqueues_event c.args.line (plain_value x) s) (sym c.in-Event.is) ∙ ap (λ x. enqueues_event c.args.line x s) c.take.ensures.value)
+    (λ s. ap (λ e. enqueues_event c.args.line (v.event e) s) (c.in_ok-copied-in-Event.ensures ∙ c.deref.ensures) ∙ ap (λ x. enqueues_event c.args.line (plain_value x) s) (sym c.in-Event.is) ∙ ap (λ x. enqueues_event c.args.line x s) c.take.ensures.value)
 
 pub returns : goal.returns
 unfolding step_outcome

@@ -24,4 +24,5 @@ returns-in_ok-values-in-Some c =
     let old = place_of c.args.self.now in
     becomes_at_ok (plain_ground c.args.base.now) old _ _ c.made_function-in-Some.result c.requires c.made_function-in-Some.ensures (λ b.
     ap (λ l. answered c.args.line (made (v.function c.args.code (value_list_of l))) (state_at old b)) c.in_ok-values-in-Some.ensures
+    ∙ ap (λ ks. answered c.args.line (made (v.function c.args.code (value_list_of (captured ks old.slots)))) (state_at old b)) c.deref.ensures.value
     ∙ ap (λ o. answered c.args.line (made (v.function c.args.code (value_list_of (captured (let q : PlainBody = unwrap_or o no_body in q.captures) old.slots)))) (state_at old b)) c.in-Some.ensures)

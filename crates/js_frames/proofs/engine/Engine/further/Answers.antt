@@ -10,6 +10,3 @@ returns c = means_ok (plain_ground c.args.base.now) _ _ _ _ c.go_on_parts.result
 
 pub go_on_parts-requires : goal.go_on_parts-requires
 go_on_parts-requires c = c.requires
-
-pub returns-in_err-push : goal.returns-in_err-push
-returns-in_err-push c = tt

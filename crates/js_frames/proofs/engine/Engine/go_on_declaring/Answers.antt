@@ -11,8 +11,8 @@ use Rattle.js_frames.proofs.Beginning.{form_here, declaration_only}
 use Rattle.js_frames.proofs.Declaring.{onward_first, onward_next, onward_leads, onward_waits, declaring_over, declared_part}
 use Rattle.js_frames.proofs.engine.Engine.go_on_declaring.Goals as goal
 
-get_here : {at : ℕ} {o : Option PlainDeclared} {ds es : List Declared} → ds ≡ es → o ≡ slice_get (map plain_declared ds) at → slice_get (map plain_declared es) at ≡ o
-get_here {at} e g = ap (λ l. slice_get (map plain_declared l) at) (sym e) ∙ sym g
+get_here : (at : ℕ) {o : Option PlainDeclared} {ds es : List Declared} → ds ≡ es → o ≡ slice_get (map plain_declared ds) at → slice_get (map plain_declared es) at ≡ o
+get_here at e g = ap (λ l. slice_get (map plain_declared l) at) (sym e) ∙ sym g
 
 pub node_of-requires : goal.node_of-requires
 node_of-requires c = c.requires.number
@@ -25,15 +25,15 @@ loop-declarator-init c = onward_first (plain_ground c.args.base.now) (place_of c
 
 pub loop-declarator-preserved : goal.loop-declarator-preserved
 loop-declarator-preserved c =
-    onward_next (plain_ground c.args.base.now) (place_of c.args.self.now) c.args.number c.args.place (place_of c.loop-declarator.self) (place_of c.declare_without.new.self) c.loop-declarator.at _ (plain_node c.node_of.result.now) c.in-Declaration.kind _ (plain_declared c.in-Some.declarator) c.node_of.ensures.node (ap plain_node_form c.in-Declaration.is) c.loop-declarator.invariant refl (get_here c.deref.ensures.value c.in-Some.ensures.value) c.in-None.is c.declare_without.ensures
+    onward_next (plain_ground c.args.base.now) (place_of c.args.self.now) c.args.number c.args.place (place_of c.loop-declarator.self) (place_of c.declare_without.new.self) c.loop-declarator.at _ (plain_node c.node_of.result.now) c.in-Declaration.kind _ (plain_declared c.in-Some.declarator) c.node_of.ensures.node (ap plain_node_form c.in-Declaration.is) c.loop-declarator.invariant refl (get_here _ c.deref.ensures.value c.in-Some.ensures.value) c.in-None.is c.declare_without.ensures
 
 pub loop-declarator-smaller : goal.loop-declarator-smaller
 loop-declarator-smaller c = let room = c.in-Some.ensures.room in omega arith
 
 pub returns-in-Some-value : goal.returns-in-Some-value
 returns-in-Some-value c =
-    let at = declared_part _ c.loop-declarator.at (plain_declared c.in-Some.declarator) c.in-Some-value.part (get_here c.deref.ensures.value c.in-Some.ensures.value) c.in-Some-value.is in
-    onward_waits (plain_ground c.args.base.now) (place_of c.args.self.now) c.args.number c.args.place (place_of c.loop-declarator.self) (place_of c.wait.new.self) c.loop-declarator.at (plain_node c.node_of.result.now) c.in-Declaration.kind _ (plain_declared c.in-Some.declarator) c.in-Some-value.part c.wait.result c.node_of.ensures.node (ap plain_node_form c.in-Declaration.is) c.loop-declarator.invariant (get_here c.deref.ensures.value c.in-Some.ensures.value) c.in-Some-value.is c.requires.fits (c.requires.number, c.requires.form)
+    let at = declared_part _ c.loop-declarator.at (plain_declared c.in-Some.declarator) c.in-Some-value.part (get_here _ c.deref.ensures.value c.in-Some.ensures.value) c.in-Some-value.is in
+    onward_waits (plain_ground c.args.base.now) (place_of c.args.self.now) c.args.number c.args.place (place_of c.loop-declarator.self) (place_of c.wait.new.self) c.loop-declarator.at (plain_node c.node_of.result.now) c.in-Declaration.kind _ (plain_declared c.in-Some.declarator) c.in-Some-value.part c.wait.result c.node_of.ensures.node (ap plain_node_form c.in-Declaration.is) c.loop-declarator.invariant (get_here _ c.deref.ensures.value c.in-Some.ensures.value) c.in-Some-value.is c.requires.fits (c.requires.number, c.requires.form)
     (c.node_of.ensures.parts at.0 c.in-Some-value.part (ap (λ f. slice_get (parts_of (plain_node_form f)) at.0) c.in-Declaration.is ∙ at.1)) c.wait.ensures
 
 pub returns : goal.returns
@@ -44,4 +44,4 @@ returns c =
     let h = c.loop-declarator.invariant in
     onward_leads base old c.args.number c.args.place mid mid c.loop-declarator.at _ h
     (left base mid _ _ c.leave.ensures (subst (StackFits (let b = c.args.base.now in b.program)) (sym h.stack_same) c.requires.fits)
-    (λ s. declaring_over (here c.args.base.now c.args.self.now) c.args.number c.loop-declarator.at (plain_node c.node_of.result.now) c.in-Declaration.kind _ s c.node_of.ensures.node (ap plain_node_form c.in-Declaration.is) (get_here c.deref.ensures.value c.in_default-declarator_at.ensures.value)))
+    (λ s. declaring_over (here c.args.base.now c.args.self.now) c.args.number c.loop-declarator.at (plain_node c.node_of.result.now) c.in-Declaration.kind _ s c.node_of.ensures.node (ap plain_node_form c.in-Declaration.is) (get_here _ c.deref.ensures.value c.in_default-declarator_at.ensures.value)))

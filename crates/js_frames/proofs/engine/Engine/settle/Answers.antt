@@ -5,11 +5,9 @@ use Rattle.js_frames.specs.Leads.{Keeps, IsSettled}
 use Rattle.js_frames.proofs.Steps.{keeps_same, settled_unless, keeps_given}
 use Rattle.js_frames.proofs.engine.Engine.settle.Goals as goal
 
-pub unwind-requires-clause-fits : goal.unwind-requires-clause-fits
-unwind-requires-clause-fits c = c.requires.fits
 
 pub unwind-requires : goal.unwind-requires
-unwind-requires c = c.requires.fits
+unwind-requires c = record { fits = c.requires.fits }
 
 pub returns-in-Give : goal.returns-in-Give
 returns-in-Give c = record {

@@ -16,14 +16,12 @@ returns-in_default c = walk_over (plain_ground c.args.base.now) (place_of c.args
 pub returns-then-self-ge-MOST_CALLS : goal.returns-then-self-ge-MOST_CALLS
 returns-then-self-ge-MOST_CALLS c = walk_too_deep (plain_ground c.args.base.now) (place_of c.args.self.now) c.args.walk _ _ refl c.requires (sym c.in-Some.ensures.value) (le-ltb c.args.self.now.calls 200 c.if-self-ge-MOST_CALLS.true)
 
-pub returns-in_default-2 : goal.returns-in_default-2
-returns-in_default-2 c = walk_nothing (plain_ground c.args.base.now) (place_of c.args.self.now) c.args.walk _ c.leave-2.ensures c.requires (lt-ltb c.args.self.now.calls 200 c.if-self-ge-MOST_CALLS.false) (ap (λ o. first_of (let q : PlainBody = unwrap_or o no_body in q.content)) (sym c.in_default-2.ensures))
+pub returns-in_default-function_of : goal.returns-in_default-function_of
+returns-in_default-function_of c = walk_nothing (plain_ground c.args.base.now) (place_of c.args.self.now) c.args.walk _ c.leave-in_default-function_of.ensures c.requires (lt-ltb c.args.self.now.calls 200 c.if-self-ge-MOST_CALLS.false) (ap (λ o. first_of (let q : PlainBody = unwrap_or o no_body in q.content)) (sym c.in_default-function_of.ensures))
 
-pub returns-in_default-3 : goal.returns-in_default-3
-returns-in_default-3 c = walk_nothing (plain_ground c.args.base.now) (place_of c.args.self.now) c.args.walk _ c.leave-3.ensures c.requires (lt-ltb c.args.self.now.calls 200 c.if-self-ge-MOST_CALLS.false) (ap (λ o. first_of (let q : PlainBody = unwrap_or o no_body in q.content)) (sym c.in-Some-2.ensures) ∙ sym c.in_default-3.ensures)
+pub returns-in_default-first_in : goal.returns-in_default-first_in
+returns-in_default-first_in c = walk_nothing (plain_ground c.args.base.now) (place_of c.args.self.now) c.args.walk _ c.leave-in_default-first_in.ensures c.requires (lt-ltb c.args.self.now.calls 200 c.if-self-ge-MOST_CALLS.false) (ap (λ o. first_of (let q : PlainBody = unwrap_or o no_body in q.content)) (sym c.in-Some-function_of.ensures) ∙ sym c.in_default-first_in.ensures)
 
-pub returns-in_err-args : goal.returns-in_err-args
-returns-in_err-args c = tt
 
 pub walk_on-requires : goal.walk_on-requires
 walk_on-requires c =
@@ -31,9 +29,9 @@ walk_on-requires c =
     record {
       room = c.if-self-ge-MOST_CALLS.false;
       places = c.in-Some.ensures.room;
-      found = sym c.in-Some-2.ensures;
-      parts = function_parts program (let w = c.args.walk in w.code) (plain_body c.in-Some-2.body.now) c.keeps.ensures (sym c.in-Some-2.ensures);
-      starts = subst IsSome c.in-Some-3.ensures refl;
+      found = sym c.in-Some-function_of.ensures;
+      parts = function_parts program (let w = c.args.walk in w.code) (plain_body c.in-Some-function_of.body.now) c.keeps.ensures (sym c.in-Some-function_of.ensures);
+      starts = subst IsSome c.in-Some-first_in.ensures refl;
       args = (_, sym c.in-Some.ensures.value, c.in_ok-args.ensures);
       fits = c.requires;
     }

@@ -6,18 +6,18 @@ use Rattle.js_frames.specs.Runs.{asked_at, asked_by, line_asked, line_at}
 use Rattle.js_frames.proofs.Pauses.{asks_only}
 use Rattle.js_frames.proofs.machine.Machine.line.Goals as goal
 
-pub returns-in-Ask : goal.returns-in-Ask
+pub returns : goal.returns
 unfolding line_asked
-returns-in-Ask c = ap line_at c.in-Some.is ∙ ap (λ n. line_at (Some n)) c.in-Next.is ∙ ap (λ q. line_at (Some (Next q))) c.in-Ask.is
+returns c = ap line_at c.in-Some.is ∙ ap (λ n. line_at (Some n)) c.in-Next.is ∙ ap (λ q. line_at (Some (Next q))) c.in-Ask.is
 
-pub unreachable-unreachable : goal.unreachable-unreachable
+pub unreachable-requires : goal.unreachable-requires
 unfolding asked_by
-unreachable-unreachable c = asks_only c.in-Next.step (subst (λ n. IsSome (asked_at (Some n))) c.in-Next.is (subst (λ o. IsSome (asked_at o)) c.in-Some.is c.requires)) c.in_default.not-Ask
+unreachable-requires c = asks_only c.in-Next.step (subst (λ n. IsSome (asked_at (Some n))) c.in-Next.is (subst (λ o. IsSome (asked_at o)) c.in-Some.is c.requires)) c.in_default.not-Ask
 
-pub unreachable-unreachable-in-Resumed : goal.unreachable-unreachable-in-Resumed
+pub unreachable-requires-in-Resumed : goal.unreachable-requires-in-Resumed
 unfolding asked_by
-unreachable-unreachable-in-Resumed c = false≢true (subst (λ n. IsSome (asked_at (Some n))) c.in-Resumed.is (subst (λ o. IsSome (asked_at o)) c.in-Some.is c.requires))
+unreachable-requires-in-Resumed c = false≢true (subst (λ n. IsSome (asked_at (Some n))) c.in-Resumed.is (subst (λ o. IsSome (asked_at o)) c.in-Some.is c.requires))
 
-pub unreachable-unreachable-in-None : goal.unreachable-unreachable-in-None
+pub unreachable-requires-in-None : goal.unreachable-requires-in-None
 unfolding asked_by
-unreachable-unreachable-in-None c = false≢true (subst (λ o. IsSome (asked_at o)) c.in-None.is c.requires)
+unreachable-requires-in-None c = false≢true (subst (λ o. IsSome (asked_at o)) c.in-None.is c.requires)

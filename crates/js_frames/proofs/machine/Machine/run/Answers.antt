@@ -1,4 +1,6 @@
-use Rattle.std.proofs.Common.{◌≡◌, Some, refl, sym, ap, ◌∙◌, subst}
+use Rattle.std.proofs.Common.{◌≡◌, None, Some, refl, sym, ap, ◌∙◌, subst}
+use Rattle.js_program.specs.PlainProgram.{PlainProgram}
+use Rattle.js_frames.specs.declared.machine.Machine.{Machine}
 use Rattle.js_frames.specs.declared.machine.Pending.{Pending}
 use Rattle.js_frames.specs.declared.machine.Pending.TheVariants.{Next}
 use Rattle.js_frames.specs.Places.{plain_ground, place_of}
@@ -9,7 +11,7 @@ use Rattle.js_frames.proofs.machine.Machine.run.Goals as goal
 
 pub advance-requires-clause-step : goal.advance-requires-clause-step
 unfolding IsOfProgram
-advance-requires-clause-step c = c.in_ok-step.ensures.fits _ (c.requires c.in-Some.next (sym c.in-Some.ensures.value)).1
+advance-requires-clause-step c = c.in_ok-step.ensures.fits (let b = c.args.base.now in b.program) (c.requires c.in-Some.next (sym c.in-Some.ensures.value)).1
 
 pub advance-requires-clause-fits : goal.advance-requires-clause-fits
 unfolding IsOfProgram
@@ -29,3 +31,36 @@ returns-clause-stands c = λ budget o replies begun taken h.
 
 pub returns-clause-at_sync : goal.returns-clause-at_sync
 returns-clause-at_sync c = asks_at c.advance.new.self c.in_ok-last.last c.in_ok-pause.pause c.in_ok-pause.ensures
+
+nothing_next : {program : PlainProgram} {m : Machine} → m.pending ≡ None → IsOfProgram program m
+unfolding IsOfProgram
+nothing_next e = λ next is. let h : None ≡ Some next = sym e ∙ is in cc
+
+pub returns-in_default-clause-lost : goal.returns-in_default-clause-lost
+unfolding IsLost
+returns-in_default-clause-lost c = c.take.ensures.after
+
+pub returns-in_err-step-clause-lost : goal.returns-in_err-step-clause-lost
+unfolding IsLost
+returns-in_err-step-clause-lost c = c.take.ensures.after
+
+pub returns-in_err-step-clause-program : goal.returns-in_err-step-clause-program
+returns-in_err-step-clause-program c = nothing_next c.take.ensures.after
+
+pub returns-in_err-last-clause-lost : goal.returns-in_err-last-clause-lost
+unfolding IsLost
+returns-in_err-last-clause-lost c = c.take.ensures.after
+
+pub returns-in_err-last-clause-program : goal.returns-in_err-last-clause-program
+returns-in_err-last-clause-program c = nothing_next c.take.ensures.after
+
+pub returns-in_err-pause-clause-lost : goal.returns-in_err-pause-clause-lost
+unfolding IsLost
+returns-in_err-pause-clause-lost c = c.take.ensures.after
+
+pub returns-in_err-pause-clause-program : goal.returns-in_err-pause-clause-program
+returns-in_err-pause-clause-program c = nothing_next c.take.ensures.after
+
+pub returns-clause-stays_lost : goal.returns-clause-stays_lost
+unfolding IsLost
+returns-clause-stays_lost c = λ lost. let h : Some c.in-Some.next ≡ None = c.in-Some.ensures.value ∙ lost in cc

@@ -15,7 +15,7 @@ unfolding StackFits
 call-requires c = subst (λ (q : Place). StackFits (let b = c.args.base.now in b.program) q.stack) (sym c.new-engine.ensures) tt
 
 pub returns-clause-program : goal.returns-clause-program
-returns-clause-program c = let l = c.in_ok-step.ensures.goes in of_program_started (let b = c.args.base.now in b.program) c.call.new.engine c.in_ok-step.step l.stack_fits l.step_fits
+returns-clause-program c = let l = c.in_ok-step.ensures.goes in of_program_started (let b = c.args.base.now in b.program) c.call.new.self c.in_ok-step.step l.stack_fits l.step_fits
 
 pub returns-clause-effects : goal.returns-clause-effects
 unfolding untaken
@@ -25,5 +25,5 @@ pub returns-clause-stands : goal.returns-clause-stands
 returns-clause-stands c =
     let base = plain_ground c.args.base.now in
     let g = here c.args.base.now c.new-engine.result in
-    started base c.args.budget (function c.args.mode (plain_value c.args.callee.now) (map plain_value c.args.args.now)) c.new-engine.result c.call.new.engine c.in_ok-step.step c.new-engine.ensures
+    started base c.args.budget (function c.args.mode (plain_value c.args.callee.now) (map plain_value c.args.args.now)) c.new-engine.result c.call.new.self c.in_ok-step.step c.new-engine.ensures
     (means base _ _ _ _ _ (λ s. ap (λ f. calls g (eval g) 0 f c.in_ok-values.values s) c.in_ok-function.ensures ∙ ap (λ vs. calls g (eval g) 0 (plain_value c.args.callee.now) vs s) c.in_ok-values.ensures) c.in_ok-step.ensures.goes)

@@ -12,7 +12,7 @@ unfolding StackFits
 begin_top-requires c = subst (λ (q : Place). StackFits (let b = c.args.base.now in b.program) q.stack) (sym c.new-engine.ensures) tt
 
 pub returns-clause-program : goal.returns-clause-program
-returns-clause-program c = let l = c.in_ok-step.ensures.goes in of_program_started (let b = c.args.base.now in b.program) c.begin_top.new.engine c.in_ok-step.step l.stack_fits l.step_fits
+returns-clause-program c = let l = c.in_ok-step.ensures.goes in of_program_started (let b = c.args.base.now in b.program) c.begin_top.new.self c.in_ok-step.step l.stack_fits l.step_fits
 
 pub returns-clause-effects : goal.returns-clause-effects
 unfolding untaken
@@ -20,5 +20,5 @@ returns-clause-effects c = c.in_ok-step.ensures.effects ∙ ap (λ (q : Place). 
 
 pub returns-clause-stands : goal.returns-clause-stands
 returns-clause-stands c =
-    started (plain_ground c.args.base.now) c.args.budget the_top c.new-engine.result c.begin_top.new.engine c.in_ok-step.step
+    started (plain_ground c.args.base.now) c.args.budget the_top c.new-engine.result c.begin_top.new.self c.in_ok-step.step
     (c.new-engine.ensures ∙ ap (λ cs. fresh Top c.args.budget (Some cs)) c.in_ok-constants.ensures) c.in_ok-step.ensures.goes

@@ -1,4 +1,4 @@
-use Rattle.std.proofs.Common.{◌≡◌, ◌++◌, ◌-◌, ◌≤◌, None, replicate}
+use Rattle.std.proofs.Common.{◌≡◌, ◌++◌, ◌-◌, ◌≤◌, ◌⊎◌, None, replicate}
 use Rattle.js_frames.proofs.slots.Slots.fill.Given as goal
 
 abbrev pub invariant-loop : goal.invariant-loop

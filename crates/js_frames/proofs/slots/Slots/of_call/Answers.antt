@@ -1,4 +1,4 @@
-use Rattle.std.proofs.Common.{◌≡◌, ◌++◌, ◌∙◌, ap, map, Some}
+use Rattle.std.proofs.Common.{◌≡◌, refl, ◌++◌, ◌∙◌, ap, map, Some}
 use Rattle.js_value.specs.Lists.{values_in}
 use Rattle.js_program.specs.Views.{plain_body}
 use Rattle.js_frames.proofs.Filling.{slots_made}

@@ -4,4 +4,4 @@ use Rattle.js_value.specs.Views.{plain_value}
 use Rattle.js_frames.proofs.values.Values.cut.Goals as goal
 
 pub returns : goal.returns
-returns c = ap (map plain_value) c.truncate.ensures.items ∙ sym (take-map plain_value c.args.count (let q = c.args.self.now in q.items.items))
+returns c = ap (map plain_value) c.truncate.ensures.items ∙ sym (take-map plain_value c.args.count c.self.inside.items.items)
