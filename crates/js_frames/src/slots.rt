@@ -1,5 +1,5 @@
 //! Variables: the slots of a call, and the constants of a program.
-ghost use Rattle.std.specs.Prelude.{◌≡◌, ◌+◌, ◌-◌, ◌++◌, ◌∷◌, [], Some, None, length, map, replicate, fold, IfOk, OnOk, option_map, slice_set, unwrap_or};
+ghost use Rattle.std.specs.Prelude.{◌≡◌, ◌+◌, ◌-◌, ◌<◌, ◌++◌, ◌∷◌, [], Some, None, length, map, replicate, fold, IfOk, OnOk, option_map, slice_set, unwrap_or};
 ghost use Rattle.js_value.specs.Value.{undefined};
 ghost use Rattle.js_value.specs.Lists.{values_in};
 ghost use Rattle.js_value.specs.Views.{plain_value};
@@ -11,6 +11,7 @@ use js_program::{Body, ConstantStart, Program};
 use js_value::{Items, Memory, Value, copy};
 use std::alloc::Global;
 use std::marker::Model;
+use std::mem;
 
 /// Variables by their numbers: none where one is not declared yet. Contracts see the list of their plain forms.
 #[derive(Drop)]
@@ -46,6 +47,14 @@ impl Slots {
         }
     }
 
+    /// No variables, with room for so many.
+    fn with_capacity(alloc: Global, count: usize) -> Result<Slots, Memory>
+        ensures { IfOk result (λ slots. slots ≡ []) }
+    {
+        let items = Vec::with_capacity(alloc, count)?;
+        Ok(Slots { items })
+    }
+
     /// How many there are. Takes no memory.
     pub fn len(&self) -> usize
         ensures { result ≡ length self.now }
@@ -79,9 +88,17 @@ impl Slots {
         ensures { self.new ≡ slice_set self.old number (option_map plain_value value) }
     {
         let place = number as usize;
-        if place < self.items.len() {
-            self.items[place] = value;
+        if place < self.len() {
+            self.put_in(place, value);
         }
+    }
+
+    /// Sets a variable, and gives what it was. Takes no memory.
+    fn put_in(&mut self, place: usize, value: Option<Value>) -> Option<Value>
+        requires { place < length self.old }
+        ensures { self.new ≡ slice_set self.old place (option_map plain_value value) }
+    {
+        mem::replace(&mut self.items[place], value)
     }
 
     /// One more variable.
@@ -153,9 +170,7 @@ impl Slots {
     {
         let mut values = args;
         values.pad(body.parameters as usize)?;
-        let mut slots = Slots {
-            items: Vec::with_capacity(alloc, body.slots as usize)?,
-        };
+        let mut slots = Slots::with_capacity(alloc, body.slots as usize)?;
         slots.push_all(&mut values)?;
         slots.push_copies(captured.as_slice())?;
         slots.fill(body.slots as usize)?;

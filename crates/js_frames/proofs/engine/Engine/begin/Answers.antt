@@ -139,4 +139,4 @@ start_loop-requires-clause-first c = (for_parts (let p = c.args.base.now in p.pr
 pub start_loop-requires-clause-turns : goal.start_loop-requires-clause-turns
 start_loop-requires-clause-turns c =
     let h = for_parts (let p = c.args.base.now in p.program) c.in-For.first c.in-For.test c.in-For.next c.in-For.body (subst (λ f. AreNodes (let p = c.args.base.now in p.program) (parts_of (plain_node_form f))) c.in-For.is c.node_of-node.ensures.parts) in
-    subst (TurnsFit (let p = c.args.base.now in p.program)) (sym c.turns-in-For.ensures) (record { test = h.1.0; next = h.1.1.0; body = h.1.1.1 })
+    subst (TurnsFit (let p = c.args.base.now in p.program)) (sym c.turns-in-For.ensures) (record { test = h.1; next = h.2; body = h.3 })

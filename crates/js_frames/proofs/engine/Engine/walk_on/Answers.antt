@@ -17,10 +17,6 @@ use Rattle.js_frames.proofs.engine.Engine.walk_on.Goals as goal
 pub overflow_add-active : goal.overflow_add-active
 overflow_add-active c = let room = c.requires.room in omega arith
 
-pub overflow_add-further : goal.overflow_add-further
-overflow_add-further c = c.requires.places
-
-
 
 pub enter-requires : goal.enter-requires
 enter-requires c =
@@ -41,7 +37,7 @@ returns c =
     let args = c.requires.args in
     let ev = eval (setting_at base old) in
     walks_on base old (place_of c.enter.new.self) w _ (plain_body c.args.body.now) c.args.args args.0 c.enter.result
-    c.requires.found (lt-ltb c.args.self.now.calls 200 c.requires.room) args.1.0 args.1.1
+    c.requires.found (lt-ltb c.args.self.now.calls 200 c.requires.room) args.1 args.2
     refl c.requires.fits
     (c.enter.ensures.begins c.requires.starts)
     (means_ok base _ _ _ _ c.enter.result (subst (λ st. IfOk c.enter.result (λ step. Leads base (record old { stack = st }) (enters ev (old.calls + 1) (plain_body c.args.body.now) (values_in c.in_ok-captured.captured) c.args.args) (place_of c.enter.new.self) step)) c.in_ok-push.ensures.items c.enter.ensures.goes) (λ s. ap (λ q. enters ev (old.calls + 1) (plain_body c.args.body.now) (values_in q) c.args.args s) (sym c.in_ok-captured.ensures)))

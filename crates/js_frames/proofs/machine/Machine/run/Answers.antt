@@ -1,4 +1,5 @@
-use Rattle.std.proofs.Common.{◌≡◌, None, Some, refl, sym, ap, ◌∙◌, subst}
+use Rattle.std.proofs.Common.{◌≡◌, None, Some, Result, Ok, Err, refl, sym, ap, ◌∙◌, subst}
+use Rattle.std.specs.Prelude.{OnErr}
 use Rattle.js_program.specs.PlainProgram.{PlainProgram}
 use Rattle.js_frames.specs.declared.machine.Machine.{Machine}
 use Rattle.js_frames.specs.declared.machine.Pending.{Pending}
@@ -32,9 +33,13 @@ returns-clause-stands c = λ budget o replies begun taken h.
 pub returns-clause-at_sync : goal.returns-clause-at_sync
 returns-clause-at_sync c = asks_at c.advance.new.self c.in_ok-last.last c.in_ok-pause.pause c.in_ok-pause.ensures
 
-nothing_next : {program : PlainProgram} {m : Machine} → m.pending ≡ None → IsOfProgram program m
+on_err : {X E P : Type 0} (r : Result X E) → P → OnErr r P
+on_err (Ok x) p = tt
+on_err (Err e) p = p
+
+nothing_next : (program : PlainProgram) (m : Machine) → m.pending ≡ None → IsOfProgram program m
 unfolding IsOfProgram
-nothing_next e = λ next is. let h : None ≡ Some next = sym e ∙ is in cc
+nothing_next program m e = λ next is. let h : None ≡ Some next = sym e ∙ is in cc
 
 pub returns-in_default-clause-lost : goal.returns-in_default-clause-lost
 unfolding IsLost
@@ -42,24 +47,24 @@ returns-in_default-clause-lost c = c.take.ensures.after
 
 pub returns-in_err-step-clause-lost : goal.returns-in_err-step-clause-lost
 unfolding IsLost
-returns-in_err-step-clause-lost c = c.take.ensures.after
+returns-in_err-step-clause-lost c = on_err _ c.take.ensures.after
 
 pub returns-in_err-step-clause-program : goal.returns-in_err-step-clause-program
-returns-in_err-step-clause-program c = nothing_next c.take.ensures.after
+returns-in_err-step-clause-program c = nothing_next _ _ c.take.ensures.after
 
 pub returns-in_err-last-clause-lost : goal.returns-in_err-last-clause-lost
 unfolding IsLost
-returns-in_err-last-clause-lost c = c.take.ensures.after
+returns-in_err-last-clause-lost c = on_err _ c.take.ensures.after
 
 pub returns-in_err-last-clause-program : goal.returns-in_err-last-clause-program
-returns-in_err-last-clause-program c = nothing_next c.take.ensures.after
+returns-in_err-last-clause-program c = nothing_next _ _ c.take.ensures.after
 
 pub returns-in_err-pause-clause-lost : goal.returns-in_err-pause-clause-lost
 unfolding IsLost
-returns-in_err-pause-clause-lost c = c.take.ensures.after
+returns-in_err-pause-clause-lost c = on_err _ c.take.ensures.after
 
 pub returns-in_err-pause-clause-program : goal.returns-in_err-pause-clause-program
-returns-in_err-pause-clause-program c = nothing_next c.take.ensures.after
+returns-in_err-pause-clause-program c = nothing_next _ _ c.take.ensures.after
 
 pub returns-clause-stays_lost : goal.returns-clause-stays_lost
 unfolding IsLost

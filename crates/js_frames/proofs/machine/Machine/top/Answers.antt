@@ -1,4 +1,6 @@
-use Rattle.std.proofs.Common.{◌≡◌, [], Some, refl, sym, ap, subst, ◌∙◌}
+use Rattle.std.proofs.Common.{◌≡◌, [], Some, map, refl, sym, ap, subst, ◌∙◌}
+use Rattle.js_program.specs.PlainProgram.{PlainProgram}
+use Rattle.js_meaning.specs.Variables.{constant_start}
 use Rattle.js_meaning.specs.Bodies.{the_top}
 use Rattle.js_program.specs.declared.builtin.Mode.TheVariants.{Top}
 use Rattle.js_frames.specs.Places.{Place, plain_ground, place_of, fresh}
@@ -21,4 +23,4 @@ returns-clause-effects c = c.in_ok-step.ensures.effects ∙ ap (λ (q : Place). 
 pub returns-clause-stands : goal.returns-clause-stands
 returns-clause-stands c =
     started (plain_ground c.args.base.now) c.args.budget the_top c.new-engine.result c.begin_top.new.self c.in_ok-step.step
-    (c.new-engine.ensures ∙ ap (λ cs. fresh Top c.args.budget (Some cs)) c.in_ok-constants.ensures) c.in_ok-step.ensures.goes
+    (c.new-engine.ensures ∙ ap (λ cs. fresh Top c.args.budget (Some cs)) c.in_ok-constants.ensures ∙ ap (λ (q : PlainProgram). fresh Top c.args.budget (Some (map constant_start q.constants))) c.program.ensures) c.in_ok-step.ensures.goes
