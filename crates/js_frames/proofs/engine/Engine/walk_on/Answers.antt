@@ -40,4 +40,4 @@ returns c =
     c.requires.found (lt-ltb c.args.self.now.calls 200 c.requires.room) args.1 args.2
     refl c.requires.fits
     (c.enter.ensures.begins c.requires.starts)
-    (means_ok base _ _ _ _ c.enter.result (subst (λ st. IfOk c.enter.result (λ step. Leads base (record old { stack = st }) (enters ev (old.calls + 1) (plain_body c.args.body.now) (values_in c.in_ok-captured.captured) c.args.args) (place_of c.enter.new.self) step)) c.in_ok-push.ensures.items c.enter.ensures.goes) (λ s. ap (λ q. enters ev (old.calls + 1) (plain_body c.args.body.now) (values_in q) c.args.args s) (sym c.in_ok-captured.ensures)))
+    (means_ok base _ _ _ _ c.enter.result (subst (λ st. IfOk c.enter.result (λ step. Leads base (record old { stack = st }) (enters ev (old.calls + 1) (plain_body c.args.body.now) (values_in c.in_ok-captured.captured) c.args.args) (place_of c.enter.new.self) step)) c.in_ok-push.ensures.items c.enter.ensures.goes) (λ s. ap (λ q. enters ev (old.calls + 1) (plain_body c.args.body.now) (values_in q) c.args.args s) c.in_ok-captured.ensures))
