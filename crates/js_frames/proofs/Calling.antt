@@ -186,12 +186,14 @@ module _ (base : js.Ground) (old new : Place) (w further : Walk) (body : PlainBo
     where
       f : PlainValue
       f = v.function w.code w.captured
+
       begun_rests : (step : Step) (st st' : List Frame) → IsBegin step → Rests step st st'
       begun_rests (Begin n) st st' h = tt
       begun_rests (Give c) st st' h = absurd h
       begun_rests (Ask s q l) st st' h = absurd h
       begun_rests (Fail k l) st st' h = absurd h
       begun_rests (Violate t) st st' h = absurd h
+
       element : (beside : Beside) → resume (setting_at base old) (Waiting (Walked further)) (calls_it (state_at old beside)) ≡ walk_from (setting_at base old) w (state_at old beside)
       element beside =
           let g : Setting = setting_at base old in

@@ -13,7 +13,6 @@ pub returns-in-Function : goal.returns-in-Function
 returns-in-Function c = means_ok (plain_ground c.args.base.now) _ _ _ _ c.act.result c.act.ensures
     (λ s. ap (λ n. registers_thread c.args.line (v.words n) (v.function c.in-Function.code c.in-Function.captured) s) c.in_ok-copied-in-Function.ensures ∙ ap (λ x. registers_thread c.args.line (v.words c.args.name.now) (plain_value x) s) (sym c.in-Function.is))
 
-
 pub returns : goal.returns
 unfolding step_outcome
 returns c =

@@ -17,7 +17,6 @@ use Rattle.js_frames.proofs.engine.Engine.walk_on.Goals as goal
 pub overflow_add-active : goal.overflow_add-active
 overflow_add-active c = let room = c.requires.room in omega arith
 
-
 pub enter-requires : goal.enter-requires
 enter-requires c =
     let program = let b = c.args.base.now in b.program in
