@@ -1,0 +1,13 @@
+mod Lists
+mod Numbers
+mod Filling
+mod Steps
+mod Becoming
+mod Turning
+mod InOrder
+mod Beginning
+mod Calling
+mod Declaring
+mod Writing
+mod Acting
+mod Pauses

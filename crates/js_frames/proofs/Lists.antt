@@ -1,0 +1,72 @@
+-- Lists that are read from a place on.
+use Rattle.std.proofs.Common.{◌≡◌, ℕ, zero, suc, ◌+◌, ◌-◌, ◌≤◌, List, [], ◌∷◌, ◌++◌, length, drop, take, map, Option, Some, None, refl, sym, ap, ◌∙◌, arith}
+use Rattle.std.specs.Prelude.{slice_get, slice_set, fold, option_map, replicate, unwrap_or}
+use Rattle.js_value.specs.Value.{PlainValue, ValueFields}
+use Rattle.js_ops.specs.Making.{put, put_all}
+use Rattle.js_meaning.specs.State.{State}
+use Rattle.js_meaning.specs.Variables.{undeclare, set_slot, padded}
+use Rattle.js_meaning.specs.Forms.{argument}
+
+-- what is left of a list from a place
+pub drop_at : {X : Type 0} (xs : List X) (k : ℕ) (x : X) → slice_get xs k ≡ Some x → drop k xs ≡ x ∷ drop (k + 1) xs
+drop_at [] k x h = cc
+drop_at (y ∷ xs) zero x h = let e : y ≡ x = cc in ap (λ z. z ∷ xs) e
+drop_at (y ∷ xs) (suc k) x h =
+    let e : suc (k + 1) ≡ suc k + 1 = omega arith in
+    drop_at xs k x h ∙ ap (λ j. x ∷ drop j (y ∷ xs)) e
+
+pub drop_past : {X : Type 0} (xs : List X) (k : ℕ) → slice_get xs k ≡ None → drop k xs ≡ []
+drop_past [] zero h = refl
+drop_past [] (suc k) h = refl
+drop_past (y ∷ xs) zero h = cc
+drop_past (y ∷ xs) (suc k) h = drop_past xs k h
+
+-- a block's variables
+pub undeclared_slots : (ks : List ℕ) (s : State) → undeclare ks s ≡ record s { slots = fold (λ slots k. slice_set slots k None) s.slots ks }
+undeclared_slots [] s = refl
+undeclared_slots (k ∷ ks) s = undeclared_slots ks (set_slot k None s)
+
+-- arguments that were cut behind a place
+pub argument_taken : (vs : List PlainValue) → argument 0 (take 1 vs) ≡ argument 0 vs
+argument_taken [] = refl
+argument_taken (v ∷ vs) = refl
+
+-- what is more of keys or of values is dropped
+pub put_all_cut : (ks : List (List ℕ)) (vs : List PlainValue) (fs : ValueFields) → put_all (take (length (take (length ks) vs)) ks) (take (length ks) vs) fs ≡ put_all ks vs fs
+put_all_cut [] vs fs = refl
+put_all_cut (k ∷ ks) [] fs = refl
+put_all_cut (k ∷ ks) (x ∷ vs) fs = put_all_cut ks vs (put k x fs)
+
+-- no more arguments are read than there are parameters
+pub padded_one : (n : ℕ) (x i l : PlainValue) → n ≤ 1 → padded n (x ∷ []) ≡ padded n (x ∷ i ∷ l ∷ [])
+padded_one zero x i l h = refl
+padded_one (suc zero) x i l h = refl
+padded_one (suc (suc n)) x i l h = absurd (omega arith)
+
+pub padded_two : (n : ℕ) (x i l : PlainValue) → n ≤ 2 → padded n (x ∷ i ∷ []) ≡ padded n (x ∷ i ∷ l ∷ [])
+padded_two zero x i l h = refl
+padded_two (suc zero) x i l h = refl
+padded_two (suc (suc zero)) x i l h = refl
+padded_two (suc (suc (suc n))) x i l h = absurd (omega arith)
+
+-- of the keys as many are taken as there are values, at most all
+pub taken_keys : (ks : List (List ℕ)) (vs : List PlainValue) → length (take (length (take (length ks) vs)) ks) ≡ length (take (length ks) vs)
+taken_keys [] vs = refl
+taken_keys (k ∷ ks) [] = refl
+taken_keys (k ∷ ks) (x ∷ vs) = ap suc (taken_keys ks vs)
+
+pub taken_few : (ks : List (List ℕ)) (vs : List PlainValue) → length (take (length ks) vs) ≤ length ks
+taken_few [] vs = omega arith
+taken_few (k ∷ ks) [] = omega arith
+taken_few (k ∷ ks) (x ∷ vs) = let h = taken_few ks vs in omega arith
+
+-- one element is put, and then all are seen otherwise
+pub put_mapped : {X Y : Type 0} (f : X → Y) (xs : List X) (k : ℕ) (x : X) → map f (slice_set xs k x) ≡ slice_set (map f xs) k (f x)
+put_mapped f [] k x = refl
+put_mapped f (y ∷ ys) zero x = refl
+put_mapped f (y ∷ ys) (suc k) x = ap (λ l. f y ∷ l) (put_mapped f ys k x)
+
+pub take_put : {X : Type 0} (xs : List X) (k : ℕ) (x : X) → take k (slice_set xs k x) ≡ take k xs
+take_put [] k x = refl
+take_put (y ∷ ys) zero x = refl
+take_put (y ∷ ys) (suc k) x = ap (λ l. y ∷ l) (take_put ys k x)

@@ -1,0 +1,14 @@
+use Rattle.std.proofs.Common.{refl, sym, ap, ◌∙◌}
+use Rattle.js_frames.specs.Frames.{block_of, statements_in}
+use Rattle.js_program.specs.PlainProgram.{PlainBody}
+use Rattle.js_frames.proofs.Numbers.{statements_there}
+use Rattle.js_frames.proofs.blocks.statements_of.Goals as goal
+
+pub returns-in-Block-clause-nodes : goal.returns-in-Block-clause-nodes
+returns-in-Block-clause-nodes c = statements_there (let b = c.args.base.now in b.program) c.args.sequence c.keeps.ensures
+
+pub returns-in-Function-clause-nodes : goal.returns-in-Function-clause-nodes
+returns-in-Function-clause-nodes c = statements_there (let b = c.args.base.now in b.program) c.args.sequence c.keeps.ensures
+
+pub returns-in-Top-clause-nodes : goal.returns-in-Top-clause-nodes
+returns-in-Top-clause-nodes c = statements_there (let b = c.args.base.now in b.program) c.args.sequence c.keeps.ensures

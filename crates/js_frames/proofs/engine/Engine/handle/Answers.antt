@@ -1,0 +1,24 @@
+use Rattle.std.proofs.Common.{refl, sym, ap, ◌∙◌, subst}
+use Rattle.js_value.specs.Value as v
+use Rattle.js_value.specs.Views.{plain_value}
+use Rattle.js_meaning.specs.Forms.{argument, sets_handler}
+use Rattle.js_frames.specs.Places.{plain_ground, place_of}
+use Rattle.js_frames.specs.Leads.{Leads}
+use Rattle.js_frames.specs.Frames.{step_outcome}
+use Rattle.js_frames.proofs.Steps.{means_ok, stays}
+use Rattle.js_frames.proofs.Acting.{no_handler}
+use Rattle.js_frames.proofs.engine.Engine.handle.Goals as goal
+
+pub returns-in-Function : goal.returns-in-Function
+returns-in-Function c = means_ok (plain_ground c.args.base.now) _ _ _ _ c.act.result c.act.ensures
+    (λ s. ap (λ x. sets_handler c.args.line (plain_value x) s) (sym c.in-Function.is) ∙ ap (λ x. sets_handler c.args.line x s) c.take.ensures.value)
+
+pub returns : goal.returns
+unfolding step_outcome
+returns c =
+    let old = place_of c.args.self.now in
+    subst (Leads (plain_ground c.args.base.now) old (sets_handler c.args.line (argument 0 c.args.args)) old) (sym c.mistyped.ensures)
+    (stays (plain_ground c.args.base.now) old _ _ c.requires tt (λ s. no_handler c.args.line c.take.result s c.in_default.not-Function ∙ ap (λ x. sets_handler c.args.line x s) c.take.ensures.value))
+
+pub act-requires : goal.act-requires
+act-requires c = c.requires

@@ -1,0 +1,39 @@
+use Rattle.std.proofs.Common.{◌≡◌, None, Some, refl, sym, ap, ◌∙◌, subst}
+use Rattle.std.proofs.lemmas.Bool.{lt-ltb, le-ltb}
+use Rattle.std.specs.Prelude.{unwrap_or, IsSome}
+use Rattle.js_program.specs.PlainProgram.{PlainBody}
+use Rattle.js_meaning.specs.Calls.{no_body}
+use Rattle.js_frames.specs.Leads.{first_of}
+use Rattle.js_frames.specs.Places.{plain_ground, place_of}
+use Rattle.js_program.specs.Views.{plain_body}
+use Rattle.js_frames.proofs.Numbers.{function_parts}
+use Rattle.js_frames.proofs.Calling.{walk_over, walk_too_deep, walk_nothing}
+use Rattle.js_frames.proofs.engine.Engine.walk.Goals as goal
+
+pub returns-in_default : goal.returns-in_default
+returns-in_default c = walk_over (plain_ground c.args.base.now) (place_of c.args.self.now) c.args.walk _ c.leave.ensures c.requires (sym c.in_default.ensures.value)
+
+pub returns-then-self-ge-MOST_CALLS : goal.returns-then-self-ge-MOST_CALLS
+returns-then-self-ge-MOST_CALLS c = walk_too_deep (plain_ground c.args.base.now) (place_of c.args.self.now) c.args.walk _ _ refl c.requires (sym c.in-Some.ensures.value) (le-ltb c.args.self.now.calls 200 c.if-self-ge-MOST_CALLS.true)
+
+pub returns-in_default-function_of : goal.returns-in_default-function_of
+returns-in_default-function_of c = walk_nothing (plain_ground c.args.base.now) (place_of c.args.self.now) c.args.walk _ c.leave-in_default-function_of.ensures c.requires (lt-ltb c.args.self.now.calls 200 c.if-self-ge-MOST_CALLS.false) (ap (λ o. first_of (let q : PlainBody = unwrap_or o no_body in q.content)) (sym c.in_default-function_of.ensures))
+
+pub returns-in_default-first_in : goal.returns-in_default-first_in
+returns-in_default-first_in c = walk_nothing (plain_ground c.args.base.now) (place_of c.args.self.now) c.args.walk _ c.leave-in_default-first_in.ensures c.requires (lt-ltb c.args.self.now.calls 200 c.if-self-ge-MOST_CALLS.false) (ap (λ o. first_of (let q : PlainBody = unwrap_or o no_body in q.content)) (sym c.in-Some-function_of.ensures) ∙ sym c.in_default-first_in.ensures)
+
+pub walk_on-requires : goal.walk_on-requires
+walk_on-requires c =
+    let program = let b = c.args.base.now in b.program in
+    record {
+      room = c.if-self-ge-MOST_CALLS.false;
+      places = c.in-Some.ensures.room;
+      found = sym c.in-Some-function_of.ensures;
+      parts = function_parts program (let w = c.args.walk in w.code) (plain_body c.in-Some-function_of.body.now) c.keeps.ensures (sym c.in-Some-function_of.ensures);
+      starts = subst IsSome c.in-Some-first_in.ensures refl;
+      args = (_, sym c.in-Some.ensures.value, c.in_ok-args.ensures);
+      fits = c.requires;
+    }
+
+pub returns : goal.returns
+returns c = c.walk_on.ensures

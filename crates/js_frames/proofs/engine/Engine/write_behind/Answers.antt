@@ -1,0 +1,19 @@
+use Rattle.std.proofs.Common.{refl, sym, subst}
+use Rattle.js_value.specs.Views.{plain_value}
+use Rattle.js_ops.specs.Answers.{AnswersAs}
+use Rattle.js_frames.specs.Places.{plain_ground, place_of}
+use Rattle.js_frames.specs.Frames.{writes_behind}
+use Rattle.js_frames.specs.Leads.{Leads}
+use Rattle.js_frames.proofs.Writing.{written_behind, failed_goes}
+use Rattle.js_frames.proofs.engine.Engine.write_behind.Goals as goal
+
+pub returns-in-Ok : goal.returns-in-Ok
+returns-in-Ok c = λ a h.
+    let base = plain_ground c.args.base.now in
+    let old = place_of c.args.self.now in
+    subst (Leads base old (writes_behind c.args.line c.args.slot (plain_value c.args.old) a) (record old { slots = c.set.new.self })) (sym c.give.ensures)
+    (written_behind base old c.args.slot c.args.line c.requires c.set.new.self c.in-Ok.value c.args.old a (subst (AnswersAs a) c.in-Ok.is h) c.set.ensures)
+
+pub returns-in-Err : goal.returns-in-Err
+returns-in-Err c = λ a h.
+    failed_goes (plain_ground c.args.base.now) (place_of c.args.self.now) (writes_behind c.args.line c.args.slot (plain_value c.args.old)) a c.in-Err.fault c.args.line c.failed.result c.requires (subst (AnswersAs a) c.in-Err.is h) c.failed.ensures (λ f s. refl)

@@ -1,0 +1,16 @@
+use Rattle.std.proofs.Common.{sym, ap, ◌∙◌}
+use Rattle.js_data.specs.declared.fault.Fault.TheVariants as fault
+use Rattle.js_value.specs.Views.{plain_value}
+use Rattle.js_value.specs.declared.value.Value.TheVariants as value
+use Rattle.js_meaning.specs.Forms.{floors}
+use Rattle.js_frames.proofs.Acting.{no_whole}
+use Rattle.js_frames.proofs.Becoming.{gives_so, fails_so}
+use Rattle.js_frames.proofs.forms.floor.Goals as goal
+
+pub returns-in-Whole : goal.returns-in-Whole
+returns-in-Whole c = gives_so _ _ (value.Whole c.in-Whole.n) c.give.ensures (λ g s.
+    ap (λ x. floors c.args.line (plain_value x) s) (sym c.in-Whole.is) ∙ ap (λ x. floors c.args.line x s) c.take.ensures.value)
+
+pub returns : goal.returns
+returns c = fails_so _ _ fault.Mistyped c.args.line c.mistyped.ensures (λ g s.
+    no_whole c.args.line c.take.result s c.in_default.not-Whole ∙ ap (λ x. floors c.args.line x s) c.take.ensures.value)

@@ -1,0 +1,108 @@
+//! What a node does that has begun.
+ghost use Rattle.std.specs.Prelude.{◌≡◌, IfOk};
+ghost use Rattle.js_value.specs.Value.{words};
+ghost use Rattle.js_ops.specs.Made.{made};
+ghost use Rattle.js_meaning.specs.State.{answered};
+ghost use Rattle.js_frames.specs.Places.{here};
+ghost use Rattle.js_frames.specs.Fits.{StackFits, IsNode};
+ghost use Rattle.js_frames.specs.Leads.{Goes, Becomes, node_does, operand_frame};
+
+use crate::engine::Engine;
+use crate::frame::{Frame, Part, Turns};
+use crate::ground::Ground;
+use crate::nodes::node_of;
+use crate::step::{Completion, Step, answered, give, leave};
+use js_data::{Memory, Text};
+use js_ops::made;
+use js_program::NodeForm;
+use js_tree::Operator;
+use js_value::{Value, words};
+use std::alloc::Global;
+
+/// What waits for a test, and begins one of two.
+fn choice(yes: u32, no: u32) -> Frame
+    ensures { result ≡ Frame.Waiting (Part.Choice yes no) }
+{
+    Frame::Waiting(Part::Choice(yes, no))
+}
+
+/// The turns of a loop.
+fn turns(test: Option<u32>, body: u32, next: Option<u32>) -> Turns
+    ensures { result ≡ record { test = test; body = body; next = next } }
+{
+    Turns { test, body, next }
+}
+
+/// A text literal.
+fn literal(alloc: Global, text: &Text, line: u32) -> Result<Step, Memory>
+    ensures { IfOk result (Becomes (λ g. answered line (made (words text.now)))) }
+{
+    let copied = text.copy()?;
+    let value = words(alloc, copied)?;
+    answered(made(value), line)
+}
+
+/// What waits for the left side of an operator.
+fn operand(operator: Operator, right: u32, number: u32) -> Frame
+    ensures { result ≡ operand_frame operator right number }
+{
+    match operator {
+        Operator::Or => Frame::Waiting(Part::Or(right)),
+        Operator::And => Frame::Waiting(Part::And(right)),
+        _ => Frame::Waiting(Part::First(number)),
+    }
+}
+
+impl Engine {
+    /// What a node does that has begun.
+    pub fn begin(&mut self, base: &Ground, number: u32) -> Result<Step, Memory>
+        requires number { IsNode base.now.program number }
+        requires fits { StackFits base.now.program self.old.stack.items }
+        ensures { Goes base.now self.old (node_does (here base.now self.old) number) self.new result }
+    {
+        let node = node_of(base, number);
+        match &node.form {
+            NodeForm::Number(n) => Ok(give(Value::Whole(*n))),
+            NodeForm::Words(text) => literal(self.alloc, text, node.line),
+            NodeForm::Truth(b) => Ok(give(Value::Truth(*b))),
+            NodeForm::Null => Ok(give(Value::Null)),
+            NodeForm::Undefined => Ok(give(Value::Undefined)),
+            NodeForm::Read(variable) => self.read(base, *variable, node.line),
+            NodeForm::List(_) => self.begin_parts(base, number),
+            NodeForm::Fields(_, _) => self.begin_parts(base, number),
+            NodeForm::Member(part, _) => self.wait(*part, Frame::Waiting(Part::First(number))),
+            NodeForm::Index(part, _) => self.wait(*part, Frame::Waiting(Part::First(number))),
+            NodeForm::Call(_, _) => self.begin_parts(base, number),
+            NodeForm::Method(_, _, _) => self.begin_parts(base, number),
+            NodeForm::Builtin(_, _) => self.begin_parts(base, number),
+            NodeForm::FloorDivide(_, _, _) => self.begin_parts(base, number),
+            NodeForm::Unary(_, part) => self.wait(*part, Frame::Waiting(Part::First(number))),
+            NodeForm::Update(step, fix, slot) => self.update(base, *step, *fix, *slot, node.line),
+            NodeForm::Binary(operator, left, right) => {
+                self.wait(*left, operand(*operator, *right, number))
+            }
+            NodeForm::Conditional(test, yes, no) => self.wait(*test, choice(*yes, *no)),
+            NodeForm::Assign(operator, slot, part) => {
+                self.assign(base, *operator, *slot, *part, node.line)
+            }
+            NodeForm::Function(code) => self.function(base, *code, node.line),
+            NodeForm::Empty => Ok(leave()),
+            NodeForm::Block(slots, _) => self.block(base, slots, number),
+            NodeForm::Declaration(_, _) => self.go_on_declaring(base, number, 0),
+            NodeForm::Expression(part) => self.wait(*part, Frame::Waiting(Part::Dropped)),
+            NodeForm::If(test, body) => self.wait(*test, Frame::Waiting(Part::When(*body))),
+            NodeForm::IfElse(test, yes, no) => self.wait(*test, choice(*yes, *no)),
+            NodeForm::While(test, body) => self.test(base, turns(Some(*test), *body, None)),
+            NodeForm::For(slots, first, test, next, body) => {
+                self.start_loop(base, slots, *first, turns(*test, *body, *next))
+            }
+            NodeForm::ForOf(slot, list, body) => {
+                self.for_of(base, *slot, *list, *body, node.line)
+            }
+            NodeForm::Break => Ok(Step::Give(Completion::Broke)),
+            NodeForm::Continue => Ok(Step::Give(Completion::Continued)),
+            NodeForm::ReturnNothing => Ok(Step::Give(Completion::Returned(Value::Undefined))),
+            NodeForm::Return(part) => self.wait(*part, Frame::Waiting(Part::Returned)),
+        }
+    }
+}

@@ -1,0 +1,255 @@
+//! The machine.
+ghost use Rattle.std.specs.Prelude.{◌≡◌, ℕ, ◌++◌, ◌∷◌, [], List, map, IfOk, OnErr, IsErr, IsSome, Some};
+ghost use Rattle.js_data.specs.Event.{PlainEvent};
+ghost use Rattle.js_value.specs.Views.{plain_value};
+ghost use Rattle.js_program.specs.PlainProgram.{PlainProgram};
+ghost use Rattle.js_meaning.specs.State as js;
+ghost use Rattle.js_meaning.specs.Bodies.{Origin, the_top, function};
+ghost use Rattle.js_frames.specs.Places.{plain_ground, plain_effects};
+ghost use Rattle.js_frames.specs.Runs.{IsOfProgram, IsLost, Stands, Runs, untaken, asked_by, line_asked, answer_by, constants_by, pause_of, PendingFits, pending_outcome};
+ghost use Rattle.js_frames.specs.Frames.{step_outcome};
+ghost use Rattle.js_frames.specs.Fits.{StepFits};
+
+use crate::effect::Effects;
+use crate::engine::Engine;
+use crate::ground::Ground;
+use crate::slots::{Constants, constants_start};
+use crate::step::{Completion, Step, give};
+use crate::values::Values;
+use js_data::{Event, Fault, Memory, Text};
+use js_program::Mode;
+use js_value::{Value, copy, event_value};
+use std::alloc::{AllocError, Global};
+
+/// Why a machine stops.
+#[derive(Drop)]
+pub enum Pause {
+    /// So many nodes began as were asked for, another must, and there is budget.
+    More,
+    /// At `bp.sync`.
+    AtSync,
+    /// At the end.
+    Ended,
+    /// A fault, and its line.
+    Broken(Fault, u32),
+    /// An assertion failed: its text.
+    Violated(Text),
+    /// The budget's nodes have begun, and another must.
+    Spent,
+}
+
+/// What a machine goes on with.
+#[derive(Drop)]
+pub enum Pending {
+    /// A step.
+    Next(Step),
+    /// The event that `bp.sync` answers.
+    Resumed(Event),
+}
+
+/// A machine, which runs the top level or a call of a function in slices.
+#[derive(Drop)]
+pub struct Machine {
+    pub engine: Engine,
+    pub pending: Option<Pending>,
+}
+
+/// Copies of values.
+fn copies(alloc: Global, values: &[Value]) -> Result<Values, Memory>
+    ensures { IfOk result (λ vs. vs ≡ map plain_value values.now) }
+{
+    let mut made = Values::new(alloc);
+    for value in values {
+        let copied = copy(value)?;
+        made.push(copied)?;
+    }
+    Ok(made)
+}
+
+/// The step by which a machine goes on.
+fn step_of(alloc: Global, next: Pending) -> Result<Step, Memory>
+    ensures same { (g : js.Setting) (s : js.State) → IfOk result (λ step. step_outcome g step s ≡ pending_outcome g next s) }
+    ensures fits { (program : PlainProgram) → PendingFits program next → IfOk result (StepFits program) }
+{
+    match next {
+        Pending::Next(step) => Ok(step),
+        Pending::Resumed(event) => {
+            let value = event_value(alloc, event)?;
+            Ok(give(value))
+        }
+    }
+}
+
+impl Machine {
+    /// A machine that stands at the start of the top level.
+    pub fn top(alloc: Global, base: &Ground, budget: u64) -> Result<Machine, Memory>
+        ensures program { IfOk result (λ m. IsOfProgram (plain_ground base.now).program m) }
+        ensures effects { IfOk result (λ m. untaken m ≡ []) }
+        ensures stands { IfOk result (λ m. Stands (plain_ground base.now) budget the_top [] 0 [] m) }
+    {
+        let constants = constants_start(alloc, base.program())?;
+        let mut engine = Engine::new(alloc, Mode::Top, budget, Some(constants));
+        let step = engine.begin_top(base)?;
+        Ok(Machine {
+            engine,
+            pending: Some(Pending::Next(step)),
+        })
+    }
+
+    /// A machine that stands at the start of a call of a function.
+    pub fn start(
+        alloc: Global,
+        base: &Ground,
+        callee: &Value,
+        args: &[Value],
+        mode: Mode,
+        budget: u64,
+    ) -> Result<Machine, Memory>
+        ensures program { IfOk result (λ m. IsOfProgram (plain_ground base.now).program m) }
+        ensures effects { IfOk result (λ m. untaken m ≡ []) }
+        ensures stands { IfOk result (λ m. Stands (plain_ground base.now) budget
+            (function mode (plain_value callee.now) (map plain_value args.now)) [] 0 [] m) }
+    {
+        let values = copies(alloc, args)?;
+        let mut engine = Engine::new(alloc, mode, budget, None);
+        let function = copy(callee)?;
+        let step = engine.call(base, 0, function, values)?;
+        Ok(Machine {
+            engine,
+            pending: Some(Pending::Next(step)),
+        })
+    }
+
+    /// Begins at most so many nodes, and says why it stops. After want of memory it answers nothing else.
+    pub fn run(&mut self, base: &Ground, nodes: u64) -> Result<Pause, Memory>
+        requires { IsOfProgram (plain_ground base.now).program self.old }
+        ensures program { IsOfProgram (plain_ground base.now).program self.new }
+        ensures stands { (budget : ℕ) → (o : Origin) → (replies : List PlainEvent) → (begun : ℕ) → (taken : List js.Effect) →
+            Stands (plain_ground base.now) budget o replies begun taken self.old →
+            IfOk result (λ pause. Runs (plain_ground base.now) budget o replies begun taken nodes pause self.new) }
+        ensures at_sync { IfOk result (λ pause. pause ≡ Pause.AtSync → IsSome (asked_by self.new)) }
+        ensures lost { OnErr result (IsLost self.new) }
+        ensures stays_lost { IsLost self.old → IsErr result }
+    {
+        let Some(next) = self.pending.take() else {
+            return Err(AllocError);
+        };
+        let step = step_of(self.engine.alloc, next)?;
+        let last = self.engine.advance(base, step, nodes)?;
+        let pause = pause_at(self.engine.fuel, &last)?;
+        self.pending = Some(Pending::Next(last));
+        Ok(pause)
+    }
+
+    /// What is asked at `bp.sync`: the statement and the priority. Takes no memory.
+    pub fn asked(&self) -> (&Value, &Value)
+        requires { IsSome (asked_by self.now) }
+        ensures { asked_by self.now ≡ Some (plain_value result.0.now, plain_value result.1.now) }
+    {
+        match &self.pending {
+            Some(next) => match next {
+                Pending::Next(step) => match step {
+                    Step::Ask(statement, priority, _) => (statement, priority),
+                    _ => unreachable!(),
+                },
+                Pending::Resumed(_) => unreachable!(),
+            },
+            None => unreachable!(),
+        }
+    }
+
+    /// The line of the `bp.sync` that asks. Takes no memory.
+    pub fn line(&self) -> u32
+        requires { IsSome (asked_by self.now) }
+        ensures { line_asked self.now ≡ Some result }
+    {
+        match &self.pending {
+            Some(next) => match next {
+                Pending::Next(step) => match step {
+                    Step::Ask(_, _, line) => *line,
+                    _ => unreachable!(),
+                },
+                Pending::Resumed(_) => unreachable!(),
+            },
+            None => unreachable!(),
+        }
+    }
+
+    /// What the body answers, at its end. Takes no memory.
+    pub fn answer(&self) -> &Value
+        requires { IsSome (answer_by self.now) }
+        ensures { answer_by self.now ≡ Some (plain_value result.now) }
+    {
+        match &self.pending {
+            Some(next) => match next {
+                Pending::Next(step) => match step {
+                    Step::Give(completion) => match completion {
+                        Completion::Normal(value) => value,
+                        _ => unreachable!(),
+                    },
+                    _ => unreachable!(),
+                },
+                Pending::Resumed(_) => unreachable!(),
+            },
+            None => unreachable!(),
+        }
+    }
+
+    /// The event is the value of the `bp.sync`, and the budget is whole again. Takes no memory.
+    pub fn resume(&mut self, event: Event)
+        requires { IsSome (asked_by self.old) }
+        ensures program { (program : PlainProgram) → IsOfProgram program self.old → IsOfProgram program self.new }
+        ensures effects { untaken self.new ≡ untaken self.old }
+        ensures stands { (base : js.Ground) → (budget : ℕ) → (o : Origin) → (replies : List PlainEvent) → (begun : ℕ) → (taken : List js.Effect) →
+            Stands base budget o replies begun taken self.old → Stands base budget o (replies ++ event ∷ []) 0 taken self.new }
+    {
+        self.engine.refill();
+        self.pending = Some(Pending::Resumed(event));
+    }
+
+    /// The effects since the last taking, in order. Takes no memory.
+    pub fn take_effects(&mut self) -> Effects
+        ensures program { (program : PlainProgram) → IsOfProgram program self.old → IsOfProgram program self.new }
+        ensures given { plain_effects result ≡ untaken self.old }
+        ensures left { untaken self.new ≡ [] }
+        ensures asked { asked_by self.new ≡ asked_by self.old }
+        ensures line { line_asked self.new ≡ line_asked self.old }
+        ensures answer { answer_by self.new ≡ answer_by self.old }
+        ensures constants { constants_by self.new ≡ constants_by self.old }
+        ensures stands { (base : js.Ground) → (budget : ℕ) → (o : Origin) → (replies : List PlainEvent) → (begun : ℕ) → (taken : List js.Effect) →
+            Stands base budget o replies begun taken self.old → Stands base budget o replies begun (taken ++ plain_effects result) self.new }
+    {
+        self.engine.take_effects()
+    }
+
+    /// The constants, as the top level left them. Takes no memory.
+    pub fn constants(self) -> Constants
+        ensures { result ≡ constants_by self }
+    {
+        let alloc = self.engine.alloc;
+        let constants = self.engine.constants;
+        constants.unwrap_or(Constants::new(alloc))
+    }
+}
+
+/// Why a machine stops at this step.
+fn pause_at(fuel: u64, step: &Step) -> Result<Pause, Memory>
+    ensures { IfOk result (λ pause. pause ≡ pause_of fuel step.now) }
+{
+    match step {
+        Step::Begin(_) => {
+            if fuel == 0 {
+                Ok(Pause::Spent)
+            } else {
+                Ok(Pause::More)
+            }
+        }
+        Step::Give(_) => Ok(Pause::Ended),
+        Step::Ask(_, _, _) => Ok(Pause::AtSync),
+        Step::Fail(fault, line) => Ok(Pause::Broken(*fault, *line)),
+        Step::Violate(text) => {
+            let copied = text.copy()?;
+            Ok(Pause::Violated(copied))
+        }
+    }
+}

@@ -1,0 +1,62 @@
+//! Steps from one begun node to the next.
+ghost use Rattle.std.specs.Prelude.{◌≡◌, ℕ, IfOk};
+ghost use Rattle.js_frames.specs.Places.{plain_ground, place_of};
+ghost use Rattle.js_frames.specs.Fits.{StackFits, StepFits};
+ghost use Rattle.js_frames.specs.Leads.{Keeps, IsSettled, Advanced};
+
+use crate::engine::Engine;
+use crate::ground::Ground;
+use crate::step::{Completion, Step};
+use js_data::Memory;
+
+impl Engine {
+    /// Goes on until a node must begin, or something else must come from outside.
+    fn settle(&mut self, base: &Ground, step: Step) -> Result<Step, Memory>
+        requires step { StepFits base.now.program step }
+        requires fits { StackFits base.now.program self.old.stack.items }
+        ensures keeps { IfOk result (λ last. Keeps (plain_ground base.now) (place_of self.old) step (place_of self.new) last) }
+        ensures settled { IfOk result (λ last. IsSettled last self.new.stack.items) }
+    {
+        match step {
+            Step::Give(completion) => self.unwind(base, completion),
+            other => Ok(other),
+        }
+    }
+
+    /// Gives a completion to the last frame, what comes of it to the one before, and so on.
+    fn unwind(&mut self, base: &Ground, completion: Completion) -> Result<Step, Memory>
+        requires fits { StackFits base.now.program self.old.stack.items }
+        ensures keeps { IfOk result (λ last. Keeps (plain_ground base.now) (place_of self.old) (Step.Give completion) (place_of self.new) last) }
+        ensures settled { IfOk result (λ last. IsSettled last self.new.stack.items) }
+    {
+        let mut current = completion;
+        while let Some(frame) = self.stack.pop() {
+            match self.give(base, frame, current)? {
+                Step::Give(next) => current = next,
+                other => return Ok(other),
+            }
+        }
+        Ok(Step::Give(current))
+    }
+
+    /// Goes on until so many nodes have begun and another must, or until something else stops it.
+    pub fn advance(&mut self, base: &Ground, step: Step, nodes: u64) -> Result<Step, Memory>
+        requires step { StepFits base.now.program step }
+        requires fits { StackFits base.now.program self.old.stack.items }
+        ensures { IfOk result (λ last. (begun : ℕ) × Advanced (plain_ground base.now) (place_of self.old) step (place_of self.new) last nodes begun) }
+    {
+        let mut current = self.settle(base, step)?;
+        for _ in 0..nodes {
+            let Step::Begin(number) = current else {
+                return Ok(current);
+            };
+            if self.fuel == 0 {
+                return Ok(Step::Begin(number));
+            }
+            self.fuel -= 1;
+            let next = self.begin(base, number)?;
+            current = self.settle(base, next)?;
+        }
+        Ok(current)
+    }
+}
