@@ -1,0 +1,9 @@
+//! Whether a set has an event.
+#![tactic(auto)]
+
+mod fault;
+mod membership;
+mod predicate;
+
+pub use fault::SetFault;
+pub use membership::contains;
