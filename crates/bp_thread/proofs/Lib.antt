@@ -1,5 +1,0 @@
-pub mod Standing
-pub mod Beginning
-pub mod Giving
-pub mod Slicing
-pub mod Carrying

@@ -1,5 +1,0 @@
-pub mod Views
-pub mod Kept
-pub mod Pauses
-pub mod Jobs
-pub mod Carried
