@@ -1,6 +1,6 @@
 -- Variables of the machine.
-use Rattle.std.proofs.Common.{◌≡◌, ℕ, zero, suc, ◌+◌, drop, List, [], ◌∷◌, Option, Some, None, Result, Ok, Err, refl, sym, ap, ◌∙◌, subst}
-use Rattle.std.specs.Prelude.{IfOk, slice_get, slice_set, option_map, unwrap_or}
+use Rattle.std.proofs.Common.{◌≡◌, ℕ, zero, suc, ◌+◌, drop, List, [], ◌∷◌, Option, Some, None, Result, refl, sym, ap, ◌∙◌, subst}
+use Rattle.std.specs.Prelude.{IfOk, slice_get}
 use Rattle.js_value.specs.Value.{PlainValue, undefined}
 use Rattle.js_program.specs.declared.node.Variable.{Variable}
 use Rattle.js_program.specs.declared.node.Variable.TheVariants.{Slot, Constant}
@@ -95,29 +95,32 @@ onward_next base old n place mid new at next node kind ds d found is h e get non
       budget_same = ap (λ (q : Place). q.budget) put ∙ kept_budget kind d.variable mid ∙ h.budget_same;
       fuel_same = ap (λ (q : Place). q.fuel) put ∙ kept_fuel kind d.variable mid ∙ h.fuel_same;
       same = λ b.
-        ap (λ k. declaring_from g (slice_get base.program.nodes n) k (state_at new b)) e
-        ∙ ap (λ q. declaring_from g (slice_get base.program.nodes n) (at + 1) (state_at q b)) put
-        ∙ ap (declaring_from g (slice_get base.program.nodes n) (at + 1)) (state_undefined kind d.variable mid b)
-        ∙ ap (λ o. declaring_from g o (at + 1) (without_value kind d.variable (state_at mid b))) found
-        ∙ ap (λ f. declares_from g f (at + 1) (without_value kind d.variable (state_at mid b))) is
-        ∙ skips g kind ds at d (state_at mid b) get none
-        ∙ ap (λ f. declares_from g f at (state_at mid b)) (sym is)
-        ∙ ap (λ o. declaring_from g o at (state_at mid b)) (sym found)
-        ∙ h.same b;
+          ap (λ k. declaring_from g (slice_get base.program.nodes n) k (state_at new b)) e
+          ∙ ap (λ q. declaring_from g (slice_get base.program.nodes n) (at + 1) (state_at q b)) put
+          ∙ ap (declaring_from g (slice_get base.program.nodes n) (at + 1)) (state_undefined kind d.variable mid b)
+          ∙ ap (λ o. declaring_from g o (at + 1) (without_value kind d.variable (state_at mid b))) found
+          ∙ ap (λ f. declares_from g f (at + 1) (without_value kind d.variable (state_at mid b))) is
+          ∙ skips g kind ds at d (state_at mid b) get none
+          ∙ ap (λ f. declares_from g f at (state_at mid b)) (sym is)
+          ∙ ap (λ o. declaring_from g o at (state_at mid b)) (sym found)
+          ∙ h.same b;
     }
   where
     kept_stack : (kind : DeclareKind) (x : Variable) (m : Place) → (let q = undefined_at kind x m in q.stack) ≡ m.stack
     kept_stack Const x m = put_stack x undefined m
     kept_stack Let x m = put_stack x undefined m
     kept_stack Var x m = refl
+
     kept_mode : (kind : DeclareKind) (x : Variable) (m : Place) → (let q = undefined_at kind x m in q.mode) ≡ m.mode
     kept_mode Const x m = put_mode x undefined m
     kept_mode Let x m = put_mode x undefined m
     kept_mode Var x m = refl
+
     kept_budget : (kind : DeclareKind) (x : Variable) (m : Place) → (let q = undefined_at kind x m in q.budget) ≡ m.budget
     kept_budget Const x m = put_budget x undefined m
     kept_budget Let x m = put_budget x undefined m
     kept_budget Var x m = refl
+
     kept_fuel : (kind : DeclareKind) (x : Variable) (m : Place) → (let q = undefined_at kind x m in q.fuel) ≡ m.fuel
     kept_fuel Const x m = put_fuel x undefined m
     kept_fuel Let x m = put_fuel x undefined m

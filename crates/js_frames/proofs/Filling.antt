@@ -1,5 +1,5 @@
 -- Lists that grow at their end.
-use Rattle.std.proofs.Common.{◌≡◌, ℕ, zero, suc, ◌+◌, ◌-◌, ◌≤◌, ◌<◌, List, [], ◌∷◌, ◌++◌, length, ◌∙◌, ap, sym, refl, replicate, map, take, drop, arith, append_assoc, Option, Some, None, inl, inr, ◌⊎◌}
+use Rattle.std.proofs.Common.{◌≡◌, ℕ, zero, suc, ◌+◌, ◌-◌, ◌≤◌, List, [], ◌∷◌, ◌++◌, length, ◌∙◌, ap, sym, refl, replicate, map, take, drop, arith, append_assoc, Option, Some, None, inl, inr, ◌⊎◌}
 use Rattle.std.proofs.lemmas.List.{replicate_more, map-append, length-map, length-append, length-take, length-replicate}
 use Rattle.js_value.specs.Value.{PlainValue, undefined}
 use Rattle.js_program.specs.PlainProgram.{PlainBody}
@@ -60,9 +60,9 @@ pub slots_made : (body : PlainBody) (captured args : List PlainValue) (start a b
 slots_made body captured args start a b c d none first second third fourth =
     let given = padded body.parameters args in
     let all : b ≡ map Some (given ++ captured) =
-        second ∙ ap (λ l. l ++ map Some captured) (first ∙ ap (λ l. l ++ map Some given) none) ∙ sym (map-append Some given captured) in
+    second ∙ ap (λ l. l ++ map Some captured) (first ∙ ap (λ l. l ++ map Some given) none) ∙ sym (map-append Some given captured) in
     let count : length b ≡ body.parameters + length captured =
-        ap length all ∙ length-map (given ++ captured) Some ∙ length-append given captured ∙ ap (λ k. k + length captured) (padded_length body.parameters args) in
+    ap length all ∙ length-map (given ++ captured) Some ∙ length-append given captured ∙ ap (λ k. k + length captured) (padded_length body.parameters args) in
     fourth ∙ ap (λ l. fold (λ slots k. slice_set slots k (Some undefined)) l body.vars)
     (third ∙ ap (λ l. l ++ replicate (body.slots - length b) None) all ∙ ap (λ k. map Some (given ++ captured) ++ replicate (body.slots - k) None) count)
 

@@ -31,12 +31,7 @@ use js_value::{Items, Op, Value, copy};
 use std::alloc::Global;
 
 /// A function with these captured values.
-fn made_function(
-    alloc: Global,
-    code: u32,
-    values: Vec<Value>,
-    line: u32,
-) -> Result<Step, Memory>
+fn made_function(alloc: Global, code: u32, values: Vec<Value>, line: u32) -> Result<Step, Memory>
     ensures { IfOk result (Becomes (λ g. answered line (made (function code (value_list_of (map plain_value values.items)))))) }
 {
     let captured = Items::new(alloc, values)?;

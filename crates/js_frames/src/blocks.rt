@@ -75,12 +75,7 @@ impl Engine {
     }
 
     /// The statement at this place begins, if there is one.
-    pub fn go_on(
-        &mut self,
-        base: &Ground,
-        sequence: Sequence,
-        place: usize,
-    ) -> Result<Step, Memory>
+    pub fn go_on(&mut self, base: &Ground, sequence: Sequence, place: usize) -> Result<Step, Memory>
         requires sequence { SequenceFits base.now.program sequence }
         requires fits { StackFits base.now.program self.old.stack.items }
         ensures { Goes base.now self.old (sequence_from (here base.now self.old) sequence place) self.new result }

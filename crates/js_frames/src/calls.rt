@@ -97,14 +97,7 @@ impl Engine {
         base.keeps();
         match function_of(base, code) {
             None => Ok(leave()),
-            Some(body) => self.enter(
-                base,
-                body,
-                Sequence::Function(code),
-                active,
-                captured,
-                args,
-            ),
+            Some(body) => self.enter(base, body, Sequence::Function(code), active, captured, args),
         }
     }
 

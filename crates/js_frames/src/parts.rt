@@ -103,7 +103,13 @@ fn made_fields(alloc: Global, keys: &[Text], mut done: Values) -> Result<Value, 
 }
 
 /// A method that calls nothing.
-fn apply_method(alloc: Global, line: u32, on: &Value, word: &Text, args: &Values) -> Result<Step, Memory>
+fn apply_method(
+    alloc: Global,
+    line: u32,
+    on: &Value,
+    word: &Text,
+    args: &Values,
+) -> Result<Step, Memory>
     ensures { IfOk result (Becomes (λ g. applies line (method_named word.now) (plain_value on.now) args.now)) }
 {
     match method_named(word.as_str()) {
@@ -135,12 +141,7 @@ impl Engine {
     }
 
     /// The next part begins, or the node has all values.
-    pub fn go_on_parts(
-        &mut self,
-        base: &Ground,
-        number: u32,
-        done: Values,
-    ) -> Result<Step, Memory>
+    pub fn go_on_parts(&mut self, base: &Ground, number: u32, done: Values) -> Result<Step, Memory>
         requires number { IsNode base.now.program number }
         requires form { HasForm IsLong base.now.program number }
         requires fits { StackFits base.now.program self.old.stack.items }
@@ -238,12 +239,7 @@ impl Engine {
     }
 
     /// The first value is called with the others.
-    fn combine_call(
-        &mut self,
-        base: &Ground,
-        line: u32,
-        mut done: Values,
-    ) -> Result<Step, Memory>
+    fn combine_call(&mut self, base: &Ground, line: u32, mut done: Values) -> Result<Step, Memory>
         requires { StackFits base.now.program self.old.stack.items }
         ensures { let g = here base.now self.old in Goes base.now self.old
             (calls g (eval g) line (argument 0 done) (drop 1 done)) self.new result }

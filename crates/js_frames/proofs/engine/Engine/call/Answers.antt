@@ -24,6 +24,6 @@ returns c =
     let old = place_of c.args.self.now in
     record {
       goes = subst (Leads (plain_ground c.args.base.now) old (calls g (eval g) c.args.line (plain_value c.args.function) c.args.args) old) (sym c.mistyped.ensures)
-        (stays (plain_ground c.args.base.now) old _ _ c.requires tt (λ s. no_call g (eval g) c.args.line c.args.function c.args.args s c.in_default.not-Function));
+          (stays (plain_ground c.args.base.now) old _ _ c.requires tt (λ s. no_call g (eval g) c.args.line c.args.function c.args.args s c.in_default.not-Function));
       effects = refl;
     }

@@ -1,4 +1,4 @@
-use Rattle.std.proofs.Common.{refl, sym, ap, ◌∙◌, subst}
+use Rattle.std.proofs.Common.{sym, ap, ◌∙◌, subst}
 use Rattle.js_value.specs.Value as v
 use Rattle.js_value.specs.Views.{plain_value}
 use Rattle.js_meaning.specs.Forms.{registers_thread}
@@ -12,7 +12,6 @@ use Rattle.js_frames.proofs.engine.Engine.register_named.Goals as goal
 pub returns-in-Function : goal.returns-in-Function
 returns-in-Function c = means_ok (plain_ground c.args.base.now) _ _ _ _ c.act.result c.act.ensures
     (λ s. ap (λ n. registers_thread c.args.line (v.words n) (v.function c.in-Function.code c.in-Function.captured) s) c.in_ok-copied-in-Function.ensures ∙ ap (λ x. registers_thread c.args.line (v.words c.args.name.now) (plain_value x) s) (sym c.in-Function.is))
-
 
 pub returns : goal.returns
 unfolding step_outcome

@@ -1,4 +1,4 @@
-use Rattle.std.proofs.Common.{◌≡◌, None, Some, refl, sym, ap, ◌∙◌, subst}
+use Rattle.std.proofs.Common.{refl, sym, ap, ◌∙◌, subst}
 use Rattle.std.proofs.lemmas.Bool.{lt-ltb, le-ltb}
 use Rattle.std.specs.Prelude.{unwrap_or, IsSome}
 use Rattle.js_program.specs.PlainProgram.{PlainBody}
@@ -21,7 +21,6 @@ returns-in_default-function_of c = walk_nothing (plain_ground c.args.base.now) (
 
 pub returns-in_default-first_in : goal.returns-in_default-first_in
 returns-in_default-first_in c = walk_nothing (plain_ground c.args.base.now) (place_of c.args.self.now) c.args.walk _ c.leave-in_default-first_in.ensures c.requires (lt-ltb c.args.self.now.calls 200 c.if-self-ge-MOST_CALLS.false) (ap (λ o. first_of (let q : PlainBody = unwrap_or o no_body in q.content)) (sym c.in-Some-function_of.ensures) ∙ sym c.in_default-first_in.ensures)
-
 
 pub walk_on-requires : goal.walk_on-requires
 walk_on-requires c =
