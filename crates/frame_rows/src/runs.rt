@@ -1,4 +1,8 @@
 //! What the run of a program does, as words.
+ghost use Rattle.std.specs.Prelude.{◌≡◌, IfOk, IsSome};
+ghost use Rattle.js_frames.specs.Places.{plain_ground};
+ghost use Rattle.js_frames.specs.Runs.{IsOfProgram, asked_by};
+
 use bp_script::{ScriptFault, accept};
 use js_data::{Event, Text};
 use js_json::event_text;
@@ -43,7 +47,9 @@ fn push_effects(out: &mut String, alloc: Global, effects: &Effects) -> Result<()
     Ok(())
 }
 
-fn push_pause(out: &mut String, machine: &Machine, pause: &Pause) -> Result<(), AllocError> {
+fn push_pause(out: &mut String, machine: &Machine, pause: &Pause) -> Result<(), AllocError>
+    requires { pause.now ≡ Pause.AtSync → IsSome (asked_by machine.now) }
+{
     match pause {
         Pause::More => write!(out, "more"),
         Pause::AtSync => write!(out, "sync {}; ", machine.line()),
@@ -61,7 +67,11 @@ fn run_slices(
     machine: &mut Machine,
     ground: &Ground,
     nodes: u64,
-) -> Result<Pause, AllocError> {
+) -> Result<Pause, AllocError>
+    requires { IsOfProgram (plain_ground ground.now).program machine.old }
+    ensures program { IsOfProgram (plain_ground ground.now).program machine.new }
+    ensures asks { IfOk result (λ pause. pause ≡ Pause.AtSync → IsSome (asked_by machine.new)) }
+{
     for _ in 0..BUDGET {
         let pause = machine.run(ground, nodes)?;
         let effects = machine.take_effects();
