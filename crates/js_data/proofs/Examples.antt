@@ -3,7 +3,7 @@ use Rattle.std.specs.Prelude.{◌≡◌, pos, negsuc, [], ◌∷◌, true, false
 use Rattle.std.specs.Fmt.{digits}
 use Rattle.js_data.specs.Whole.{is_whole}
 use Rattle.js_data.specs.Data.{PlainData, null, truth, whole, words, list, fields, no_data, item, no_fields, field, data_weight, data_nesting, same_data, IsSortedData}
-use Rattle.js_data.specs.Event.{PlainEvent, event_weight, event_nesting}
+use Rattle.js_data.specs.Event.{PlainEvent, event_weight, event_nesting, same_event}
 use Rattle.js_data.specs.JsonText.{quoted_text, event_text}
 
 greatest : is_whole (pos 9_007_199_254_740_991) ≡ true
@@ -56,6 +56,19 @@ nesting_of_event = refl
 
 nesting_with_data : event_nesting go_with ≡ 4
 nesting_with_data = refl
+
+-- no data is not null
+abbrev go_null : PlainEvent
+go_null = record { name = codes "go"; extra = Some null }
+
+none_and_null : same_event go go_null ≡ false
+none_and_null = refl
+
+same_name_and_data : same_event go_with go_with ≡ true
+same_name_and_data = refl
+
+other_name : same_event go (record { name = codes "go "; extra = None }) ≡ false
+other_name = refl
 
 text_of_event : event_text go ≡ codes "[\"go\"]"
 text_of_event = refl

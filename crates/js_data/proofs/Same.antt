@@ -25,7 +25,7 @@ fields_differ_by_length (x ∷ xs) (y ∷ ys) h = rw (fields_differ_by_length xs
 
 -- ---- equality
 
-both : (a b : Bool) → (a && b) ≡ true → (a ≡ true) × (b ≡ true)
+pub both : (a b : Bool) → (a && b) ≡ true → (a ≡ true) × (b ≡ true)
 both true b e = (refl, e)
 both false b e = absurd (true≢false (sym e))
 

@@ -1,6 +1,7 @@
 -- The plain form of each type that holds itself.
-use Rattle.std.specs.Prelude.{ℕ, List, map}
+use Rattle.std.specs.Prelude.{ℕ, List, map, Option, option_map}
 use Rattle.js_data.specs.Data.{PlainData, null, truth, whole, words, list, fields, DataList, DataFields}
+use Rattle.js_data.specs.Event.{PlainEvent}
 pub use Rattle.js_data.specs.Lists.{data_list_of, data_fields_of}
 use Rattle.js_data.specs.declared.data.Data.{Data, fold-Data}
 use Rattle.js_data.specs.declared.data.Data.TheOpen.{Data-F}
@@ -24,3 +25,7 @@ plain_field f = (f.0, plain_data f.1)
 
 abbrev pub data_fields_view : List (List ℕ × Data) → DataFields
 data_fields_view fs = data_fields_of (map plain_field fs)
+
+-- the plain form of an event of this name and data
+abbrev pub plain_event : List ℕ → Option Data → PlainEvent
+plain_event name extra = record { name = name; extra = option_map plain_data extra }

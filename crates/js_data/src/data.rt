@@ -58,6 +58,7 @@ pub fn data_weight(tree: &Data) -> u64
     match tree {
         Data::Null | Data::Truth(_) => 1,
         Data::Whole(n) => {
+            // Reads the number for the proof alone: so its range is known.
             let _number = n.get();
             1
         }
@@ -166,7 +167,8 @@ fn copy_fields(fields: &Vec<(Text, Data)>) -> Result<Vec<(Text, Data)>, Memory>
 
 /// Whether the two are equal. Takes no memory.
 pub fn are_equal(left: &Data, right: &Data) -> bool
-    ensures { IsTrue result ↔ (plain_data left.now ≡ plain_data right.now) }
+    ensures same { result ≡ data_is_same (plain_data left.now) (plain_data right.now) }
+    ensures equal { IsTrue result ↔ (plain_data left.now ≡ plain_data right.now) }
 {
     same_data(left, right)
 }

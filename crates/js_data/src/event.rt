@@ -1,8 +1,9 @@
 //! Events.
-ghost use Rattle.std.specs.Prelude.{◌≡◌, ◌<◌, ◌≤◌, ◌↔◌, IsTrue, IfOk, Err, option_map};
+ghost use Rattle.std.specs.Prelude.{◌≡◌, ◌+◌, ◌<◌, ◌≤◌, ◌↔◌, IsTrue, IfOk, Err, option_map, true};
+ghost use Rattle.std.specs.Str.{is_utf8};
 ghost use Rattle.js_data.specs.Capped.{capped};
-ghost use Rattle.js_data.specs.Event.{PlainEvent, IsEvent, event_weight, event_nesting, extra_weight, extra_nesting, IsSortedExtra, IsHeldExtra};
-ghost use Rattle.js_data.specs.Views.{plain_data};
+ghost use Rattle.js_data.specs.Event.{PlainEvent, IsEvent, event_weight, event_nesting, extra_weight, extra_nesting, IsSortedExtra, IsHeldExtra, same_event as event_is_same, same_extra as extra_is_same};
+ghost use Rattle.js_data.specs.Views.{plain_data, plain_event};
 
 use crate::Memory;
 use crate::data::{Data, are_equal, copy_data, data_nesting, data_weight, text_weight};
@@ -27,7 +28,6 @@ impl Drop for Event {
 }
 
 impl Model for Event {
-    ghost use Rattle.std.specs.Prelude.{option_map};
     ghost use Rattle.js_data.specs.Event.{PlainEvent};
     ghost use Rattle.js_data.specs.Codes.{event_code};
 
@@ -36,11 +36,11 @@ impl Model for Event {
     ghost coded = { event_code };
 
     ghost use Rattle.js_data.specs.Event.{IsEvent};
-    ghost use Rattle.js_data.specs.Views.{plain_data};
+    ghost use Rattle.js_data.specs.Views.{plain_event};
 
-    ghost view = { λ e. record { name = e.name; extra = option_map plain_data e.extra } };
+    ghost view = { λ e. plain_event e.name e.extra };
 
-    ghost invariant = { λ e. IsEvent (record { name = e.name; extra = option_map plain_data e.extra }) };
+    ghost invariant = { λ e. IsEvent (plain_event e.name e.extra) };
 }
 
 /// Why a name and data are no event.
@@ -73,6 +73,23 @@ fn extra_nesting_of(extra: &Option<Data>) -> u64
     }
 }
 
+/// The weight of an event of this name and data, or the greatest u64 where it is more.
+fn weight_of(name: &Text, extra: &Option<Data>) -> u64
+    ensures utf8 { is_utf8 name.now ≡ true }
+    ensures held { IsHeldExtra (option_map plain_data extra.now) }
+    ensures weight { result ≡ capped (event_weight (plain_event name.now extra.now)) }
+{
+    let parts = text_weight(name).saturating_add(extra_weight_of(extra));
+    parts.saturating_add(1)
+}
+
+/// The nesting of an event of this data, or the greatest u64 where it is more.
+fn nesting_of(extra: &Option<Data>) -> u64
+    ensures { result ≡ capped (1 + extra_nesting (option_map plain_data extra.now)) }
+{
+    extra_nesting_of(extra).saturating_add(1)
+}
+
 impl Event {
     /// The greatest weight of an event.
     pub const MOST_WEIGHT: u64 = 1024;
@@ -88,18 +105,17 @@ impl Event {
     /// nesting passes 64.
     pub fn new(name: Text, extra: Option<Data>) -> Result<Event, TooHeavy>
         requires { IsSortedExtra (option_map plain_data extra) }
-        ensures made { IfOk result (λ e. e ≡ record { name = name; extra = option_map plain_data extra }) }
+        ensures made { IfOk result (λ e. e ≡ plain_event name extra) }
         ensures weight { (result ≡ Err TooHeavy.Weight)
-            ↔ (1024 < event_weight (record { name = name; extra = option_map plain_data extra })) }
+            ↔ (Event.MOST_WEIGHT < event_weight (plain_event name extra)) }
         ensures nesting { (result ≡ Err TooHeavy.Nesting)
-            ↔ ((event_weight (record { name = name; extra = option_map plain_data extra }) ≤ 1024)
-            × (64 < event_nesting (record { name = name; extra = option_map plain_data extra }))) }
+            ↔ ((event_weight (plain_event name extra) ≤ Event.MOST_WEIGHT)
+            × (Event.MOST_NESTING < event_nesting (plain_event name extra))) }
     {
-        let weight = text_weight(&name).saturating_add(extra_weight_of(&extra));
-        if weight >= Event::MOST_WEIGHT {
+        if weight_of(&name, &extra) > Event::MOST_WEIGHT {
             return Err(TooHeavy::Weight);
         }
-        if extra_nesting_of(&extra) >= Event::MOST_NESTING {
+        if nesting_of(&extra) > Event::MOST_NESTING {
             return Err(TooHeavy::Nesting);
         }
         Ok(Event { name, extra })
@@ -109,21 +125,21 @@ impl Event {
     pub fn weight(&self) -> u64
         ensures { result ≡ capped (event_weight self.now) }
     {
-        let sum = text_weight(&self.name).saturating_add(extra_weight_of(&self.extra));
-        sum.saturating_add(1)
+        weight_of(&self.name, &self.extra)
     }
 
     /// The nesting of the event. Takes no memory.
     pub fn nesting(&self) -> u64
         ensures { result ≡ capped (event_nesting self.now) }
     {
-        extra_nesting_of(&self.extra).saturating_add(1)
+        nesting_of(&self.extra)
     }
 
     /// What each event keeps, as a fact for its callers. Does nothing.
     pub fn keeps(&self)
         ensures { IsEvent self.now }
     {
+        // Reads a field for the proof alone: so what the type keeps is known.
         let _name = &self.name;
     }
 
@@ -141,9 +157,20 @@ impl Event {
         self.extra.as_ref()
     }
 
+    /// The name and the data, if the event has any, given back. Takes no memory.
+    pub fn into_parts(self) -> (Text, Option<Data>)
+        ensures kept { IsEvent self }
+        ensures name { result.0 ≡ self.name }
+        ensures extra { option_map plain_data result.1 ≡ self.extra }
+    {
+        let Event { name, extra } = self;
+        (name, extra)
+    }
+
     /// Whether the names are equal, and both are without data or have equal data. Takes no memory.
     pub fn same(&self, other: &Event) -> bool
-        ensures { IsTrue result ↔ (self.now ≡ other.now) }
+        ensures same { result ≡ event_is_same self.now other.now }
+        ensures equal { IsTrue result ↔ (self.now ≡ other.now) }
     {
         self.name.same(&other.name) && same_extra(&self.extra, &other.extra)
     }
@@ -159,14 +186,12 @@ impl Event {
 }
 
 fn same_extra(left: &Option<Data>, right: &Option<Data>) -> bool
-    ensures { IsTrue result ↔ (option_map plain_data left.now ≡ option_map plain_data right.now) }
+    ensures { result ≡ extra_is_same (option_map plain_data left.now) (option_map plain_data right.now) }
 {
-    match left {
-        None => right.is_none(),
-        Some(a) => match right {
-            None => false,
-            Some(b) => are_equal(a, b),
-        },
+    match (left, right) {
+        (None, None) => true,
+        (Some(a), Some(b)) => are_equal(a, b),
+        _ => false,
     }
 }
 

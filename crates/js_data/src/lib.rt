@@ -4,14 +4,12 @@
 pub mod data;
 pub mod event;
 pub mod fault;
-pub mod lists;
 pub mod text;
 pub mod whole;
 
 pub use data::{Data, are_equal, copy_data, data_nesting, data_weight, text_weight};
 pub use event::{Event, TooHeavy};
 pub use fault::Fault;
-pub use lists::{Events, Numbers, Texts};
 use std::alloc::AllocError;
 pub use text::Text;
 pub use whole::Whole;

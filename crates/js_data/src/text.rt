@@ -34,6 +34,13 @@ impl Text {
         self.text.as_str()
     }
 
+    /// The string, given back. Takes no memory.
+    pub fn into_string(self) -> String
+        ensures { string_bytes result ≡ self }
+    {
+        self.text
+    }
+
     /// An equal text. Its only error is want of memory.
     pub fn copy(&self) -> Result<Text, Memory>
         ensures { IfOk result (λ t. t ≡ self.now) }
