@@ -31,7 +31,7 @@ impl Engine {
             Builtin::EventSet => answered(make(self.alloc, Make::Set, args.as_slice(), &[]), line),
             Builtin::All => self.set(SetTree::All),
             Builtin::Nothing => self.set(SetTree::Nothing),
-            Builtin::Assert => Ok(asserted(line, args)),
+            Builtin::Assert => asserted(line, args),
             Builtin::EnqueueExternalEvent => self.enqueue(line, args),
             Builtin::SetInterruptHandler => self.handle(line, args),
             Builtin::LogInfo => self.log(line, args),
@@ -107,18 +107,19 @@ fn ask(line: u32, mut args: Values) -> Step {
     Step::Ask(args.take(0), priority, line)
 }
 
-/// An assertion. Takes no memory.
-fn asserted(line: u32, mut args: Values) -> Step {
-    let text = args.take(1);
-    match text {
-        Value::Words(text) => {
-            if truthy(&args.take(0)) {
-                leave()
-            } else {
-                Step::Violate(text)
-            }
-        }
-        _ => mistyped(line),
+/// An assertion.
+fn asserted(line: u32, mut args: Values) -> Result<Step, Memory> {
+    match args.take(1) {
+        Value::Words(text) => assert_with(&args.take(0), &text),
+        _ => Ok(mistyped(line)),
+    }
+}
+
+fn assert_with(condition: &Value, text: &Text) -> Result<Step, Memory> {
+    if truthy(condition) {
+        Ok(leave())
+    } else {
+        Ok(Step::Violate(text.copy()?))
     }
 }
 

@@ -2,6 +2,7 @@
 use js_data::{Event, Fault, Memory, Text};
 use js_ops::OpFault;
 use js_value::Value;
+use std::alloc::AllocError;
 
 /// How a node completes.
 #[derive(Drop)]
@@ -49,6 +50,6 @@ pub fn answered(answer: Result<Value, OpFault>, line: u32) -> Result<Step, Memor
     match answer {
         Ok(value) => Ok(give(value)),
         Err(OpFault::Fault(fault)) => Ok(Step::Fail(fault, line)),
-        Err(OpFault::Memory) => Err(Memory),
+        Err(OpFault::Memory) => Err(AllocError),
     }
 }
