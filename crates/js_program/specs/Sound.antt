@@ -1,4 +1,4 @@
--- Every number of a program is in range: the parts of a node are smaller than the node, and slots, captures, constants and functions are there. Constants are declared by the top level alone, and a declared function captures nothing.
+-- Every number of a program is in range: the parts of a node are smaller than the node, and slots, captures, constants and functions are there. The top level alone declares constants, and a declared function captures nothing.
 use Rattle.std.specs.Prelude.{ℕ, ◌+◌, ◌<◌, suc, zero, Bool, true, false, ◌&&◌, nat_eq, nat_lt, nat_le, List, [], ◌∷◌, Option, Some, None, IsTrue, length, map, slice_get}
 use Rattle.std.specs.List.{list_all}
 use Rattle.js_program.specs.declared.node.Variable.{Variable}
@@ -37,12 +37,7 @@ keys_fit _ = true
 abbrev pub all_below : ℕ → List ℕ → Bool
 all_below n xs = list_all (λ x. nat_lt x n) xs
 
--- a slot of a function with this many slots
-abbrev pub slot_fits : ℕ → Variable → Bool
-slot_fits slots (Slot n) = nat_lt n slots
-slot_fits slots (Constant n) = false
-
--- such a slot, or one of so many constants
+-- one of so many slots, or of so many constants
 abbrev pub variable_fits : ℕ → ℕ → Variable → Bool
 variable_fits slots constants (Slot n) = nat_lt n slots
 variable_fits slots constants (Constant n) = nat_lt n constants
@@ -61,29 +56,21 @@ form_fits p slots form =
     list_all (variable_fits slots (length p.constants)) (variables_read form)
     && (all_below slots (slots_named form) && (list_all (function_fits p slots) (function_in form) && keys_fit form))
 
--- a node is there, what it names is there, it declares what it may, and its parts pass a test
-abbrev pub found_fits : PlainProgram → ℕ → (Variable → Bool) → (ℕ → Bool) → Option PlainNode → Bool
-found_fits p slots may_declare parts_pass None = false
-found_fits p slots may_declare parts_pass (Some x) = form_fits p slots x.form && (list_all may_declare (variables_declared x.form) && list_all parts_pass (parts_of x.form))
+-- a node is there, what it names is there, it declares slots and constants below this number, and its parts pass a test
+abbrev pub found_fits : PlainProgram → ℕ → ℕ → (ℕ → Bool) → Option PlainNode → Bool
+found_fits p slots constants parts_pass None = false
+found_fits p slots constants parts_pass (Some x) =
+    form_fits p slots x.form && (list_all (variable_fits slots constants) (variables_declared x.form) && list_all parts_pass (parts_of x.form))
 
--- a node fits a function with this many slots, and so do its parts, down to this depth: they declare slots alone
-unfoldable pub node_fits : PlainProgram → ℕ → ℕ → ℕ → Bool
-node_fits p slots zero n = true
-node_fits p slots (suc depth) n = found_fits p slots (slot_fits slots) (node_fits p slots depth) (slice_get p.nodes n)
+-- a node fits a body with this many slots that declares constants below this number, and so do its parts, down to this depth
+unfoldable pub node_fits : PlainProgram → ℕ → ℕ → ℕ → ℕ → Bool
+node_fits p slots constants zero n = true
+node_fits p slots constants (suc depth) n = found_fits p slots constants (node_fits p slots constants depth) (slice_get p.nodes n)
 
--- so does a statement of the top level's own list, which may declare constants too
-unfoldable pub statement_fits : PlainProgram → ℕ → ℕ → Bool
-statement_fits p depth n = found_fits p p.top.slots (variable_fits p.top.slots (length p.constants)) (node_fits p p.top.slots depth) (slice_get p.nodes n)
-
--- the slots of a body hold its parameters, what it captures, and its `var`s
-abbrev pub room_fits : PlainBody → Bool
-room_fits b = nat_le (b.parameters + length b.captures) b.slots && all_below b.slots b.vars
-
-abbrev pub body_fits : PlainProgram → ℕ → PlainBody → Bool
-body_fits p depth b = room_fits b && list_all (node_fits p b.slots depth) (content_parts b.content)
-
-abbrev pub top_fits : PlainProgram → ℕ → Bool
-top_fits p depth = room_fits p.top && list_all (statement_fits p depth) (content_parts p.top.content)
+-- the slots of a body hold its parameters, what it captures, and its `var`s; it declares constants below this number
+abbrev pub body_fits : PlainProgram → ℕ → ℕ → PlainBody → Bool
+body_fits p constants depth b =
+    (nat_le (b.parameters + length b.captures) b.slots && all_below b.slots b.vars) && list_all (node_fits p b.slots constants depth) (content_parts b.content)
 
 abbrev pub captures_nothing : Option PlainBody → Bool
 captures_nothing None = false
@@ -100,12 +87,12 @@ unfoldable pub ordered : ℕ → List PlainNode → Bool
 ordered n [] = true
 ordered n (x ∷ xs) = all_below n (parts_of x.form) && ordered (suc n) xs
 
--- its lists are counted by 32 bits, and its nodes fit, however deep
+-- its lists are counted by 32 bits, and its nodes fit, however deep: functions declare no constants
 pub record IsSound (p : PlainProgram) : Type 0 where
   pub nodes : length p.nodes < 4294967296
   pub functions : length p.functions < 4294967296
   pub constants : length p.constants < 4294967296
   pub order : IsTrue (ordered 0 p.nodes)
-  pub top : (depth : ℕ) → IsTrue (top_fits p depth)
-  pub bodies : (depth : ℕ) → IsTrue (list_all (body_fits p depth) p.functions)
+  pub top : (depth : ℕ) → IsTrue (body_fits p (length p.constants) depth p.top)
+  pub bodies : (depth : ℕ) → IsTrue (list_all (body_fits p 0 depth) p.functions)
   pub starts : IsTrue (list_all (constant_fits p) p.constants)
