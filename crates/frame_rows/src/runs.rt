@@ -2,7 +2,7 @@
 use bp_script::{ScriptFault, accept};
 use js_data::{Event, Text};
 use js_json::event_text;
-use js_machine::{Effect, Effects, Ground, Machine, Pause};
+use js_frames::{Effect, Effects, Ground, Machine, Pause};
 use js_program::{Mode, Program};
 use js_value::Value;
 use std::alloc::{AllocError, Global};
