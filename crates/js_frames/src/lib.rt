@@ -1,0 +1,29 @@
+//! The frame machine: it runs the top level or a function of a program in slices, and stops at `bp.sync`.
+#![tactic(auto)]
+
+mod assigning;
+mod begin;
+mod blocks;
+mod branches;
+mod calls;
+mod effect;
+mod engine;
+mod for_each;
+mod forms;
+mod frame;
+mod give;
+mod ground;
+mod loops;
+mod machine;
+mod operators;
+mod parts;
+mod settle;
+mod slots;
+mod stack;
+mod step;
+mod values;
+
+pub use effect::{Effect, Effects};
+pub use ground::Ground;
+pub use machine::{Machine, Pause};
+pub use slots::{Constants, Slots};
