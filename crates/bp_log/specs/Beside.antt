@@ -1,5 +1,6 @@
 -- What is asked of the machine that runs.
 use Rattle.std.specs.Prelude.{ℕ, ◌≤◌}
+use Rattle.bp_log.specs.declared.limits.TheConstants.{MOST_WORKERS, MOST_SLICE}
 
 pub record PlainBeside : Type 0 where
   pub workers : ℕ
@@ -8,9 +9,9 @@ pub record PlainBeside : Type 0 where
 -- the numbers are in their ranges
 pub record AreBeside (b : PlainBeside) : Type 0 where
   pub some_workers : 1 ≤ b.workers
-  pub workers : b.workers ≤ 64
+  pub workers : b.workers ≤ MOST_WORKERS
   pub some_slice : 1 ≤ b.slice
-  pub slice : b.slice ≤ 1_000_000_000
+  pub slice : b.slice ≤ MOST_SLICE
 
 -- where nothing is said
 abbrev pub default_beside : PlainBeside

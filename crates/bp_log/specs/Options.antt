@@ -1,5 +1,6 @@
 -- What is asked of a run.
 use Rattle.std.specs.Prelude.{ℕ, ◌≤◌}
+use Rattle.bp_log.specs.declared.limits.TheConstants.{MOST_BUDGET, MOST_STEPS, MOST_INJECTORS}
 use Rattle.bp_log.specs.declared.options.Strategy.{Strategy}
 use Rattle.bp_log.specs.declared.options.Strategy.TheVariants.{Simple}
 
@@ -13,10 +14,10 @@ pub record PlainOptions : Type 0 where
 -- the numbers are in their ranges
 pub record AreOptions (o : PlainOptions) : Type 0 where
   pub some_budget : 1 ≤ o.budget
-  pub budget : o.budget ≤ 1_000_000_000
+  pub budget : o.budget ≤ MOST_BUDGET
   pub some_steps : 1 ≤ o.steps
-  pub steps : o.steps ≤ 1_000_000
-  pub injectors : o.injectors ≤ 16
+  pub steps : o.steps ≤ MOST_STEPS
+  pub injectors : o.injectors ≤ MOST_INJECTORS
 
 -- where nothing is said
 abbrev pub default_options : PlainOptions

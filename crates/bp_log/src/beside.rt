@@ -2,6 +2,7 @@
 ghost use Rattle.std.specs.Prelude.{◌≡◌, SomeIff};
 ghost use Rattle.bp_log.specs.Beside.{PlainBeside, AreBeside, default_beside};
 
+use crate::limits::{MOST_SLICE, MOST_WORKERS};
 use std::alloc::AllocError;
 use std::marker::Model;
 
@@ -46,8 +47,8 @@ impl Beside {
         ensures { let plain : PlainBeside = record { workers = workers; slice = slice } in
             SomeIff result (AreBeside plain) plain }
     {
-        let workers_fit = 1 <= workers && workers <= 64;
-        let slice_fits = 1 <= slice && slice <= 1_000_000_000;
+        let workers_fit = 1 <= workers && workers <= MOST_WORKERS;
+        let slice_fits = 1 <= slice && slice <= MOST_SLICE;
         if !workers_fit || !slice_fits {
             return None;
         }

@@ -3,6 +3,7 @@ ghost use Rattle.std.specs.Prelude.{◌≡◌, ◌≤◌, SomeIff, length};
 ghost use Rattle.bp_log.specs.Header.{PlainHeader};
 
 use crate::Options;
+use crate::limits::MOST_BYTES;
 use std::marker::Model;
 
 /// The options of a run, and the bytes of its program.
@@ -17,24 +18,22 @@ pub struct Header {
 impl Model for Header {
     ghost use Rattle.std.specs.Prelude.{◌≤◌, length};
     ghost use Rattle.bp_log.specs.Header.{PlainHeader};
+    ghost use Rattle.bp_log.specs.declared.limits.TheConstants.{MOST_BYTES};
 
     ghost Value = { PlainHeader };
 
     ghost view = { λ h. record { options = h.options; program = h.program.items } };
 
-    ghost invariant = { λ h. length h.program.items ≤ 1_048_576 };
+    ghost invariant = { λ h. length h.program.items ≤ MOST_BYTES };
 }
 
 impl Header {
-    /// The greatest number of bytes of a program.
-    pub const MOST_BYTES: usize = 1_048_576;
-
     /// The header of these options and this program, or `None` exactly where the program has more
     /// than 1,048,576 bytes. Takes no memory.
     pub fn new(options: Options, program: Vec<u8>) -> Option<Header>
-        ensures { SomeIff result (length program.items ≤ 1_048_576) (record { options = options; program = program.items }) }
+        ensures { SomeIff result (length program.items ≤ MOST_BYTES) (record { options = options; program = program.items }) }
     {
-        if program.len() > Header::MOST_BYTES {
+        if program.len() > MOST_BYTES as usize {
             return None;
         }
         Some(Header { options, program })
@@ -50,7 +49,7 @@ impl Header {
     /// The bytes of the program.
     pub fn program(&self) -> &[u8]
         ensures program { result.now ≡ self.now.program }
-        ensures within { length self.now.program ≤ 1_048_576 }
+        ensures within { length self.now.program ≤ MOST_BYTES }
     {
         self.program.as_slice()
     }

@@ -4,6 +4,7 @@
 pub mod beside;
 pub mod header;
 pub mod item;
+pub mod limits;
 pub mod options;
 pub mod record;
 pub mod trace;

@@ -2,6 +2,7 @@
 ghost use Rattle.std.specs.Prelude.{◌≡◌, SomeIff};
 ghost use Rattle.bp_log.specs.Options.{PlainOptions, AreOptions, default_options};
 
+use crate::limits::{MOST_BUDGET, MOST_INJECTORS, MOST_STEPS};
 use std::alloc::AllocError;
 use std::marker::Model;
 
@@ -67,9 +68,9 @@ impl Options {
         ensures { let plain : PlainOptions = record { strategy = strategy; seed = seed; budget = budget; steps = steps; injectors = injectors } in
             SomeIff result (AreOptions plain) plain }
     {
-        let budget_fits = 1 <= budget && budget <= 1_000_000_000;
-        let steps_fit = 1 <= steps && steps <= 1_000_000;
-        if !budget_fits || !steps_fit || injectors > 16 {
+        let budget_fits = 1 <= budget && budget <= MOST_BUDGET;
+        let steps_fit = 1 <= steps && steps <= MOST_STEPS;
+        if !budget_fits || !steps_fit || injectors > MOST_INJECTORS {
             return None;
         }
         Some(Options {

@@ -1,28 +1,26 @@
 -- A small language, and the definitions computed at programs of it.
 use Rattle.std.proofs.Common.{◌≡◌, ℕ, ◌+◌, Bool, true, false, List, [], ◌∷◌, ◌++◌, length, refl}
-use Rattle.std.specs.Prelude.{ℤ, pos, negsuc, Option, Some, None, Result, Ok, Err, codes, ◌==◌, replicate, option_map}
-use Rattle.std.specs.Fmt.{digits, signed_decimal}
-use Rattle.js_data.specs.Data.{PlainData, null, truth, whole, words, list, fields, DataList, no_data, item, DataFields, no_fields, field}
-use Rattle.js_data.specs.Event.{PlainEvent}
-use Rattle.js_data.specs.declared.fault.Fault.TheVariants as fault
+use Rattle.std.specs.Prelude.{ℤ, pos, negsuc, Option, Some, None, Result, Ok, Err, codes, replicate, option_map, if◌then◌else◌}
+use Rattle.std.specs.Fmt.{digits}
+use Rattle.js_data.specs.Data.{null, truth, whole, words, list, fields, no_data, item, no_fields, field}
+use Rattle.js_data.specs.Event.{PlainEvent, same_event}
 use Rattle.bp_log.specs.Options.{PlainOptions, default_options}
+use Rattle.bp_log.specs.Texts.{line_text, lines_text}
 use Rattle.bp_log.specs.declared.options.Strategy.{Strategy}
 use Rattle.bp_log.specs.declared.options.Strategy.TheVariants.{Simple, Ordered, Priority}
 use Rattle.bp_log.specs.declared.record.Record.{Record}
 use Rattle.bp_log.specs.declared.record.Record.TheVariants.{In, Bad, Eof, Sel, End}
-use Rattle.bp_log.specs.declared.verdict.Verdict.{Verdict}
 use Rattle.bp_log.specs.declared.verdict.Verdict.TheVariants as verdict
-use Rattle.bp_run.specs.Events.{same_event}
-use Rattle.bp_run.specs.Bodies.{Code, Part, Effect, Outcome, Statement, SetFault}
+use Rattle.bp_run.specs.Bodies.{Code, Part, Effect, SetFault}
 use Rattle.bp_run.specs.Bodies.Outcome.{Stopped, Ended, Violated}
 use Rattle.bp_run.specs.Bodies.Effect.{Says, Enqueue, Register, Handler}
 use Rattle.bp_run.specs.Configuration.{Configuration}
 use Rattle.bp_run.specs.Settling.{turn, settle_in, settle, initial}
-use Rattle.bp_run.specs.Choosing.{selectable, choice, reach}
+use Rattle.bp_run.specs.Selecting.{selectable}
+use Rattle.bp_run.specs.Choosing.{choice, reach}
 use Rattle.bp_run.specs.Story.{step, next, after_record, story_from, story, alone_from, alone}
 use Rattle.bp_run.specs.Story.Next.{Waits}
-use Rattle.bp_run.specs.Text.{line_text, lines_text, text}
-use Rattle.bp_run.specs.Logs.{record_text, records_text, log_text}
+use Rattle.bp_run.specs.Text.{text}
 
 -- ---- the language
 
@@ -32,12 +30,15 @@ pub data Small : Type 0 where
   Nothing : Small
   Only : PlainEvent → Small
   Untrue : Small
+  -- at fault on this event alone
+  Fails : ℕ → PlainEvent → Small
 
 abbrev pub has : Small → PlainEvent → Result Bool SetFault
 has All e = Ok true
 has Nothing e = Ok false
 has (Only f) e = Ok (same_event f e)
 has Untrue e = Err (SetFault.NotTruth 1)
+has (Fails n f) e = if same_event e f then Err (SetFault.NotTruth n) else Ok false
 
 -- bodies
 pub data Body : Type 0 where
@@ -103,7 +104,13 @@ one_blocked A (e ∷ es) = doing []
 one_blocked B replies = at_point [] Nothing (Only x) Nothing
 one_blocked _ replies = doing []
 
-pub blocked_request_is_not_selected : printed one_blocked default_options ≡ Some (codes "event [\"y\"]\ndone \"A\"\nverdict quiet 1\n")
+-- every word is 0, which draws the first of several
+abbrev drawing_the_first : Code Body Small
+drawing_the_first = record (code one_blocked) { word = λ n. 0 }
+
+-- x is the first candidate, and would be drawn if it were not blocked
+pub blocked_request_is_not_selected :
+    text drawing_the_first default_options (alone drawing_the_first default_options) ≡ Some (codes "event [\"y\"]\ndone \"A\"\nverdict quiet 1\n")
 unfolding turn settle_in settle initial selectable choice reach step next after_record story_from story alone_from alone line_text lines_text text digits
 blocked_request_is_not_selected = refl
 
@@ -129,16 +136,6 @@ blocked_external_keeps_its_place = refl
 pub blocked_external_is_not_selected : story (code one_overtaken) (with_injectors 1) (In 0 x ∷ In 0 go ∷ Eof 0 ∷ Sel x ∷ []) ≡ None
 unfolding turn settle_in settle initial selectable choice reach step next after_record story_from story
 blocked_external_is_not_selected = refl
-
-pub records_as_text : records_text overtaking ≡ codes "in 0 [\"x\"]\nin 0 [\"go\"]\neof 0\nsel [\"go\"]\nsel [\"x\"]\nend quiet 2\n"
-unfolding record_text records_text digits
-records_as_text = refl
-
-pub log_as_text :
-    log_text (record { options = with_injectors 1; program = codes "let a = 1\n" }) (Eof 0 ∷ End (verdict.Quiet 0) ∷ [])
-    ≡ codes "bp-log 1\nstrategy simple\nseed 0\nbudget 1000000\nsteps 100000\ninjectors 1\nprogram 10\nlet a = 1\n\neof 0\nend quiet 0\n"
-unfolding record_text records_text log_text digits
-log_as_text = refl
 
 -- ---- injectors
 
@@ -185,7 +182,7 @@ unfolding turn settle_in settle initial selectable choice reach step next after_
 one_candidate_draws_nothing = refl
 
 -- one move for the transition, and one for each that receives the event
-pub weight_of_a_transition : option_map (λ (c : Configuration Body). c.weight) (story (code both_ask) default_options (Sel x ∷ [])) ≡ Some 9
+pub weight_of_a_transition : option_map (λ (c : Configuration Body). c.stand.weight) (story (code both_ask) default_options (Sel x ∷ [])) ≡ Some 9
 unfolding turn settle_in settle initial selectable choice reach step next after_record story_from story
 weight_of_a_transition = refl
 

@@ -1,9 +1,9 @@
-pub mod Events
-pub mod Verdicts
 pub mod Bodies
 pub mod Configuration
 pub mod Settling
+pub mod Selecting
 pub mod Choosing
+pub mod Chosen
 pub mod Story
 pub mod Text
-pub mod Logs
+pub mod Numbers

@@ -1,21 +1,26 @@
 -- Transitions, and the runs that a list of records tells.
-use Rattle.std.specs.Prelude.{ℕ, zero, suc, ◌+◌, ◌*◌, Bool, true, false, not, ◌&&◌, ◌==◌, nat_lt, nat_eq, List, [], ◌∷◌, ◌++◌, length, Option, Some, None, Result, Ok, Err, filter, if◌then◌else◌, option_and_then, remove, count_by, IsTrue}
+use Rattle.std.specs.Prelude.{ℕ, zero, suc, ◌+◌, ◌*◌, Bool, true, false, not, ◌&&◌, ◌==◌, nat_lt, nat_eq, List, [], ◌∷◌, ◌++◌, length, map, Option, Some, None, Ok, Err, filter, if◌then◌else◌, option_and_then, option_map, remove, count_by, slice_get}
 use Rattle.std.specs.List.{list_any}
-use Rattle.js_data.specs.Event.{PlainEvent, event_weight}
+use Rattle.js_data.specs.Event.{PlainEvent, event_weight, same_event}
+use Rattle.js_data.specs.declared.fault.Fault.TheVariants.{Truth}
 use Rattle.bp_log.specs.Options.{PlainOptions}
+use Rattle.bp_log.specs.Verdicts.{same_verdict}
+use Rattle.bp_log.specs.declared.limits.TheConstants.{MOST_WAITING, MOST_WEIGHT}
 use Rattle.bp_log.specs.declared.record.Record.{Record}
 use Rattle.bp_log.specs.declared.record.Record.TheVariants.{In, Bad, Eof, Sel, End}
 use Rattle.bp_log.specs.declared.trace.Line.{Line}
 use Rattle.bp_log.specs.declared.trace.Line.TheVariants as trace
+use Rattle.bp_log.specs.declared.verdict.Place.TheVariants.{Thread as Named}
 use Rattle.bp_log.specs.declared.verdict.Verdict.{Verdict}
 use Rattle.bp_log.specs.declared.verdict.Verdict.TheVariants as verdict
-use Rattle.bp_run.specs.Events.{same_event}
-use Rattle.bp_run.specs.Verdicts.{same_verdict}
-use Rattle.bp_run.specs.Bodies.{Code}
-use Rattle.bp_run.specs.Configuration.{Configuration, Thread, change}
-use Rattle.bp_run.specs.Settling.{Entry, Pair, settle, initial, queued}
-use Rattle.bp_run.specs.Settling.Entry.{The_top, Runs, Stops}
-use Rattle.bp_run.specs.Choosing.{Choice, choice, reach}
+use Rattle.bp_run.specs.Bodies.{Code, SetFault}
+use Rattle.bp_run.specs.Bodies.SetFault.{Broken, Spent, NotTruth}
+use Rattle.bp_run.specs.Configuration.{Configuration, Stand, Thread, change, name_in}
+use Rattle.bp_run.specs.Settling.{Body, Entry, Pair, settle, initial, queued}
+use Rattle.bp_run.specs.Settling.Entry.{Runs, Stops}
+use Rattle.bp_run.specs.Selecting.{live, Asked}
+use Rattle.bp_run.specs.Choosing.{Choice, choice, Touched, reach}
+use Rattle.bp_run.specs.Choosing.Touched.{Moves, Interrupts}
 
 abbrev pub without : List PlainEvent → Option ℕ → List PlainEvent
 without queue None = queue
@@ -25,79 +30,104 @@ abbrev pub line_of_choice : PlainEvent → Option ℕ → Line
 line_of_choice e None = trace.Event e
 line_of_choice e (Some place) = trace.External e
 
-abbrev pub is_move : Entry → Bool
-is_move The_top = false
-is_move (Runs i) = true
-is_move (Stops i e) = false
+abbrev pub is_move : Touched → Bool
+is_move (Moves i) = true
+is_move (Interrupts i) = false
 
 -- a b-thread that moves receives e; one that is interrupted ends
-abbrev pub touch : {Origin : Type 0} → PlainEvent → Entry → List (Thread Origin) → List (Thread Origin)
-touch e The_top ts = ts
-touch e (Runs i) ts = change (λ t. record t { replies = t.replies ++ e ∷ [] }) i ts
-touch e (Stops i f) ts = change (λ t. record t { ended = true }) i ts
+abbrev pub touch : {Origin : Type 0} → PlainEvent → Touched → List (Thread Origin) → List (Thread Origin)
+touch e (Moves i) ts = change (λ t. record t { replies = t.replies ++ e ∷ [] }) i ts
+touch e (Interrupts i) ts = change (λ t. record t { ended = true }) i ts
 
-abbrev pub touch_all : {Origin : Type 0} → PlainEvent → List Entry → List (Thread Origin) → List (Thread Origin)
+abbrev pub touch_all : {Origin : Type 0} → PlainEvent → List Touched → List (Thread Origin) → List (Thread Origin)
 touch_all e [] ts = ts
 touch_all e (n ∷ ns) ts = touch_all e ns (touch e n ts)
 
-abbrev pub weight_after : {Origin : Type 0} → Configuration Origin → PlainEvent → List Entry → ℕ
-weight_after c e reached = c.weight + event_weight e * (1 + count_by is_move reached)
+-- the weight of the event counts once, and once for each b-thread that receives it
+abbrev pub weight_after : {Origin : Type 0} → Stand Origin → PlainEvent → List Touched → ℕ
+weight_after s e reached = s.weight + event_weight e * (1 + count_by is_move reached)
 
 -- the transition itself, before anything runs
-unfoldable pub step : {Origin : Type 0} → Configuration Origin → Choice → List Entry → Configuration Origin
-step c ch reached =
-    record c {
-      threads = touch_all ch.event reached c.threads;
-      queue = without c.queue ch.place;
-      drawn = ch.drawn;
-      transitions = c.transitions + 1;
-      weight = weight_after c ch.event reached;
-      lines = c.lines ++ line_of_choice ch.event ch.place ∷ [];
+unfoldable pub step : {Origin : Type 0} → Stand Origin → PlainEvent → Option ℕ → List Touched → Stand Origin
+step s e place reached =
+    record s {
+      threads = touch_all e reached s.threads;
+      queue = without s.queue place;
+      transitions = s.transitions + 1;
+      weight = weight_after s e reached;
+      lines = s.lines ++ line_of_choice e place ∷ [];
     }
+
+-- the run of its handler at e, if it set one by then
+abbrev pub handler_body : {Origin Set : Type 0} → Code Origin Set → PlainEvent → Option (Thread Origin) → Option (Body Origin)
+handler_body l e None = None
+handler_body l e (Some t) = option_map (λ o. record { origin = o; replies = [] }) (l.handling t.origin t.replies e)
+
+abbrev pub entry_of : {Origin Set : Type 0} → Code Origin Set → Stand Origin → PlainEvent → Touched → Entry Origin
+entry_of l s e (Moves i) = Runs i
+entry_of l s e (Interrupts i) = Stops i (handler_body l e (slice_get s.threads i))
+
+-- the transition, and what is to be run after it
+abbrev pub stepped : {Origin Set : Type 0} → Code Origin Set → Stand Origin → PlainEvent → Option ℕ → List Touched → Pair Origin
+stepped l s e place reached = record { stand = step s e place reached; entries = map (entry_of l s e) reached }
+
+-- the transition, and all that runs after it
+abbrev pub move : {Origin Set : Type 0} → Code Origin Set → Configuration Origin → Choice → List Touched → Configuration Origin
+move l c ch reached = record c { stand = settle l (stepped l c.stand ch.event ch.place reached); drawn = ch.drawn }
 
 -- what comes next
 pub data Next : Type 0 where
   Ends : Verdict → Next
-  Selects : Choice → List Entry → Next
+  Selects : Choice → List Touched → Next
   Waits : Next
 
--- an event is chosen: its reach may be at fault, and the run weight may pass its limit
-abbrev pub next_chosen : {Origin : Type 0} → Configuration Origin → Choice → Result (List Entry) Verdict → Next
-next_chosen c ch (Err v) = Ends v
-next_chosen c ch (Ok reached) =
-    if nat_lt 16777216 (weight_after c ch.event reached) then Ends verdict.Weight else Selects ch reached
+-- a fault of a set, as the verdict in the name of the b-thread whose set it is
+abbrev pub set_verdict : List ℕ → SetFault → Verdict
+set_verdict name (Broken f line) = verdict.Fault (Named name) line f
+set_verdict name Spent = verdict.Spent (Named name)
+set_verdict name (NotTruth line) = verdict.Fault (Named name) line Truth
+
+abbrev pub fault_verdict : {Origin : Type 0} → Stand Origin → ℕ × SetFault → Verdict
+fault_verdict s x = set_verdict (name_in (slice_get s.threads x.0)) x.1
+
+-- an event is chosen: its reach may be at fault, and the weight of the run may pass its limit
+abbrev pub next_chosen : {Origin : Type 0} → Stand Origin → Choice → Asked (List Touched) → Next
+next_chosen s ch (Err x) = Ends (fault_verdict s x)
+next_chosen s ch (Ok reached) =
+    if nat_lt MOST_WEIGHT (weight_after s ch.event reached) then Ends verdict.Weight else Selects ch reached
 
 -- nothing is selectable
 abbrev pub next_idle : {Origin : Type 0} → Configuration Origin → Option (ℕ × ℕ) → Next
 next_idle c (Some bad) = Ends (verdict.Bad bad.0 bad.1)
 next_idle c None =
-    if length c.queue == 16384 then Ends verdict.Queue
-    else if length c.reading == 0 then Ends (verdict.Quiet c.transitions)
+    if length c.stand.queue == MOST_WAITING then Ends verdict.Queue
+    else if length c.reading == 0 then Ends (verdict.Quiet c.stand.transitions)
     else Waits
 
-abbrev pub next_choice : {Origin Set : Type 0} → Code Origin Set → ℕ → Configuration Origin → Result (Option Choice) Verdict → Next
-next_choice l steps c (Err v) = Ends v
-next_choice l steps c (Ok None) = next_idle c c.bad
-next_choice l steps c (Ok (Some ch)) =
-    if c.transitions == steps then Ends (verdict.Steps steps) else next_chosen c ch (reach l c ch.event)
+abbrev pub next_choice : {Origin Set : Type 0} → Code Origin Set → PlainOptions → Configuration Origin → Asked (Option Choice) → Next
+next_choice l o c (Err x) = Ends (fault_verdict c.stand x)
+next_choice l o c (Ok None) = next_idle c c.bad
+next_choice l o c (Ok (Some ch)) =
+    if c.stand.transitions == o.steps then Ends (verdict.Steps o.steps)
+    else next_chosen c.stand ch (reach l.has ch.event (live l c.stand))
 
 abbrev pub next_unless : {Origin Set : Type 0} → Code Origin Set → PlainOptions → Configuration Origin → Option Verdict → Next
 next_unless l o c (Some v) = Ends v
-next_unless l o c None = next_choice l o.steps c (choice l o.strategy c)
+next_unless l o c None = next_choice l o c (choice l.has l.word o.strategy (live l c.stand) c.stand.queue c.drawn)
 
 unfoldable pub next : {Origin Set : Type 0} → Code Origin Set → PlainOptions → Configuration Origin → Next
-next l o c = next_unless l o c c.verdict
-
--- the transition, and all that runs after it
-abbrev pub move : {Origin Set : Type 0} → Code Origin Set → Configuration Origin → Choice → List Entry → Configuration Origin
-move l c ch reached = settle l (record { c = step c ch reached; entries = reached })
+next l o c = next_unless l o c c.stand.verdict
 
 abbrev pub is_over : {Origin : Type 0} → Configuration Origin → Bool
-is_over c = elim c.verdict [ None ↦ false | Some v ↦ true ]
+is_over c = elim c.stand.verdict [ None ↦ false | Some v ↦ true ]
 
 -- an item of an injector that is still read may come while there is no verdict
 abbrev pub may_come : {Origin : Type 0} → Configuration Origin → ℕ → Bool
 may_come c j = not (is_over c) && list_any (nat_eq j) c.reading
+
+-- fewer events wait than may
+abbrev pub has_room : {Origin : Type 0} → Stand Origin → Bool
+has_room s = nat_lt (length s.queue) MOST_WAITING
 
 abbrev pub read_out : {Origin : Type 0} → Configuration Origin → ℕ → Configuration Origin
 read_out c j = record c { reading = filter (λ k. not (nat_eq j k)) c.reading }
@@ -111,40 +141,33 @@ if_selected l c e (Ends v) = None
 if_selected l c e Waits = None
 if_selected l c e (Selects ch reached) = if same_event e ch.event then Some (move l c ch reached) else None
 
+abbrev pub over : {Origin : Type 0} → Stand Origin → Verdict → Stand Origin
+over s v = record s { verdict = Some v; lines = s.lines ++ trace.Verdict v ∷ [] }
+
 abbrev pub over_with : {Origin : Type 0} → Configuration Origin → Verdict → Configuration Origin
-over_with c v = record c { verdict = Some v; lines = c.lines ++ trace.Verdict v ∷ [] }
+over_with c v = record c { stand = over c.stand v }
 
--- nothing follows the record of the end
-abbrev pub if_ended : {Origin : Type 0} → Configuration Origin → Verdict → List Record → Next → Option (Configuration Origin)
-if_ended c v (r ∷ rest) n = None
-if_ended c v [] (Ends w) = if same_verdict v w then Some (over_with c v) else None
-if_ended c v [] Waits = None
-if_ended c v [] (Selects ch reached) = None
+abbrev pub if_ended : {Origin : Type 0} → Configuration Origin → Verdict → Next → Option (Configuration Origin)
+if_ended c v (Ends w) = if same_verdict v w then Some (over_with c v) else None
+if_ended c v Waits = None
+if_ended c v (Selects ch reached) = None
 
--- the configuration after one record; rest is what follows it
-unfoldable pub after_record : {Origin Set : Type 0} → Code Origin Set → PlainOptions → Configuration Origin → Record → List Record → Option (Configuration Origin)
-after_record l o c (In j e) rest = if may_come c j && nat_lt (length c.queue) 16384 then Some (queued e c) else None
-after_record l o c (Bad j n) rest = if may_come c j then Some (record (read_out c j) { bad = first_bad c.bad j n }) else None
-after_record l o c (Eof j) rest = if may_come c j then Some (read_out c j) else None
-after_record l o c (Sel e) rest = if_selected l c e (next l o c)
-after_record l o c (End v) rest = if_ended c v rest (next l o c)
+-- the configuration after one record
+unfoldable pub after_record : {Origin Set : Type 0} → Code Origin Set → PlainOptions → Configuration Origin → Record → Option (Configuration Origin)
+after_record l o c (In j e) = if may_come c j && has_room c.stand then Some (record c { stand = queued e c.stand }) else None
+after_record l o c (Bad j n) = if may_come c j then Some (record (read_out c j) { bad = first_bad c.bad j n }) else None
+after_record l o c (Eof j) = if may_come c j then Some (read_out c j) else None
+after_record l o c (Sel e) = if_selected l c e (next l o c)
+after_record l o c (End v) = if_ended c v (next l o c)
 
--- the records lead from a configuration to this one, or to nothing where they don't
+-- the records lead from a configuration to this one, or to nothing where they don't; nothing follows an end
 unfoldable pub story_from : {Origin Set : Type 0} → Code Origin Set → PlainOptions → List Record → Configuration Origin → Option (Configuration Origin)
 story_from l o [] c = Some c
-story_from l o (r ∷ rs) c = option_and_then (story_from l o rs) (after_record l o c r rs)
+story_from l o (End v ∷ r ∷ rs) c = None
+story_from l o (r ∷ rs) c = option_and_then (story_from l o rs) (after_record l o c r)
 
 unfoldable pub story : {Origin Set : Type 0} → Code Origin Set → PlainOptions → List Record → Option (Configuration Origin)
 story l o records = story_from l o records (initial l o.injectors)
-
--- whether the last record is the end
-abbrev pub is_complete : List Record → Bool
-is_complete [] = false
-is_complete (End v ∷ []) = true
-is_complete (r ∷ rs) = is_complete rs
-
-abbrev pub Complete : List Record → Type 0
-Complete records = IsTrue (is_complete records)
 
 -- the run without injectors: at most the options' number of steps, then the end
 unfoldable pub alone_from : {Origin Set : Type 0} → Code Origin Set → PlainOptions → ℕ → Configuration Origin → List Record
@@ -158,3 +181,14 @@ alone_from l o (suc steps) c =
 
 unfoldable pub alone : {Origin Set : Type 0} → Code Origin Set → PlainOptions → List Record
 alone l o = alone_from l o (o.steps + 1) (initial l o.injectors)
+
+-- what is recorded of what comes next, and what it leads to
+abbrev pub record_of : Next → Option Record
+record_of (Ends v) = Some (End v)
+record_of (Selects ch reached) = Some (Sel ch.event)
+record_of Waits = None
+
+abbrev pub after_next : {Origin Set : Type 0} → Code Origin Set → Configuration Origin → Next → Configuration Origin
+after_next l c (Ends v) = over_with c v
+after_next l c (Selects ch reached) = move l c ch reached
+after_next l c Waits = c

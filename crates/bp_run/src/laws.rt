@@ -1,22 +1,30 @@
 //! The laws of runs, each as the contract of a function that does nothing.
-ghost use Rattle.std.specs.Prelude.{◌≡◌, ◌≤◌, ◌∷◌, ◌++◌, ℕ, List, length, Option, Some, None, false};
+ghost use Rattle.std.specs.Prelude.{◌≡◌, ◌≤◌, ◌∷◌, ◌++◌, ℕ, List, length, map, Option, Some, None, Ok, true, false, slice_get};
 ghost use Rattle.js_data.specs.Event.{PlainEvent};
 ghost use Rattle.bp_log.specs.Options.{PlainOptions};
+ghost use Rattle.bp_log.specs.Records.{Complete};
 ghost use Rattle.bp_log.specs.declared.record.Record.{Record};
 ghost use Rattle.bp_log.specs.declared.record.Record.TheVariants as recorded;
 ghost use Rattle.bp_log.specs.declared.verdict.Verdict.{Verdict};
 ghost use Rattle.bp_run.specs.Bodies.{Code};
-ghost use Rattle.bp_run.specs.Configuration.{Configuration};
+ghost use Rattle.bp_run.specs.Configuration.{Configuration, Thread};
 ghost use Rattle.bp_run.specs.Settling.{Pair, turn, settle, at_rest};
-ghost use Rattle.bp_run.specs.Story.{story, alone, Complete};
+ghost use Rattle.bp_run.specs.Selecting.{live, stated};
+ghost use Rattle.bp_run.specs.Choosing.{Choice, Touched, choice};
+ghost use Rattle.bp_run.specs.Chosen.{IsChosen, AllBlocked};
+ghost use Rattle.bp_run.specs.Numbers.{IsRising, number_of, touch_at, after_touch, touch_of};
+ghost use Rattle.bp_run.specs.Story as story;
+ghost use Rattle.bp_run.specs.Story.{story as told, alone, next, step, stepped};
 ghost use Rattle.bp_run.specs.Text.{text};
 
+use bp_log::limits::MOST_THREADS;
+
 /// With no injectors there is exactly one complete list of records that is a story.
-pub fn exactly_one()
+pub fn one_run()
     ensures is_one { (l : Code ℕ (Option PlainEvent)) (o : PlainOptions) → o.injectors ≡ 0 →
-        (c : Configuration ℕ) × (story l o (alone l o) ≡ Some c) × Complete (alone l o) }
+        (c : Configuration ℕ) × (told l o (alone l o) ≡ Some c) × Complete (alone l o) }
     ensures is_only { (l : Code ℕ (Option PlainEvent)) (o : PlainOptions) (records : List Record) (c : Configuration ℕ) →
-        o.injectors ≡ 0 → story l o records ≡ Some c → Complete records → records ≡ alone l o }
+        o.injectors ≡ 0 → told l o records ≡ Some c → Complete records → records ≡ alone l o }
 {}
 
 /// The text of a prefix of the records is a prefix of the text.
@@ -28,12 +36,54 @@ pub fn prefix_prints_prefix()
 
 /// Nothing follows the record of the end.
 pub fn nothing_follows_the_end()
-    ensures { (l : Code ℕ (Option PlainEvent)) (o : PlainOptions) (records more : List Record) (v : Verdict) (next : Record) →
-        story l o (records ++ recorded.End v ∷ next ∷ more) ≡ None }
+    ensures { (l : Code ℕ (Option PlainEvent)) (o : PlainOptions) (records more : List Record) (v : Verdict) (entry : Record) →
+        told l o (records ++ recorded.End v ∷ entry ∷ more) ≡ None }
 {}
 
-/// A turn of a pair that is not at rest leaves what the pair settles to.
+/// A pair with a verdict or without an entry settles to where it stands, and each other one to what
+/// its turn settles to.
 pub fn turns_settle()
-    ensures { (l : Code ℕ (Option PlainEvent)) (p : Pair ℕ) → length p.c.threads ≤ 4096 → at_rest p ≡ false →
-        settle l (turn l p) ≡ settle l p }
+    ensures rests { (l : Code ℕ (Option PlainEvent)) (p : Pair ℕ) → at_rest p ≡ true → settle l p ≡ p.stand }
+    ensures turns { (l : Code ℕ (Option PlainEvent)) (p : Pair ℕ) → length p.stand.threads ≤ MOST_THREADS → at_rest p ≡ false →
+        settle l p ≡ settle l (turn l p) }
+{}
+
+/// What is selected is requested by a live b-thread or waits in the queue, and no live b-thread
+/// blocks it.
+pub fn selected_is_requested_and_not_blocked()
+    ensures { (l : Code ℕ (Option PlainEvent)) (o : PlainOptions) (c : Configuration ℕ) (ch : Choice) (reached : List Touched) →
+        next l o c ≡ story.Next.Selects ch reached → IsChosen l.has (live l c.stand) c.stand.queue ch }
+{}
+
+/// Where no set is at fault, an event is chosen exactly where some event is requested or waits in the
+/// queue and no live b-thread blocks it.
+pub fn something_is_chosen_where_it_can_be()
+    ensures chosen { (l : Code ℕ (Option PlainEvent)) (o : PlainOptions) (c : Configuration ℕ) (ch : Choice) →
+        choice l.has l.word o.strategy (live l c.stand) c.stand.queue c.drawn ≡ Ok (Some ch) →
+        IsChosen l.has (live l c.stand) c.stand.queue ch }
+    ensures nothing { (l : Code ℕ (Option PlainEvent)) (o : PlainOptions) (c : Configuration ℕ) →
+        choice l.has l.word o.strategy (live l c.stand) c.stand.queue c.drawn ≡ Ok None →
+        AllBlocked l.has (live l c.stand) c.stand.queue }
+{}
+
+/// A selected event does to each b-thread what the b-thread's own statement says: it moves, it ends,
+/// or it stays as it is. As many b-threads are there afterwards.
+pub fn only_the_reached_move_or_end()
+    ensures says { (l : Code ℕ (Option PlainEvent)) (o : PlainOptions) (c : Configuration ℕ) (ch : Choice) (reached : List Touched) →
+        next l o c ≡ story.Next.Selects ch reached → (i : ℕ) (t : Thread ℕ) → slice_get c.stand.threads i ≡ Some t →
+        touch_of l.has ch.event (stated l i t) ≡ Ok (touch_at i reached) }
+    ensures does { (l : Code ℕ (Option PlainEvent)) (o : PlainOptions) (c : Configuration ℕ) (ch : Choice) (reached : List Touched) →
+        next l o c ≡ story.Next.Selects ch reached → (i : ℕ) (t : Thread ℕ) → slice_get c.stand.threads i ≡ Some t →
+        slice_get (step c.stand ch.event ch.place reached).threads i ≡ Some (after_touch ch.event (touch_at i reached) t) }
+    ensures count { (l : Code ℕ (Option PlainEvent)) (o : PlainOptions) (c : Configuration ℕ) (ch : Choice) (reached : List Touched) →
+        length (step c.stand ch.event ch.place reached).threads ≡ length c.stand.threads }
+{}
+
+/// What runs after a transition, and after a turn, are distinct registered b-threads.
+pub fn entries_are_distinct()
+    ensures moved { (l : Code ℕ (Option PlainEvent)) (o : PlainOptions) (c : Configuration ℕ) (ch : Choice) (reached : List Touched) →
+        next l o c ≡ story.Next.Selects ch reached →
+        IsRising 0 (length c.stand.threads) (map number_of (stepped l c.stand ch.event ch.place reached).entries) }
+    ensures turned { (l : Code ℕ (Option PlainEvent)) (p : Pair ℕ) →
+        IsRising (length p.stand.threads) (length (turn l p).stand.threads) (map number_of (turn l p).entries) }
 {}

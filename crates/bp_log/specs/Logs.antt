@@ -7,7 +7,7 @@ use Rattle.bp_log.specs.declared.options.Strategy.{Strategy}
 use Rattle.bp_log.specs.declared.options.Strategy.TheVariants.{Simple, Ordered, Priority}
 use Rattle.bp_log.specs.declared.record.Record.{Record}
 use Rattle.bp_log.specs.declared.record.Record.TheVariants.{In, Bad, Eof, Sel, End}
-use Rattle.bp_run.specs.Text.{verdict_text}
+use Rattle.bp_log.specs.Texts.{verdict_text}
 
 -- a record, without its line end
 unfoldable pub record_text : Record → List ℕ

@@ -1,5 +1,5 @@
 use Rattle.bp_run.proofs.Stories.{alone_is, only_alone}
-use Rattle.bp_run.proofs.laws.exactly_one.Goals as goal
+use Rattle.bp_run.proofs.laws.one_run.Goals as goal
 
 pub returns-clause-is_one : goal.returns-clause-is_one
 returns-clause-is_one c = λ l o i. alone_is l o i
