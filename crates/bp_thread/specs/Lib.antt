@@ -1,0 +1,4 @@
+pub mod Views
+pub mod Kept
+pub mod Jobs
+pub mod Carried

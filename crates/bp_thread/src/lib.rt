@@ -1,0 +1,15 @@
+//! What b-threads state, and b-threads, handlers and the top level as jobs that are carried on slice by slice.
+#![tactic(auto)]
+
+mod events;
+mod job;
+mod origin;
+mod outcome;
+mod reading;
+mod statement;
+
+pub use events::Events;
+pub use job::Job;
+pub use outcome::Outcome;
+pub use reading::{StatementFault, statement_of};
+pub use statement::Statement;

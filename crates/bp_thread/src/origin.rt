@@ -1,0 +1,12 @@
+//! The bodies that jobs run.
+use js_program::Mode;
+use js_value::{Items, Value};
+
+/// The body that a job runs.
+#[derive(Drop)]
+pub enum Origin {
+    /// The top level of the program.
+    Top,
+    /// A call of a function in a mode.
+    Call(Mode, Value, Items),
+}
