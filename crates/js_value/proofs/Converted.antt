@@ -1,0 +1,123 @@
+-- Lists that are converted item by item: what is done so far, and what is left, is the whole.
+use Rattle.std.proofs.Common.{◌≡◌, ◌≤◌, ◌<◌, ◌+◌, ℕ, suc, length, drop, take, map, get_or, List, [], ◌∷◌, ◌++◌, Option, Some, None, option_map, refl, sym, ap, ◌∙◌, add-one, drop-cons}
+use Rattle.std.proofs.lemmas.List.{drop_all, take_all}
+use Rattle.js_data.specs.Data as d
+use Rattle.js_data.specs.Data.{PlainData, DataList, DataFields}
+use Rattle.js_data.specs.Views.{plain_data, data_list_view, data_fields_view}
+use Rattle.js_data.specs.declared.data.Data.{Data}
+use Rattle.js_value.specs.Value as v
+use Rattle.js_value.specs.Value.{PlainValue, PlainSet, SetList}
+use Rattle.js_value.specs.Views.{plain_value, plain_value_field, value_list_view, value_fields_view}
+use Rattle.js_value.specs.Lists.{value_list_of, value_fields_of, set_list_of}
+use Rattle.js_value.specs.declared.value.Value.{Value}
+use Rattle.js_value.specs.DataValues.{data_value, data_values, data_value_fields, value_data, values_data, fields_data}
+use Rattle.js_value.specs.Sets.{set_of, sets_of}
+
+-- ---- data as values
+
+abbrev pub value_of_item : Data → PlainValue
+value_of_item x = data_value (plain_data x)
+
+abbrev pub value_of_field : List ℕ × Data → List ℕ × PlainValue
+value_of_field f = (f.0, data_value (plain_data f.1))
+
+values_are : (ds : List Data) → value_list_of (map value_of_item ds) ≡ data_values (data_list_view ds)
+values_are [] = refl
+values_are (x ∷ ds) = ap (v.value (value_of_item x)) (values_are ds)
+
+fields_are : (fs : List (List ℕ × Data)) → value_fields_of (map value_of_field fs) ≡ data_value_fields (data_fields_view fs)
+fields_are [] = refl
+fields_are (f ∷ fs) = ap (v.field f.0 (value_of_item f.1)) (fields_are fs)
+
+pub values_done : (vs : List Value) (ds : List Data) (i : ℕ) → length ds ≤ i → map plain_value vs ≡ map value_of_item (take i ds) → value_list_view vs ≡ data_values (data_list_view ds)
+values_done vs ds i h e = ap value_list_of (e ∙ ap (map value_of_item) (take_all i ds h)) ∙ values_are ds
+
+pub value_fields_done : (vs : List (List ℕ × Value)) (fs : List (List ℕ × Data)) (i : ℕ) → length fs ≤ i → map plain_value_field vs ≡ map value_of_field (take i fs) → value_fields_view vs ≡ data_value_fields (data_fields_view fs)
+value_fields_done vs fs i h e = ap value_fields_of (e ∙ ap (map value_of_field) (take_all i fs h)) ∙ fields_are fs
+
+-- ---- the item at the front of what is left
+
+front : {A : Type 0} (xs : List A) (i : ℕ) (x : A) → i < length xs → x ≡ get_or xs i x → drop i xs ≡ x ∷ drop (i + 1) xs
+front xs i x lt here = rw add-one (drop-cons xs i x lt ∙ ap (λ u. u ∷ drop (suc i) xs) (sym here))
+
+-- ---- values as data
+
+abbrev pub after : List Data → DataList → DataList
+after [] ds = ds
+after (x ∷ xs) ds = d.item (plain_data x) (after xs ds)
+
+after_none : (xs : List Data) → after xs d.no_data ≡ data_list_view xs
+after_none [] = refl
+after_none (x ∷ xs) = ap (d.item (plain_data x)) (after_none xs)
+
+after_push : (xs : List Data) (x : Data) (ds : DataList) → after (xs ++ x ∷ []) ds ≡ after xs (d.item (plain_data x) ds)
+after_push [] x ds = refl
+after_push (y ∷ xs) x ds = ap (d.item (plain_data y)) (after_push xs x ds)
+
+one_more : (xs : List Data) (x : Data) (r : Option DataList) → option_map (after xs) (option_map (d.item (plain_data x)) r) ≡ option_map (after (xs ++ x ∷ [])) r
+one_more xs x None = refl
+one_more xs x (Some ds) = ap Some (sym (after_push xs x ds))
+
+pub data_step : (made made' : List Data) (x : Data) (u : Value) (us : List Value) (i : ℕ) (all : Option DataList) → i < length us → u ≡ get_or us i u → made' ≡ made ++ x ∷ [] → value_data (plain_value u) ≡ Some (plain_data x)
+    → option_map (after made) (values_data (value_list_view (drop i us))) ≡ all → option_map (after made') (values_data (value_list_view (drop (i + 1) us))) ≡ all
+data_step made made' x u us i all lt here more reads so_far =
+    let now = rw (front us i u lt here) at so_far in
+    rw (more, ← one_more made x (values_data (value_list_view (drop (i + 1) us)))) (rw reads at now)
+
+pub data_end : (made : List Data) (us : List Value) (i : ℕ) → length us ≤ i → option_map (after made) (values_data (value_list_view (drop i us))) ≡ values_data (value_list_view us) → Some (data_list_view made) ≡ values_data (value_list_view us)
+data_end made us i h e = ap Some (sym (after_none made)) ∙ rw (drop_all i us h) at e
+
+-- ---- fields as data
+
+abbrev pub after_fields : List (List ℕ × Data) → DataFields → DataFields
+after_fields [] fs = fs
+after_fields (x ∷ xs) fs = d.field x.0 (plain_data x.1) (after_fields xs fs)
+
+after_fields_none : (xs : List (List ℕ × Data)) → after_fields xs d.no_fields ≡ data_fields_view xs
+after_fields_none [] = refl
+after_fields_none (x ∷ xs) = ap (d.field x.0 (plain_data x.1)) (after_fields_none xs)
+
+after_fields_push : (xs : List (List ℕ × Data)) (x : List ℕ × Data) (fs : DataFields) → after_fields (xs ++ x ∷ []) fs ≡ after_fields xs (d.field x.0 (plain_data x.1) fs)
+after_fields_push [] x fs = refl
+after_fields_push (y ∷ xs) x fs = ap (d.field y.0 (plain_data y.1)) (after_fields_push xs x fs)
+
+one_more_field : (xs : List (List ℕ × Data)) (x : List ℕ × Data) (r : Option DataFields) → option_map (after_fields xs) (option_map (d.field x.0 (plain_data x.1)) r) ≡ option_map (after_fields (xs ++ x ∷ [])) r
+one_more_field xs x None = refl
+one_more_field xs x (Some fs) = ap Some (sym (after_fields_push xs x fs))
+
+pub fields_step : (made made' : List (List ℕ × Data)) (k : List ℕ) (x : Data) (u : List ℕ × Value) (us : List (List ℕ × Value)) (i : ℕ) (all : Option DataFields) → i < length us → u ≡ get_or us i u → made' ≡ made ++ (k, x) ∷ [] → k ≡ u.0 → value_data (plain_value u.1) ≡ Some (plain_data x)
+    → option_map (after_fields made) (fields_data (value_fields_view (drop i us))) ≡ all → option_map (after_fields made') (fields_data (value_fields_view (drop (i + 1) us))) ≡ all
+fields_step made made' k x u us i all lt here more same reads so_far =
+    let now = rw (front us i u lt here) at so_far in
+    let later = rw (reads, ← same) at now in
+    rw (more, ← one_more_field made (k, x) (fields_data (value_fields_view (drop (i + 1) us)))) later
+
+pub fields_end : (made : List (List ℕ × Data)) (us : List (List ℕ × Value)) (i : ℕ) → length us ≤ i → option_map (after_fields made) (fields_data (value_fields_view (drop i us))) ≡ fields_data (value_fields_view us) → Some (data_fields_view made) ≡ fields_data (value_fields_view us)
+fields_end made us i h e = ap Some (sym (after_fields_none made)) ∙ rw (drop_all i us h) at e
+
+-- ---- values as sets
+
+abbrev pub after_sets : List PlainSet → SetList → SetList
+after_sets [] ss = ss
+after_sets (x ∷ xs) ss = v.set_in x (after_sets xs ss)
+
+after_sets_none : (xs : List PlainSet) → after_sets xs v.no_sets ≡ set_list_of xs
+after_sets_none [] = refl
+after_sets_none (x ∷ xs) = ap (v.set_in x) (after_sets_none xs)
+
+after_sets_push : (xs : List PlainSet) (x : PlainSet) (ss : SetList) → after_sets (xs ++ x ∷ []) ss ≡ after_sets xs (v.set_in x ss)
+after_sets_push [] x ss = refl
+after_sets_push (y ∷ xs) x ss = ap (v.set_in y) (after_sets_push xs x ss)
+
+one_more_set : (xs : List PlainSet) (x : PlainSet) (r : Option SetList) → option_map (after_sets xs) (option_map (v.set_in x) r) ≡ option_map (after_sets (xs ++ x ∷ [])) r
+one_more_set xs x None = refl
+one_more_set xs x (Some ss) = ap Some (sym (after_sets_push xs x ss))
+
+pub sets_step : (made made' : List PlainSet) (x : PlainSet) (u : Value) (us : List Value) (i : ℕ) (all : Option SetList) → i < length us → u ≡ get_or us i u → made' ≡ made ++ x ∷ [] → set_of (plain_value u) ≡ Some x
+    → option_map (after_sets made) (sets_of (value_list_view (drop i us))) ≡ all → option_map (after_sets made') (sets_of (value_list_view (drop (i + 1) us))) ≡ all
+sets_step made made' x u us i all lt here more reads so_far =
+    let now = rw (front us i u lt here) at so_far in
+    rw (more, ← one_more_set made x (sets_of (value_list_view (drop (i + 1) us)))) (rw reads at now)
+
+pub sets_end : (made : List PlainSet) (us : List Value) (i : ℕ) → length us ≤ i → option_map (after_sets made) (sets_of (value_list_view (drop i us))) ≡ sets_of (value_list_view us) → Some (set_list_of made) ≡ sets_of (value_list_view us)
+sets_end made us i h e = ap Some (sym (after_sets_none made)) ∙ rw (drop_all i us h) at e
