@@ -35,7 +35,6 @@ pub enum Pause {
 }
 
 /// What comes next.
-#[derive(Drop)]
 pub enum Step {
     /// `bp.sync` asks.
     Ask(Value, Value, u32),
@@ -43,6 +42,16 @@ pub enum Step {
     Give(Value),
     /// An event is the answer.
     Reply(Event),
+}
+
+impl Drop for Step {
+    fn drop(self) {
+        match self {
+            Step::Ask(_, _, _) => {}
+            Step::Give(_) => {}
+            Step::Reply(_) => {}
+        }
+    }
 }
 
 /// A machine, which runs the top level or a call of a function in slices.
@@ -54,6 +63,7 @@ pub struct Machine {
     pending: Option<Step>,
 }
 
+#[tactic(auto, unfolding(crate::specs::Runs::IsOfProgram, crate::specs::Runs::Stands, crate::specs::Runs::untaken, crate::specs::Runs::asked_by, crate::specs::Runs::line_asked, crate::specs::Runs::answer_by, crate::specs::Runs::constants_by, crate::specs::Runs::IsLost))]
 impl Machine {
     /// A machine that stands at the start of the top level.
     pub fn top(alloc: Global, ground: &Ground, budget: u64) -> Result<Machine, Memory>
@@ -166,7 +176,6 @@ impl Machine {
     pub fn constants(self) -> Constants
         ensures { result ≡ constants_by self }
     {
-        let Machine { constants, .. } = self;
-        constants
+        self.constants
     }
 }
