@@ -4,11 +4,12 @@ use Rattle.js_data.specs.Event.{PlainEvent}
 use Rattle.js_value.specs.Value.{PlainValue, PlainSet}
 use Rattle.js_value.specs.Views.{plain_value}
 use Rattle.js_program.specs.PlainProgram.{PlainProgram}
+use Rattle.js_meaning.specs.State as js
 use Rattle.js_meaning.specs.State.{Ground, Effect, effects_of, effects_since}
-use Rattle.js_meaning.specs.Bodies.{Origin, evaluation}
+use Rattle.js_meaning.specs.Bodies.{Origin, evaluation, constants_left}
 use Rattle.js_frames.specs.declared.machine.Machine.{Machine}
 use Rattle.js_frames.specs.Places.{plain_effects}
-use Rattle.js_frames.specs.Runs.{IsOfProgram, Stands, Waits, untaken, asked_by}
+use Rattle.js_frames.specs.Runs.{IsOfProgram, Stands, Waits, untaken, constants_by}
 use Rattle.bp_run.specs.Bodies as run
 use Rattle.bp_meaning.specs.After.{effect_of, outcome_of, handler_after}
 use Rattle.bp_thread.specs.declared.outcome.Outcome.{Outcome}
@@ -58,10 +59,9 @@ is_ended (Some run.Outcome.Ended) = true
 is_ended _ = false
 
 -- Once the outcome is there, it is that of the body's evaluation, all of whose effects were made.
-abbrev pub IsOutcome : Ground → ℕ → PlainJob → List Effect → Option (run.Outcome PlainSet) → Type 0
-IsOutcome base budget j made None = Unit {0}
-IsOutcome base budget j made (Some outcome) =
-    (outcome ≡ outcome_of (evaluation base budget j.origin j.replies)) × (effects_of (evaluation base budget j.origin j.replies) ≡ made)
+abbrev pub IsOutcome : js.Outcome → List Effect → Option (run.Outcome PlainSet) → Type 0
+IsOutcome o made None = Unit {0}
+IsOutcome o made (Some outcome) = (outcome ≡ outcome_of o) × (effects_of o ≡ made)
 
 -- The job stands for its body with its replies, under this ground and budget, where so many nodes have begun since the last of them and these effects were made
 -- over all of them: its machine, carried on, comes to the outcome of the body.
@@ -71,7 +71,8 @@ pub record StandsAt (base : Ground) (budget begun : ℕ) (made : List Effect) (j
   pub stands : Stands base budget (plain_origin j.origin) j.replies begun made machine
   pub all_taken : untaken machine ≡ []
   pub handler : (plain_job j).handler ≡ fold handler_after None made
-  pub outcome : IsOutcome base budget (plain_job j) made (plain_job j).outcome
+  pub outcome : IsOutcome (evaluation base budget (plain_origin j.origin) j.replies) made (plain_job j).outcome
+  pub constants : is_ended (plain_job j).outcome ≡ true → constants_by machine ≡ constants_left (evaluation base budget (plain_origin j.origin) j.replies)
 
 -- the same, however many nodes have begun
 pub record StandsFor (base : Ground) (budget : ℕ) (j : Job) : Type 0 where

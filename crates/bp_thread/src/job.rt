@@ -5,7 +5,8 @@ ghost use Rattle.js_program.specs.PlainProgram.{PlainProgram};
 ghost use Rattle.js_meaning.specs.State as js;
 ghost use Rattle.js_meaning.specs.Bodies.{the_top, function, evaluation, constants_left};
 ghost use Rattle.js_frames.specs.Places.{plain_ground, plain_effects};
-ghost use Rattle.bp_meaning.specs.After.{after, handler as handler_set, effect_of};
+ghost use Rattle.js_meaning.specs.State.{effects_since};
+ghost use Rattle.bp_meaning.specs.After.{after, handler as handler_set};
 ghost use Rattle.bp_thread.specs.Kept.{fits_outcome};
 ghost use Rattle.bp_thread.specs.Views.{plain_outcome};
 
@@ -40,6 +41,7 @@ pub struct Job {
 
 impl Job {
     ghost use Rattle.bp_thread.specs.Jobs.{plain_job, IsOf, IsLost, is_stopped, is_ended, StandsAt, StandsFor, IsWhole, IsSame, Sliced};
+    ghost use Rattle.bp_thread.specs.Carried.{carried};
 
     /// A job that stands at the start of a call of a function.
     ///
@@ -139,13 +141,20 @@ impl Job {
         self.handler.as_ref()
     }
 
+    /// What each job with an outcome is whose effects are whole, as a fact for its callers. Does nothing.
+    pub fn keeps(&self)
+        ensures { (base : js.Ground) → (budget : ℕ) → IsWhole base budget self.now → IsSome (plain_job self.now).outcome →
+            plain_job self.now ≡ carried base budget (plain_job self.now) }
+    {}
+
     /// The constants, as the top level left them. Takes no memory.
     pub fn constants(self) -> Constants
         requires { is_ended (plain_job self).outcome ≡ true }
         ensures { (base : js.Ground) → (budget : ℕ) → StandsFor base budget self → (plain_job self).origin ≡ the_top →
             result ≡ constants_left (evaluation base budget the_top (plain_job self).replies) }
     {
-        match self.machine {
+        let machine = self.machine;
+        match machine {
             Some(machine) => machine.constants(),
             None => unreachable!(),
         }
@@ -197,7 +206,7 @@ impl Job {
         ensures stands { (base : js.Ground) → (budget begun : ℕ) → (made : List js.Effect) → StandsAt base budget begun made self.old →
             StandsAt base budget begun made self.new }
         ensures exact { (base : js.Ground) → (budget : ℕ) → IsWhole base budget self.old → IsSome (plain_job self.old).outcome →
-            map effect_of (plain_effects result) ≡ (after base budget (plain_job self.old).origin (plain_job self.old).replies).effects }
+            plain_effects result ≡ effects_since (evaluation base budget (plain_job self.old).origin (plain_job self.old).replies) }
     {
         mem::replace(&mut self.effects, Effects::new(self.alloc))
     }
