@@ -3,6 +3,7 @@
 
 mod fault;
 mod membership;
+mod predicate;
 
 pub use fault::SetFault;
 pub use membership::contains;
