@@ -82,6 +82,13 @@ pub record Answers (o : Outcome) (effects : List Effect) (m : Machine) : Type 0 
   pub constants : constants_by m ≡ unwrap_or state.constants []
   pub made : state.effects ≡ effects
 
+-- the budget's nodes have begun
+pub record Spends (o : Outcome) (effects : List Effect) (begun more budget : ℕ) : Type 0 where
+  pub left : Left
+  pub is : o ≡ spent left
+  pub made : left.effects ≡ effects
+  pub all : begun + more ≡ budget
+
 -- A pause says what the outcome of the body is with the replies so far, and where the machine's answer to it is.
 abbrev pub Says : Pause → Outcome → ℕ → ℕ → ℕ → ℕ → List Effect → Machine → Type 0
 Says pause.More o begun more nodes budget effects m = Waits begun more nodes budget
@@ -89,7 +96,7 @@ Says pause.AtSync o begun more nodes budget effects m = Asks o effects m
 Says pause.Ended o begun more nodes budget effects m = Answers o effects m
 Says (pause.Broken fault line) o begun more nodes budget effects m = (left : Left) × (o ≡ broken fault line left) × (left.effects ≡ effects)
 Says (pause.Violated text) o begun more nodes budget effects m = (left : Left) × (o ≡ violated text left) × (left.effects ≡ effects)
-Says pause.Spent o begun more nodes budget effects m = (left : Left) × (o ≡ spent left) × (left.effects ≡ effects)
+Says pause.Spent o begun more nodes budget effects m = Spends o effects begun more budget
 
 -- what a run of a machine does that stands for this body
 pub record Runs (base : Ground) (budget : ℕ) (o : Origin) (replies : List PlainEvent) (begun : ℕ) (taken : List Effect) (nodes : ℕ) (pause : Pause) (m : Machine) : Type 0 where

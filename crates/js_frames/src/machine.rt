@@ -166,6 +166,9 @@ impl Machine {
         ensures given { plain_effects result ≡ untaken self.old }
         ensures left { untaken self.new ≡ [] }
         ensures asked { asked_by self.new ≡ asked_by self.old }
+        ensures line { line_asked self.new ≡ line_asked self.old }
+        ensures answer { answer_by self.new ≡ answer_by self.old }
+        ensures constants { constants_by self.new ≡ constants_by self.old }
         ensures stands { (base : js.Ground) → (budget : ℕ) → (o : Origin) → (replies : List PlainEvent) → (begun : ℕ) → (taken : List js.Effect) →
             Stands base budget o replies begun taken self.old → Stands base budget o replies begun (taken ++ plain_effects result) self.new }
     {

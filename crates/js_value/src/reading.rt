@@ -1,5 +1,5 @@
 //! Copies of values, values of texts and of events, and what a condition and `+` take a value for.
-ghost use Rattle.std.specs.Prelude.{◌≡◌, IfOk};
+ghost use Rattle.std.specs.Prelude.{◌≡◌, ◌++◌, [], IfOk, OnOk, is_some, unwrap_or, string_bytes};
 ghost use Rattle.js_value.specs.Value.{words as words_of, event as event_that_is, is_truthy, value_text};
 ghost use Rattle.js_value.specs.Views.{plain_value};
 
@@ -61,31 +61,41 @@ pub fn event_value(alloc: Global, event: Event) -> Result<Value, Memory>
     Ok(Value::Event(Arc::new(alloc, event)?))
 }
 
+/// Puts the text that `+` joins at the end, and answers whether the kind of the value has one; where it has
+/// none nothing is put. Its only error is want of memory, after which the text is not known.
+pub fn push_text(text: &mut String, v: &Value) -> Result<bool, Memory>
+    ensures has { IfOk result (λ b. b ≡ is_some (value_text (plain_value v.now))) }
+    ensures text { OnOk result (string_bytes text.new
+        ≡ string_bytes text.old ++ unwrap_or (value_text (plain_value v.now)) []) }
+{
+    match v {
+        Value::Undefined => text.push_str("undefined")?,
+        Value::Null => text.push_str("null")?,
+        Value::Truth(true) => text.push_str("true")?,
+        Value::Truth(false) => text.push_str("false")?,
+        Value::Whole(n) => {
+            let mut buffer = itoa::Buffer::new();
+            text.push_str(buffer.format(n.get()))?;
+        }
+        Value::Words(words) => text.push_str(words.as_str())?,
+        Value::List(_)
+        | Value::Fields(_)
+        | Value::Event(_)
+        | Value::Set(_)
+        | Value::Function { .. } => return Ok(false),
+    }
+    Ok(true)
+}
+
 /// The text that `+` joins; `None` exactly where the kind of the value has none. Its only error is want
 /// of memory.
 pub fn text_of(alloc: Global, v: &Value) -> Result<Option<Text>, Memory>
     ensures { IfOk result (λ o. o ≡ value_text (plain_value v.now)) }
 {
-    match v {
-        Value::Undefined => Ok(Some(Text::new(String::from_str(alloc, "undefined")?))),
-        Value::Null => Ok(Some(Text::new(String::from_str(alloc, "null")?))),
-        Value::Truth(b) => {
-            if *b {
-                Ok(Some(Text::new(String::from_str(alloc, "true")?)))
-            } else {
-                Ok(Some(Text::new(String::from_str(alloc, "false")?)))
-            }
-        }
-        Value::Whole(n) => {
-            let mut buffer = itoa::Buffer::new();
-            let text = buffer.format(n.get());
-            Ok(Some(Text::new(String::from_str(alloc, text)?)))
-        }
-        Value::Words(text) => Ok(Some(text.copy()?)),
-        Value::List(_)
-        | Value::Fields(_)
-        | Value::Event(_)
-        | Value::Set(_)
-        | Value::Function { .. } => Ok(None),
+    let mut text = String::new(alloc);
+    if push_text(&mut text, v)? {
+        Ok(Some(Text::new(text)))
+    } else {
+        Ok(None)
     }
 }

@@ -1,0 +1,44 @@
+-- What passes the limit of weight by its parts alone.
+use Rattle.std.proofs.Common.{◌≡◌, ◌≤◌, ℕ, List, [], ◌∷◌, ◌++◌, length, Some, Err, refl, arith, length-append, ◌+◌}
+use Rattle.std.proofs.lemmas.Bool.{lt-ltb}
+use Rattle.js_data.specs.declared.fault.Fault.TheVariants as fault
+use Rattle.js_value.specs.Value as v
+use Rattle.js_value.specs.Value.{PlainValue, PlainSet, value_weight, value_list_weight, set_weight, value_text}
+use Rattle.js_value.specs.Lists.{value_list_of}
+use Rattle.js_ops.specs.Made.{made}
+use Rattle.js_ops.specs.Operators.{join}
+
+set_weighs : (s : PlainSet) → 1 ≤ set_weight s
+set_weighs (v.only e) = omega arith
+set_weighs (v.any ss) = omega arith
+set_weighs v.all = omega arith
+set_weighs v.nothing = omega arith
+set_weighs (v.or a b) = omega arith
+set_weighs (v.and a b) = omega arith
+set_weighs (v.xor a b) = omega arith
+set_weighs (v.negate a) = omega arith
+set_weighs (v.predicate n c vs) = omega arith
+
+value_weighs : (x : PlainValue) → 1 ≤ value_weight x
+value_weighs v.undefined = omega arith
+value_weighs v.null = omega arith
+value_weighs (v.truth b) = omega arith
+value_weighs (v.whole n) = omega arith
+value_weighs (v.words s) = omega arith
+value_weighs (v.list vs) = omega arith
+value_weighs (v.fields fs) = omega arith
+value_weighs (v.event e) = omega arith
+value_weighs (v.set s) = set_weighs s
+value_weighs (v.function c vs) = omega arith
+
+list_weighs : (xs : List PlainValue) → length xs ≤ value_list_weight (value_list_of xs)
+list_weighs [] = omega arith
+list_weighs (x ∷ xs) = omega (arith, value_weighs x, list_weighs xs)
+
+-- a list of so many values passes the limit
+pub too_many : (xs : List PlainValue) → 65_536 ≤ length xs → made (v.list (value_list_of xs)) ≡ Err fault.Weight
+too_many xs h = rw (lt-ltb 65_536 (value_weight (v.list (value_list_of xs))) (omega (arith, h, list_weighs xs))) refl
+
+-- and so do two texts with so many bytes together
+pub too_long : (s t : List ℕ) → 65_536 ≤ length s + length t → join (Some s) (Some t) ≡ Err fault.Weight
+too_long s t h = rw (lt-ltb 65_536 (value_weight (v.words (s ++ t))) (omega (arith, h, length-append s t))) refl
