@@ -27,8 +27,8 @@ abbrev pub plain_origin : Origin → body.Origin
 plain_origin Top = body.the_top
 plain_origin (Call mode f args) = body.function mode (plain_value f) (values_in args)
 
--- the statement, or nothing, unless memory was wanting
-abbrev pub ReadsAs : Option (run.Statement PlainSet) → Result Statement StatementFault → Type 0
-ReadsAs o (Ok s) = o ≡ Some (plain_statement s)
-ReadsAs o (Err fault.Shape) = o ≡ None
-ReadsAs o (Err fault.Memory) = Unit {0}
+-- what was read, or nothing, unless memory was wanting
+abbrev pub Reads : {A B : Type 0} → (B → A) → Option A → Result B StatementFault → Type 0
+Reads view o (Ok b) = o ≡ Some (view b)
+Reads view o (Err fault.Shape) = o ≡ None
+Reads view o (Err fault.Memory) = Unit {0}
