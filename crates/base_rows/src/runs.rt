@@ -1,7 +1,7 @@
 // Runs of straight scripts: each public call once, on the script without b-threads.
-use bp_arbiter::{Picked, RunFault, Runner, line_of, print, run};
+use bp_arbiter::{Picked, RunFault, Runner, run};
 use bp_base::MemorySink;
-use bp_log::{Line, Options, Verdict};
+use bp_log::{Line, Options, Verdict, line_of, print};
 use js_straight::Script;
 use std::alloc::Global;
 use std::test::Fail;

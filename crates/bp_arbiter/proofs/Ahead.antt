@@ -1,26 +1,26 @@
 -- How far a run is on the way to its end.
-use Rattle.std.proofs.Common.{◌≡◌, ℕ, zero, suc, ◌+◌, ◌-◌, ◌<◌, ◌≤◌, Bool, true, false, List, [], ◌∷◌, ◌++◌, length, take, drop, refl, ap, sym, ◌∙◌, subst, append_assoc, append-nil, length-append, add-one, arith, Option, Some, None, option_map, IsSomeAnd}
+use Rattle.std.proofs.Common.{◌≡◌, ℕ, zero, suc, ◌+◌, ◌-◌, ◌<◌, ◌≤◌, false, List, [], ◌∷◌, ◌++◌, length, drop, refl, ap, sym, ◌∙◌, subst, append_assoc, append-nil, length-append, arith, Option, Some, option_map, IsSomeAnd}
 use Rattle.bp_base.specs.Pieces.{Appends, AppendsFront}
 use Rattle.bp_base.proofs.Appending.{appends-on}
-use Rattle.bp_log.specs.Options.{PlainOptions, default_options}
+use Rattle.bp_log.specs.Options.{default_options}
+use Rattle.bp_log.specs.Records.{is_complete}
+use Rattle.bp_log.specs.Texts.{lines_text}
 use Rattle.bp_log.specs.declared.record.Record.{Record}
 use Rattle.bp_log.specs.declared.record.Record.TheVariants.{In, Bad, Eof, Sel, End}
 use Rattle.bp_log.specs.declared.trace.Line.{Line}
 use Rattle.bp_log.specs.declared.trace.Line.TheVariants as trace
 use Rattle.bp_log.specs.declared.verdict.Verdict.{Verdict}
-use Rattle.bp_run.specs.Bodies.{Code}
 use Rattle.bp_run.specs.Configuration.{Configuration}
-use Rattle.bp_run.specs.Settling.{Entry, initial}
-use Rattle.bp_run.specs.Choosing.{Choice}
-use Rattle.bp_run.specs.Story.{Next, next, move, over_with, story, story_from, is_complete, alone_from, alone}
+use Rattle.bp_run.specs.Settling.{initial}
+use Rattle.bp_run.specs.Choosing.{Choice, Touched}
+use Rattle.bp_run.specs.Story.{Next, next, move, over_with, after_next, story, story_from, alone_from, alone}
 use Rattle.bp_run.specs.Story.Next.{Ends, Selects, Waits}
-use Rattle.bp_run.specs.Text.{text, lines_text}
-use Rattle.bp_run.proofs.Stories.{alone_is, alone_on, text_prefix, move_lines, move_transitions, move_reading, selects_steps, waits_not, initial_transitions, initial_reading}
+use Rattle.bp_run.specs.Text.{text}
+use Rattle.bp_run.proofs.Stories.{alone_is, alone_on, text_prefix, move_lines, move_transitions, selects_steps, waits_not, initial_transitions, initial_reading}
 use Rattle.js_straight.specs.declared.script.Straight.{Straight}
 use Rattle.bp_arbiter.specs.declared.runner.Picked.{Picked}
-use Rattle.bp_arbiter.specs.declared.runner.Picked.TheVariants.{Moved, Wait, Over}
+use Rattle.bp_arbiter.specs.declared.runner.Picked.TheVariants.{Moved, Over}
 use Rattle.bp_arbiter.specs.Straight.{straight_code, text_alone}
-use Rattle.bp_arbiter.specs.Picking.{after_next}
 use Rattle.bp_arbiter.specs.Stand.{Stand, told, Takes}
 use Rattle.bp_arbiter.proofs.Runs.{stand}
 use Rattle.bp_arbiter.proofs.Printing.{appends_nothing, front_at, front_in, lines_text-append}
@@ -30,8 +30,8 @@ pub record Ahead (script : List Straight) (rs : List Record) (c : Configuration 
   pub story_is : story (straight_code script) default_options rs ≡ Some c
   pub incomplete : is_complete rs ≡ false
   pub left : ℕ
-  pub fuel : left + c.transitions ≡ default_options.steps + 1
-  pub within : c.transitions ≤ default_options.steps
+  pub fuel : left + c.stand.transitions ≡ default_options.steps + 1
+  pub within : c.stand.transitions ≤ default_options.steps
   pub reading : c.reading ≡ []
   pub goes_on : rs ++ alone_from (straight_code script) default_options left c ≡ alone (straight_code script) default_options
 
@@ -51,31 +51,31 @@ ahead_first script =
     }
 
 told_at : (script : List Straight) (rs : List Record) (c : Configuration ℕ) (t : List ℕ) → story (straight_code script) default_options rs ≡ Some c →
-    text (straight_code script) default_options rs ≡ Some t → t ≡ lines_text c.lines
+    text (straight_code script) default_options rs ≡ Some t → t ≡ lines_text c.stand.lines
 unfolding text
 told_at script rs c t h k =
-    let e : Some (lines_text c.lines) ≡ Some t = sym (ap (λ (x : Option (Configuration ℕ)). option_map (λ y. lines_text y.lines) x) h) ∙ k in cc
+    let e : Some (lines_text c.stand.lines) ≡ Some t = sym (ap (λ (x : Option (Configuration ℕ)). option_map (λ y. lines_text y.stand.lines) x) h) ∙ k in cc
 
 -- what a story on the way prints is a front of the text
 pub some_text : (script : List Straight) (rs qs : List Record) (c : Configuration ℕ) (P : List ℕ → Type 0) → rs ++ qs ≡ alone (straight_code script) default_options →
-    story (straight_code script) default_options rs ≡ Some c → ((rest : List ℕ) → P (lines_text c.lines ++ rest)) → IsSomeAnd (text_alone script) P
+    story (straight_code script) default_options rs ≡ Some c → ((rest : List ℕ) → P (lines_text c.stand.lines ++ rest)) → IsSomeAnd (text_alone script) P
 unfolding text
 some_text script rs qs c P e h k =
     let l = straight_code script in
     let a = alone_is l default_options refl in
-    let whole : text_alone script ≡ Some (lines_text (a.0).lines) = ap (λ (x : Option (Configuration ℕ)). option_map (λ y. lines_text y.lines) x) a.1 in
-    let p = text_prefix l default_options rs qs (lines_text (a.0).lines) (ap (λ (es : List Record). text l default_options es) e ∙ whole) in
-    let f : lines_text (a.0).lines ≡ lines_text c.lines ++ p.1 = p.3 ∙ ap (λ (x : List ℕ). x ++ p.1) (told_at script rs c p.0 h p.2) in
+    let whole : text_alone script ≡ Some (lines_text (a.0).stand.lines) = ap (λ (x : Option (Configuration ℕ)). option_map (λ y. lines_text y.stand.lines) x) a.1 in
+    let p = text_prefix l default_options rs qs (lines_text (a.0).stand.lines) (ap (λ (es : List Record). text l default_options es) e ∙ whole) in
+    let f : lines_text (a.0).stand.lines ≡ lines_text c.stand.lines ++ p.1 = p.3 ∙ ap (λ (x : List ℕ). x ++ p.1) (told_at script rs c p.0 h p.2) in
     rw (whole, f) (k p.1)
 
 -- a complete story prints the text
 pub all_text : (script : List Straight) (rs : List Record) (c : Configuration ℕ) (P : List ℕ → Type 0) → rs ≡ alone (straight_code script) default_options →
-    story (straight_code script) default_options rs ≡ Some c → P (lines_text c.lines) → IsSomeAnd (text_alone script) P
+    story (straight_code script) default_options rs ≡ Some c → P (lines_text c.stand.lines) → IsSomeAnd (text_alone script) P
 unfolding text
 all_text script rs c P e h k =
     let l = straight_code script in
-    let whole : text_alone script ≡ Some (lines_text c.lines) =
-    sym (ap (λ (es : List Record). text l default_options es) e) ∙ ap (λ (x : Option (Configuration ℕ)). option_map (λ y. lines_text y.lines) x) h in
+    let whole : text_alone script ≡ Some (lines_text c.stand.lines) =
+    sym (ap (λ (es : List Record). text l default_options es) e) ∙ ap (λ (x : Option (Configuration ℕ)). option_map (λ y. lines_text y.stand.lines) x) h in
     rw whole k
 
 -- what a step leaves
@@ -84,7 +84,7 @@ pub record Stepped (script : List Straight) (rs : List Record) (c : Configuratio
   pub d : Configuration ℕ
   pub story_is : story (straight_code script) default_options new.records ≡ Some d
   pub added : List Line
-  pub lines : d.lines ≡ c.lines ++ added
+  pub lines : d.stand.lines ≡ c.stand.lines ++ added
   pub rest : List Record
   pub goes_on : new.records ++ rest ≡ alone (straight_code script) default_options
   pub more : length new.records ≡ length rs + 1
@@ -123,8 +123,8 @@ stepped_end script rs c n v h g s =
       over = λ _. e;
     }
 
-stepped_select : (script : List Straight) (rs : List Record) (c : Configuration ℕ) (n : ℕ) (ch : Choice) (r : List Entry) → next (straight_code script) default_options c ≡ Selects ch r →
-    suc n + c.transitions ≡ default_options.steps + 1 → c.transitions ≤ default_options.steps → c.reading ≡ [] →
+stepped_select : (script : List Straight) (rs : List Record) (c : Configuration ℕ) (n : ℕ) (ch : Choice) (r : List Touched) → next (straight_code script) default_options c ≡ Selects ch r →
+    suc n + c.stand.transitions ≡ default_options.steps + 1 → c.stand.transitions ≤ default_options.steps → c.reading ≡ [] →
     rs ++ alone_from (straight_code script) default_options (suc n) c ≡ alone (straight_code script) default_options →
     story (straight_code script) default_options (rs ++ Sel ch.event ∷ []) ≡ Some (move (straight_code script) c ch r) →
     Stepped script rs c Moved (stand script default_options (rs ++ Sel ch.event ∷ []) false)
@@ -152,14 +152,14 @@ stepped_select script rs c n ch r h f w i g s =
         left = n;
         fuel = omega (arith, f, more);
         within = omega (arith, less, more);
-        reading = move_reading l c ch r ∙ i;
+        reading = i;
         goes_on = on;
       };
       over = λ e. absurd (cc);
     }
 
 stepped_next : (script : List Straight) (rs : List Record) (c : Configuration ℕ) (n : ℕ) (x : Next) (p : Picked) (new : Stand) → next (straight_code script) default_options c ≡ x →
-    suc n + c.transitions ≡ default_options.steps + 1 → c.transitions ≤ default_options.steps → c.reading ≡ [] →
+    suc n + c.stand.transitions ≡ default_options.steps + 1 → c.stand.transitions ≤ default_options.steps → c.reading ≡ [] →
     rs ++ alone_from (straight_code script) default_options (suc n) c ≡ alone (straight_code script) default_options →
     Takes (stand script default_options rs false) x p new → told new ≡ Some (after_next (straight_code script) c x) → Stepped script rs c p new
 stepped_next script rs c n (Ends v) p new h f w i g k t =
@@ -171,7 +171,7 @@ stepped_next script rs c n (Selects ch r) p new h f w i g k t =
 stepped_next script rs c n Waits p new h f w i g k t = absurd (waits_not (straight_code script) default_options c i h)
 
 stepped_left : (script : List Straight) (rs : List Record) (c : Configuration ℕ) (n : ℕ) (p : Picked) (new : Stand) →
-    n + c.transitions ≡ default_options.steps + 1 → c.transitions ≤ default_options.steps → c.reading ≡ [] →
+    n + c.stand.transitions ≡ default_options.steps + 1 → c.stand.transitions ≤ default_options.steps → c.reading ≡ [] →
     rs ++ alone_from (straight_code script) default_options n c ≡ alone (straight_code script) default_options →
     Takes (stand script default_options rs false) (next (straight_code script) default_options c) p new →
     told new ≡ Some (after_next (straight_code script) c (next (straight_code script) default_options c)) → Stepped script rs c p new
@@ -195,9 +195,9 @@ stepped script rs c p old new a e k t =
 
 -- the lines of a runner are those of its story
 pub lines_are : (script : List Straight) (rs : List Record) (c : Configuration ℕ) (s : Stand) (v : List Line) → s ≡ stand script default_options rs false →
-    story (straight_code script) default_options rs ≡ Some c → (s.broken ≡ false → IsSomeAnd (told s) (λ d. v ≡ d.lines)) → v ≡ c.lines
+    story (straight_code script) default_options rs ≡ Some c → (s.broken ≡ false → IsSomeAnd (told s) (λ d. v ≡ d.stand.lines)) → v ≡ c.stand.lines
 lines_are script rs c s v e h k =
-    told_is (told s) c (λ d. v ≡ d.lines) (ap (λ (x : Stand). told x) e ∙ h) (k (ap (λ (x : Stand). x.broken) e))
+    told_is (told s) c (λ d. v ≡ d.stand.lines) (ap (λ (x : Stand). told x) e ∙ h) (k (ap (λ (x : Stand). x.broken) e))
 
 front_more : (a b : Option (List ℕ)) (x rest : List ℕ) → AppendsFront a x b → AppendsFront a (x ++ rest) b
 front_more a b x rest h = front_in a a b [] x rest (x ++ rest) refl (appends_nothing a) h
@@ -207,22 +207,22 @@ pub printed_nothing : (script : List Straight) (a : Option (List ℕ)) → IsSom
 printed_nothing script a =
     let f = ahead_first script in
     some_text script [] (alone (straight_code script) default_options) (initial (straight_code script) 0) (λ t. AppendsFront a t a) refl f.story_is
-    (λ rest. front_at a a [] (lines_text (initial (straight_code script) 0).lines ++ rest) (lines_text (initial (straight_code script) 0).lines ++ rest) refl (appends_nothing a))
+    (λ rest. front_at a a [] (lines_text (initial (straight_code script) 0).stand.lines ++ rest) (lines_text (initial (straight_code script) 0).stand.lines ++ rest) refl (appends_nothing a))
 
 -- a front of the first lines was printed
-pub printed_first : (script : List Straight) (a b : Option (List ℕ)) (v : List Line) → v ≡ (initial (straight_code script) 0).lines → AppendsFront a (lines_text v) b →
+pub printed_first : (script : List Straight) (a b : Option (List ℕ)) (v : List Line) → v ≡ (initial (straight_code script) 0).stand.lines → AppendsFront a (lines_text v) b →
     IsSomeAnd (text_alone script) (λ t. AppendsFront a t b)
 printed_first script a b v e h =
     let f = ahead_first script in
     some_text script [] (alone (straight_code script) default_options) (initial (straight_code script) 0) (λ t. AppendsFront a t b) refl f.story_is
-    (λ rest. front_more a b (lines_text (initial (straight_code script) 0).lines) rest (subst (λ (x : List Line). AppendsFront a (lines_text x) b) e h))
+    (λ rest. front_more a b (lines_text (initial (straight_code script) 0).stand.lines) rest (subst (λ (x : List Line). AppendsFront a (lines_text x) b) e h))
 
 -- the lines of a story on the way were printed
-pub printed_so_far : (script : List Straight) (rs : List Record) (c : Configuration ℕ) (a b : Option (List ℕ)) → Ahead script rs c → Appends a (lines_text c.lines) b →
+pub printed_so_far : (script : List Straight) (rs : List Record) (c : Configuration ℕ) (a b : Option (List ℕ)) → Ahead script rs c → Appends a (lines_text c.stand.lines) b →
     IsSomeAnd (text_alone script) (λ t. AppendsFront a t b)
 printed_so_far script rs c a b w h =
     some_text script rs (alone_from (straight_code script) default_options w.left c) c (λ t. AppendsFront a t b) w.goes_on w.story_is
-    (λ rest. front_at a b (lines_text c.lines) rest (lines_text c.lines ++ rest) refl h)
+    (λ rest. front_at a b (lines_text c.stand.lines) rest (lines_text c.stand.lines ++ rest) refl h)
 
 seam : (xs ys : List Line) → drop (length xs) (xs ++ ys) ≡ ys
 seam [] ys = refl
@@ -237,26 +237,26 @@ fewer old new added v w h k e = rw (h, k, e) (let l = length-append old added in
 
 -- and a front of the lines of a step
 pub printed_part : (script : List Straight) (rs : List Record) (c : Configuration ℕ) (p : Picked) (new : Stand) (a b d : Option (List ℕ)) (s : List Line) → (x : Stepped script rs c p new) → s ≡ x.added →
-    Appends a (lines_text c.lines) b → AppendsFront b (lines_text s) d → IsSomeAnd (text_alone script) (λ t. AppendsFront a t d)
+    Appends a (lines_text c.stand.lines) b → AppendsFront b (lines_text s) d → IsSomeAnd (text_alone script) (λ t. AppendsFront a t d)
 printed_part script rs c p new a b d s x e h k =
     some_text script new.records x.rest x.d (λ t. AppendsFront a t d) x.goes_on x.story_is
     (λ rest.
-    let split : lines_text (x.d).lines ++ rest ≡ lines_text c.lines ++ (lines_text x.added ++ rest) =
+    let split : lines_text (x.d).stand.lines ++ rest ≡ lines_text c.stand.lines ++ (lines_text x.added ++ rest) =
     ap (λ (ls : List Line). lines_text ls ++ rest) x.lines
-    ∙ ap (λ (t : List ℕ). t ++ rest) (lines_text-append c.lines x.added)
-    ∙ append_assoc (lines_text c.lines) (lines_text x.added) rest in
-    front_in a b d (lines_text c.lines) (lines_text x.added) rest (lines_text (x.d).lines ++ rest) split h (subst (λ (ls : List Line). AppendsFront b (lines_text ls) d) e k))
+    ∙ ap (λ (t : List ℕ). t ++ rest) (lines_text-append c.stand.lines x.added)
+    ∙ append_assoc (lines_text c.stand.lines) (lines_text x.added) rest in
+    front_in a b d (lines_text c.stand.lines) (lines_text x.added) rest (lines_text (x.d).stand.lines ++ rest) split h (subst (λ (ls : List Line). AppendsFront b (lines_text ls) d) e k))
 
 -- the lines of a step were printed
 pub printed_on : (script : List Straight) (rs : List Record) (c : Configuration ℕ) (p : Picked) (new : Stand) (a b d : Option (List ℕ)) (s : List Line) → (x : Stepped script rs c p new) → s ≡ x.added →
-    Appends a (lines_text c.lines) b → Appends b (lines_text s) d → Appends a (lines_text (x.d).lines) d
+    Appends a (lines_text c.stand.lines) b → Appends b (lines_text s) d → Appends a (lines_text (x.d).stand.lines) d
 printed_on script rs c p new a b d s x e h k =
-    let split : lines_text (x.d).lines ≡ lines_text c.lines ++ lines_text x.added = ap (λ (ls : List Line). lines_text ls) x.lines ∙ lines_text-append c.lines x.added in
-    rw split (appends-on a b d (lines_text c.lines) (lines_text x.added) h (subst (λ (ls : List Line). Appends b (lines_text ls) d) e k))
+    let split : lines_text (x.d).stand.lines ≡ lines_text c.stand.lines ++ lines_text x.added = ap (λ (ls : List Line). lines_text ls) x.lines ∙ lines_text-append c.stand.lines x.added in
+    rw split (appends-on a b d (lines_text c.stand.lines) (lines_text x.added) h (subst (λ (ls : List Line). Appends b (lines_text ls) d) e k))
 
 -- all was printed
 pub printed_all : (script : List Straight) (rs : List Record) (c : Configuration ℕ) (p : Picked) (new : Stand) (a b d : Option (List ℕ)) (s : List Line) → (x : Stepped script rs c p new) → s ≡ x.added → p ≡ Over →
-    Appends a (lines_text c.lines) b → Appends b (lines_text s) d → IsSomeAnd (text_alone script) (λ t. Appends a t d)
+    Appends a (lines_text c.stand.lines) b → Appends b (lines_text s) d → IsSomeAnd (text_alone script) (λ t. Appends a t d)
 printed_all script rs c p new a b d s x e o h k =
     all_text script new.records x.d (λ t. Appends a t d) (x.over o) x.story_is (printed_on script rs c p new a b d s x e h k)
 

@@ -1,12 +1,12 @@
 -- The first of some events without repeats, and whether there is another.
-use Rattle.std.proofs.Common.{◌≡◌, ℕ, zero, suc, ◌+◌, ◌%◌, Bool, true, false, not, ◌&&◌, ◌||◌, List, [], ◌∷◌, length, refl, ap, sym, ◌∙◌, subst, arith, Option, Some, None, option_map, filter, find, cond, slice_get}
+use Rattle.std.proofs.Common.{◌≡◌, ℕ, Bool, true, false, not, ◌&&◌, ◌||◌, List, [], ◌∷◌, length, refl, ap, sym, ◌∙◌, subst, Option, Some, None, option_map, filter, find, cond}
 use Rattle.std.specs.List.{list_any}
 use Rattle.std.proofs.lemmas.Map.Views.{any-filter_same}
 use Rattle.std.proofs.Math.Nat.{zero-mod}
-use Rattle.js_data.specs.Event.{PlainEvent}
-use Rattle.bp_run.specs.Events.{same_event}
-use Rattle.bp_run.specs.Choosing.{Choice, distinct, drawn_of}
-use Rattle.bp_run.proofs.Equality.{same_path, same_refl}
+use Rattle.js_data.specs.Event.{PlainEvent, same_event}
+use Rattle.js_data.proofs.SameEvent.{same_event-sound, same_event-self}
+use Rattle.bp_run.specs.Selecting.{distinct}
+use Rattle.bp_run.specs.Choosing.{Choice, drawn_of}
 use Rattle.bp_arbiter.specs.Following.{drawn_after}
 
 abbrev pub other : PlainEvent → PlainEvent → Bool
@@ -16,7 +16,7 @@ other e f = not (same_event e f)
 drop_failing_at : (p : PlainEvent → Bool) (e x : PlainEvent) (xs : List PlainEvent) (b : Bool) → p e ≡ false → same_event e x ≡ b → filter p (filter (other e) xs) ≡ filter p xs →
     filter p (cond (not b) (x ∷ filter (other e) xs) (filter (other e) xs)) ≡ cond (p x) (x ∷ filter p xs) (filter p xs)
 drop_failing_at p e x xs true h k ih =
-    let q : p x ≡ false = subst (λ (y : PlainEvent). p y ≡ false) (same_path e x k) h in
+    let q : p x ≡ false = subst (λ (y : PlainEvent). p y ≡ false) (same_event-sound e x k) h in
     rw q ih
 drop_failing_at p e x xs false h k ih = ap (λ (ys : List PlainEvent). cond (p x) (x ∷ ys) ys) ih
 
@@ -41,7 +41,7 @@ filter-filter p r (x ∷ xs) =
     ∙ ap (λ (ys : List PlainEvent). cond (r x && p x) (x ∷ ys) ys) (filter-filter p r xs)
 
 not_same : (q : PlainEvent → Bool) (e k : PlainEvent) (b : Bool) → q e ≡ false → q k ≡ true → same_event e k ≡ b → not b ≡ true
-not_same q e k true h m s = let f : q k ≡ false = subst (λ (y : PlainEvent). q y ≡ false) (same_path e k s) h in absurd (cc)
+not_same q e k true h m s = let f : q k ≡ false = subst (λ (y : PlainEvent). q y ≡ false) (same_event-sound e k s) h in absurd (cc)
 not_same q e k false h m s = refl
 
 any_distinct_at : (q : PlainEvent → Bool) (x : PlainEvent) (ds xs : List PlainEvent) (b : Bool) → q x ≡ b → list_any q ds ≡ list_any q xs → (b || list_any q (filter (other x) ds)) ≡ (b || list_any q xs)
@@ -56,7 +56,7 @@ any-distinct q (x ∷ xs) = any_distinct_at q x (distinct xs) xs (q x) refl (any
 abbrev pub the_choice : ℕ → PlainEvent → Bool → Choice
 the_choice drawn e more = record { event = e; place = None; drawn = drawn_after drawn more }
 
-abbrev no_word : ℕ → ℕ
+abbrev pub no_word : ℕ → ℕ
 no_word n = 0
 
 drawn_more : (d : ℕ) (e f : PlainEvent) (rest : List PlainEvent) → drawn_of no_word d (e ∷ f ∷ rest) ≡ Some (the_choice d e true)
@@ -92,7 +92,7 @@ first_is p d x xs =
     ap (λ (ys : List PlainEvent). drawn_of no_word d (x ∷ ys)) (filter-filter p (other x) (distinct xs))
     ∙ drawn_of-filter d x (another p x) (distinct xs)
     ∙ ap (λ (b : Bool). Some (the_choice d x b)) (any-distinct (another p x) xs)
-    ∙ ap (λ (b : Bool). Some (the_choice d x ((not b && p x) || list_any (another p x) xs))) (sym (same_refl x))
+    ∙ ap (λ (b : Bool). Some (the_choice d x ((not b && p x) || list_any (another p x) xs))) (sym (same_event-self x))
 
 chosen_at : (p : PlainEvent → Bool) (d : ℕ) (x : PlainEvent) (xs : List PlainEvent) (b : Bool) → p x ≡ b →
     drawn_of no_word d (filter p (distinct xs)) ≡ option_map (pick p d xs) (find p xs) →

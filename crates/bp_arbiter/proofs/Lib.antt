@@ -1,4 +1,3 @@
-pub mod Deciding
 pub mod Changes
 pub mod Loops
 pub mod Searching

@@ -1,11 +1,11 @@
 -- Parts of what is printed.
-use Rattle.std.proofs.Common.{◌≡◌, ℕ, ◌+◌, ◌<◌, List, [], ◌∷◌, ◌++◌, length, take, drop, get_or, refl, ap, sym, ◌∙◌, append_assoc, append-nil, take-append-drop, flat_map, Option, Some, None, arith}
+use Rattle.std.proofs.Common.{◌≡◌, ℕ, ◌+◌, ◌<◌, List, [], ◌∷◌, ◌++◌, length, take, drop, get_or, ap, sym, ◌∙◌, append_assoc, append-nil, take-append-drop, flat_map, Option, Some, None}
 use Rattle.std.proofs.lemmas.List.{take_more}
 use Rattle.std.proofs.lemmas.Grind.{flat_map-append}
 use Rattle.bp_base.specs.Pieces.{Appends, AppendsFront}
 use Rattle.bp_base.proofs.Appending.{appends-on}
 use Rattle.bp_log.specs.declared.trace.Line.{Line}
-use Rattle.bp_run.specs.Text.{whole_line, lines_text}
+use Rattle.bp_log.specs.Texts.{whole_line, lines_text}
 use Rattle.bp_arbiter.proofs.Searching.{drop_is}
 
 pub appends_nothing : (a : Option (List ℕ)) → Appends a [] a

@@ -1,15 +1,17 @@
 -- The run of a straight script, computed.
-use Rattle.std.proofs.Common.{◌≡◌, ℕ, List, [], ◌∷◌, ◌++◌, refl}
-use Rattle.std.specs.Prelude.{Option, Some, None, codes}
+use Rattle.std.proofs.Common.{◌≡◌, ℕ, List, [], ◌∷◌, refl}
+use Rattle.std.specs.Prelude.{Some, None, codes}
 use Rattle.std.specs.Fmt.{digits}
 use Rattle.js_data.specs.Event.{PlainEvent}
 use Rattle.bp_log.specs.Options.{default_options}
 use Rattle.bp_log.specs.declared.record.Record.TheVariants.{Sel, End}
 use Rattle.bp_log.specs.declared.verdict.Verdict.TheVariants as verdict
 use Rattle.bp_run.specs.Settling.{turn, settle_in, settle, initial}
-use Rattle.bp_run.specs.Choosing.{selectable, choice, reach}
+use Rattle.bp_run.specs.Selecting.{selectable}
+use Rattle.bp_run.specs.Choosing.{choice, reach}
 use Rattle.bp_run.specs.Story.{step, next, after_record, story_from, story, alone_from, alone}
-use Rattle.bp_run.specs.Text.{line_text, lines_text, text}
+use Rattle.bp_log.specs.Texts.{line_text, lines_text}
+use Rattle.bp_run.specs.Text.{text}
 use Rattle.js_straight.specs.declared.script.Point.{Point}
 use Rattle.js_straight.specs.declared.script.Straight.{Straight}
 use Rattle.bp_arbiter.specs.Straight.{straight_code, text_alone}

@@ -1,35 +1,25 @@
 -- A step of a run, as its records tell it.
-use Rattle.std.proofs.Common.{◌≡◌, ℕ, ◌≤◌, arith, Bool, true, false, List, [], ◌∷◌, ◌++◌, refl, ap, sym, ◌∙◌, subst, append-nil, Option, Some, None, IsSomeAnd}
+use Rattle.std.proofs.Common.{◌≡◌, ℕ, ◌≤◌, arith, Bool, false, List, [], ◌++◌, refl, ap, sym, ◌∙◌, subst, append-nil, Option, Some, None, IsSomeAnd}
 use Rattle.std.specs.Prelude.{option_to_list}
 use Rattle.bp_log.specs.Options.{PlainOptions}
 use Rattle.bp_log.specs.declared.record.Record.{Record}
-use Rattle.bp_log.specs.declared.record.Record.TheVariants.{Sel, End}
-use Rattle.bp_run.specs.Bodies.{Code}
-use Rattle.bp_run.specs.Configuration.{Configuration}
+use Rattle.bp_log.specs.Records.{is_complete}
+use Rattle.bp_run.specs.Configuration.{Configuration, Stand as Standing, below}
 use Rattle.bp_run.specs.Settling.{initial}
-use Rattle.bp_run.specs.Story.{Next, next, move, over_with, story, story_from, is_complete}
+use Rattle.bp_run.specs.Story.{Next, next, record_of, after_next, story, story_from}
 use Rattle.bp_run.specs.Story.Next.{Ends, Selects, Waits}
-use Rattle.bp_run.proofs.Stories.{story_on, story_end, story_sel}
+use Rattle.bp_run.proofs.Stories.{goes_on}
 use Rattle.bp_arbiter.specs.Straight.{straight_code}
-use Rattle.bp_arbiter.specs.Picking.{record_of, after_next}
-use Rattle.bp_arbiter.specs.Floor.{configuration_of}
+use Rattle.bp_arbiter.specs.Floor.{stand_of, configuration_of}
 use Rattle.bp_arbiter.specs.declared.floor.Floor.{Floor}
 use Rattle.bp_arbiter.specs.declared.runner.Picked.{Picked}
 use Rattle.bp_arbiter.specs.Stand.{Stand, told, IsIntact, picked_of, Takes}
 use Rattle.js_straight.specs.declared.script.Straight.{Straight}
 
-goes_at : {O S : Type 0} (l : Code O S) (o : PlainOptions) (c : Configuration O) (x : Next) → next l o c ≡ x → story_from l o (option_to_list (record_of x)) c ≡ Some (after_next l c x)
-unfolding story_from
-goes_at l o c (Ends v) h = story_end l o c v h
-goes_at l o c (Selects ch r) h = story_sel l o c ch r [] h
-goes_at l o c Waits h = refl
-
--- the record of what comes next goes on with the story
-pub goes_on : {O S : Type 0} (l : Code O S) (o : PlainOptions) (rs : List Record) (c : Configuration O) → story l o rs ≡ Some c → is_complete rs ≡ false →
-    story l o (rs ++ option_to_list (record_of (next l o c))) ≡ Some (after_next l c (next l o c))
-unfolding story
-goes_on l o rs c h k =
-    story_on l o rs (option_to_list (record_of (next l o c))) (initial l o.injectors) c h k ∙ goes_at l o c (next l o c) refl
+-- a floor's configuration, part by part
+pub configuration_is : (f : Floor) (s : Standing ℕ) (d n : ℕ) → stand_of f ≡ s → f.drawn ≡ d → f.injectors ≡ n →
+    configuration_of f ≡ record { stand = s; drawn = d; reading = below n; bad = None }
+configuration_is f s d n h k m = λ i. record { stand = h i; drawn = k i; reading = below (m i); bad = None }
 
 takes_at : (s : Stand) (x : Next) → Takes s x (picked_of (record_of x)) (record s { records = s.records ++ option_to_list (record_of x) })
 takes_at s (Ends v) = (refl, refl)

@@ -1,6 +1,6 @@
 -- What comes next, as the definitions say it.
 use Rattle.std.specs.Prelude.{ℕ, ◌+◌, ◌<◌, ◌≤◌, Bool, true, false, length, map, None, All}
-use Rattle.bp_run.specs.Settling.Entry.{Runs}
+use Rattle.bp_run.specs.Choosing.Touched.{Moves}
 use Rattle.bp_run.specs.Story as story
 use Rattle.bp_arbiter.specs.declared.floor.Floor.{Floor}
 use Rattle.bp_arbiter.specs.declared.next.Next.{Next}
@@ -13,7 +13,7 @@ drawn_after drawn false = drawn
 
 abbrev pub next_of : Next → story.Next
 next_of (Ends v) = story.Next.Ends v
-next_of (Selects s) = story.Next.Selects (record { event = s.event; place = None; drawn = s.drawn }) (map Runs s.reached.items)
+next_of (Selects s) = story.Next.Selects (record { event = s.event; place = None; drawn = s.drawn }) (map Moves s.reached.items)
 next_of Waits = story.Next.Waits
 
 -- those that are reached are registered, and at most one more word is drawn

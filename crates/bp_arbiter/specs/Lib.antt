@@ -2,6 +2,5 @@ pub mod Straight
 pub mod Standing
 pub mod Floor
 pub mod Following
-pub mod Picking
 pub mod Stand
 pub mod Faults

@@ -1,8 +1,7 @@
 -- What a b-thread of a straight script states now.
 use Rattle.std.specs.Prelude.{ℕ, suc, Bool, true, false, not, ◌||◌, ◌&&◌, List, [], ◌∷◌, ◌++◌, length, Option, Some, None, slice_get, if◌then◌else◌, find, filter_map}
 use Rattle.std.specs.List.{list_any}
-use Rattle.js_data.specs.Event.{PlainEvent}
-use Rattle.bp_run.specs.Events.{same_event}
+use Rattle.js_data.specs.Event.{PlainEvent, same_event}
 use Rattle.bp_arbiter.specs.Straight.{points_of, is_in}
 use Rattle.js_straight.specs.declared.script.Point.{Point}
 use Rattle.js_straight.specs.declared.script.Straight.{Straight}

@@ -1,8 +1,7 @@
 -- Straight scripts as code: the outcome of a b-thread with k replies is its point number k, or its end.
 use Rattle.std.specs.Prelude.{ℕ, zero, suc, Bool, false, List, [], ◌∷◌, length, pos, Option, Some, None, Result, Ok, slice_get, option_to_list}
-use Rattle.js_data.specs.Event.{PlainEvent}
-use Rattle.bp_run.specs.Events.{same_event}
-use Rattle.bp_run.specs.Bodies.{Code, Part, Statement, Outcome, Effect}
+use Rattle.js_data.specs.Event.{PlainEvent, same_event}
+use Rattle.bp_run.specs.Bodies.{Code, Part, Statement, Outcome, Effect, SetFault}
 use Rattle.bp_run.specs.Bodies.Outcome.{Stopped, Ended}
 use Rattle.bp_run.specs.Bodies.Effect.{Register}
 use Rattle.bp_run.specs.Story.{alone}
@@ -15,6 +14,10 @@ use Rattle.js_straight.specs.declared.script.Straight.{Straight}
 abbrev pub is_in : Option PlainEvent → PlainEvent → Bool
 is_in None e = false
 is_in (Some f) e = same_event f e
+
+-- a set of at most one event always tells
+abbrev pub has_in : Option PlainEvent → PlainEvent → Result Bool SetFault
+has_in s e = Ok (is_in s e)
 
 abbrev pub statement_of : Point → Statement (Option PlainEvent)
 statement_of p =
@@ -46,7 +49,7 @@ straight_code script =
       top = 0;
       after = after script;
       handling = λ o replies e. None;
-      has = λ s e. Ok (is_in s e);
+      has = has_in;
       word = λ n. 0;
     }
 

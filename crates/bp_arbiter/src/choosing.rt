@@ -3,7 +3,6 @@ ghost use Rattle.std.specs.Prelude.{◌≡◌, IfOk, option_copied};
 ghost use Rattle.bp_arbiter.specs.Standing.{is_blocked, first_free, has_another, reached_from};
 
 use crate::Thread;
-use crate::thread::same;
 use bp_log::Memory;
 use js_data::Event;
 use js_straight::Straight;
@@ -36,7 +35,7 @@ pub(crate) fn has_another(threads: &[Thread], script: &[Straight], event: &Event
 {
     for thread in threads {
         if let Some(other) = thread.requested(script) {
-            if !same(event, other) && !is_blocked(threads, script, other) {
+            if !event.same(other) && !is_blocked(threads, script, other) {
                 return true;
             }
         }

@@ -3,20 +3,18 @@ ghost use Rattle.std.specs.Prelude.{◌≡◌, ◌<◌, ◌∷◌, [], suc, leng
 ghost use Rattle.bp_log.specs.declared.verdict.Place.TheVariants.{Top};
 ghost use Rattle.bp_run.specs.Bodies.Effect.{Register};
 ghost use Rattle.bp_run.specs.Configuration.{empty, change};
-ghost use Rattle.bp_run.specs.Settling.Entry.{The_top, Runs};
-ghost use Rattle.bp_run.specs.Settling.{unless_over, with_effect, with_end, turn, settle, initial};
+ghost use Rattle.bp_run.specs.Settling.Entry.{Runs};
+ghost use Rattle.bp_run.specs.Settling.{unless_over, with_effect, with_end, turn, settle, opening, initial};
 ghost use Rattle.bp_arbiter.specs.Straight.{straight_code};
-ghost use Rattle.bp_arbiter.specs.Floor.{standing, configuration_of, pair_of, run_by, IsInRange, IsCountedAs};
+ghost use Rattle.bp_arbiter.specs.Floor.{standing, body_in, stand_of, configuration_of, pair_of, run_by, IsInRange, IsCountedAs};
 
 use crate::Thread;
+use bp_log::limits::MOST_THREADS;
 use bp_log::{Line, Memory, Verdict};
 use js_data::Text;
 use js_straight::Straight;
 use std::alloc::Global;
 use std::mem;
-
-/// How many b-threads can be registered in a run.
-const MOST_THREADS: usize = 4096;
 
 /// A configuration, and the numbers of the b-threads that are to be run in it.
 #[derive(Debug)]
@@ -58,6 +56,7 @@ impl Drop for Floor {
 fn end_thread(threads: &mut [Thread], number: usize)
     requires { number < length threads.old }
     ensures ended { map standing threads.new ≡ change (λ t. record t { ended = true }) number (map standing threads.old) }
+    ensures bodies { map body_in threads.new ≡ map body_in threads.old }
     ensures length { length threads.new ≡ length threads.old }
 {
     threads[number].ended = true;
@@ -66,8 +65,8 @@ fn end_thread(threads: &mut [Thread], number: usize)
 impl Floor {
     /// The empty configuration.
     pub(crate) fn empty(alloc: Global, injectors: u32) -> Floor
-        ensures empty { pair_of result ≡ record { c = empty injectors; entries = [] } }
-        ensures counts { (result.transitions ≡ 0) × (result.drawn ≡ 0) }
+        ensures empty { pair_of result ≡ record { stand = empty; entries = [] } }
+        ensures counts { (result.transitions ≡ 0) × (result.drawn ≡ 0) × (result.injectors ≡ injectors) }
     {
         Floor {
             threads: Vec::new(alloc),
@@ -91,7 +90,7 @@ impl Floor {
             return Ok(());
         }
         let number = self.threads.len();
-        if number == MOST_THREADS {
+        if number == MOST_THREADS as usize {
             self.verdict = Some(Verdict::Threads);
             return Ok(());
         }
@@ -107,9 +106,9 @@ impl Floor {
 
     /// The configuration after the top level, with the b-threads that it registered.
     fn opened(alloc: Global, script: &[Straight], injectors: u32) -> Result<Floor, Memory>
-        ensures opened { IfOk result (λ f. pair_of f ≡ turn (straight_code script.now) (record { c = empty injectors; entries = The_top ∷ [] })) }
+        ensures opened { IfOk result (λ f. pair_of f ≡ turn (straight_code script.now) opening) }
         ensures in_range { IfOk result IsInRange }
-        ensures counts { IfOk result (λ f. (f.transitions ≡ 0) × (f.drawn ≡ 0)) }
+        ensures counts { IfOk result (λ f. (f.transitions ≡ 0) × (f.drawn ≡ 0) × (f.injectors ≡ injectors)) }
     {
         let mut floor = Floor::empty(alloc, injectors);
         for (place, straight) in script.iter().enumerate() {
@@ -122,6 +121,7 @@ impl Floor {
     fn finish(&mut self, number: usize) -> Result<(), Memory>
         requires { number < length self.old.threads.items }
         ensures finished { OnOk result (pair_of self.new ≡ with_end (Runs number) (pair_of self.old)) }
+        ensures bodies { OnOk result (map body_in self.new.threads.items ≡ map body_in self.old.threads.items) }
         ensures length { OnOk result (length self.new.threads.items ≡ length self.old.threads.items) }
         ensures wave { self.new.wave ≡ self.old.wave }
         ensures counts { IsCountedAs self.old self.new }
@@ -136,6 +136,7 @@ impl Floor {
     fn merge(&mut self, script: &[Straight], number: usize) -> Result<(), Memory>
         requires { number < length self.old.threads.items }
         ensures merged { OnOk result (pair_of self.new ≡ run_by script.now number (pair_of self.old)) }
+        ensures bodies { OnOk result (map body_in self.new.threads.items ≡ map body_in self.old.threads.items) }
         ensures length { OnOk result (length self.new.threads.items ≡ length self.old.threads.items) }
         ensures wave { self.new.wave ≡ self.old.wave }
         ensures counts { IsCountedAs self.old self.new }
@@ -166,7 +167,7 @@ impl Floor {
     /// Runs b-threads until nobody is to be run, or there is a verdict.
     pub(crate) fn settle(&mut self, alloc: Global, script: &[Straight]) -> Result<(), Memory>
         requires { IsInRange self.old }
-        ensures settled { OnOk result (configuration_of self.new ≡ settle (straight_code script.now) (pair_of self.old)) }
+        ensures settled { OnOk result (stand_of self.new ≡ settle (straight_code script.now) (pair_of self.old)) }
         ensures counts { IsCountedAs self.old self.new }
     {
         if self.verdict.is_some() || self.wave.is_empty() {

@@ -14,7 +14,6 @@ mod step;
 mod thread;
 
 pub use floor::Floor;
-pub use lines::{PrintError, line_of, print};
 pub use next::{Next, Selection};
 pub use runner::{Picked, Runner};
 pub use running::{RunFault, run};

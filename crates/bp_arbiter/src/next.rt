@@ -1,23 +1,21 @@
 //! What comes next in a run.
 ghost use Rattle.std.specs.Prelude.{◌≡◌, ◌<◌, ◌≤◌, ◌+◌, ◌-◌, ◌*◌, ◌^◌, min, length, map, None, IfOk};
 ghost use Rattle.js_data.specs.Event.{event_weight};
-ghost use Rattle.bp_run.specs.Settling.Entry.{Runs};
+ghost use Rattle.bp_run.specs.Selecting.{live};
 ghost use Rattle.bp_run.specs.Choosing.{Choice, reach};
 ghost use Rattle.bp_run.specs.Story.{next, next_idle, next_chosen, weight_after};
-ghost use Rattle.bp_arbiter.specs.Straight.{straight_code};
-ghost use Rattle.bp_arbiter.specs.Floor.{configuration_of};
+ghost use Rattle.bp_arbiter.specs.Straight.{straight_code, has_in};
+ghost use Rattle.bp_arbiter.specs.Floor.{stand_of, configuration_of};
 ghost use Rattle.bp_arbiter.specs.Standing.{has_another};
 ghost use Rattle.bp_arbiter.specs.Following.{drawn_after, next_of, IsWithin};
 
 use crate::Floor;
 use crate::choosing::{first_free, has_another, reached};
+use bp_log::limits::MOST_WEIGHT;
 use bp_log::{Memory, Options, Verdict};
 use js_data::Event;
 use js_straight::Straight;
 use std::alloc::Global;
-
-/// The greatest weight of a run.
-const MOST_WEIGHT: u64 = 16_777_216;
 
 /// An event that is selected.
 #[derive(Debug, Drop)]
@@ -86,7 +84,7 @@ impl Floor {
     ) -> Result<Next, Memory>
         ensures within { drawn ≤ self.now.drawn + 1 → IfOk result (IsWithin self.now) }
         ensures chosen { let choice : Choice = record { event = event.now; place = None; drawn = drawn } in
-            IfOk result (λ n. next_of n ≡ next_chosen (configuration_of self.now) choice (reach (straight_code script.now) (configuration_of self.now) event.now)) }
+            IfOk result (λ n. next_of n ≡ next_chosen (stand_of self.now) choice (reach has_in event.now (live (straight_code script.now) (stand_of self.now)))) }
     {
         let reached = reached(alloc, &self.threads, script, event)?;
         if self.weight_after(event, reached.len()) > MOST_WEIGHT {

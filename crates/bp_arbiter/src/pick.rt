@@ -1,9 +1,8 @@
 //! One step of a run.
 ghost use Rattle.std.specs.Prelude.{◌≡◌, ◌<◌, ◌≤◌, ◌^◌, IfOk, OnOk};
-ghost use Rattle.bp_run.specs.Story.{next};
+ghost use Rattle.bp_run.specs.Story.{next, record_of, after_next};
 ghost use Rattle.bp_arbiter.specs.Straight.{straight_code};
 ghost use Rattle.bp_arbiter.specs.Floor.{configuration_of};
-ghost use Rattle.bp_arbiter.specs.Picking.{record_of, after_next};
 
 use crate::{Floor, Next, Selection};
 use bp_log::{Memory, Options, Record};

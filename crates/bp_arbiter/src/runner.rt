@@ -1,8 +1,8 @@
 //! A straight script that is run step by step.
-ghost use Rattle.std.specs.Prelude.{◌≡◌, ◌++◌, [], false, true, option_to_list, IfOk, OnOk, OnErr, IsSomeAnd, Some};
-ghost use Rattle.bp_run.specs.Story.{next, is_complete};
+ghost use Rattle.std.specs.Prelude.{◌≡◌, ◌++◌, [], false, true, option_to_list, IfOk, OnOk, OnErr, IsErr, IsSomeAnd, Some};
+ghost use Rattle.bp_log.specs.Records.{is_complete};
+ghost use Rattle.bp_run.specs.Story.{next, after_next};
 ghost use Rattle.bp_arbiter.specs.Straight.{straight_code};
-ghost use Rattle.bp_arbiter.specs.Picking.{after_next};
 ghost use Rattle.bp_arbiter.specs.Stand.{told, picked_of, Takes};
 
 use crate::Floor;
@@ -83,6 +83,7 @@ impl Runner {
         ensures tells { OnOk result (IsSomeAnd (told self.old) (λ c. told self.new
             ≡ Some (after_next (straight_code self.old.script) c (next (straight_code self.old.script) self.old.options c)))) }
         ensures failed { OnErr result (self.new ≡ record self.old { broken = true }) }
+        ensures stays { self.old.broken ≡ true → IsErr result }
     {
         if self.broken {
             return Err(AllocError);
@@ -99,7 +100,7 @@ impl Runner {
 
     /// The lines so far, in order.
     pub fn lines(&self) -> &[Line]
-        ensures { self.now.broken ≡ false → IsSomeAnd (told self.now) (λ c. result.now ≡ c.lines) }
+        ensures { self.now.broken ≡ false → IsSomeAnd (told self.now) (λ c. result.now ≡ c.stand.lines) }
     {
         self.floor.lines.as_slice()
     }

@@ -3,13 +3,13 @@ ghost use Rattle.std.specs.Prelude.{◌≡◌, ◌≤◌, [], false, length, dro
 ghost use Rattle.bp_base.specs.Counts.{Rose};
 ghost use Rattle.bp_base.specs.Pieces.{Appends, AppendsFront};
 ghost use Rattle.bp_log.specs.Options.{default_options};
-ghost use Rattle.bp_run.specs.Text.{lines_text};
+ghost use Rattle.bp_log.specs.Texts.{lines_text};
 ghost use Rattle.bp_arbiter.specs.Straight.{text_alone};
 
 use crate::lines::print_lines;
-use crate::{Picked, PrintError, Runner};
+use crate::{Picked, Runner};
 use bp_base::Sink;
-use bp_log::{Line, Options};
+use bp_log::{Line, Options, PrintError};
 use js_straight::Script;
 use std::alloc::{AllocError, Global};
 use thiserror::Error;

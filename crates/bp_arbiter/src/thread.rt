@@ -1,6 +1,5 @@
 //! B-threads of a run.
 ghost use Rattle.std.specs.Prelude.{◌≡◌, ◌<◌, ◌≤◌, IsTrue, option_copied, IfOk, length, is_some, slice_get};
-ghost use Rattle.bp_run.specs.Events.{same_event};
 ghost use Rattle.bp_arbiter.specs.Straight.{is_in, points_of};
 ghost use Rattle.bp_arbiter.specs.Standing.{point_of, requested_by, blocks, is_reached};
 
@@ -20,20 +19,13 @@ pub struct Thread {
     pub ended: bool,
 }
 
-/// Whether the two events are equal.
-pub(crate) fn same(left: &Event, right: &Event) -> bool
-    ensures { result ≡ same_event left.now right.now }
-{
-    left.same(right)
-}
-
 /// Whether this is the event, if there is one.
 fn is_event(one: &Option<Event>, event: &Event) -> bool
     ensures { result ≡ is_in one.now event.now }
 {
     match one {
         None => false,
-        Some(e) => same(e, event),
+        Some(e) => e.same(event),
     }
 }
 

@@ -1,8 +1,9 @@
 -- Statements and the places of bodies compute.
 use Rattle.std.proofs.Common.{◌≡◌, ℕ, List, [], ◌∷◌, Some, None, refl}
-use Rattle.std.specs.Prelude.{pos, codes}
+use Rattle.std.specs.Prelude.{pos, negsuc, codes}
 use Rattle.js_data.specs.declared.fault.Fault.TheVariants as fault
 use Rattle.js_data.specs.Event.{PlainEvent}
+use Rattle.js_tree.specs.declared.tree.Sign.TheVariants.{Minus}
 use Rattle.js_value.specs.Value as v
 use Rattle.js_value.specs.Value.{PlainValue}
 use Rattle.js_program.specs.declared.builtin.Builtin.TheVariants as form
@@ -61,6 +62,28 @@ no_fields_at_all = refl
 
 pub wrong_priority : statement_of (v.fields v.no_fields) (v.words (codes "1")) ≡ None
 wrong_priority = refl
+
+-- {request: a, waitFor: b, block: [a], interrupt: bp.all} with priority -2
+pub all_keys : statement_of
+    (v.fields (v.field (codes "block") (v.list (v.value (v.event a) v.no_values)) (v.field (codes "interrupt") (v.set v.all)
+    (v.field (codes "request") (v.event a) (v.field (codes "waitFor") (v.event b) v.no_fields))))) (v.whole (negsuc 1))
+    ≡ Some (record { request = a ∷ []; wait_for = v.only b; block = v.any (v.set_in (v.only a) v.no_sets); interrupt = v.all; priority = negsuc 1 })
+all_keys = refl
+
+-- {request: undefined, waitFor: undefined}: as if they were absent
+pub undefined_keys : statement_of (v.fields (v.field (codes "request") v.undefined (v.field (codes "waitFor") v.undefined v.no_fields))) v.undefined
+    ≡ Some (record { request = []; wait_for = v.any v.no_sets; block = v.any v.no_sets; interrupt = v.any v.no_sets; priority = pos 0 })
+undefined_keys = refl
+
+-- {block: 1}, {request: [a, 1]}, {interrupt: [undefined]}: what is no event and no set
+pub blocked_number : statement_of (one_field (codes "block") (v.whole (pos 1))) v.undefined ≡ None
+blocked_number = refl
+
+pub requested_number : statement_of (one_field (codes "request") (v.list (v.value (v.event a) (v.value (v.whole (pos 1)) v.no_values)))) v.undefined ≡ None
+requested_number = refl
+
+pub interrupting_undefined : statement_of (one_field (codes "interrupt") (v.list (v.value v.undefined v.no_values))) v.undefined ≡ None
+interrupting_undefined = refl
 
 -- ---- bodies
 
@@ -124,3 +147,22 @@ first_handler = refl
 pub replaced_handler : handler base 20 body (a ∷ b ∷ []) ≡ Some (v.function 2 v.no_values)
 unfolding evaluation eval within
 replaced_handler = refl
+
+-- ---- effects and ends
+
+-- bp.enqueueExternalEvent(bp.Event("a"))
+pub enqueued :
+    after (bare (program (one (p.words (codes "a")) ∷ one (p.builtin form.Event (0 ∷ [])) ∷ one (p.builtin form.EnqueueExternalEvent (1 ∷ [])) ∷ one (p.expression 2) ∷ []) [] [] (statements 0 (3 ∷ [])))) 20 the_top []
+    ≡ record { effects = run.Effect.Enqueue a ∷ []; outcome = run.Outcome.Ended }
+unfolding evaluation eval within
+enqueued = refl
+
+-- a top level of two nodes with a budget of one
+pub spent : after (bare (program (one (p.words (codes "a")) ∷ one (p.expression 0) ∷ []) [] [] (statements 0 (1 ∷ [])))) 1 the_top [] ≡ record { effects = []; outcome = run.Outcome.Spent }
+unfolding evaluation eval within
+spent = refl
+
+-- -"a", on line 3
+pub broken : after (bare (program (one (p.words (codes "a")) ∷ on 3 (p.unary Minus 0) ∷ one (p.expression 1) ∷ []) [] [] (statements 0 (2 ∷ [])))) 9 the_top [] ≡ record { effects = []; outcome = run.Outcome.Broken fault.Mistyped 3 }
+unfolding evaluation eval within
+broken = refl

@@ -7,6 +7,7 @@ use Rattle.js_data.specs.declared.fault.Fault.TheVariants as fault
 use Rattle.js_tree.specs.declared.tree.Operator.TheVariants as op
 use Rattle.js_value.specs.Value as v
 use Rattle.js_value.specs.Value.{PlainSet}
+use Rattle.js_program.specs.declared.builtin.Builtin.TheVariants.{LogInfo}
 use Rattle.js_program.specs.PlainProgram as p
 use Rattle.js_program.specs.PlainProgram.{PlainBody}
 use Rattle.js_meaning.specs.State.{Ground}
@@ -20,7 +21,7 @@ use Rattle.bp_meaning.specs.Membership.{member, Membership}
 abbrev predicate : ℕ → ℕ → PlainBody
 predicate line n = record { parameters = 1; slots = 1; captures = []; vars = []; content = p.one_value n; line = line }
 
--- the predicates: 0 is e => 1, on line 3; 1 is e => e.name === "y"; 2 is e => 1 / 0; 3 is e => { while (true) {} }; 4 is e => e.name === c with a captured c
+-- the predicates: 0 is e => 1, on line 3; 1 is e => e.name === "y"; 2 is e => 1 / 0; 3 is e => { while (true) {} }; 4 is e => e.name === c with a captured c; 5 is e => bp.log.info(e)
 abbrev base : Ground
 base =
     of_functions
@@ -28,8 +29,8 @@ base =
     ∷ slot 0 ∷ one (p.member 1 (codes "name")) ∷ one (p.words (codes "y")) ∷ one (p.binary op.Same 2 3)
     ∷ whole 1 ∷ whole 0 ∷ on 5 (p.binary op.Divide 5 6)
     ∷ one (p.truth true) ∷ one (p.block [] []) ∷ one (p.while_of 8 9)
-    ∷ slot 1 ∷ one (p.binary op.Same 2 11) ∷ [])
-    (predicate 3 0 ∷ predicate 1 4 ∷ predicate 5 7 ∷ statements 0 (10 ∷ []) ∷ record { parameters = 1; slots = 2; captures = 0 ∷ []; vars = []; content = p.one_value 12; line = 1 } ∷ [])
+    ∷ slot 1 ∷ one (p.binary op.Same 2 11) ∷ on 6 (p.builtin LogInfo (1 ∷ [])) ∷ [])
+    (predicate 3 0 ∷ predicate 1 4 ∷ predicate 5 7 ∷ statements 0 (10 ∷ []) ∷ record { parameters = 1; slots = 2; captures = 0 ∷ []; vars = []; content = p.one_value 12; line = 1 } ∷ predicate 6 13 ∷ [])
 
 abbrev asked : PlainSet → List ℕ → Membership
 asked set name = member base 20 set (event name)
@@ -152,3 +153,8 @@ four_are_spent = refl
 pub predicate_with_captured : asked (v.predicate (codes "p") 4 (v.value (v.words (codes "z")) v.no_values)) (codes "z") ≡ Ok true
 unfolding evaluation eval within
 predicate_with_captured = refl
+
+-- a predicate has no effects
+pub predicate_logs : asked (fun 5) (codes "y") ≡ Err (Broken fault.Mode 6)
+unfolding evaluation eval within
+predicate_logs = refl

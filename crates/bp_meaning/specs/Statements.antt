@@ -7,7 +7,7 @@ use Rattle.js_value.specs.Value as v
 use Rattle.js_value.specs.Value.{PlainValue, ValueList, ValueFields, PlainSet}
 use Rattle.js_value.specs.Lists.{fields_in}
 use Rattle.js_ops.specs.Members.{field_or_undefined}
-use Rattle.js_ops.specs.Methods.{set_of}
+use Rattle.js_value.specs.Sets.{set_of}
 use Rattle.bp_run.specs.Bodies.{Statement}
 
 -- the keys of a statement

@@ -1,10 +1,9 @@
 -- A text has at least as many bytes as tokens.
-use Rattle.std.proofs.Common.{◌≡◌, ℕ, ◌+◌, ◌-◌, ◌≤◌, ◌<◌, List, [], ◌∷◌, length, arith}
+use Rattle.std.proofs.Common.{ℕ, ◌+◌, ◌≤◌, List, [], ◌∷◌, length, arith}
 use Rattle.js_lexer.specs.declared.token.Token.{Token}
 use Rattle.js_lexer.specs.Cut.{Cut}
 use Rattle.js_lexer.specs.Laws.{ArePlaced}
 use Rattle.js_lexer.proofs.Order.{tokens_in_order}
-use Rattle.js_grammar.specs.Grammar.{SpellsTree}
 
 placed_few : (bytes : List ℕ) (behind : ℕ) (ts : List Token) → behind ≤ length bytes → ArePlaced bytes behind ts → length ts + behind ≤ length bytes
 placed_few bytes behind [] h k = omega (arith, h)

@@ -5,12 +5,13 @@ use Rattle.bp_log.specs.declared.verdict.Verdict.{Verdict}
 use Rattle.bp_log.specs.declared.verdict.Verdict.TheVariants.{Threads}
 use Rattle.bp_log.specs.declared.verdict.Place.TheVariants.{Top}
 use Rattle.bp_run.specs.Bodies.Effect.{Register}
-use Rattle.bp_run.specs.Configuration.{Configuration, Thread, empty}
-use Rattle.bp_run.specs.Settling.{Pair, Entry, unless_at, unless_over, stopped, registered, with_effect, with_effects, turn, initial}
-use Rattle.bp_run.specs.Settling.Entry.{The_top, Runs}
+use Rattle.bp_run.specs.Configuration.{Configuration, Thread}
+use Rattle.bp_run.specs.Settling.{Pair, Entry, unless_at, unless_over, stopped, registered, with_effect, with_effects, turn, opening, initial}
+use Rattle.bp_run.specs.Settling.Entry.{Runs}
+use Rattle.bp_run.proofs.Turns.{initial_from}
 use Rattle.js_straight.specs.declared.script.Straight.{Straight}
 use Rattle.bp_arbiter.specs.Straight.{straight_code, registrations}
-use Rattle.bp_arbiter.proofs.Loops.{opening, initial_from}
+use Rattle.bp_arbiter.proofs.Loops.{nobody, opened_top}
 use Rattle.bp_arbiter.proofs.Nexts.{differ}
 use Rattle.bp_quiet.proofs.Places.{Placed, standing}
 use Rattle.bp_quiet.proofs.Sizes.{total}
@@ -27,27 +28,23 @@ fresh i (s ∷ rest) = new i s ∷ fresh (suc i) rest
 
 -- these are registered, and nothing else was done
 record Opened (ts : List Placed) (p : Pair ℕ) : Type 0 where
-  threads : p.c.threads ≡ map standing ts
+  threads : p.stand.threads ≡ map standing ts
   wave : List ℕ
   entries : p.entries ≡ map Runs wave
-  verdict : p.c.verdict ≡ None
-  queue : p.c.queue ≡ []
-  bad : p.c.bad ≡ None
-  reading : p.c.reading ≡ []
-  transitions : p.c.transitions ≡ 0
-  weight : p.c.weight ≡ 0
+  verdict : p.stand.verdict ≡ None
+  queue : p.stand.queue ≡ []
+  transitions : p.stand.transitions ≡ 0
+  weight : p.stand.weight ≡ 0
 
 opened_registered : (ts : List Placed) (p : Pair ℕ) (i : ℕ) (s : Straight) → Opened ts p → Opened (ts ++ new i s ∷ []) (registered s.name (suc i) p)
 opened_registered ts p i s h =
-    let n = length p.c.threads in
+    let n = length p.stand.threads in
     record {
       threads = ap (λ (us : List (Thread ℕ)). us ++ standing (new i s) ∷ []) h.threads ∙ sym (map-append standing ts (new i s ∷ []));
       wave = h.wave ++ n ∷ [];
-      entries = ap (λ (es : List Entry). es ++ Runs n ∷ []) h.entries ∙ sym (map-append Runs h.wave (n ∷ []));
+      entries = ap (λ (es : List (Entry ℕ)). es ++ Runs n ∷ []) h.entries ∙ sym (map-append Runs h.wave (n ∷ []));
       verdict = h.verdict;
       queue = h.queue;
-      bad = h.bad;
-      reading = h.reading;
       transitions = h.transitions;
       weight = h.weight;
     }
@@ -62,10 +59,10 @@ opened_unless ts (Some v) f p h k = absurd (cc)
 
 opened_one : (ts : List Placed) (p : Pair ℕ) (i : ℕ) (s : Straight) → length ts + 1 ≤ 4096 → Opened ts p → Opened (ts ++ new i s ∷ []) (unless_over (with_effect Top (Register s.name (suc i))) p)
 opened_one ts p i s h k =
-    let count : length p.c.threads ≡ length ts = ap (λ (us : List (Thread ℕ)). length us) k.threads ∙ length-map ts standing in
-    let other : (length p.c.threads ≡ 4096) → ⊥ = λ e. omega (arith, e, count, h) in
-    opened_unless (ts ++ new i s ∷ []) p.c.verdict (with_effect Top (Register s.name (suc i))) p k.verdict
-    (opened_if (ts ++ new i s ∷ []) (nat_eq (length p.c.threads) 4096) (stopped Threads p) (registered s.name (suc i) p) (differ (length p.c.threads) 4096 other) (opened_registered ts p i s k))
+    let count : length p.stand.threads ≡ length ts = ap (λ (us : List (Thread ℕ)). length us) k.threads ∙ length-map ts standing in
+    let other : (length p.stand.threads ≡ 4096) → ⊥ = λ e. omega (arith, e, count, h) in
+    opened_unless (ts ++ new i s ∷ []) p.stand.verdict (with_effect Top (Register s.name (suc i))) p k.verdict
+    (opened_if (ts ++ new i s ∷ []) (nat_eq (length p.stand.threads) 4096) (stopped Threads p) (registered s.name (suc i) p) (differ (length p.stand.threads) 4096 other) (opened_registered ts p i s k))
 
 opened_all : (i : ℕ) (rest : List Straight) (ts : List Placed) (p : Pair ℕ) → length ts + length rest ≤ 4096 → Opened ts p → Opened (ts ++ fresh i rest) (with_effects Top (registrations i rest) p)
 opened_all i [] ts p h k = subst (λ (us : List Placed). Opened us p) (sym (append-nil ts)) k
@@ -90,7 +87,7 @@ rooms_fresh (s ∷ script) =
 
 -- ---- the initial configuration
 
-fine_opened : (script : List Straight) (points : ℕ) (ts : List Placed) (p : Pair ℕ) → rooms script ts ≡ points → Opened ts p → Fine script points points p.c
+fine_opened : (script : List Straight) (points : ℕ) (ts : List Placed) (p : Pair ℕ) → rooms script ts ≡ points → Opened ts p → Fine script points points p.stand
 fine_opened script points ts p r h =
     let t = h.transitions in
     let w = h.weight in
@@ -100,13 +97,11 @@ fine_opened script points ts p r h =
       rooms_are = r;
       verdict = h.verdict;
       queue = h.queue;
-      bad = h.bad;
-      reading = h.reading;
       steps = omega (arith, t);
       weight = omega (arith, w);
     }
 
-nothing : Opened [] (record { c = empty 0; entries = [] })
+nothing : Opened [] nobody
 nothing =
     record {
       threads = refl;
@@ -114,16 +109,13 @@ nothing =
       entries = refl;
       verdict = refl;
       queue = refl;
-      bad = refl;
-      reading = refl;
       transitions = refl;
       weight = refl;
     }
 
-pub fine_initial : (script : List Straight) → length script ≤ 4096 → Fine script (total script) (total script) (initial (straight_code script) 0)
+pub fine_initial : (script : List Straight) → length script ≤ 4096 → Fine script (total script) (total script) (initial (straight_code script) 0).stand
 fine_initial script h =
     let l = straight_code script in
-    let top : Pair ℕ = record { c = empty 0; entries = The_top ∷ [] } in
-    let k : Opened (fresh 0 script) (turn l top) = subst (λ (p : Pair ℕ). Opened (fresh 0 script) p) (opening script 0) (opened_all 0 script [] (record { c = empty 0; entries = [] }) (omega (arith, h)) nothing) in
-    let f = fine_opened script (total script) (fresh 0 script) (turn l top) (rooms_fresh script) k in
-    subst (λ (c : Configuration ℕ). Fine script (total script) (total script) c) (initial_from l 0) (fine_settled script (total script) (total script) k.wave (turn l top) k.entries f)
+    let k : Opened (fresh 0 script) (turn l opening) = subst (λ (p : Pair ℕ). Opened (fresh 0 script) p) (opened_top script) (opened_all 0 script [] nobody (omega (arith, h)) nothing) in
+    let f = fine_opened script (total script) (fresh 0 script) (turn l opening) (rooms_fresh script) k in
+    subst (λ (c : Configuration ℕ). Fine script (total script) (total script) c.stand) (sym (initial_from l 0)) (fine_settled script (total script) (total script) k.wave (turn l opening) k.entries f)

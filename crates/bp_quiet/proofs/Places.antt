@@ -1,13 +1,14 @@
 -- The b-threads of a run of a straight script, each at its place in the script.
-use Rattle.std.proofs.Common.{◌≡◌, ℕ, suc, Bool, true, false, not, List, [], ◌∷◌, ◌++◌, length, refl, Option, Some, None, slice_get, if◌then◌else◌, find, filter_map}
+use Rattle.std.proofs.Common.{◌≡◌, ℕ, suc, Bool, not, List, [], ◌∷◌, ◌++◌, length, Option, None, slice_get, if◌then◌else◌, find, filter_map}
 use Rattle.std.specs.List.{list_any}
 use Rattle.js_data.specs.Event.{PlainEvent}
-use Rattle.bp_run.specs.Configuration.{Thread, standing as live_of, at_stop}
+use Rattle.bp_run.specs.Configuration.{Thread}
+use Rattle.bp_run.specs.Selecting.{stated}
 use Rattle.js_straight.specs.declared.script.Point.{Point}
 use Rattle.js_straight.specs.declared.script.Straight.{Straight}
-use Rattle.bp_arbiter.specs.Straight.{straight_code, outcome_at, points_of}
+use Rattle.bp_arbiter.specs.Straight.{straight_code, points_of}
 use Rattle.bp_arbiter.specs.Standing.{request_at, blocks_at, reached_at, number_if}
-use Rattle.bp_arbiter.proofs.Lives.{live_at}
+use Rattle.bp_arbiter.proofs.Lives.{live_at, live_is_at}
 
 pub record Placed : Type 0 where
   pub name : List ℕ
@@ -48,10 +49,5 @@ abbrev pub reached_from : List Straight → PlainEvent → ℕ → List Placed �
 reached_from script e n [] = []
 reached_from script e n (t ∷ ts) = number_if (is_reached script e t) n ++ reached_from script e (suc n) ts
 
-live_is_at : (n : ℕ) (name : List ℕ) (b : Bool) (o : Option Point) → (if b then [] else at_stop n name (outcome_at o)) ≡ live_at n name (if b then None else o)
-live_is_at n name true o = refl
-live_is_at n name false None = refl
-live_is_at n name false (Some p) = refl
-
-pub live_is : (script : List Straight) (n : ℕ) (t : Placed) → live_of (straight_code script) n (standing t) ≡ live_at n t.name (point_of script t)
-live_is script n t = live_is_at n t.name t.ended (slice_get (points_of (slice_get script t.place)) (length t.replies))
+pub live_is : (script : List Straight) (n : ℕ) (t : Placed) → stated (straight_code script) n (standing t) ≡ live_at n (point_of script t)
+live_is script n t = live_is_at n t.ended (slice_get (points_of (slice_get script t.place)) (length t.replies))

@@ -1,10 +1,10 @@
 -- How many points lie ahead of the b-threads at which an event can move them: each that is moved has one fewer.
-use Rattle.std.proofs.Common.{◌||◌, is_some, ◌≡◌, ℕ, zero, suc, ◌+◌, ◌-◌, ◌<◌, Bool, true, false, List, [], ◌∷◌, ◌++◌, length, map, refl, ap, ◌∙◌, arith, length-append, Option, Some, None, slice_get, if◌then◌else◌}
+use Rattle.std.proofs.Common.{◌||◌, is_some, ◌≡◌, ℕ, zero, suc, ◌+◌, Bool, true, false, List, [], ◌∷◌, ◌++◌, length, map, refl, ap, ◌∙◌, arith, length-append, Option, Some, None, slice_get, if◌then◌else◌}
 use Rattle.std.specs.Prelude.{drop}
 use Rattle.bp_quiet.proofs.Sizes.{asks, asking, one_if, inside}
 use Rattle.js_data.specs.Event.{PlainEvent}
 use Rattle.bp_run.specs.Configuration.{Thread, change}
-use Rattle.bp_run.specs.Settling.Entry.{Runs}
+use Rattle.bp_run.specs.Choosing.Touched.{Moves}
 use Rattle.bp_run.specs.Story.{touch, touch_all}
 use Rattle.js_straight.specs.declared.script.Point.{Point}
 use Rattle.js_straight.specs.declared.script.Straight.{Straight}
@@ -28,9 +28,9 @@ touched script e t = received e (is_reached script e t) t
 
 -- ---- the b-threads after an event
 
-shifted : (e : PlainEvent) (xs : List ℕ) (t : Thread ℕ) (ts : List (Thread ℕ)) → touch_all e (map Runs (map suc xs)) (t ∷ ts) ≡ t ∷ touch_all e (map Runs xs) ts
+shifted : (e : PlainEvent) (xs : List ℕ) (t : Thread ℕ) (ts : List (Thread ℕ)) → touch_all e (map Moves (map suc xs)) (t ∷ ts) ≡ t ∷ touch_all e (map Moves xs) ts
 shifted e [] t ts = refl
-shifted e (i ∷ xs) t ts = shifted e xs t (touch e (Runs i) ts)
+shifted e (i ∷ xs) t ts = shifted e xs t (touch e (Moves i) ts)
 
 number_suc : (b : Bool) (n : ℕ) (xs ys : List ℕ) → xs ≡ map suc ys → number_if b (suc n) ++ xs ≡ map suc (number_if b n ++ ys)
 number_suc true n xs ys h = ap (λ (zs : List ℕ). suc n ∷ zs) h
@@ -40,16 +40,16 @@ reached_suc : (script : List Straight) (e : PlainEvent) (n : ℕ) (ts : List Pla
 reached_suc script e n [] = refl
 reached_suc script e n (t ∷ ts) = number_suc (is_reached script e t) n (reached_from script e (suc (suc n)) ts) (reached_from script e (suc n) ts) (reached_suc script e (suc n) ts)
 
-touched_at : (e : PlainEvent) (b : Bool) (t : Placed) (ts us : List (Thread ℕ)) (xs ys : List ℕ) → xs ≡ map suc ys → touch_all e (map Runs ys) ts ≡ us →
-    touch_all e (map Runs (number_if b 0 ++ xs)) (standing t ∷ ts) ≡ standing (received e b t) ∷ us
+touched_at : (e : PlainEvent) (b : Bool) (t : Placed) (ts us : List (Thread ℕ)) (xs ys : List ℕ) → xs ≡ map suc ys → touch_all e (map Moves ys) ts ≡ us →
+    touch_all e (map Moves (number_if b 0 ++ xs)) (standing t ∷ ts) ≡ standing (received e b t) ∷ us
 touched_at e true t ts us xs ys h k =
     let u = standing (received e true t) in
-    ap (λ (zs : List ℕ). touch_all e (map Runs zs) (u ∷ ts)) h ∙ shifted e ys u ts ∙ ap (λ (rs : List (Thread ℕ)). u ∷ rs) k
+    ap (λ (zs : List ℕ). touch_all e (map Moves zs) (u ∷ ts)) h ∙ shifted e ys u ts ∙ ap (λ (rs : List (Thread ℕ)). u ∷ rs) k
 touched_at e false t ts us xs ys h k =
     let u = standing t in
-    ap (λ (zs : List ℕ). touch_all e (map Runs zs) (u ∷ ts)) h ∙ shifted e ys u ts ∙ ap (λ (rs : List (Thread ℕ)). u ∷ rs) k
+    ap (λ (zs : List ℕ). touch_all e (map Moves zs) (u ∷ ts)) h ∙ shifted e ys u ts ∙ ap (λ (rs : List (Thread ℕ)). u ∷ rs) k
 
-pub touched_all : (script : List Straight) (e : PlainEvent) (ts : List Placed) → touch_all e (map Runs (reached_from script e 0 ts)) (map standing ts) ≡ map standing (map (touched script e) ts)
+pub touched_all : (script : List Straight) (e : PlainEvent) (ts : List Placed) → touch_all e (map Moves (reached_from script e 0 ts)) (map standing ts) ≡ map standing (map (touched script e) ts)
 touched_all script e [] = refl
 touched_all script e (t ∷ ts) =
     touched_at e (is_reached script e t) t (map standing ts) (map standing (map (touched script e) ts)) (reached_from script e 1 ts) (reached_from script e 0 ts) (reached_suc script e 0 ts)

@@ -1,15 +1,15 @@
 -- What a tree takes that is a straight script: at least 15 tokens for each point at which an event can move its b-thread. And its events are light.
-use Rattle.std.proofs.Common.{◌≡◌, ℕ, suc, ◌+◌, ◌*◌, ◌≤◌, Bool, true, false, ◌||◌, ◌&&◌, nat_le, List, [], ◌∷◌, length, refl, ap, sym, ◌∙◌, subst, arith, Option, Some, None, is_some, if◌then◌else◌}
+use Rattle.std.proofs.Common.{◌≡◌, ℕ, suc, ◌+◌, ◌*◌, ◌≤◌, Bool, true, false, ◌||◌, ◌&&◌, nat_le, List, [], ◌∷◌, length, refl, ap, subst, arith, Option, Some, None, is_some, if◌then◌else◌}
 use Rattle.std.specs.Prelude.{option_map, option_and_then, codes}
 use Rattle.std.specs.List.{list_all}
 use Rattle.std.specs.Str.{bytes_eq}
 use Rattle.std.proofs.lemmas.Bool.Decides.{nat_tests}
 use Rattle.js_data.specs.Event.{PlainEvent, event_weight}
-use Rattle.js_tree.specs.Plain.{PlainExpr, at, PlainForm, words, use_of, fields, member, call, arrow_block, function, PlainExprs, no_exprs, expr_in, PlainFields, no_fields, field_in, PlainStmt, on, expression, PlainStmts, no_stmts, stmt_in, PlainItem, statement, function_of}
+use Rattle.js_tree.specs.Plain.{PlainExpr, at, words, use_of, fields, member, call, arrow_block, function, PlainExprs, no_exprs, expr_in, PlainFields, no_fields, field_in, PlainStmt, on, expression, PlainStmts, no_stmts, stmt_in, PlainItem, statement}
 use Rattle.js_straight.specs.declared.script.Point.{Point}
 use Rattle.js_straight.specs.declared.script.Straight.{Straight}
 use Rattle.js_straight.specs.Straight.{is_name_byte, is_name, name_in, is_bp, is_form, called_with, event_of, only_name, event_in, no_point, with_part, with_parts, parts_in, only_parts, point_in, points_in, body_in, named_body, thread_in, threads_in, script_of}
-use Rattle.bp_quiet.proofs.Spelled.{size, form_size, sizes, field_sizes, field_size, keyed, stmt_sizes, stmt_size, item_size, tree_size}
+use Rattle.bp_quiet.proofs.Spelled.{size, sizes, field_sizes, field_size, stmt_sizes, stmt_size, item_size, tree_size}
 
 -- ---- points at which an event can move their b-thread, and light events
 

@@ -1,10 +1,10 @@
 -- How many tokens a tree takes, at least: what straight scripts are made of is counted, and all else is left out.
-use Rattle.std.proofs.Common.{◌≡◌, ℕ, zero, suc, ◌+◌, ◌≤◌, ◌<◌, List, [], ◌∷◌, length, arith}
+use Rattle.std.proofs.Common.{ℕ, ◌+◌, ◌≤◌, List, [], ◌∷◌, length, arith}
 use Rattle.js_lexer.specs.declared.token.Token.{Token}
 use Rattle.js_tree.specs.Plain.{PlainExpr, at, PlainForm, words, use_of, fields, member, call, arrow_block, function, PlainExprs, no_exprs, expr_in, exprs_of, PlainFields, no_fields, field_in, PlainField, fields_of, PlainStmt, on, expression, PlainStmts, no_stmts, stmt_in, stmts_of, PlainItem, statement}
 use Rattle.js_grammar.specs.declared.sort.Sort.{Sort}
 use Rattle.js_grammar.specs.Grammar.{Level, Spells, number_of, words_of, true_of, false_of, null_of, name_of, round, list_of, fields_in, function_in, calls, no_sign, signed, update_before, update_after, operators, no_choice, choice, no_assignment, assignment, function_value, function_block, Called, called_first, called_member, called_index, called_with, Operated, operated_first, operated_more, Elements, elements_none, elements_last, elements_more, Field, field_pair, field_name, Fields, fields_none, fields_last, fields_more, Statements, statements_end, statements_more, Statement, empty_of, block_of, declaration_of, expression_of, if_only, if_both, while_loop, for_three, for_list, break_end, continue_end, return_end, return_value, Item, item_statement, item_function, SpellsTree, tree_end, tree_more}
-use Rattle.js_grammar.proofs.Shorter.{params_shorter, header_shorter, opening_shorter, end_shorter, spells_shorter, called_shorter, operated_shorter, elements_shorter, fields_shorter, declarators_shorter, start_shorter, perhaps_shorter, test_shorter, statements_shorter, body_shorter, statement_shorter, item_shorter}
+use Rattle.js_grammar.proofs.Shorter.{header_shorter, opening_shorter, end_shorter, spells_shorter, called_shorter, operated_shorter, elements_shorter, declarators_shorter, start_shorter, perhaps_shorter, test_shorter, statements_shorter, body_shorter}
 
 abbrev mutual
   pub size : PlainExpr → ℕ

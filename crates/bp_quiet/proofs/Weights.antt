@@ -1,9 +1,8 @@
 -- The event that is chosen is light, and moves somebody.
 use Rattle.std.proofs.Common.{◌≡◌, ℕ, zero, suc, ◌≤◌, Bool, true, false, List, [], ◌∷◌, ◌++◌, length, refl, ap, ◌∙◌, subst, arith, length-append, Option, Some, None, slice_get, if◌then◌else◌, find, filter_map, cond}
 use Rattle.std.specs.List.{cons_option}
-use Rattle.js_data.specs.Event.{PlainEvent, event_weight, extra_weight}
-use Rattle.js_data.specs.Data.{PlainData}
-use Rattle.bp_run.proofs.Equality.{same_refl}
+use Rattle.js_data.specs.Event.{PlainEvent, event_weight}
+use Rattle.js_data.proofs.SameEvent.{same_event-self}
 use Rattle.bp_quiet.proofs.Sizes.{IsAsked, EachPoint, EachThread}
 use Rattle.js_straight.specs.declared.script.Point.{Point}
 use Rattle.js_straight.specs.declared.script.Straight.{Straight}
@@ -33,7 +32,7 @@ requested_light script t e a h = standing_light t.ended (points_of (slice_get sc
 
 requested_reached : (o : Option Point) (e : PlainEvent) → request_at o ≡ Some e → reached_at e o ≡ true
 requested_reached None e h = absurd (cc)
-requested_reached (Some p) e h = rw (h, same_refl e) refl
+requested_reached (Some p) e h = rw (h, same_event-self e) refl
 
 -- light, and somebody is moved
 pub record Found (e : PlainEvent) (xs : List ℕ) : Type 0 where

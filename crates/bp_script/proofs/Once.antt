@@ -7,12 +7,14 @@ use Rattle.js_tree.specs.Plain.{PlainItem}
 use Rattle.js_grammar.specs.Trees.{IsTree}
 use Rattle.js_grammar.specs.Unsupported.{first_unsupported}
 use Rattle.js_grammar.proofs.Unique.{tree_once}
+use Rattle.js_program.specs.PlainProgram.{PlainProgram}
+use Rattle.js_resolver.specs.Resolved.{resolved}
 use Rattle.js_straight.specs.declared.script.Straight.{Straight}
 use Rattle.js_straight.specs.Straight.{script_of}
 use Rattle.bp_script.specs.declared.refusal.Kind.{Kind}
 use Rattle.bp_script.specs.declared.refusal.Rule.{Rule}
 use Rattle.bp_script.specs.declared.refusal.Refusal.{Refusal}
-use Rattle.bp_script.specs.Programs.{AreCut, AreSpelled, AreAccepted, IsScript, HasFlaw, HasRefusedToken, IsNoText, HasNoSpelling, HasNameFault, BreaksRule, IsWrong, fault_of, IsBroken, IsOther, IsRefused, NeverBoth, NeverBothScript, OneScript}
+use Rattle.bp_script.specs.Programs.{AreCut, AreSpelled, AreAccepted, IsProgram, IsScript, HasFlaw, HasRefusedToken, IsNoText, HasNoSpelling, HasNameFault, BreaksRule, IsWrong, fault_of, IsBroken, IsOther, IsRefused, NeverBoth, NeverBothScript, OneProgram, OneScript}
 use Rattle.js_names.specs.declared.place.NameFault.{NameFault}
 use Rattle.js_names.specs.Rules.{name_fault}
 
@@ -74,3 +76,8 @@ pub one_script : (bytes : List ℕ) → OneScript bytes
 one_script bytes a b s t =
     let same = same_tree bytes s.tree t.tree (s.accepted).spelled (t.accepted).spelled in
     let k : Some a ≡ Some b = sym s.straight ∙ ap (λ (x : List PlainItem). script_of x) same ∙ t.straight in cc
+
+pub one_program : (bytes : List ℕ) → OneProgram bytes
+one_program bytes a b p q =
+    let same = same_tree bytes p.tree q.tree (p.accepted).spelled (q.accepted).spelled in
+    let k : Some a ≡ Some b = sym p.is_resolved ∙ ap (λ (x : List PlainItem). resolved x) same ∙ q.is_resolved in cc

@@ -112,6 +112,10 @@ IsOther _ = Unit {0}
 abbrev pub NeverBoth : List ℕ → Type 0
 NeverBoth bytes = (tree : List PlainItem) (refusal : Refusal) → IsOther refusal → AreAccepted bytes tree → ¬ (IsRefused bytes refusal)
 
+-- the bytes are one program
+abbrev pub OneProgram : List ℕ → Type 0
+OneProgram bytes = (a b : PlainProgram) → IsProgram bytes a → IsProgram bytes b → a ≡ b
+
 -- no bytes are both a script and refused, nor two scripts
 abbrev pub NeverBothScript : List ℕ → Type 0
 NeverBothScript bytes = (script : List Straight) (refusal : Refusal) → IsScript bytes script → ¬ (IsRefused bytes refusal)

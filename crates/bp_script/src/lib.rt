@@ -5,6 +5,6 @@ mod laws;
 mod reading;
 mod refusal;
 
-pub use laws::one_reading;
+pub use laws::read_one_way;
 pub use reading::{ScriptFault, accept, read_script};
 pub use refusal::{Kind, Refusal, Rule};

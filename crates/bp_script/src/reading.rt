@@ -140,7 +140,7 @@ fn short_tree_of(alloc: Global, bytes: &[u8]) -> Result<Tree, ScriptFault>
 /// # Errors
 ///
 /// `Refused` exactly where the bytes are refused so, and never as `NotStraight`; bytes are never both accepted
-/// and refused (`one_reading`).
+/// and refused (`read_one_way`).
 #[tactic(auto, using(crate::proofs::Programs::spelled, crate::proofs::Programs::program_is))]
 pub fn accept(alloc: Global, bytes: &[u8]) -> Result<Program, ScriptFault>
     ensures program { IfOk result (IsProgram bytes.now) }
@@ -169,7 +169,7 @@ fn accepted_tree(alloc: Global, bytes: &[u8]) -> Result<Tree, ScriptFault>
 ///
 /// # Errors
 ///
-/// `Refused` exactly where the bytes are refused so; bytes are never both (`one_reading`).
+/// `Refused` exactly where the bytes are refused so; bytes are never both (`read_one_way`).
 pub fn read_script(alloc: Global, bytes: &[u8]) -> Result<Script, ScriptFault>
     ensures script { IfOk result (IsScript bytes.now) }
     ensures refused { IfErr result (IsScriptFault bytes.now) }

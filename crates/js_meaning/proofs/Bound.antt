@@ -1,16 +1,16 @@
 -- The bound of the recursion is never met: `eval` is what `does` makes of `eval` itself.
-use Rattle.std.proofs.Common.{◌≡◌, ℕ, zero, suc, ◌+◌, ◌-◌, ◌*◌, ◌≤◌, Bool, true, false, cond, List, [], ◌∷◌, length, Option, Some, None, refl, sym, ap, ◌∙◌, subst, arith}
+use Rattle.std.proofs.Common.{◌≡◌, ℕ, zero, suc, ◌+◌, ◌-◌, ◌*◌, ◌≤◌, cond, List, [], ◌∷◌, length, Option, Some, None, refl, sym, ap, ◌∙◌, subst, arith}
 use Rattle.std.specs.Prelude.{slice_get}
 use Rattle.js_data.specs.Event.{PlainEvent}
 use Rattle.js_value.specs.Value.{PlainValue, is_truthy}
 use Rattle.js_program.specs.declared.node.Variable.{Variable}
 use Rattle.js_program.specs.declared.node.Variable.TheVariants.{Slot, Constant}
 use Rattle.js_program.specs.PlainProgram.{PlainNode}
-use Rattle.js_meaning.specs.State.{Setting, State, Completion, normal, broke, continued, returned, left_of, Outcome, went, broken, violated, spent, spends, stopped, ◌>>=◌, leaves}
+use Rattle.js_meaning.specs.State.{Setting, State, Completion, normal, broke, continued, returned, Outcome, went, broken, violated, spent, spends, stopped, ◌>>=◌, leaves}
 use Rattle.js_meaning.specs.Variables.{set_variable}
 use Rattle.js_meaning.specs.Calls.{after_call}
 use Rattle.js_meaning.specs.Forms.{asks}
-use Rattle.js_meaning.specs.Statements.{after_turn, tests, perhaps, one_turn, turns}
+use Rattle.js_meaning.specs.Statements.{after_turn, perhaps, one_turn, turns}
 use Rattle.js_meaning.specs.Meaning.{does_node, begins_with, begins, within, allowed, eval, turns_of}
 use Rattle.js_meaning.proofs.Walk.{Ways, bind, either, leaves_walk, tests_walk, perhaps_walk, one_turn_walk, node_walk}
 

@@ -7,7 +7,7 @@ use Rattle.js_tree.specs.declared.tree.Sign.TheVariants as sign
 use Rattle.js_tree.specs.declared.tree.Step.TheVariants.{Increment}
 use Rattle.js_tree.specs.declared.tree.Fix.TheVariants.{After}
 use Rattle.js_tree.specs.declared.tree.Operator.TheVariants as op
-use Rattle.js_tree.specs.declared.tree.AssignOp.TheVariants.{Set}
+use Rattle.js_tree.specs.declared.tree.AssignOp.TheVariants.{Set, Add}
 use Rattle.js_tree.specs.declared.tree.DeclareKind.TheVariants.{Let, Var}
 use Rattle.js_value.specs.Value as v
 use Rattle.js_value.specs.Value.{PlainValue}
@@ -16,7 +16,7 @@ use Rattle.js_program.specs.declared.builtin.Mode.TheVariants.{Thread}
 use Rattle.js_program.specs.declared.node.Variable.TheVariants.{Slot}
 use Rattle.js_program.specs.PlainProgram as p
 use Rattle.js_program.specs.PlainProgram.{PlainNode, PlainBody}
-use Rattle.js_meaning.specs.State.{says, broken, spent}
+use Rattle.js_meaning.specs.State.{Outcome, says, broken, spent}
 use Rattle.js_meaning.specs.Meaning.{within, eval, turns_of}
 use Rattle.js_meaning.specs.Bodies.{the_top, bare, evaluation}
 use Rattle.js_meaning.proofs.Small.{on, one, whole, slot, constant, given, body, statements, program, comes_to, ends, left}
@@ -134,3 +134,52 @@ pub unset_var : comes_to Thread 100
     ≡ ends (v.whole (pos 1)) 92 (says (codes "undefined") ∷ [])
 unfolding evaluation eval within
 unset_var = refl
+
+-- let a = 5, b = a - 1; let f = () => a - b; return f(): declared in order, and captured in order
+pub captures_in_order : comes_to Thread 100
+    (whole 5 ∷ slot 0 ∷ whole 1 ∷ one (p.binary op.Subtract 1 2) ∷ one (p.declaration Let (given 0 0 ∷ given 1 3 ∷ [])) ∷ one (p.function 1) ∷ one (p.declaration Let (given 2 5 ∷ []))
+    ∷ slot 2 ∷ one (p.call 7 []) ∷ one (p.return_of 8) ∷ slot 0 ∷ slot 1 ∷ one (p.binary op.Subtract 10 11) ∷ [])
+    (statements 3 (4 ∷ 6 ∷ 9 ∷ []) ∷ record { parameters = 0; slots = 2; captures = 0 ∷ 1 ∷ []; vars = []; content = p.one_value 12; line = 1 } ∷ [])
+    ≡ ends (v.whole (pos 1)) 87 []
+unfolding evaluation eval within
+captures_in_order = refl
+
+-- let x; return x
+pub let_without_value : comes_to Thread 100 (one (p.declaration Let (record { variable = Slot 0; value = None } ∷ [])) ∷ slot 0 ∷ one (p.return_of 1) ∷ []) (statements 1 (0 ∷ 2 ∷ []) ∷ []) ≡ ends v.undefined 97 []
+unfolding evaluation eval within
+let_without_value = refl
+
+-- 1() with 200 calls active: that it is no function comes before the depth
+pub no_function_at_the_deepest :
+    eval (record { base = bare (program (whole 1 ∷ on 5 (p.call 0 []) ∷ []) [] [] (statements 0 [])); mode = Thread; budget = 100 }) 1
+    (record { slots = []; constants = None; calls = 200; fuel = 100; replies = []; effects = []; delivered = 0 })
+    ≡ broken fault.Mistyped 5 (left 98 [])
+unfolding eval within
+no_function_at_the_deepest = refl
+
+-- let c = 9; let f = a => c; return f(1, 2): an argument that no parameter takes is dropped, and stands in no slot
+pub dropped_argument : comes_to Thread 100
+    (whole 9 ∷ one (p.declaration Let (given 0 0 ∷ [])) ∷ one (p.function 1) ∷ one (p.declaration Let (given 1 2 ∷ [])) ∷ slot 1 ∷ whole 1 ∷ whole 2 ∷ one (p.call 4 (5 ∷ 6 ∷ [])) ∷ one (p.return_of 7) ∷ slot 1 ∷ [])
+    (statements 2 (1 ∷ 3 ∷ 8 ∷ []) ∷ record { parameters = 1; slots = 2; captures = 0 ∷ []; vars = []; content = p.one_value 9; line = 1 } ∷ [])
+    ≡ ends (v.whole (pos 9)) 90 []
+unfolding evaluation eval within
+dropped_argument = refl
+
+-- { x++; let x }, { x = 1; let x } and { x += 1; let x }, with x on line 2
+abbrev before_let : PlainNode → Outcome
+before_let node =
+    comes_to Thread 100
+    (whole 1 ∷ node ∷ one (p.expression 1) ∷ one (p.declaration Let (record { variable = Slot 0; value = None } ∷ [])) ∷ one (p.block (0 ∷ []) (2 ∷ 3 ∷ [])) ∷ [])
+    (statements 1 (4 ∷ []) ∷ [])
+
+pub early_update : before_let (on 2 (p.update Increment After 0)) ≡ broken fault.Early 2 (left 97 [])
+unfolding evaluation eval within
+early_update = refl
+
+pub early_assignment : before_let (on 2 (p.assign Set 0 0)) ≡ broken fault.Early 2 (left 96 [])
+unfolding evaluation eval within
+early_assignment = refl
+
+pub early_sum : before_let (on 2 (p.assign Add 0 0)) ≡ broken fault.Early 2 (left 97 [])
+unfolding evaluation eval within
+early_sum = refl

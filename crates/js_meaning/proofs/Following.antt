@@ -1,9 +1,8 @@
 -- What any outcome leaves follows on the state, and does to the run what the mode allows, under any bound of the recursion.
-use Rattle.std.proofs.Common.{◌≡◌, ℕ, zero, suc, Bool, true, false, List, [], ◌∷◌, ◌++◌, Option, Some, None, refl, sym, ap, ◌∙◌, subst}
+use Rattle.std.proofs.Common.{◌≡◌, ℕ, zero, suc, true, false, List, [], ◌∷◌, Option, Some, None, refl, sym, ap, ◌∙◌}
 use Rattle.std.specs.Prelude.{slice_get, option_map, length}
 use Rattle.std.proofs.lemmas.Bool.{false≢true}
 use Rattle.js_data.specs.Event.{PlainEvent}
-use Rattle.js_data.specs.declared.fault.Fault.{Fault}
 use Rattle.js_value.specs.Value.{PlainValue}
 use Rattle.js_program.specs.declared.builtin.Builtin.{Builtin}
 use Rattle.js_program.specs.declared.builtin.Builtin.TheVariants as form
@@ -11,13 +10,13 @@ use Rattle.js_program.specs.declared.builtin.Mode.{Mode}
 use Rattle.js_program.specs.Builtins.{has_effect_in}
 use Rattle.js_program.specs.declared.node.Variable.{Variable}
 use Rattle.js_program.specs.declared.node.Variable.TheVariants.{Slot, Constant}
-use Rattle.js_meaning.specs.State.{Ground, Setting, Effect, State, Completion, normal, broke, continued, returned, Left, left_of, left_by, Outcome, went, broken, violated, spent, spends, stopped, ◌>>=◌, leaves, breaks}
+use Rattle.js_meaning.specs.State.{Ground, Setting, State, Completion, normal, broke, continued, returned, Left, left_by, Outcome, went, broken, violated, spent, spends, stopped, ◌>>=◌}
 use Rattle.js_meaning.specs.Variables.{set_slot, set_variable}
 use Rattle.js_meaning.specs.Calls.{after_call}
-use Rattle.js_meaning.specs.Forms.{does_to_run, asks}
+use Rattle.js_meaning.specs.Forms.{asks}
 use Rattle.js_meaning.specs.Statements.{after_turn, turns}
 use Rattle.js_meaning.specs.Meaning.{does_node, begins_with, within, allowed, eval}
-use Rattle.js_meaning.specs.Bodies.{Origin, the_top, function, mode_of, setting_of, own_constants, start_of, evaluation}
+use Rattle.js_meaning.specs.Bodies.{Origin, function, mode_of, setting_of, start_of, evaluation}
 use Rattle.js_meaning.specs.Later.{Later, Beyond, Follows}
 use Rattle.js_meaning.specs.Modes.{acts, OnlyAnswers, StandsOnGround}
 use Rattle.js_meaning.proofs.Later.{later_refl, same_beyond, later_trans, beyond_trans, set_later, declared_later, added_later, begun_later, spent_beyond, replied_later, returned_later, in_body_beyond}

@@ -1,6 +1,6 @@
 -- The definitions compute: short circuits, loops, calls of functions, and forms in their modes.
-use Rattle.std.proofs.Common.{◌≡◌, [], ◌∷◌, Some, refl}
-use Rattle.std.specs.Prelude.{pos, codes, true, false}
+use Rattle.std.proofs.Common.{◌≡◌, ℕ, List, [], ◌∷◌, Some, None, refl}
+use Rattle.std.specs.Prelude.{Bool, map, pos, codes, true, false}
 use Rattle.std.specs.Fmt.{digits}
 use Rattle.js_data.specs.declared.fault.Fault.TheVariants as fault
 use Rattle.js_tree.specs.declared.tree.Step.TheVariants.{Increment}
@@ -8,12 +8,15 @@ use Rattle.js_tree.specs.declared.tree.Fix.TheVariants.{After}
 use Rattle.js_tree.specs.declared.tree.Operator.TheVariants as op
 use Rattle.js_tree.specs.declared.tree.DeclareKind.TheVariants.{Let}
 use Rattle.js_value.specs.Value as v
+use Rattle.js_program.specs.declared.builtin.Builtin.{Builtin}
 use Rattle.js_program.specs.declared.builtin.Builtin.TheVariants as form
-use Rattle.js_program.specs.declared.builtin.Mode.TheVariants.{Thread, Handler, Predicate}
+use Rattle.js_program.specs.declared.builtin.Mode.{Mode}
+use Rattle.js_program.specs.declared.builtin.Mode.TheVariants.{Top, Thread, Handler, Predicate}
 use Rattle.js_program.specs.declared.node.Variable.TheVariants.{Slot}
+use Rattle.js_program.specs.Builtins.{has_effect_in}
 use Rattle.js_program.specs.PlainProgram as p
 use Rattle.js_program.specs.PlainProgram.{PlainNode, PlainBody}
-use Rattle.js_meaning.specs.State.{says, enqueues, broken, violated, stopped}
+use Rattle.js_meaning.specs.State.{Outcome, says, enqueues, registers, handles, broken, violated, stopped}
 use Rattle.js_meaning.specs.Meaning.{within, eval, turns_of}
 use Rattle.js_meaning.specs.Bodies.{function, evaluation}
 use Rattle.js_meaning.proofs.Small.{on, one, whole, slot, given, body, statements, of_functions, comes_to, ends, left, event}
@@ -83,11 +86,11 @@ pub for_each_no_function : comes_to Thread 100
 unfolding evaluation eval within
 for_each_no_function = refl
 
--- ({f: () => 5}).f(): a method of fields is the field's value, called
+-- ({f: a => a}).f(5): a method of fields is the field's value, called
 pub field_is_called : comes_to Thread 100
-    (one (p.function 1) ∷ one (p.fields (codes "f" ∷ []) (0 ∷ [])) ∷ one (p.method 1 (codes "f") []) ∷ one (p.return_of 2) ∷ whole 5 ∷ [])
-    (statements 0 (3 ∷ []) ∷ body 0 0 (p.one_value 4) ∷ [])
-    ≡ ends (v.whole (pos 5)) 95 []
+    (one (p.function 1) ∷ one (p.fields (codes "f" ∷ []) (0 ∷ [])) ∷ whole 5 ∷ one (p.method 1 (codes "f") (2 ∷ [])) ∷ one (p.return_of 3) ∷ slot 0 ∷ [])
+    (statements 0 (4 ∷ []) ∷ body 1 1 (p.one_value 5) ∷ [])
+    ≡ ends (v.whole (pos 5)) 94 []
 unfolding evaluation eval within
 field_is_called = refl
 
@@ -99,6 +102,24 @@ unfolding evaluation eval within
 arguments_before_callee = refl
 
 -- ---- forms and modes
+
+-- the forms in the order registerBThread, sync, Event, EventSet, all, none, ASSERT, enqueueExternalEvent, setInterruptHandler, log.info, floor
+abbrev forms_in : Mode → List Bool
+forms_in mode =
+    map (has_effect_in mode)
+    (form.RegisterBThread ∷ form.Sync ∷ form.Event ∷ form.EventSet ∷ form.All ∷ form.Nothing ∷ form.Assert ∷ form.EnqueueExternalEvent ∷ form.SetInterruptHandler ∷ form.LogInfo ∷ form.Floor ∷ [])
+
+pub forms_of_the_top : forms_in Top ≡ true ∷ false ∷ true ∷ true ∷ true ∷ true ∷ true ∷ true ∷ false ∷ true ∷ true ∷ []
+forms_of_the_top = refl
+
+pub forms_of_threads : forms_in Thread ≡ true ∷ true ∷ true ∷ true ∷ true ∷ true ∷ true ∷ true ∷ true ∷ true ∷ true ∷ []
+forms_of_threads = refl
+
+pub forms_of_handlers : forms_in Handler ≡ true ∷ false ∷ true ∷ true ∷ true ∷ true ∷ true ∷ true ∷ false ∷ true ∷ true ∷ []
+forms_of_handlers = refl
+
+pub forms_of_predicates : forms_in Predicate ≡ false ∷ false ∷ true ∷ true ∷ true ∷ true ∷ false ∷ false ∷ false ∷ false ∷ true ∷ []
+forms_of_predicates = refl
 
 -- bp.sync({}) in a handler is the fault `mode`, and bp.sync(1 / 0) there the fault of its argument
 pub sync_in_a_handler : comes_to Handler 100 (one (p.fields [] []) ∷ one (p.builtin form.Sync (0 ∷ [])) ∷ one (p.expression 1) ∷ []) (statements 0 (2 ∷ []) ∷ [])
@@ -206,3 +227,107 @@ while_goes_on_and_breaks = refl
 pub break_in_no_loop : comes_to Thread 100 (one p.break_of ∷ one p.return_nothing ∷ []) (statements 0 (0 ∷ 1 ∷ []) ∷ []) ≡ ends v.undefined 99 []
 unfolding evaluation eval within
 break_in_no_loop = refl
+
+-- return [5 || 1 / 0, 5 && 6]
+pub short_circuits : comes_to Thread 100
+    (whole 5 ∷ whole 1 ∷ whole 0 ∷ one (p.binary op.Divide 1 2) ∷ one (p.binary op.Or 0 3) ∷ whole 6 ∷ one (p.binary op.And 0 5) ∷ one (p.list (4 ∷ 6 ∷ [])) ∷ one (p.return_of 7) ∷ [])
+    (statements 0 (8 ∷ []) ∷ [])
+    ≡ ends (v.list (v.value (v.whole (pos 5)) (v.value (v.whole (pos 6)) v.no_values))) 93 []
+unfolding evaluation eval within
+short_circuits = refl
+
+-- for (;;) break: an absent test is true
+pub absent_test : comes_to Thread 100 (one p.break_of ∷ one (p.for_three [] None None None 0) ∷ whole 7 ∷ one (p.return_of 2) ∷ []) (statements 0 (1 ∷ 3 ∷ []) ∷ []) ≡ ends (v.whole (pos 7)) 96 []
+unfolding evaluation eval within turns_of
+absent_test = refl
+
+-- [7].forEach((x, i, xs) => bp.log.info(xs)): the third argument is the list
+pub for_each_gives_the_list : comes_to Thread 100
+    (whole 7 ∷ one (p.list (0 ∷ [])) ∷ one (p.function 1) ∷ one (p.method 1 (codes "forEach") (2 ∷ [])) ∷ one (p.expression 3) ∷ slot 2 ∷ one (p.builtin form.LogInfo (5 ∷ [])) ∷ [])
+    (statements 0 (4 ∷ []) ∷ body 3 3 (p.one_value 6) ∷ [])
+    ≡ ends v.undefined 93 (says (codes "[7]") ∷ [])
+unfolding evaluation eval within digits
+for_each_gives_the_list = refl
+
+-- ---- what is not declared yet in a second turn
+
+-- for (const k of [0, 1]) for (let i = k && i; 0;) ;   (the second i on line 2)
+pub head_of_a_for : comes_to Thread 100
+    (whole 0 ∷ whole 1 ∷ one (p.list (0 ∷ 1 ∷ [])) ∷ slot 0 ∷ on 2 (p.read (Slot 1)) ∷ one (p.binary op.And 3 4) ∷ one (p.declaration Let (given 1 5 ∷ []))
+    ∷ whole 0 ∷ one p.empty ∷ one (p.for_three (1 ∷ []) (Some 6) (Some 7) None 8) ∷ one (p.for_each 0 2 9) ∷ [])
+    (statements 2 (10 ∷ []) ∷ [])
+    ≡ broken fault.Early 2 (left 86 [])
+unfolding evaluation eval within turns_of
+head_of_a_for = refl
+
+-- for (const k of [0, 1]) for (const x of k ? x : [5]) ;   (the second x on line 2)
+pub list_of_a_for_of : comes_to Thread 100
+    (whole 0 ∷ whole 1 ∷ one (p.list (0 ∷ 1 ∷ [])) ∷ slot 0 ∷ on 2 (p.read (Slot 1)) ∷ whole 5 ∷ one (p.list (5 ∷ [])) ∷ one (p.conditional 3 4 6)
+    ∷ one p.empty ∷ one (p.for_each 1 7 8) ∷ one (p.for_each 0 2 9) ∷ [])
+    (statements 2 (10 ∷ []) ∷ [])
+    ≡ broken fault.Early 2 (left 86 [])
+unfolding evaluation eval within
+list_of_a_for_of = refl
+
+-- ---- wrong arguments of forms
+
+-- the nodes of a call of a form on line 2, with arguments among: 1, "n", a function, true
+abbrev called_with : Builtin → List ℕ → Outcome
+called_with f arguments =
+    comes_to Thread 100 (whole 1 ∷ one (p.words (codes "n")) ∷ one (p.function 0) ∷ one (p.truth true) ∷ on 2 (p.builtin f arguments) ∷ one (p.expression 4) ∷ []) (statements 0 (5 ∷ []) ∷ [])
+
+-- bp.registerBThread(1, f), bp.registerBThread("n", 1), bp.registerBThread("n")
+pub registers_no_text : called_with form.RegisterBThread (0 ∷ 2 ∷ []) ≡ broken fault.Mistyped 2 (left 96 [])
+unfolding evaluation eval within
+registers_no_text = refl
+
+pub registers_no_function : called_with form.RegisterBThread (1 ∷ 0 ∷ []) ≡ broken fault.Mistyped 2 (left 96 [])
+unfolding evaluation eval within
+registers_no_function = refl
+
+pub registers_nothing : called_with form.RegisterBThread (1 ∷ []) ≡ broken fault.Mistyped 2 (left 97 [])
+unfolding evaluation eval within
+registers_nothing = refl
+
+-- bp.enqueueExternalEvent("n"), bp.setInterruptHandler("n"), bp.ASSERT(true, 1), bp.log.info(f)
+pub enqueues_no_event : called_with form.EnqueueExternalEvent (1 ∷ []) ≡ broken fault.Mistyped 2 (left 97 [])
+unfolding evaluation eval within
+enqueues_no_event = refl
+
+pub handles_no_function : called_with form.SetInterruptHandler (1 ∷ []) ≡ broken fault.Mistyped 2 (left 97 [])
+unfolding evaluation eval within
+handles_no_function = refl
+
+pub asserts_no_text : called_with form.Assert (3 ∷ 0 ∷ []) ≡ broken fault.Mistyped 2 (left 96 [])
+unfolding evaluation eval within
+asserts_no_text = refl
+
+pub logs_a_function : called_with form.LogInfo (2 ∷ []) ≡ broken fault.Mistyped 2 (left 97 [])
+unfolding evaluation eval within
+logs_a_function = refl
+
+-- bp.log.info(): a missing argument is undefined
+pub logs_undefined : called_with form.LogInfo [] ≡ ends v.undefined 98 (says (codes "undefined") ∷ [])
+unfolding evaluation eval within
+logs_undefined = refl
+
+-- bp.ASSERT(1, "n", 1): a truthy condition, and one argument too many
+pub assertion_holds : called_with form.Assert (0 ∷ 1 ∷ 0 ∷ []) ≡ ends v.undefined 95 []
+unfolding evaluation eval within
+assertion_holds = refl
+
+-- bp.registerBThread("n", f), bp.setInterruptHandler(f)
+pub registers_a_thread : called_with form.RegisterBThread (1 ∷ 2 ∷ []) ≡ ends v.undefined 96 (registers (codes "n") (v.function 0 v.no_values) ∷ [])
+unfolding evaluation eval within
+registers_a_thread = refl
+
+pub sets_a_handler : called_with form.SetInterruptHandler (2 ∷ []) ≡ ends v.undefined 97 (handles (v.function 0 v.no_values) ∷ [])
+unfolding evaluation eval within
+sets_a_handler = refl
+
+-- Math.floor(1 / 0, bp.log.info("c")): the fault comes after the argument that is dropped
+pub floor_after_its_arguments : comes_to Thread 100
+    (whole 1 ∷ whole 0 ∷ one (p.words (codes "c")) ∷ one (p.builtin form.LogInfo (2 ∷ [])) ∷ on 2 (p.floor_divide 0 1 (3 ∷ [])) ∷ one (p.expression 4) ∷ []) (statements 0 (5 ∷ []) ∷ [])
+    ≡ broken fault.Zero 2 (left 94 (says (codes "c") ∷ []))
+unfolding evaluation eval within
+floor_after_its_arguments = refl

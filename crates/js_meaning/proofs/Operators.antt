@@ -1,5 +1,5 @@
 -- The definitions compute: each operator, each assignment and update, members, methods and forms of values.
-use Rattle.std.proofs.Common.{◌≡◌, ℕ, List, [], ◌∷◌, ◌++◌, Some, None, refl}
+use Rattle.std.proofs.Common.{◌≡◌, ℕ, List, [], ◌∷◌, ◌++◌, refl}
 use Rattle.std.specs.Prelude.{pos, negsuc, codes, true, false, replicate}
 use Rattle.std.specs.Fmt.{digits}
 use Rattle.js_data.specs.declared.fault.Fault.TheVariants as fault
@@ -16,10 +16,10 @@ use Rattle.js_program.specs.declared.builtin.Builtin.TheVariants as form
 use Rattle.js_program.specs.declared.builtin.Mode.TheVariants.{Thread}
 use Rattle.js_program.specs.PlainProgram as p
 use Rattle.js_program.specs.PlainProgram.{PlainNode, PlainNodeForm}
-use Rattle.js_meaning.specs.State.{Outcome, says, broken}
+use Rattle.js_meaning.specs.State.{says, broken}
 use Rattle.js_meaning.specs.Meaning.{within, eval}
 use Rattle.js_meaning.specs.Bodies.{evaluation}
-use Rattle.js_meaning.proofs.Small.{on, one, whole, slot, given, body, statements, comes_to, ends, left, event}
+use Rattle.js_meaning.proofs.Small.{on, one, whole, slot, given, statements, comes_to, ends, left, event}
 
 abbrev number : ℕ → PlainValue
 number n = v.whole (pos n)

@@ -1,19 +1,18 @@
 -- With more replies an evaluation that stopped goes on, and every other one is the same.
-use Rattle.std.proofs.Common.{◌≡◌, ℕ, zero, suc, ◌+◌, ◌≤◌, List, [], ◌∷◌, ◌++◌, length, Option, Some, None, refl, sym, ap, ◌∙◌, subst, arith}
+use Rattle.std.proofs.Common.{◌≡◌, ℕ, zero, suc, ◌+◌, List, [], ◌∷◌, ◌++◌, length, Option, refl, sym, ap, ◌∙◌, subst, arith}
 use Rattle.std.specs.Prelude.{slice_get, drop}
 use Rattle.std.proofs.lemmas.List.{append_assoc, append-nil}
 use Rattle.js_data.specs.Event.{PlainEvent}
 use Rattle.js_value.specs.Value.{PlainValue}
 use Rattle.js_program.specs.declared.node.Variable.{Variable}
 use Rattle.js_program.specs.declared.node.Variable.TheVariants.{Slot, Constant}
-use Rattle.js_meaning.specs.State.{Ground, Setting, Effect, State, Completion, normal, broke, continued, returned, Left, left_of, left_by, Outcome, went, broken, violated, spent, stopped, ◌>>=◌, leaves, effects_of, effects_since}
+use Rattle.js_meaning.specs.State.{Ground, Setting, Effect, State, normal, broke, continued, returned, Left, Outcome, went, broken, violated, spent, stopped, ◌>>=◌, leaves, effects_of, effects_since}
 use Rattle.js_meaning.specs.Variables.{set_variable}
 use Rattle.js_meaning.specs.Calls.{after_call}
 use Rattle.js_meaning.specs.Forms.{asks}
 use Rattle.js_meaning.specs.Statements.{after_turn, turns}
 use Rattle.js_meaning.specs.Meaning.{does_node, begins_with, within, allowed, eval}
 use Rattle.js_meaning.specs.Bodies.{Origin, setting_of, start_of, evaluation}
-use Rattle.js_meaning.specs.Later.{Beyond}
 use Rattle.js_meaning.specs.Replies.{with_more, TookAll, Behind, GoesOn}
 use Rattle.js_meaning.proofs.Later.{none_later}
 use Rattle.js_meaning.proofs.Walk.{Ways, one_turn_walk, node_walk, body_walk}

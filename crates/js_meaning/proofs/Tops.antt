@@ -1,5 +1,5 @@
 -- The definitions compute: constants, declared functions, how deep calls may go, and what a function may hold.
-use Rattle.std.proofs.Common.{◌≡◌, ℕ, zero, suc, List, [], ◌∷◌, Option, Some, None, refl}
+use Rattle.std.proofs.Common.{◌≡◌, ℕ, zero, suc, List, [], ◌∷◌, Option, Some, refl}
 use Rattle.std.specs.Prelude.{pos, codes}
 use Rattle.std.specs.Fmt.{digits}
 use Rattle.js_data.specs.declared.fault.Fault.TheVariants as fault
@@ -9,11 +9,10 @@ use Rattle.js_value.specs.Value as v
 use Rattle.js_value.specs.Value.{PlainValue}
 use Rattle.js_program.specs.declared.builtin.Builtin.TheVariants as form
 use Rattle.js_program.specs.declared.builtin.Mode.TheVariants.{Thread}
-use Rattle.js_program.specs.declared.node.Variable.{Variable}
 use Rattle.js_program.specs.declared.node.Variable.TheVariants.{Slot, Constant}
 use Rattle.js_program.specs.PlainProgram as p
 use Rattle.js_program.specs.PlainProgram.{PlainNode, PlainBody, PlainConstant, PlainDeclared, PlainProgram}
-use Rattle.js_meaning.specs.State.{Effect, Ground, State, Outcome, says, went, normal, broken}
+use Rattle.js_meaning.specs.State.{Effect, Outcome, says, went, normal, broken}
 use Rattle.js_meaning.specs.Meaning.{within, eval}
 use Rattle.js_meaning.specs.Bodies.{the_top, function, bare, evaluation, ground_of}
 use Rattle.js_meaning.proofs.Small.{on, one, whole, slot, constant, body, statements, program, ends, left}

@@ -1,8 +1,7 @@
 -- A relation between two ways to go on from a state, which holds of what begins no node and through each way to combine, holds of what every form does.
-use Rattle.std.proofs.Common.{◌≡◌, ℕ, suc, ◌+◌, Bool, true, false, cond, List, [], ◌∷◌, ◌++◌, Option, Some, None, Ok, Err, refl, sym, ◌∙◌}
-use Rattle.std.specs.Prelude.{pos, slice_get, unwrap_or, nat_lt, codes, drop}
+use Rattle.std.proofs.Common.{◌≡◌, ℕ, suc, ◌+◌, Bool, true, false, cond, List, [], ◌∷◌, ◌++◌, Option, Some, None, Ok, Err, refl}
+use Rattle.std.specs.Prelude.{pos, unwrap_or, nat_lt, codes, drop}
 use Rattle.std.specs.Str.{bytes_eq}
-use Rattle.std.proofs.lemmas.Bool.{false≢true}
 use Rattle.js_data.specs.declared.fault.Fault.{Fault}
 use Rattle.js_data.specs.declared.fault.Fault.TheVariants as fault
 use Rattle.js_tree.specs.declared.tree.Step.{Step}
@@ -21,7 +20,7 @@ use Rattle.js_value.specs.declared.op.Make.TheVariants as make
 use Rattle.js_ops.specs.Made.{Answer, made}
 use Rattle.js_ops.specs.Operators.{value_of, unary_of}
 use Rattle.js_ops.specs.Members.{member_of, index_of, field_or_undefined}
-use Rattle.js_ops.specs.Methods.{method_of}
+use Rattle.js_ops.specs.Methods.{method_named, method_of}
 use Rattle.js_ops.specs.Making.{make_of}
 use Rattle.js_program.specs.declared.builtin.Builtin.{Builtin}
 use Rattle.js_program.specs.declared.builtin.Builtin.TheVariants as form
@@ -32,12 +31,13 @@ use Rattle.js_program.specs.declared.node.Variable.{Variable}
 use Rattle.js_program.specs.declared.node.Variable.TheVariants.{Slot, Constant}
 use Rattle.js_program.specs.PlainProgram as p
 use Rattle.js_program.specs.PlainProgram.{PlainNode, PlainNodeForm, PlainBody, PlainContent, PlainDeclared, parts_of}
+use Rattle.js_meaning.specs.declared.limits.TheConstants.{MOST_CALLS}
 use Rattle.js_meaning.specs.State.{Setting, Effect, State, Completion, normal, broke, continued, returned, left_of, Outcome, went, violated, spends, ◌>>=◌, gives, leaves, breaks, answered}
 use Rattle.js_meaning.specs.Variables.{in_slot, held, set_slot, set_variable, undeclare, if_declared, slots_of_call, captured}
-use Rattle.js_meaning.specs.Calls.{max_calls, body_of, after_call, method_named, applies, sequence, in_order, runs, enters, calls, for_each_from, for_each_call, calls_method}
+use Rattle.js_meaning.specs.Calls.{body_of, after_call, applies, sequence, in_order, runs, enters, calls, for_each_from, for_each_call, calls_method}
 use Rattle.js_meaning.specs.Forms.{argument, does_to_run, registers_thread, asks, asserted, enqueues_event, sets_handler, log_text, logs, floors, takes_effect, applies_form}
 use Rattle.js_meaning.specs.Expressions.{unary_for, step_for, op_for, op_before, by_rule, writes, updates, does_update, assigns, combines}
-use Rattle.js_meaning.specs.Statements.{after_turn, without_value, declares, does_declaration, does_if, does_if_else, tests, perhaps, one_turn, each, each_of}
+use Rattle.js_meaning.specs.Statements.{after_turn, without_value, declares, does_declaration, does_if_else, tests, perhaps, one_turn, each, each_of}
 use Rattle.js_meaning.specs.Meaning.{does, does_node}
 use Rattle.js_meaning.specs.Bodies.{Origin, the_top, function, runs_body}
 use Rattle.js_meaning.specs.Modes.{acts}
@@ -203,9 +203,9 @@ module _ (g : Setting) (W : (State → Outcome) → (State → Outcome) → Type
 
     calls_walk : (line : ℕ) (f : PlainValue) (args : List PlainValue) → W (calls g ev line f args) (calls g ev' line f args)
     calls_walk line (v.function code held) args =
-        w.looking (λ _ _ n. cond (nat_lt n max_calls) (enters ev (n + 1) (body_of g.base.program code) (values_in held) args) (breaks fault.Depth line))
-        (λ _ _ n. cond (nat_lt n max_calls) (enters ev' (n + 1) (body_of g.base.program code) (values_in held) args) (breaks fault.Depth line))
-        (λ _ _ n. either (nat_lt n max_calls) (enters_walk (n + 1) (body_of g.base.program code) (values_in held) args) (w.breaking fault.Depth line))
+        w.looking (λ _ _ n. cond (nat_lt n MOST_CALLS) (enters ev (n + 1) (body_of g.base.program code) (values_in held) args) (breaks fault.Depth line))
+        (λ _ _ n. cond (nat_lt n MOST_CALLS) (enters ev' (n + 1) (body_of g.base.program code) (values_in held) args) (breaks fault.Depth line))
+        (λ _ _ n. either (nat_lt n MOST_CALLS) (enters_walk (n + 1) (body_of g.base.program code) (values_in held) args) (w.breaking fault.Depth line))
     calls_walk line _ args = w.breaking fault.Mistyped line
 
     for_each_from_walk : (line : ℕ) (f items : PlainValue) (index : ℕ) (xs : List PlainValue) → W (for_each_from g ev line f items index xs) (for_each_from g ev' line f items index xs)

@@ -1,21 +1,17 @@
 -- Statements in order, arguments in order, and calls of functions.
-use Rattle.std.specs.Prelude.{ℕ, suc, ◌+◌, pos, cond, nat_lt, List, [], ◌∷◌, ◌++◌, slice_get, unwrap_or, Option, Some, None, codes, if◌then◌else◌}
+use Rattle.std.specs.Prelude.{ℕ, suc, ◌+◌, pos, cond, nat_lt, List, [], ◌∷◌, ◌++◌, slice_get, unwrap_or, Option, Some, None, codes}
 use Rattle.std.specs.Str.{bytes_eq}
 use Rattle.js_data.specs.declared.fault.Fault.TheVariants as fault
 use Rattle.js_value.specs.Value as v
 use Rattle.js_value.specs.Value.{PlainValue, ValueList}
 use Rattle.js_value.specs.Lists.{values_in}
 use Rattle.js_value.specs.declared.op.Method.{Method}
-use Rattle.js_value.specs.declared.op.Method.TheVariants as method
 use Rattle.js_ops.specs.Members.{field_or_undefined}
-use Rattle.js_ops.specs.Methods.{method_of}
+use Rattle.js_ops.specs.Methods.{method_named, method_of}
 use Rattle.js_program.specs.PlainProgram.{PlainProgram, PlainBody, PlainContent, statements, one_value}
+use Rattle.js_meaning.specs.declared.limits.TheConstants.{MOST_CALLS}
 use Rattle.js_meaning.specs.State.{Setting, State, Completion, returned, Outcome, went, ◌>>=◌, gives, leaves, breaks, answered}
 use Rattle.js_meaning.specs.Variables.{slots_of_call}
-
--- how many calls may be active
-abbrev pub max_calls : ℕ
-max_calls = 200
 
 -- a function of a number that no function has does nothing
 abbrev pub no_body : PlainBody
@@ -33,16 +29,6 @@ answer_of _ = v.undefined
 abbrev pub after_call : List (Option PlainValue) → ℕ → Outcome → Outcome
 after_call slots active (went c s) = gives (answer_of c) (record s { slots = slots; calls = active })
 after_call slots active o = o
-
-abbrev pub method_named : List ℕ → Option Method
-method_named word =
-    if bytes_eq word (codes "concat") then Some method.Concat else
-    (if bytes_eq word (codes "startsWith") then Some method.StartsWith else
-    (if bytes_eq word (codes "endsWith") then Some method.EndsWith else
-    (if bytes_eq word (codes "or") then Some method.Or else
-    (if bytes_eq word (codes "and") then Some method.And else
-    (if bytes_eq word (codes "xor") then Some method.Xor else
-    (if bytes_eq word (codes "negate") then Some method.Negate else None))))))
 
 -- a method that calls nothing
 abbrev pub applies : ℕ → Option Method → PlainValue → List PlainValue → State → Outcome
@@ -71,10 +57,10 @@ module _ (ev : ℕ → State → Outcome) where
       after_call s.slots s.calls (runs body.content (record s { slots = slots_of_call body captured args; calls = active }))
 
 module _ (g : Setting) (ev : ℕ → State → Outcome) where
-  -- a call of a value: what is no function can't be called, and neither can one more than 200
+  -- a call of a value: what is no function can't be called, and neither can one more than may be active
   abbrev pub calls : ℕ → PlainValue → List PlainValue → State → Outcome
   calls line (v.function code captured) args s =
-      cond (nat_lt s.calls max_calls) (enters ev (s.calls + 1) (body_of g.base.program code) (values_in captured) args) (breaks fault.Depth line) s
+      cond (nat_lt s.calls MOST_CALLS) (enters ev (s.calls + 1) (body_of g.base.program code) (values_in captured) args) (breaks fault.Depth line) s
   calls line _ args s = breaks fault.Mistyped line s
 
   -- `forEach`: the function is called with each element, its index and the list

@@ -25,7 +25,7 @@ use Rattle.js_ops.specs.Members.{member_of, index_of}
 use Rattle.js_ops.specs.Making.{make_of}
 use Rattle.js_program.specs.PlainProgram as p
 use Rattle.js_program.specs.PlainProgram.{PlainNodeForm}
-use Rattle.js_meaning.specs.State.{Setting, State, Completion, broke, continued, returned, Outcome, went, ◌>>=◌, gives, leaves, answered}
+use Rattle.js_meaning.specs.State.{Setting, State, broke, continued, returned, Outcome, went, ◌>>=◌, gives, leaves, breaks, answered}
 use Rattle.js_meaning.specs.Variables.{in_slot, held, set_slot, if_declared, captured}
 use Rattle.js_meaning.specs.Calls.{body_of, calls, calls_method}
 use Rattle.js_meaning.specs.Forms.{argument, applies_form}
@@ -68,6 +68,7 @@ op_before assign_op.Multiply = Some op.Multiply
 op_before assign_op.Divide = Some op.Divide
 op_before assign_op.Remainder = Some op.Remainder
 
+-- the value by the rule of an operator; `||` and `&&`, which have none, do not come here
 abbrev pub by_rule : Option Op → PlainValue → PlainValue → Answer
 by_rule None x y = Err fault.Mistyped
 by_rule (Some op) x y = value_of op x y
@@ -77,7 +78,7 @@ by_rule (Some op) x y = value_of op x y
 -- the value is put into the slot
 abbrev pub writes : ℕ → ℕ → Answer → State → Outcome
 writes line k (Ok v) s = gives v (set_slot k (Some v) s)
-writes line k (Err f) s = answered line (Err f) s
+writes line k (Err f) s = breaks f line s
 
 -- the value of an update: `++x` gives the new one, `x++` the old one
 abbrev pub updates : ℕ → Fix → ℕ → PlainValue → Answer → State → Outcome
@@ -96,7 +97,7 @@ module _ (ev : ℕ → State → Outcome) where
 -- ---- what comes of the values of all parts
 
 module _ (g : Setting) (ev : ℕ → State → Outcome) where
-  -- The forms that evaluate all of their parts in order: what they then do with the values. The others are in `does`.
+  -- What a form does with the values of its parts, where it evaluates all of them in order. The forms that do otherwise are in `does`.
   abbrev pub combines : ℕ → PlainNodeForm → List PlainValue → State → Outcome
   combines line (p.number n) vs s = gives (v.whole n) s
   combines line (p.words text) vs s = answered line (made (v.words text)) s
@@ -120,5 +121,5 @@ module _ (g : Setting) (ev : ℕ → State → Outcome) where
   combines line p.continue_of vs s = went continued s
   combines line p.return_nothing vs s = went (returned v.undefined) s
   combines line (p.return_of e) vs s = went (returned (argument 0 vs)) s
-  -- an expression as a statement, and `;`
+  -- an expression as a statement, and `;`; the forms that do otherwise do not come here
   combines line _ vs s = leaves s

@@ -6,7 +6,7 @@ use Rattle.js_data.specs.declared.fault.Fault.TheVariants as fault
 use Rattle.js_value.specs.Value as v
 use Rattle.js_value.specs.Value.{PlainValue, is_truthy, value_text}
 use Rattle.js_value.specs.declared.op.Make.TheVariants as make
-use Rattle.js_ops.specs.DataValues.{value_data}
+use Rattle.js_value.specs.DataValues.{value_data}
 use Rattle.js_ops.specs.Making.{make_of}
 use Rattle.js_program.specs.declared.builtin.Builtin.{Builtin}
 use Rattle.js_program.specs.declared.builtin.Builtin.TheVariants as form

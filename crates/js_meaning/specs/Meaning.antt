@@ -1,9 +1,9 @@
 -- What a program means: the outcome of each node, by recursion on its parts.
-use Rattle.std.specs.Prelude.{ℕ, zero, suc, ◌+◌, ◌*◌, List, [], length, slice_get, Option, Some, None}
+use Rattle.std.specs.Prelude.{ℕ, zero, suc, ◌+◌, ◌*◌, [], length, slice_get, Option, Some, None}
 use Rattle.js_tree.specs.declared.tree.Operator.TheVariants as operator
 use Rattle.js_program.specs.PlainProgram as p
 use Rattle.js_program.specs.PlainProgram.{PlainNodeForm, PlainNode, parts_of}
-use Rattle.js_meaning.specs.State.{Setting, State, Outcome, spends, ◌>>=◌, leaves}
+use Rattle.js_meaning.specs.State.{Setting, State, Outcome, spends, ◌>>=◌}
 use Rattle.js_meaning.specs.Variables.{undeclare}
 use Rattle.js_meaning.specs.Calls.{sequence, in_order}
 use Rattle.js_meaning.specs.Expressions.{op_before, assigns, combines}

@@ -1,5 +1,5 @@
 -- What an evaluation does to the run around it in each mode.
-use Rattle.std.specs.Prelude.{◌≡◌, Bool, true, false, Option, None}
+use Rattle.std.specs.Prelude.{◌≡◌, Bool, true, false, None}
 use Rattle.js_program.specs.declared.builtin.Mode.{Mode}
 use Rattle.js_program.specs.declared.builtin.Mode.TheVariants.{Predicate}
 use Rattle.js_program.specs.declared.builtin.Builtin.TheVariants as form

@@ -1,5 +1,5 @@
 -- What a node finds when it begins, and what comes of it.
-use Rattle.std.specs.Prelude.{ℕ, List, [], drop, Option, Ok, Err}
+use Rattle.std.specs.Prelude.{ℕ, List, drop, Option, Ok, Err}
 use Rattle.js_data.specs.Event.{PlainEvent}
 use Rattle.js_data.specs.declared.fault.Fault.{Fault}
 use Rattle.js_value.specs.Value.{PlainValue, undefined}

@@ -2,5 +2,7 @@
 #![tactic(auto)]
 
 pub mod laws;
+mod limits;
 
 pub use js_program::{Builtin, Mode};
+pub use limits::MOST_CALLS;

@@ -1,5 +1,5 @@
 -- Scopes that are made from maps.
-use Rattle.std.proofs.Common.{◌≡◌, ℕ, List, [], ◌∷◌, ◌++◌, ◌∙◌, ap, refl, sym, map, Bool, true, false}
+use Rattle.std.proofs.Common.{◌≡◌, ℕ, List, [], ◌∷◌, ◌++◌, ◌∙◌, ap, refl, sym, map, Bool, true, false, Option, Some, None}
 use Rattle.std.specs.Str.{bytes_eq}
 use Rattle.std.specs.List.{flat_map}
 use Rattle.std.specs.Map.{lookup}
@@ -7,6 +7,7 @@ use Rattle.std.specs.Prelude.{string_bytes}
 use Rattle.std.specs.HashMap.{get_by_text}
 use Rattle.js_tree.specs.declared.tree.Item.{Item}
 use Rattle.js_tree.specs.Views.{plain_item}
+use Rattle.js_names.specs.declared.place.Declared.{Declared}
 use Rattle.js_names.specs.Scopes.{Entry, first, named, one_var, merge, scope_with, own_of_item, vars_of_item}
 use Rattle.js_names.specs.Places.{or_else}
 use Rattle.js_names.specs.Views.{Names, in_map, TakesOwn, TakesVars, scope_of, own_of_tree_item, vars_of_tree_item}
@@ -21,6 +22,14 @@ vars_from_empty a b xs e t q = t q ∙ ap (λ es. merge (lookup (λ k. bytes_eq 
 -- the same of all names
 pub in_map_is : (a b : Names) (xs : List Entry) → a.entries ≡ [] → TakesVars a b xs → in_map b ≡ (λ q. one_var (named q xs))
 in_map_is a b xs e t = λ i q. vars_from_empty a b xs e t q i
+
+merge_none : (o : Option Declared) → o ≡ merge o None
+merge_none None = refl
+merge_none (Some d) = refl
+
+-- a map that stays took in nothing
+pub takes_none : (a : Names) → TakesVars a a []
+takes_none a q = merge_none (get_by_text a q)
 
 -- two maps that were empty make a scope
 pub scope_made : (a own b vars : Names) (xs ys : List Entry) (w : Bool) (o : ℕ) → a.entries ≡ [] → b.entries ≡ [] → TakesOwn a own xs → TakesVars b vars ys

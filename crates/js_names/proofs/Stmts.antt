@@ -29,7 +29,7 @@ use Rattle.js_names.specs.declared.place.What.{What}
 use Rattle.js_names.specs.declared.place.Role.{Role}
 use Rattle.js_names.specs.Scopes.{Scope, top, for_scope}
 use Rattle.js_names.specs.Sites.{Site, site, word_at, perhaps_sites, declarators_sites, start_sites, stmt_sites, stmt_form_sites, stmts_sites, item_sites, declared_role, in_loop, in_function}
-use Rattle.js_names.specs.Views.{tree_sites, declarator_sites, perhaps_tree_sites, start_tree_sites, tree_stmt_sites, block_sites, for_sites, each_sites, declared_sites, tree_item_sites}
+use Rattle.js_names.specs.Views.{tree_sites, declarator_sites, perhaps_tree_sites, start_tree_sites, tree_stmt_sites, block_sites, for_sites, listed_sites, turn_sites, declared_sites, tree_item_sites}
 use Rattle.js_names.proofs.Trees.{plain_stmt_form, with_form, declaration_is, block_is, if_is, if_else_is, while_is, for_is, for_of_is, start_is}
 use Rattle.js_names.proofs.Exprs.{stmts_flat, body_is}
 
@@ -150,9 +150,10 @@ unfolding stmt_form_sites
 in_for_sites s a x b t n o y h d =
     ap (for_sites s a b t n) d ∙ (for_parts s a b t n o.value ∙ form_at s a x (For b t n o) _ h (for_is b t n o))
 
-pub in_each_sites : (s : List Scope) (a : Around) (x : Stmt) (k : DeclareKind) (n : Name) (e : Expr) (o : Box Stmt Global) (y : Stmt) → x.form ≡ ForOf k n e o → y ≡ o.value → each_sites s a k n e y ≡ tree_stmt_sites s a x
+pub in_each_sites : (s : List Scope) (a : Around) (x : Stmt) (k : DeclareKind) (n : Name) (e : Expr) (o : Box Stmt Global) (y : Stmt) → x.form ≡ ForOf k n e o → y ≡ o.value
+    → listed_sites s a k n e ++ turn_sites s a k n y ≡ tree_stmt_sites s a x
 unfolding stmt_form_sites
-in_each_sites s a x k n e o y h d = ap (each_sites s a k n e) d ∙ form_at s a x (ForOf k n e o) _ h (for_of_is k n e o)
+in_each_sites s a x k n e o y h d = ap (λ z. listed_sites s a k n e ++ turn_sites s a k n z) d ∙ form_at s a x (ForOf k n e o) _ h (for_of_is k n e o)
 
 pub break_sites : (s : List Scope) (a : Around) (x : Stmt) (k : Spot) → x.form ≡ Break k → site s a What.LoopWord (word_at (codes "break") k) ≡ tree_stmt_sites s a x
 unfolding stmt_form_sites

@@ -43,9 +43,15 @@ abbrev pub is_function : Role → Bool
 is_function Function = true
 is_function _ = false
 
--- the declaration of a name in one scope: a `var` belongs to the function, and not to a block in it
+-- the declaration that stands first in the text
+abbrev pub earlier : Option Declared → Option Declared → Option Declared
+earlier None o = o
+earlier (Some d) None = Some d
+earlier (Some d) (Some e) = if nat_lt e.place d.place then Some e else Some d
+
+-- the declaration of a name in one scope, the first where there are more: a `var` belongs to the function, and not to a block in it
 abbrev pub found_here : Scope → List ℕ → Option Declared
-found_here s q = or_else (s.own q) (if s.whole then s.vars q else None)
+found_here s q = if s.whole then earlier (s.own q) (s.vars q) else s.own q
 
 -- the innermost declaration of a name
 unfoldable pub found : List Scope → List ℕ → Option Declared

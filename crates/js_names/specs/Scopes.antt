@@ -58,10 +58,10 @@ abbrev pub is_present : PlainPerhaps → Bool
 is_present absent = false
 is_present (present e) = true
 
--- the place after a declarator with a value
-abbrev pub given_at : PlainPerhaps → ℕ → ℕ
-given_at absent end = 0
-given_at (present e) end = end
+-- the place from which on the value of a `var` stays that names a parameter: after its declarator, or nowhere where it may run again
+abbrev pub given_at : Bool → PlainPerhaps → ℕ → ℕ
+given_at direct absent end = 0
+given_at direct (present e) end = if direct then end else top
 
 -- what a declarator of `let` or `const` declares
 abbrev pub own_declarator : ℕ → Bool → DeclareKind → Name → PlainPerhaps → ℕ → List Entry
@@ -77,7 +77,7 @@ own_declarators owner direct kind (declarator_in name value end ds) = own_declar
 abbrev pub var_declarator : ℕ → Bool → DeclareKind → Name → PlainPerhaps → ℕ → List Entry
 var_declarator owner direct const_word name value end = []
 var_declarator owner direct let_word name value end = []
-var_declarator owner direct var_word name value end = entry name Var end owner direct (given_at value end) ∷ []
+var_declarator owner direct var_word name value end = entry name Var end owner direct (given_at direct value end) ∷ []
 
 abbrev pub var_declarators : ℕ → Bool → DeclareKind → PlainDeclarators → List Entry
 var_declarators owner direct kind no_declarators = []
@@ -127,7 +127,7 @@ abbrev mutual
   vars_of_all owner direct no_stmts = []
   vars_of_all owner direct (stmt_in s ss) = vars_of owner direct s ++ vars_of_all owner direct ss
 
--- the place after the last of the `var`s of a name that have a value
+-- the same of all `var`s of a name
 abbrev pub given_of : Option Declared → ℕ
 given_of None = 0
 given_of (Some d) = d.given
@@ -152,7 +152,11 @@ each_role const_word = Const
 each_role let_word = Let
 each_role var_word = Let
 
--- the scope of a `for` over a list, in which its list stands too
+-- the scope of the list of a `for`: it has the name, which has no value yet
+unfoldable pub list_scope : ℕ → DeclareKind → Name → Scope
+list_scope owner kind name = scope_with (entry name (each_role kind) top owner false 0 ∷ []) [] false owner
+
+-- the scope of the body of a `for` over a list
 unfoldable pub each_scope : ℕ → DeclareKind → Name → PlainStmt → Scope
 each_scope owner kind name s = scope_with (entry name (each_role kind) name.spot.at owner false 0 ∷ []) (vars_of owner false s) false owner
 

@@ -16,7 +16,7 @@ use Rattle.js_names.specs.declared.place.Role.{Role}
 use Rattle.js_names.specs.declared.place.Role.TheVariants.{Parameter, Const, Let, Var, Function}
 use Rattle.js_names.specs.declared.place.What.{What}
 use Rattle.js_names.specs.declared.place.Around.{Around}
-use Rattle.js_names.specs.Scopes.{Scope, top, block_scope, for_scope, each_scope, each_role, function_scope, program_scope}
+use Rattle.js_names.specs.Scopes.{Scope, top, block_scope, for_scope, list_scope, each_scope, each_role, function_scope, program_scope}
 
 -- a place: what stands there, its name, the scopes around it from the innermost, the function around it, and whether a loop of that function is
 pub record Site : Type 0 where
@@ -163,8 +163,9 @@ unfoldable mutual
       let inner = for_scope a.owner start s ∷ scopes in
       start_sites inner a start ++ (perhaps_sites inner a test ++ (perhaps_sites inner a next ++ stmt_sites inner (in_loop a) s))
   stmt_form_sites scopes a (for_each kind name e s) =
+      let listed = list_scope a.owner kind name ∷ scopes in
       let inner = each_scope a.owner kind name s ∷ scopes in
-      site inner a (What.Declares (each_role kind)) name ++ (expr_sites inner a e ++ stmt_sites inner (in_loop a) s)
+      site listed a (What.Declares (each_role kind)) name ++ (expr_sites listed a e ++ stmt_sites inner (in_loop a) s)
   stmt_form_sites scopes a (break_of spot) = site scopes a What.LoopWord (word_at (codes "break") spot)
   stmt_form_sites scopes a (continue_of spot) = site scopes a What.LoopWord (word_at (codes "continue") spot)
   stmt_form_sites scopes a (return_nothing spot) = site scopes a What.Returns (word_at (codes "return") spot)

@@ -17,7 +17,7 @@ use Rattle.std.specs.declared.hash.BuildHasherDefault.{BuildHasherDefault}
 use Rattle.std.specs.declared.alloc.Global.{Global}
 use Rattle.std.specs.Prelude.{String}
 use Rattle.js_names.specs.declared.place.Declared.{Declared}
-use Rattle.js_names.specs.Scopes.{Scope, Entry, first, named, one_var, merge, own_declarator, var_declarator, own_of, vars_of, own_of_item, vars_of_item, top, block_scope, for_scope, each_scope, each_role, function_scope}
+use Rattle.js_names.specs.Scopes.{Scope, Entry, first, named, one_var, merge, own_declarator, var_declarator, own_of, vars_of, own_of_item, vars_of_item, top, block_scope, for_scope, list_scope, each_scope, each_role, function_scope}
 use Rattle.js_names.specs.declared.place.Around.{Around}
 use Rattle.js_names.specs.declared.place.What.{What}
 use Rattle.js_names.specs.declared.place.Role.TheVariants.{Parameter, Function}
@@ -152,10 +152,14 @@ for_sites scopes a start test next s =
     let inner = for_scope a.owner (plain_start start) (plain_stmt s) ∷ scopes in
     ((start_tree_sites inner a start ++ perhaps_tree_sites inner a test) ++ perhaps_tree_sites inner a next) ++ tree_stmt_sites inner (in_loop a) s
 
-abbrev pub each_sites : List Scope → Around → DeclareKind → Name → Expr → Stmt → List Site
-each_sites scopes a kind name e s =
-    let inner = each_scope a.owner kind name (plain_stmt s) ∷ scopes in
-    site inner a (What.Declares (each_role kind)) name ++ (tree_sites inner a e ++ tree_stmt_sites inner (in_loop a) s)
+-- the name of a `for` over a list, and the list
+abbrev pub listed_sites : List Scope → Around → DeclareKind → Name → Expr → List Site
+listed_sites scopes a kind name e =
+    let inner = list_scope a.owner kind name ∷ scopes in site inner a (What.Declares (each_role kind)) name ++ tree_sites inner a e
+
+-- and its body
+abbrev pub turn_sites : List Scope → Around → DeclareKind → Name → Stmt → List Site
+turn_sites scopes a kind name s = tree_stmt_sites (each_scope a.owner kind name (plain_stmt s) ∷ scopes) (in_loop a) s
 
 abbrev pub declared_sites : List Scope → Spot → Name → List Name → List Stmt → List Site
 declared_sites scopes spot name names ss = site scopes (in_function top) (What.Declares Function) name ++ body_sites scopes spot names ss

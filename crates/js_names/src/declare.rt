@@ -7,6 +7,7 @@ ghost use Rattle.js_tree.specs.Views.{plain_declarator, plain_start};
 ghost use Rattle.js_names.specs.Views.{TakesOwn, TakesVars, alone, own_of_declarator, vars_of_declarator, own_of_stmt, vars_of_stmt};
 
 use crate::place::{Declared, Role};
+use crate::scope::TOP;
 use indexmap::IndexMap;
 use js_tree::{Declarator, DeclareKind, Name, Start, Stmt, StmtForm};
 use std::alloc::{AllocError, Global};
@@ -134,12 +135,12 @@ pub fn declare_var(
     Ok(())
 }
 
-// The place after a declarator with a value.
-fn given_at(declarator: &Declarator) -> u32
-    ensures { result ≡ given_at (plain_declarator declarator.now).value (plain_declarator declarator.now).end }
+// The place from which on the value of a `var` stays that names a parameter: a nested one may run again.
+fn given_at(direct: bool, declarator: &Declarator) -> u32
+    ensures { result ≡ given_at direct (plain_declarator declarator.now).value (plain_declarator declarator.now).end }
 {
     match declarator.value {
-        Some(_) => declarator.end,
+        Some(_) => { if direct { declarator.end } else { TOP } }
         None => 0,
     }
 }
@@ -164,7 +165,7 @@ fn declare_var_declarator(
         end: declarator.end,
         owner,
         direct,
-        given: given_at(declarator),
+        given: given_at(direct, declarator),
     };
     declare_var(alloc, map, &declarator.name, declared)
 }

@@ -1,6 +1,6 @@
 //! Look-ups of names in the scopes around a place, whose innermost is the last.
 ghost use Rattle.std.specs.Prelude.{◌≡◌, ◌∷◌, [], nat_lt, ◌&&◌, not};
-ghost use Rattle.js_names.specs.Places.{found, found_here, found_var, blocked, repeated, is_earlier, is_parameter, test_of, clashes, declared_at};
+ghost use Rattle.js_names.specs.Places.{earlier, found, found_here, found_var, blocked, repeated, is_earlier, is_parameter, test_of, clashes, declared_at};
 ghost use Rattle.js_names.specs.Views.{scope_of, scopes_of};
 
 use crate::forms::is_reserved;
@@ -8,19 +8,26 @@ use crate::place::{Declared, Role, What};
 use crate::scope::Scope;
 use js_tree::Name;
 
+/// The declaration that stands first in the text.
+fn earlier(own: Option<Declared>, var: Option<Declared>) -> Option<Declared>
+    ensures { result ≡ earlier own var }
+{
+    match (own, var) {
+        (Some(own), Some(var)) => Some(if var.place < own.place { var } else { own }),
+        (Some(own), None) => Some(own),
+        (None, var) => var,
+    }
+}
+
 /// The declaration of a name in one scope.
 fn found_here(scope: &Scope, name: &str) -> Option<Declared>
     ensures { result ≡ found_here (scope_of scope.now) name.now }
 {
-    match scope.own.get(name) {
-        Some(declared) => Some(*declared),
-        None => {
-            if scope.whole {
-                scope.vars.get(name).copied()
-            } else {
-                None
-            }
-        }
+    let own = scope.own.get(name).copied();
+    if scope.whole {
+        earlier(own, scope.vars.get(name).copied())
+    } else {
+        own
     }
 }
 

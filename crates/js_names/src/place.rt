@@ -23,13 +23,13 @@ pub struct Declared {
     pub role: Role,
     /// The place of the declared name.
     pub place: u32,
-    /// The place after the declarator; the name's own place where there is none.
+    /// The place from which on it can be copied: after the declarator, or the name's own place where there is none.
     pub end: u32,
     /// The place of the function that it belongs to.
     pub owner: u32,
     /// It stands directly in the list of statements of its function or of the program, and, for a `var`, nowhere else.
     pub direct: bool,
-    /// The place after the last of its declarators with a value, for a `var`; else 0.
+    /// For a `var`, the place after the last of its declarators with a value, or `TOP` where one is nested; else 0.
     pub given: u32,
 }
 

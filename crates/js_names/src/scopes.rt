@@ -1,10 +1,10 @@
 //! The scopes of blocks, loops and the program, made from their trees.
-ghost use Rattle.std.specs.Prelude.{◌≡◌, ◌∷◌, [], IfOk, OnOk, map};
+ghost use Rattle.std.specs.Prelude.{◌≡◌, ◌∷◌, [], IfOk, OnOk, false, map};
 ghost use Rattle.std.specs.List.{flat_map};
 ghost use Rattle.js_tree.specs.Plain.{stmts_of};
 ghost use Rattle.js_tree.specs.Views.{plain_stmt, plain_start, plain_tree};
 ghost use Rattle.std.specs.HashMap.{get_by_text};
-ghost use Rattle.js_names.specs.Scopes.{given_of, parameter, parameters, function_scope, block_scope, for_scope, each_scope, program_scope};
+ghost use Rattle.js_names.specs.Scopes.{entry, given_of, parameter, parameters, function_scope, block_scope, for_scope, list_scope, each_scope, each_role, program_scope};
 ghost use Rattle.js_names.specs.Views.{TakesOwn, TakesVars, in_map, scope_of, own_of_tree_item, vars_of_tree_item};
 
 use crate::declare::{
@@ -49,7 +49,49 @@ pub fn for_scope(alloc: Global, owner: u32, start: &Start, body: &Stmt) -> Resul
     Ok(scope)
 }
 
-/// The scope of a `for` over a list.
+// Declares the name of a `for` over a list, which can be copied from this place on.
+fn declare_each(
+    alloc: Global,
+    own: &mut IndexMap<String, Declared>,
+    owner: u32,
+    kind: DeclareKind,
+    name: &Name,
+    end: u32,
+) -> Result<(), AllocError>
+    ensures { OnOk result (TakesOwn own.old own.new (entry name.now (each_role kind) end owner false 0 ∷ [])) }
+{
+    let role = each_role(kind);
+    let declared = Declared {
+        role,
+        place: name.spot.at,
+        end,
+        owner,
+        direct: false,
+        given: 0,
+    };
+    declare_own(alloc, own, name, declared)
+}
+
+/// The scope of the list of a `for`, in which no function can copy the name.
+pub fn list_scope(
+    alloc: Global,
+    owner: u32,
+    kind: DeclareKind,
+    name: &Name,
+) -> Result<Scope, AllocError>
+    ensures { IfOk result (λ s. scope_of s ≡ list_scope owner kind name.now) }
+{
+    let mut scope = Scope {
+        own: IndexMap::new(alloc),
+        vars: IndexMap::new(alloc),
+        whole: false,
+        owner,
+    };
+    declare_each(alloc, &mut scope.own, owner, kind, name, TOP)?;
+    Ok(scope)
+}
+
+/// The scope of the body of a `for` over a list.
 pub fn each_scope(
     alloc: Global,
     owner: u32,
@@ -59,27 +101,18 @@ pub fn each_scope(
 ) -> Result<Scope, AllocError>
     ensures { IfOk result (λ s. scope_of s ≡ each_scope owner kind name.now (plain_stmt body.now)) }
 {
-    let role = each_role(kind);
-    let declared = Declared {
-        role,
-        place: name.spot.at,
-        end: name.spot.at,
-        owner,
-        direct: false,
-        given: 0,
-    };
     let mut scope = Scope {
         own: IndexMap::new(alloc),
         vars: IndexMap::new(alloc),
         whole: false,
         owner,
     };
-    declare_own(alloc, &mut scope.own, name, declared)?;
+    declare_each(alloc, &mut scope.own, owner, kind, name, name.spot.at)?;
     declare_stmt_vars(alloc, &mut scope.vars, owner, false, body)?;
     Ok(scope)
 }
 
-// The place after the last `var` of this name that has a value.
+// From where on the values of the `var`s of this name stay.
 fn given_of(vars: &IndexMap<String, Declared>, text: &str) -> u32
     ensures { result ≡ given_of (get_by_text vars.now text.now) }
 {

@@ -3,16 +3,18 @@ ghost use Rattle.std.specs.Prelude.{◌≡◌, ◌++◌, IfOk, OnOk, is_some, st
 ghost use Rattle.std.specs.List.{flat_map};
 ghost use Rattle.js_tree.specs.Plain.{stmts_of};
 ghost use Rattle.js_tree.specs.Views.{perhaps, plain_expr, plain_start, plain_stmt, plain_tree};
-ghost use Rattle.js_names.specs.Scopes.{block_scope, for_scope, each_scope, each_role, function_scope, top};
+ghost use Rattle.js_names.specs.Scopes.{block_scope, for_scope, list_scope, each_role, function_scope, top};
 ghost use Rattle.js_names.specs.Sites.{site, assign_site, begin_site, parameter_sites, member_sites, object_of, value_builtin, called_builtin, in_function, in_loop, perhaps_sites, start_sites, stmts_sites, word_at};
 ghost use Rattle.js_names.specs.Places.{places};
-ghost use Rattle.js_names.specs.Views.{Adds, Enters, EntersEach, scopes_in, place_of, tree_sites, field_sites, declarator_sites, tree_stmt_sites, tree_item_sites, block_sites, arrow_sites, body_sites, declared_sites, perhaps_tree_sites, start_tree_sites};
+ghost use Rattle.js_names.specs.Views.{Adds, Enters, EntersEach, scopes_in, place_of, tree_sites, field_sites, declarator_sites, tree_stmt_sites, tree_item_sites, block_sites, arrow_sites, body_sites, declared_sites, listed_sites, turn_sites, perhaps_tree_sites, start_tree_sites};
 
 use crate::first::program_spot;
 use crate::forms::{called_builtin, object_of, value_builtin};
 use crate::place::{Around, Role, Seen, What};
 use crate::scope::{TOP, Walk};
-use crate::scopes::{block_scope, each_scope, for_scope, function_scope, program_scope};
+use crate::scopes::{
+    block_scope, each_scope, for_scope, function_scope, list_scope, program_scope,
+};
 use crate::seeing::{
     declared_role, each_role, enter, in_function, in_loop, leave, put_begin, put_changed, put_name,
     put_parameters, put_read, put_word,
@@ -260,11 +262,8 @@ fn put_stmt(walk: &mut Walk, around: Around, stmt: &Stmt) -> Result<(), AllocErr
             Ok(())
         }
         StmtForm::ForOf(kind, name, list, body) => {
-            enter_each(walk, around, *kind, name, body)?;
-            put_expr(walk, around, list)?;
-            put_stmt(walk, in_loop(around), body)?;
-            leave(walk);
-            Ok(())
+            put_listed(walk, around, *kind, name, list)?;
+            put_turns(walk, around, *kind, name, body)
         }
         StmtForm::Break(spot) => put_word(walk, around, What::LoopWord, "break", *spot),
         StmtForm::Continue(spot) => put_word(walk, around, What::LoopWord, "continue", *spot),
@@ -274,6 +273,41 @@ fn put_stmt(walk: &mut Walk, around: Around, stmt: &Stmt) -> Result<(), AllocErr
             put_expr(walk, around, e)
         }
     }
+}
+
+// The name of a `for` over a list, and the list.
+#[cycle(walk)]
+fn put_listed(
+    walk: &mut Walk,
+    around: Around,
+    kind: DeclareKind,
+    name: &Name,
+    list: &Expr,
+) -> Result<(), AllocError>
+    ensures { OnOk result (Adds walk.old walk.new (listed_sites (scopes_in walk.old) around kind name.now list.now)) }
+{
+    enter_list(walk, around, kind, name)?;
+    put_expr(walk, around, list)?;
+    leave(walk);
+    Ok(())
+}
+
+// The body of a `for` over a list.
+#[cycle(walk)]
+fn put_turns(
+    walk: &mut Walk,
+    around: Around,
+    kind: DeclareKind,
+    name: &Name,
+    body: &Stmt,
+) -> Result<(), AllocError>
+    ensures { OnOk result (Adds walk.old walk.new (turn_sites (scopes_in walk.old) around kind name.now body.now)) }
+{
+    let scope = each_scope(walk.alloc, around.owner, kind, name, body)?;
+    enter(walk, scope)?;
+    put_stmt(walk, in_loop(around), body)?;
+    leave(walk);
+    Ok(())
 }
 
 // A block.
@@ -316,17 +350,16 @@ fn enter_for(walk: &mut Walk, around: Around, start: &Start, body: &Stmt) -> Res
     enter(walk, scope)
 }
 
-// The scope of a `for` over a list, and its name.
-fn enter_each(
+// The scope of the list of a `for`, and its name.
+fn enter_list(
     walk: &mut Walk,
     around: Around,
     kind: DeclareKind,
     name: &Name,
-    body: &Stmt,
 ) -> Result<(), AllocError>
-    ensures { OnOk result (EntersEach walk.old walk.new around kind name.now (each_scope around.owner kind name.now (plain_stmt body.now))) }
+    ensures { OnOk result (EntersEach walk.old walk.new around kind name.now (list_scope around.owner kind name.now)) }
 {
-    let scope = each_scope(walk.alloc, around.owner, kind, name, body)?;
+    let scope = list_scope(walk.alloc, around.owner, kind, name)?;
     enter(walk, scope)?;
     put_name(walk, around, What::Declares(each_role(kind)), name)
 }

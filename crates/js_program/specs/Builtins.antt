@@ -1,34 +1,45 @@
 -- The forms of `bp` and `Math`: a table, and the modes in which each has its effect.
-use Rattle.std.specs.Prelude.{ℕ, Bool, true, false, List, [], ◌∷◌, Option, Some, None, ◌&&◌, codes, if◌then◌else◌}
+use Rattle.std.specs.Prelude.{ℕ, ◌==◌, Bool, true, false, List, [], ◌∷◌, Option, Some, None, ◌&&◌, nat_eq, codes, map, if◌then◌else◌}
 use Rattle.std.specs.List.{list_any}
 use Rattle.std.specs.Str.{bytes_eq}
 use Rattle.js_program.specs.declared.builtin.Builtin.{Builtin}
 use Rattle.js_program.specs.declared.builtin.Mode.{Mode}
 use Rattle.js_program.specs.declared.builtin.Mode.TheVariants.{Top, Thread, Handler, Predicate}
 
--- a row: the object and the word after the dot, the form, and whether it is called
+-- a row: the word after the dot, the object before it, whether the form is called, and the modes in which it has its effect
 pub record Row : Type 0 where
+  pub builtin : Builtin
   pub object : List ℕ
   pub word : List ℕ
-  pub builtin : Builtin
   pub called : Bool
+  pub modes : List Mode
 
-abbrev pub row : List ℕ → List ℕ → Builtin → Bool → Row
-row object word builtin called = record { object = object; word = word; builtin = builtin; called = called }
+abbrev pub row : Builtin → List ℕ → List ℕ → Bool → List Mode → Row
+row builtin object word called modes = record { builtin = builtin; object = object; word = word; called = called; modes = modes }
+
+abbrev pub everywhere : List Mode
+everywhere = Top ∷ Thread ∷ Handler ∷ Predicate ∷ []
+
+-- everywhere but in a predicate
+abbrev pub acting : List Mode
+acting = Top ∷ Thread ∷ Handler ∷ []
+
+abbrev pub in_threads : List Mode
+in_threads = Thread ∷ []
 
 abbrev pub builtins : List Row
 builtins =
-    row (codes "bp") (codes "registerBThread") Builtin.RegisterBThread true
-    ∷ row (codes "bp") (codes "sync") Builtin.Sync true
-    ∷ row (codes "bp") (codes "Event") Builtin.Event true
-    ∷ row (codes "bp") (codes "EventSet") Builtin.EventSet true
-    ∷ row (codes "bp") (codes "all") Builtin.All false
-    ∷ row (codes "bp") (codes "none") Builtin.Nothing false
-    ∷ row (codes "bp") (codes "ASSERT") Builtin.Assert true
-    ∷ row (codes "bp") (codes "enqueueExternalEvent") Builtin.EnqueueExternalEvent true
-    ∷ row (codes "bp") (codes "setInterruptHandler") Builtin.SetInterruptHandler true
-    ∷ row (codes "bp.log") (codes "info") Builtin.LogInfo true
-    ∷ row (codes "Math") (codes "floor") Builtin.Floor true
+    row Builtin.RegisterBThread (codes "bp") (codes "registerBThread") true acting
+    ∷ row Builtin.Sync (codes "bp") (codes "sync") true in_threads
+    ∷ row Builtin.Event (codes "bp") (codes "Event") true everywhere
+    ∷ row Builtin.EventSet (codes "bp") (codes "EventSet") true everywhere
+    ∷ row Builtin.All (codes "bp") (codes "all") false everywhere
+    ∷ row Builtin.Nothing (codes "bp") (codes "none") false everywhere
+    ∷ row Builtin.Assert (codes "bp") (codes "ASSERT") true acting
+    ∷ row Builtin.EnqueueExternalEvent (codes "bp") (codes "enqueueExternalEvent") true acting
+    ∷ row Builtin.SetInterruptHandler (codes "bp") (codes "setInterruptHandler") true in_threads
+    ∷ row Builtin.LogInfo (codes "bp.log") (codes "info") true acting
+    ∷ row Builtin.Floor (codes "Math") (codes "floor") true everywhere
     ∷ []
 
 abbrev pub same : Bool → Bool → Bool
@@ -36,38 +47,52 @@ same true b = b
 same false true = false
 same false false = true
 
+-- the row with this word after the dot: no two rows have one word
+abbrev pub row_named : List Row → List ℕ → Option Row
+row_named [] word = None
+row_named (r ∷ rs) word = if bytes_eq r.word word then Some r else row_named rs word
+
+-- whether a row has this object before the dot, and is called or not
+abbrev pub is_met : Row → List ℕ → Bool → Bool
+is_met r object called = bytes_eq object r.object && same called r.called
+
+abbrev pub met : Option Row → List ℕ → Bool → Option Builtin
+met None object called = None
+met (Some r) object called = if is_met r object called then Some r.builtin else None
+
 -- the form of this object and word, called or not
-abbrev pub builtin_in : List Row → List ℕ → List ℕ → Bool → Option Builtin
-builtin_in [] object word called = None
-builtin_in (r ∷ rs) object word called =
-    if (bytes_eq r.object object && bytes_eq r.word word) && same r.called called then Some r.builtin else builtin_in rs object word called
-
 abbrev pub builtin_of : List ℕ → List ℕ → Bool → Option Builtin
-builtin_of object word called = builtin_in builtins object word called
+builtin_of object word called = met (row_named builtins word) object called
 
-abbrev everywhere : List Mode
-everywhere = Top ∷ Thread ∷ Handler ∷ Predicate ∷ []
+-- the forms, numbered from 0 as the enum lists them
+abbrev pub form_number : Builtin → ℕ
+form_number Builtin.RegisterBThread = 0
+form_number Builtin.Sync = 1
+form_number Builtin.Event = 2
+form_number Builtin.EventSet = 3
+form_number Builtin.All = 4
+form_number Builtin.Nothing = 5
+form_number Builtin.Assert = 6
+form_number Builtin.EnqueueExternalEvent = 7
+form_number Builtin.SetInterruptHandler = 8
+form_number Builtin.LogInfo = 9
+form_number Builtin.Floor = 10
 
--- everywhere but in a predicate
-abbrev acting : List Mode
-acting = Top ∷ Thread ∷ Handler ∷ []
+-- the row of a form
+abbrev row_in : List Row → ℕ → Option Row
+row_in [] number = None
+row_in (r ∷ rs) number = if nat_eq (form_number r.builtin) number then Some r else row_in rs number
 
-abbrev in_threads : List Mode
-in_threads = Thread ∷ []
+abbrev pub row_of : Builtin → Option Row
+row_of form = row_in builtins (form_number form)
+
+abbrev modes_in : Option Row → List Mode
+modes_in None = []
+modes_in (Some r) = r.modes
 
 -- the modes in which a form has its effect
 abbrev pub modes_of : Builtin → List Mode
-modes_of Builtin.RegisterBThread = acting
-modes_of Builtin.Sync = in_threads
-modes_of Builtin.Event = everywhere
-modes_of Builtin.EventSet = everywhere
-modes_of Builtin.All = everywhere
-modes_of Builtin.Nothing = everywhere
-modes_of Builtin.Assert = acting
-modes_of Builtin.EnqueueExternalEvent = acting
-modes_of Builtin.SetInterruptHandler = in_threads
-modes_of Builtin.LogInfo = acting
-modes_of Builtin.Floor = everywhere
+modes_of form = modes_in (row_of form)
 
 abbrev pub same_mode : Mode → Mode → Bool
 same_mode Top Top = true
@@ -78,3 +103,37 @@ same_mode _ _ = false
 
 abbrev pub has_effect_in : Mode → Builtin → Bool
 has_effect_in mode form = list_any (same_mode mode) (modes_of form)
+
+-- the rows as entries of a table: the word after the dot, and the number of the form
+abbrev pub form_entry : Row → List ℕ × ℕ
+form_entry r = (r.word, form_number r.builtin)
+
+abbrev pub form_entries : List (List ℕ × ℕ)
+form_entries = map form_entry builtins
+
+abbrev pub form_numbered : Option ℕ → Option Builtin
+form_numbered None = None
+form_numbered (Some n) =
+    if n == 0 then Some Builtin.RegisterBThread else (
+    if n == 1 then Some Builtin.Sync else (
+    if n == 2 then Some Builtin.Event else (
+    if n == 3 then Some Builtin.EventSet else (
+    if n == 4 then Some Builtin.All else (
+    if n == 5 then Some Builtin.Nothing else (
+    if n == 6 then Some Builtin.Assert else (
+    if n == 7 then Some Builtin.EnqueueExternalEvent else (
+    if n == 8 then Some Builtin.SetInterruptHandler else (
+    if n == 9 then Some Builtin.LogInfo else (
+    if n == 10 then Some Builtin.Floor else None))))))))))
+
+-- whether a form has this object before its word, and is called or not
+abbrev has_met : Option Row → List ℕ → Bool → Bool
+has_met None object called = false
+has_met (Some r) object called = is_met r object called
+
+abbrev pub belongs : Builtin → List ℕ → Bool → Bool
+belongs form object called = has_met (row_of form) object called
+
+abbrev pub if_belongs : Option Builtin → List ℕ → Bool → Option Builtin
+if_belongs None object called = None
+if_belongs (Some form) object called = if belongs form object called then Some form else None

@@ -67,6 +67,10 @@ unfoldable pub node_fits : PlainProgram → ℕ → ℕ → ℕ → ℕ → Bool
 node_fits p slots constants zero n = true
 node_fits p slots constants (suc depth) n = found_fits p slots constants (node_fits p slots constants depth) (slice_get p.nodes n)
 
+-- a node fits, however deep
+abbrev pub NodeFits : PlainProgram → ℕ → ℕ → ℕ → Type 0
+NodeFits p slots constants n = (depth : ℕ) → IsTrue (node_fits p slots constants depth n)
+
 -- the slots of a body hold its parameters, what it captures, and its `var`s; it declares constants below this number
 abbrev pub body_fits : PlainProgram → ℕ → ℕ → PlainBody → Bool
 body_fits p constants depth b =

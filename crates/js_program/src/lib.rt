@@ -5,6 +5,6 @@ mod builtin;
 mod node;
 mod program;
 
-pub use builtin::{Builtin, Mode, builtin_of};
+pub use builtin::{Builtin, Mode, builtin_of, form_table, has_effect_in};
 pub use node::{Body, ConstantStart, Content, Declared, Node, NodeForm, Variable};
 pub use program::Program;

@@ -1,5 +1,5 @@
 -- A tree that tokens in order spell keeps its names apart.
-use Rattle.std.proofs.Common.{◌≡◌, ◌∙◌, inl, inr, ℕ, suc, ◌≤◌, List, [], ◌∷◌, ◌++◌, refl, ap, sym, subst, length, map, arith, Some, Bool, true, false, if◌then◌else◌, nat_eq}
+use Rattle.std.proofs.Common.{◌≡◌, ◌∙◌, inl, inr, ℕ, suc, ◌≤◌, List, [], ◌∷◌, ◌++◌, refl, ap, sym, subst, map, arith, Some, Bool, true, false, if◌then◌else◌, nat_eq}
 use Rattle.std.proofs.lemmas.Bool.{false≢true}
 use Rattle.std.specs.Prelude.{is_some}
 use Rattle.std.specs.List.{flat_map}
@@ -16,6 +16,7 @@ use Rattle.js_names.specs.Places.{Place, see, places, declared_at}
 use Rattle.js_names.specs.Slots.{held_by, parameter_in, parameter_at, is_begin}
 use Rattle.js_resolver.specs.Variables.{second}
 use Rattle.js_resolver.specs.Spelled.{next, InOrder}
+use Rattle.js_resolver.proofs.SoundFound.{IsFound, AllFound}
 use Rattle.js_resolver.proofs.SoundFunctions.{begun}
 use Rattle.js_resolver.proofs.SoundKnown.{AllDeclared}
 use Rattle.js_resolver.proofs.SoundLists.{In, HasPlace}
@@ -25,7 +26,7 @@ use Rattle.js_resolver.proofs.SoundResolved.{StandApart}
 use Rattle.js_resolver.proofs.SoundRoom.{NoRepeats}
 use Rattle.js_resolver.proofs.ApartBounds.{Ascend, ascend_from, ascend_in, ascend_apart}
 use Rattle.js_resolver.proofs.ApartOrder.{names_in}
-use Rattle.js_resolver.proofs.ApartDeclared.{IsFound, AllFound, program_own, program_vars}
+use Rattle.js_resolver.proofs.ApartDeclared.{program_own, program_vars}
 use Rattle.js_resolver.proofs.ApartSpans.{Lie, Spans}
 use Rattle.js_resolver.proofs.ApartSpelled.{tree_spans}
 
@@ -73,7 +74,7 @@ keys-begun (s ∷ ss) = ap (λ z. if is_begin s.what then s.around.owner ∷ z e
 -- what sites are as places
 
 found_declared : (s : Site) (w : What) (role : Role) → IsFound w s → w ≡ What.Declares role → (d : Declared) × (declared_at w s.scopes s.name.text ≡ Some d) × (d.owner ≡ s.around.owner)
-found_declared s (What.Declares r) role h e = h
+found_declared s (What.Declares r) role h e = (h.0, h.1, h.2.owner)
 found_declared s What.Reads role h e = absurd (cc)
 found_declared s What.Assigns role h e = absurd (cc)
 found_declared s What.Misuses role h e = absurd (cc)
@@ -150,10 +151,10 @@ spelled_apart end ts items l order spelled =
       begin = λ q r h k e f same.
           ap (λ (p : Place). second top p.functions)
           (one_place (λ (q : Place). is_begin q.what) (λ (q : Place). q.around.owner) q r (map see (first ++ ss)) (subst NoRepeats (sym (keys-begun (first ++ ss))) (outside, begins)) h k e f same);
+      found = spans.found;
       names = λ q r h k e f same.
-          ap (λ (p : Place). p.around.owner)
-          (one_place (λ (q : Place). is_name q.what) (λ (q : Place). q.name.spot.at) q r (map see (first ++ ss)) (subst NoRepeats (sym (keys-names (first ++ ss))) (ascend_apart (next end ts) end (names_in ss) lie.names)) h k
-          (place_name (first ++ ss) q h e) (place_name (first ++ ss) r k f) same);
+          one_place (λ (q : Place). is_name q.what) (λ (q : Place). q.name.spot.at) q r (map see (first ++ ss)) (subst NoRepeats (sym (keys-names (first ++ ss))) (ascend_apart (next end ts) end (names_in ss) lie.names)) h k
+          (place_name (first ++ ss) q h e) (place_name (first ++ ss) r k f) same;
       functions = begins;
       inner = outside;
       parameters = λ f. ascend_apart (next end ts) end (held_by f (flat_map parameter_in (map see (first ++ ss)))) (held_ascend f (next end ts) end (first ++ ss) lie.names);

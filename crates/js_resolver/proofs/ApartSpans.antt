@@ -16,7 +16,8 @@ use Rattle.js_resolver.proofs.SoundFunctions.{begun, begun-append}
 use Rattle.js_resolver.proofs.SoundPlaces.{is_name}
 use Rattle.js_resolver.proofs.ApartBounds.{Ascend, ascend_bounds, ascend_from, ascend_to, ascend_append}
 use Rattle.js_resolver.proofs.ApartOrder.{name_place, names_in, names-append}
-use Rattle.js_resolver.proofs.ApartDeclared.{IsFound, AllFound, found_append}
+use Rattle.js_resolver.proofs.SoundFound.{IsFound, AllFound}
+use Rattle.js_resolver.proofs.ApartDeclared.{found_append}
 
 -- the names and the functions stand between the first token and the rest, and the rest is in order
 pub record Lie (end : ℕ) (ts rest : List Token) (ss : List Site) : Type 0 where

@@ -1,5 +1,5 @@
 -- Members and calls, which may be forms of the language.
-use Rattle.std.proofs.Common.{◌≡◌, ℕ, ◌+◌, ◌-◌, ◌≤◌, drop, get_or, take, List, [], ◌∷◌, ◌++◌, ◌∙◌, ap, refl, sym, subst, length, map, Option, Some, None, Bool, true, false, arith, if◌then◌else◌}
+use Rattle.std.proofs.Common.{◌≡◌, ℕ, ◌-◌, ◌≤◌, drop, get_or, take, List, [], ◌∷◌, ◌++◌, ◌∙◌, ap, refl, sym, subst, length, map, Option, Some, None, Bool, true, false, arith, if◌then◌else◌}
 use Rattle.std.proofs.lemmas.List.{drop_more, take_all, length-drop}
 use Rattle.std.specs.Prelude.{Result, Ok, Err, IfOk, Vec, is_some}
 use Rattle.std.specs.declared.alloc.Global.{Global}
@@ -19,8 +19,8 @@ use Rattle.js_names.specs.Sites.{called_builtin, value_builtin}
 use Rattle.js_resolver.specs.declared.emit.Called.{Called}
 use Rattle.js_resolver.specs.declared.emit.Called.TheVariants as C
 use Rattle.js_resolver.specs.declared.emitter.Emitter.{Emitter}
-use Rattle.js_resolver.specs.Nodes.{Piece, none, after, arguments_piece, begins_with_division, beside, call_node, expr_parts, expr_piece, exprs_piece, form_parts, floors_division, is_division, member_node, method_of}
-use Rattle.js_resolver.specs.Emits.{count, is_divide, Adds, Emits, EmitsCallee, EmitsCalled, Forms, FormsCall, FormsExpr, FormsBuiltin, builtin_in, word_in, parts_in, called_piece, callee_piece}
+use Rattle.js_resolver.specs.Nodes.{none, after, arguments_piece, begins_with_division, beside, call_node, expr_parts, expr_piece, exprs_piece, form_parts, floors_division, is_division, member_node, method_of}
+use Rattle.js_resolver.specs.Emits.{count, is_divide, Emits, EmitsCallee, EmitsCalled, Forms, FormsCall, FormsExpr, FormsBuiltin, builtin_in, word_in, parts_in, called_piece, callee_piece}
 use Rattle.js_resolver.proofs.Emitting.{adds_both, adds_none, counts, emits_both, emits_none}
 
 pub member_builtin : (ps : List Place) (a : Emitter) (x : PlainExpr) (t : List ℕ) (f : Builtin) (w : Vec ℕ Global) → value_builtin x t ≡ Some f → w.items ≡ [] → FormsExpr ps a a (N.Builtin f w) (p.member x t)

@@ -1,13 +1,11 @@
 -- Nodes and functions that a walk adds.
-use Rattle.std.proofs.Common.{◌≡◌, ℕ, ◌+◌, ◌<◌, ◌≤◌, List, [], ◌∷◌, ◌++◌, ◌∙◌, ap, refl, sym, subst, length, map, drop, get_or, Option, Some, None, append_assoc, append-nil, length-append, arith}
-use Rattle.std.specs.Prelude.{Result, Ok, Err, IfOk, OnOk}
-use Rattle.std.specs.List.{insert}
-use Rattle.std.proofs.lemmas.List.{length-map, map-append}
-use Rattle.js_tree.specs.declared.tree.Expr.{Expr}
-use Rattle.js_tree.specs.Plain.{PlainExpr, PlainForm, PlainStmtForm}
+use Rattle.std.proofs.Common.{◌≡◌, ℕ, List, [], ◌∷◌, ◌++◌, ◌∙◌, ap, refl, sym, subst, length, append_assoc, append-nil, length-append, arith}
+use Rattle.std.specs.Prelude.{Result, Ok, Err, IfOk}
+use Rattle.std.proofs.lemmas.List.{length-map}
+use Rattle.js_tree.specs.Plain.{PlainForm, PlainStmtForm}
 use Rattle.js_program.specs.declared.node.NodeForm.{NodeForm}
-use Rattle.js_program.specs.PlainProgram.{PlainNode, PlainNodeForm, PlainBody}
-use Rattle.js_program.specs.Views.{plain_node, plain_node_form, plain_body}
+use Rattle.js_program.specs.PlainProgram.{PlainNodeForm}
+use Rattle.js_program.specs.Views.{plain_node, plain_node_form}
 use Rattle.js_names.specs.Places.{Place}
 use Rattle.js_resolver.specs.declared.emitter.Emitter.{Emitter}
 use Rattle.js_resolver.specs.Nodes.{Piece, none, beside, after, closed, expr_node, stmt_node, form_parts, stmt_parts}

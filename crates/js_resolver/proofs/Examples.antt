@@ -1,10 +1,8 @@
 -- Programs and their nodes, worked out by hand.
-use Rattle.std.proofs.Common.{◌≡◌, ℕ, ◌+◌, ◌++◌, List, [], ◌∷◌, refl, true, false}
-use Rattle.std.specs.Prelude.{Option, Some, None, codes, pos, Bool}
+use Rattle.std.proofs.Common.{◌≡◌, ℕ, List, [], ◌∷◌, refl}
+use Rattle.std.specs.Prelude.{Some, None, codes, pos}
 use Rattle.js_tree.specs.declared.tree.Name.{Name}
 use Rattle.js_tree.specs.declared.tree.Spot.{Spot}
-use Rattle.js_tree.specs.declared.tree.Step.{Step}
-use Rattle.js_tree.specs.declared.tree.Fix.{Fix}
 use Rattle.js_tree.specs.declared.tree.DeclareKind.{DeclareKind}
 use Rattle.js_tree.specs.declared.tree.Operator.{Operator}
 use Rattle.js_tree.specs.Plain as t
@@ -14,7 +12,7 @@ use Rattle.js_program.specs.declared.node.Variable.{Variable}
 use Rattle.js_program.specs.declared.node.Variable.TheVariants.{Slot, Constant}
 use Rattle.js_program.specs.PlainProgram as n
 use Rattle.js_program.specs.PlainProgram.{PlainNode, PlainNodeForm, PlainBody, PlainContent, PlainProgram, PlainDeclared}
-use Rattle.js_names.specs.Scopes.{program_scope, function_scope, block_scope, for_scope, each_scope}
+use Rattle.js_names.specs.Scopes.{program_scope, function_scope, block_scope, for_scope, list_scope, each_scope}
 use Rattle.js_names.specs.Sites.{expr_sites, form_sites, exprs_sites, fields_sites, perhaps_sites, declarators_sites, start_sites, stmt_sites, stmt_form_sites, stmts_sites, item_sites, program_sites}
 use Rattle.js_names.specs.Places.{found, found_var, functions_of, repeated, blocked, see, places}
 use Rattle.js_names.specs.Slots.{assigned_in, captures, holdings, vars_of, slot_count, slots_of, constants_of, functions_in}
@@ -106,40 +104,40 @@ pub three_functions_program : resolved three_functions ≡ Some (record {
   constants = n.undeclared ∷ n.of_function 0 ∷ [];
   top = body 0 0 [] [] (n.statements (3 ∷ 22 ∷ [])) 1;
 })
-unfolding program_scope function_scope block_scope for_scope each_scope expr_sites form_sites exprs_sites fields_sites perhaps_sites declarators_sites start_sites stmt_sites stmt_form_sites stmts_sites item_sites program_sites found found_var functions_of repeated blocked see places assigned_in captures holdings vars_of slot_count slots_of constants_of functions_in fault_at name_fault named_at code_at around_of body_of expr_piece expr_parts form_parts exprs_piece arguments_piece fields_piece perhaps_piece declarators_piece start_piece stmt_piece stmt_parts stmts_piece item_piece items_piece program_of_tree resolved
+unfolding program_scope function_scope block_scope for_scope list_scope each_scope expr_sites form_sites exprs_sites fields_sites perhaps_sites declarators_sites start_sites stmt_sites stmt_form_sites stmts_sites item_sites program_sites found found_var functions_of repeated blocked see places assigned_in captures holdings vars_of slot_count slots_of constants_of functions_in fault_at name_fault named_at code_at around_of body_of expr_piece expr_parts form_parts exprs_piece arguments_piece fields_piece perhaps_piece declarators_piece start_piece stmt_piece stmt_parts stmts_piece item_piece items_piece program_of_tree resolved
 three_functions_program = refl
 
 -- Math.floor(7 / 2, 1): the operands are parts themselves
 pub floor_of_a_division : (program_of_tree (t.statement (does (math_floor (expr 1 (t.binary Operator.Divide (whole 7) (whole 2)) ∷ whole 1 ∷ []))) ∷ [])).nodes
     ≡ node 1 (n.number (pos 7)) ∷ node 1 (n.number (pos 2)) ∷ node 1 (n.number (pos 1)) ∷ node 1 (n.floor_divide 0 1 (2 ∷ [])) ∷ node 1 (n.expression 3) ∷ []
-unfolding program_scope function_scope block_scope for_scope each_scope expr_sites form_sites exprs_sites fields_sites perhaps_sites declarators_sites start_sites stmt_sites stmt_form_sites stmts_sites item_sites program_sites found found_var functions_of repeated blocked see places assigned_in captures holdings vars_of slot_count slots_of constants_of functions_in fault_at name_fault named_at code_at around_of body_of expr_piece expr_parts form_parts exprs_piece arguments_piece fields_piece perhaps_piece declarators_piece start_piece stmt_piece stmt_parts stmts_piece item_piece items_piece program_of_tree resolved
+unfolding program_scope function_scope block_scope for_scope list_scope each_scope expr_sites form_sites exprs_sites fields_sites perhaps_sites declarators_sites start_sites stmt_sites stmt_form_sites stmts_sites item_sites program_sites found found_var functions_of repeated blocked see places assigned_in captures holdings vars_of slot_count slots_of constants_of functions_in fault_at name_fault named_at code_at around_of body_of expr_piece expr_parts form_parts exprs_piece arguments_piece fields_piece perhaps_piece declarators_piece start_piece stmt_piece stmt_parts stmts_piece item_piece items_piece program_of_tree resolved
 floor_of_a_division = refl
 
 -- Math.floor(7)
 pub floor_of_a_number : (program_of_tree (t.statement (does (math_floor (whole 7 ∷ []))) ∷ [])).nodes
     ≡ node 1 (n.number (pos 7)) ∷ node 1 (n.builtin Builtin.Floor (0 ∷ [])) ∷ node 1 (n.expression 1) ∷ []
-unfolding program_scope function_scope block_scope for_scope each_scope expr_sites form_sites exprs_sites fields_sites perhaps_sites declarators_sites start_sites stmt_sites stmt_form_sites stmts_sites item_sites program_sites found found_var functions_of repeated blocked see places assigned_in captures holdings vars_of slot_count slots_of constants_of functions_in fault_at name_fault named_at code_at around_of body_of expr_piece expr_parts form_parts exprs_piece arguments_piece fields_piece perhaps_piece declarators_piece start_piece stmt_piece stmt_parts stmts_piece item_piece items_piece program_of_tree resolved
+unfolding program_scope function_scope block_scope for_scope list_scope each_scope expr_sites form_sites exprs_sites fields_sites perhaps_sites declarators_sites start_sites stmt_sites stmt_form_sites stmts_sites item_sites program_sites found found_var functions_of repeated blocked see places assigned_in captures holdings vars_of slot_count slots_of constants_of functions_in fault_at name_fault named_at code_at around_of body_of expr_piece expr_parts form_parts exprs_piece arguments_piece fields_piece perhaps_piece declarators_piece start_piece stmt_piece stmt_parts stmts_piece item_piece items_piece program_of_tree resolved
 floor_of_a_number = refl
 
 -- (1).or(2): a method is one node, with what stands before the dot as its first part
 pub method_of_a_number : (program_of_tree (t.statement (does (expr 1 (t.call (expr 1 (t.member (whole 1) (codes "or"))) (exprs_of (whole 2 ∷ []))))) ∷ [])).nodes
     ≡ node 1 (n.number (pos 1)) ∷ node 1 (n.number (pos 2)) ∷ node 1 (n.method 0 (codes "or") (1 ∷ [])) ∷ node 1 (n.expression 2) ∷ []
-unfolding program_scope function_scope block_scope for_scope each_scope expr_sites form_sites exprs_sites fields_sites perhaps_sites declarators_sites start_sites stmt_sites stmt_form_sites stmts_sites item_sites program_sites found found_var functions_of repeated blocked see places assigned_in captures holdings vars_of slot_count slots_of constants_of functions_in fault_at name_fault named_at code_at around_of body_of expr_piece expr_parts form_parts exprs_piece arguments_piece fields_piece perhaps_piece declarators_piece start_piece stmt_piece stmt_parts stmts_piece item_piece items_piece program_of_tree resolved
+unfolding program_scope function_scope block_scope for_scope list_scope each_scope expr_sites form_sites exprs_sites fields_sites perhaps_sites declarators_sites start_sites stmt_sites stmt_form_sites stmts_sites item_sites program_sites found found_var functions_of repeated blocked see places assigned_in captures holdings vars_of slot_count slots_of constants_of functions_in fault_at name_fault named_at code_at around_of body_of expr_piece expr_parts form_parts exprs_piece arguments_piece fields_piece perhaps_piece declarators_piece start_piece stmt_piece stmt_parts stmts_piece item_piece items_piece program_of_tree resolved
 method_of_a_number = refl
 
 -- bp.all(1): a call of a value
 pub all_called : (program_of_tree (t.statement (does (bp (codes "all") 0 (whole 1 ∷ []))) ∷ [])).nodes
     ≡ node 1 (n.builtin Builtin.All []) ∷ node 1 (n.number (pos 1)) ∷ node 1 (n.call 0 (1 ∷ [])) ∷ node 1 (n.expression 2) ∷ []
-unfolding program_scope function_scope block_scope for_scope each_scope expr_sites form_sites exprs_sites fields_sites perhaps_sites declarators_sites start_sites stmt_sites stmt_form_sites stmts_sites item_sites program_sites found found_var functions_of repeated blocked see places assigned_in captures holdings vars_of slot_count slots_of constants_of functions_in fault_at name_fault named_at code_at around_of body_of expr_piece expr_parts form_parts exprs_piece arguments_piece fields_piece perhaps_piece declarators_piece start_piece stmt_piece stmt_parts stmts_piece item_piece items_piece program_of_tree resolved
+unfolding program_scope function_scope block_scope for_scope list_scope each_scope expr_sites form_sites exprs_sites fields_sites perhaps_sites declarators_sites start_sites stmt_sites stmt_form_sites stmts_sites item_sites program_sites found found_var functions_of repeated blocked see places assigned_in captures holdings vars_of slot_count slots_of constants_of functions_in fault_at name_fault named_at code_at around_of body_of expr_piece expr_parts form_parts exprs_piece arguments_piece fields_piece perhaps_piece declarators_piece start_piece stmt_piece stmt_parts stmts_piece item_piece items_piece program_of_tree resolved
 all_called = refl
 
--- (function(a) { var b; { let c = 1; var a = 1 } (() => () => a) }): slots, `var`s, and a capture that is handed through
+-- (function(a) { var b; { let c = 1 } var a = 1; (() => () => a) }): slots, `var`s, and a capture that is handed through
 abbrev handed_through : List PlainItem
 handed_through =
     t.statement (does (expr 1 (t.function (spot 1 1) (name (codes "a") 10 ∷ []) (stmts_of
     (t.on 1 (t.declaration DeclareKind.Var (t.declarator_in (name (codes "b") 19) t.absent 20 t.no_declarators))
-    ∷ t.on 1 (t.block (stmts_of (one_let (codes "c") 28 (whole 1) 33
-    ∷ t.on 1 (t.declaration DeclareKind.Var (t.declarator_in (name (codes "a") 39) (t.present (whole 1)) 44 t.no_declarators)) ∷ [])))
+    ∷ t.on 1 (t.block (stmts_of (one_let (codes "c") 28 (whole 1) 33 ∷ [])))
+    ∷ t.on 1 (t.declaration DeclareKind.Var (t.declarator_in (name (codes "a") 40) (t.present (whole 1)) 45 t.no_declarators))
     ∷ does (expr 1 (t.arrow_value (spot 48 1) [] (expr 1 (t.arrow_value (spot 54 1) [] (uses (codes "a") 60)))))
     ∷ [])))))
     ∷ []
@@ -149,9 +147,9 @@ pub handed_through_program : resolved handed_through ≡ Some (record {
       node 1 (n.declaration DeclareKind.Var (record { variable = Slot 1; value = None } ∷ []))
       ∷ node 1 (n.number (pos 1))
       ∷ node 1 (n.declaration DeclareKind.Let (given (Slot 2) 1 ∷ []))
+      ∷ node 1 (n.block (2 ∷ []) (2 ∷ []))
       ∷ node 1 (n.number (pos 1))
-      ∷ node 1 (n.declaration DeclareKind.Var (given (Slot 0) 3 ∷ []))
-      ∷ node 1 (n.block (Slot 2 ∷ []) (2 ∷ 4 ∷ []))
+      ∷ node 1 (n.declaration DeclareKind.Var (given (Slot 0) 4 ∷ []))
       ∷ node 1 (n.read (Slot 0))
       ∷ node 1 (n.function 2)
       ∷ node 1 (n.function 1)
@@ -159,11 +157,11 @@ pub handed_through_program : resolved handed_through ≡ Some (record {
       ∷ node 1 (n.function 0)
       ∷ node 1 (n.expression 10)
       ∷ [];
-  functions = body 1 3 [] (1 ∷ []) (n.statements (0 ∷ 5 ∷ 9 ∷ [])) 1 ∷ body 0 1 (0 ∷ []) [] (n.one_value 7) 1 ∷ body 0 1 (0 ∷ []) [] (n.one_value 6) 1 ∷ [];
+  functions = body 1 3 [] (1 ∷ []) (n.statements (0 ∷ 3 ∷ 5 ∷ 9 ∷ [])) 1 ∷ body 0 1 (0 ∷ []) [] (n.one_value 7) 1 ∷ body 0 1 (0 ∷ []) [] (n.one_value 6) 1 ∷ [];
   constants = [];
   top = body 0 0 [] [] (n.statements (11 ∷ [])) 1;
 })
-unfolding program_scope function_scope block_scope for_scope each_scope expr_sites form_sites exprs_sites fields_sites perhaps_sites declarators_sites start_sites stmt_sites stmt_form_sites stmts_sites item_sites program_sites found found_var functions_of repeated blocked see places assigned_in captures holdings vars_of slot_count slots_of constants_of functions_in fault_at name_fault named_at code_at around_of body_of expr_piece expr_parts form_parts exprs_piece arguments_piece fields_piece perhaps_piece declarators_piece start_piece stmt_piece stmt_parts stmts_piece item_piece items_piece program_of_tree resolved
+unfolding program_scope function_scope block_scope for_scope list_scope each_scope expr_sites form_sites exprs_sites fields_sites perhaps_sites declarators_sites start_sites stmt_sites stmt_form_sites stmts_sites item_sites program_sites found found_var functions_of repeated blocked see places assigned_in captures holdings vars_of slot_count slots_of constants_of functions_in fault_at name_fault named_at code_at around_of body_of expr_piece expr_parts form_parts exprs_piece arguments_piece fields_piece perhaps_piece declarators_piece start_piece stmt_piece stmt_parts stmts_piece item_piece items_piece program_of_tree resolved
 handed_through_program = refl
 
 -- var x = 1; for (const y of x) y; (function() { x }): a constant that is a `var`, and a slot of the top level
@@ -177,16 +175,16 @@ pub a_slot_of_the_top_level : resolved (
           ∷ node 1 (n.read (Constant 0))
           ∷ node 1 (n.read (Slot 0))
           ∷ node 1 (n.expression 3)
-          ∷ node 1 (n.for_each (Slot 0) 2 4)
+          ∷ node 1 (n.for_each 0 2 4)
           ∷ [];
       functions = [];
       constants = n.unset ∷ [];
       top = body 0 1 [] [] (n.statements (1 ∷ 5 ∷ [])) 1;
     })
-unfolding program_scope function_scope block_scope for_scope each_scope expr_sites form_sites exprs_sites fields_sites perhaps_sites declarators_sites start_sites stmt_sites stmt_form_sites stmts_sites item_sites program_sites found found_var functions_of repeated blocked see places assigned_in captures holdings vars_of slot_count slots_of constants_of functions_in fault_at name_fault named_at code_at around_of body_of expr_piece expr_parts form_parts exprs_piece arguments_piece fields_piece perhaps_piece declarators_piece start_piece stmt_piece stmt_parts stmts_piece item_piece items_piece program_of_tree resolved
+unfolding program_scope function_scope block_scope for_scope list_scope each_scope expr_sites form_sites exprs_sites fields_sites perhaps_sites declarators_sites start_sites stmt_sites stmt_form_sites stmts_sites item_sites program_sites found found_var functions_of repeated blocked see places assigned_in captures holdings vars_of slot_count slots_of constants_of functions_in fault_at name_fault named_at code_at around_of body_of expr_piece expr_parts form_parts exprs_piece arguments_piece fields_piece perhaps_piece declarators_piece start_piece stmt_piece stmt_parts stmts_piece item_piece items_piece program_of_tree resolved
 a_slot_of_the_top_level = refl
 
 -- x: no program
 pub no_program : resolved (t.statement (does (uses (codes "x") 0)) ∷ []) ≡ None
-unfolding program_scope function_scope block_scope for_scope each_scope expr_sites form_sites exprs_sites fields_sites perhaps_sites declarators_sites start_sites stmt_sites stmt_form_sites stmts_sites item_sites program_sites found found_var functions_of repeated blocked see places assigned_in captures holdings vars_of slot_count slots_of constants_of functions_in fault_at name_fault named_at code_at around_of body_of expr_piece expr_parts form_parts exprs_piece arguments_piece fields_piece perhaps_piece declarators_piece start_piece stmt_piece stmt_parts stmts_piece item_piece items_piece program_of_tree resolved
+unfolding program_scope function_scope block_scope for_scope list_scope each_scope expr_sites form_sites exprs_sites fields_sites perhaps_sites declarators_sites start_sites stmt_sites stmt_form_sites stmts_sites item_sites program_sites found found_var functions_of repeated blocked see places assigned_in captures holdings vars_of slot_count slots_of constants_of functions_in fault_at name_fault named_at code_at around_of body_of expr_piece expr_parts form_parts exprs_piece arguments_piece fields_piece perhaps_piece declarators_piece start_piece stmt_piece stmt_parts stmts_piece item_piece items_piece program_of_tree resolved
 no_program = refl

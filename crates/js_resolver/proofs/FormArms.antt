@@ -1,6 +1,6 @@
 -- The form of each expression, from the numbers of its parts.
-use Rattle.std.proofs.Common.{◌≡◌, ℕ, ◌+◌, List, [], ◌∷◌, ◌++◌, ◌∙◌, ap, refl, sym, subst, length, map, Option, Some, None, Bool, true, false, if◌then◌else◌}
-use Rattle.std.specs.Prelude.{Vec, Result, Ok, Err, IfOk, is_some}
+use Rattle.std.proofs.Common.{◌≡◌, ℕ, ◌+◌, List, [], ◌∷◌, ◌∙◌, ap, refl, sym, subst, length, map}
+use Rattle.std.specs.Prelude.{Vec, Result, Ok, Err, IfOk}
 use Rattle.std.specs.declared.alloc.Global.{Global}
 use Rattle.std.specs.declared.boxed.Box.{Box}
 use Rattle.js_tree.specs.declared.tree.Name.{Name}
@@ -19,15 +19,14 @@ use Rattle.js_tree.specs.Plain.{exprs_of, fields_of, stmts_of}
 use Rattle.js_tree.specs.Views.{plain_expr, plain_form, plain_field, plain_stmt}
 use Rattle.js_program.specs.declared.node.NodeForm.{NodeForm}
 use Rattle.js_program.specs.declared.node.NodeForm.TheVariants as N
-use Rattle.js_program.specs.declared.node.Variable.{Variable}
 use Rattle.js_program.specs.PlainProgram as n
 use Rattle.js_program.specs.Views.{plain_node_form}
 use Rattle.js_names.specs.Places.{Place}
 use Rattle.js_resolver.specs.declared.emit.Called.{Called}
 use Rattle.js_resolver.specs.declared.emitter.Emitter.{Emitter}
-use Rattle.js_resolver.specs.Variables.{named_at, code_at}
-use Rattle.js_resolver.specs.Nodes.{none, beside, closed, expr_node, expr_piece, form_parts, exprs_piece, fields_piece, stmts_piece, keyed}
-use Rattle.js_resolver.specs.Emits.{count, Puts, Adds, Emits, EmitsCallee, EmitsFields, FormsCall, FormsExpr}
+use Rattle.js_resolver.specs.Variables.{slot_at}
+use Rattle.js_resolver.specs.Nodes.{beside, expr_node, expr_piece, form_parts, exprs_piece, fields_piece, keys_of}
+use Rattle.js_resolver.specs.Emits.{count, Puts, Emits, EmitsCallee, FormsCall, FormsExpr}
 use Rattle.js_resolver.proofs.Emitting.{emits_none, emits_both, forms_expr, if_forms_expr, if_closes}
 use Rattle.js_resolver.proofs.CallArms.{call_whole}
 use Rattle.js_resolver.proofs.TreeForms.{expr_is, number_is, words_is, truth_is, null_is, use_is, list_is, fields_is, member_is, index_is, call_is, unary_is, update_is, binary_is, conditional_is, assign_is, arrow_value_is, arrow_block_is, function_is}
@@ -62,10 +61,12 @@ pub list_arm : (ps : List Place) (a b : Emitter) (f : Form) (v : Vec Expr Global
 unfolding form_parts
 list_arm ps a b f v xs w h d k = forms_expr ps a b (N.List w) w.items (p.list (exprs_of (map plain_expr xs))) (plain_form f) (ap (λ z. p.list (exprs_of (map plain_expr z))) d ∙ sym (ap plain_form h ∙ list_is v)) k refl
 
-pub fields_arm : (ps : List Place) (a b : Emitter) (f : Form) (v : Vec Field Global) (xs : List Field) (w : Vec (List ℕ × ℕ) Global) → f ≡ Fields v → xs ≡ v.items → EmitsFields ps a b w.items xs
-    → FormsExpr ps a b (N.Fields w) (plain_form f)
+pub fields_arm : (ps : List Place) (a b : Emitter) (f : Form) (v : Vec Field Global) (xs ys : List Field) (w : Vec ℕ Global) (ks : Vec (List ℕ) Global) → f ≡ Fields v → xs ≡ v.items → ys ≡ v.items
+    → Emits a b w.items (fields_piece ps (count a) (fields_of (map plain_field xs))) → ks.items ≡ keys_of (fields_of (map plain_field ys))
+    → FormsExpr ps a b (N.Fields ks w) (plain_form f)
 unfolding form_parts
-fields_arm ps a b f v xs w h d k = subst (FormsExpr ps a b (N.Fields w)) (ap (λ z. p.fields (fields_of (map plain_field z))) d ∙ sym (ap plain_form h ∙ fields_is v)) (record { adds = k.adds; form = ap (λ z. n.fields z) k.pairs_are })
+fields_arm ps a b f v xs ys w ks h d e k q = forms_expr ps a b (N.Fields ks w) w.items (p.fields (fields_of (map plain_field xs))) (plain_form f) (ap (λ z. p.fields (fields_of (map plain_field z))) d ∙ sym (ap plain_form h ∙ fields_is v)) k
+    (ap (λ z. n.fields z w.items) (q ∙ ap (λ z. keys_of (fields_of (map plain_field z))) (e ∙ sym d)))
 
 pub index_arm : (ps : List Place) (a b c : Emitter) (f : Form) (l r : Box Expr Global) (x y : Expr) (i j : ℕ) → f ≡ Index l r → x ≡ l.value → y ≡ r.value → Emits a b (i ∷ []) (expr_piece ps (count a) (plain_expr x)) → Emits b c (j ∷ []) (expr_piece ps (count b) (plain_expr y))
     → FormsExpr ps a c (N.Index i j) (plain_form f)
@@ -86,12 +87,12 @@ pub unary_arm : (ps : List Place) (a b : Emitter) (f : Form) (s : Sign) (l : Box
 unfolding form_parts
 unary_arm ps a b f s l x i h d k = forms_expr ps a b (N.Unary s i) (i ∷ []) (p.unary s (plain_expr x)) (plain_form f) (ap (λ z. p.unary s (plain_expr z)) d ∙ sym (ap plain_form h ∙ unary_is s l)) k refl
 
-pub update_arm : (ps : List Place) (a : Emitter) (f : Form) (s : Step) (x : Fix) (k : Name) (v : Variable) → f ≡ Update s x k → v ≡ named_at ps k.spot.at
+pub update_arm : (ps : List Place) (a : Emitter) (f : Form) (s : Step) (x : Fix) (k : Name) (v : ℕ) → f ≡ Update s x k → v ≡ slot_at ps k.spot.at
     → FormsExpr ps a a (N.Update s x v) (plain_form f)
 unfolding form_parts
 update_arm ps a f s x k v h e = forms_expr ps a a (N.Update s x v) [] (p.update s x k) (plain_form f) (sym (ap plain_form h ∙ update_is s x k)) (emits_none a) (ap (λ z. n.update s x z) e)
 
-pub assign_arm : (ps : List Place) (a b : Emitter) (f : Form) (o : AssignOp) (k : Name) (l : Box Expr Global) (x : Expr) (i : ℕ) (v : Variable) → f ≡ Assign o k l → x ≡ l.value → Emits a b (i ∷ []) (expr_piece ps (count a) (plain_expr x)) → v ≡ named_at ps k.spot.at
+pub assign_arm : (ps : List Place) (a b : Emitter) (f : Form) (o : AssignOp) (k : Name) (l : Box Expr Global) (x : Expr) (i v : ℕ) → f ≡ Assign o k l → x ≡ l.value → Emits a b (i ∷ []) (expr_piece ps (count a) (plain_expr x)) → v ≡ slot_at ps k.spot.at
     → FormsExpr ps a b (N.Assign o v i) (plain_form f)
 unfolding form_parts
 assign_arm ps a b f o k l x i v h d m e = forms_expr ps a b (N.Assign o v i) (i ∷ []) (p.assign o k (plain_expr x)) (plain_form f) (ap (λ z. p.assign o k (plain_expr z)) d ∙ sym (ap plain_form h ∙ assign_is o k l)) m (ap (λ z. n.assign o z i) e)

@@ -1,6 +1,6 @@
 -- Functions, each before those inside it.
-use Rattle.std.proofs.Common.{◌≡◌, ℕ, ◌+◌, ◌≤◌, List, [], ◌∷◌, ◌++◌, ◌∙◌, ap, refl, sym, subst, length, map, take, drop, arith, append-nil, length-append}
-use Rattle.std.specs.Prelude.{Result, Ok, Err, IfOk, OnOk, Vec}
+use Rattle.std.proofs.Common.{◌≡◌, ℕ, ◌≤◌, List, [], ◌∷◌, ◌++◌, ◌∙◌, ap, sym, subst, length, map, drop, arith, append-nil, length-append}
+use Rattle.std.specs.Prelude.{Result, Ok, Err, OnOk, Vec}
 use Rattle.std.specs.declared.alloc.Global.{Global}
 use Rattle.std.specs.List.{insert}
 use Rattle.std.proofs.lemmas.List.{length-map}
@@ -16,16 +16,15 @@ use Rattle.js_tree.specs.Plain as p
 use Rattle.js_tree.specs.Plain.{PlainStmts, stmts_of}
 use Rattle.js_tree.specs.Views.{plain_expr, plain_item, plain_stmt}
 use Rattle.js_program.specs.declared.node.Body.{Body}
-use Rattle.js_program.specs.declared.node.NodeForm.{NodeForm}
 use Rattle.js_program.specs.declared.node.NodeForm.TheVariants as N
 use Rattle.js_program.specs.PlainProgram as n
 use Rattle.js_program.specs.PlainProgram.{PlainBody, PlainContent}
-use Rattle.js_program.specs.Views.{plain_body, plain_node, plain_node_form}
+use Rattle.js_program.specs.Views.{plain_body, plain_node}
 use Rattle.js_names.specs.Places.{Place}
 use Rattle.js_resolver.specs.declared.emitter.Emitter.{Emitter}
 use Rattle.js_resolver.specs.Variables.{body_of, code_at}
 use Rattle.js_resolver.specs.Nodes.{Piece, expr_piece, form_parts, function_piece, item_piece, one_value, stmt_piece, stmts_piece}
-use Rattle.js_resolver.specs.Emits.{nodes_of, functions_of, count, Adds, Emits, EmitsMore, FormsExpr, PutsBody}
+use Rattle.js_resolver.specs.Emits.{functions_of, count, Adds, Emits, EmitsMore, FormsExpr, PutsBody}
 
 inserted : {A : Type 0} (xs ys : List A) (y : A) → insert (xs ++ ys) (length xs) y ≡ xs ++ y ∷ ys
 inserted xs ys y = ap (λ z. z ++ y ∷ drop (length xs) (xs ++ ys)) (take-append_seam xs ys) ∙ ap (λ z. xs ++ y ∷ z) (drop-append_seam xs ys)

@@ -12,6 +12,9 @@ pub mod StmtArms
 pub mod FunctionArms
 pub mod CallArms
 pub mod Parts
+pub mod SoundFound
+pub mod SoundWalk
+pub mod SoundAlone
 pub mod SoundParts
 pub mod SoundOrder
 pub mod SoundFunctions

@@ -1,14 +1,14 @@
 -- Loops over forms that stand one after the other: what is done and what is left make the whole.
-use Rattle.std.proofs.Common.{◌≡◌, ℕ, ◌+◌, ◌<◌, List, [], ◌∷◌, ◌++◌, ◌∙◌, ap, refl, sym, subst, length, map, drop, get_or, Option, Some, None, Bool, true, false, append_assoc, append-nil}
-use Rattle.std.specs.Prelude.{option_map, option_to_list, is_some}
-use Rattle.std.proofs.lemmas.List.{drop_more, map-append}
+use Rattle.std.proofs.Common.{◌≡◌, ℕ, ◌+◌, ◌<◌, ◌≤◌, List, [], ◌∷◌, ◌++◌, ◌∙◌, ap, refl, sym, subst, length, map, drop, get_or, Option, Some, None, Bool, append_assoc, append-nil}
+use Rattle.std.specs.Prelude.{option_to_list, is_some}
+use Rattle.std.proofs.lemmas.List.{drop_more, drop_all, map-append}
 use Rattle.js_tree.specs.declared.tree.Expr.{Expr}
 use Rattle.js_tree.specs.declared.tree.Field.{Field}
 use Rattle.js_tree.specs.declared.tree.Declarator.{Declarator, out-Declarator}
 use Rattle.js_tree.specs.declared.tree.Item.{Item}
 use Rattle.js_tree.specs.declared.tree.Stmt.{Stmt}
-use Rattle.js_tree.specs.Plain.{PlainField, PlainFields, PlainDeclarator, PlainDeclarators, no_fields, field_in, no_declarators, declarator_in, exprs_of, fields_of, declarators_of, stmts_of}
-use Rattle.js_tree.specs.Views.{perhaps, plain_expr, plain_field, plain_declarator, plain_stmt, plain_item}
+use Rattle.js_tree.specs.Plain.{PlainField, PlainDeclarator, field_in, declarator_in, exprs_of, fields_of, declarators_of, stmts_of}
+use Rattle.js_tree.specs.Views.{plain_expr, plain_field, plain_declarator, plain_stmt, plain_item}
 use Rattle.js_program.specs.declared.node.Declared.{Declared}
 use Rattle.js_program.specs.declared.node.Variable.{Variable}
 use Rattle.js_program.specs.PlainProgram.{PlainDeclared}
@@ -17,8 +17,8 @@ use Rattle.js_names.specs.Places.{Place}
 use Rattle.js_names.specs.Scopes.{is_present}
 use Rattle.js_resolver.specs.declared.emitter.Emitter.{Emitter}
 use Rattle.js_resolver.specs.Variables.{named_at}
-use Rattle.js_resolver.specs.Nodes.{Piece, none, beside, after, expr_piece, exprs_piece, fields_piece, keyed, perhaps_piece, perhaps_part, parts_after, declarators_piece, declared_of, stmt_piece, stmts_piece, item_piece, items_piece}
-use Rattle.js_resolver.specs.Emits.{count, Adds, Emits, EmitsMore, EmitsFields, EmitsDeclarators, EmitsPerhaps, Leaves, tree_perhaps}
+use Rattle.js_resolver.specs.Nodes.{Piece, none, beside, after, expr_piece, exprs_piece, fields_piece, keys_of, perhaps_piece, perhaps_part, parts_after, declarators_piece, declared_of, stmt_piece, stmts_piece, item_piece, items_piece}
+use Rattle.js_resolver.specs.Emits.{count, Adds, Emits, EmitsMore, EmitsDeclarators, EmitsPerhaps, Leaves, tree_perhaps}
 use Rattle.js_resolver.proofs.Emitting.{counts, leaves_all, leaves_none, leaves_more, numbers_more}
 use Rattle.js_resolver.proofs.TreeForms.{field_is, declarator_is}
 
@@ -68,48 +68,30 @@ items_more ps xs i d x a b c ms ks w h e r k =
 
 -- fields
 
-pub record RemainsFields (ps : List Place) (start now : Emitter) (pairs : List (List ℕ × ℕ)) (rest all : List Field) : Type 0 where
-  pub leaves : Leaves start now (fields_piece ps (count now) (fields_of (map plain_field rest))) (fields_piece ps (count start) (fields_of (map plain_field all)))
-  pub pairs_are : pairs ++ keyed (fields_of (map plain_field rest)) (fields_piece ps (count now) (fields_of (map plain_field rest))).parts
-      ≡ keyed (fields_of (map plain_field all)) (fields_piece ps (count start) (fields_of (map plain_field all))).parts
+field_next : (xs : List Field) (i : ℕ) (d x : Field) → i < length xs → x ≡ get_or xs i d → fields_of (map plain_field (drop i xs)) ≡ field_in x.key (plain_expr x.value) (fields_of (map plain_field (drop (i + 1) xs)))
+field_next xs i d x h e =
+    ap (λ z. fields_of (map plain_field z)) (at_next xs i d x h e) ∙ ap (λ (z : PlainField). field_in z.key z.value (fields_of (map plain_field (drop (i + 1) xs)))) (field_is x)
 
-field_step_pairs : (ps : List Place) (pairs : List (List ℕ × ℕ)) (key : List ℕ) (n b : ℕ) (x y : Piece) (fs : PlainFields) (e : _) → n ∷ [] ≡ x.parts → keyed (field_in key e fs) (x.parts ++ y.parts) ≡ (key, n) ∷ keyed fs y.parts
-field_step_pairs ps pairs key n b x y fs e h = ap (λ z. keyed (field_in key e fs) (z ++ y.parts)) (sym h)
-
-pub fields_more : (ps : List Place) (xs : List Field) (i : ℕ) (d x : Field) (a b c : Emitter) (ms ks : List (List ℕ × ℕ)) (n : ℕ) → i < length xs → x ≡ get_or xs i d
-    → RemainsFields ps a b ms (drop i xs) xs → Emits b c (n ∷ []) (expr_piece ps (count b) (plain_expr x.value)) → ks ≡ ms ++ (x.key, n) ∷ []
-    → RemainsFields ps a c ks (drop (i + 1) xs) xs
+pub fields_more : (ps : List Place) (xs : List Field) (i : ℕ) (d x : Field) (a b c : Emitter) (ms ks : List ℕ) (n : ℕ) (w : Piece) → i < length xs → x ≡ get_or xs i d
+    → Remains a b ms (fields_piece ps (count b) (fields_of (map plain_field (drop i xs)))) w → Emits b c (n ∷ []) (expr_piece ps (count b) (plain_expr x.value)) → ks ≡ ms ++ n ∷ []
+    → Remains a c ks (fields_piece ps (count c) (fields_of (map plain_field (drop (i + 1) xs)))) w
 unfolding fields_piece
-fields_more ps xs i d x a b c ms ks n h e r k q =
-    let rest = drop (i + 1) xs in
-    let fs = fields_of (map plain_field rest) in
-    let px = expr_piece ps (count b) (plain_expr x.value) in
-    let py = fields_piece ps (after (count b) px) fs in
-    let is : fields_of (map plain_field (drop i xs)) ≡ field_in x.key (plain_expr x.value) fs =
-    ap (λ z. fields_of (map plain_field z)) (at_next xs i d x h e) ∙ ap (λ (z : PlainField). field_in z.key z.value fs) (field_is x) in
-    let all = fields_of (map plain_field xs) in
-    let w = fields_piece ps (count a) all in
-    let l : Leaves a b (beside px py) w = subst (λ z. Leaves a b (fields_piece ps (count b) z) w) is r.leaves in
-    let p : ms ++ keyed (field_in x.key (plain_expr x.value) fs) (px.parts ++ py.parts) ≡ keyed all w.parts = subst (λ z. ms ++ keyed z (fields_piece ps (count b) z).parts ≡ keyed all w.parts) is r.pairs_are in
-    record {
-      leaves = leaves_more (λ m. fields_piece ps m fs) a b c px w l k.adds;
-      pairs_are = ap (λ m. ks ++ keyed fs (fields_piece ps m fs).parts) (counts b c px k.adds)
-          ∙ (ap (λ z. z ++ keyed fs py.parts) q
-          ∙ (append_assoc ms ((x.key, n) ∷ []) (keyed fs py.parts)
-          ∙ (ap (λ z. ms ++ keyed (field_in x.key (plain_expr x.value) fs) (z ++ py.parts)) k.parts ∙ p)));
-    }
+fields_more ps xs i d x a b c ms ks n w h e r k q =
+    remains_more (λ m. fields_piece ps m (fields_of (map plain_field (drop (i + 1) xs)))) a b c ms (n ∷ []) ks (expr_piece ps (count b) (plain_expr x.value)) w
+    (subst (λ z. Remains a b ms (fields_piece ps (count b) z) w) (field_next xs i d x h e) r) k.adds q k.parts
 
-pub fields_all : (ps : List Place) (a : Emitter) (ms : List (List ℕ × ℕ)) (xs : List Field) → ms ≡ [] → RemainsFields ps a a ms xs xs
-fields_all ps a ms xs e = record {
-  leaves = leaves_all a (fields_piece ps (count a) (fields_of (map plain_field xs)));
-  pairs_are = ap (λ z. z ++ keyed (fields_of (map plain_field xs)) (fields_piece ps (count a) (fields_of (map plain_field xs))).parts) e;
-}
-
-pub fields_none : (ps : List Place) (a b : Emitter) (ms : List (List ℕ × ℕ)) (rest xs : List Field) → rest ≡ [] → RemainsFields ps a b ms rest xs → EmitsFields ps a b ms xs
+pub fields_done : (ps : List Place) (a b : Emitter) (ns : List ℕ) (rest : List Field) (w : Piece) → rest ≡ [] → Remains a b ns (fields_piece ps (count b) (fields_of (map plain_field rest))) w → Emits a b ns w
 unfolding fields_piece
-fields_none ps a b ms rest xs e r =
-    let h : RemainsFields ps a b ms [] xs = subst (λ z. RemainsFields ps a b ms z xs) e r in
-    record { adds = leaves_none a b (fields_piece ps (count a) (fields_of (map plain_field xs))) h.leaves; pairs_are = sym (append-nil ms) ∙ h.pairs_are }
+fields_done ps a b ns rest w e r = remains_none a b ns w (subst (λ z. Remains a b ns (fields_piece ps (count b) (fields_of (map plain_field z))) w) e r)
+
+pub keys_more : (xs : List Field) (i : ℕ) (d x : Field) (ks ms w : List (List ℕ)) → i < length xs → x ≡ get_or xs i d → ks ++ keys_of (fields_of (map plain_field (drop i xs))) ≡ w → ms ≡ ks ++ x.key ∷ []
+    → ms ++ keys_of (fields_of (map plain_field (drop (i + 1) xs))) ≡ w
+keys_more xs i d x ks ms w h e inv q =
+    let rest = keys_of (fields_of (map plain_field (drop (i + 1) xs))) in
+    ap (λ z. z ++ rest) q ∙ (append_assoc ks (x.key ∷ []) rest ∙ (ap (λ z. ks ++ keys_of z) (sym (field_next xs i d x h e)) ∙ inv))
+
+pub keys_done : (xs : List Field) (i : ℕ) (ks w : List (List ℕ)) → length xs ≤ i → ks ++ keys_of (fields_of (map plain_field (drop i xs))) ≡ w → ks ≡ w
+keys_done xs i ks w h inv = sym (append-nil ks) ∙ (ap (λ z. ks ++ keys_of (fields_of (map plain_field z))) (sym (drop_all i xs h)) ∙ inv)
 
 -- declarators
 

@@ -1,5 +1,5 @@
 -- Maps from places of the text to what the names there stand for.
-use Rattle.std.proofs.Common.{◌≡◌, ℕ, ◌+◌, ◌<◌, List, [], ◌∷◌, ◌++◌, ◌∙◌, ap, refl, sym, map, length, take, get_or, Option, Some, None, nat_eq, if◌then◌else◌}
+use Rattle.std.proofs.Common.{◌≡◌, ℕ, ◌+◌, ◌<◌, List, [], ◌∷◌, ◌++◌, ◌∙◌, ap, sym, map, length, take, get_or, Option, None, nat_eq, if◌then◌else◌}
 use Rattle.std.proofs.lemmas.List.{take_more, map-append}
 use Rattle.indexmap.specs.IndexMap.{get}
 use Rattle.js_names.specs.declared.place.Seen.{Seen}

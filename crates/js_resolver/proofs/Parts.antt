@@ -1,5 +1,5 @@
 -- The program that parts are which are made from the places of a tree.
-use Rattle.std.proofs.Common.{◌≡◌, List, ◌∙◌, ap, refl, sym, map, Option, Some, None}
+use Rattle.std.proofs.Common.{◌≡◌, List, ◌∙◌, ap, refl, sym, map, Some, None}
 use Rattle.js_tree.specs.Plain.{PlainItem}
 use Rattle.js_program.specs.PlainProgram.{PlainProgram, statements}
 use Rattle.js_program.specs.Views as v

@@ -1,19 +1,20 @@
 -- Trees that no tokens spell, whose programs break no rule of names and yet are not sound.
 use Rattle.std.proofs.Common.{◌≡◌, ℕ, List, [], ◌∷◌, refl, true, false}
-use Rattle.std.specs.Prelude.{Some, None, codes}
+use Rattle.std.specs.Prelude.{None, codes}
+use Rattle.std.specs.List.{list_all}
 use Rattle.js_tree.specs.declared.tree.Name.{Name}
 use Rattle.js_tree.specs.declared.tree.Spot.{Spot}
 use Rattle.js_tree.specs.declared.tree.DeclareKind.{DeclareKind}
 use Rattle.js_tree.specs.Plain as t
 use Rattle.js_tree.specs.Plain.{PlainItem}
-use Rattle.js_program.specs.Sound.{sound, node_fits, ordered}
+use Rattle.js_program.specs.Sound.{node_fits, body_fits}
 use Rattle.js_names.specs.Scopes.{program_scope, function_scope}
 use Rattle.js_names.specs.Sites.{expr_sites, form_sites, perhaps_sites, declarators_sites, stmt_sites, stmt_form_sites, stmts_sites, item_sites, program_sites}
 use Rattle.js_names.specs.Places.{found, found_var, functions_of, repeated, blocked, see, places}
 use Rattle.js_names.specs.Slots.{assigned_in, captures, holdings, vars_of, slot_count, slots_of, constants_of, functions_in}
 use Rattle.js_names.specs.Rules.{fault_at, name_fault}
 use Rattle.js_resolver.specs.Variables.{named_at, code_at, around_of, body_of}
-use Rattle.js_resolver.specs.Nodes.{expr_piece, expr_parts, form_parts, perhaps_piece, declarators_piece, stmt_piece, stmt_parts, stmts_piece, item_piece, items_piece}
+use Rattle.js_resolver.specs.Nodes.{expr_piece, form_parts, perhaps_piece, declarators_piece, stmt_piece, stmt_parts, stmts_piece, item_piece, items_piece}
 use Rattle.js_resolver.specs.Resolved.{program_of_tree}
 
 abbrev spot : ℕ → Spot
@@ -30,8 +31,8 @@ alone-unbroken : name_fault alone ≡ None
 unfolding name_fault fault_at slot_count slots_of holdings assigned_in places see program_sites item_sites stmt_sites stmt_form_sites expr_sites form_sites declarators_sites perhaps_sites program_scope found found_var functions_of repeated blocked
 alone-unbroken = refl
 
-alone-unsound : sound (program_of_tree alone) ≡ false
-unfolding sound node_fits ordered program_of_tree items_piece item_piece stmt_piece stmt_parts expr_piece form_parts declarators_piece perhaps_piece named_at code_at around_of body_of captures vars_of constants_of functions_in slots_of holdings assigned_in places see program_sites item_sites stmt_sites stmt_form_sites expr_sites form_sites declarators_sites perhaps_sites program_scope found found_var functions_of repeated blocked
+alone-unsound : body_fits (program_of_tree alone) 0 3 (program_of_tree alone).top ≡ false
+unfolding node_fits program_of_tree items_piece item_piece stmt_piece stmt_parts expr_piece form_parts declarators_piece perhaps_piece named_at code_at around_of body_of captures vars_of constants_of functions_in slots_of holdings assigned_in places see program_sites item_sites stmt_sites stmt_form_sites expr_sites form_sites declarators_sites perhaps_sites program_scope found found_var functions_of repeated blocked
 alone-unsound = refl
 
 -- `function f(a, b) {}` with both parameters at one place
@@ -42,6 +43,6 @@ twice-unbroken : name_fault twice ≡ None
 unfolding name_fault fault_at slot_count slots_of holdings assigned_in places see program_sites item_sites stmts_sites program_scope function_scope found found_var functions_of repeated blocked
 twice-unbroken = refl
 
-twice-unsound : sound (program_of_tree twice) ≡ false
-unfolding sound node_fits ordered program_of_tree items_piece item_piece stmts_piece named_at code_at around_of body_of captures vars_of constants_of functions_in slots_of holdings assigned_in places see program_sites item_sites stmts_sites program_scope function_scope found found_var functions_of repeated blocked
+twice-unsound : list_all (body_fits (program_of_tree twice) 0 0) (program_of_tree twice).functions ≡ false
+unfolding node_fits program_of_tree items_piece item_piece stmts_piece named_at code_at around_of body_of captures vars_of constants_of functions_in slots_of holdings assigned_in places see program_sites item_sites stmts_sites program_scope function_scope found found_var functions_of repeated blocked
 twice-unsound = refl

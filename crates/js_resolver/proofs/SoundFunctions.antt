@@ -15,7 +15,7 @@ use Rattle.js_program.specs.PlainProgram as n
 use Rattle.js_program.specs.PlainProgram.{PlainBody, PlainContent}
 use Rattle.js_names.specs.declared.place.Around.{Around}
 use Rattle.js_names.specs.declared.place.What.{What}
-use Rattle.js_names.specs.Scopes.{Scope, top, block_scope, for_scope, each_scope, function_scope}
+use Rattle.js_names.specs.Scopes.{Scope, top, block_scope, for_scope, list_scope, each_scope, function_scope}
 use Rattle.js_names.specs.Sites.{Site, site, read_site, assign_site, is_undefined, is_reserved, object_of, called_builtin, value_builtin, builtin_at, member_sites, in_function, in_loop, begin_site, parameter_sites, expr_sites, form_sites, exprs_sites, fields_sites, perhaps_sites, declarators_sites, start_sites, stmt_sites, stmt_form_sites, stmts_sites, item_sites}
 use Rattle.js_names.specs.Places.{Place}
 use Rattle.js_names.specs.Slots.{is_begin}
@@ -55,7 +55,7 @@ listed_four ps q r s u x y z w h k l m =
     subst (λ sites. Lists ps sites (beside (beside (beside x y) z) w)) (append_assoc q r (s ++ u))
     (listed_three ps (q ++ r) s u (beside x y) z w (listed_beside ps q r x y h k) l m)
 
-begun-parameters : (scopes : List Scope) (a : Around) (names : List Name) → begun (parameter_sites scopes a names) ≡ []
+pub begun-parameters : (scopes : List Scope) (a : Around) (names : List Name) → begun (parameter_sites scopes a names) ≡ []
 begun-parameters scopes a [] = refl
 begun-parameters scopes a (x ∷ xs) = begun-parameters scopes a xs
 
@@ -226,9 +226,10 @@ mutual
       listed_four ps (start_sites inner a start) (perhaps_sites inner a test) (perhaps_sites inner a next) (stmt_sites inner (in_loop a) s) x y z (stmt_piece ps d s)
       (start_listed ps inner a b start) (perhaps_listed ps inner a (after b x) test) (perhaps_listed ps inner a c next) (stmt_listed ps inner (in_loop a) d s)
   stmt_form_listed ps scopes a b (t.for_each kind name e s) =
+      let listed = list_scope a.owner kind name ∷ scopes in
       let inner = each_scope a.owner kind name s ∷ scopes in
       let x = expr_piece ps b e in
-      listed_beside ps (expr_sites inner a e) (stmt_sites inner (in_loop a) s) x (stmt_piece ps (after b x) s) (expr_listed ps inner a b e) (stmt_listed ps inner (in_loop a) (after b x) s)
+      listed_beside ps (expr_sites listed a e) (stmt_sites inner (in_loop a) s) x (stmt_piece ps (after b x) s) (expr_listed ps listed a b e) (stmt_listed ps inner (in_loop a) (after b x) s)
   stmt_form_listed ps scopes a b (t.break_of spot) = refl
   stmt_form_listed ps scopes a b (t.continue_of spot) = refl
   stmt_form_listed ps scopes a b (t.return_nothing spot) = refl

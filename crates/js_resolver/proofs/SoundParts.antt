@@ -1,5 +1,5 @@
 -- What holds of each part of a form holds of each number that its node names.
-use Rattle.std.proofs.Common.{◌≡◌, ℕ, zero, suc, ◌+◌, ◌<◌, ◌≤◌, List, [], ◌∷◌, ◌++◌, refl, length, drop, map, arith, Option, Some, None, Bool, true, false, if◌then◌else◌}
+use Rattle.std.proofs.Common.{◌≡◌, ℕ, zero, suc, ◌+◌, ◌<◌, ◌≤◌, List, [], ◌∷◌, ◌++◌, refl, length, drop, arith, Option, Some, None, Bool, true, false, if◌then◌else◌}
 use Rattle.std.specs.Prelude.{is_some, option_to_list}
 use Rattle.std.specs.List.{filter_map, list_all}
 use Rattle.js_tree.specs.Plain as t
@@ -11,7 +11,7 @@ use Rattle.js_names.specs.Scopes.{is_present, own_of_start}
 use Rattle.js_names.specs.Sites.{called_builtin, value_builtin, is_undefined}
 use Rattle.js_names.specs.Places.{Place}
 use Rattle.js_resolver.specs.Variables.{named_at}
-use Rattle.js_resolver.specs.Nodes.{fresh, part, keyed, method_of, floors_division, call_node, member_node, expr_node, perhaps_part, parts_after, declared_of, has_start, for_node, stmt_node}
+use Rattle.js_resolver.specs.Nodes.{fresh, part, method_of, floors_division, call_node, member_node, expr_node, perhaps_part, parts_after, declared_of, has_start, for_node, stmt_node}
 
 abbrev pub Every : (ℕ → Type 0) → List ℕ → Type 0
 Every P [] = Unit {0}
@@ -75,11 +75,6 @@ stmt_need (t.for_each kind name e s) = 2
 stmt_need (t.return_of spot e) = 1
 stmt_need _ = 0
 
-kept_fields : (P : ℕ → Type 0) (fs : PlainFields) (xs : List ℕ) → Every P xs → Every P (map (λ (f : List ℕ × ℕ). f.1) (keyed fs xs))
-kept_fields P t.no_fields xs h = tt
-kept_fields P (t.field_in key e fs) [] h = tt
-kept_fields P (t.field_in key e fs) (x ∷ xs) h = (h.0, kept_fields P fs xs h.1)
-
 kept_member : (P : ℕ → Type 0) (o : Option Builtin) (word : List ℕ) (xs : List ℕ) → (if is_some o then 0 else 1) ≤ length xs → Every P xs → Every P (parts_of (member_node o word xs))
 kept_member P None word xs l h = (every_part P 0 xs (omega arith) h, tt)
 kept_member P (Some f) word xs l h = h
@@ -106,7 +101,7 @@ kept_expr P ps (t.truth b) xs l h = tt
 kept_expr P ps t.null xs l h = tt
 kept_expr P ps (t.use_of name) xs l h = kept_use P (is_undefined name.text) (named_at ps name.spot.at)
 kept_expr P ps (t.list es) xs l h = h
-kept_expr P ps (t.fields fs) xs l h = kept_fields P fs xs h
+kept_expr P ps (t.fields fs) xs l h = h
 kept_expr P ps (t.member e word) xs l h = kept_member P (value_builtin e word) word xs l h
 kept_expr P ps (t.index e i) xs l h = (every_part P 0 xs (omega arith) h, (every_part P 1 xs (omega arith) h, tt))
 kept_expr P ps (t.call e es) xs l h = kept_call P (called_builtin e) (method_of e) (floors_division (called_builtin e) es) xs l h
@@ -141,8 +136,8 @@ kept_declared P ps (t.declarator_in name (t.present e) end ds) xs l h =
     let m : declared_need ds ≤ length (drop 1 xs) = omega (arith, length_drop-1 xs) in (every_part P 0 xs (omega arith) h, kept_declared P ps ds (drop 1 xs) m (every_drop P 1 xs h))
 kept_declared P ps (t.declarator_in name t.absent end ds) xs l h = kept_declared P ps ds xs (omega arith) h
 
-kept_for : (P : ℕ → Type 0) (variables : List Variable) (a b c : Bool) (xs : List ℕ) → ((truth_need a + truth_need b) + truth_need c) + 1 ≤ length xs → Every P xs → Every P (parts_of (for_node variables a b c xs))
-kept_for P variables a b c xs l h =
+kept_for : (P : ℕ → Type 0) (slots : List ℕ) (a b c : Bool) (xs : List ℕ) → ((truth_need a + truth_need b) + truth_need c) + 1 ≤ length xs → Every P xs → Every P (parts_of (for_node slots a b c xs))
+kept_for P slots a b c xs l h =
     let ys = parts_after a xs in
     let zs = parts_after b ys in
     let rest = parts_after c zs in

@@ -1,7 +1,7 @@
 -- What a place names is there, where no rule of names is broken.
-use Rattle.std.proofs.Common.{◌≡◌, ◌∙◌, ◌⊎◌, inl, inr, ℕ, List, [], ◌∷◌, refl, ap, sym, subst, length, fold, Option, Some, None, Bool, true, false, not, ◌&&◌, if◌then◌else◌, nat_eq}
-use Rattle.std.proofs.lemmas.Bool.{lt-ltb, eqb-true, eqb-false, eq-eqb, and_from, and_parts, ne_eqb, not-true, not-false, false≢true, true≢false}
-use Rattle.std.specs.Prelude.{is_some, unwrap_or}
+use Rattle.std.proofs.Common.{◌≡◌, ◌∙◌, ◌⊎◌, inl, inr, ℕ, List, [], ◌∷◌, refl, ap, sym, subst, length, fold, arith, Option, Some, None, Bool, true, false, not, ◌&&◌, if◌then◌else◌, nat_eq}
+use Rattle.std.proofs.lemmas.Bool.{lt-ltb, ltb-true, eqb-true, eqb-false, eq-eqb, and_from, and_parts, ne_eqb, not-true, not-false, false≢true, true≢false}
+use Rattle.std.specs.Prelude.{is_some, unwrap_or, nat_lt}
 use Rattle.std.specs.List.{flat_map}
 use Rattle.js_tree.specs.Plain.{PlainItem}
 use Rattle.js_program.specs.declared.node.Variable.{Variable}
@@ -15,7 +15,7 @@ use Rattle.js_names.specs.Scopes.{top}
 use Rattle.js_names.specs.Places.{Place, or_else, test_of, places}
 use Rattle.js_names.specs.Slots.{Holding, held_by, holds_all, inside, assigned_in, is_constant, is_outer, can_copy, copies, is_mention, is_begin, captures, captures_in, captures_of, constants_of, slots_of, slot_count}
 use Rattle.js_names.specs.Rules.{fails_unknown, fails_capture, fails_twice, fails_const, fault_at, sooner, comes_before, name_fault}
-use Rattle.js_resolver.specs.Variables.{index_in, variable_with, named_by, known_here, known_in, name_key, named, named_at, second, around_of, capture_slots}
+use Rattle.js_resolver.specs.Variables.{index_in, slot_of, variable_with, named_by, known_here, known_in, name_key, named, named_at, second, around_of, capture_slots}
 use Rattle.js_resolver.proofs.SoundLists.{In, HasPlace, index-below, in-from_first_uses, capture_slot, held-from, held-cases, slots_below}
 
 -- a declaration of a program: a constant of it, or in a slot of its function, and its name stands there
@@ -65,14 +65,14 @@ soonest_from F acc (x ∷ xs) h =
     (s.0, λ q k. elim k as (λ _. F q ≡ None) [ inl e ↦ ap F e ∙ s.1 | inr m ↦ r.1 q m ])
 
 -- what the first rules say of a place that breaks none
-first_rules : (a b c d : Bool) (w x y z : NameFault) (rest : Option NameFault) → (if a then Some w else (if b then Some x else (if c then Some y else (if d then Some z else rest)))) ≡ None → (a ≡ false) × (d ≡ false)
+first_rules : (a b c d : Bool) (w x y z : NameFault) (rest : Option NameFault) → (if a then Some w else (if b then Some x else (if c then Some y else (if d then Some z else rest)))) ≡ None → (a ≡ false) × (d ≡ false) × (c ≡ false)
 first_rules true b c d w x y z rest h = cc
 first_rules false true c d w x y z rest h = cc
 first_rules false false true d w x y z rest h = cc
 first_rules false false false true w x y z rest h = cc
-first_rules false false false false w x y z rest h = (refl, refl)
+first_rules false false false false w x y z rest h = (refl, refl, refl)
 
-pub unbroken : (items : List PlainItem) (q : Place) → name_fault items ≡ None → HasPlace q (places items) → (fails_unknown q ≡ false) × (fails_capture (assigned_in (places items)) q ≡ false)
+pub unbroken : (items : List PlainItem) (q : Place) → name_fault items ≡ None → HasPlace q (places items) → (fails_unknown q ≡ false) × (fails_capture (assigned_in (places items)) q ≡ false) × (fails_const q ≡ false)
 unfolding name_fault fault_at
 unbroken items q h k =
     let ps = places items in
@@ -88,6 +88,21 @@ with_fits assigned constants slots d f g =
     [ true ↦ λ m n. lt-ltb _ _ (index-below d.place constants (m refl)) | false ↦ λ m n. lt-ltb _ _ (index-below d.place slots (n refl)) ]
     in
     cases (is_constant assigned d) f g
+
+-- a variable that is no constant
+slot_fits : (assigned constants slots : List ℕ) (d : Declared) → is_constant assigned d ≡ false → In d.place slots → variable_fits (length slots) 0 (variable_with assigned constants slots d) ≡ true
+slot_fits assigned constants slots d e h =
+    subst (λ b. variable_fits (length slots) 0 (if b then Constant (index_in constants d.place) else Slot (index_in slots d.place)) ≡ true) (sym e) (lt-ltb _ _ (index-below d.place slots h))
+
+-- what fits where there are no constants has a slot
+pub has_slot : (slots : ℕ) (v : Variable) → variable_fits slots 0 v ≡ true → nat_lt (slot_of v) slots ≡ true
+has_slot slots (Slot n) h = h
+has_slot slots (Constant n) h = absurd (omega (arith, ltb-true n 0 h))
+
+-- and fits where there are some
+pub fits_more : (slots constants : ℕ) (v : Variable) → variable_fits slots 0 v ≡ true → variable_fits slots constants v ≡ true
+fits_more slots constants (Slot n) h = h
+fits_more slots constants (Constant n) h = absurd (omega (arith, ltb-true n 0 h))
 
 holds-in : (f v : ℕ) (fs : List ℕ) → In f fs → In v (held_by f (holds_all v fs))
 holds-in f v [] h = absurd h
@@ -192,7 +207,7 @@ known-found {A = A} key value at (x ∷ xs) q v h e f =
 pub record ArePlaced (ps : List Place) : Type 0 where
   pub known : (q : Place) → HasPlace q ps → IsKnown ps q
   pub capture : (q : Place) → HasPlace q ps → fails_capture (assigned_in ps) q ≡ false
-  pub apart : (q r : Place) → HasPlace q ps → HasPlace r ps → is_some q.declared ≡ true → is_some r.declared ≡ true → q.name.spot.at ≡ r.name.spot.at → q.around.owner ≡ r.around.owner
+  pub apart : (q r : Place) → HasPlace q ps → HasPlace r ps → is_some q.declared ≡ true → is_some r.declared ≡ true → q.name.spot.at ≡ r.name.spot.at → q ≡ r
 
 named-declared : (assigned constants slots : List ℕ) (o : Option Declared) (v : Variable) → named_by assigned constants slots o ≡ Some v → (d : Declared) × (o ≡ Some d) × (variable_with assigned constants slots d ≡ v)
 named-declared assigned constants slots None v e = cc
@@ -212,12 +227,31 @@ name_fits ps q d h has e =
     let w : Variable = known.1 in
     let m = named-declared assigned constants (slots r.around.owner) r.declared w known.4 in
     let c : Declared = m.0 in
-    let owner : r.around.owner ≡ q.around.owner = h.apart r q known.2 has (ap is_some m.1) (ap is_some e) known.3 in
+    let owner : r.around.owner ≡ q.around.owner = ap (λ (z : Place). z.around.owner) (h.apart r q known.2 has (ap is_some m.1) (ap is_some e) known.3) in
     let fits : variable_fits (length (slots r.around.owner)) (length constants) (variable_with assigned constants (slots r.around.owner) c) ≡ true =
     with_fits assigned constants (slots r.around.owner) c ((h.known r known.2).found c m.1).0.constant (name_slot ps r c known.2 (h.known r known.2) (h.capture r known.2) m.1)
     in
     ap (λ o. variable_fits (length (slots q.around.owner)) (length constants) (unwrap_or o (Slot 0))) known.5
     ∙ subst (λ f. variable_fits (length (slots f)) (length constants) w ≡ true) owner (subst (λ z. variable_fits (length (slots r.around.owner)) (length constants) z ≡ true) m.2 fits)
+
+-- and it is one in a slot, unless it is a constant
+pub name_in_slot : (ps : List Place) (q : Place) (d : Declared) → ArePlaced ps → HasPlace q ps → q.declared ≡ Some d → is_constant (assigned_in ps) d ≡ false → variable_fits (length (slots_of (assigned_in ps) q.around.owner ps)) 0 (named_at ps q.name.spot.at) ≡ true
+unfolding named_at
+name_in_slot ps q d h has e constant =
+    let assigned = assigned_in ps in
+    let constants = constants_of assigned ps in
+    let slots = λ (f : ℕ). slots_of assigned f ps in
+    let v = variable_with assigned constants (slots q.around.owner) d in
+    let known = known-found name_key (named ps) q.name.spot.at ps q v has refl (ap (named_by assigned constants (slots q.around.owner)) e) in
+    let r : Place = known.0 in
+    let w : Variable = known.1 in
+    let m = named-declared assigned constants (slots r.around.owner) r.declared w known.4 in
+    let same : r ≡ q = h.apart r q known.2 has (ap is_some m.1) (ap is_some e) known.3 in
+    let there : Some m.0 ≡ Some d = sym m.1 ∙ (ap (λ (z : Place). z.declared) same ∙ e) in
+    let is : m.0 ≡ d = cc in
+    let fits : variable_fits (length (slots q.around.owner)) 0 v ≡ true = slot_fits assigned constants (slots q.around.owner) d constant (name_slot ps q d has (h.known q has) (h.capture q has) e constant) in
+    let here : v ≡ w = ap (λ (z : Place). variable_with assigned constants (slots z.around.owner) d) (sym same) ∙ (ap (variable_with assigned constants (slots r.around.owner)) (sym is) ∙ m.2) in
+    ap (λ o. variable_fits (length (slots q.around.owner)) 0 (unwrap_or o (Slot 0))) known.5 ∙ subst (λ z. variable_fits (length (slots q.around.owner)) 0 z ≡ true) here fits
 
 -- what a function copies for a place, the function around it copies too, unless it declares that
 chain-next : (ps : List Place) (owner f : ℕ) (fs : List ℕ) → IsChain ps fs → In f (inside owner fs) → In owner fs → (around_of ps f ≡ owner) ⊎ In (around_of ps f) (inside owner fs)

@@ -15,20 +15,21 @@ use Rattle.js_names.specs.declared.place.Declared.{Declared}
 use Rattle.js_names.specs.declared.place.Role.{Role}
 use Rattle.js_names.specs.declared.place.Role.TheVariants.{Function}
 use Rattle.js_names.specs.declared.place.What.{What}
-use Rattle.js_names.specs.Scopes.{Scope, top, own_of_all, vars_of_all, own_of_item, vars_of_item, block_scope, for_scope, each_scope, each_role, function_scope, program_scope}
+use Rattle.js_names.specs.Scopes.{Scope, top, own_of_all, vars_of_all, own_of_item, vars_of_item, block_scope, for_scope, list_scope, each_scope, each_role, function_scope, program_scope}
 use Rattle.js_names.specs.Sites.{Site, site, read_site, assign_site, is_undefined, is_reserved, object_of, called_builtin, value_builtin, member_sites, in_function, in_loop, begin_site, parameter_sites, declared_role, program_spot, program_sites, expr_sites, form_sites, exprs_sites, fields_sites, perhaps_sites, declarators_sites, start_sites, stmt_sites, stmt_form_sites, stmts_sites, item_sites}
 use Rattle.js_names.specs.Places.{Place, see, places, found, found_var, found_here, or_else, functions_of, declared_at, is_var}
 use Rattle.js_names.specs.Slots.{held_by, parameter_in}
 use Rattle.js_names.specs.Rules.{name_fault}
 use Rattle.js_resolver.specs.Resolved.{program_of_tree}
+use Rattle.js_resolver.proofs.SoundFound.{AllFound, AllHave}
 use Rattle.js_resolver.proofs.SoundFunctions.{begun}
 use Rattle.js_resolver.proofs.SoundLists.{In, HasPlace}
 use Rattle.js_resolver.proofs.SoundPlaces.{IsDeclared, IsChain, IsKnown, ArePlaced, is_name, unbroken}
 use Rattle.js_resolver.proofs.SoundProgram.{program_scopes}
 use Rattle.js_resolver.proofs.SoundRoom.{NoRepeats}
-use Rattle.js_resolver.proofs.SoundFine.{AllHave, items_have, accepted_sound}
+use Rattle.js_resolver.proofs.SoundFine.{items_have, accepted_sound}
 use Rattle.js_resolver.proofs.SoundScopes.{AllStated, stated_append, have_left, have_right, own_declares, vars_declare, stated_own, stated_all, stmt_vars, stmts_vars}
-use Rattle.js_resolver.proofs.SoundKnown.{ScopesKnown, AllDeclared, BeginApart, OwnKnown, VarsKnown, around_is, declared-is, here_known, own_look, var_look, block_known, for_known, each_known, function_known}
+use Rattle.js_resolver.proofs.SoundKnown.{ScopesKnown, AllDeclared, BeginApart, OwnKnown, VarsKnown, around_is, declared-is, here_known, here_look, here_look_var, block_known, for_known, list_known, each_known, function_known}
 
 site_known : (ps : List Place) (s : Site) → AllDeclared ps → BeginApart ps → ScopesKnown ps s.around.owner s.scopes → HasPlace (see s) ps → IsKnown ps (see s)
 unfolding see
@@ -204,10 +205,12 @@ mutual
       knows_append ps (start_sites inner a start) (perhaps_sites inner a test ++ (perhaps_sites inner a next ++ last)) (start_knows ps r inner a start m)
       (knows_append ps (perhaps_sites inner a test) (perhaps_sites inner a next ++ last) (perhaps_knows ps r inner a test m) (knows_append ps (perhaps_sites inner a next) last (perhaps_knows ps r inner a next m) (stmt_knows ps r inner (in_loop a) s m))) h
   stmt_form_knows ps r scopes a (t.for_each kind name e s) k = λ h.
+      let listed = list_scope a.owner kind name ∷ scopes in
       let inner = each_scope a.owner kind name s ∷ scopes in
-      let m = each_known ps scopes a kind name s k (h.0, tt) in
-      knows_append ps (site inner a (What.Declares (each_role kind)) name) (expr_sites inner a e ++ stmt_sites inner (in_loop a) s) (knows_site ps r inner a (What.Declares (each_role kind)) name m)
-      (knows_append ps (expr_sites inner a e) (stmt_sites inner (in_loop a) s) (expr_knows ps r inner a e m) (stmt_knows ps r inner (in_loop a) s m)) h
+      let m = list_known ps scopes a kind name k (h.0, tt) in
+      let body = each_known ps scopes a kind name s k (h.0, tt) in
+      knows_append ps (site listed a (What.Declares (each_role kind)) name) (expr_sites listed a e ++ stmt_sites inner (in_loop a) s) (knows_site ps r listed a (What.Declares (each_role kind)) name m)
+      (knows_append ps (expr_sites listed a e) (stmt_sites inner (in_loop a) s) (expr_knows ps r listed a e m) (stmt_knows ps r inner (in_loop a) s body)) h
   stmt_form_knows ps r scopes a (t.break_of spot) k = knows_site ps r scopes a What.LoopWord _ k
   stmt_form_knows ps r scopes a (t.continue_of spot) k = knows_site ps r scopes a What.LoopWord _ k
   stmt_form_knows ps r scopes a (t.return_nothing spot) k = knows_site ps r scopes a What.Returns _ k
@@ -248,16 +251,16 @@ scopes_first : (ps : List Place) (s : Scope) → s.whole ≡ true → s.owner �
 unfolding functions_of found found_var
 scopes_first ps s w owner own vars =
     let same : functions_of (s ∷ []) ≡ top ∷ [] = ap (λ (b : Bool). (if b then s.owner ∷ [] else []) ++ []) w ∙ ap (λ z. z ∷ []) owner in
-    let look : (q : List ℕ) (d : Declared) (o : Option Declared) → (or_else (s.own q) (s.vars q) ≡ o) → or_else o None ≡ Some d → IsDeclared ps d × In d.owner (top ∷ []) =
-    λ q d o. elim o as (λ o. (or_else (s.own q) (s.vars q) ≡ o) → or_else o None ≡ Some d → IsDeclared ps d × In d.owner (top ∷ []))
-    [ None ↦ λ m h. cc | Some c ↦ λ m h. let z = declared-is ps top c d h (here_known ps top s own vars q c m) in (z.0, inl z.1) ]
+    let look : (q : List ℕ) (d : Declared) (o : Option Declared) → (found_here s q ≡ o) → or_else o None ≡ Some d → IsDeclared ps d × In d.owner (top ∷ []) =
+    λ q d o. elim o as (λ o. (found_here s q ≡ o) → or_else o None ≡ Some d → IsDeclared ps d × In d.owner (top ∷ []))
+    [ None ↦ λ m h. cc | Some c ↦ λ m h. let z = declared-is ps top c d h (here_known ps top s w own vars q c m) in (z.0, inl z.1) ]
     in
     record {
       outer = [];
       within = same;
       chain = subst (IsChain ps) (sym same) tt;
-      found = λ q d h. let z = look q d (or_else (s.own q) (s.vars q)) refl (subst (λ (b : Bool). or_else (or_else (s.own q) (if b then s.vars q else None)) None ≡ Some d) w h) in (z.0, subst (In d.owner) (sym same) z.1);
-      var = λ q d h. here_known ps top s own vars q d (subst (λ (b : Bool). or_else (s.own q) (if b then s.vars q else None) ≡ Some d) w (subst (λ (b : Bool). (if b then found_here s q else None) ≡ Some d) w h));
+      found = λ q d h. let z = look q d (found_here s q) refl h in (z.0, subst (In d.owner) (sym same) z.1);
+      var = λ q d h. here_known ps top s w own vars q d (subst (λ (b : Bool). (if b then found_here s q else None) ≡ Some d) w h);
     }
 
 program_known : (ps : List Place) (items : List PlainItem) → AllHave ps (flat_map (item_sites (program_scopes items)) items) → ScopesKnown ps top (program_scopes items)
@@ -265,18 +268,20 @@ unfolding program_scope
 program_known ps items h =
     let s = program_scope items in
     let stated = items_stated ps (program_scopes items) items h in
-    scopes_first ps s refl refl (λ q d e. own_declares ps (found (s ∷ [])) top q d (flat_map own_of_item items) stated.0 e (own_look s [] q d e)) (λ q d n e. vars_declare ps (found_var (s ∷ [])) top q d (flat_map vars_of_item items) stated.1 e (var_look s [] q d refl n e))
+    scopes_first ps s refl refl (λ q d here e. own_declares ps (found (s ∷ [])) top q d (flat_map own_of_item items) stated.0 e (here_look s [] q d here))
+    (λ q d here e. vars_declare ps (found_var (s ∷ [])) top q d (flat_map vars_of_item items) stated.1 e (here_look_var s [] q d refl here))
 
 known_at : (ps : List Place) (ss : List Site) (q : Place) → AllKnown ps ss → HasPlace q (map see ss) → IsKnown ps q
 known_at ps [] q h k = absurd k
 known_at ps (s ∷ ss) q h (inl e) = subst (IsKnown ps) (sym e) h.0
 known_at ps (s ∷ ss) q h (inr k) = known_at ps ss q h.1 k
 
--- What the places of a tree are that some tokens spell: each declared name has a declaration in its function, names at one place of the text are of one function, and so are functions that begin at one place; no two functions begin, and no two parameters of a function stand, at one place.
+-- What the places of a tree are that some tokens spell: each declared name has a declaration in its function, names at one place of the text are one place, functions that begin at one place are of one function; no two functions begin, and no two parameters of a function stand, at one place.
 pub record StandApart (items : List PlainItem) : Type 0 where
   pub declared : AllDeclared (places items)
   pub begin : BeginApart (places items)
-  pub names : (q r : Place) → HasPlace q (places items) → HasPlace r (places items) → is_some q.declared ≡ true → is_some r.declared ≡ true → q.name.spot.at ≡ r.name.spot.at → q.around.owner ≡ r.around.owner
+  pub found : AllFound (flat_map (item_sites (program_scopes items)) items)
+  pub names : (q r : Place) → HasPlace q (places items) → HasPlace r (places items) → is_some q.declared ≡ true → is_some r.declared ≡ true → q.name.spot.at ≡ r.name.spot.at → q ≡ r
   pub functions : NoRepeats (begun (flat_map (item_sites (program_scopes items)) items))
   pub inner : In top (begun (flat_map (item_sites (program_scopes items)) items)) → ⊥
   pub parameters : (f : ℕ) → NoRepeats (held_by f (flat_map parameter_in (places items)))
@@ -296,4 +301,4 @@ pub resolved_sound : (items : List PlainItem) → length (program_of_tree items)
     → name_fault items ≡ None → StandApart items → IsSound (program_of_tree items)
 resolved_sound items ln lf lc ok h =
     let placed : ArePlaced (places items) = record { known = places_known items h; capture = λ q has. (unbroken items q ok has).1; apart = h.names } in
-    accepted_sound items ln lf lc ok (record { placed = placed; functions = h.functions; inner = h.inner; parameters = h.parameters })
+    accepted_sound items ln lf lc ok (record { placed = placed; found = h.found; functions = h.functions; inner = h.inner; parameters = h.parameters })

@@ -49,15 +49,16 @@ copies-fit slots None xs e h = cc
 copies-fit slots (Some b) xs e h = let d : b.captures ≡ xs = cc in subst (λ z. all_below slots z ≡ true) (sym d) h
 
 -- a function that begins is there
-pub function_there : (p : PlainProgram) (ps : List Place) (slots f : ℕ) → captures_in_order p.functions ≡ map (capture_slots ps) (functions_in ps) → In f (functions_in ps) → all_below slots (capture_slots ps f) ≡ true → function_fits p slots (code_at ps f) ≡ true
+pub function_copies : (p : PlainProgram) (ps : List Place) (f : ℕ) → captures_in_order p.functions ≡ map (capture_slots ps) (functions_in ps) → In f (functions_in ps)
+    → option_map (λ (c : PlainBody). c.captures) (slice_get p.functions (code_at ps f)) ≡ Some (capture_slots ps f)
 unfolding code_at
-function_there p ps slots f e h fits =
+function_copies p ps f e h =
     let fs = functions_in ps in
     let i = index_in fs f in
-    let at : option_map (λ (c : PlainBody). c.captures) (slice_get p.functions i) ≡ Some (capture_slots ps f) =
     sym (slice_get-map (λ (c : PlainBody). c.captures) p.functions i) ∙ (ap (λ xs. slice_get xs i) e ∙ (slice_get-map (capture_slots ps) fs i ∙ ap (option_map (capture_slots ps)) (at-index f fs h)))
-    in
-    copies-fit slots (slice_get p.functions i) (capture_slots ps f) at fits
+
+pub function_there : (p : PlainProgram) (ps : List Place) (slots f : ℕ) → captures_in_order p.functions ≡ map (capture_slots ps) (functions_in ps) → In f (functions_in ps) → all_below slots (capture_slots ps f) ≡ true → function_fits p slots (code_at ps f) ≡ true
+function_there p ps slots f e h fits = copies-fit slots (slice_get p.functions (code_at ps f)) (capture_slots ps f) (function_copies p ps f e h) fits
 
 -- lists with no element twice
 
@@ -133,7 +134,7 @@ function_room ps f h alone =
     let own = parameter-held q.0 f v q.0.what refl q.2 in
     let there = (h.known q.0 q.1).declares own.0 own.1 in
     let d : IsDeclared ps c.declared = ((h.known c.place c.has).found c.declared c.is).0 in
-    let same : q.0.around.owner ≡ d.place.around.owner = h.apart q.0 d.place q.1 d.has (ap is_some there.1) d.named (sym own.3 ∙ (c.variable ∙ sym d.spot)) in
+    let same : q.0.around.owner ≡ d.place.around.owner = ap (λ (z : Place). z.around.owner) (h.apart q.0 d.place q.1 d.has (ap is_some there.1) d.named (sym own.3 ∙ (c.variable ∙ sym d.spot))) in
     inside-apart c.declared.owner f c.place.functions c.within (sym own.2 ∙ (same ∙ d.owner))
     in
     subst (λ z. length xs + length (first_uses ys) ≤ length (first_uses z)) (sym all) (room-for xs ys zs alone apart)

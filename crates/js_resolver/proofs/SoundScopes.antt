@@ -15,15 +15,15 @@ use Rattle.js_names.specs.declared.place.Declared.{Declared}
 use Rattle.js_names.specs.declared.place.Role.{Role}
 use Rattle.js_names.specs.declared.place.Role.TheVariants.{Parameter, Const, Let, Var, Function}
 use Rattle.js_names.specs.declared.place.What.{What}
-use Rattle.js_names.specs.Scopes.{Scope, Entry, top, named, first, one_var, merge, entry, own_declarator, own_declarators, var_declarator, var_declarators, own_of, own_of_all, own_of_start, vars_of, vars_of_form, vars_of_all, vars_of_start, parameters, block_scope, for_scope, each_scope, each_role}
+use Rattle.js_names.specs.Scopes.{Scope, Entry, top, named, first, one_var, merge, entry, own_declarator, own_declarators, var_declarator, var_declarators, own_of, own_of_all, own_of_start, vars_of, vars_of_form, vars_of_all, vars_of_start, parameters, block_scope, for_scope, list_scope, each_scope, each_role}
 use Rattle.js_names.specs.Sites.{Site, site, in_function, in_loop, parameter_sites, declared_role, expr_sites, perhaps_sites, declarators_sites, start_sites, stmt_sites, stmt_form_sites, stmts_sites}
 use Rattle.js_names.specs.Places.{Place, see, found, found_var, is_parameter, is_function}
 use Rattle.js_names.specs.Slots.{held_by, is_among, hold, assigned_in, is_constant, constants_of, constant_at, constant_in, slots_of, parameter_in, parameter_at, variable_in, variable_at, variable_of}
+use Rattle.js_resolver.proofs.SoundFound.{AllHave}
 use Rattle.js_resolver.proofs.SoundLists.{In, in-first_uses, HasPlace, held-from, parameter_slot, variable_slot}
 use Rattle.js_resolver.proofs.SoundPlaces.{IsDeclared}
-use Rattle.js_resolver.proofs.SoundFine.{AllHave}
 
-constant-from : (h : Place → Option ℕ) (v : ℕ) (q : Place) (ps : List Place) → HasPlace q ps → h q ≡ Some v → In v (filter_map h ps)
+pub constant-from : (h : Place → Option ℕ) (v : ℕ) (q : Place) (ps : List Place) → HasPlace q ps → h q ≡ Some v → In v (filter_map h ps)
 constant-from h v q [] k e = absurd k
 constant-from h v q (x ∷ xs) (inl s) e = subst (λ o. In v (cons_option o (filter_map h xs))) (sym e ∙ ap h s) (inl refl)
 constant-from h v q (x ∷ xs) (inr k) e =
@@ -73,6 +73,10 @@ declared_parameter ps q d has what e role direct spot owner =
       owner = owner;
       named = ap is_some e;
     }
+
+-- from where on a variable can be copied says nothing of where it is
+pub declared_from : (ps : List Place) (d : Declared) (end : ℕ) → IsDeclared ps d → IsDeclared ps (record d { end = end })
+declared_from ps d end h = record { constant = h.constant; slot = h.slot; place = h.place; has = h.has; spot = h.spot; owner = h.owner; named = h.named }
 
 -- an entry of a scope stands at a place, where its name is looked up in these scopes
 pub record IsStated (ps : List Place) (look : List ℕ → Option Declared) (f : ℕ) (e : Entry) : Type 0 where
@@ -187,11 +191,11 @@ stated_parameters ps scopes f vars [] h = tt
 stated_parameters ps scopes f vars (x ∷ xs) h =
     (record { place = _; has = h.0; role = Parameter; what = refl; declared = refl; spot = refl; owner = refl; same = refl; parameter = λ k. (refl, refl) }, stated_parameters ps scopes f vars xs h.1)
 
-pub stated_each : (ps : List Place) (scopes : List Scope) (a : Around) (kind : DeclareKind) (name : Name) → AllHave ps (site scopes a (What.Declares (each_role kind)) name) → AllStated ps (found scopes) a.owner (entry name (each_role kind) name.spot.at a.owner false 0 ∷ [])
+pub stated_each : (ps : List Place) (scopes : List Scope) (a : Around) (end : ℕ) (kind : DeclareKind) (name : Name) → AllHave ps (site scopes a (What.Declares (each_role kind)) name) → AllStated ps (found scopes) a.owner (entry name (each_role kind) end a.owner false 0 ∷ [])
 unfolding see
-stated_each ps scopes a const_word name h = (record { place = _; has = h.0; role = Const; what = refl; declared = refl; spot = refl; owner = refl; same = refl; parameter = λ k. absurd (false≢true k) }, tt)
-stated_each ps scopes a let_word name h = (record { place = _; has = h.0; role = Let; what = refl; declared = refl; spot = refl; owner = refl; same = refl; parameter = λ k. absurd (false≢true k) }, tt)
-stated_each ps scopes a var_word name h = (record { place = _; has = h.0; role = Let; what = refl; declared = refl; spot = refl; owner = refl; same = refl; parameter = λ k. absurd (false≢true k) }, tt)
+stated_each ps scopes a end const_word name h = (record { place = _; has = h.0; role = Const; what = refl; declared = refl; spot = refl; owner = refl; same = refl; parameter = λ k. absurd (false≢true k) }, tt)
+stated_each ps scopes a end let_word name h = (record { place = _; has = h.0; role = Let; what = refl; declared = refl; spot = refl; owner = refl; same = refl; parameter = λ k. absurd (false≢true k) }, tt)
+stated_each ps scopes a end var_word name h = (record { place = _; has = h.0; role = Let; what = refl; declared = refl; spot = refl; owner = refl; same = refl; parameter = λ k. absurd (false≢true k) }, tt)
 
 -- the `var`s of a function stand at places
 
@@ -239,7 +243,7 @@ mutual
       (stated_start_vars ps inner a start (have_left ps (start_sites inner a start) (perhaps_sites inner a test ++ (perhaps_sites inner a next ++ stmt_sites inner (in_loop a) s)) h))
       (stmt_vars ps inner (in_loop a) false s (have_right ps (perhaps_sites inner a next) (stmt_sites inner (in_loop a) s) m))
   form_vars ps scopes a direct (t.for_each kind name e s) h =
-      let inner = each_scope a.owner kind name s ∷ scopes in stmt_vars ps inner (in_loop a) false s (have_right ps (expr_sites inner a e) (stmt_sites inner (in_loop a) s) h.1)
+      let inner = each_scope a.owner kind name s ∷ scopes in stmt_vars ps inner (in_loop a) false s (have_right ps (expr_sites (list_scope a.owner kind name ∷ scopes) a e) (stmt_sites inner (in_loop a) s) h.1)
   form_vars ps scopes a direct (t.break_of spot) h = tt
   form_vars ps scopes a direct (t.continue_of spot) h = tt
   form_vars ps scopes a direct (t.return_nothing spot) h = tt

@@ -1,5 +1,5 @@
 -- Tables that stand for the places of a program, from what they are made of.
-use Rattle.std.proofs.Common.{◌≡◌, ℕ, List, ◌∙◌, ap, map, nat_eq}
+use Rattle.std.proofs.Common.{◌≡◌, ℕ, List, ◌∙◌, ap, nat_eq}
 use Rattle.std.specs.Prelude.{unwrap_or}
 use Rattle.indexmap.specs.IndexMap.{get}
 use Rattle.js_program.specs.declared.node.Variable.{Variable}
@@ -10,7 +10,7 @@ use Rattle.js_names.specs.Slots.{assigned_in, slots_of, captures, vars_of, const
 use Rattle.js_names.specs.Views.{Sets, held_in}
 use Rattle.js_resolver.specs.Tables.{Known}
 use Rattle.js_resolver.specs.Variables.{named_there, around_there, name_key, owner_key, known_in, named_at, code_at, around_of, index_in}
-use Rattle.js_resolver.specs.StandsFor.{StandsFor}
+use Rattle.js_resolver.specs.TablesOf.{AreTablesOf}
 
 pub stands : (variables : Known Variable) (declared functions assigned : List ℕ) (outer : Known ℕ) (held copied unset : Sets) (ps : List Place)
     → assigned ≡ assigned_in ps
@@ -21,7 +21,7 @@ pub stands : (variables : Known Variable) (declared functions assigned : List �
     → ((f : ℕ) → held_in held f ≡ slots_of (assigned_in ps) f ps)
     → ((f : ℕ) → held_in copied f ≡ captures assigned f ps)
     → ((f : ℕ) → held_in unset f ≡ vars_of assigned f ps)
-    → StandsFor variables declared functions outer held copied unset ps
+    → AreTablesOf variables declared functions outer held copied unset ps
 unfolding named_at code_at around_of
 stands variables declared functions assigned outer held copied unset ps a n d fs o s c v =
     let constants : declared ≡ constants_of (assigned_in ps) ps = d ∙ ap (λ z. constants_of z ps) a in

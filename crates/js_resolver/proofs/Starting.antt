@@ -4,7 +4,6 @@ use Rattle.std.specs.Prelude.{Result, Ok, Err, IfOk, Vec, unwrap_or}
 use Rattle.std.specs.declared.alloc.Global.{Global}
 use Rattle.std.proofs.lemmas.List.{take_more, map-append}
 use Rattle.js_tree.specs.declared.tree.Item.{Item}
-use Rattle.js_tree.specs.Plain.{PlainItem}
 use Rattle.js_tree.specs.Views.{plain_item}
 use Rattle.js_program.specs.declared.node.ConstantStart.{ConstantStart}
 use Rattle.js_program.specs.PlainProgram.{PlainConstant, undeclared}

@@ -1,6 +1,6 @@
 -- The form of each statement, from the numbers of its parts.
-use Rattle.std.proofs.Common.{◌≡◌, ℕ, ◌+◌, List, [], ◌∷◌, ◌++◌, ◌∙◌, ap, refl, sym, subst, length, map, Option, Some, None, Bool, true, false, if◌then◌else◌}
-use Rattle.std.specs.Prelude.{Vec, Result, Ok, Err, IfOk, OnOk, is_some, option_to_list, option_map}
+use Rattle.std.proofs.Common.{◌≡◌, ℕ, List, [], ◌∷◌, ◌++◌, ◌∙◌, ap, refl, sym, subst, map, Option, Some, None, Bool, false}
+use Rattle.std.specs.Prelude.{Vec, Result, IfOk, is_some, option_to_list}
 use Rattle.std.specs.declared.alloc.Global.{Global}
 use Rattle.std.specs.declared.boxed.Box.{Box}
 use Rattle.js_tree.specs.declared.tree.Name.{Name}
@@ -13,20 +13,18 @@ use Rattle.js_tree.specs.declared.tree.Stmt.{Stmt}
 use Rattle.js_tree.specs.declared.tree.StmtForm.{StmtForm, Empty, Block, Declaration, Expression, If, IfElse, While, For, ForOf, Break, Continue, ReturnNothing, Return}
 use Rattle.js_tree.specs.Plain as p
 use Rattle.js_tree.specs.Plain.{declarators_of, stmts_of}
-use Rattle.js_tree.specs.Views.{perhaps, plain_expr, plain_declarator, plain_start, plain_stmt}
+use Rattle.js_tree.specs.Views.{plain_expr, plain_declarator, plain_start, plain_stmt}
 use Rattle.js_program.specs.declared.node.Declared.{Declared}
 use Rattle.js_program.specs.declared.node.NodeForm.{NodeForm}
 use Rattle.js_program.specs.declared.node.NodeForm.TheVariants as N
-use Rattle.js_program.specs.declared.node.Variable.{Variable}
 use Rattle.js_program.specs.PlainProgram as n
-use Rattle.js_program.specs.Views.{plain_declared, plain_node_form}
 use Rattle.js_names.specs.Places.{Place}
 use Rattle.js_names.specs.Scopes.{own_of_all, own_of_start, is_present}
 use Rattle.js_names.proofs.Trees.{stmt_is, declaration_is, block_is, if_is, if_else_is, while_is, for_is, for_of_is, start_is}
 use Rattle.js_resolver.specs.declared.emitter.Emitter.{Emitter}
-use Rattle.js_resolver.specs.Variables.{named_at}
-use Rattle.js_resolver.specs.Nodes.{Piece, none, beside, after, closed, declared_of, expr_piece, for_node, fresh, has_start, perhaps_piece, declarators_piece, start_piece, stmt_node, stmt_piece, stmt_parts, stmts_piece}
-use Rattle.js_resolver.specs.Emits.{count, Puts, Adds, Emits, EmitsDeclarators, EmitsPerhaps, FormsStmt, plain_stmt_form, tree_perhaps}
+use Rattle.js_resolver.specs.Variables.{slot_at}
+use Rattle.js_resolver.specs.Nodes.{Piece, beside, after, declared_of, expr_piece, for_node, fresh, has_start, perhaps_piece, declarators_piece, start_piece, stmt_node, stmt_piece, stmt_parts, stmts_piece}
+use Rattle.js_resolver.specs.Emits.{count, Puts, Emits, EmitsDeclarators, EmitsPerhaps, FormsStmt, plain_stmt_form, tree_perhaps}
 use Rattle.js_resolver.proofs.Emitting.{adds_none, closes, emits_none, emits_both, forms_stmt, if_closes}
 use Rattle.js_resolver.proofs.TreeForms.{empty_is, expression_is, break_is, continue_is, return_nothing_is, return_is, nothing_is, evaluates_is}
 
@@ -60,7 +58,7 @@ pub return_arm : (ps : List Place) (a b : Emitter) (f : StmtForm) (s : Spot) (e 
 unfolding stmt_parts
 return_arm ps a b f s e i h k = forms_stmt ps a b (N.Return i) (i ∷ []) (p.return_of s (plain_expr e)) (plain_stmt_form f) (sym (ap plain_stmt_form h ∙ return_is s e)) k refl
 
-pub block_arm : (ps : List Place) (a b : Emitter) (f : StmtForm) (v : Vec Stmt Global) (xs ys : List Stmt) (vs : Vec Variable Global) (w : Vec ℕ Global) → f ≡ Block v → xs ≡ v.items → ys ≡ v.items → vs.items ≡ fresh ps (own_of_all 0 false (stmts_of (map plain_stmt xs))) → Emits a b w.items (stmts_piece ps (count a) (stmts_of (map plain_stmt ys)))
+pub block_arm : (ps : List Place) (a b : Emitter) (f : StmtForm) (v : Vec Stmt Global) (xs ys : List Stmt) (vs : Vec ℕ Global) (w : Vec ℕ Global) → f ≡ Block v → xs ≡ v.items → ys ≡ v.items → vs.items ≡ fresh ps (own_of_all 0 false (stmts_of (map plain_stmt xs))) → Emits a b w.items (stmts_piece ps (count a) (stmts_of (map plain_stmt ys)))
     → FormsStmt ps a b (N.Block vs w) (plain_stmt_form f)
 unfolding stmt_parts
 block_arm ps a b f v xs ys vs w h d e q k = forms_stmt ps a b (N.Block vs w) w.items (p.block (stmts_of (map plain_stmt ys))) (plain_stmt_form f) (ap (λ z. p.block (stmts_of (map plain_stmt z))) e ∙ sym (ap plain_stmt_form h ∙ block_is v)) k
@@ -85,7 +83,7 @@ while_arm ps a b c f e l x i j h d k m = forms_stmt ps a c (N.While i j) (i ∷ 
     (ap (λ z. p.while_of (plain_expr e) (plain_stmt z)) d ∙ sym (ap plain_stmt_form h ∙ while_is e l))
     (emits_both (λ q. stmt_piece ps q (plain_stmt x)) a b c (i ∷ []) (j ∷ []) (expr_piece ps (count a) (plain_expr e)) k m) refl
 
-pub for_of_arm : (ps : List Place) (a b c : Emitter) (f : StmtForm) (w : DeclareKind) (t : Name) (e : Expr) (l : Box Stmt Global) (x : Stmt) (v : Variable) (i j : ℕ) → f ≡ ForOf w t e l → x ≡ l.value → v ≡ named_at ps t.spot.at → Emits a b (i ∷ []) (expr_piece ps (count a) (plain_expr e)) → Emits b c (j ∷ []) (stmt_piece ps (count b) (plain_stmt x))
+pub for_of_arm : (ps : List Place) (a b c : Emitter) (f : StmtForm) (w : DeclareKind) (t : Name) (e : Expr) (l : Box Stmt Global) (x : Stmt) (v i j : ℕ) → f ≡ ForOf w t e l → x ≡ l.value → v ≡ slot_at ps t.spot.at → Emits a b (i ∷ []) (expr_piece ps (count a) (plain_expr e)) → Emits b c (j ∷ []) (stmt_piece ps (count b) (plain_stmt x))
     → FormsStmt ps a c (N.ForOf v i j) (plain_stmt_form f)
 unfolding stmt_parts
 for_of_arm ps a b c f w t e l x v i j h d q k m = forms_stmt ps a c (N.ForOf v i j) (i ∷ j ∷ []) (p.for_each w t (plain_expr e) (plain_stmt x)) (plain_stmt_form f)
@@ -101,7 +99,7 @@ if_else_arm ps a b c d f e l m x y i j k h q s t o u = forms_stmt ps a d (N.IfEl
     (emits_both (λ w. stmt_piece ps w (plain_stmt x)) a b c (i ∷ []) (j ∷ []) (expr_piece ps (count a) (plain_expr e)) t o) u) refl
 
 -- the parts of a `for`, of which three may be absent
-for_parts : (vs : List Variable) (f t s : Option ℕ) (i : ℕ) → n.for_three vs f t s i ≡ for_node vs (is_some f) (is_some t) (is_some s) (((option_to_list f ++ option_to_list t) ++ option_to_list s) ++ i ∷ [])
+for_parts : (vs : List ℕ) (f t s : Option ℕ) (i : ℕ) → n.for_three vs f t s i ≡ for_node vs (is_some f) (is_some t) (is_some s) (((option_to_list f ++ option_to_list t) ++ option_to_list s) ++ i ∷ [])
 for_parts vs None None None i = refl
 for_parts vs None None (Some z) i = refl
 for_parts vs None (Some y) None i = refl
@@ -114,7 +112,7 @@ for_parts vs (Some x) (Some y) (Some z) i = refl
 whole : (a b : Emitter) (o : Option ℕ) (present : Bool) (x : Piece) → EmitsPerhaps a b o present x → Emits a b (option_to_list o) x
 whole a b o present x h = record { adds = h.adds; parts = h.parts }
 
-pub for_arm : (ps : List Place) (a b c d e : Emitter) (f : StmtForm) (s u : Start) (t w : Option Expr) (l : Box Stmt Global) (x : Stmt) (vs : Vec Variable Global) (i j k : Option ℕ) (m : ℕ) → f ≡ For s t w l → x ≡ l.value → vs.items ≡ fresh ps (own_of_start 0 (plain_start s))
+pub for_arm : (ps : List Place) (a b c d e : Emitter) (f : StmtForm) (s u : Start) (t w : Option Expr) (l : Box Stmt Global) (x : Stmt) (vs : Vec ℕ Global) (i j k : Option ℕ) (m : ℕ) → f ≡ For s t w l → x ≡ l.value → vs.items ≡ fresh ps (own_of_start 0 (plain_start s))
     → EmitsPerhaps a b i (has_start (plain_start s)) (start_piece ps (count a) (plain_start s))
     → EmitsPerhaps b c j (is_present (tree_perhaps t)) (perhaps_piece ps (count b) (tree_perhaps t))
     → EmitsPerhaps c d k (is_present (tree_perhaps w)) (perhaps_piece ps (count c) (tree_perhaps w))

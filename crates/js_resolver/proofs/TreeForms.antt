@@ -1,5 +1,5 @@
 -- The plain form of each expression and statement, from those of its parts.
-use Rattle.std.proofs.Common.{◌≡◌, ℕ, rules, List, ◌∙◌, ap, sym, map, Option, None, false}
+use Rattle.std.proofs.Common.{◌≡◌, ℕ, rules, List, ◌∙◌, ap, sym, map, None, false}
 use Rattle.std.specs.Prelude.{Vec, option_map}
 use Rattle.std.specs.declared.alloc.Global.{Global}
 use Rattle.std.specs.declared.boxed.Box.{Box}
@@ -18,7 +18,7 @@ use Rattle.js_tree.specs.declared.tree.Start.TheVariants.{rolls-Nothing, rolls-E
 use Rattle.js_tree.specs.declared.tree.Stmt.{Stmt}
 use Rattle.js_tree.specs.declared.tree.StmtForm.{StmtForm, Empty, Expression, Break, Continue, ReturnNothing, Return, fold-roll-StmtForm}
 use Rattle.js_tree.specs.declared.tree.StmtForm.TheVariants.{rolls-Empty, rolls-Expression, rolls-Break, rolls-Continue, rolls-ReturnNothing, rolls-Return}
-use Rattle.js_tree.specs.declared.tree.Form.{Form, Number, Words, Truth, Null, Use, List as ListOf, Fields, Member, Index, Call, Unary, Update, Binary, Conditional, Assign, ArrowValue, ArrowBlock, Function, Form-F, out-Form, roll-Form, roll-out-Form, fold-Form, fold-roll-Form}
+use Rattle.js_tree.specs.declared.tree.Form.{Form, Number, Words, Truth, Null, Use, List as ListOf, Fields, Member, Index, Call, Unary, Update, Binary, Conditional, Assign, ArrowValue, ArrowBlock, Function, Form-F, out-Form, roll-Form, roll-out-Form, fold-roll-Form}
 use Rattle.js_tree.specs.declared.tree.Form.TheVariants.{rolls-Number, rolls-Words, rolls-Truth, rolls-Null, rolls-Use, rolls-List, rolls-Fields, rolls-Member, rolls-Index, rolls-Call, rolls-Unary, rolls-Update, rolls-Binary, rolls-Conditional, rolls-Assign, rolls-ArrowValue, rolls-ArrowBlock, rolls-Function}
 use Rattle.js_tree.specs.Plain as p
 use Rattle.js_tree.specs.Plain.{PlainExpr, PlainForm, PlainField, PlainDeclarator, PlainPerhaps, PlainStart, PlainStmt, PlainStmtForm, exprs_of, fields_of, stmts_of}

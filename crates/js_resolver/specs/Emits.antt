@@ -3,12 +3,11 @@ use Rattle.std.specs.Prelude.{◌≡◌, ℕ, Bool, true, false, List, [], ◌�
 use Rattle.std.specs.List.{insert}
 use Rattle.js_tree.specs.declared.tree.Expr.{Expr}
 use Rattle.js_tree.specs.declared.tree.Declarator.{Declarator}
-use Rattle.js_tree.specs.declared.tree.Field.{Field}
 use Rattle.js_tree.specs.declared.tree.Operator.{Operator}
 use Rattle.js_tree.specs.declared.tree.Operator.TheVariants.{Divide}
 use Rattle.js_tree.specs.declared.tree.StmtForm.{StmtForm, fold-StmtForm}
-use Rattle.js_tree.specs.Plain.{PlainExpr, PlainExprs, PlainForm, PlainField, PlainDeclarator, PlainPerhaps, PlainStart, PlainStmt, PlainStmtForm, fields_of, declarators_of}
-use Rattle.js_tree.specs.Views.{perhaps, plain_expr, plain_declarator, plain_field, form_step, start_step, stmt_form_step, declarator_step, expr_step, field_step, stmt_step}
+use Rattle.js_tree.specs.Plain.{PlainExpr, PlainExprs, PlainForm, PlainField, PlainDeclarator, PlainPerhaps, PlainStart, PlainStmt, PlainStmtForm, declarators_of}
+use Rattle.js_tree.specs.Views.{perhaps, plain_expr, plain_declarator, form_step, start_step, stmt_form_step, declarator_step, expr_step, field_step, stmt_step}
 use Rattle.js_program.specs.declared.builtin.Builtin.{Builtin}
 use Rattle.js_program.specs.declared.node.NodeForm.{NodeForm}
 use Rattle.js_program.specs.declared.node.Declared.{Declared}
@@ -19,7 +18,7 @@ use Rattle.js_names.specs.Sites.{called_builtin}
 use Rattle.js_resolver.specs.declared.emit.Called.{Called}
 use Rattle.js_resolver.specs.declared.emit.Called.TheVariants as C
 use Rattle.js_resolver.specs.declared.emitter.Emitter.{Emitter}
-use Rattle.js_resolver.specs.Nodes.{Piece, none, after, arguments_piece, beside, call_node, expr_node, stmt_node, expr_piece, expr_parts, form_parts, exprs_piece, fields_piece, floors_division, keyed, method_of, declarators_piece, declared_of, stmt_parts}
+use Rattle.js_resolver.specs.Nodes.{Piece, none, arguments_piece, call_node, expr_node, stmt_node, expr_piece, expr_parts, form_parts, floors_division, method_of, declarators_piece, declared_of, stmt_parts}
 
 abbrev pub nodes_of : Emitter → List PlainNode
 nodes_of e = map plain_node e.nodes.items
@@ -57,11 +56,6 @@ FormsExpr ps old new form f = Forms old new form (expr_node ps f) (form_parts ps
 
 abbrev pub FormsStmt : List Place → Emitter → Emitter → NodeForm → PlainStmtForm → Type 0
 FormsStmt ps old new form f = Forms old new form (stmt_node ps f) (stmt_parts ps (count old) f)
-
--- the keys of fields with the numbers of their values
-pub record EmitsFields (ps : List Place) (old new : Emitter) (pairs : List (List ℕ × ℕ)) (fs : List Field) : Type 0 where
-  pub adds : Adds old new (fields_piece ps (count old) (fields_of (map plain_field fs)))
-  pub pairs_are : pairs ≡ keyed (fields_of (map plain_field fs)) (fields_piece ps (count old) (fields_of (map plain_field fs))).parts
 
 -- declared variables with the numbers of their values
 pub record EmitsDeclarators (ps : List Place) (old new : Emitter) (declared : List Declared) (ds : List Declarator) : Type 0 where

@@ -1,6 +1,6 @@
 pub mod Tables
 pub mod Variables
-pub mod StandsFor
+pub mod TablesOf
 pub mod Nodes
 pub mod Emits
 pub mod Resolved

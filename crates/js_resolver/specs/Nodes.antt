@@ -1,20 +1,18 @@
 -- Nodes, numbered in the order in which their forms end in the text, and functions in the order of their first tokens.
-use Rattle.std.specs.Prelude.{ℕ, ◌+◌, Bool, true, false, not, ◌&&◌, List, [], ◌∷◌, ◌++◌, Option, Some, None, is_some, map, length, drop, get_or, if◌then◌else◌}
+use Rattle.std.specs.Prelude.{ℕ, ◌+◌, Bool, true, false, ◌&&◌, List, [], ◌∷◌, ◌++◌, Option, Some, None, is_some, map, length, drop, get_or, if◌then◌else◌}
 use Rattle.js_tree.specs.declared.tree.Name.{Name}
 use Rattle.js_tree.specs.declared.tree.Spot.{Spot}
-use Rattle.js_tree.specs.declared.tree.Operator.{Operator}
 use Rattle.js_tree.specs.declared.tree.Operator.TheVariants.{Divide}
 use Rattle.js_tree.specs.Plain as t
 use Rattle.js_tree.specs.Plain.{PlainExpr, PlainForm, PlainExprs, PlainFields, PlainPerhaps, PlainDeclarators, PlainStart, PlainStmt, PlainStmtForm, PlainStmts, PlainItem}
 use Rattle.js_program.specs.declared.builtin.Builtin.{Builtin}
 use Rattle.js_program.specs.declared.builtin.Builtin.TheVariants.{Floor}
-use Rattle.js_program.specs.declared.node.Variable.{Variable}
 use Rattle.js_program.specs.PlainProgram as n
 use Rattle.js_program.specs.PlainProgram.{PlainNode, PlainNodeForm, PlainBody, PlainContent, PlainDeclared}
 use Rattle.js_names.specs.Scopes.{Entry, own_of_all, own_of_start, is_present}
 use Rattle.js_names.specs.Sites.{called_builtin, value_builtin, is_undefined}
 use Rattle.js_names.specs.Places.{Place}
-use Rattle.js_resolver.specs.Variables.{named_at, code_at, body_of}
+use Rattle.js_resolver.specs.Variables.{named_at, slot_at, code_at, body_of}
 
 -- the nodes of some forms that stand one after the other, the functions in them, and the forms' own numbers
 pub record Piece : Type 0 where
@@ -80,10 +78,10 @@ abbrev pub member_node : Option Builtin → List ℕ → List ℕ → PlainNodeF
 member_node None word parts = n.member (part 0 parts) word
 member_node (Some f) word parts = n.builtin f parts
 
--- the keys with the numbers of their values
-abbrev pub keyed : PlainFields → List ℕ → List (List ℕ × ℕ)
-keyed (t.field_in key e fs) (x ∷ xs) = (key, x) ∷ keyed fs xs
-keyed _ _ = []
+-- the keys of fields
+abbrev pub keys_of : PlainFields → List (List ℕ)
+keys_of t.no_fields = []
+keys_of (t.field_in key e fs) = key ∷ keys_of fs
 
 -- the form of a node, from the numbers of its parts in the order in which they begin
 abbrev pub expr_node : List Place → PlainForm → List ℕ → PlainNodeForm
@@ -93,22 +91,22 @@ expr_node ps (t.truth b) parts = n.truth b
 expr_node ps t.null parts = n.null
 expr_node ps (t.use_of name) parts = if is_undefined name.text then n.undefined else n.read (named_at ps name.spot.at)
 expr_node ps (t.list es) parts = n.list parts
-expr_node ps (t.fields fs) parts = n.fields (keyed fs parts)
+expr_node ps (t.fields fs) parts = n.fields (keys_of fs) parts
 expr_node ps (t.member e word) parts = member_node (value_builtin e word) word parts
 expr_node ps (t.index e i) parts = n.index (part 0 parts) (part 1 parts)
 expr_node ps (t.call e es) parts = call_node (called_builtin e) (method_of e) (floors_division (called_builtin e) es) parts
 expr_node ps (t.unary s e) parts = n.unary s (part 0 parts)
-expr_node ps (t.update s f name) parts = n.update s f (named_at ps name.spot.at)
+expr_node ps (t.update s f name) parts = n.update s f (slot_at ps name.spot.at)
 expr_node ps (t.binary op l r) parts = n.binary op (part 0 parts) (part 1 parts)
 expr_node ps (t.conditional l m r) parts = n.conditional (part 0 parts) (part 1 parts) (part 2 parts)
-expr_node ps (t.assign op name e) parts = n.assign op (named_at ps name.spot.at) (part 0 parts)
+expr_node ps (t.assign op name e) parts = n.assign op (slot_at ps name.spot.at) (part 0 parts)
 expr_node ps (t.arrow_value spot names e) parts = n.function (code_at ps spot.at)
 expr_node ps (t.arrow_block spot names ss) parts = n.function (code_at ps spot.at)
 expr_node ps (t.function spot names ss) parts = n.function (code_at ps spot.at)
 
--- the variables of a block, which are not declared yet as it begins
-abbrev pub fresh : List Place → List Entry → List Variable
-fresh ps entries = map (λ (e : Entry). named_at ps e.declared.place) entries
+-- the slots of a block's variables, which are not declared yet as it begins
+abbrev pub fresh : List Place → List Entry → List ℕ
+fresh ps entries = map (λ (e : Entry). slot_at ps e.declared.place) entries
 
 -- a part that may be absent, and the parts after it
 abbrev pub perhaps_part : Bool → List ℕ → Option ℕ
@@ -129,11 +127,11 @@ has_start t.nothing = false
 has_start (t.declared line kind ds) = true
 has_start (t.started e) = true
 
-abbrev pub for_node : List Variable → Bool → Bool → Bool → List ℕ → PlainNodeForm
-for_node variables start test next parts =
+abbrev pub for_node : List ℕ → Bool → Bool → Bool → List ℕ → PlainNodeForm
+for_node slots start test next parts =
     let later = parts_after start parts in
     let last = parts_after test later in
-    n.for_three variables (perhaps_part start parts) (perhaps_part test later) (perhaps_part next last) (part 0 (parts_after next last))
+    n.for_three slots (perhaps_part start parts) (perhaps_part test later) (perhaps_part next last) (part 0 (parts_after next last))
 
 abbrev pub stmt_node : List Place → PlainStmtForm → List ℕ → PlainNodeForm
 stmt_node ps t.empty parts = n.empty
@@ -144,7 +142,7 @@ stmt_node ps (t.if_alone e s) parts = n.if_alone (part 0 parts) (part 1 parts)
 stmt_node ps (t.if_else e s other) parts = n.if_else (part 0 parts) (part 1 parts) (part 2 parts)
 stmt_node ps (t.while_of e s) parts = n.while_of (part 0 parts) (part 1 parts)
 stmt_node ps (t.for_of_three start test next s) parts = for_node (fresh ps (own_of_start 0 start)) (has_start start) (is_present test) (is_present next) parts
-stmt_node ps (t.for_each kind name e s) parts = n.for_each (named_at ps name.spot.at) (part 0 parts) (part 1 parts)
+stmt_node ps (t.for_each kind name e s) parts = n.for_each (slot_at ps name.spot.at) (part 0 parts) (part 1 parts)
 stmt_node ps (t.break_of spot) parts = n.break_of
 stmt_node ps (t.continue_of spot) parts = n.continue_of
 stmt_node ps (t.return_nothing spot) parts = n.return_nothing

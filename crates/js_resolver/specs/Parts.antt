@@ -1,5 +1,5 @@
 -- The parts of a resolved program.
-use Rattle.std.specs.Prelude.{ℕ, List, map}
+use Rattle.std.specs.Prelude.{List, map}
 use Rattle.js_tree.specs.Plain.{PlainItem}
 use Rattle.js_program.specs.PlainProgram.{PlainProgram, statements}
 use Rattle.js_program.specs.Views.{plain_node, plain_body, plain_constant}

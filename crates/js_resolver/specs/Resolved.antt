@@ -1,6 +1,5 @@
 -- The resolved program of a tree.
-use Rattle.std.specs.Prelude.{ℕ, Bool, true, false, nat_eq, List, [], ◌∷◌, Option, Some, None, map, if◌then◌else◌}
-use Rattle.js_tree.specs.declared.tree.Spot.{Spot}
+use Rattle.std.specs.Prelude.{ℕ, nat_eq, List, Option, Some, None, map, if◌then◌else◌}
 use Rattle.js_tree.specs.Plain.{PlainItem, statement, function_of}
 use Rattle.js_program.specs.PlainProgram.{PlainProgram, PlainConstant, of_function, undeclared, unset, statements}
 use Rattle.js_names.specs.declared.place.Declared.{Declared}

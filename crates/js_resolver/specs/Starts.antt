@@ -1,5 +1,5 @@
 -- What a map knows of the constants of a program.
-use Rattle.std.specs.Prelude.{◌≡◌, ℕ, nat_eq, List, [], ◌∷◌, Option, Some, None, option_map}
+use Rattle.std.specs.Prelude.{◌≡◌, ℕ, nat_eq, List, [], ◌∷◌, Option, None, option_map}
 use Rattle.indexmap.specs.IndexMap.{get}
 use Rattle.js_program.specs.declared.node.ConstantStart.{ConstantStart}
 use Rattle.js_program.specs.PlainProgram.{PlainConstant}

@@ -1,11 +1,9 @@
 -- What each name of a program stands for, and what a function holds, from the places of the program.
-use Rattle.std.specs.Prelude.{ℕ, Bool, true, false, not, ◌&&◌, nat_eq, List, [], ◌∷◌, ◌++◌, Option, Some, None, map, length, position, unwrap_or, if◌then◌else◌}
-use Rattle.js_tree.specs.declared.tree.Name.{Name}
+use Rattle.std.specs.Prelude.{ℕ, nat_eq, List, [], ◌∷◌, Option, Some, None, map, length, position, unwrap_or, if◌then◌else◌}
 use Rattle.js_program.specs.declared.node.Variable.{Variable}
 use Rattle.js_program.specs.declared.node.Variable.TheVariants.{Slot, Constant}
 use Rattle.js_program.specs.PlainProgram.{PlainBody, PlainContent}
 use Rattle.js_names.specs.declared.place.Declared.{Declared}
-use Rattle.js_names.specs.declared.place.What.{What}
 use Rattle.js_names.specs.Scopes.{top}
 use Rattle.js_names.specs.Places.{Place, or_else}
 use Rattle.js_names.specs.Slots.{assigned_in, is_constant, is_begin, captures, vars_of, slots_of, constants_of, functions_in}
@@ -48,6 +46,15 @@ named ps p = let assigned = assigned_in ps in named_there assigned (constants_of
 -- what the name at a place of the text stands for
 unfoldable pub named_at : List Place → ℕ → Variable
 named_at ps at = unwrap_or (known_in name_key (named ps) at ps) (Slot 0)
+
+-- the slot of a variable: nothing that is assigned, updated or not yet declared is a constant, where no rule of names is broken
+abbrev pub slot_of : Variable → ℕ
+slot_of (Slot n) = n
+slot_of (Constant n) = 0
+
+-- the slot that the name at a place of the text stands for
+abbrev pub slot_at : List Place → ℕ → ℕ
+slot_at ps at = slot_of (named_at ps at)
 
 abbrev pub first_some : {A : Type 0} → A → List (Option A) → A
 first_some a [] = a

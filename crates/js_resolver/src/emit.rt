@@ -3,18 +3,18 @@
 
 ghost use Rattle.std.specs.Prelude.{◌≡◌, ◌∷◌, ◌≤◌, [], IfOk, OnOk, length, map};
 ghost use Rattle.js_tree.specs.Plain as t;
-ghost use Rattle.js_tree.specs.Plain.{exprs_of, stmts_of};
-ghost use Rattle.js_tree.specs.Views.{plain_expr, plain_form, plain_start, plain_stmt, plain_item};
+ghost use Rattle.js_tree.specs.Plain.{exprs_of, fields_of, stmts_of};
+ghost use Rattle.js_tree.specs.Views.{plain_expr, plain_field, plain_form, plain_start, plain_stmt, plain_item};
 ghost use Rattle.js_program.specs.declared.builtin.Builtin.TheVariants.{Floor};
 ghost use Rattle.js_program.specs.PlainProgram as n;
 ghost use Rattle.js_program.specs.Views.{plain_content, plain_node_form};
 ghost use Rattle.js_names.specs.Scopes.{is_present};
 ghost use Rattle.js_resolver.specs.Variables.{body_of};
-ghost use Rattle.js_resolver.specs.Nodes.{expr_node, expr_piece, exprs_piece, function_piece, has_start, item_piece, items_piece, perhaps_piece, start_piece, stmt_piece, stmts_piece};
-ghost use Rattle.js_resolver.specs.Emits.{Adds, Emits, EmitsMore, EmitsFields, EmitsDeclarators, EmitsPerhaps, EmitsCallee, EmitsCalled, FormsExpr, FormsStmt, FormsBuiltin, FormsCall, PutsBody, count, is_divide, plain_stmt_form, tree_perhaps};
+ghost use Rattle.js_resolver.specs.Nodes.{expr_node, expr_piece, exprs_piece, fields_piece, function_piece, has_start, item_piece, items_piece, keys_of, perhaps_piece, start_piece, stmt_piece, stmts_piece};
+ghost use Rattle.js_resolver.specs.Emits.{Adds, Emits, EmitsMore, EmitsDeclarators, EmitsPerhaps, EmitsCallee, EmitsCalled, FormsExpr, FormsStmt, FormsBuiltin, FormsCall, PutsBody, count, is_divide, plain_stmt_form, tree_perhaps};
 
 use crate::emitter::{Emitter, put_function, put_node};
-use crate::fresh::{block_variables, start_variables};
+use crate::fresh::{block_slots, start_slots};
 use crate::name_tables::NameTables;
 use js_data::Text;
 use js_names::{called_builtin, is_undefined, value_builtin};
@@ -62,8 +62,9 @@ fn emit_form(
             Ok(NodeForm::List(elements))
         }
         Form::Fields(fields) => {
-            let fields = emit_fields(tables, emitter, fields)?;
-            Ok(NodeForm::Fields(fields))
+            let values = emit_fields(tables, emitter, fields)?;
+            let keys = keys_of(emitter.alloc, fields)?;
+            Ok(NodeForm::Fields(keys, values))
         }
         Form::Member(object, word) => emit_member(tables, emitter, object, word),
         Form::Index(left, right) => {
@@ -80,8 +81,8 @@ fn emit_form(
             Ok(NodeForm::Unary(*sign, operand))
         }
         Form::Update(step, fix, name) => {
-            let variable = tables.variable(name.spot.at);
-            Ok(NodeForm::Update(*step, *fix, variable))
+            let slot = tables.slot(name.spot.at);
+            Ok(NodeForm::Update(*step, *fix, slot))
         }
         Form::Binary(operator, left, right) => {
             let first = emit_expr(tables, emitter, left)?;
@@ -96,8 +97,8 @@ fn emit_form(
         }
         Form::Assign(operator, name, value) => {
             let value = emit_expr(tables, emitter, value)?;
-            let variable = tables.variable(name.spot.at);
-            Ok(NodeForm::Assign(*operator, variable, value))
+            let slot = tables.slot(name.spot.at);
+            Ok(NodeForm::Assign(*operator, slot, value))
         }
         Form::ArrowValue(spot, names, value) => emit_arrow(tables, emitter, *spot, names, value),
         Form::ArrowBlock(spot, names, body) => emit_function(tables, emitter, *spot, names, body),
@@ -324,21 +325,32 @@ fn emit_exprs(
     Ok(numbers)
 }
 
-// The keys of fields with the numbers of their values.
+// The values of fields.
 #[cycle(emit)]
 fn emit_fields(
     tables: &NameTables,
     emitter: &mut Emitter,
     fields: &[Field],
-) -> Result<Vec<(Text, u32)>, AllocError>
-    ensures { IfOk result (λ v. EmitsFields tables.now emitter.old emitter.new v.items fields.now) }
+) -> Result<Vec<u32>, AllocError>
+    ensures { IfOk result (λ v. Emits emitter.old emitter.new v.items (fields_piece tables.now (count emitter.old) (fields_of (map plain_field fields.now)))) }
 {
-    let mut pairs = Vec::new(emitter.alloc);
+    let mut numbers = Vec::new(emitter.alloc);
     for field in fields {
         let number = emit_expr(tables, emitter, &field.value)?;
-        pairs.push((field.key.copy()?, number))?;
+        numbers.push(number)?;
     }
-    Ok(pairs)
+    Ok(numbers)
+}
+
+// The keys of fields.
+fn keys_of(alloc: Global, fields: &[Field]) -> Result<Vec<Text>, AllocError>
+    ensures { IfOk result (λ v. v.items ≡ keys_of (fields_of (map plain_field fields.now))) }
+{
+    let mut keys = Vec::new(alloc);
+    for field in fields {
+        keys.push(field.key.copy()?)?;
+    }
+    Ok(keys)
 }
 
 // An expression that may be absent.
@@ -421,9 +433,9 @@ fn emit_stmt_form(
     match form {
         StmtForm::Empty => Ok(NodeForm::Empty),
         StmtForm::Block(body) => {
-            let variables = block_variables(emitter.alloc, tables, body)?;
+            let slots = block_slots(emitter.alloc, tables, body)?;
             let numbers = emit_stmts(tables, emitter, body)?;
-            Ok(NodeForm::Block(variables, numbers))
+            Ok(NodeForm::Block(slots, numbers))
         }
         StmtForm::Declaration(kind, declarators) => {
             let declared = emit_declarators(tables, emitter, declarators)?;
@@ -450,18 +462,18 @@ fn emit_stmt_form(
             Ok(NodeForm::While(tested, number))
         }
         StmtForm::For(start, test, next, body) => {
-            let variables = start_variables(emitter.alloc, tables, start)?;
+            let slots = start_slots(emitter.alloc, tables, start)?;
             let first = emit_start(tables, emitter, start)?;
             let tested = emit_perhaps(tables, emitter, test)?;
             let step = emit_perhaps(tables, emitter, next)?;
             let number = emit_stmt(tables, emitter, body)?;
-            Ok(NodeForm::For(variables, first, tested, step, number))
+            Ok(NodeForm::For(slots, first, tested, step, number))
         }
         StmtForm::ForOf(_, name, list, body) => {
-            let variable = tables.variable(name.spot.at);
+            let slot = tables.slot(name.spot.at);
             let items = emit_expr(tables, emitter, list)?;
             let number = emit_stmt(tables, emitter, body)?;
-            Ok(NodeForm::ForOf(variable, items, number))
+            Ok(NodeForm::ForOf(slot, items, number))
         }
         StmtForm::Break(_) => Ok(NodeForm::Break),
         StmtForm::Continue(_) => Ok(NodeForm::Continue),

@@ -1,4 +1,4 @@
-//! The variables that are not declared yet as a block begins.
+//! The slots that are not declared yet as a block begins.
 ghost use Rattle.std.specs.Prelude.{◌≡◌, ◌++◌, IfOk, OnOk, false, map};
 ghost use Rattle.js_tree.specs.Plain.{declarators_of, stmts_of};
 ghost use Rattle.js_tree.specs.Views.{plain_declarator, plain_start, plain_stmt};
@@ -7,98 +7,89 @@ ghost use Rattle.js_names.specs.Views.{own_of_declarator};
 ghost use Rattle.js_resolver.specs.Nodes.{fresh};
 
 use crate::name_tables::NameTables;
-use js_program::Variable;
 use js_tree::{Declarator, DeclareKind, Start, Stmt, StmtForm};
 use std::alloc::{AllocError, Global};
 
-// The variable of a declarator of `let` or `const`.
+// The slot of a declarator of `let` or `const`.
 fn push_declarator(
     tables: &NameTables,
-    variables: &mut Vec<Variable>,
+    slots: &mut Vec<u32>,
     kind: DeclareKind,
     declarator: &Declarator,
 ) -> Result<(), AllocError>
-    ensures { OnOk result (variables.new.items ≡ variables.old.items ++ fresh tables.now (own_of_declarator 0 false kind declarator.now)) }
+    ensures { OnOk result (slots.new.items ≡ slots.old.items ++ fresh tables.now (own_of_declarator 0 false kind declarator.now)) }
 {
     match kind {
         DeclareKind::Const | DeclareKind::Let => {
-            variables.push(tables.variable(declarator.name.spot.at))?;
+            slots.push(tables.slot(declarator.name.spot.at))?;
             Ok(())
         }
         DeclareKind::Var => Ok(()),
     }
 }
 
-// The variables of some declarators.
+// The slots of some declarators.
 fn push_declarators(
     tables: &NameTables,
-    variables: &mut Vec<Variable>,
+    slots: &mut Vec<u32>,
     kind: DeclareKind,
     declarators: &[Declarator],
 ) -> Result<(), AllocError>
-    ensures { OnOk result (variables.new.items ≡ variables.old.items ++ fresh tables.now (own_declarators 0 false kind (declarators_of (map plain_declarator declarators.now)))) }
+    ensures { OnOk result (slots.new.items ≡ slots.old.items ++ fresh tables.now (own_declarators 0 false kind (declarators_of (map plain_declarator declarators.now)))) }
 {
     for declarator in declarators {
-        push_declarator(tables, variables, kind, declarator)?;
+        push_declarator(tables, slots, kind, declarator)?;
     }
     Ok(())
 }
 
-// The variables that a statement declares for its block.
-fn push_stmt(
-    tables: &NameTables,
-    variables: &mut Vec<Variable>,
-    stmt: &Stmt,
-) -> Result<(), AllocError>
-    ensures { OnOk result (variables.new.items ≡ variables.old.items ++ fresh tables.now (own_of 0 false (plain_stmt stmt.now))) }
+// The slots of what a statement declares for its block.
+fn push_stmt(tables: &NameTables, slots: &mut Vec<u32>, stmt: &Stmt) -> Result<(), AllocError>
+    ensures { OnOk result (slots.new.items ≡ slots.old.items ++ fresh tables.now (own_of 0 false (plain_stmt stmt.now))) }
 {
     match &stmt.form {
         StmtForm::Declaration(kind, declarators) => {
-            push_declarators(tables, variables, *kind, declarators)
+            push_declarators(tables, slots, *kind, declarators)
         }
         _ => Ok(()),
     }
 }
 
-/// The `let` and `const` variables of a block.
-pub fn block_variables(
+/// The slots of the `let` and `const` of a block.
+pub fn block_slots(
     alloc: Global,
     tables: &NameTables,
     body: &[Stmt],
-) -> Result<Vec<Variable>, AllocError>
+) -> Result<Vec<u32>, AllocError>
     ensures { IfOk result (λ v. v.items ≡ fresh tables.now (own_of_all 0 false (stmts_of (map plain_stmt body.now)))) }
 {
-    let mut variables = Vec::new(alloc);
+    let mut slots = Vec::new(alloc);
     for stmt in body {
-        push_stmt(tables, &mut variables, stmt)?;
+        push_stmt(tables, &mut slots, stmt)?;
     }
-    Ok(variables)
+    Ok(slots)
 }
 
-/// The `let` and `const` variables of the head of a `for`.
-pub fn start_variables(
+/// The slots of the `let` and `const` of the head of a `for`.
+pub fn start_slots(
     alloc: Global,
     tables: &NameTables,
     start: &Start,
-) -> Result<Vec<Variable>, AllocError>
+) -> Result<Vec<u32>, AllocError>
     ensures { IfOk result (λ v. v.items ≡ fresh tables.now (own_of_start 0 (plain_start start.now))) }
 {
-    let mut variables = Vec::new(alloc);
-    push_start(tables, &mut variables, start)?;
-    Ok(variables)
+    let mut slots = Vec::new(alloc);
+    push_start(tables, &mut slots, start)?;
+    Ok(slots)
 }
 
-// The variables that the head of a `for` declares.
-fn push_start(
-    tables: &NameTables,
-    variables: &mut Vec<Variable>,
-    start: &Start,
-) -> Result<(), AllocError>
-    ensures { OnOk result (variables.new.items ≡ variables.old.items ++ fresh tables.now (own_of_start 0 (plain_start start.now))) }
+// The slots of what the head of a `for` declares.
+fn push_start(tables: &NameTables, slots: &mut Vec<u32>, start: &Start) -> Result<(), AllocError>
+    ensures { OnOk result (slots.new.items ≡ slots.old.items ++ fresh tables.now (own_of_start 0 (plain_start start.now))) }
 {
     match start {
         Start::Declares(_, kind, declarators) => {
-            push_declarators(tables, variables, *kind, declarators)
+            push_declarators(tables, slots, *kind, declarators)
         }
         _ => Ok(()),
     }

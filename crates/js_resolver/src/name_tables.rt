@@ -5,7 +5,7 @@ ghost use Rattle.js_program.specs.Views.{plain_body, plain_content};
 ghost use Rattle.js_names.specs.Slots.{assigned_in, captures, constants_of, functions_in, slots_of, vars_of};
 ghost use Rattle.js_names.specs.Views.{held_in, place_of};
 ghost use Rattle.js_resolver.specs.Tables.{first_line};
-ghost use Rattle.js_resolver.specs.Variables.{around_of, around_there, body_of, capture_slots, code_at, known_in, name_key, named_at, named_there, owner_key, var_slots};
+ghost use Rattle.js_resolver.specs.Variables.{around_of, around_there, body_of, capture_slots, code_at, known_in, name_key, named_at, named_there, owner_key, slot_at, var_slots};
 
 use crate::tables::{
     constants_of, functions_around, functions_in, index_in, named_places, slots_among,
@@ -86,13 +86,13 @@ impl Model for NameTables {
     ghost use Rattle.std.specs.Prelude.{List, map};
     ghost use Rattle.js_names.specs.Places.{Place};
     ghost use Rattle.js_names.specs.Views.{place_of};
-    ghost use Rattle.js_resolver.specs.StandsFor.{StandsFor};
+    ghost use Rattle.js_resolver.specs.TablesOf.{AreTablesOf};
 
     ghost Value = { List Place };
 
     ghost view = { λ t. map place_of t.names.places.items };
 
-    ghost invariant = { λ t. StandsFor t.meanings.variables t.meanings.constants.keys t.functions.codes.keys t.functions.around t.names.slots t.holdings.captured t.holdings.vars (map place_of t.names.places.items) };
+    ghost invariant = { λ t. AreTablesOf t.meanings.variables t.meanings.constants.keys t.functions.codes.keys t.functions.around t.names.slots t.holdings.captured t.holdings.vars (map place_of t.names.places.items) };
 }
 
 // What a call of a function has room for.
@@ -181,6 +181,16 @@ impl NameTables {
         match self.meanings.variables.get(&at) {
             Some(variable) => *variable,
             None => Variable::Slot(0),
+        }
+    }
+
+    /// The slot that the name at a place of the text stands for. Takes no memory.
+    pub fn slot(&self, at: u32) -> u32
+        ensures { result ≡ slot_at self.now at }
+    {
+        match self.variable(at) {
+            Variable::Slot(slot) => slot,
+            Variable::Constant(_) => 0,
         }
     }
 

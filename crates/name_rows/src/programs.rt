@@ -93,7 +93,7 @@ Body { parameters: 0, slots: 0, captures: [], vars: [], content: Statements([3, 
 fn captures_and_vars(rt: HostRuntime) -> Result<(), Fail> {
     let program = program_of(
         rt.alloc(),
-        "(function(a) { var b; { let c = 1; var a = 1 } (() => () => a) })
+        "(function(a) { var b; { let c = 1 } var a = 1; (() => () => a) })
 for (const y of []) Math.floor(y / 2)
 ",
     )?;
@@ -102,9 +102,9 @@ for (const y of []) Math.floor(y / 2)
         "1 Declaration(Var, [Declared { variable: Slot(1), value: None }])
 1 Number(Whole { n: 1 })
 1 Declaration(Let, [Declared { variable: Slot(2), value: Some(1) }])
+1 Block([2], [2])
 1 Number(Whole { n: 1 })
-1 Declaration(Var, [Declared { variable: Slot(0), value: Some(3) }])
-1 Block([Slot(2)], [2, 4])
+1 Declaration(Var, [Declared { variable: Slot(0), value: Some(4) }])
 1 Read(Slot(0))
 1 Function(2)
 1 Function(1)
@@ -116,8 +116,8 @@ for (const y of []) Math.floor(y / 2)
 2 Number(Whole { n: 2 })
 2 FloorDivide(13, 14, [])
 2 Expression(15)
-2 ForOf(Slot(0), 12, 16)
-Body { parameters: 1, slots: 3, captures: [], vars: [1], content: Statements([0, 5, 9]), line: 1 }
+2 ForOf(0, 12, 16)
+Body { parameters: 1, slots: 3, captures: [], vars: [1], content: Statements([0, 3, 5, 9]), line: 1 }
 Body { parameters: 0, slots: 1, captures: [0], vars: [], content: OneValue(7), line: 1 }
 Body { parameters: 0, slots: 1, captures: [0], vars: [], content: OneValue(6), line: 1 }
 Body { parameters: 0, slots: 1, captures: [], vars: [], content: Statements([11, 17]), line: 1 }

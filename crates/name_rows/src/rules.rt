@@ -226,7 +226,8 @@ a; const a = 1 --> accepted
 
 // Another variable of an outer function or of the top level is copied into an inner function where it is a parameter,
 // `let`, `const`, name of `for of`, or a `var` that stands once and directly in the list of its function. A `var` with
-// a value that names a parameter is that parameter's declarator.
+// a value that names a parameter is that parameter's declarator where it stands directly in the list of the function;
+// a nested one may run again, so that the parameter is not copied at all.
 const COPIED: &str = r#"
 (a => () => a) --> accepted
 (() => { let a = 1; (() => a) }) --> accepted
@@ -245,8 +246,15 @@ for (const x of [1]) { (() => x) } --> accepted
 { var a = 1;\n(() => a) } --> 2: capture a
 (a => { var a; (() => a) }) --> accepted
 (a => { var a = 1; (() => a) }) --> accepted
-(a => { { var a = 1 } (() => a) }) --> accepted
 (a => { (() => a); var a = 1 }) --> 1: capture a
+(a => { (() => a); var a }) --> accepted
+(a => { { var a = 1 } (() => a) }) --> 1: capture a
+(a => { { var a } (() => a) }) --> accepted
+(a => { var a = 1; { var a = 2 } (() => a) }) --> 1: capture a
+(p => { while (p) { var p = 2;\n(() => p) } }) --> 2: capture p
+(p => { for (const x of [1, 2]) { var p = x; (() => p) } }) --> 1: capture p
+(p => { for (var p = 1; ; ) { } (() => p) }) --> 1: capture p
+(p => { if (p) { var p = 2 } p }) --> accepted
 "#;
 
 // And nothing assigns or updates it besides its declarator.
@@ -265,7 +273,7 @@ for (let i = 0; i < 3; i++) { const k = i; (() => k) } --> accepted
 (() => { let a = 1; { let a = 2; a = 3 } (() => a) }) --> accepted
 "#;
 
-// And the inner function begins behind the end of the declarator.
+// And the inner function begins behind the end of the declarator: that of a name of `for of` is the name and the list.
 const BEHIND: &str = r#"
 (() => { (() => a); let a = 1 }) --> 1: capture a
 (() => { const a = () => a }) --> 1: capture a
@@ -278,6 +286,13 @@ const BEHIND: &str = r#"
 const f = () => f --> accepted
 (() => { let a; (() => { (() => a) }) }) --> accepted
 (() => { (() => { (() => a) });\nlet a }) --> 1: capture a
+for (const x of [() => x]) ; --> 1: capture x
+for (let x of [1,\n() => x]) { } --> 2: capture x
+(() => { for (const x of [() => () => x]) { } }) --> 1: capture x
+for (const x of [x => x]) { (() => x) } --> accepted
+for (const x of [() => { const x = 1; x }]) { } --> accepted
+(y => { for (const x of [() => y]) { (() => x) } }) --> accepted
+for (const x of [1]) { for (const y of [() => x]) { (() => y) } } --> accepted
 "#;
 
 // `break` and `continue` stand in a loop of their own function.
@@ -327,6 +342,20 @@ f(() => a, b);\nlet a; a = 1; function f() { } --> 1: capture a
 bp.registerBThread("a",\n() => { c }) --> 2: unknown c
 "#;
 
+// A name that is declared twice stands for the declaration that comes first in the text, a `var` among them.
+const CLASHES: &str = r#"
+() => { c = 1 };\nvar c = 0;\nfunction c() {} --> 1: capture c
+() => { c = 1 };\nlet c = 0;\nfunction c() {} --> 1: capture c
+() => { c };\n{ var c = 0; }\nfunction c() {} --> 1: capture c
+() => { c = 1 };\nfunction c() {}\nvar c = 0; --> 1: const c
+a = 1;\nvar a;\nconst a = 1 --> 3: twice a
+a = 1;\nconst a = 1;\nvar a --> 1: const a
+a = 1;\nlet a;\nconst a = 1 --> 3: twice a
+() => { a = 1;\n{ var a = 1; }\nconst a = 2 } --> 3: twice a
+() => { a = 1;\nconst a = 2;\n{ var a = 1; } } --> 1: const a
+() => { var a = 1;\n() => a;\nlet a = 2 } --> 3: twice a
+"#;
+
 // Programs of several rules at once.
 const PROGRAMS: &str = r#"
 const a = 1; (a => { let b = a; { let a = b; (() => a) } }) --> accepted
@@ -363,7 +392,7 @@ fn what_uses_names(rt: HostRuntime) -> Result<(), Fail> {
 
 #[test]
 fn words_places_and_programs(rt: HostRuntime) -> Result<(), Fail> {
-    for table in [LOOP_WORDS, RETURNS, PLACES, PROGRAMS] {
+    for table in [LOOP_WORDS, RETURNS, PLACES, CLASHES, PROGRAMS] {
         agree(&rt, rt.alloc(), table)?;
     }
     Ok(())

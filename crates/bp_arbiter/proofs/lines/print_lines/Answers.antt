@@ -1,6 +1,6 @@
-use Rattle.std.proofs.Common.{◌≡◌, ◌≤◌, ◌+◌, ◌++◌, take, drop, refl, arith}
+use Rattle.std.proofs.Common.{arith}
 use Rattle.std.proofs.lemmas.Result.{err_from_is_err_and}
-use Rattle.bp_run.specs.Text.{lines_text}
+use Rattle.bp_log.specs.Texts.{lines_text}
 use Rattle.bp_arbiter.proofs.Printing.{appends_nothing, front_in, lines_split_at, lines_step}
 use Rattle.bp_arbiter.proofs.lines.print_lines.Goals as goal
 

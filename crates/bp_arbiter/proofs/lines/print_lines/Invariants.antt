@@ -1,6 +1,6 @@
 use Rattle.std.proofs.Common.{◌≤◌, take}
 use Rattle.bp_base.specs.Pieces.{Appends}
-use Rattle.bp_run.specs.Text.{lines_text}
+use Rattle.bp_log.specs.Texts.{lines_text}
 use Rattle.bp_arbiter.proofs.lines.print_lines.Given as goal
 
 abbrev pub invariant-loop-line : goal.invariant-loop-line

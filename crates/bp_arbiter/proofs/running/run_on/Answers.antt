@@ -1,11 +1,11 @@
-use Rattle.std.proofs.Common.{◌≡◌, ◌+◌, ◌≤◌, ◌∙◌, arith, ℕ, List, [], drop, length, ap, sym, subst, false}
+use Rattle.std.proofs.Common.{◌≡◌, ◌∙◌, arith, List, [], ap, sym, subst, false}
 use Rattle.std.proofs.lemmas.Result.{err_from_is_err_and}
 use Rattle.bp_base.specs.Pieces.{Appends}
 use Rattle.bp_log.specs.Options.{default_options}
 use Rattle.bp_log.specs.declared.record.Record.{Record}
 use Rattle.bp_log.specs.declared.trace.Line.{Line}
 use Rattle.bp_run.specs.Settling.{initial}
-use Rattle.bp_run.specs.Text.{lines_text}
+use Rattle.bp_log.specs.Texts.{lines_text}
 use Rattle.bp_arbiter.specs.Straight.{straight_code}
 use Rattle.bp_arbiter.specs.Stand.{Stand}
 use Rattle.bp_arbiter.proofs.Runs.{stand}
@@ -27,7 +27,7 @@ loop-picked-init g c =
     let c0 = initial (straight_code script) 0 in
     let first = ahead_first script in
     let none : c.args.runner.now.records ≡ [] = ap (λ (s : Stand). s.records) c.requires in
-    let lines : c.lines.result.now ≡ c0.lines = lines_are script [] c0 c.args.runner.now c.lines.result.now c.requires first.story_is c.lines.ensures in
+    let lines : c.lines.result.now ≡ c0.stand.lines = lines_are script [] c0 c.args.runner.now c.lines.result.now c.requires first.story_is c.lines.ensures in
     let counted = c.print_lines.ensures.counts in
     record {
       runner = c.requires ∙ ap (λ (rs : List Record). stand script default_options rs false) (sym none);
@@ -50,7 +50,7 @@ print_after-requires g c =
     let script = c.args.runner.now.script in
     let i = c.loop-picked.invariant in
     let x = stepped script c.loop-picked.runner.records (i.on_the_way.0) c.in_ok-picked.picked c.loop-picked.runner c.step.new.self (i.on_the_way.1) i.runner c.in_ok-picked.ensures.took c.in_ok-picked.ensures.tells in
-    fewer (i.on_the_way.0).lines (x.d).lines x.added c.lines-printed.result.now c.lines-in-loop-picked.result.now
+    fewer (i.on_the_way.0).stand.lines (x.d).stand.lines x.added c.lines-printed.result.now c.lines-in-loop-picked.result.now
     (lines_are script c.loop-picked.runner.records (i.on_the_way.0) c.loop-picked.runner c.lines-printed.result.now i.runner (i.on_the_way.1).story_is c.lines-printed.ensures)
     (lines_are script c.step.new.self.records x.d c.step.new.self c.lines-in-loop-picked.result.now x.stands x.story_is c.lines-in-loop-picked.ensures) x.lines
 
@@ -61,7 +61,7 @@ returns-in_err-print_after-clause-front g c =
     let i = c.loop-picked.invariant in
     let x = stepped script c.loop-picked.runner.records (i.on_the_way.0) c.in_ok-picked.picked c.loop-picked.runner c.step.new.self (i.on_the_way.1) i.runner c.in_ok-picked.ensures.took c.in_ok-picked.ensures.tells in
     rw p.1 (printed_part script c.loop-picked.runner.records (i.on_the_way.0) c.in_ok-picked.picked c.step.new.self _ _ _ _ x
-    (news (i.on_the_way.0).lines (x.d).lines x.added c.lines-printed.result.now c.lines-in-loop-picked.result.now
+    (news (i.on_the_way.0).stand.lines (x.d).stand.lines x.added c.lines-printed.result.now c.lines-in-loop-picked.result.now
     (lines_are script c.loop-picked.runner.records (i.on_the_way.0) c.loop-picked.runner c.lines-printed.result.now i.runner (i.on_the_way.1).story_is c.lines-printed.ensures)
     (lines_are script c.step.new.self.records x.d c.step.new.self c.lines-in-loop-picked.result.now x.stands x.story_is c.lines-in-loop-picked.ensures) x.lines)
     (i.on_the_way.2) c.in_err-print_after.ensures.front)
@@ -72,7 +72,7 @@ returns-in-Over-clause-whole g c =
     let i = c.loop-picked.invariant in
     let x = stepped script c.loop-picked.runner.records (i.on_the_way.0) c.in_ok-picked.picked c.loop-picked.runner c.step.new.self (i.on_the_way.1) i.runner c.in_ok-picked.ensures.took c.in_ok-picked.ensures.tells in
     printed_all script c.loop-picked.runner.records (i.on_the_way.0) c.in_ok-picked.picked c.step.new.self _ _ _ _ x
-    (news (i.on_the_way.0).lines (x.d).lines x.added c.lines-printed.result.now c.lines-in-loop-picked.result.now
+    (news (i.on_the_way.0).stand.lines (x.d).stand.lines x.added c.lines-printed.result.now c.lines-in-loop-picked.result.now
     (lines_are script c.loop-picked.runner.records (i.on_the_way.0) c.loop-picked.runner c.lines-printed.result.now i.runner (i.on_the_way.1).story_is c.lines-printed.ensures)
     (lines_are script c.step.new.self.records x.d c.step.new.self c.lines-in-loop-picked.result.now x.stands x.story_is c.lines-in-loop-picked.ensures) x.lines)
     c.in-Over.is (i.on_the_way.2) c.in_ok-print_after.ensures.whole
@@ -97,7 +97,7 @@ loop-picked-preserved g c =
         x.d,
         x.ahead c.in_default.not-Over,
         printed_on script c.loop-picked.runner.records (i.on_the_way.0) c.in_ok-picked.picked c.step.new.self _ _ _ _ x
-            (news (i.on_the_way.0).lines (x.d).lines x.added c.lines-printed.result.now c.lines-in-loop-picked.result.now
+            (news (i.on_the_way.0).stand.lines (x.d).stand.lines x.added c.lines-printed.result.now c.lines-in-loop-picked.result.now
             (lines_are script c.loop-picked.runner.records (i.on_the_way.0) c.loop-picked.runner c.lines-printed.result.now i.runner (i.on_the_way.1).story_is c.lines-printed.ensures)
             (lines_are script c.step.new.self.records x.d c.step.new.self c.lines-in-loop-picked.result.now x.stands x.story_is c.lines-in-loop-picked.ensures) x.lines)
             (i.on_the_way.2) c.in_ok-print_after.ensures.whole,

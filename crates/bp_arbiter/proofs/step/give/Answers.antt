@@ -1,4 +1,4 @@
-use Rattle.std.proofs.Common.{◌≡◌, ◌∙◌, suc, List, [], ◌∷◌, ◌++◌, ap}
+use Rattle.std.proofs.Common.{◌∙◌, suc, List, [], ◌∷◌, ◌++◌, ap}
 use Rattle.std.specs.Prelude.{slice_index_or}
 use Rattle.js_data.specs.Event.{PlainEvent}
 use Rattle.bp_run.specs.Configuration.{Thread as Standing}

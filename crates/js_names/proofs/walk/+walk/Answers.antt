@@ -5,9 +5,9 @@ use Rattle.js_tree.specs.declared.tree.Declarator.{out-Declarator}
 use Rattle.js_tree.specs.Plain.{stmts_of}
 use Rattle.js_tree.specs.Views.{plain_expr, plain_start, plain_stmt}
 use Rattle.js_names.specs.declared.place.What.{What}
-use Rattle.js_names.specs.Scopes.{block_scope, for_scope, each_scope, each_role, function_scope}
+use Rattle.js_names.specs.Scopes.{block_scope, for_scope, list_scope, each_scope, each_role, function_scope}
 use Rattle.js_names.specs.Sites.{site, word_at, assign_site, begin_site, parameter_sites, in_function, in_loop, declared_role, called_builtin}
-use Rattle.js_names.specs.Views.{Adds, Enters, EntersEach, scopes_in, tree_sites, field_sites, declarator_sites, perhaps_tree_sites, start_tree_sites, tree_stmt_sites}
+use Rattle.js_names.specs.Views.{Adds, Enters, scopes_in, tree_sites, field_sites, declarator_sites, perhaps_tree_sites, start_tree_sites, tree_stmt_sites, listed_sites, turn_sites}
 use Rattle.js_names.proofs.Adding.{adds_as, adds_none, adds_then, adds_both, adds_more, adds_under, enters_under, each_under}
 use Rattle.js_names.proofs.Exprs.{number_sites, words_sites, truth_sites, null_sites, use_sites, list_sites, in_fields_sites, in_member_sites, index_sites, call_sites, unary_sites, update_sites, binary_sites, conditional_sites, assign_sites, arrow_value_sites, arrow_block_sites, function_sites}
 use Rattle.js_names.proofs.Stmts.{declarator_parts, present_sites, absent_sites, nothing_sites, declares_sites, evaluates_sites, empty_sites, in_block_sites, declaration_sites, expression_sites, if_sites, if_else_sites, while_sites, in_for_sites, in_each_sites, break_sites, continue_sites, return_nothing_sites, return_sites}
@@ -205,14 +205,20 @@ put_stmt-returns-in_ok-put_stmt-in-For t c =
     (subst (λ z. Adds c.put_perhaps-in-For.new.walk c.put_stmt-in-For.new.walk (tree_stmt_sites (scopes_in c.put_perhaps-in-For.new.walk) z c.deref-in-For-2.result.now)) c.in_loop-in-For.ensures c.in_ok-put_stmt-in-For.ensures))
     c.leave.ensures)
 
-pub put_stmt-returns-in_ok-put_stmt-in-ForOf : goal.put_stmt-returns-in_ok-put_stmt-in-ForOf
-put_stmt-returns-in_ok-put_stmt-in-ForOf t c =
-    subst (Adds c.args.walk.now c.leave-in-ForOf.new.walk) (in_each_sites (scopes_in c.args.walk.now) c.args.around c.args.stmt.now c.in-ForOf.kind c.in-ForOf.name c.in-ForOf.list c.in-ForOf.body c.deref-in-ForOf-2.result.now c.in-ForOf.is c.deref-in-ForOf-2.ensures)
-    (each_under (λ s. tree_sites s c.args.around c.in-ForOf.list ++ tree_stmt_sites s (in_loop c.args.around) c.deref-in-ForOf-2.result.now) c.args.walk.now c.enter_each.new.walk c.put_stmt-in-ForOf.new.walk c.leave-in-ForOf.new.walk c.args.around c.in-ForOf.kind c.in-ForOf.name (each_scope c.args.around.owner c.in-ForOf.kind c.in-ForOf.name (plain_stmt c.deref-in-ForOf-2.result.now))
-    (subst (λ z. EntersEach c.args.walk.now c.enter_each.new.walk c.args.around c.in-ForOf.kind c.in-ForOf.name (each_scope c.args.around.owner c.in-ForOf.kind c.in-ForOf.name (plain_stmt z))) (c.deref-in-ForOf.ensures ∙ sym c.deref-in-ForOf-2.ensures) c.in_ok-enter_each-in-ForOf.ensures)
-    (adds_both (λ s. tree_sites s c.args.around c.in-ForOf.list) (λ s. tree_stmt_sites s (in_loop c.args.around) c.deref-in-ForOf-2.result.now) c.enter_each.new.walk c.put_expr-in-ForOf.new.walk c.put_stmt-in-ForOf.new.walk c.in_ok-put_expr-in-ForOf.ensures
-    (subst (λ z. Adds c.put_expr-in-ForOf.new.walk c.put_stmt-in-ForOf.new.walk (tree_stmt_sites (scopes_in c.put_expr-in-ForOf.new.walk) z c.deref-in-ForOf-2.result.now)) c.in_loop-in-ForOf.ensures c.in_ok-put_stmt-in-ForOf.ensures))
-    c.leave-in-ForOf.ensures)
+pub put_stmt-returns-in_ok-put_listed-in-ForOf : goal.put_stmt-returns-in_ok-put_listed-in-ForOf
+put_stmt-returns-in_ok-put_listed-in-ForOf t c =
+    adds_as c.put_turns.result c.args.walk.now c.put_turns.new.walk _ _ (in_each_sites (scopes_in c.args.walk.now) c.args.around c.args.stmt.now c.in-ForOf.kind c.in-ForOf.name c.in-ForOf.list c.in-ForOf.body c.deref-in-ForOf.result.now c.in-ForOf.is c.deref-in-ForOf.ensures)
+    (adds_then c.put_turns.result (λ s. listed_sites s c.args.around c.in-ForOf.kind c.in-ForOf.name c.in-ForOf.list) (λ s. turn_sites s c.args.around c.in-ForOf.kind c.in-ForOf.name c.deref-in-ForOf.result.now) c.args.walk.now c.put_listed.new.walk c.put_turns.new.walk c.in_ok-put_listed-in-ForOf.ensures c.put_turns.ensures)
+
+pub put_listed-returns : goal.put_listed-returns
+put_listed-returns t c =
+    each_under (λ s. tree_sites s c.args.around c.args.list.now) c.args.walk.now c.enter_list.new.walk c.put_expr.new.walk c.leave.new.walk c.args.around c.args.kind c.args.name.now (list_scope c.args.around.owner c.args.kind c.args.name.now) c.in_ok-enter_list.ensures c.in_ok-put_expr.ensures c.leave.ensures
+
+pub put_turns-returns : goal.put_turns-returns
+put_turns-returns t c =
+    adds_under (λ s. tree_stmt_sites s (in_loop c.args.around) c.args.body.now) c.args.walk.now c.enter.new.walk c.put_stmt.new.walk c.leave.new.walk c.in_ok-scope.scope (each_scope c.args.around.owner c.args.kind c.args.name.now (plain_stmt c.args.body.now)) c.in_ok-scope.ensures c.in_ok-enter.ensures
+    (subst (λ z. Adds c.enter.new.walk c.put_stmt.new.walk (tree_stmt_sites (scopes_in c.enter.new.walk) z c.args.body.now)) c.in_loop.ensures c.in_ok-put_stmt.ensures)
+    c.leave.ensures
 
 pub put_stmt-returns-in_ok-put_word-in-Return : goal.put_stmt-returns-in_ok-put_word-in-Return
 put_stmt-returns-in_ok-put_word-in-Return t c =

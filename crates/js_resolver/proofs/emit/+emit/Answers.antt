@@ -1,16 +1,16 @@
-use Rattle.std.proofs.Common.{◌≡◌, ◌∷◌, ◌++◌, ◌-◌, [], ◌∙◌, ap, refl, sym, subst, arith, rules, map, drop, take, length}
+use Rattle.std.proofs.Common.{◌-◌, ◌∙◌, ap, refl, sym, subst, arith, map, drop, take, length}
 use Rattle.std.proofs.lemmas.List.{drop_all, nil_from_length}
 use Rattle.std.specs.Prelude.{IfOk, is_some}
 use Rattle.js_tree.specs.Plain as p
-use Rattle.js_tree.specs.Plain.{exprs_of, stmts_of}
-use Rattle.js_tree.specs.Views.{plain_expr, plain_form, plain_stmt, plain_start}
+use Rattle.js_tree.specs.Plain.{exprs_of, fields_of, stmts_of}
+use Rattle.js_tree.specs.Views.{plain_expr, plain_field, plain_form, plain_stmt}
 use Rattle.js_program.specs.declared.builtin.Builtin.TheVariants.{Floor}
 use Rattle.js_program.specs.PlainProgram as n
-use Rattle.js_names.specs.Sites.{value_builtin, called_builtin}
+use Rattle.js_names.specs.Sites.{value_builtin}
 use Rattle.js_program.specs.declared.node.NodeForm.TheVariants as N
 use Rattle.js_resolver.specs.declared.emit.Called.TheVariants as C
-use Rattle.js_resolver.specs.Nodes.{is_division, method_of, exprs_piece, expr_piece, stmts_piece, stmt_piece}
-use Rattle.js_resolver.specs.Emits.{count, tree_perhaps, EmitsCalled, FormsExpr, FormsBuiltin, FormsCall}
+use Rattle.js_resolver.specs.Nodes.{is_division, method_of, exprs_piece, expr_piece, fields_piece, stmts_piece}
+use Rattle.js_resolver.specs.Emits.{count, EmitsCalled, FormsExpr, FormsBuiltin, FormsCall}
 use Rattle.js_resolver.proofs.FormArms as f
 use Rattle.js_resolver.proofs.StmtArms as s
 use Rattle.js_resolver.proofs.FunctionArms as k
@@ -48,9 +48,9 @@ pub emit_form-returns-in_ok-elements-in-List : goal.emit_form-returns-in_ok-elem
 emit_form-returns-in_ok-elements-in-List t c =
     f.list_arm c.args.tables.now c.args.emitter.now c.emit_exprs.new.emitter c.args.form.now c.in-List.elements c.deref.result.now c.in_ok-elements-in-List.elements c.in-List.is c.deref.ensures.value c.in_ok-elements-in-List.ensures
 
-pub emit_form-returns-in_ok-fields-in-Fields : goal.emit_form-returns-in_ok-fields-in-Fields
-emit_form-returns-in_ok-fields-in-Fields t c =
-    f.fields_arm c.args.tables.now c.args.emitter.now c.emit_fields.new.emitter c.args.form.now c.in-Fields.fields c.deref-in-Fields.result.now c.in_ok-fields-in-Fields.fields c.in-Fields.is c.deref-in-Fields.ensures.value c.in_ok-fields-in-Fields.ensures
+pub emit_form-returns-in_ok-keys-in-Fields : goal.emit_form-returns-in_ok-keys-in-Fields
+emit_form-returns-in_ok-keys-in-Fields t c =
+    f.fields_arm c.args.tables.now c.args.emitter.now c.emit_fields.new.emitter c.args.form.now c.in-Fields.fields c.deref-in-Fields.result.now c.deref-in-Fields-2.result.now c.in_ok-values-in-Fields.values c.in_ok-keys-in-Fields.keys c.in-Fields.is c.deref-in-Fields.ensures.value c.deref-in-Fields-2.ensures.value c.in_ok-values-in-Fields.ensures c.in_ok-keys-in-Fields.ensures
 
 pub emit_form-returns-in-Member : goal.emit_form-returns-in-Member
 emit_form-returns-in-Member t c =
@@ -70,7 +70,7 @@ emit_form-returns-in_ok-operand-in-Unary t c =
 
 pub emit_form-returns-in-Update : goal.emit_form-returns-in-Update
 emit_form-returns-in-Update t c =
-    f.update_arm c.args.tables.now c.args.emitter.now c.args.form.now c.in-Update.step c.in-Update.fix c.in-Update.name c.variable-variable.result c.in-Update.is c.variable-variable.ensures
+    f.update_arm c.args.tables.now c.args.emitter.now c.args.form.now c.in-Update.step c.in-Update.fix c.in-Update.name c.slot-slot.result c.in-Update.is c.slot-slot.ensures
 
 pub emit_form-returns-in_ok-second-in-Binary : goal.emit_form-returns-in_ok-second-in-Binary
 emit_form-returns-in_ok-second-in-Binary t c =
@@ -82,7 +82,7 @@ emit_form-returns-in_ok-second-in-Conditional t c =
 
 pub emit_form-returns-in_ok-value-in-Assign : goal.emit_form-returns-in_ok-value-in-Assign
 emit_form-returns-in_ok-value-in-Assign t c =
-    f.assign_arm c.args.tables.now c.args.emitter.now c.emit_expr-in-Assign.new.emitter c.args.form.now c.in-Assign.operator c.in-Assign.name c.in-Assign.value c.deref-in-Assign.result.now c.in_ok-value-in-Assign.value c.variable-variable-in-Assign.result c.in-Assign.is c.deref-in-Assign.ensures c.in_ok-value-in-Assign.ensures c.variable-variable-in-Assign.ensures
+    f.assign_arm c.args.tables.now c.args.emitter.now c.emit_expr-in-Assign.new.emitter c.args.form.now c.in-Assign.operator c.in-Assign.name c.in-Assign.value c.deref-in-Assign.result.now c.in_ok-value-in-Assign.value c.slot-slot-in-Assign.result c.in-Assign.is c.deref-in-Assign.ensures c.in_ok-value-in-Assign.ensures c.slot-slot-in-Assign.ensures
 
 pub emit_form-returns-in-ArrowValue : goal.emit_form-returns-in-ArrowValue
 emit_form-returns-in-ArrowValue t c =
@@ -204,7 +204,7 @@ emit_stmt_form-returns-in-Empty t c =
 
 pub emit_stmt_form-returns-in_ok-numbers-in-Block : goal.emit_stmt_form-returns-in_ok-numbers-in-Block
 emit_stmt_form-returns-in_ok-numbers-in-Block t c =
-    s.block_arm c.args.tables.now c.args.emitter.now c.emit_stmts.new.emitter c.args.form.now c.in-Block.body c.deref.result.now c.deref-in-Block.result.now c.in_ok-variables-in-Block.variables c.in_ok-numbers-in-Block.numbers c.in-Block.is c.deref.ensures.value c.deref-in-Block.ensures.value c.in_ok-variables-in-Block.ensures c.in_ok-numbers-in-Block.ensures
+    s.block_arm c.args.tables.now c.args.emitter.now c.emit_stmts.new.emitter c.args.form.now c.in-Block.body c.deref.result.now c.deref-in-Block.result.now c.in_ok-slots-in-Block.slots c.in_ok-numbers-in-Block.numbers c.in-Block.is c.deref.ensures.value c.deref-in-Block.ensures.value c.in_ok-slots-in-Block.ensures c.in_ok-numbers-in-Block.ensures
 
 pub emit_stmt_form-returns-in_ok-declared-in-Declaration : goal.emit_stmt_form-returns-in_ok-declared-in-Declaration
 emit_stmt_form-returns-in_ok-declared-in-Declaration t c =
@@ -228,11 +228,11 @@ emit_stmt_form-returns-in_ok-second-in-IfElse t c =
 
 pub emit_stmt_form-returns-in_ok-number-in-For : goal.emit_stmt_form-returns-in_ok-number-in-For
 emit_stmt_form-returns-in_ok-number-in-For t c =
-    s.for_arm c.args.tables.now c.args.emitter.now c.emit_start.new.emitter c.emit_perhaps.new.emitter c.emit_perhaps-in-For.new.emitter c.emit_stmt-in-For.new.emitter c.args.form.now c.in-For.start c.in-For.start c.in-For.test c.in-For.next c.in-For.body c.deref-in-For.result.now c.in_ok-variables-in-For.variables c.in_ok-first-in-For.first c.in_ok-tested-in-For.tested c.in_ok-step-in-For.step c.in_ok-number-in-For.number c.in-For.is c.deref-in-For.ensures c.in_ok-variables-in-For.ensures c.in_ok-first-in-For.ensures c.in_ok-tested-in-For.ensures c.in_ok-step-in-For.ensures c.in_ok-number-in-For.ensures
+    s.for_arm c.args.tables.now c.args.emitter.now c.emit_start.new.emitter c.emit_perhaps.new.emitter c.emit_perhaps-in-For.new.emitter c.emit_stmt-in-For.new.emitter c.args.form.now c.in-For.start c.in-For.start c.in-For.test c.in-For.next c.in-For.body c.deref-in-For.result.now c.in_ok-slots-in-For.slots c.in_ok-first-in-For.first c.in_ok-tested-in-For.tested c.in_ok-step-in-For.step c.in_ok-number-in-For.number c.in-For.is c.deref-in-For.ensures c.in_ok-slots-in-For.ensures c.in_ok-first-in-For.ensures c.in_ok-tested-in-For.ensures c.in_ok-step-in-For.ensures c.in_ok-number-in-For.ensures
 
 pub emit_stmt_form-returns-in_ok-number-in-ForOf : goal.emit_stmt_form-returns-in_ok-number-in-ForOf
 emit_stmt_form-returns-in_ok-number-in-ForOf t c =
-    s.for_of_arm c.args.tables.now c.args.emitter.now c.emit_expr-in-ForOf.new.emitter c.emit_stmt-in-ForOf.new.emitter c.args.form.now c.in-ForOf.field-0 c.in-ForOf.name c.in-ForOf.list c.in-ForOf.body c.deref-in-ForOf.result.now c.variable-variable.result c.in_ok-items-in-ForOf.items c.in_ok-number-in-ForOf.number c.in-ForOf.is c.deref-in-ForOf.ensures c.variable-variable.ensures c.in_ok-items-in-ForOf.ensures c.in_ok-number-in-ForOf.ensures
+    s.for_of_arm c.args.tables.now c.args.emitter.now c.emit_expr-in-ForOf.new.emitter c.emit_stmt-in-ForOf.new.emitter c.args.form.now c.in-ForOf.field-0 c.in-ForOf.name c.in-ForOf.list c.in-ForOf.body c.deref-in-ForOf.result.now c.slot-slot.result c.in_ok-items-in-ForOf.items c.in_ok-number-in-ForOf.number c.in-ForOf.is c.deref-in-ForOf.ensures c.slot-slot.ensures c.in_ok-items-in-ForOf.ensures c.in_ok-number-in-ForOf.ensures
 
 pub emit_stmt_form-returns-in-Break : goal.emit_stmt_form-returns-in-Break
 emit_stmt_form-returns-in-Break t c =
@@ -264,7 +264,7 @@ emit_declarators-loop-declarator-preserved t c =
 
 pub emit_fields-loop-field-preserved : goal.emit_fields-loop-field-preserved
 emit_fields-loop-field-preserved t c =
-    l.fields_more c.args.tables.now c.args.fields.now c.loop-field.field-index c.field-item.result c.field-item.result c.args.emitter.now c.loop-field.emitter c.emit_expr.new.emitter c.loop-field.pairs.items c.push.new.self.items c.in_ok-number.number (omega arith) c.field-item.is c.loop-field.invariant c.in_ok-number.ensures (c.in_ok-push.ensures.items ∙ ap (λ z. c.loop-field.pairs.items ++ (z, c.in_ok-number.number) ∷ []) c.in_ok-copy.ensures)
+    l.fields_more c.args.tables.now c.args.fields.now c.loop-field.field-index c.field-item.result c.field-item.result c.args.emitter.now c.loop-field.emitter c.emit_expr.new.emitter c.loop-field.numbers.items c.push.new.self.items c.in_ok-number.number (fields_piece c.args.tables.now (count c.args.emitter.now) (fields_of (map plain_field c.args.fields.now))) (omega arith) c.field-item.is c.loop-field.invariant c.in_ok-number.ensures c.in_ok-push.ensures.items
 
 pub emit_exprs-loop-e-init : goal.emit_exprs-loop-e-init
 emit_exprs-loop-e-init t c =
@@ -283,11 +283,12 @@ emit_stmts-returns t c =
     l.stmts_done c.args.tables.now c.args.emitter.now c.loop-stmt.emitter c.loop-stmt.numbers.items (drop c.loop-stmt.stmt-index c.args.body.now) (stmts_piece c.args.tables.now (count c.args.emitter.now) (stmts_of (map plain_stmt c.args.body.now))) (drop_all c.loop-stmt.stmt-index c.args.body.now (omega arith)) c.loop-stmt.invariant
 
 pub emit_fields-loop-field-init : goal.emit_fields-loop-field-init
-emit_fields-loop-field-init t c = l.fields_all c.args.tables.now c.args.emitter.now c.new-pairs.result.items c.args.fields.now c.new-pairs.ensures.items
+emit_fields-loop-field-init t c =
+    l.remains_all c.args.emitter.now c.new-numbers.result.items (fields_piece c.args.tables.now (count c.args.emitter.now) (fields_of (map plain_field c.args.fields.now))) c.new-numbers.ensures.items
 
 pub emit_fields-returns : goal.emit_fields-returns
 emit_fields-returns t c =
-    l.fields_none c.args.tables.now c.args.emitter.now c.loop-field.emitter c.loop-field.pairs.items (drop c.loop-field.field-index c.args.fields.now) c.args.fields.now (drop_all c.loop-field.field-index c.args.fields.now (omega arith)) c.loop-field.invariant
+    l.fields_done c.args.tables.now c.args.emitter.now c.loop-field.emitter c.loop-field.numbers.items (drop c.loop-field.field-index c.args.fields.now) (fields_piece c.args.tables.now (count c.args.emitter.now) (fields_of (map plain_field c.args.fields.now))) (drop_all c.loop-field.field-index c.args.fields.now (omega arith)) c.loop-field.invariant
 
 pub emit_declarators-loop-declarator-init : goal.emit_declarators-loop-declarator-init
 emit_declarators-loop-declarator-init t c = l.declarators_all c.args.tables.now c.args.emitter.now c.new-declared.result.items c.args.declarators.now c.new-declared.ensures.items

@@ -7,5 +7,5 @@ use Rattle.js_resolver.proofs.fresh.push_declarators.Given as goal
 
 abbrev pub invariant-loop-declarator : goal.invariant-loop-declarator
 invariant-loop-declarator l =
-    l.variables.items ++ fresh l.tables (own_declarators 0 false l.kind (declarators_of (map plain_declarator (drop l.declarator-index l.declarators))))
-    ≡ l.initial.variables.items ++ fresh l.tables (own_declarators 0 false l.kind (declarators_of (map plain_declarator l.declarators)))
+    l.slots.items ++ fresh l.tables (own_declarators 0 false l.kind (declarators_of (map plain_declarator (drop l.declarator-index l.declarators))))
+    ≡ l.initial.slots.items ++ fresh l.tables (own_declarators 0 false l.kind (declarators_of (map plain_declarator l.declarators)))

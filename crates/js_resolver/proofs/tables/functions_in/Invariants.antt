@@ -1,6 +1,6 @@
 use Rattle.std.proofs.Common.{◌≡◌, map, drop, fold, []}
 use Rattle.std.specs.List.{filter_map}
-use Rattle.js_names.specs.Slots.{constant_at, function_at, joins}
+use Rattle.js_names.specs.Slots.{function_at, joins}
 use Rattle.js_names.specs.Views.{place_of}
 use Rattle.js_resolver.proofs.tables.functions_in.Given as goal
 

@@ -1,6 +1,6 @@
 use Rattle.std.proofs.Common.{◌∙◌, ◌++◌, Bool, ap, sym}
 use Rattle.std.specs.Prelude.{option_to_list}
-use Rattle.bp_run.specs.Story.{is_complete}
+use Rattle.bp_log.specs.Records.{is_complete}
 use Rattle.bp_arbiter.specs.Stand.{Stand}
 use Rattle.bp_arbiter.proofs.Runs.{stand, intact_next, took_is, tells_is}
 use Rattle.bp_arbiter.proofs.runner.Runner.step.Goals as goal

@@ -1,6 +1,0 @@
-use Rattle.bp_script.proofs.Once.{never, never_script, one_script}
-use Rattle.bp_script.proofs.laws.one_reading.Goals as goal
-
-pub returns : goal.returns
-returns c =
-    record { never_both = never c.args.bytes.now; never_both_script = never_script c.args.bytes.now; one_script = one_script c.args.bytes.now }

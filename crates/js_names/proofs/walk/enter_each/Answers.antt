@@ -1,9 +1,0 @@
-use Rattle.js_tree.specs.Views.{plain_stmt}
-use Rattle.js_names.specs.Scopes.{each_scope}
-use Rattle.js_names.proofs.Adding.{on_enters_each}
-use Rattle.js_names.proofs.walk.enter_each.Goals as goal
-
-pub returns : goal.returns
-returns c =
-    on_enters_each c.put_name.result c.args.walk.now c.enter.new.walk c.put_name.new.walk c.in_ok-scope.scope (each_scope c.args.around.owner c.args.kind c.args.name.now (plain_stmt c.args.body.now)) c.args.around c.args.kind
-    c.each_role.result c.args.name.now c.in_ok-scope.ensures c.in_ok-enter.ensures c.each_role.ensures c.put_name.ensures
