@@ -1,1 +1,4 @@
 pub mod Standing
+pub mod Beginning
+pub mod Giving
+pub mod Slicing

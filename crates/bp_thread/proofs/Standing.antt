@@ -17,7 +17,7 @@ use Rattle.bp_thread.specs.Carried.{carried}
 pub same_machine : (m : Option Machine) (a b : Machine) → m ≡ Some a → m ≡ Some b → a ≡ b
 same_machine m a b e f = cc
 
-false_true : false ≡ true → ⊥
+pub false_true : false ≡ true → ⊥
 false_true h = cc
 
 -- an outcome that is there is that of the evaluation, and all of its effects were made

@@ -1,22 +1,25 @@
 //! Jobs: bodies that are carried on slice by slice, and stop at `bp.sync`.
-ghost use Rattle.std.specs.Prelude.{◌≡◌, ◌↔◌, ℕ, ◌≤◌, ◌++◌, ◌∷◌, [], List, map, option_map, IfOk, IfSome, OnOk, OnErr, IsErr, IsSome, IsTrue, None, true};
+ghost use Rattle.std.specs.Prelude.{◌≡◌, ◌↔◌, ℕ, ◌≤◌, ◌++◌, ◌∷◌, [], List, map, option_map, IfOk, IfSome, OnOk, OnErr, IsErr, IsSome, IsTrue, None, Some, true};
 ghost use Rattle.js_value.specs.Views.{plain_value};
 ghost use Rattle.js_program.specs.PlainProgram.{PlainProgram};
 ghost use Rattle.js_meaning.specs.State as js;
 ghost use Rattle.js_meaning.specs.Bodies.{the_top, function, evaluation, constants_left};
 ghost use Rattle.js_frames.specs.Places.{plain_ground, plain_effects};
+ghost use Rattle.js_frames.specs.Runs.{Stands, untaken};
 ghost use Rattle.js_meaning.specs.State.{effects_since};
 ghost use Rattle.bp_meaning.specs.After.{after, handler as handler_set};
 ghost use Rattle.bp_thread.specs.Kept.{fits_outcome};
-ghost use Rattle.bp_thread.specs.Views.{plain_outcome};
+ghost use Rattle.bp_thread.specs.Views.{plain_outcome, plain_origin};
 
 use crate::events::Events;
+use crate::keeping::{append, set_handler};
 use crate::origin::Origin;
 use crate::outcome::Outcome;
+use crate::pausing::outcome_at;
 use js_data::{Event, Memory, Text};
 use js_frames::{Constants, Effects, Ground, Machine};
 use js_program::Mode;
-use js_value::Value;
+use js_value::{Items, Value};
 use std::alloc::{AllocError, Global};
 use std::mem;
 
@@ -42,6 +45,34 @@ pub struct Job {
 impl Job {
     ghost use Rattle.bp_thread.specs.Jobs.{plain_job, IsOf, IsLost, is_stopped, is_ended, StandsAt, StandsFor, IsWhole, IsSame, Sliced};
     ghost use Rattle.bp_thread.specs.Carried.{carried};
+
+    // A job that has this machine, which has not begun.
+    fn on(alloc: Global, number: u32, name: Text, origin: Origin, machine: Machine) -> Job
+        ensures made { plain_job result ≡ record {
+            number = number;
+            name = name;
+            origin = plain_origin origin;
+            replies = [];
+            effects = [];
+            handler = None;
+            outcome = None;
+        } }
+        ensures machine { result.machine ≡ Some machine }
+        ensures whole { (base : js.Ground) → (budget : ℕ) → Stands base budget (plain_origin origin) [] 0 [] machine →
+            untaken machine ≡ [] → IsWhole base budget result }
+    {
+        Job {
+            alloc,
+            number,
+            name,
+            origin,
+            replies: Events::new(alloc),
+            machine: Some(machine),
+            effects: Effects::new(alloc),
+            handler: None,
+            outcome: None,
+        }
+    }
 
     /// A job that stands at the start of a call of a function.
     ///
@@ -69,15 +100,10 @@ impl Job {
         }) }
         ensures whole { IfOk result (λ j. IsWhole (plain_ground ground.now) budget j) }
     {
-        let _alloc = alloc;
-        let _ground = ground.program();
-        let _number = number;
-        let _name = name;
-        let _kind = kind;
-        let _callee = callee;
-        let _args = args;
-        let _budget = budget;
-        Err(AllocError)
+        let args = Items::new(alloc, args)?;
+        let machine = Machine::start(alloc, ground, &callee, args.as_slice(), kind, budget)?;
+        let origin = Origin::Call(kind, callee, args);
+        Ok(Job::on(alloc, number, name, origin, machine))
     }
 
     /// A job that stands at the start of the top level. Its number is 0, and its name is empty. Its only error
@@ -95,10 +121,9 @@ impl Job {
         }) }
         ensures whole { IfOk result (λ j. IsWhole (plain_ground ground.now) budget j) }
     {
-        let _alloc = alloc;
-        let _ground = ground.program();
-        let _budget = budget;
-        Err(AllocError)
+        let machine = Machine::top(alloc, ground, budget)?;
+        let name = Text::new(String::new(alloc));
+        Ok(Job::on(alloc, 0, name, Origin::Top, machine))
     }
 
     /// Its number. Takes no memory.
@@ -173,8 +198,14 @@ impl Job {
         ensures whole { (base : js.Ground) → (budget : ℕ) → StandsFor base budget self.old → OnOk result (IsWhole base budget self.new) }
         ensures err { OnErr result (self.new ≡ self.old) }
     {
-        let _event = event.name();
-        Err(AllocError)
+        let kept = event.copy()?;
+        let answer = event.copy()?;
+        self.replies.push(kept)?;
+        self.outcome = None;
+        if let Some(machine) = &mut self.machine {
+            machine.resume(answer);
+        }
+        Ok(())
     }
 
     /// Carries the body on by at most so many nodes: true where the outcome is there now, and false where so
@@ -192,10 +223,18 @@ impl Job {
         ensures lost { OnErr result (IsLost self.new) }
         ensures stays_lost { IsLost self.old → IsErr result }
     {
-        let _ground = ground.program();
-        let _nodes = nodes;
-        self.machine = None;
-        Err(AllocError)
+        let Some(mut machine) = self.machine.take() else {
+            return Err(AllocError);
+        };
+        let pause = machine.run(ground, nodes)?;
+        let fresh = machine.take_effects();
+        set_handler(&mut self.handler, fresh.items.as_slice())?;
+        append(&mut self.effects, fresh)?;
+        let outcome = outcome_at(self.alloc, &machine, pause)?;
+        let done = outcome.is_some();
+        self.machine = Some(machine);
+        self.outcome = outcome;
+        Ok(done)
     }
 
     /// The effects since the start or the last `give` that were not taken yet, in order. Takes no memory.

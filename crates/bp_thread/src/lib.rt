@@ -3,8 +3,10 @@
 
 mod events;
 mod job;
+mod keeping;
 mod origin;
 mod outcome;
+mod pausing;
 mod reading;
 mod statement;
 

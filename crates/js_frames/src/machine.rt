@@ -107,6 +107,7 @@ impl Machine {
         ensures stands { (budget : ℕ) → (o : Origin) → (replies : List PlainEvent) → (begun : ℕ) → (taken : List js.Effect) →
             Stands (plain_ground ground.now) budget o replies begun taken self.old →
             IfOk result (λ pause. Runs (plain_ground ground.now) budget o replies begun taken nodes pause self.new) }
+        ensures at_sync { IfOk result (λ pause. pause ≡ Pause.AtSync → IsSome (asked_by self.new)) }
         ensures lost { OnErr result (IsLost self.new) }
         ensures stays_lost { IsLost self.old → IsErr result }
     {
