@@ -2,3 +2,4 @@ pub mod Standing
 pub mod Beginning
 pub mod Giving
 pub mod Slicing
+pub mod Carrying

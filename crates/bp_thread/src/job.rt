@@ -44,7 +44,7 @@ pub struct Job {
 
 impl Job {
     ghost use Rattle.bp_thread.specs.Jobs.{plain_job, IsOf, IsLost, is_stopped, is_ended, StandsAt, StandsFor, IsWhole, IsSame, Sliced};
-    ghost use Rattle.bp_thread.specs.Carried.{carried};
+    ghost use Rattle.bp_thread.specs.Carried.{carried, Carries};
 
     // A job that has this machine, which has not begun.
     fn on(alloc: Global, number: u32, name: Text, origin: Origin, machine: Machine) -> Job
@@ -218,8 +218,7 @@ impl Job {
         ensures done { IfOk result (λ done. IsTrue done ↔ IsSome (plain_job self.new).outcome) }
         ensures stands { (budget begun : ℕ) → (made : List js.Effect) → StandsAt (plain_ground ground.now) budget begun made self.old →
             IfOk result (λ done. Sliced (plain_ground ground.now) budget begun made nodes done self.old self.new) }
-        ensures whole { (budget : ℕ) → IsWhole (plain_ground ground.now) budget self.old →
-            OnOk result (IsWhole (plain_ground ground.now) budget self.new) }
+        ensures carries { (budget : ℕ) → OnOk result (Carries (plain_ground ground.now) budget self.old self.new) }
         ensures lost { OnErr result (IsLost self.new) }
         ensures stays_lost { IsLost self.old → IsErr result }
     {

@@ -1,4 +1,4 @@
-use Rattle.std.proofs.Common.{refl, sym, ap, subst, ◌∙◌, map, fold}
+use Rattle.std.proofs.Common.{◌+◌, refl, sym, ap, subst, ◌∙◌, map, fold}
 use Rattle.js_frames.specs.Places.{plain_ground, plain_effect, plain_effects}
 use Rattle.js_frames.specs.Runs.{Stands}
 use Rattle.bp_meaning.specs.After.{handler_after}
@@ -30,5 +30,9 @@ returns-clause-stands c = λ budget begun made at.
     (c.in_ok-pause.ensures.stands budget (plain_origin c.args.self.now.origin) c.args.self.now.replies begun made
     (subst (λ m. Stands (plain_ground c.args.ground.now) budget (plain_origin c.args.self.now.origin) c.args.self.now.replies begun made m) (same_machine _ _ _ at.there (sym c.in-Some.ensures.value)) at.stands))
 
-pub returns-clause-whole : goal.returns-clause-whole
-returns-clause-whole c = λ budget w. still_whole (plain_ground c.args.ground.now) budget c.args.nodes c.args.self.now _ refl refl w _ (returns-clause-stands c budget w.begun _ w.stands)
+pub returns-clause-carries : goal.returns-clause-carries
+returns-clause-carries c = λ budget. record {
+  same = record { number = refl; name = refl; origin = refl; replies = refl };
+  stands = λ h. let s = returns-clause-stands c budget h.begun h.made h.stands in record { begun = h.begun + s.more; made = _; stands = s.stands };
+  whole = λ w. still_whole (plain_ground c.args.ground.now) budget c.args.nodes c.args.self.now _ refl refl w _ (returns-clause-stands c budget w.begun _ w.stands);
+}
