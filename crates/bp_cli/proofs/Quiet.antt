@@ -1,5 +1,5 @@
 -- The run of a script ends quiet.
-use Rattle.std.proofs.Common.{◌≡◌, ℕ, ◌≤◌, List, length, arith}
+use Rattle.std.proofs.Common.{ℕ, List, arith}
 use Rattle.js_straight.specs.declared.script.Straight.{Straight}
 use Rattle.bp_quiet.specs.Quiet.{EndsQuiet}
 use Rattle.bp_quiet.proofs.Cut.{cut_few}

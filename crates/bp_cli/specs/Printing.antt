@@ -1,6 +1,6 @@
 -- What a command prints, and what it asks of the world.
-use Rattle.std.specs.Prelude.{◌≡◌, ◌⊎◌, ℕ, List, [], ◌∷◌, ◌++◌, Option, Some, None, IfSome, IsSomeAnd, codes}
-use Rattle.bp_base.specs.Worlds.{Holdings}
+use Rattle.std.specs.Prelude.{◌≡◌, ◌⊎◌, ℕ, List, [], ◌∷◌, ◌++◌, Option, Some, IfSome, IsSomeAnd, codes}
+use Rattle.bp_base.specs.Worlds.{Holdings, Asks}
 use Rattle.bp_base.specs.Pieces.{Appends, AppendsFront}
 use Rattle.js_program.specs.PlainProgram.{PlainProgram}
 use Rattle.js_straight.specs.declared.script.Straight.{Straight}
@@ -57,6 +57,14 @@ abbrev pub IsRefusedWith : List ℕ → Verb → List ℕ → Type 0
 IsRefusedWith note Verb.Run bytes = (refusal : Refusal) × IsRefused bytes refusal × (note ≡ refusals.note_of refusal)
 IsRefusedWith note Verb.Accept bytes =
     (refusal : Refusal) × IsOther refusal × IsRefused bytes refusal × (note ≡ refusals.note_of refusal)
+
+-- the words of some refusal
+abbrev pub IsRefusalNote : List ℕ → Type 0
+IsRefusalNote note = (refusal : Refusal) × (note ≡ refusals.note_of refusal)
+
+-- this one name was asked for
+abbrev pub AsksOnce : Option (List ℕ) → Option (List (List ℕ)) → Option (List (List ℕ)) → Type 0
+AsksOnce name before after = IsSomeAnd name (λ n. Asks before n after)
 
 -- at most this one name was asked for
 abbrev pub AsksAtMost : Option (List ℕ) → Option (List (List ℕ)) → Option (List (List ℕ)) → Type 0

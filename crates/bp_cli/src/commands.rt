@@ -1,13 +1,15 @@
-// The command.
+//! The command.
 ghost use Rattle.std.specs.Prelude.{◌≡◌, ◌⊎◌, ◌<◌, ◌≤◌, length, map, Some, None, IsErrOf, IfOk, IsSome, IfSome, IsSomeAnd, string_bytes, vec_len};
 ghost use Rattle.bp_base.specs.Counts.{Rose};
+ghost use Rattle.bp_base.specs.Worlds.{Asks};
 ghost use Rattle.bp_cli.specs.Command.{command_of, name_of, note_of};
-ghost use Rattle.bp_cli.specs.Printing.{OfHeld, Prints, PrintsPart, EndsWell, IsRefusedWith, AsksAtMost};
+ghost use Rattle.bp_cli.specs.Printing.{OfHeld, Prints, PrintsPart, EndsWell, IsRefusedWith, IsRefusalNote, AsksOnce, AsksAtMost};
 
 use crate::Status;
 use crate::words::{Verb, command_of};
 use bp_arbiter::{RunFault, run};
 use bp_base::{ReadError, Sink, World, WorldError, read_all, write_all};
+use bp_log::limits::MOST_BYTES;
 use bp_script::{Refusal, ScriptFault, accept, read_script};
 use std::alloc::Global;
 use std::sync::Wait;
@@ -26,16 +28,14 @@ const WRITE_FAULT: &str = "write fault";
 /// What is printed of an accepted program.
 const ACCEPTED: &[u8] = b"accepted\n";
 
-/// The greatest number of bytes of a program.
-const LONGEST: u64 = 1_048_576;
-
 /// The bytes of a program in the world, whose input is closed again.
 fn bytes_of<W: World>(alloc: Global, world: &mut W, name: &str) -> Result<Vec<u8>, ReadError>
     ensures bytes { IfOk result (λ v. IfSome (W.holds world.old) (λ held. IsSomeAnd (held name.now) (λ bytes. v.items ≡ bytes))) }
-    ensures within { IfOk result (λ v. vec_len v ≤ 1048576) }
-    ensures too_long { IsErrOf result ReadError.TooLong → IfSome (W.holds world.old) (λ held. IsSomeAnd (held name.now) (λ bytes. 1048576 < length bytes)) }
+    ensures within { IfOk result (λ v. vec_len v ≤ MOST_BYTES) }
+    ensures too_long { IsErrOf result ReadError.TooLong → IfSome (W.holds world.old) (λ held. IsSomeAnd (held name.now) (λ bytes. MOST_BYTES < length bytes)) }
     ensures cause { IsErrOf result ReadError.Fault → Rose (W.read_faults world.old) (W.read_faults world.new) }
     ensures asks { AsksAtMost (Some name.now) (W.asked world.old) (W.asked world.new) }
+    ensures asked { IsErrOf result ReadError.Memory ⊎ Asks (W.asked world.old) name.now (W.asked world.new) }
     ensures holds { W.holds world.new ≡ W.holds world.old }
     ensures counts { W.read_faults world.old ≤ W.read_faults world.new }
 {
@@ -44,7 +44,7 @@ fn bytes_of<W: World>(alloc: Global, world: &mut W, name: &str) -> Result<Vec<u8
         Err(WorldError::Failed) => return Err(ReadError::Fault),
         Err(WorldError::Memory) => return Err(ReadError::Memory),
     };
-    let read = read_all(alloc, &mut input, LONGEST);
+    let read = read_all(alloc, &mut input, u64::from(MOST_BYTES));
     world.close_input(input);
     read
 }
@@ -58,6 +58,7 @@ fn run_script<K: Sink>(alloc: Global, bytes: &[u8], out: &mut K) -> Status
     ensures prints_some { result.code ≡ 10 → (K.written out.new ≡ K.written out.old) ⊎ PrintsPart (K.written out.old) (K.written out.new) Verb.Run bytes.now }
     ensures prints_nothing { result.code ≡ 2 → K.written out.new ≡ K.written out.old }
     ensures refused { result.code ≡ 2 → IsRefusedWith result.note Verb.Run bytes.now }
+    ensures refusal { result.code ≡ 2 → IsRefusalNote result.note }
     ensures write_fault { result.code ≡ 9 → Rose (K.faults out.old) (K.faults out.new) }
     ensures status { result.code ≡ 0 ⊎ (result.code ≡ 2 ⊎ (result.code ≡ 9 ⊎ result.code ≡ 10)) }
     ensures note { (result.code ≡ 2) ⊎ (result.note ≡ note_of result.code) }
@@ -82,6 +83,7 @@ fn accept_program<K: Sink>(alloc: Global, bytes: &[u8], out: &mut K) -> Status
     ensures prints_some { result.code ≡ 10 → (K.written out.new ≡ K.written out.old) ⊎ PrintsPart (K.written out.old) (K.written out.new) Verb.Accept bytes.now }
     ensures prints_nothing { result.code ≡ 2 → K.written out.new ≡ K.written out.old }
     ensures refused { result.code ≡ 2 → IsRefusedWith result.note Verb.Accept bytes.now }
+    ensures refusal { result.code ≡ 2 → IsRefusalNote result.note }
     ensures write_fault { result.code ≡ 9 → Rose (K.faults out.old) (K.faults out.new) }
     ensures status { result.code ≡ 0 ⊎ (result.code ≡ 2 ⊎ (result.code ≡ 9 ⊎ result.code ≡ 10)) }
     ensures note { (result.code ≡ 2) ⊎ (result.note ≡ note_of result.code) }
@@ -125,13 +127,17 @@ pub fn command<R: Threads + Wait + Sync, W: World, K: Sink>(
     ensures usage { result.code ≡ 1 → command_of (map string_bytes words.now) ≡ None }
     ensures command { result.code ≡ 1 ⊎ (result.code ≡ 10 ⊎ IsSome (command_of (map string_bytes words.now))) }
     ensures refused { result.code ≡ 2 → OfHeld (W.holds world.old) (command_of (map string_bytes words.now)) (IsRefusedWith result.note) }
+    ensures refusal { result.code ≡ 2 → IsRefusalNote result.note }
     ensures read_fault { result.code ≡ 8 → Rose (W.read_faults world.old) (W.read_faults world.new) }
     ensures write_fault { result.code ≡ 9 → Rose (K.faults out.old) (K.faults out.new) }
     ensures status { result.code ≡ 0 ⊎ (result.code ≡ 1 ⊎ (result.code ≡ 2 ⊎ (result.code ≡ 8 ⊎ (result.code ≡ 9 ⊎ result.code ≡ 10)))) }
     ensures note { (result.code ≡ 2) ⊎ (result.note ≡ note_of result.code) }
 
-    // The world is asked at most once, for the program's name, and holds what it held.
+    // The world is asked at most once, for the program's name, and is asked unless the words are no command or memory is
+    // wanting. It holds what it held.
     ensures asks { AsksAtMost (name_of (command_of (map string_bytes words.now))) (W.asked world.old) (W.asked world.new) }
+    ensures asked { result.code ≡ 1 ⊎ (result.code ≡ 10
+        ⊎ AsksOnce (name_of (command_of (map string_bytes words.now))) (W.asked world.old) (W.asked world.new)) }
     ensures holds { W.holds world.new ≡ W.holds world.old }
     ensures read_counts { W.read_faults world.old ≤ W.read_faults world.new }
     ensures write_counts { K.faults out.old ≤ K.faults out.new }

@@ -1,4 +1,4 @@
-// How a command ends.
+//! How a command ends.
 ghost use Rattle.std.specs.Prelude.{◌≡◌, ◌⊎◌, []};
 ghost use Rattle.bp_script.specs.Refusals.{note_of};
 

@@ -8,13 +8,13 @@ use Rattle.js_grammar.specs.Trees.{IsTree}
 use Rattle.js_grammar.specs.Unsupported.{first_unsupported}
 use Rattle.js_grammar.proofs.Unique.{tree_once}
 use Rattle.js_program.specs.PlainProgram.{PlainProgram}
-use Rattle.js_resolver.specs.Resolved.{resolved}
+use Rattle.js_resolver.specs.Resolved.{resolved, unless_fault, program_of_tree}
 use Rattle.js_straight.specs.declared.script.Straight.{Straight}
 use Rattle.js_straight.specs.Straight.{script_of}
 use Rattle.bp_script.specs.declared.refusal.Kind.{Kind}
 use Rattle.bp_script.specs.declared.refusal.Rule.{Rule}
 use Rattle.bp_script.specs.declared.refusal.Refusal.{Refusal}
-use Rattle.bp_script.specs.Programs.{AreCut, AreSpelled, AreAccepted, IsProgram, IsScript, HasFlaw, HasRefusedToken, IsNoText, HasNoSpelling, HasNameFault, BreaksRule, IsWrong, fault_of, IsBroken, IsOther, IsRefused, NeverBoth, NeverBothScript, OneProgram, OneScript}
+use Rattle.bp_script.specs.Programs.{AreCut, AreSpelled, AreAccepted, IsProgram, IsScript, HasFlaw, HasRefusedToken, IsNoText, HasNoSpelling, HasNameFault, BreaksRule, IsWrong, fault_of, IsBroken, IsOther, IsRefused, NeverBoth, NeverBothScript, OneProgram, EachIsProgram, OneScript}
 use Rattle.js_names.specs.declared.place.NameFault.{NameFault}
 use Rattle.js_names.specs.Rules.{name_fault}
 
@@ -81,3 +81,10 @@ pub one_program : (bytes : List ℕ) → OneProgram bytes
 one_program bytes a b p q =
     let same = same_tree bytes p.tree q.tree (p.accepted).spelled (q.accepted).spelled in
     let k : Some a ≡ Some b = sym p.is_resolved ∙ ap (λ (x : List PlainItem). resolved x) same ∙ q.is_resolved in cc
+
+no_fault : (tree : List PlainItem) → name_fault tree ≡ None → resolved tree ≡ Some (program_of_tree tree)
+unfolding resolved
+no_fault tree h = ap (λ (f : Option NameFault). unless_fault f (program_of_tree tree)) h
+
+pub each_is_program : (bytes : List ℕ) → EachIsProgram bytes
+each_is_program bytes tree a = (program_of_tree tree, record { tree = tree; accepted = a; is_resolved = no_fault tree a.named })

@@ -13,6 +13,7 @@ use Rattle.js_grammar.specs.Trees.{IsTree, HasNoTree}
 use Rattle.js_grammar.specs.Unsupported.{first_unsupported}
 use Rattle.js_names.specs.declared.place.NameFault.{NameFault}
 use Rattle.js_names.specs.Rules.{name_fault}
+use Rattle.js_parser.specs.Parse.{IsLineIn}
 use Rattle.js_program.specs.PlainProgram.{PlainProgram}
 use Rattle.js_resolver.specs.Resolved.{resolved}
 use Rattle.js_straight.specs.declared.script.Straight.{Straight}
@@ -63,9 +64,9 @@ HasRefusedToken bytes line = (tokens : List Token) × AreCut bytes tokens × (fi
 abbrev pub IsNoText : List ℕ → ℕ → Type 0
 IsNoText bytes line = (length bytes ≤ 1048576) × ¬ (IsUtf8 bytes) × ((place : ℕ) × IsValidUpTo bytes place × (line ≡ line_of bytes place))
 
--- none of the tokens is refused, and they spell no tree of nesting at most 200
-abbrev pub HasNoSpelling : List ℕ → Type 0
-HasNoSpelling bytes = (tokens : List Token) × AreCut bytes tokens × (first_unsupported false tokens ≡ None) × HasNoTree 200 tokens
+-- none of the tokens is refused, and they spell no tree of nesting at most 200; the line is that of one of them, or 1 where there is none
+abbrev pub HasNoSpelling : List ℕ → ℕ → Type 0
+HasNoSpelling bytes line = (tokens : List Token) × AreCut bytes tokens × (first_unsupported false tokens ≡ None) × HasNoTree 200 tokens × IsLineIn tokens line
 
 -- they spell a tree whose first breach of a rule of names is this one
 abbrev pub HasNameFault : List ℕ → NameFault → Type 0
@@ -82,7 +83,7 @@ IsWrong bytes line Kind.Escape = HasFlaw bytes flaw.Escape line
 IsWrong bytes line Kind.NumberRange = HasFlaw bytes flaw.NumberRange line
 IsWrong bytes line Kind.Unsupported = HasFlaw bytes flaw.Unsupported line ⊎ HasRefusedToken bytes line
 IsWrong bytes line Kind.Utf8 = IsNoText bytes line
-IsWrong bytes line Kind.NoTree = HasNoSpelling bytes
+IsWrong bytes line Kind.NoTree = HasNoSpelling bytes line
 IsWrong bytes line Kind.LoopWord = BreaksRule bytes line NameFault.LoopWord
 IsWrong bytes line Kind.ReturnPlace = BreaksRule bytes line NameFault.ReturnPlace
 IsWrong bytes line Kind.Slots = BreaksRule bytes line NameFault.Slots
@@ -115,6 +116,10 @@ NeverBoth bytes = (tree : List PlainItem) (refusal : Refusal) → IsOther refusa
 -- the bytes are one program
 abbrev pub OneProgram : List ℕ → Type 0
 OneProgram bytes = (a b : PlainProgram) → IsProgram bytes a → IsProgram bytes b → a ≡ b
+
+-- and each accepted tree is a program
+abbrev pub EachIsProgram : List ℕ → Type 0
+EachIsProgram bytes = (tree : List PlainItem) → AreAccepted bytes tree → (program : PlainProgram) × IsProgram bytes program
 
 -- no bytes are both a script and refused, nor two scripts
 abbrev pub NeverBothScript : List ℕ → Type 0

@@ -7,6 +7,7 @@ use Rattle.std.proofs.lemmas.Bool.{le-leb}
 use Rattle.serde_json.specs.Data as json
 use Rattle.serde_json.specs.Read.{read}
 use Rattle.js_data.specs.Event.{PlainEvent, IsEvent, event_weight, event_nesting}
+use Rattle.js_data.specs.declared.event.TheConstants.Event as event
 use Rattle.js_json.specs.Json.{event_from, event_at, within_limits}
 
 unless : (b : Bool) (x : Option PlainEvent) → (b ≡ true → x ≡ None) → (if b then x else None) ≡ None
@@ -20,4 +21,4 @@ refused bytes h =
 
 pub accepted : (bytes : List ℕ) (d : json.Data) (e : PlainEvent) → IsUtf8 bytes → read bytes ≡ Some d → event_from d ≡ Some e → IsEvent e → event_at bytes ≡ Some e
 accepted bytes d e u r f h =
-    rw (is_utf8-from_IsUtf8 bytes u, r, f, le-leb (event_weight e) 1024 h.weight, le-leb (event_nesting e) 64 h.nesting)
+    rw (is_utf8-from_IsUtf8 bytes u, r, f, le-leb (event_weight e) event.MOST_WEIGHT h.weight, le-leb (event_nesting e) event.MOST_NESTING h.nesting)

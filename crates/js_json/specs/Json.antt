@@ -8,6 +8,7 @@ use Rattle.serde_json.specs.Read.{read}
 use Rattle.js_data.specs.Whole.{is_whole}
 use Rattle.js_data.specs.Data.{PlainData, null, truth, whole, words, list, fields, DataList, no_data, item, DataFields, no_fields, field}
 use Rattle.js_data.specs.Event.{PlainEvent, event_weight, event_nesting}
+use Rattle.js_data.specs.declared.event.TheConstants.Event as event
 
 abbrev pub if_whole : ℤ → Option PlainData
 if_whole n = if is_whole n then Some (whole n) else None
@@ -42,7 +43,7 @@ abbrev pub event_from : json.Data → Option PlainEvent
 event_from d = option_and_then event_of_items (as_array d)
 
 abbrev pub within_limits : PlainEvent → Option PlainEvent
-within_limits e = if nat_le (event_weight e) 1024 && nat_le (event_nesting e) 64 then Some e else None
+within_limits e = if nat_le (event_weight e) event.MOST_WEIGHT && nat_le (event_nesting e) event.MOST_NESTING then Some e else None
 
 -- the event that these bytes are the text of
 abbrev pub event_at : List ℕ → Option PlainEvent

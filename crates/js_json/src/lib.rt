@@ -1,8 +1,8 @@
-//! The texts of events, as compact JSON, both ways.
+//! The texts of events, as compact JSON, both ways, and the texts of data.
 #![tactic(auto)]
 
 pub mod reader;
 pub mod writer;
 
 pub use reader::{EventError, event_of};
-pub use writer::{event_text, quoted};
+pub use writer::{data_text, event_text, quoted};

@@ -1,8 +1,9 @@
-//! The text of an event.
+//! The texts of data and of events.
 ghost use Rattle.std.specs.Prelude.{◌≡◌, Some, IfOk};
 ghost use Rattle.serde_json.specs.View.{view, items_view, members_view};
 ghost use Rattle.serde_json.specs.Data.{no_members};
-ghost use Rattle.js_data.specs.JsonText.{event_text as text_of_event, quoted_text};
+ghost use Rattle.js_data.specs.Data.{IsSortedData};
+ghost use Rattle.js_data.specs.JsonText.{data_text as text_of_data, event_text as text_of_event, quoted_text};
 ghost use Rattle.js_data.specs.Views.{plain_data, data_list_view, data_fields_view};
 ghost use Rattle.js_json.specs.Built.{data_json, list_json, put_all, event_json};
 ghost use Rattle.js_json.specs.Json.{event_at};
@@ -47,6 +48,15 @@ fn json_of_fields(alloc: Global, fields: &Vec<(Text, Data)>) -> Result<Map<Strin
         serde_json::put(&mut made, alloc, field.0.as_str(), member)?;
     }
     Ok(made)
+}
+
+/// The text of the data as compact JSON (RFC 8259), keys sorted. Its only error is want of memory.
+pub fn data_text(alloc: Global, tree: &Data) -> Result<Text, Memory>
+    requires { IsSortedData (plain_data tree.now) }
+    ensures { IfOk result (λ t. t ≡ text_of_data (plain_data tree.now)) }
+{
+    let made = json_of(alloc, tree)?;
+    Ok(Text::new(made.to_string(alloc)?))
 }
 
 fn json_of_event(alloc: Global, event: &Event) -> Result<Json, Memory>

@@ -1,11 +1,7 @@
 //! Calls by their names, on values by their words.
-ghost use Rattle.std.specs.Prelude.{map, IfOk};
-ghost use Rattle.js_value.specs.Value.{IsSortedValue, AreSortedValues};
-ghost use Rattle.js_value.specs.Lists.{value_list_of};
-ghost use Rattle.js_value.specs.Views.{plain_value};
 
 use crate::words::{shown, text, value_of};
-use js_ops::{OpFault, apply, index, make, member, method, unary};
+use js_ops::{OpFault, apply, index, make, member, method, method_named, unary};
 use js_value::{Fault, Make, Method, Op, Text, Unary, Value};
 use std::alloc::Global;
 use std::test::Fail;
@@ -41,19 +37,6 @@ fn unary_operator(name: &str) -> Option<Unary> {
     }
 }
 
-fn method_of(name: &str) -> Option<Method> {
-    match name {
-        "concat" => Some(Method::Concat),
-        "startsWith" => Some(Method::StartsWith),
-        "endsWith" => Some(Method::EndsWith),
-        "or" => Some(Method::Or),
-        "and" => Some(Method::And),
-        "xor" => Some(Method::Xor),
-        "negate" => Some(Method::Negate),
-        _ => None,
-    }
-}
-
 fn applied(alloc: Global, op: Op, words: &str) -> Result<String, Fail> {
     let (left, right) = words.split_once(" | ").ok_or("one value")?;
     let first = value_of(alloc, left)?;
@@ -76,13 +59,11 @@ fn place_of(alloc: Global, words: &str) -> Result<String, Fail> {
     let (on, at) = words.split_once(" | ").ok_or("no place")?;
     let value = value_of(alloc, on)?;
     let place = value_of(alloc, at)?;
-    shown(alloc, index(alloc, &value, &place))
+    shown(alloc, index(&value, &place))
 }
 
 // What the method answers on the value of the word with these arguments.
-fn called_with(alloc: Global, name: Method, on: &str, args: &[Value]) -> Result<String, Fail>
-    requires { AreSortedValues (value_list_of (map plain_value args.now)) }
-{
+fn called_with(alloc: Global, name: Method, on: &str, args: &[Value]) -> Result<String, Fail> {
     let target = value_of(alloc, on)?;
     shown(alloc, method(alloc, name, &target, args))
 }
@@ -111,10 +92,7 @@ fn called(alloc: Global, name: Method, words: &str) -> Result<String, Fail> {
 }
 
 // The making of what has no keys.
-fn made_of(alloc: Global, kind: Make, parts: &[Value]) -> Result<Value, OpFault>
-    requires { AreSortedValues (value_list_of (map plain_value parts.now)) }
-    ensures { IfOk result (λ x. IsSortedValue (plain_value x)) }
-{
+fn made_of(alloc: Global, kind: Make, parts: &[Value]) -> Result<Value, OpFault> {
     match kind {
         Make::List => make(alloc, Make::List, parts, &[]),
         Make::Event => make(alloc, Make::Event, parts, &[]),
@@ -208,7 +186,7 @@ pub fn answer(alloc: Global, name: &str, words: &str) -> Result<String, Fail> {
     if let Some(op) = unary_operator(name) {
         return applied_to_one(alloc, op, words);
     }
-    match method_of(name) {
+    match method_named(name) {
         Some(method) => called(alloc, method, words),
         None => other(alloc, name, words),
     }

@@ -1,7 +1,7 @@
 //! Each operator over every pair of kinds.
 use crate::lines::{Lines, agree};
 use crate::words::value_of;
-use js_ops::{OpFault, apply};
+use js_ops::{OpFault, Rules, apply_by};
 use js_value::{Fault, Op, Value};
 use std::alloc::Global;
 use std::process::Abort;
@@ -41,7 +41,8 @@ fn push_mark(
     marks: &mut String,
 ) -> Result<(), Fail> {
     let value = value_of(alloc, right)?;
-    marks.push(char::from(mark(&apply(alloc, op, left, &value))))?;
+    let answer = apply_by(alloc, &Rules::new(), op, left, &value);
+    marks.push(char::from(mark(&answer)))?;
     Ok(())
 }
 

@@ -24,6 +24,10 @@ const WEIGHTS: &str = r#"
 + | 65535 letters | "a" | weight
 list | 65534 letters | ok
 list | 65535 letters | weight
+list | 65533 letters captured | ok
+list | 65534 letters captured | weight
+set | "cars" | 65529 letters captured | ok
+set | "cars" | 65530 letters captured | weight
 concat | 65533 letters in a list | null | ok
 concat | 65534 letters in a list | null | weight
 field | ab | 65531 letters | ok
@@ -47,9 +51,13 @@ event | 1022 letters | null | weight
 "#;
 
 // Lists, fields and sets nest at most 64 deep.
-const NESTINGS: &str = "
+const NESTINGS: &str = r#"
 list | 63 lists | ok
 list | 64 lists | nesting
+list | 62 lists captured | ok
+list | 63 lists captured | nesting
+set | "cars" | 63 lists captured | ok
+set | "cars" | 64 lists captured | nesting
 field | a | 63 lists | ok
 field | a | 64 lists | nesting
 concat | [] | 62 lists in fields | ok
@@ -62,7 +70,7 @@ xor | all | 63 lists | ok
 xor | all | 64 lists | nesting
 negate | 62 lists joined to all | ok
 negate | 63 lists joined to all | nesting
-";
+"#;
 
 // The weight comes before the nesting.
 const BOTH: &str = "

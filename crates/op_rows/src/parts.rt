@@ -121,6 +121,7 @@ fields | b | a | b | {"a":2,"b":3}
 fields | a | a | a | {"a":3}
 fields | é | z | B | {"B":3,"z":2,"é":1}
 fields | ab | a |  | {"":3,"a":2,"ab":1}
+fields | 😀 | ～ | a | {"a":3,"～":2,"😀":1}
 no fields | {}
 "#;
 

@@ -1,11 +1,10 @@
 //! The values that the words of a table name, and the words of answers.
-ghost use Rattle.std.specs.Prelude.{IfOk};
-ghost use Rattle.std.specs.Result.{ForOk};
-ghost use Rattle.js_value.specs.Value.{IsSortedValue};
-ghost use Rattle.js_value.specs.Views.{plain_value};
 
 use js_ops::{OpFault, make, member, method};
-use js_value::{Event, Make, Method, SetTree, Text, Value, event_of, event_text};
+use js_value::{
+    Event, EventSet, Items, Make, Method, SetTree, Text, Value, event_of, event_text, event_value,
+    words,
+};
 use std::alloc::Global;
 use std::test::Fail;
 
@@ -13,65 +12,55 @@ pub fn text(alloc: Global, word: &str) -> Result<Text, Fail> {
     Ok(Text::new(String::from_str(alloc, word)?))
 }
 
-fn event(alloc: Global, word: &str) -> Result<Value, Fail>
-    ensures { IfOk result (λ v. IsSortedValue (plain_value v)) }
-{
-    let found = event_of(alloc, word.as_bytes())?;
-    found.keeps();
-    Ok(Value::Event(found))
+fn event(alloc: Global, word: &str) -> Result<Value, Fail> {
+    Ok(event_value(alloc, event_of(alloc, word.as_bytes())?)?)
 }
 
-fn data_of(alloc: Global, event: &Value) -> Result<Value, Fail>
-    requires { IsSortedValue (plain_value event.now) }
-    ensures { IfOk result (λ v. IsSortedValue (plain_value v)) }
-{
+fn data_of(alloc: Global, event: &Value) -> Result<Value, Fail> {
     Ok(member(alloc, event, &text(alloc, "data")?)?)
 }
 
-fn data(alloc: Global, word: &str) -> Result<Value, Fail>
-    ensures { IfOk result (λ v. IsSortedValue (plain_value v)) }
-{
+fn data(alloc: Global, word: &str) -> Result<Value, Fail> {
     let line = format!(in alloc; "[\"\",{word}]")?;
     data_of(alloc, &event(alloc, line.as_str())?)
 }
 
-fn list(alloc: Global, item: Value) -> Result<Value, Fail>
-    requires { IsSortedValue (plain_value item) }
-    ensures { IfOk result (λ v. IsSortedValue (plain_value v)) }
-{
+fn list(alloc: Global, item: Value) -> Result<Value, Fail> {
     Ok(make(alloc, Make::List, &[item], &[])?)
 }
 
 // The fields with the key `a` alone.
-fn fields(alloc: Global, item: Value) -> Result<Value, Fail>
-    requires { IsSortedValue (plain_value item) }
-    ensures { IfOk result (λ v. IsSortedValue (plain_value v)) }
-{
+fn fields(alloc: Global, item: Value) -> Result<Value, Fail> {
     let key = text(alloc, "a")?;
     Ok(make(alloc, Make::Fields, &[item], &[key])?)
 }
 
-fn function(alloc: Global) -> Value
-    ensures { IsSortedValue (plain_value result) }
-{
-    Value::Function {
+fn function(alloc: Global, captured: Vec<Value>) -> Result<Value, Fail> {
+    Ok(Value::Function {
         code: 3,
-        captured: Vec::new(alloc),
-    }
+        captured: Items::new(alloc, captured)?,
+    })
 }
 
-fn predicate(alloc: Global, name: Value) -> Result<Value, Fail>
-    requires { IsSortedValue (plain_value name) }
-    ensures { IfOk result (λ v. IsSortedValue (plain_value v)) }
-{
-    Ok(make(alloc, Make::Set, &[name, function(alloc)], &[])?)
+fn capturing(alloc: Global, item: Value) -> Result<Value, Fail> {
+    function(alloc, vec![in alloc; item]?)
 }
 
-fn joined_to_all(alloc: Global, item: Value) -> Result<Value, Fail>
-    requires { IsSortedValue (plain_value item) }
-    ensures { IfOk result (λ v. IsSortedValue (plain_value v)) }
-{
-    let all = Value::Set(SetTree::All);
+fn set(alloc: Global, tree: SetTree) -> Result<Value, Fail> {
+    Ok(Value::Set(EventSet::new(alloc, tree)?))
+}
+
+fn predicate(alloc: Global, name: Value) -> Result<Value, Fail> {
+    Ok(make(
+        alloc,
+        Make::Set,
+        &[name, function(alloc, Vec::new(alloc))?],
+        &[],
+    )?)
+}
+
+fn joined_to_all(alloc: Global, item: Value) -> Result<Value, Fail> {
+    let all = set(alloc, SetTree::All)?;
     Ok(method(alloc, Method::Or, &all, &[item])?)
 }
 
@@ -83,31 +72,27 @@ fn push_times(line: &mut String, part: &str, times: u32) -> Result<(), Fail> {
 }
 
 // A text of this many bytes, which weighs one more.
-fn letters(alloc: Global, count: u32) -> Result<Value, Fail>
-    ensures { IfOk result (λ v. IsSortedValue (plain_value v)) }
-{
+fn letters(alloc: Global, count: u32) -> Result<Value, Fail> {
     let mut word = String::new(alloc);
     push_times(&mut word, "a", count)?;
-    Ok(Value::Words(Text::new(word)))
+    Ok(words(alloc, Text::new(word))?)
 }
 
 // This many lists, one in another; 2 to 64.
-fn lists(alloc: Global, count: u32) -> Result<Value, Fail>
-    ensures { IfOk result (λ v. IsSortedValue (plain_value v)) }
-{
+fn lists(alloc: Global, count: u32) -> Result<Value, Fail> {
     let mut line = String::new(alloc);
     push_times(&mut line, "[", count.saturating_sub(1))?;
     push_times(&mut line, "]", count.saturating_sub(1))?;
     list(alloc, data(alloc, line.as_str())?)
 }
 
-fn sized(alloc: Global, count: u32, name: &str) -> Result<Value, Fail>
-    ensures { IfOk result (λ v. IsSortedValue (plain_value v)) }
-{
+fn sized(alloc: Global, count: u32, name: &str) -> Result<Value, Fail> {
     match name {
         "letters" => letters(alloc, count),
         "letters in a list" => list(alloc, letters(alloc, count)?),
         "letters as a predicate" => predicate(alloc, letters(alloc, count)?),
+        "letters captured" => capturing(alloc, letters(alloc, count)?),
+        "lists captured" => capturing(alloc, lists(alloc, count)?),
         "lists" => lists(alloc, count),
         "lists in fields" => fields(alloc, lists(alloc, count)?),
         "lists joined to all" => joined_to_all(alloc, lists(alloc, count)?),
@@ -117,17 +102,15 @@ fn sized(alloc: Global, count: u32, name: &str) -> Result<Value, Fail>
 
 /// The value of JSON without blanks; of `event` and the text of an event; of `undefined`, `function`, `all` and `none`;
 /// of `[undefined]`, `[none]` and `[[none]]`; of a number and `letters`, `lists` or what is made of them.
-pub fn value_of(alloc: Global, word: &str) -> Result<Value, Fail>
-    ensures { IfOk result (λ v. IsSortedValue (plain_value v)) }
-{
+pub fn value_of(alloc: Global, word: &str) -> Result<Value, Fail> {
     match word {
         "undefined" => Ok(Value::Undefined),
-        "function" => Ok(function(alloc)),
-        "all" => Ok(Value::Set(SetTree::All)),
-        "none" => Ok(Value::Set(SetTree::Nothing)),
+        "function" => function(alloc, Vec::new(alloc)),
+        "all" => set(alloc, SetTree::All),
+        "none" => set(alloc, SetTree::Nothing),
         "[undefined]" => list(alloc, Value::Undefined),
-        "[none]" => list(alloc, Value::Set(SetTree::Nothing)),
-        "[[none]]" => list(alloc, list(alloc, Value::Set(SetTree::Nothing))?),
+        "[none]" => list(alloc, set(alloc, SetTree::Nothing)?),
+        "[[none]]" => list(alloc, list(alloc, set(alloc, SetTree::Nothing)?)?),
         _ => match word.split_once(" ") {
             Some(("event", line)) => event(alloc, line),
             Some((count, name)) => sized(alloc, count.parse::<u32>()?, name),
@@ -144,10 +127,8 @@ fn data_in(alloc: Global, held: &Event) -> Result<String, Fail> {
 }
 
 // The JSON of data, as what stands in the text of an event behind its name; `too large` where no event can hold it.
-fn shown_data(alloc: Global, v: Value) -> Result<String, Fail>
-    requires { IsSortedValue (plain_value v) }
-{
-    let name = Value::Words(text(alloc, "")?);
+fn shown_data(alloc: Global, v: Value) -> Result<String, Fail> {
+    let name = words(alloc, text(alloc, "")?)?;
     match &make(alloc, Make::Event, &[name, v], &[]) {
         Ok(Value::Event(held)) => data_in(alloc, held),
         _ => Ok(String::from_str(alloc, "too large")?),
@@ -159,19 +140,45 @@ fn shown_event(alloc: Global, event: &Event) -> Result<String, Fail> {
     Ok(format!(in alloc; "event {}", line.as_str())?)
 }
 
+// The line without each place of the part.
+fn without(alloc: Global, line: &str, part: &str) -> Result<String, Fail> {
+    let mut kept = String::new(alloc);
+    for piece in line.split(part) {
+        kept.push_str(piece)?;
+    }
+    Ok(kept)
+}
+
+// The line without the sizes that stand beside shared parts, each with two braces behind it.
+fn without_sizes(alloc: Global, line: &str) -> Result<String, Fail> {
+    let mut kept = String::new(alloc);
+    for piece in line.split(", weight: ") {
+        match piece.split_once(" } }") {
+            Some((_, rest)) => kept.push_str(rest)?,
+            None => kept.push_str(piece)?,
+        }
+    }
+    Ok(kept)
+}
+
+// What the set was made of.
+fn shown_set(alloc: Global, set: &EventSet) -> Result<String, Fail> {
+    let line = without_sizes(alloc, format!(in alloc; "{set:?}")?.as_str())?;
+    let sets = without(alloc, line.as_str(), "EventSet { shared: SetParts { tree: ")?;
+    without(alloc, sets.as_str(), "Items { shared: ItemParts { values: ")
+}
+
 // The word of what is no data.
 fn shown_as_no_data(alloc: Global, v: &Value) -> Result<Option<String>, Fail> {
     match v {
         Value::Undefined => Ok(Some(String::from_str(alloc, "undefined")?)),
         Value::Event(event) => Ok(Some(shown_event(alloc, event)?)),
-        Value::Set(set) => Ok(Some(format!(in alloc; "{set:?}")?)),
+        Value::Set(set) => Ok(Some(shown_set(alloc, set)?)),
         _ => Ok(None),
     }
 }
 
-fn shown_value(alloc: Global, v: Value) -> Result<String, Fail>
-    requires { IsSortedValue (plain_value v) }
-{
+fn shown_value(alloc: Global, v: Value) -> Result<String, Fail> {
     match shown_as_no_data(alloc, &v)? {
         Some(word) => Ok(word),
         None => shown_data(alloc, v),
@@ -179,9 +186,7 @@ fn shown_value(alloc: Global, v: Value) -> Result<String, Fail>
 }
 
 /// The word of the value, or the name of the fault.
-pub fn shown(alloc: Global, answer: Result<Value, OpFault>) -> Result<String, Fail>
-    requires { ForOk answer (λ v. IsSortedValue (plain_value v)) }
-{
+pub fn shown(alloc: Global, answer: Result<Value, OpFault>) -> Result<String, Fail> {
     match answer {
         Err(OpFault::Fault(fault)) => Ok(String::from_str(alloc, fault.name())?),
         Err(OpFault::Memory) => Ok(String::from_str(alloc, "memory")?),

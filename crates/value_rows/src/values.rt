@@ -1,19 +1,21 @@
 //! Weights, nestings, truth and texts of values and sets, and the names of faults.
 use crate::lines::{Lines, agree};
 use js_value::{
-    Event, Fault, SetTree, Text, Value, Whole, copy, copy_set, nesting, nesting_of_set, text_of,
-    truthy, weight, weight_of_set,
+    Event, EventSet, Fault, Items, Pairs, SetTree, Text, Value, Whole, copy, event_value, nesting,
+    text_of, truthy, weight, words,
 };
 use std::alloc::Global;
 use std::process::Abort;
+use std::sync::Arc;
 use std::test::Fail;
+use std::thread::{Threads, join};
 
 fn text(alloc: Global, s: &str) -> Result<Text, Fail> {
     Ok(Text::new(String::from_str(alloc, s)?))
 }
 
-fn words(alloc: Global, s: &str) -> Result<Value, Fail> {
-    Ok(Value::Words(text(alloc, s)?))
+fn words_of(alloc: Global, s: &str) -> Result<Value, Fail> {
+    Ok(words(alloc, text(alloc, s)?)?)
 }
 
 fn whole(n: i64) -> Result<Value, Fail> {
@@ -25,19 +27,31 @@ fn go(alloc: Global) -> Result<Event, Fail> {
 }
 
 fn event(alloc: Global) -> Result<Value, Fail> {
-    Ok(Value::Event(go(alloc)?))
+    Ok(event_value(alloc, go(alloc)?)?)
+}
+
+fn list(alloc: Global, items: Vec<Value>) -> Result<Value, Fail> {
+    Ok(Value::List(Items::new(alloc, items)?))
+}
+
+// `{"key":go}`
+fn fields(alloc: Global) -> Result<Value, Fail> {
+    let fields = vec![in alloc; (text(alloc, "key")?, event(alloc)?)]?;
+    Ok(Value::Fields(Pairs::new(alloc, fields)?))
 }
 
 // `[1,{"key":go}]`
 fn list_of_fields(alloc: Global) -> Result<Value, Fail> {
-    let fields = vec![in alloc; (text(alloc, "key")?, Value::Event(go(alloc)?))]?;
-    let items = vec![in alloc; whole(1)?, Value::Fields(fields)]?;
-    Ok(Value::List(items))
+    let items = vec![in alloc; whole(1)?, fields(alloc)?]?;
+    list(alloc, items)
 }
 
 fn function(alloc: Global) -> Result<Value, Fail> {
-    let captured = vec![in alloc; words(alloc, "ab")?, Value::Undefined]?;
-    Ok(Value::Function { code: 0, captured })
+    let captured = vec![in alloc; words_of(alloc, "ab")?, Value::Undefined]?;
+    Ok(Value::Function {
+        code: 0,
+        captured: Items::new(alloc, captured)?,
+    })
 }
 
 fn value_named(alloc: Global, name: &str) -> Result<Value, Fail> {
@@ -48,12 +62,12 @@ fn value_named(alloc: Global, name: &str) -> Result<Value, Fail> {
         "false" => Ok(Value::Truth(false)),
         "zero" => whole(0),
         "less than zero" => whole(-42),
-        "empty text" => words(alloc, ""),
-        "text of two bytes" => words(alloc, "é"),
-        "empty list" => Ok(Value::List(Vec::new(alloc))),
+        "empty text" => words_of(alloc, ""),
+        "text of two bytes" => words_of(alloc, "é"),
+        "empty list" => list(alloc, Vec::new(alloc)),
         "list of fields" => list_of_fields(alloc),
         "event" => event(alloc),
-        "set" => Ok(Value::Set(SetTree::All)),
+        "set" => Ok(Value::Set(EventSet::new(alloc, SetTree::All)?)),
         "function" => function(alloc),
         _ => Err("no value has this name")?,
     }
@@ -90,7 +104,7 @@ fn is_shown(alloc: Global, value: &Value, want: &str) -> Result<bool, Fail> {
 }
 
 fn copy_is_shown(alloc: Global, value: &Value, want: &str) -> Result<bool, Fail> {
-    is_shown(alloc, &copy(alloc, value)?, want)
+    is_shown(alloc, &copy(value)?, want)
 }
 
 /// Whether the value of this name and its copy are shown as wanted.
@@ -105,37 +119,42 @@ fn values_and_their_copies(rt: HostRuntime) -> Result<(), Fail> {
 }
 
 fn predicate(alloc: Global) -> Result<SetTree, Fail> {
+    let captured = vec![in alloc; words_of(alloc, "north")?]?;
     Ok(SetTree::Predicate {
-        name: text(alloc, "cars")?,
+        name: Arc::new(alloc, text(alloc, "cars")?)?,
         code: 3,
-        captured: vec![in alloc; words(alloc, "north")?]?,
+        captured: Items::new(alloc, captured)?,
     })
 }
 
+fn only(alloc: Global) -> Result<SetTree, Fail> {
+    Ok(SetTree::Only(Arc::new(alloc, go(alloc)?)?))
+}
+
+fn set(alloc: Global, tree: SetTree) -> Result<EventSet, Fail> {
+    Ok(EventSet::new(alloc, tree)?)
+}
+
 fn either(alloc: Global) -> Result<SetTree, Fail> {
-    let first = Box::new(alloc, SetTree::Only(go(alloc)?))?;
-    let second = Box::new(alloc, SetTree::Nothing)?;
-    Ok(SetTree::Or(first, second))
+    let first = set(alloc, only(alloc)?)?;
+    Ok(SetTree::Or(first, set(alloc, SetTree::Nothing)?))
 }
 
 fn any(alloc: Global) -> Result<SetTree, Fail> {
-    let other = SetTree::Negate(Box::new(alloc, SetTree::All)?);
-    Ok(SetTree::Any(vec![in alloc; SetTree::Only(go(alloc)?), other]?))
+    let first = set(alloc, only(alloc)?)?;
+    let other = SetTree::Negate(set(alloc, SetTree::All)?);
+    Ok(SetTree::Any(vec![in alloc; first, set(alloc, other)?]?))
 }
 
-fn set_named(alloc: Global, name: &str) -> Result<SetTree, Fail> {
+fn tree_named(alloc: Global, name: &str) -> Result<SetTree, Fail> {
     match name {
         "all" => Ok(SetTree::All),
-        "an event" => Ok(SetTree::Only(go(alloc)?)),
+        "an event" => only(alloc),
         "a predicate" => predicate(alloc),
         "an event or none" => either(alloc),
         "an event and not all" => any(alloc),
         _ => Err("no set has this name")?,
     }
-}
-
-fn shown_set(alloc: Global, set: &SetTree) -> Result<String, Fail> {
-    Ok(format!(in alloc; "{} {}", weight_of_set(set), nesting_of_set(set))?)
 }
 
 // A set, its weight and its nesting.
@@ -147,23 +166,58 @@ an event or none --> 6 3
 an event and not all --> 7 3
 ";
 
-fn set_is_shown(alloc: Global, set: &SetTree, want: &str) -> Result<bool, Fail> {
-    Ok(shown_set(alloc, set)?.as_str() == want)
-}
-
-fn set_copy_is_shown(alloc: Global, set: &SetTree, want: &str) -> Result<bool, Fail> {
-    set_is_shown(alloc, &copy_set(alloc, set)?, want)
+fn set_is_shown(alloc: Global, set: &EventSet, want: &str) -> Result<bool, Fail> {
+    Ok(format!(in alloc; "{} {}", set.weight(), set.nesting())?.as_str() == want)
 }
 
 /// Whether the set of this name and its copy are shown as wanted.
 pub fn set_agrees(alloc: Global, name: &str, want: &str) -> Result<bool, Fail> {
-    let set = set_named(alloc, name)?;
-    Ok(set_is_shown(alloc, &set, want)? && set_copy_is_shown(alloc, &set, want)?)
+    let made = set(alloc, tree_named(alloc, name)?)?;
+    Ok(set_is_shown(alloc, &made, want)? && set_is_shown(alloc, &made.copy()?, want)?)
 }
 
 #[test]
 fn sets_and_their_copies(rt: HostRuntime) -> Result<(), Fail> {
     agree(&rt, rt.alloc(), Lines::Sets, SETS)
+}
+
+// A list of which one thread reads the weight and lets it go, and another the nesting of its copy.
+fn read_by_two<R: Threads>(rt: &R, one: Value, other: Value) -> (u64, u64) {
+    join(rt, move || weight(&one), move || nesting(&other))
+}
+
+// The list and its copy are read and let go by two threads, and a third owner, if there is one, is here.
+fn weight_and_nesting<R: Threads>(rt: &R, alloc: Global, stays: bool) -> Result<(u64, u64), Fail> {
+    let one = list_of_fields(alloc)?;
+    let other = copy(&one)?;
+    let third = if stays { copy(&one)? } else { Value::Null };
+    let found = read_by_two(rt, one, other);
+    let _kept = weight(&third);
+    Ok(found)
+}
+
+#[test]
+fn two_threads_hold_one_value(rt: HostRuntime) -> Result<(), Fail> {
+    assert_eq!(rt; weight_and_nesting(&rt, rt.alloc(), true)?, (11, 4));
+    assert_eq!(rt; weight_and_nesting(&rt, rt.alloc(), false)?, (11, 4));
+    Ok(())
+}
+
+// The text, the list and the event that a value gives up.
+fn parts_given_up(alloc: Global) -> Result<(bool, usize, bool), Fail> {
+    let text = words_of(alloc, "ab")?.into_words().map_err(|_| "no text")?;
+    let items = list_of_fields(alloc)?.into_list().map_err(|_| "no list")?;
+    let event = event(alloc)?.into_event().map_err(|_| "no event")?;
+    Ok((text.as_str() == "ab", items.len(), event.same(&go(alloc)?)))
+}
+
+#[test]
+fn values_give_up_what_they_hold(rt: HostRuntime) -> Result<(), Fail> {
+    assert_eq!(rt; parts_given_up(rt.alloc())?, (true, 2, true));
+    assert!(rt; matches!(whole(1)?.into_words(), Err(Value::Whole(_))));
+    assert!(rt; matches!(whole(1)?.into_list(), Err(Value::Whole(_))));
+    assert!(rt; matches!(whole(1)?.into_event(), Err(Value::Whole(_))));
+    Ok(())
 }
 
 fn is_named(rt: &impl Abort, fault: Fault, name: &str) {
