@@ -1,14 +1,13 @@
 -- Sets are asked from left to right, and the first fault is the answer.
-use Rattle.std.proofs.Common.{◌≡◌, ℕ, zero, suc, ◌+◌, ◌<◌, ◌≤◌, Bool, true, false, not, List, [], ◌∷◌, length, drop, get_or, Result, Ok, Err, refl, sym, ap, ◌∙◌, arith}
+use Rattle.std.proofs.Common.{◌≡◌, ℕ, zero, suc, ◌+◌, ◌<◌, ◌≤◌, Bool, true, false, List, [], ◌∷◌, length, drop, get_or, Result, Ok, Err, refl, sym, ap, ◌∙◌, arith}
 use Rattle.std.proofs.Math.ListN.{drop_of_length-le}
 use Rattle.js_data.specs.Event.{PlainEvent}
-use Rattle.js_value.specs.Value as v
-use Rattle.js_value.specs.Value.{PlainSet, SetList}
+use Rattle.js_value.specs.Value.{PlainSet}
 use Rattle.js_value.specs.Sizes.{set_size, sets_size}
 use Rattle.js_value.specs.Views.{set_list_of}
 use Rattle.js_meaning.specs.State.{Ground}
 use Rattle.bp_run.specs.Bodies.{SetFault as Told}
-use Rattle.bp_meaning.specs.Membership.{Membership, member, member_of_any, opposite, exactly_one}
+use Rattle.bp_meaning.specs.Membership.{Membership, member, member_of_any}
 use Rattle.bp_sets.specs.declared.fault.SetFault.{SetFault}
 use Rattle.bp_sets.specs.declared.fault.SetFault.TheVariants.{Broken, Spent, NotTruth, Memory}
 use Rattle.bp_sets.specs.Answers.{TellsAs}

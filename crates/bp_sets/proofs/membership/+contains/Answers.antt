@@ -1,5 +1,4 @@
 use Rattle.std.proofs.Common.{Ok, sym, ap, ◌∙◌, arith, rules}
-use Rattle.std.proofs.lemmas.Grind.{common_steps}
 use Rattle.bp_sets.proofs.Deciding.{set_below, or_then, next_of_any, none_of_any}
 use Rattle.bp_sets.proofs.membership.+contains.Goals as goal
 
