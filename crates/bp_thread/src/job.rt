@@ -49,13 +49,13 @@ impl Job {
     // A job that has this machine, which has not begun.
     fn on(alloc: Global, number: u32, name: Text, origin: Origin, machine: Machine) -> Job
         ensures made { plain_job result ≡ record {
-            number = number;
-            name = name;
-            origin = plain_origin origin;
-            replies = [];
-            effects = [];
-            handler = None;
-            outcome = None;
+          number = number;
+          name = name;
+          origin = plain_origin origin;
+          replies = [];
+          effects = [];
+          handler = None;
+          outcome = None;
         } }
         ensures machine { result.machine ≡ Some machine }
         ensures whole { (base : js.Ground) → (budget : ℕ) → Stands base budget (plain_origin origin) [] 0 [] machine →
@@ -90,13 +90,13 @@ impl Job {
     ) -> Result<Job, Memory>
         ensures program { IfOk result (λ j. IsOf (plain_ground ground.now).program j) }
         ensures made { IfOk result (λ j. plain_job j ≡ record {
-            number = number;
-            name = name;
-            origin = function kind (plain_value callee) (map plain_value args.items);
-            replies = [];
-            effects = [];
-            handler = None;
-            outcome = None;
+          number = number;
+          name = name;
+          origin = function kind (plain_value callee) (map plain_value args.items);
+          replies = [];
+          effects = [];
+          handler = None;
+          outcome = None;
         }) }
         ensures whole { IfOk result (λ j. IsWhole (plain_ground ground.now) budget j) }
     {
@@ -111,13 +111,13 @@ impl Job {
     pub fn top(alloc: Global, ground: &Ground, budget: u64) -> Result<Job, Memory>
         ensures program { IfOk result (λ j. IsOf (plain_ground ground.now).program j) }
         ensures made { IfOk result (λ j. plain_job j ≡ record {
-            number = 0;
-            name = [];
-            origin = the_top;
-            replies = [];
-            effects = [];
-            handler = None;
-            outcome = None;
+          number = 0;
+          name = [];
+          origin = the_top;
+          replies = [];
+          effects = [];
+          handler = None;
+          outcome = None;
         }) }
         ensures whole { IfOk result (λ j. IsWhole (plain_ground ground.now) budget j) }
     {
@@ -192,8 +192,8 @@ impl Job {
         requires taken { (plain_job self.old).effects ≡ [] }
         ensures program { (program : PlainProgram) → IsOf program self.old → IsOf program self.new }
         ensures given { OnOk result (plain_job self.new ≡ record (plain_job self.old) {
-            replies = (plain_job self.old).replies ++ event.now ∷ [];
-            outcome = None;
+          replies = (plain_job self.old).replies ++ event.now ∷ [];
+          outcome = None;
         }) }
         ensures whole { (base : js.Ground) → (budget : ℕ) → StandsFor base budget self.old → OnOk result (IsWhole base budget self.new) }
         ensures err { OnErr result (self.new ≡ self.old) }

@@ -1,9 +1,9 @@
 //! Jobs: a line has the body of a function of one parameter `e`, and what it does with an event at each stop.
-use crate::programs::{BUDGET, carry_on, event, is_stopped, job_of, registered};
 ghost use Rattle.std.specs.Prelude.{◌≡◌, IfOk, None};
 ghost use Rattle.js_frames.specs.Places.{plain_ground};
 ghost use Rattle.bp_thread.specs.Jobs.{plain_job, IsOf};
 
+use crate::programs::{BUDGET, carry_on, event, is_stopped, job_of, registered};
 use bp_thread::{Job, Outcome};
 use js_data::Memory;
 use js_frames::{Effect, Effects, Ground};
@@ -169,7 +169,10 @@ fn a_budget_is_one_of_nodes(rt: HostRuntime) -> Result<(), Fail> {
     for nodes in [1, 3, 1000] {
         assert_eq!(&rt; within(rt.alloc(), TEN_NODES, 10, nodes)?.as_str(), "ended");
         assert_eq!(&rt; within(rt.alloc(), TEN_NODES, 9, nodes)?.as_str(), "spent");
-        assert_eq!(&rt; within(rt.alloc(), "while (true) {}", 10, nodes)?.as_str(), "spent");
+        assert_eq!(&rt;
+            within(rt.alloc(), "while (true) {}", 10, nodes)?.as_str(),
+            "spent"
+        );
     }
     Ok(())
 }

@@ -74,9 +74,15 @@ fn told(alloc: Global, set: &str) -> Result<String, Fail> {
     let mut out = String::new(alloc);
     let x = event(alloc, "x")?;
     let y = event(alloc, "y")?;
-    push_answer(&mut out, contains(alloc, &ground, &statement.wait_for, &x, BUDGET))?;
+    push_answer(
+        &mut out,
+        contains(alloc, &ground, &statement.wait_for, &x, BUDGET),
+    )?;
     out.push_str("; ")?;
-    push_answer(&mut out, contains(alloc, &ground, &statement.wait_for, &y, BUDGET))?;
+    push_answer(
+        &mut out,
+        contains(alloc, &ground, &statement.wait_for, &y, BUDGET),
+    )?;
     Ok(out)
 }
 

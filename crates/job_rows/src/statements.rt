@@ -83,12 +83,7 @@ fn push_statement(
     Ok(())
 }
 
-fn push_outcome(
-    out: &mut String,
-    alloc: Global,
-    ground: &Ground,
-    job: &Job,
-) -> Result<(), Fail> {
+fn push_outcome(out: &mut String, alloc: Global, ground: &Ground, job: &Job) -> Result<(), Fail> {
     match job.outcome() {
         Some(Outcome::Stopped(statement)) => {
             push_statement(out, alloc, ground, &statement.copy(alloc)?)
@@ -100,7 +95,10 @@ fn push_outcome(
 
 /// What is stated by these arguments on the second line.
 fn told(alloc: Global, arguments: &str) -> Result<String, Fail> {
-    let script = format!(in alloc; "bp.registerBThread('t', () => {{\nbp.sync({}) }})", arguments)?;
+    let script = format!(in alloc;
+        "bp.registerBThread('t', () => {{\nbp.sync({}) }})",
+        arguments
+    )?;
     let (ground, job) = stated(alloc, script.as_str())?;
     let mut out = String::new(alloc);
     push_outcome(&mut out, alloc, &ground, &job)?;
