@@ -25,7 +25,7 @@ use std::mem;
 
 /// A body that is carried on slice by slice, with the events that it was given and what it did.
 ///
-/// A job is a plain value: it moves between threads, and no call of it needs anything but its ground.
+/// A job is a plain value: no call of it needs anything but its ground.
 #[derive(Drop)]
 pub struct Job {
     alloc: Global,
