@@ -1,5 +1,5 @@
 -- Resolved programs as plain data. A form has the numbers of its parts, in the order in which they begin in the text.
-use Rattle.std.specs.Prelude.{ℕ, ℤ, Bool, List, [], ◌∷◌, ◌++◌, Option, Some, None, option_to_list, map}
+use Rattle.std.specs.Prelude.{ℕ, ℤ, Bool, List, [], ◌∷◌, ◌++◌, Option, option_to_list}
 use Rattle.std.specs.List.{filter_map}
 use Rattle.js_tree.specs.declared.tree.Sign.{Sign}
 use Rattle.js_tree.specs.declared.tree.Step.{Step}
@@ -23,8 +23,8 @@ pub data PlainNodeForm : Type 0 where
   undefined : PlainNodeForm
   read : Variable → PlainNodeForm
   list : List ℕ → PlainNodeForm
-  -- keys and values
-  fields : List (List ℕ × ℕ) → PlainNodeForm
+  -- the keys and the values, in one order
+  fields : List (List ℕ) → List ℕ → PlainNodeForm
   -- `x.word`
   member : ℕ → List ℕ → PlainNodeForm
   -- `x[i]`
@@ -38,25 +38,27 @@ pub data PlainNodeForm : Type 0 where
   -- `Math.floor(a / b)`, and the arguments after it
   floor_divide : ℕ → ℕ → List ℕ → PlainNodeForm
   unary : Sign → ℕ → PlainNodeForm
-  update : Step → Fix → Variable → PlainNodeForm
+  -- `x++` and its kind, with the slot of `x`
+  update : Step → Fix → ℕ → PlainNodeForm
   binary : Operator → ℕ → ℕ → PlainNodeForm
   -- `test ? a : b`
   conditional : ℕ → ℕ → ℕ → PlainNodeForm
-  assign : AssignOp → Variable → ℕ → PlainNodeForm
+  -- the slot of the variable, and the value
+  assign : AssignOp → ℕ → ℕ → PlainNodeForm
   -- the function of this number
   function : ℕ → PlainNodeForm
   empty : PlainNodeForm
-  -- the variables that are not declared yet as it begins, and the statements
-  block : List Variable → List ℕ → PlainNodeForm
+  -- the slots that are not declared yet as it begins, and the statements
+  block : List ℕ → List ℕ → PlainNodeForm
   declaration : DeclareKind → List PlainDeclared → PlainNodeForm
   expression : ℕ → PlainNodeForm
   if_alone : ℕ → ℕ → PlainNodeForm
   if_else : ℕ → ℕ → ℕ → PlainNodeForm
   while_of : ℕ → ℕ → PlainNodeForm
-  -- `for (first; test; next) body`, with the variables that are not declared yet as it begins
-  for_three : List Variable → Option ℕ → Option ℕ → Option ℕ → ℕ → PlainNodeForm
-  -- `for (let variable of list) body`; the variable is not declared yet as the list begins
-  for_each : Variable → ℕ → ℕ → PlainNodeForm
+  -- `for (first; test; next) body`, with the slots that are not declared yet as it begins
+  for_three : List ℕ → Option ℕ → Option ℕ → Option ℕ → ℕ → PlainNodeForm
+  -- `for (let x of list) body`, with the slot of `x`, which is not declared yet as the list begins
+  for_each : ℕ → ℕ → ℕ → PlainNodeForm
   break_of : PlainNodeForm
   continue_of : PlainNodeForm
   return_nothing : PlainNodeForm
@@ -96,7 +98,7 @@ pub record PlainProgram : Type 0 where
 -- the numbers of the parts of a form, in the order in which they begin in the text
 abbrev pub parts_of : PlainNodeForm → List ℕ
 parts_of (list ns) = ns
-parts_of (fields fs) = map (λ (f : List ℕ × ℕ). f.1) fs
+parts_of (fields keys ns) = ns
 parts_of (member x word) = x ∷ []
 parts_of (index x i) = x ∷ i ∷ []
 parts_of (call f arguments) = f ∷ arguments
@@ -106,15 +108,15 @@ parts_of (floor_divide a b dropped) = a ∷ b ∷ dropped
 parts_of (unary sign e) = e ∷ []
 parts_of (binary operator a b) = a ∷ b ∷ []
 parts_of (conditional test a b) = test ∷ a ∷ b ∷ []
-parts_of (assign op variable e) = e ∷ []
-parts_of (block variables ns) = ns
+parts_of (assign op slot e) = e ∷ []
+parts_of (block slots ns) = ns
 parts_of (declaration kind ds) = filter_map (λ (d : PlainDeclared). d.value) ds
 parts_of (expression e) = e ∷ []
 parts_of (if_alone test body) = test ∷ body ∷ []
 parts_of (if_else test body other) = test ∷ body ∷ other ∷ []
 parts_of (while_of test body) = test ∷ body ∷ []
-parts_of (for_three variables first test next body) = option_to_list first ++ option_to_list test ++ option_to_list next ++ body ∷ []
-parts_of (for_each variable items body) = items ∷ body ∷ []
+parts_of (for_three slots first test next body) = option_to_list first ++ option_to_list test ++ option_to_list next ++ body ∷ []
+parts_of (for_each slot items body) = items ∷ body ∷ []
 parts_of (return_of e) = e ∷ []
 parts_of _ = []
 

@@ -1,5 +1,5 @@
 -- The plain form of each node.
-use Rattle.std.specs.Prelude.{ℕ, List, Option, map}
+use Rattle.std.specs.Prelude.{List, map}
 use Rattle.js_program.specs.declared.node.NodeForm.{NodeForm}
 use Rattle.js_program.specs.declared.node.NodeForm.TheVariants as f
 use Rattle.js_program.specs.declared.node.Declared.{Declared}
@@ -23,7 +23,7 @@ plain_node_form f.Null = p.null
 plain_node_form f.Undefined = p.undefined
 plain_node_form (f.Read variable) = p.read variable
 plain_node_form (f.List parts) = p.list parts.items
-plain_node_form (f.Fields fields) = p.fields fields.items
+plain_node_form (f.Fields keys values) = p.fields keys.items values.items
 plain_node_form (f.Member x word) = p.member x word
 plain_node_form (f.Index x i) = p.index x i
 plain_node_form (f.Call function arguments) = p.call function arguments.items
@@ -31,20 +31,20 @@ plain_node_form (f.Method x word arguments) = p.method x word arguments.items
 plain_node_form (f.Builtin form arguments) = p.builtin form arguments.items
 plain_node_form (f.FloorDivide a b dropped) = p.floor_divide a b dropped.items
 plain_node_form (f.Unary sign e) = p.unary sign e
-plain_node_form (f.Update step fix variable) = p.update step fix variable
+plain_node_form (f.Update step fix slot) = p.update step fix slot
 plain_node_form (f.Binary operator a b) = p.binary operator a b
 plain_node_form (f.Conditional test a b) = p.conditional test a b
-plain_node_form (f.Assign op variable e) = p.assign op variable e
+plain_node_form (f.Assign op slot e) = p.assign op slot e
 plain_node_form (f.Function code) = p.function code
 plain_node_form f.Empty = p.empty
-plain_node_form (f.Block variables statements) = p.block variables.items statements.items
+plain_node_form (f.Block slots statements) = p.block slots.items statements.items
 plain_node_form (f.Declaration kind declared) = p.declaration kind (map plain_declared declared.items)
 plain_node_form (f.Expression e) = p.expression e
 plain_node_form (f.If test body) = p.if_alone test body
 plain_node_form (f.IfElse test body other) = p.if_else test body other
 plain_node_form (f.While test body) = p.while_of test body
-plain_node_form (f.For variables first test next body) = p.for_three variables.items first test next body
-plain_node_form (f.ForOf variable list body) = p.for_each variable list body
+plain_node_form (f.For slots first test next body) = p.for_three slots.items first test next body
+plain_node_form (f.ForOf slot list body) = p.for_each slot list body
 plain_node_form f.Break = p.break_of
 plain_node_form f.Continue = p.continue_of
 plain_node_form f.ReturnNothing = p.return_nothing

@@ -4,12 +4,12 @@ use crate::builtin::Builtin;
 use js_data::{Text, Whole};
 use js_tree::{AssignOp, DeclareKind, Fix, Operator, Sign, Step};
 
-/// What a name stands for in its function.
+/// What a name that is read or declared stands for in its function. Names that are assigned or updated have slots.
 #[derive(Clone, Copy, Debug, PartialEq, Eq)]
 pub enum Variable {
     /// A slot of the function.
     Slot(u32),
-    /// A constant of the program.
+    /// A constant of the program, which the top level alone declares.
     Constant(u32),
 }
 
@@ -30,8 +30,8 @@ pub enum NodeForm {
     Undefined,
     Read(Variable),
     List(Vec<u32>),
-    /// Keys and values.
-    Fields(Vec<(Text, u32)>),
+    /// The keys and the values, in one order.
+    Fields(Vec<Text>, Vec<u32>),
     /// `x.word`
     Member(u32, Text),
     /// `x[i]`
@@ -45,25 +45,27 @@ pub enum NodeForm {
     /// `Math.floor(a / b)`, and the arguments after it.
     FloorDivide(u32, u32, Vec<u32>),
     Unary(Sign, u32),
-    Update(Step, Fix, Variable),
+    /// `x++` and its kind, with the slot of `x`.
+    Update(Step, Fix, u32),
     Binary(Operator, u32, u32),
     /// `test ? a : b`
     Conditional(u32, u32, u32),
-    Assign(AssignOp, Variable, u32),
+    /// The slot of the variable, and the value.
+    Assign(AssignOp, u32, u32),
     /// The function of this number.
     Function(u32),
     Empty,
-    /// The variables that are not declared yet as it begins, and the statements.
-    Block(Vec<Variable>, Vec<u32>),
+    /// The slots that are not declared yet as it begins, and the statements.
+    Block(Vec<u32>, Vec<u32>),
     Declaration(DeclareKind, Vec<Declared>),
     Expression(u32),
     If(u32, u32),
     IfElse(u32, u32, u32),
     While(u32, u32),
-    /// `for (first; test; next) body`, with the variables that are not declared yet as it begins.
-    For(Vec<Variable>, Option<u32>, Option<u32>, Option<u32>, u32),
-    /// `for (let variable of list) body`; the variable is not declared yet as the list begins.
-    ForOf(Variable, u32, u32),
+    /// `for (first; test; next) body`, with the slots that are not declared yet as it begins.
+    For(Vec<u32>, Option<u32>, Option<u32>, Option<u32>, u32),
+    /// `for (let x of list) body`, with the slot of `x`, which is not declared yet as the list begins.
+    ForOf(u32, u32, u32),
     Break,
     Continue,
     ReturnNothing,
@@ -82,7 +84,7 @@ impl Drop for NodeForm {
             NodeForm::Undefined => {}
             NodeForm::Read(_) => {}
             NodeForm::List(_) => {}
-            NodeForm::Fields(_) => {}
+            NodeForm::Fields(_, _) => {}
             NodeForm::Member(_, _) => {}
             NodeForm::Index(_, _) => {}
             NodeForm::Call(_, _) => {}

@@ -1,4 +1,0 @@
-mod Pieces
-mod Runs
-mod Verdicts
-pub mod Accepted

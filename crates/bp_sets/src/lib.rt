@@ -1,2 +1,0 @@
-//! Membership of events in sets: the definition.
-#![tactic(auto)]

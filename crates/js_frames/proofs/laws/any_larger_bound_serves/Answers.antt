@@ -1,5 +1,0 @@
-use Rattle.js_frames.proofs.Bound.{enough}
-use Rattle.js_frames.proofs.laws.any_larger_bound_serves.Goals as goal
-
-pub returns : goal.returns
-returns c = λ g bound n s le. enough g bound n s le

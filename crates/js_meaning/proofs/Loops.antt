@@ -1,0 +1,161 @@
+-- The definitions compute: short circuits, loops, calls of functions, and forms in their modes.
+use Rattle.std.proofs.Common.{◌≡◌, [], ◌∷◌, Some, refl}
+use Rattle.std.specs.Prelude.{pos, codes, true, false}
+use Rattle.std.specs.Fmt.{digits}
+use Rattle.js_data.specs.declared.fault.Fault.TheVariants as fault
+use Rattle.js_tree.specs.declared.tree.Step.TheVariants.{Increment}
+use Rattle.js_tree.specs.declared.tree.Fix.TheVariants.{After}
+use Rattle.js_tree.specs.declared.tree.Operator.TheVariants as op
+use Rattle.js_tree.specs.declared.tree.DeclareKind.TheVariants.{Let}
+use Rattle.js_value.specs.Value as v
+use Rattle.js_program.specs.declared.builtin.Builtin.TheVariants as form
+use Rattle.js_program.specs.declared.builtin.Mode.TheVariants.{Thread, Handler, Predicate}
+use Rattle.js_program.specs.declared.node.Variable.TheVariants.{Slot}
+use Rattle.js_program.specs.PlainProgram as p
+use Rattle.js_program.specs.PlainProgram.{PlainNode, PlainBody}
+use Rattle.js_meaning.specs.State.{says, enqueues, broken, violated, stopped}
+use Rattle.js_meaning.specs.Meaning.{within, eval, turns_of}
+use Rattle.js_meaning.specs.Bodies.{function, evaluation}
+use Rattle.js_meaning.proofs.Small.{on, one, whole, slot, given, body, statements, of_functions, comes_to, ends, left, event}
+
+-- return false && 1 / 0; and return 0 || "a": the right side only where it is needed
+pub and_stops : comes_to Thread 100
+    (one (p.truth false) ∷ whole 1 ∷ whole 0 ∷ one (p.binary op.Divide 1 2) ∷ one (p.binary op.And 0 3) ∷ one (p.return_of 4) ∷ []) (statements 0 (5 ∷ []) ∷ [])
+    ≡ ends (v.truth false) 97 []
+unfolding evaluation eval within
+and_stops = refl
+
+pub or_goes_on : comes_to Thread 100
+    (whole 0 ∷ one (p.words (codes "a")) ∷ one (p.binary op.Or 0 1) ∷ one (p.return_of 2) ∷ []) (statements 0 (3 ∷ []) ∷ [])
+    ≡ ends (v.words (codes "a")) 96 []
+unfolding evaluation eval within
+or_goes_on = refl
+
+-- for (let i = 0; i < 9; i++) { if (i === 1) { continue } if (i === 3) { break } bp.log.info(i) }
+pub break_and_continue : comes_to Thread 200
+    (whole 0 ∷ one (p.declaration Let (given 0 0 ∷ [])) ∷ slot 0 ∷ whole 9 ∷ one (p.binary op.Less 2 3) ∷ one (p.update Increment After 0)
+    ∷ slot 0 ∷ whole 1 ∷ one (p.binary op.Same 6 7) ∷ one p.continue_of ∷ one (p.block [] (9 ∷ [])) ∷ one (p.if_alone 8 10)
+    ∷ slot 0 ∷ whole 3 ∷ one (p.binary op.Same 12 13) ∷ one p.break_of ∷ one (p.block [] (15 ∷ [])) ∷ one (p.if_alone 14 16)
+    ∷ slot 0 ∷ one (p.builtin form.LogInfo (18 ∷ [])) ∷ one (p.expression 19) ∷ one (p.block [] (11 ∷ 17 ∷ 20 ∷ []))
+    ∷ one (p.for_three (0 ∷ []) (Some 1) (Some 4) (Some 5) 21) ∷ [])
+    (statements 1 (22 ∷ []) ∷ [])
+    ≡ ends v.undefined 140 (says (codes "0") ∷ says (codes "2") ∷ [])
+unfolding evaluation eval within turns_of digits
+break_and_continue = refl
+
+-- for (const x of ["a", "b", "c"]) { if (x === "b") return x; }
+pub for_of_returns : comes_to Thread 100
+    (one (p.words (codes "a")) ∷ one (p.words (codes "b")) ∷ one (p.words (codes "c")) ∷ one (p.list (0 ∷ 1 ∷ 2 ∷ []))
+    ∷ slot 0 ∷ one (p.words (codes "b")) ∷ one (p.binary op.Same 4 5) ∷ slot 0 ∷ one (p.return_of 7) ∷ one (p.if_alone 6 8) ∷ one (p.block [] (9 ∷ []))
+    ∷ one (p.for_each 0 3 10) ∷ [])
+    (statements 1 (11 ∷ []) ∷ [])
+    ≡ ends (v.words (codes "b")) 83 []
+unfolding evaluation eval within
+for_of_returns = refl
+
+-- for (const x of 1) ;   (on line 4)
+pub for_of_no_list : comes_to Thread 100 (whole 1 ∷ one p.empty ∷ on 4 (p.for_each 0 0 1) ∷ []) (statements 1 (2 ∷ []) ∷ [])
+    ≡ broken fault.Mistyped 4 (left 98 [])
+unfolding evaluation eval within
+for_of_no_list = refl
+
+-- [1, 2].forEach((x, i) => bp.log.info(x + i))
+pub for_each_calls : comes_to Thread 100
+    (whole 1 ∷ whole 2 ∷ one (p.list (0 ∷ 1 ∷ [])) ∷ one (p.function 1) ∷ one (p.method 2 (codes "forEach") (3 ∷ [])) ∷ one (p.return_of 4)
+    ∷ slot 0 ∷ slot 1 ∷ one (p.binary op.Add 6 7) ∷ one (p.builtin form.LogInfo (8 ∷ [])) ∷ [])
+    (statements 0 (5 ∷ []) ∷ body 2 2 (p.one_value 9) ∷ [])
+    ≡ ends v.undefined 86 (says (codes "1") ∷ says (codes "3") ∷ [])
+unfolding evaluation eval within digits
+for_each_calls = refl
+
+-- [1, 2].forEach(() => {}): its calls begin no node
+pub for_each_of_nothing : comes_to Thread 100
+    (whole 1 ∷ whole 2 ∷ one (p.list (0 ∷ 1 ∷ [])) ∷ one (p.function 1) ∷ one (p.method 2 (codes "forEach") (3 ∷ [])) ∷ one (p.expression 4) ∷ [])
+    (statements 0 (5 ∷ []) ∷ body 0 0 (p.statements []) ∷ [])
+    ≡ ends v.undefined 94 []
+unfolding evaluation eval within
+for_each_of_nothing = refl
+
+-- [].forEach(1)
+pub for_each_no_function : comes_to Thread 100
+    (one (p.list []) ∷ whole 1 ∷ one (p.method 0 (codes "forEach") (1 ∷ [])) ∷ one (p.expression 2) ∷ []) (statements 0 (3 ∷ []) ∷ [])
+    ≡ broken fault.Mistyped 1 (left 96 [])
+unfolding evaluation eval within
+for_each_no_function = refl
+
+-- ({f: () => 5}).f(): a method of fields is the field's value, called
+pub field_is_called : comes_to Thread 100
+    (one (p.function 1) ∷ one (p.fields (codes "f" ∷ []) (0 ∷ [])) ∷ one (p.method 1 (codes "f") []) ∷ one (p.return_of 2) ∷ whole 5 ∷ [])
+    (statements 0 (3 ∷ []) ∷ body 0 0 (p.one_value 4) ∷ [])
+    ≡ ends (v.whole (pos 5)) 95 []
+unfolding evaluation eval within
+field_is_called = refl
+
+-- 1(2 / 0): no function, but its arguments come first
+pub arguments_before_callee : comes_to Thread 100
+    (whole 1 ∷ whole 2 ∷ whole 0 ∷ one (p.binary op.Divide 1 2) ∷ one (p.call 0 (3 ∷ [])) ∷ one (p.expression 4) ∷ []) (statements 0 (5 ∷ []) ∷ [])
+    ≡ broken fault.Zero 1 (left 94 [])
+unfolding evaluation eval within
+arguments_before_callee = refl
+
+-- ---- forms and modes
+
+-- bp.sync({}) in a handler is the fault `mode`, and bp.sync(1 / 0) there the fault of its argument
+pub sync_in_a_handler : comes_to Handler 100 (one (p.fields [] []) ∷ one (p.builtin form.Sync (0 ∷ [])) ∷ one (p.expression 1) ∷ []) (statements 0 (2 ∷ []) ∷ [])
+    ≡ broken fault.Mode 1 (left 97 [])
+unfolding evaluation eval within
+sync_in_a_handler = refl
+
+pub argument_before_mode : comes_to Handler 100
+    (whole 1 ∷ whole 0 ∷ one (p.binary op.Divide 0 1) ∷ one (p.builtin form.Sync (2 ∷ [])) ∷ one (p.expression 3) ∷ []) (statements 0 (4 ∷ []) ∷ [])
+    ≡ broken fault.Zero 1 (left 95 [])
+unfolding evaluation eval within
+argument_before_mode = refl
+
+-- bp.log.info(1) in a predicate
+pub log_in_a_predicate : comes_to Predicate 100 (whole 1 ∷ one (p.builtin form.LogInfo (0 ∷ [])) ∷ one (p.expression 1) ∷ []) (statements 0 (2 ∷ []) ∷ [])
+    ≡ broken fault.Mode 1 (left 97 [])
+unfolding evaluation eval within
+log_in_a_predicate = refl
+
+-- bp.sync({}, 3) without a reply stops, and bp.ASSERT(0, "no") ends the run
+pub sync_stops : comes_to Thread 100 (one (p.fields [] []) ∷ whole 3 ∷ on 2 (p.builtin form.Sync (0 ∷ 1 ∷ [])) ∷ one (p.expression 2) ∷ []) (statements 0 (3 ∷ []) ∷ [])
+    ≡ stopped (v.fields v.no_fields) (v.whole (pos 3)) 2 (left 96 [])
+unfolding evaluation eval within
+sync_stops = refl
+
+pub assertion_fails : comes_to Thread 100 (whole 0 ∷ one (p.words (codes "no")) ∷ one (p.builtin form.Assert (0 ∷ 1 ∷ [])) ∷ one (p.expression 2) ∷ []) (statements 0 (3 ∷ []) ∷ [])
+    ≡ violated (codes "no") (left 96 [])
+unfolding evaluation eval within
+assertion_fails = refl
+
+-- return bp.sync({}).name, with a reply: it is the value, and the fuel is the whole budget again
+pub reply_is_the_value :
+    evaluation (of_functions (one (p.fields [] []) ∷ one (p.builtin form.Sync (0 ∷ [])) ∷ one (p.member 1 (codes "name")) ∷ one (p.return_of 2) ∷ []) (statements 0 (3 ∷ []) ∷ [])) 7
+    (function Thread (v.function 0 v.no_values) []) (event (codes "e") ∷ [])
+    ≡ ends (v.words (codes "e")) 7 []
+unfolding evaluation eval within
+reply_is_the_value = refl
+
+-- 1 / 0 + 1 / 0 over two lines: the left side comes first
+pub left_side_first : comes_to Thread 100
+    (whole 1 ∷ whole 0 ∷ one (p.binary op.Divide 0 1) ∷ whole 1 ∷ whole 0 ∷ on 2 (p.binary op.Divide 3 4) ∷ one (p.binary op.Add 2 5) ∷ one (p.expression 6) ∷ [])
+    (statements 0 (7 ∷ []) ∷ [])
+    ≡ broken fault.Zero 1 (left 95 [])
+unfolding evaluation eval within
+left_side_first = refl
+
+-- bp.ASSERT(true): its text is missing
+pub assertion_without_text : comes_to Thread 100 (one (p.truth true) ∷ one (p.builtin form.Assert (0 ∷ [])) ∷ one (p.expression 1) ∷ []) (statements 0 (2 ∷ []) ∷ [])
+    ≡ broken fault.Mistyped 1 (left 97 [])
+unfolding evaluation eval within
+assertion_without_text = refl
+
+-- bp.enqueueExternalEvent(bp.Event("e", 1)); bp.log.info(bp.Event("e", [1, null]))
+pub enqueued_and_logged : comes_to Handler 100
+    (one (p.words (codes "e")) ∷ one (p.builtin form.Event (0 ∷ [])) ∷ one (p.builtin form.EnqueueExternalEvent (1 ∷ [])) ∷ one (p.expression 2)
+    ∷ one (p.words (codes "e")) ∷ whole 1 ∷ one p.null ∷ one (p.list (5 ∷ 6 ∷ [])) ∷ one (p.builtin form.Event (4 ∷ 7 ∷ [])) ∷ one (p.builtin form.LogInfo (8 ∷ [])) ∷ one (p.expression 9) ∷ [])
+    (statements 0 (3 ∷ 10 ∷ []) ∷ [])
+    ≡ ends v.undefined 89 (enqueues (event (codes "e")) ∷ says (codes "[\"e\",[1,null]]") ∷ [])
+unfolding evaluation eval within digits
+enqueued_and_logged = refl

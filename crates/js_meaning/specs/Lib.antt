@@ -1,0 +1,11 @@
+pub mod State
+pub mod Variables
+pub mod Calls
+pub mod Forms
+pub mod Expressions
+pub mod Statements
+pub mod Meaning
+pub mod Bodies
+pub mod Later
+pub mod Modes
+pub mod Replies
