@@ -6,3 +6,5 @@ pub mod Replies
 pub mod Small
 mod Examples
 mod Loops
+mod Operators
+mod Tops

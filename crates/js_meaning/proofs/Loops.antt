@@ -159,3 +159,50 @@ pub enqueued_and_logged : comes_to Handler 100
     ≡ ends v.undefined 89 (enqueues (event (codes "e")) ∷ says (codes "[\"e\",[1,null]]") ∷ [])
 unfolding evaluation eval within digits
 enqueued_and_logged = refl
+
+-- ---- branches
+
+-- return [0 ? 1 : 2, "a" ? 3 : 4]: the other branch is not begun
+pub conditionals : comes_to Thread 100
+    (whole 0 ∷ whole 1 ∷ whole 2 ∷ one (p.conditional 0 1 2) ∷ one (p.words (codes "a")) ∷ whole 3 ∷ whole 4 ∷ one (p.conditional 4 5 6) ∷ one (p.list (3 ∷ 7 ∷ [])) ∷ one (p.return_of 8) ∷ [])
+    (statements 0 (9 ∷ []) ∷ [])
+    ≡ ends (v.list (v.value (v.whole (pos 2)) (v.value (v.whole (pos 3)) v.no_values))) 92 []
+unfolding evaluation eval within
+conditionals = refl
+
+-- if (0) bp.log.info("a"); else bp.log.info("b"); if (1) bp.log.info("c"); else bp.log.info("d");
+pub if_or_else : comes_to Thread 100
+    (one (p.words (codes "a")) ∷ one (p.builtin form.LogInfo (0 ∷ [])) ∷ one (p.expression 1) ∷ one (p.words (codes "b")) ∷ one (p.builtin form.LogInfo (3 ∷ [])) ∷ one (p.expression 4)
+    ∷ one (p.words (codes "c")) ∷ one (p.builtin form.LogInfo (6 ∷ [])) ∷ one (p.expression 7) ∷ one (p.words (codes "d")) ∷ one (p.builtin form.LogInfo (9 ∷ [])) ∷ one (p.expression 10)
+    ∷ whole 0 ∷ one (p.if_else 12 2 5) ∷ whole 1 ∷ one (p.if_else 14 8 11) ∷ [])
+    (statements 0 (13 ∷ 15 ∷ []) ∷ [])
+    ≡ ends v.undefined 90 (says (codes "b") ∷ says (codes "c") ∷ [])
+unfolding evaluation eval within
+if_or_else = refl
+
+-- for (const x of [1, 2, 3, 4]) { if (x === 1) continue; if (x === 3) break; bp.log.info(x) }
+pub for_of_goes_on_and_breaks : comes_to Thread 100
+    (whole 1 ∷ whole 2 ∷ whole 3 ∷ whole 4 ∷ one (p.list (0 ∷ 1 ∷ 2 ∷ 3 ∷ []))
+    ∷ slot 0 ∷ whole 1 ∷ one (p.binary op.Same 5 6) ∷ one p.continue_of ∷ one (p.if_alone 7 8)
+    ∷ slot 0 ∷ whole 3 ∷ one (p.binary op.Same 10 11) ∷ one p.break_of ∷ one (p.if_alone 12 13)
+    ∷ slot 0 ∷ one (p.builtin form.LogInfo (15 ∷ [])) ∷ one (p.expression 16) ∷ one (p.block [] (9 ∷ 14 ∷ 17 ∷ [])) ∷ one (p.for_each 0 4 18) ∷ [])
+    (statements 1 (19 ∷ []) ∷ [])
+    ≡ ends v.undefined 66 (says (codes "2") ∷ [])
+unfolding evaluation eval within digits
+for_of_goes_on_and_breaks = refl
+
+-- let i = 0; while (true) { i++; if (i === 2) continue; if (i === 4) break; bp.log.info(i) }
+pub while_goes_on_and_breaks : comes_to Thread 100
+    (whole 0 ∷ one (p.declaration Let (given 0 0 ∷ [])) ∷ one (p.truth true)
+    ∷ one (p.update Increment After 0) ∷ one (p.expression 3) ∷ slot 0 ∷ whole 2 ∷ one (p.binary op.Same 5 6) ∷ one p.continue_of ∷ one (p.if_alone 7 8)
+    ∷ slot 0 ∷ whole 4 ∷ one (p.binary op.Same 10 11) ∷ one p.break_of ∷ one (p.if_alone 12 13)
+    ∷ slot 0 ∷ one (p.builtin form.LogInfo (15 ∷ [])) ∷ one (p.expression 16) ∷ one (p.block [] (4 ∷ 9 ∷ 14 ∷ 17 ∷ [])) ∷ one (p.while_of 2 18) ∷ [])
+    (statements 1 (1 ∷ 19 ∷ []) ∷ [])
+    ≡ ends v.undefined 45 (says (codes "1") ∷ says (codes "3") ∷ [])
+unfolding evaluation eval within turns_of digits
+while_goes_on_and_breaks = refl
+
+-- a `break` that stands in no loop ends its body with undefined
+pub break_in_no_loop : comes_to Thread 100 (one p.break_of ∷ one p.return_nothing ∷ []) (statements 0 (0 ∷ 1 ∷ []) ∷ []) ≡ ends v.undefined 99 []
+unfolding evaluation eval within
+break_in_no_loop = refl

@@ -1,0 +1,2 @@
+//! Programs as the code that a run sees: the definitions.
+#![tactic(auto)]

@@ -1,0 +1,3 @@
+pub mod Membership
+pub mod Statements
+pub mod After
