@@ -1,0 +1,5 @@
+pub mod Lists
+pub mod Places
+pub mod Forgetting
+pub mod Widening
+pub mod Returns

@@ -1,0 +1,4 @@
+pub mod Drawing
+pub mod Statements
+pub mod Placing
+pub mod Answers
