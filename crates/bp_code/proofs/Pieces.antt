@@ -3,10 +3,16 @@ use Rattle.std.proofs.Common.{ℕ, ◌+◌, List, [], ◌∷◌, Option}
 use Rattle.std.specs.Prelude.{codes}
 use Rattle.js_program.specs.declared.builtin.Builtin.TheVariants as form
 use Rattle.js_program.specs.PlainProgram as p
-use Rattle.js_program.specs.PlainProgram.{PlainNode, PlainBody}
+use Rattle.js_program.specs.PlainProgram.{PlainNode, PlainBody, PlainProgram}
 use Rattle.js_meaning.proofs.Small.{one, statements, program}
 use Rattle.bp_log.specs.Options.{PlainOptions}
-use Rattle.bp_code.specs.Code.{text_alone}
+use Rattle.bp_log.specs.declared.record.Record.{Record}
+use Rattle.js_value.specs.Value.{PlainSet}
+use Rattle.js_meaning.specs.Bodies.{Origin}
+use Rattle.bp_run.specs.Bodies.{Code}
+use Rattle.bp_run.specs.Story.{alone}
+use Rattle.bp_run.specs.Text.{text}
+use Rattle.bp_code.specs.Code.{code_of}
 
 -- 4 nodes: bp.registerBThread(name, the function of this number);
 abbrev pub registers : ℕ → List ℕ → ℕ → List PlainNode
@@ -29,5 +35,15 @@ waits k first key second =
 abbrev pub logs : ℕ → List ℕ → List PlainNode
 logs k text = one (p.words text) ∷ one (p.builtin form.LogInfo (k ∷ [])) ∷ one (p.expression (k + 1)) ∷ []
 
+-- the code of a program, with the number n for the word at place n
+abbrev pub counting : PlainProgram → PlainOptions → Code Origin PlainSet
+counting program options = record (code_of program options) { word = λ n. n }
+
+abbrev pub counted : PlainProgram → PlainOptions → List Record → Option (List ℕ)
+counted program options records = text (counting program options) options records
+
+abbrev pub counted_alone : PlainProgram → PlainOptions → Option (List ℕ)
+counted_alone program options = counted program options (alone (counting program options) options)
+
 abbrev pub printed : PlainOptions → List PlainNode → List PlainBody → List ℕ → Option (List ℕ)
-printed options nodes functions top = text_alone (program nodes functions [] (statements 0 top)) options (λ n. n)
+printed options nodes functions top = counted_alone (program nodes functions [] (statements 0 top)) options

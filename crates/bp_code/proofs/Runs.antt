@@ -7,7 +7,7 @@ use Rattle.js_tree.specs.declared.tree.DeclareKind.TheVariants.{Const, Let}
 use Rattle.js_tree.specs.declared.tree.Step.TheVariants.{Increment}
 use Rattle.js_tree.specs.declared.tree.Fix.TheVariants.{After}
 use Rattle.js_program.specs.declared.builtin.Builtin.TheVariants as form
-use Rattle.js_program.specs.declared.node.Variable.TheVariants.{Slot, Constant}
+use Rattle.js_program.specs.declared.node.Variable.TheVariants.{Constant}
 use Rattle.js_program.specs.PlainProgram as p
 use Rattle.js_program.specs.PlainProgram.{PlainNode, PlainBody, PlainProgram}
 use Rattle.js_meaning.specs.Meaning.{within, eval, turns_of}
@@ -16,11 +16,12 @@ use Rattle.js_meaning.proofs.Small.{one, whole, slot, constant, given, body, sta
 use Rattle.bp_log.specs.Options.{default_options}
 use Rattle.bp_log.specs.declared.options.Strategy.TheVariants.{Ordered}
 use Rattle.bp_run.specs.Settling.{turn, settle_in, settle, initial}
-use Rattle.bp_run.specs.Choosing.{selectable, choice, reach}
+use Rattle.bp_run.specs.Selecting.{selectable}
+use Rattle.bp_run.specs.Choosing.{choice, reach}
 use Rattle.bp_run.specs.Story.{step, next, after_record, story_from, story, alone_from, alone}
-use Rattle.bp_run.specs.Text.{line_text, lines_text, text}
-use Rattle.bp_code.specs.Code.{text_alone}
-use Rattle.bp_code.proofs.Pieces.{registers, requests, waits, logs, printed}
+use Rattle.bp_log.specs.Texts.{line_text, lines_text}
+use Rattle.bp_run.specs.Text.{text}
+use Rattle.bp_code.proofs.Pieces.{counted_alone, registers, requests, waits, logs, printed}
 
 -- ---- the empty program
 
@@ -92,11 +93,11 @@ ordered_takes_the_first = refl
 
 -- a program whose constants its b-threads read: const x = bp.Event("x"); bp.registerBThread("A", () => { bp.sync({request: x}) })
 pub constants_are_seen :
-    text_alone (program
+    counted_alone (program
     (one (p.words (codes "x")) ∷ one (p.builtin form.Event (0 ∷ [])) ∷ one (p.declaration Const (record { variable = Constant 0; value = Some 1 } ∷ []))
     ∷ registers 3 (codes "A") 0
     ++ constant 0 ∷ one (p.fields (codes "request" ∷ []) (7 ∷ [])) ∷ one (p.builtin form.Sync (8 ∷ [])) ∷ one (p.expression 9) ∷ [])
-    (statements 0 (10 ∷ []) ∷ []) (p.undeclared ∷ []) (statements 0 (2 ∷ 6 ∷ []))) default_options (λ n. n)
+    (statements 0 (10 ∷ []) ∷ []) (p.undeclared ∷ []) (statements 0 (2 ∷ 6 ∷ []))) default_options
     ≡ Some (codes "event [\"x\"]\ndone \"A\"\nverdict quiet 1\n")
 unfolding turn settle_in settle initial selectable choice reach step next after_record story_from story alone_from alone line_text lines_text text digits evaluation ground_of eval within turns_of
 constants_are_seen = refl
@@ -106,7 +107,7 @@ constants_are_seen = refl
 -- for (let i = 0; i < 2; i++) bp.registerBThread("t" + i, make(i))
 
 pub large_two :
-    text_alone (program
+    counted_alone (program
     (one (p.function 0) ∷ one (p.declaration Const (record { variable = Constant 0; value = Some 0 } ∷ []))
     ∷ whole 0 ∷ one (p.declaration Let (given 0 2 ∷ [])) ∷ slot 0 ∷ whole 2 ∷ one (p.binary op.Less 4 5) ∷ one (p.update Increment After 0)
     ∷ one (p.words (codes "t")) ∷ slot 0 ∷ one (p.binary op.Add 8 9) ∷ constant 0 ∷ slot 0 ∷ one (p.call 11 (12 ∷ []))
@@ -116,7 +117,7 @@ pub large_two :
     ∷ one (p.words (codes "e")) ∷ slot 0 ∷ one (p.builtin form.Event (24 ∷ 25 ∷ [])) ∷ one (p.fields (codes "request" ∷ []) (26 ∷ [])) ∷ one (p.builtin form.Sync (27 ∷ [])) ∷ one (p.expression 28)
     ∷ one (p.for_three (1 ∷ []) (Some 19) (Some 22) (Some 23) 29) ∷ [])
     (body 1 1 (p.one_value 17) ∷ record { parameters = 0; slots = 2; captures = 0 ∷ []; vars = []; content = p.statements (30 ∷ []); line = 1 } ∷ [])
-    (p.undeclared ∷ []) (statements 1 (1 ∷ 16 ∷ []))) default_options (λ n. n)
+    (p.undeclared ∷ []) (statements 1 (1 ∷ 16 ∷ []))) default_options
     ≡ Some (codes "event [\"e\",0]\nevent [\"e\",1]\nevent [\"e\",0]\nevent [\"e\",1]\nevent [\"e\",0]\nevent [\"e\",1]\nevent [\"e\",0]\ndone \"t0\"\nevent [\"e\",1]\ndone \"t1\"\nverdict quiet 8\n")
 unfolding turn settle_in settle initial selectable choice reach step next after_record story_from story alone_from alone line_text lines_text text digits evaluation ground_of eval within turns_of
 large_two = refl
@@ -125,7 +126,7 @@ large_two = refl
 -- 1 }; const h = (x => x)(2); bp.registerBThread("A", () => { bp.log.info(f()); bp.log.info(h) })
 
 pub returns_nothing :
-    text_alone (program
+    counted_alone (program
     (one (p.function 0) ∷ one (p.declaration Const (record { variable = Constant 0; value = Some 0 } ∷ []))
     ∷ one (p.function 1) ∷ whole 2 ∷ one (p.call 2 (3 ∷ [])) ∷ one (p.declaration Const (record { variable = Constant 1; value = Some 4 } ∷ []))
     ∷ registers 6 (codes "A") 2
@@ -133,7 +134,7 @@ pub returns_nothing :
     ∷ constant 0 ∷ one (p.call 14 []) ∷ one (p.builtin form.LogInfo (15 ∷ [])) ∷ one (p.expression 16)
     ∷ constant 1 ∷ one (p.builtin form.LogInfo (18 ∷ [])) ∷ one (p.expression 19) ∷ [])
     (statements 0 (10 ∷ 12 ∷ []) ∷ body 1 1 (p.one_value 13) ∷ statements 0 (17 ∷ 20 ∷ []) ∷ [])
-    (p.undeclared ∷ p.undeclared ∷ []) (statements 0 (1 ∷ 5 ∷ 9 ∷ []))) default_options (λ n. n)
+    (p.undeclared ∷ p.undeclared ∷ []) (statements 0 (1 ∷ 5 ∷ 9 ∷ []))) default_options
     ≡ Some (codes "log \"A\" \"undefined\"\nlog \"A\" \"2\"\ndone \"A\"\nverdict quiet 0\n")
 unfolding turn settle_in settle initial selectable choice reach step next after_record story_from story alone_from alone line_text lines_text text digits evaluation ground_of eval within turns_of
 returns_nothing = refl

@@ -10,7 +10,6 @@ use Rattle.bp_log.specs.declared.verdict.Verdict.TheVariants as verdict
 use Rattle.js_tree.specs.declared.tree.Step.TheVariants.{Increment}
 use Rattle.js_tree.specs.declared.tree.Fix.TheVariants.{After}
 use Rattle.js_program.specs.declared.builtin.Builtin.TheVariants as form
-use Rattle.js_program.specs.declared.node.Variable.TheVariants.{Slot}
 use Rattle.js_program.specs.PlainProgram as p
 use Rattle.js_program.specs.PlainProgram.{PlainNode, PlainBody, PlainProgram}
 use Rattle.js_meaning.specs.Meaning.{within, eval, turns_of}
@@ -18,11 +17,12 @@ use Rattle.js_meaning.specs.Bodies.{evaluation, ground_of}
 use Rattle.js_meaning.proofs.Small.{event, one, whole, slot, given, body, statements, program}
 use Rattle.bp_log.specs.Options.{default_options}
 use Rattle.bp_run.specs.Settling.{turn, settle_in, settle, initial}
-use Rattle.bp_run.specs.Choosing.{selectable, choice, reach}
+use Rattle.bp_run.specs.Selecting.{selectable}
+use Rattle.bp_run.specs.Choosing.{choice, reach}
 use Rattle.bp_run.specs.Story.{step, next, after_record, story_from, story, alone_from, alone}
-use Rattle.bp_run.specs.Text.{line_text, lines_text, text}
-use Rattle.bp_code.specs.Code.{text_of, text_alone}
-use Rattle.bp_code.proofs.Pieces.{registers, requests, waits, logs, printed}
+use Rattle.bp_log.specs.Texts.{line_text, lines_text}
+use Rattle.bp_run.specs.Text.{text}
+use Rattle.bp_code.proofs.Pieces.{counted, counted_alone, registers, requests, waits, logs, printed}
 
 -- a budget of 9 is spent in a body of twelve nodes
 pub spent_ends_the_run : printed (record default_options { budget = 9 })
@@ -69,13 +69,13 @@ unfolding turn settle_in settle initial selectable choice reach step next after_
 untrue_predicate = refl
 
 -- for (let i = 0; i < 3; i++) { const k = i; bp.registerBThread("t" + k, () => { bp.log.info(k) }) }
-pub each_turn_has_its_own : text_alone (program
+pub each_turn_has_its_own : counted_alone (program
     (whole 0 ∷ one (p.declaration Let (given 0 0 ∷ [])) ∷ slot 0 ∷ whole 3 ∷ one (p.binary op.Less 2 3) ∷ one (p.update Increment After 0)
     ∷ slot 0 ∷ one (p.declaration Const (given 1 6 ∷ []))
     ∷ one (p.words (codes "t")) ∷ slot 1 ∷ one (p.binary op.Add 8 9) ∷ one (p.function 0) ∷ one (p.builtin form.RegisterBThread (10 ∷ 11 ∷ [])) ∷ one (p.expression 12)
     ∷ one (p.block (1 ∷ []) (7 ∷ 13 ∷ [])) ∷ one (p.for_three (0 ∷ []) (Some 1) (Some 4) (Some 5) 14)
     ∷ slot 0 ∷ one (p.builtin form.LogInfo (16 ∷ [])) ∷ one (p.expression 17) ∷ [])
-    (record { parameters = 0; slots = 1; captures = 1 ∷ []; vars = []; content = p.statements (18 ∷ []); line = 1 } ∷ []) [] (statements 2 (15 ∷ []))) default_options (λ n. n)
+    (record { parameters = 0; slots = 1; captures = 1 ∷ []; vars = []; content = p.statements (18 ∷ []); line = 1 } ∷ []) [] (statements 2 (15 ∷ []))) default_options
     ≡ Some (codes "log \"t0\" \"0\"\ndone \"t0\"\nlog \"t1\" \"1\"\ndone \"t1\"\nlog \"t2\" \"2\"\ndone \"t2\"\nverdict quiet 0\n")
 unfolding turn settle_in settle initial selectable choice reach step next after_record story_from story alone_from alone line_text lines_text text digits evaluation ground_of eval within turns_of
 each_turn_has_its_own = refl
@@ -98,12 +98,12 @@ abbrev go : PlainEvent
 go = event (codes "go")
 
 pub blocked_event_is_overtaken :
-    text_of got (record default_options { injectors = 1 }) (λ n. n) (In 0 x ∷ In 0 go ∷ Eof 0 ∷ Sel go ∷ Sel x ∷ End (verdict.Quiet 2) ∷ [])
+    counted got (record default_options { injectors = 1 }) (In 0 x ∷ In 0 go ∷ Eof 0 ∷ Sel go ∷ Sel x ∷ End (verdict.Quiet 2) ∷ [])
     ≡ Some (codes "external [\"go\"]\ndone \"B\"\nexternal [\"x\"]\nlog \"C\" \"got\"\ndone \"C\"\nverdict quiet 2\n")
 unfolding turn settle_in settle initial selectable choice reach step next after_record story_from story alone_from alone line_text lines_text text digits evaluation ground_of eval within turns_of
 blocked_event_is_overtaken = refl
 
 pub blocked_event_is_not_selected :
-    text_of got (record default_options { injectors = 1 }) (λ n. n) (In 0 x ∷ In 0 go ∷ Eof 0 ∷ Sel x ∷ []) ≡ None
+    counted got (record default_options { injectors = 1 }) (In 0 x ∷ In 0 go ∷ Eof 0 ∷ Sel x ∷ []) ≡ None
 unfolding turn settle_in settle initial selectable choice reach step next after_record story_from story alone_from alone line_text lines_text text digits evaluation ground_of eval within turns_of
 blocked_event_is_not_selected = refl

@@ -1,10 +1,11 @@
-//! What is asked of a run, what is recorded of it and what it prints: the types.
+//! What is asked of a run, what is recorded of it and what it prints: the types, and the text of lines.
 #![tactic(auto)]
 
 pub mod beside;
 pub mod header;
 pub mod item;
 pub mod limits;
+pub mod lines;
 pub mod options;
 pub mod record;
 pub mod trace;
@@ -13,6 +14,7 @@ pub mod verdict;
 pub use beside::Beside;
 pub use header::Header;
 pub use item::Item;
+pub use lines::{PrintError, line_of, print};
 pub use options::{Options, Strategy};
 pub use record::{Record, Records};
 use std::alloc::AllocError;
