@@ -3,3 +3,5 @@ pub mod Places
 pub mod Forgetting
 pub mod Widening
 pub mod Returns
+pub mod Turns
+pub mod Lent

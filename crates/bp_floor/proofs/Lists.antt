@@ -75,3 +75,9 @@ last_cons (Some x) l r t h = ap (λ ys. x ∷ ys) h
 pub filter_map_last : {A B : Type 0} (f : A → Option B) (xs : List A) (x : A) (y : B) → f x ≡ Some y → filter_map f (xs ++ x ∷ []) ≡ filter_map f xs ++ y ∷ []
 filter_map_last f [] x y h = rw h refl
 filter_map_last f (z ∷ zs) x y h = last_cons (f z) _ _ _ (filter_map_last f zs x y h)
+
+-- a change seen through a map, where it is made
+pub change_map_at : {A B : Type 0} (v : A → B) (f : A → A) (g : B → B) (i : ℕ) (xs : List A) → ((x : A) → slice_get xs i ≡ Some x → v (f x) ≡ g (v x)) → map v (change f i xs) ≡ change g i (map v xs)
+change_map_at v f g i [] h = refl
+change_map_at v f g zero (x ∷ xs) h = ap (λ y. y ∷ map v xs) (h x refl)
+change_map_at v f g (suc i) (x ∷ xs) h = ap (λ ys. v x ∷ ys) (change_map_at v f g i xs h)

@@ -7,13 +7,15 @@ use Rattle.js_program.specs.PlainProgram.{PlainProgram}
 use Rattle.bp_log.specs.Options.{PlainOptions}
 use Rattle.bp_run.specs.Bodies.{Outcome, Statement}
 use Rattle.bp_run.specs.Bodies.Outcome.{Stopped, Ended, Broken, Violated, Spent}
-use Rattle.bp_run.specs.Configuration.{change}
+use Rattle.js_meaning.specs.Bodies.{Origin, the_top}
+use Rattle.bp_run.specs.Configuration.{Thread, change}
 use Rattle.bp_run.specs.Settling.{Entry}
 use Rattle.bp_run.specs.Settling.Entry.{The_top, Runs, Stops}
 use Rattle.bp_run.specs.Selecting.{Live, at_stop}
-use Rattle.bp_select.specs.Placing.{placed, live_at}
-use Rattle.bp_floor.specs.Seating.{PlainSeat, is_waiting, is_ready, outcome_in, where_from, stop_at, statement_at, stated_from, IsOwnIn, AreOwn, swept}
-use Rattle.bp_floor.specs.Kept.{AreFrom, runs_in}
+use Rattle.bp_select.specs.Benches.{placed, live_at}
+use Rattle.bp_floor.specs.Forgetting.{forget}
+use Rattle.bp_floor.specs.Seating.{PlainSeat, seated, is_waiting, is_ready, outcome_in, where_from, stop_at, statement_at, stated_from, IsOwnIn, AreOwn, swept}
+use Rattle.bp_floor.specs.Kept.{AreFrom, Rises, runs_in}
 use Rattle.bp_floor.proofs.Lists.{filter_map_last}
 
 pub not_equal : (m i : ℕ) (b : Bool) → nat_eq m i ≡ b → (m ≡ i → ⊥) → b ≡ false
@@ -225,3 +227,135 @@ open_one false o h = refl
 
 pub waits_at : (n i : ℕ) (ss : List PlainSeat) (rest : List ℕ) (s : PlainSeat) → where_from is_waiting n ss ≡ (n + i) ∷ rest → slice_get ss i ≡ Some s → s.ended ≡ false
 waits_at n i ss rest s h k = open_one s.ended (is_none (outcome_in s.job)) (first_is is_waiting n i ss rest s h k)
+
+-- ---- those that have ended let their jobs go
+
+swept_waits : (b : Bool) (s : PlainSeat) → s.ended ≡ b → is_waiting (swept s) ≡ is_waiting s
+swept_waits true s h = rw h refl
+swept_waits false s h = rw h refl
+
+swept_ready : (b : Bool) (s : PlainSeat) → s.ended ≡ b → is_ready (swept s) ≡ is_ready s
+swept_ready true s h = rw h refl
+swept_ready false s h = rw h refl
+
+swept_states : (b : Bool) (n : ℕ) (s : PlainSeat) → s.ended ≡ b → statement_at n (swept s) ≡ statement_at n s
+swept_states true n s h = rw h refl
+swept_states false n s h = rw h refl
+
+swept_own : (g : PlainProgram) (o : PlainOptions) (b : Bool) (n : ℕ) (s : PlainSeat) → s.ended ≡ b → IsOwnIn g o n s.job → IsOwnIn g o n (swept s).job
+swept_own g o true n s h k = rw h tt
+swept_own g o false n s h k = rw h k
+
+swept_forgets : (b : Bool) (s : PlainSeat) → s.ended ≡ b → seated (swept s) ≡ forget the_top (seated s)
+swept_forgets true s h = rw h refl
+swept_forgets false s h = rw h refl
+
+pub where_swept : (f : PlainSeat → Bool) (n : ℕ) (ss : List PlainSeat) → ((s : PlainSeat) → f (swept s) ≡ f s) → where_from f n (map swept ss) ≡ where_from f n ss
+where_swept f n [] h = refl
+where_swept f n (s ∷ ss) h = rw (h s) (where_same (f s) n _ _ (where_swept f (suc n) ss h))
+
+pub waits_swept : (n : ℕ) (ss : List PlainSeat) → where_from is_waiting n (map swept ss) ≡ where_from is_waiting n ss
+waits_swept n ss = where_swept is_waiting n ss (λ s. swept_waits s.ended s refl)
+
+pub ready_swept : (n : ℕ) (ss : List PlainSeat) → where_from is_ready n (map swept ss) ≡ where_from is_ready n ss
+ready_swept n ss = where_swept is_ready n ss (λ s. swept_ready s.ended s refl)
+
+pub stated_swept : (n : ℕ) (ss : List PlainSeat) → stated_from n (map swept ss) ≡ stated_from n ss
+stated_swept n [] = refl
+stated_swept n (s ∷ ss) =
+    ap (λ (o : Option (Live PlainSet)). cons_option o (stated_from (suc n) (map swept ss))) (swept_states s.ended n s refl)
+    ∙ ap (λ (ts : List (Live PlainSet)). cons_option (statement_at n s) ts) (stated_swept (suc n) ss)
+
+pub own_swept : (g : PlainProgram) (o : PlainOptions) (n : ℕ) (ss : List PlainSeat) → AreOwn g o n ss → AreOwn g o n (map swept ss)
+own_swept g o n [] h = tt
+own_swept g o n (s ∷ ss) h = (swept_own g o s.ended n s refl h.0, own_swept g o (suc n) ss h.1)
+
+pub forgets_swept : (ss : List PlainSeat) → map seated (map swept ss) ≡ map (forget the_top) (map seated ss)
+forgets_swept [] = refl
+forgets_swept (s ∷ ss) =
+    ap (λ (t : Thread Origin). t ∷ map seated (map swept ss)) (swept_forgets s.ended s refl)
+    ∙ ap (λ (ts : List (Thread Origin)). forget the_top (seated s) ∷ ts) (forgets_swept ss)
+
+pub swept_length : (ss : List PlainSeat) → length (map swept ss) ≡ length ss
+swept_length [] = refl
+swept_length (s ∷ ss) = ap (λ (n : ℕ). suc n) (swept_length ss)
+
+-- ---- rising numbers
+
+rises_step : (b : Bool) (n : ℕ) (w : List ℕ) → AreFrom (suc n) w → Rises w → Rises (if b then n ∷ w else w)
+rises_step true n w h k = (h, k)
+rises_step false n w h k = k
+
+pub where_rises : (f : PlainSeat → Bool) (n : ℕ) (ss : List PlainSeat) → Rises (where_from f n ss)
+where_rises f n [] = tt
+where_rises f n (s ∷ ss) = rises_step (f s) n (where_from f (suc n) ss) (where_above f (suc n) ss) (where_rises f (suc n) ss)
+
+-- ---- a change that is not seen
+
+pub where_like : (f : PlainSeat → Bool) (n i : ℕ) (g : PlainSeat → PlainSeat) (ss : List PlainSeat) → ((s : PlainSeat) → slice_get ss i ≡ Some s → f (g s) ≡ f s) → where_from f n (change g i ss) ≡ where_from f n ss
+where_like f n i g [] h = refl
+where_like f n zero g (s ∷ ss) h = rw (h s refl) refl
+where_like f n (suc i) g (s ∷ ss) h = where_same (f s) n _ _ (where_like f (suc n) i g ss h)
+
+pub stated_like : (n i : ℕ) (g : PlainSeat → PlainSeat) (ss : List PlainSeat) → ((s : PlainSeat) → slice_get ss i ≡ Some s → (k : ℕ) → statement_at k (g s) ≡ statement_at k s) → stated_from n (change g i ss) ≡ stated_from n ss
+stated_like n i g [] h = refl
+stated_like n zero g (s ∷ ss) h = ap (λ (o : Option (Live PlainSet)). cons_option o (stated_from (suc n) ss)) (h s refl n)
+stated_like n (suc i) g (s ∷ ss) h = ap (λ (ts : List (Live PlainSet)). cons_option (statement_at n s) ts) (stated_like (suc n) i g ss h)
+
+pub own_at : (g : PlainProgram) (o : PlainOptions) (n i : ℕ) (ss : List PlainSeat) (s : PlainSeat) → AreOwn g o n ss → slice_get ss i ≡ Some s → IsOwnIn g o (n + i) s.job
+own_at g o n i [] s h k = absurd (cc)
+own_at g o n zero (x ∷ ss) s h k =
+    let e : x ≡ s = cc in let m : n ≡ n + 0 = omega arith in
+    subst (λ (j : ℕ). IsOwnIn g o j s.job) m (subst (λ (y : PlainSeat). IsOwnIn g o n y.job) e h.0)
+own_at g o n (suc i) (x ∷ ss) s h k =
+    let m : suc n + i ≡ n + suc i = omega arith in
+    subst (λ (j : ℕ). IsOwnIn g o j s.job) m (own_at g o (suc n) i ss s h.1 k)
+
+pub map_length : {A B : Type 0} (f : A → B) (xs : List A) → length (map f xs) ≡ length xs
+map_length f [] = refl
+map_length f (x ∷ xs) = ap (λ (n : ℕ). suc n) (map_length f xs)
+
+-- ---- one more in the midst
+
+abbrev pub AllBelow : ℕ → List ℕ → Type 0
+AllBelow most [] = Unit {0}
+AllBelow most (n ∷ ns) = (n < most) × AllBelow most ns
+
+from_in : (n : ℕ) (ns : List ℕ) (k : ℕ) (ms : List ℕ) → AreFrom (suc n) (ns ++ k ∷ ms) → n < k
+from_in n [] k ms h = let a = h.0 in omega (arith, a)
+from_in n (m ∷ ns) k ms h = from_in n ns k ms h.1
+
+pub rises_below : (ns : List ℕ) (k : ℕ) (ms : List ℕ) → Rises (ns ++ k ∷ ms) → AllBelow k ns
+rises_below [] k ms h = tt
+rises_below (n ∷ ns) k ms h = (from_in n ns k ms h.0, rises_below ns k ms h.1)
+
+none_between : (n : ℕ) (ns : List ℕ) → AreFrom (suc n) ns → AllBelow n ns → ns ≡ []
+none_between n [] h k = refl
+none_between n (m ∷ ns) h k = absurd (let a = h.0 in let b = k.0 in omega (arith, a, b))
+
+last_zero : (b c : Bool) (n : ℕ) (w : List ℕ) → b ≡ false → c ≡ true → AreFrom (suc n) w → AllBelow (n + 0) (if b then n ∷ w else w) → (if c then n ∷ w else w) ≡ (if b then n ∷ w else w) ++ (n + 0) ∷ []
+last_zero true c n w h k a l = absurd (cc)
+last_zero false false n w h k a l = absurd (cc)
+last_zero false true n w h k a l =
+    let e : n + 0 ≡ n = omega arith in
+    let z = none_between n w a (subst (λ (m : ℕ). AllBelow m w) e l) in
+    rw (z, e) refl
+
+below_rest : (b : Bool) (n k : ℕ) (w : List ℕ) → AllBelow k (if b then n ∷ w else w) → AllBelow k w
+below_rest true n k w h = h.1
+below_rest false n k w h = h
+
+-- one that was not so, and is so now, behind all that are
+pub where_more : (f : PlainSeat → Bool) (n i : ℕ) (g : PlainSeat → PlainSeat) (ss : List PlainSeat) → i < length ss → ((s : PlainSeat) → slice_get ss i ≡ Some s → (f s ≡ false) × (f (g s) ≡ true)) →
+    AllBelow (n + i) (where_from f n ss) → where_from f n (change g i ss) ≡ where_from f n ss ++ (n + i) ∷ []
+where_more f n i g [] l h a = absurd (omega arith)
+where_more f n zero g (s ∷ ss) l h a = let k = h s refl in last_zero (f s) (f (g s)) n (where_from f (suc n) ss) k.0 k.1 (where_above f (suc n) ss) a
+where_more f n (suc i) g (s ∷ ss) l h a =
+    let e : suc n + i ≡ n + suc i = omega arith in
+    let below : AllBelow (suc n + i) (where_from f (suc n) ss) = subst (λ (m : ℕ). AllBelow m (where_from f (suc n) ss)) (sym e) (below_rest (f s) n (n + suc i) (where_from f (suc n) ss) a) in
+    where_step (f s) n _ _ _ (where_more f (suc n) i g ss (omega arith) h below ∙ ap (λ (m : ℕ). where_from f (suc n) ss ++ m ∷ []) e)
+
+pub get_below : (ss : List PlainSeat) (i : ℕ) (s : PlainSeat) → slice_get ss i ≡ Some s → i < length ss
+get_below [] i s h = absurd (cc)
+get_below (x ∷ ss) zero s h = omega arith
+get_below (x ∷ ss) (suc i) s h = let b = get_below ss i s h in omega (arith, b)

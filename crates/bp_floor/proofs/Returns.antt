@@ -1,10 +1,12 @@
 -- Jobs come back, one after the other.
 use Rattle.std.proofs.Common.{◌≡◌, ℕ, zero, suc, ◌+◌, ◌<◌, ◌≤◌, Bool, true, false, not, ◌&&◌, List, [], ◌∷◌, ◌++◌, length, map, refl, sym, ap, ◌∙◌, subst, arith, Option, Some, None, is_none, is_some, slice_get, if◌then◌else◌}
+use Rattle.js_data.specs.Event.{PlainEvent}
 use Rattle.js_value.specs.Value.{PlainSet}
 use Rattle.js_program.specs.PlainProgram.{PlainProgram}
 use Rattle.js_meaning.specs.Bodies.{Origin, the_top, bare, ground_of}
 use Rattle.js_meaning.specs.State.{Ground}
 use Rattle.bp_log.specs.Options.{PlainOptions}
+use Rattle.bp_log.specs.declared.limits.TheConstants.{MOST_WAITING, MOST_THREADS}
 use Rattle.bp_run.specs.Bodies as run
 use Rattle.bp_run.specs.Bodies.{Part, Outcome}
 use Rattle.bp_run.specs.Configuration.{Thread, Stand, change}
@@ -12,11 +14,12 @@ use Rattle.bp_run.specs.Settling.{Body, Entry, body_of, own_body, part_of}
 use Rattle.bp_run.specs.Settling.Entry.{The_top, Runs, Stops}
 use Rattle.bp_run.specs.Numbers.{number_of}
 use Rattle.bp_meaning.specs.After.{effect_of}
-use Rattle.bp_select.specs.Placing.{placed, live_at}
+use Rattle.bp_select.specs.Benches.{placed, live_at}
 use Rattle.bp_thread.specs.declared.job.Job.{Job}
 use Rattle.bp_thread.specs.Jobs.{PlainJob, plain_job, IsOf, StandsFor, IsWhole}
 use Rattle.bp_floor.specs.declared.board.Board.{Board}
-use Rattle.bp_floor.specs.Programs.{ground_for, code_of}
+use Rattle.bp_code.specs.Code.{ground_for}
+use Rattle.bp_floor.specs.Programs.{code_of}
 use Rattle.bp_floor.specs.Seating.{PlainSeat, seated, outcome_in, is_waiting, is_ready, where_from, stop_at, statement_at, stated_from, IsOwn, IsOwnIn, AreOwn}
 use Rattle.bp_floor.specs.Parts.{unstated, unstated_part, nothing_stated}
 use Rattle.bp_floor.specs.Kept.{Running, runs_in, AreBelow}
@@ -46,6 +49,10 @@ later_alone [] h = tt
 later_alone (The_top ∷ ns) h = absurd h
 later_alone (Runs i ∷ ns) h = h
 later_alone (Stops i b ∷ ns) h = h
+
+pub nothing_later : {O : Type 0} (ns : List (Entry O)) → ns ≡ [] → AreLater ns
+nothing_later [] h = tt
+nothing_later (n ∷ ns) h = absurd (cc)
 
 pub later_ground : (p : PlainProgram) (budget : ℕ) (ns : List (Entry Origin)) → AreLater ns → ground_at p budget ns ≡ ground_of p budget
 later_ground p budget [] h = refl
@@ -106,6 +113,7 @@ idle_back r base i ns js b m =
       waiting = m.waiting;
       ready = m.ready;
       mirror = m.mirror;
+      fits = m.fits;
       few = m.few;
       room = m.room;
       program_is = m.program_is;
@@ -195,16 +203,17 @@ back_top r base left ns j k js old new t h p m =
     let g = h.1 r 0 c m.ground_is in
     subst (λ (b : Board). IsBack r left ns js b) (sym h.0) (record {
       done = m.done.1;
-      alone = later_alone ns m.alone;
+      alone = later_alone ns (nothing_later ns m.alone);
       below = m.below.1;
       own = m.own;
       waiting = m.waiting;
       ready = m.ready;
       mirror = m.mirror;
+      fits = m.fits;
       few = m.few;
       room = m.room;
       program_is = sym p ∙ m.program_is;
-      ground_is = g ∙ sym (later_ground r.program r.options.budget ns m.alone);
+      ground_is = g ∙ sym (later_ground r.program r.options.budget ns (nothing_later ns m.alone));
     })
 
 back_stops : (r : Running) (base left : Ground) (i : ℕ) (b : Body Origin) (ns : List (Entry Origin)) (j k : Job) (js : List Job) (old new : Board) → IsKeptBy (Stops i (Some b)) k base old left new →
@@ -219,6 +228,7 @@ back_stops r base left i b ns j k js old new h m =
       waiting = m.waiting;
       ready = m.ready;
       mirror = m.mirror;
+      fits = m.fits;
       few = m.few;
       room = m.room;
       program_is = m.program_is;
@@ -247,20 +257,26 @@ back_runs r base left i ns j k js old new t h m =
     let own : IsOwn r.program r.options i k = own_carried r i f.body k c (ap (λ (p : PlainJob). p.effects) t.plain) in
     let len : length (change put i old.seats) ≡ length old.seats = change_length put i old.seats in
     let few = m.few in
-    subst (λ (x : Board). IsBack r left ns js x) (sym h.0.board) (subst (λ (g : Ground). IsBack r g ns js (record old { seats = change put i old.seats; bench = placed i h.0.statement old.bench })) (sym h.1) (record {
-      done = subst (λ (ts : List (Thread Origin)). AreDone r.program r.options (standing (filled ns js ts)) ns js) (sym seats) f.left;
+    let seats_now : map seated new.seats ≡ change (fill (plain_job j)) i (map seated old.seats) = ap (λ (ss : List PlainSeat). map seated ss) h.0.seats ∙ seats in
+    let room = m.room in
+    subst (λ (g : Ground). IsBack r g ns js new) (sym h.1) (record {
+      done = subst (λ (ts : List (Thread Origin)). AreDone r.program r.options (standing (filled ns js ts)) ns js) (sym seats_now) f.left;
       alone = later_alone ns m.alone;
-      below = subst (λ (n : ℕ). AreBelow n ns) (sym len) m.below.1;
-      own = own_changed r.program r.options 0 i put old.seats m.own (λ s w y. own);
-      waiting = where_first is_waiting 0 i put old.seats (runs_in ns) m.waiting (λ s w. puts_no s.ended (is_none (plain_job k).outcome) some);
-      ready = where_none is_ready 0 i put old.seats m.ready (λ s w. puts_ready s.ended (is_none (plain_job k).outcome) some);
-      mirror = ap (λ (ts : List _). placed i h.0.statement ts) m.mirror
-          ∙ sym (stated_changed 0 i put h.0.statement old.seats low (λ s w n. open_states s n k h.0.statement (waits_at 0 i old.seats (runs_in ns) s m.waiting w) (h.0.stated n)));
-      few = omega (arith, few, len);
-      room = m.room;
+      below = subst (λ (ss : List PlainSeat). AreBelow (length ss) ns) (sym h.0.seats) (subst (λ (n : ℕ). AreBelow n ns) (sym len) m.below.1);
+      own = subst (λ (ss : List PlainSeat). AreOwn r.program r.options 0 ss) (sym h.0.seats) (own_changed r.program r.options 0 i put old.seats m.own (λ s w y. own));
+      waiting = ap (λ (ss : List PlainSeat). where_from is_waiting 0 ss) h.0.seats
+          ∙ where_first is_waiting 0 i put old.seats (runs_in ns) m.waiting (λ s w. puts_no s.ended (is_none (plain_job k).outcome) some);
+      ready = ap (λ (ss : List PlainSeat). where_from is_ready 0 ss) h.0.seats
+          ∙ where_none is_ready 0 i put old.seats m.ready (λ s w. puts_ready s.ended (is_none (plain_job k).outcome) some);
+      mirror = h.0.live ∙ ap (λ (ts : List _). placed i h.0.statement ts) m.mirror
+          ∙ sym (stated_changed 0 i put h.0.statement old.seats low (λ s w n. open_states s n k h.0.statement (waits_at 0 i old.seats (runs_in ns) s m.waiting w) (h.0.stated n)))
+          ∙ ap (λ (ss : List PlainSeat). stated_from 0 ss) (sym h.0.seats);
+      fits = h.0.fits (ground_of r.program r.options.budget) r.options.budget m.fits;
+      few = subst (λ (ss : List PlainSeat). length ss ≤ MOST_THREADS) (sym h.0.seats) (omega (arith, few, len));
+      room = subst (λ (q : List PlainEvent). length q ≤ MOST_WAITING) (sym h.0.same.queue) room;
       program_is = m.program_is;
       ground_is = m.ground_is ∙ sym (later_ground r.program r.options.budget ns m.alone);
-    }))
+    })
 
 -- the job of an entry that has a body
 pub puts_kept : (n : Entry Origin) (j k : Job) (js : List Job) (base left : Ground) (old new : Board) (part : Part Origin (Unit {0})) → has_body n ≡ true → IsTaken j k → IsKeptBy n k base old left new →
@@ -280,13 +296,13 @@ puts_kept (Runs i) j k js base left old new part b t h p e o =
     record {
       back = λ r ns m. back_runs r base left i ns j k js old new t h m;
       threads = λ r ns m.
-          ap (λ (x : Board). filled ns js (map seated x.seats)) h.0.board
+          ap (λ (ss : List PlainSeat). filled ns js (map seated ss)) h.0.seats
           ∙ ap (λ (ts : List (Thread Origin)). filled ns js ts)
           (change_map seated (λ s. record s { job = Some k }) (fill (plain_job k)) i old.seats (λ s. refl) ∙ ap (λ (q : PlainJob). change (fill q) i (map seated old.seats)) t.plain);
       part_is = λ r ns m.
           part_done r (Runs i) (filled (Runs i ∷ ns) (j ∷ js) (map seated old.seats)) j (AreDone r.program r.options (standing (filled (Runs i ∷ ns) (j ∷ js) (map seated old.seats))) ns) js part
           (first_runs r base i ns j js old m) e (λ x w. o x (ap (λ (q : PlainJob). q.outcome) t.plain ∙ w));
-      same = subst (λ (x : Board). IsSameBut old x) (sym h.0.board) (record { queue = refl; transitions = refl; weight = refl; lines = refl; verdict = refl; wave = refl });
+      same = h.0.same;
     }
 puts_kept (Stops i None) j k js base left old new part b t h p e o = absurd (cc)
 puts_kept (Stops i (Some x)) j k js base left old new part b t h p e o =

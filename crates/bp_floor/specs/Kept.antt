@@ -1,5 +1,5 @@
 -- What a board keeps of its b-threads while they run.
-use Rattle.std.specs.Prelude.{◌≡◌, ℕ, ◌≤◌, ◌<◌, List, [], ◌∷◌, Option, Some, None, length, map}
+use Rattle.std.specs.Prelude.{◌≡◌, ℕ, suc, ◌≤◌, ◌<◌, List, [], ◌∷◌, Option, Some, None, length, map}
 use Rattle.std.specs.List.{filter_map}
 use Rattle.js_meaning.specs.Bodies.{Origin, ground_of}
 use Rattle.js_meaning.specs.State.{Ground}
@@ -8,6 +8,7 @@ use Rattle.bp_log.specs.Options.{PlainOptions}
 use Rattle.bp_log.specs.declared.limits.TheConstants.{MOST_WAITING, MOST_THREADS}
 use Rattle.bp_run.specs.Settling.{Entry}
 use Rattle.bp_run.specs.Settling.Entry.{The_top, Runs, Stops}
+use Rattle.bp_select.specs.Benches.{Fits}
 use Rattle.bp_floor.specs.declared.board.Board.{Board}
 use Rattle.bp_floor.specs.Seating.{is_waiting, is_ready, where_from, stated_from, AreOwn}
 
@@ -24,6 +25,11 @@ runs_in ns = filter_map run_of ns
 abbrev pub AreFrom : ℕ → List ℕ → Type 0
 AreFrom first [] = Unit {0}
 AreFrom first (n ∷ ns) = (first ≤ n) × AreFrom first ns
+
+-- each number is above the one before it
+abbrev pub Rises : List ℕ → Type 0
+Rises [] = Unit {0}
+Rises (n ∷ ns) = AreFrom (suc n) ns × Rises ns
 
 -- the b-thread of an entry is among the first so many
 abbrev pub IsBelow : {O : Type 0} → ℕ → Entry O → Type 0
@@ -51,7 +57,8 @@ pub record IsKept (r : Running) (first : ℕ) (b : Board) : Type 0 where
   pub own : AreOwn r.program r.options 0 b.seats
   pub waiting : where_from is_waiting 0 b.seats ≡ runs_in b.wave
   pub ready : where_from is_ready 0 b.seats ≡ runs_in b.wave
-  pub mirror : b.bench ≡ stated_from 0 b.seats
+  pub mirror : b.bench.live ≡ stated_from 0 b.seats
+  pub fits : Fits b.bench (ground_of r.program r.options.budget) r.options.budget
   pub fresh : AreFrom first (runs_in b.wave)
   pub older : first ≤ length b.seats
   pub few : length b.seats ≤ MOST_THREADS

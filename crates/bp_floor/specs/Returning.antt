@@ -6,14 +6,15 @@ use Rattle.js_meaning.specs.State.{Ground}
 use Rattle.js_value.specs.Value.{PlainSet}
 use Rattle.bp_log.specs.declared.limits.TheConstants.{MOST_WAITING, MOST_THREADS}
 use Rattle.bp_run.specs.Bodies.{Part, Statement}
-use Rattle.bp_run.specs.Configuration.{Thread, change}
-use Rattle.bp_run.specs.Settling.{Entry, Ran, part_of, body_of}
+use Rattle.bp_run.specs.Configuration.{Stand, Thread, change}
+use Rattle.bp_run.specs.Settling.{Entry, Ran, Pair, part_of, body_of, merged}
 use Rattle.bp_run.specs.Settling.Entry.{The_top, Runs, Stops}
-use Rattle.bp_select.specs.Placing.{placed, live_at}
+use Rattle.bp_select.specs.Benches.{placed, live_at, Fits}
 use Rattle.bp_thread.specs.declared.job.Job.{Job}
 use Rattle.bp_thread.specs.Jobs.{plain_job, IsOf, StandsFor}
 use Rattle.bp_floor.specs.declared.board.Board.{Board}
 use Rattle.bp_floor.specs.Programs.{code_of}
+use Rattle.bp_floor.specs.Forgetting.{forgotten}
 use Rattle.bp_floor.specs.Seating.{seated, is_waiting, is_ready, where_from, stated_from, stop_at, AreOwn}
 use Rattle.bp_floor.specs.Parts.{unstated_part}
 use Rattle.bp_floor.specs.Kept.{runs_in, AreBelow, Running}
@@ -36,7 +37,9 @@ AreLater (Stops i b ∷ ns) = AreLater ns
 -- the top level runs alone
 abbrev pub RunsAlone : {O : Type 0} → List (Entry O) → Type 0
 RunsAlone [] = Unit {0}
-RunsAlone (n ∷ ns) = AreLater ns
+RunsAlone (The_top ∷ ns) = ns ≡ []
+RunsAlone (Runs i ∷ ns) = AreLater ns
+RunsAlone (Stops i b ∷ ns) = AreLater ns
 
 -- The jobs of these entries are still to be put back.
 pub record IsBack (r : Running) (base : Ground) (ns : List (Entry Origin)) (js : List Job) (b : Board) : Type 0 where
@@ -46,7 +49,8 @@ pub record IsBack (r : Running) (base : Ground) (ns : List (Entry Origin)) (js :
   pub own : AreOwn r.program r.options 0 b.seats
   pub waiting : where_from is_waiting 0 b.seats ≡ runs_in ns
   pub ready : where_from is_ready 0 b.seats ≡ []
-  pub mirror : b.bench ≡ stated_from 0 b.seats
+  pub mirror : b.bench.live ≡ stated_from 0 b.seats
+  pub fits : Fits b.bench (ground_of r.program r.options.budget) r.options.budget
   pub few : length b.seats ≤ MOST_THREADS
   pub room : length b.queue ≤ MOST_WAITING
   pub program_is : base.program ≡ r.program
@@ -76,7 +80,10 @@ pub record Puts (n : Entry Origin) (js : List Job) (base : Ground) (old : Board)
 pub record IsPut (number : ℕ) (j : Job) (old new : Board) : Type 0 where
   pub statement : Option (Statement PlainSet)
   pub stated : (k : ℕ) → stop_at k (plain_job j).outcome ≡ live_at k statement
-  pub board : new ≡ record old { seats = change (λ s. record s { job = Some j }) number old.seats; bench = placed number statement old.bench }
+  pub seats : new.seats ≡ change (λ s. record s { job = Some j }) number old.seats
+  pub live : new.bench.live ≡ placed number statement old.bench.live
+  pub fits : (base : Ground) (budget : ℕ) → Fits old.bench base budget → Fits new.bench base budget
+  pub same : IsSameBut old new
 
 -- the effects of a job were taken
 pub record IsTaken (j k : Job) : Type 0 where
@@ -109,4 +116,11 @@ ran_in r ts n = record { entry = n; part = part_in r ts n }
 pub record AreAllBack (r : Running) (ns : List (Entry Origin)) (ts : List (Thread Origin)) (left : Ground) (b : Board) (rans : List (Ran Origin (Unit {0}))) : Type 0 where
   pub back : IsBack r left [] [] b
   pub threads : map seated b.seats ≡ ts
-  pub rans : rans ≡ map (ran_in r ts) ns
+  pub rans_are : rans ≡ map (ran_in r ts) ns
+
+abbrev pub entry_in : Ran Origin (Unit {0}) → Entry Origin
+entry_in r = r.entry
+
+-- what these bodies did is merged, and those that have ended are forgotten
+abbrev pub turned_apart : Running → List (Entry Origin) → List (Thread Origin) → Stand Origin → Pair Origin
+turned_apart r ns ts s = forgotten the_top (merged (map (ran_in r ts) ns) (record { stand = record s { threads = ts }; entries = [] }))

@@ -4,6 +4,7 @@
 mod board;
 mod entry;
 mod events;
+mod lending;
 mod lines;
 mod merging;
 mod part;

@@ -178,7 +178,7 @@ impl Board {
     }
 
     /// Merges what the body of an entry did.
-    fn part(&mut self, alloc: Global, ground: &Ground, options: Options, entry: &Entry, part: Part) -> Result<(), Memory>
+    pub fn part(&mut self, alloc: Global, ground: &Ground, options: Options, entry: &Entry, part: Part) -> Result<(), Memory>
         requires { IsBelow (length self.old.seats) (entry_seen entry.now) }
         ensures merged { OnOk result (pair_of self.new ≡ unless_over (with_part (entry_seen entry.now) (part_seen part)) (pair_of self.old)) }
         ensures keeps { OnOk result ((r : Running) (first : ℕ) → IsOn r (plain_ground ground.now) options → IsBelow first (entry_seen entry.now) → IsKept r first self.old → IsKept r first self.new) }

@@ -1,27 +1,32 @@
 //! A turn: the jobs come back, and what they did is merged.
-ghost use Rattle.std.specs.Prelude.{◌≡◌, ◌<◌, ◌∷◌, ◌++◌, [], ℕ, List, length, map, option_map, OnOk, OnErr, IfOk, Some, true};
+ghost use Rattle.std.specs.Prelude.{◌≡◌, ◌<◌, ◌∷◌, ◌++◌, [], ℕ, List, length, map, option_map, OnOk, OnErr, IfOk, None, Some, true};
 ghost use Rattle.std.specs.Vec.Iter.{into_iter_items};
 ghost use Rattle.js_value.specs.Value.{PlainSet};
 ghost use Rattle.bp_thread.specs.declared.job.Job.{Job};
-ghost use Rattle.js_meaning.specs.Bodies.{Origin};
+ghost use Rattle.js_meaning.specs.Bodies.{Origin, the_top};
 ghost use Rattle.js_frames.specs.Places.{plain_ground};
 ghost use Rattle.bp_run.specs.Bodies as run;
 ghost use Rattle.bp_run.specs.Settling as settling;
-ghost use Rattle.bp_select.specs.Placing.{live_at};
+ghost use Rattle.bp_run.specs.Settling.{merged, turn, before};
+ghost use Rattle.bp_select.specs.Benches.{live_at};
 ghost use Rattle.bp_thread.specs.Views.{plain_statement};
 ghost use Rattle.bp_thread.specs.Jobs.{plain_job};
 ghost use Rattle.bp_floor.specs.Seating.{seated, stop_at};
 ghost use Rattle.bp_floor.specs.Entries.{entry_seen};
 ghost use Rattle.bp_floor.specs.Parts.{part_seen, ending_seen, unstated};
-ghost use Rattle.bp_floor.specs.Kept.{Running};
-ghost use Rattle.bp_floor.specs.Lending.{filled, has_body};
-ghost use Rattle.bp_floor.specs.Returning.{IsBack, IsPut, IsSameBut, IsFilled, IsKeptBy, RunsBelow, Puts, AreAllBack};
+ghost use Rattle.bp_floor.specs.Programs.{code_of};
+ghost use Rattle.bp_floor.specs.Boards.{stand_of, pair_of};
+ghost use Rattle.bp_floor.specs.Forgetting.{forgotten};
+ghost use Rattle.bp_floor.specs.Kept.{Running, AreBelow, IsKept, IsOn};
+ghost use Rattle.bp_floor.specs.Lending.{filled, filled_pair, has_body};
+ghost use Rattle.bp_floor.specs.Returning.{IsBack, IsPut, IsSameBut, IsFilled, IsKeptBy, RunsBelow, Puts, AreAllBack, entry_in, turned_apart};
 
-use crate::{Board, Ending, Entry, Part, Ran, Rans, Wave};
-use bp_log::Memory;
+use crate::{Board, Ending, Entry, LineList, Part, Ran, Rans, Wave};
+use bp_log::{Memory, Options};
 use bp_thread::{Job, Outcome, Statement};
 use js_frames::{Effects, Ground};
 use std::alloc::Global;
+use std::mem;
 use std::vec::IntoIter;
 
 impl Entry {
@@ -151,5 +156,81 @@ impl Board {
             rans.push(Ran { entry, part })?;
         }
         Ok(rans)
+    }
+
+    /// Merges what bodies did, in order.
+    fn merge(&mut self, alloc: Global, ground: &Ground, options: Options, rans: Rans) -> Result<(), Memory>
+        requires { AreBelow (length self.old.seats) (map entry_in rans) }
+        ensures merged { OnOk result (pair_of self.new ≡ merged rans (pair_of self.old)) }
+        ensures keeps { OnOk result ((r : Running) (first : ℕ) → IsOn r (plain_ground ground.now) options → AreBelow first (map entry_in rans) → IsKept r first self.old → IsKept r first self.new) }
+    {
+        for ran in rans.into_vec() {
+            let Ran { entry, part } = ran;
+            self.part(alloc, ground, options, &entry, part)?;
+        }
+        Ok(())
+    }
+
+    /// A turn of a board that has neither lines nor entries.
+    fn turn_apart(&mut self, alloc: Global, ground: &mut Ground, options: Options, wave: Wave, jobs: IntoIter<Job>) -> Result<(), Memory>
+        requires back { (r : Running) × (options ≡ r.options) × IsBack r (plain_ground ground.old) wave (into_iter_items jobs) self.old }
+        requires clear { self.old.wave ≡ [] }
+        ensures program { ground.new.program ≡ ground.old.program }
+        ensures turned { OnOk result ((r : Running) → options ≡ r.options → IsBack r (plain_ground ground.old) wave (into_iter_items jobs) self.old →
+            pair_of self.new ≡ turned_apart r wave (filled wave (into_iter_items jobs) (map seated self.old.seats)) (stand_of self.old)) }
+        ensures kept { OnOk result ((r : Running) → options ≡ r.options → IsBack r (plain_ground ground.old) wave (into_iter_items jobs) self.old →
+            IsKept r 0 self.new × IsOn r (plain_ground ground.new) options) }
+    {
+        let rans = self.put_back(alloc, ground, wave, jobs)?;
+        self.merge(alloc, ground, options, rans)?;
+        self.seats.sweep();
+        Ok(())
+    }
+
+    /// A turn, with what the jobs did.
+    pub fn turn(&mut self, alloc: Global, ground: &mut Ground, options: Options, jobs: Vec<Job>) -> Result<(), Memory>
+        requires back { (r : Running) × (options ≡ r.options) × IsBack r (plain_ground ground.old) self.old.wave jobs.items self.old }
+        requires open { self.old.verdict ≡ None }
+        ensures program { ground.new.program ≡ ground.old.program }
+        ensures turned { OnOk result ((r : Running) → options ≡ r.options → IsBack r (plain_ground ground.old) self.old.wave jobs.items self.old →
+            pair_of self.new ≡ forgotten the_top (turn (code_of r.program r.options) (filled_pair jobs.items (pair_of self.old)))) }
+        ensures kept { OnOk result ((r : Running) → options ≡ r.options → IsBack r (plain_ground ground.old) self.old.wave jobs.items self.old →
+            IsKept r 0 self.new × IsOn r (plain_ground ground.new) options) }
+        ensures lines { OnErr result (self.new.lines ≡ self.old.lines) }
+        ensures verdict { OnErr result (self.new.verdict ≡ None) }
+    {
+        let pending = mem::replace(&mut self.lines, LineList::new(alloc));
+        let wave = mem::replace(&mut self.wave, Wave::new(alloc));
+        match self.turn_apart(alloc, ground, options, wave, jobs.into_iter()) {
+            Ok(()) => self.join_lines(pending),
+            Err(wanting) => {
+                self.give_up(pending);
+                Err(wanting)
+            }
+        }
+    }
+
+    /// The lines of a turn come after those that were not taken yet.
+    fn join_lines(&mut self, pending: LineList) -> Result<(), Memory>
+        ensures joined { OnOk result (pair_of self.new ≡ before pending (pair_of self.old)) }
+        ensures keeps { OnOk result ((r : Running) (first : ℕ) → IsKept r first self.old → IsKept r first self.new) }
+        ensures lines { OnErr result (self.new.lines ≡ pending) }
+        ensures verdict { OnErr result (self.new.verdict ≡ None) }
+    {
+        let fresh = mem::replace(&mut self.lines, pending);
+        if let Err(wanting) = self.lines.append(fresh) {
+            self.verdict = None;
+            return Err(wanting);
+        }
+        Ok(())
+    }
+
+    /// Lines and verdict as they were before a turn that was given up.
+    fn give_up(&mut self, pending: LineList)
+        ensures lines { self.new.lines ≡ pending }
+        ensures verdict { self.new.verdict ≡ None }
+    {
+        self.lines = pending;
+        self.verdict = None;
     }
 }

@@ -1,4 +1,4 @@
-pub mod Drawing
-pub mod Statements
-pub mod Placing
+pub mod Draws
+pub mod Lives
+pub mod Benches
 pub mod Answers

@@ -1,156 +1,199 @@
-//! The bench.
-ghost use Rattle.std.specs.Prelude.{◌≡◌, ◌<◌, ◌+◌, ◌^◌, [], Ok, Err, length, option_map, IfOk, IfErr, OnOk, OnErr};
-ghost use Rattle.bp_log.specs.declared.options.Strategy.{Strategy};
-ghost use Rattle.bp_words.specs.Words.{draw_word};
-ghost use Rattle.bp_meaning.specs.Membership.{member};
+//! The bench: what the live b-threads state, and the questions that are asked of it.
+ghost use Rattle.std.specs.Prelude.{◌≡◌, ◌<◌, ◌≤◌, ◌+◌, ◌^◌, ℕ, length, option_map, OnOk, OnErr};
+ghost use Rattle.std.specs.List.{list_any};
+ghost use Rattle.js_meaning.specs.State.{Ground as Base};
 ghost use Rattle.js_frames.specs.Places.{plain_ground};
-ghost use Rattle.bp_run.specs.Selecting.{selectable, blocker, requested};
+ghost use Rattle.bp_words.specs.Words.{draw_word};
+ghost use Rattle.bp_run.specs.Selecting.{selectable, blocker, requests, requested};
 ghost use Rattle.bp_run.specs.Choosing.{choice, reach};
+ghost use Rattle.bp_meaning.specs.Membership.{member};
 ghost use Rattle.bp_thread.specs.Views.{plain_statement};
-ghost use Rattle.bp_select.specs.Placing.{placed};
-ghost use Rattle.bp_select.specs.Answers.{chosen_of, enabled_of, IsReach, IsFault};
+ghost use Rattle.bp_select.specs.Benches.{empty_bench, Fits, placed};
+ghost use Rattle.bp_select.specs.Lives.{live_of};
+ghost use Rattle.bp_select.specs.Answers.{AnswersAs, AnswersReach, chosen_of, enabled_of};
 
+use crate::{Choice, Draw, Enabled, Reach, SelectFault};
 use bp_log::{Memory, Strategy};
 use bp_thread::Statement;
-use js_data::{Event, Fault};
+use js_data::Event;
 use js_frames::Ground;
-use crate::Draw;
 use std::alloc::{AllocError, Global};
 use std::marker::Model;
 
-/// Why a set can't tell whether it has an event.
-#[derive(Clone, Copy, Debug)]
-pub enum SetFault {
-    /// A fault, and its line.
-    Broken(Fault, u32),
-    /// The budget was spent.
-    Spent,
-    /// A predicate of this line answered no truth value.
-    NotTruth(u32),
-}
-
-/// Why nothing is answered.
+/// A live b-thread.
 #[derive(Debug, Drop)]
-pub enum SelectFault {
-    /// The first fault of a set, with the number of its b-thread.
-    Set(u32, SetFault),
-    /// Want of memory.
-    Memory,
+pub(crate) struct Stated {
+    /// Its number.
+    pub number: u32,
+    /// What it states at its synchronisation point.
+    pub statement: Statement,
 }
 
-/// What is chosen.
+/// What the live b-threads state, by their numbers. Contracts see the list of statements, and the
+/// answers of sets that are kept.
+///
+/// A bench fits a ground and a budget where each answer that it keeps is that of its set under
+/// them. A new bench fits all of them.
 #[derive(Debug, Drop)]
-pub enum Choice {
-    /// An event that a b-thread requests.
-    Internal(Event),
-    /// The event at this place of the queue.
-    External(u32),
-    /// Nothing is selectable.
-    Nothing,
-}
-
-/// What can be selected.
-#[derive(Debug, Drop)]
-pub struct Enabled {
-    /// The candidates.
-    pub inner: Vec<Event>,
-    /// Or else the first place of the queue.
-    pub outer: Option<u32>,
-}
-
-/// Whom an event reaches, in registration order.
-#[derive(Debug, Drop)]
-pub struct Reach {
-    /// Those that move.
-    pub moved: Vec<u32>,
-    /// Those that are interrupted.
-    pub interrupted: Vec<u32>,
-}
-
-/// The statements of the live b-threads. Contracts see them as the list.
-#[derive(Drop)]
 pub struct Bench {
-    items: Vec<Option<Statement>>,
+    live: Vec<Stated>,
 }
 
 impl Model for Bench {
-    ghost use Rattle.std.specs.Prelude.{List};
+    ghost use Rattle.std.specs.Prelude.{⊤, [], map};
     ghost use Rattle.std.specs.Coded.{codes};
     ghost use Rattle.js_data.specs.Codes.{event_code};
-    ghost use Rattle.js_value.specs.Value.{PlainSet};
-    ghost use Rattle.js_value.specs.Codes.{value_code, set_code};
-    ghost use Rattle.bp_run.specs.Selecting.{Live};
-    ghost use Rattle.bp_select.specs.Statements.{lives};
+    ghost use Rattle.js_value.specs.Codes.{set_code};
+    ghost use Rattle.bp_select.specs.Benches.{PlainBench};
+    ghost use Rattle.bp_select.specs.Lives.{live_of};
 
-    ghost Value = { List (Live PlainSet) };
+    ghost Value = { PlainBench };
 
-    ghost coded = { Prim.hlevel (codes, event_code, value_code, set_code) };
+    ghost coded = { Prim.hlevel (codes, event_code, set_code) };
 
-    ghost view = { λ b. lives 0 b.items.items };
+    ghost view = { λ b. record { live = map live_of b.live.items; kept = [] } };
 }
 
 impl Bench {
     /// Nobody is live. Takes no memory.
     pub fn new(alloc: Global) -> Bench
-        ensures { result ≡ [] }
+        ensures empty { result ≡ empty_bench }
+        ensures fits { (base : Base) (budget : ℕ) → Fits result base budget }
     {
         Bench {
-            items: Vec::new(alloc),
+            live: Vec::new(alloc),
         }
     }
 
-    /// The b-thread of this number states this, or it has ended.
-    pub fn place(&mut self, _number: u32, _statement: Option<Statement>) -> Result<(), Memory>
-        ensures { OnOk result (self.new ≡ placed _number (option_map plain_statement _statement) self.old) }
+    /// The b-thread of this number states this from now on; with nothing it is not live.
+    ///
+    /// # Errors
+    ///
+    /// Want of memory alone, and then all state what they stated.
+    pub fn place(&mut self, number: u32, statement: Option<Statement>) -> Result<(), Memory>
+        ensures placed { OnOk result (self.new.live ≡ placed number (option_map plain_statement statement) self.old.live) }
+        ensures failed { OnErr result (self.new.live ≡ self.old.live) }
+        ensures fits { (base : Base) (budget : ℕ) → Fits self.old base budget → Fits self.new base budget }
     {
         Err(AllocError)
     }
 
-    /// The choice.
+    /// What can be selected: the requested events that nobody blocks, or else the first event of the
+    /// queue that nobody blocks.
+    ///
+    /// # Errors
+    ///
+    /// `Set` exactly where a set is at fault: the first one, of candidate after candidate and then of
+    /// the queue, and for each event of b-thread after b-thread; and `Memory`.
+    pub fn enabled(
+        &mut self,
+        alloc: Global,
+        ground: &Ground,
+        queue: &[Event],
+        budget: u64,
+    ) -> Result<Enabled, SelectFault>
+        requires fits { Fits self.old (plain_ground ground.now) budget }
+        requires few { length queue.now < 2 ^ 32 }
+        ensures enabled { AnswersAs enabled_of (selectable (member (plain_ground ground.now) budget) self.old.live queue.now) result }
+        ensures same { self.new.live ≡ self.old.live }
+        ensures fits { Fits self.new (plain_ground ground.now) budget }
+    {
+        Err(SelectFault::Memory)
+    }
+
+    /// Which event comes next, under this strategy. Of several candidates that remain, the next word
+    /// draws one; one candidate draws nothing, and an event of the queue draws nothing.
+    ///
+    /// # Errors
+    ///
+    /// As `enabled`; and then nothing was drawn.
     pub fn choose(
         &mut self,
-        _ground: &Ground,
-        _queue: &[Event],
-        _strategy: Strategy,
-        _budget: u64,
-        _draw: &mut Draw,
+        alloc: Global,
+        ground: &Ground,
+        queue: &[Event],
+        strategy: Strategy,
+        budget: u64,
+        draw: &mut Draw,
     ) -> Result<Choice, SelectFault>
-        requires few_words { _draw.old.drawn + 1 < 2 ^ 64 }
-        requires few_events { length _queue.now < 2 ^ 32 }
-        ensures same { self.new ≡ self.old }
-        ensures seed { _draw.new.seed ≡ _draw.old.seed }
-        ensures chosen { IfOk result (λ c. choice (member (plain_ground _ground.now) _budget) (draw_word _draw.old.seed) _strategy self.old _queue.now _draw.old.drawn
-            ≡ Ok (chosen_of _queue.now _draw.new.drawn c)) }
-        ensures fault { IfErr result (λ f. IsFault f (choice (member (plain_ground _ground.now) _budget) (draw_word _draw.old.seed) _strategy self.old _queue.now _draw.old.drawn)) }
+        requires fits { Fits self.old (plain_ground ground.now) budget }
+        requires few { length queue.now < 2 ^ 32 }
+        requires words { draw.old.drawn + 1 < 2 ^ 64 }
+        ensures chosen { AnswersAs (chosen_of queue.now draw.new.drawn)
+            (choice (member (plain_ground ground.now) budget) (draw_word draw.old.seed) strategy self.old.live queue.now draw.old.drawn) result }
+        ensures seed { draw.new.seed ≡ draw.old.seed }
+        ensures drawn { (draw.old.drawn ≤ draw.new.drawn) × (draw.new.drawn ≤ draw.old.drawn + 1) }
+        ensures failed { OnErr result (draw.new ≡ draw.old) }
+        ensures same { self.new.live ≡ self.old.live }
+        ensures fits { Fits self.new (plain_ground ground.now) budget }
     {
         Err(SelectFault::Memory)
     }
 
-    /// Whom the event reaches.
-    pub fn reach(&mut self, _ground: &Ground, _event: &Event, _budget: u64) -> Result<Reach, SelectFault>
-        ensures same { self.new ≡ self.old }
-        ensures reached { IfOk result (λ r. IsReach (member (plain_ground _ground.now) _budget) _event.now self.old r) }
-        ensures fault { IfErr result (λ f. IsFault f (reach (member (plain_ground _ground.now) _budget) _event.now self.old)) }
+    /// Whom the event reaches: those that it interrupts, and of the others those that request it or
+    /// wait for it.
+    ///
+    /// # Errors
+    ///
+    /// `Set` exactly where a set that is asked is at fault: the first one; and `Memory`.
+    pub fn reach(
+        &mut self,
+        alloc: Global,
+        ground: &Ground,
+        event: &Event,
+        budget: u64,
+    ) -> Result<Reach, SelectFault>
+        requires fits { Fits self.old (plain_ground ground.now) budget }
+        ensures reached { AnswersReach (reach (member (plain_ground ground.now) budget) event.now self.old.live) result }
+        ensures same { self.new.live ≡ self.old.live }
+        ensures fits { Fits self.new (plain_ground ground.now) budget }
     {
         Err(SelectFault::Memory)
     }
 
-    /// What can be selected.
-    pub fn enabled(&mut self, _ground: &Ground, _queue: &[Event], _budget: u64) -> Result<Enabled, SelectFault>
-        requires { length _queue.now < 2 ^ 32 }
-        ensures same { self.new ≡ self.old }
-        ensures enabled { IfOk result (λ x. selectable (member (plain_ground _ground.now) _budget) self.old _queue.now ≡ Ok (enabled_of x)) }
-        ensures fault { IfErr result (λ f. IsFault f (selectable (member (plain_ground _ground.now) _budget) self.old _queue.now)) }
+    /// The first live b-thread whose block set has the event.
+    ///
+    /// # Errors
+    ///
+    /// `Set` exactly where a set is at fault before one says yes; and `Memory`.
+    pub fn blocker(
+        &mut self,
+        alloc: Global,
+        ground: &Ground,
+        event: &Event,
+        budget: u64,
+    ) -> Result<Option<u32>, SelectFault>
+        requires fits { Fits self.old (plain_ground ground.now) budget }
+        ensures blocker { AnswersAs (λ o. o) (blocker (member (plain_ground ground.now) budget) self.old.live event.now) result }
+        ensures same { self.new.live ≡ self.old.live }
+        ensures fits { Fits self.new (plain_ground ground.now) budget }
     {
         Err(SelectFault::Memory)
     }
 
-    /// The first b-thread that blocks the event.
-    pub fn blocker(&mut self, _ground: &Ground, _event: &Event, _budget: u64) -> Result<Option<u32>, SelectFault>
-        ensures same { self.new ≡ self.old }
-        ensures blocker { IfOk result (λ x. blocker (member (plain_ground _ground.now) _budget) self.old _event.now ≡ Ok x) }
-        ensures fault { IfErr result (λ f. IsFault f (blocker (member (plain_ground _ground.now) _budget) self.old _event.now)) }
+    /// Whether a live b-thread requests the event. Takes no memory.
+    pub fn requested(&self, event: &Event) -> bool
+        ensures { result ≡ requested self.now.live event.now }
     {
-        Err(SelectFault::Memory)
+        is_requested(self.live.as_slice(), event)
     }
+}
+
+/// Whether one of them requests the event.
+fn is_requested(live: &[Stated], event: &Event) -> bool
+    ensures { result ≡ list_any (λ t. requests event.now (live_of t)) live.now }
+{
+    live.iter().any(|t| requests(event, t))
+}
+
+/// Whether the b-thread requests the event.
+fn requests(event: &Event, stated: &Stated) -> bool
+    ensures { result ≡ requests event.now (live_of stated.now) }
+{
+    stated
+        .statement
+        .request
+        .as_slice()
+        .iter()
+        .any(|e| event.same(e))
 }

@@ -1,17 +1,17 @@
-//! The draw.
+//! The words of the random choice, one after another.
 ghost use Rattle.std.specs.Prelude.{◌≡◌};
 
 use std::marker::Model;
 
-/// The words of the random choice.
-#[derive(Drop)]
+/// The words that are drawn for a seed. Contracts see the seed, and how many words were drawn.
+#[derive(Debug, Drop)]
 pub struct Draw {
     seed: u64,
     drawn: u64,
 }
 
 impl Model for Draw {
-    ghost use Rattle.bp_select.specs.Drawing.{PlainDraw};
+    ghost use Rattle.bp_select.specs.Draws.{PlainDraw};
 
     ghost Value = { PlainDraw };
 
@@ -19,7 +19,7 @@ impl Model for Draw {
 }
 
 impl Draw {
-    /// No word is drawn yet. Takes no memory.
+    /// The words of this seed; none is drawn yet. Takes no memory.
     pub fn new(seed: u64) -> Draw
         ensures { result ≡ record { seed = seed; drawn = 0 } }
     {

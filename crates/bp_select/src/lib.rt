@@ -1,8 +1,13 @@
-//! Stands for the bench and the draw: their contracts, with bodies that answer want of memory.
+//! Which event comes next: the statements of the live b-threads on a bench, what can be selected
+//! of them and of the queue, which event is chosen, and whom it reaches.
+//!
+//! Every question is asked afresh.
 #![tactic(auto)]
 
+mod answers;
 mod bench;
 mod draw;
 
-pub use bench::{Bench, Choice, Enabled, Reach, SelectFault, SetFault};
+pub use answers::{Choice, Enabled, Reach, SelectFault};
+pub use bench::Bench;
 pub use draw::Draw;

@@ -9,7 +9,7 @@ use Rattle.bp_thread.specs.declared.statement.Outcome.TheVariants.{Stopped, Ende
 
 abbrev pub plain_statement : Statement → run.Statement PlainSet
 plain_statement s =
-    record { request = s.request.items; wait_for = plain_set s.wait_for; block = plain_set s.block; interrupt = plain_set s.interrupt; priority = s.priority }
+    record { request = s.request; wait_for = plain_set s.wait_for; block = plain_set s.block; interrupt = plain_set s.interrupt; priority = s.priority }
 
 abbrev pub plain_outcome : Outcome → run.Outcome PlainSet
 plain_outcome (Stopped s) = run.Outcome.Stopped (plain_statement s)

@@ -2,18 +2,24 @@
 ghost use Rattle.std.specs.Prelude.{◌≡◌, IfOk};
 ghost use Rattle.bp_thread.specs.Views.{plain_statement};
 
-use js_data::{Event, Fault, Memory, Text, Whole};
+use crate::events::Events;
+use js_data::{Fault, Memory, Text, Whole};
 use js_value::SetTree;
 use std::alloc::{AllocError, Global};
 
 /// What a b-thread states at a synchronisation point.
-#[derive(Drop)]
+#[derive(Debug, Drop)]
 pub struct Statement {
-    request: Vec<Event>,
-    wait_for: SetTree,
-    block: SetTree,
-    interrupt: SetTree,
-    priority: Whole,
+    /// The events that it requests, in order.
+    pub request: Events,
+    /// The events that it waits for.
+    pub wait_for: SetTree,
+    /// The events that it blocks.
+    pub block: SetTree,
+    /// The events that interrupt it.
+    pub interrupt: SetTree,
+    /// Its priority.
+    pub priority: Whole,
 }
 
 impl Statement {
@@ -26,7 +32,7 @@ impl Statement {
 }
 
 /// How a body came to a stop.
-#[derive(Drop)]
+#[derive(Debug, Drop)]
 pub enum Outcome {
     /// At a synchronisation point.
     Stopped(Statement),

@@ -1,4 +1,4 @@
--- The draw.
+-- What contracts see of a draw.
 use Rattle.std.specs.Prelude.{ℕ}
 
 pub record PlainDraw : Type 0 where
