@@ -97,8 +97,8 @@ effect_forgets o at (Enqueue e) p =
     if_forgets o (length p.stand.queue == MOST_WAITING) (stopped verdict.Queue) (λ q. record q { stand = queued e q.stand }) p
     (same_threads o (stopped verdict.Queue p)) (same_threads o (record p { stand = queued e p.stand }))
 effect_forgets o at (Register name x) p =
-    rw (length_forgotten o p.stand.threads)
-    (if_forgets o (length p.stand.threads == MOST_THREADS) (stopped verdict.Threads) (registered name x) p (same_threads o (stopped verdict.Threads p)) (registered_forgets o name x p))
+    ap (λ (n : ℕ). forgotten o (if n == MOST_THREADS then stopped verdict.Threads (forgotten o p) else registered name x (forgotten o p))) (length_forgotten o p.stand.threads)
+    ∙ if_forgets o (length p.stand.threads == MOST_THREADS) (stopped verdict.Threads) (registered name x) p (same_threads o (stopped verdict.Threads p)) (registered_forgets o name x p)
 effect_forgets o at Handler p = stays o p
 
 effects_forgets : {O : Type 0} (o : O) (at : Place) (xs : List (Effect O)) (p : Pair O) → Forgets o (with_effects at xs) p

@@ -25,12 +25,12 @@ use Rattle.bp_floor.specs.Lending.{JobFor, IsJobOf, IsLent, AreJobs, AreLent, fi
 use Rattle.bp_floor.specs.Returning.{ground_at, AreLater, RunsAlone}
 use Rattle.bp_floor.specs.Lent.{IsStarted, IsGroundOf, Lends, CanLend, AreOut}
 use Rattle.bp_floor.proofs.Lists.{change_length, change_map, change_none, change_twice, change_apart, found, get_map}
-use Rattle.bp_floor.proofs.Places.{where_first, first_is, where_rises, where_like, stated_like, own_changed, own_at, map_length}
+use Rattle.bp_floor.proofs.Places.{where_first0, first_is0, where_rises, where_like, stated_like, own_changed0, own_at0, map_length}
 use Rattle.bp_floor.proofs.Returns.{later_alone, nothing_later}
 
 -- ---- holes
 
-hollow_one : Thread Origin → Thread Origin
+abbrev pub hollow_one : Thread Origin → Thread Origin
 hollow_one t = record t { origin = the_top; replies = [] }
 
 -- the b-threads, with the jobs of these entries out
@@ -295,9 +295,9 @@ lend_runs r base o i all ns js more old ss new h l =
     let out : PlainSeat → PlainSeat = λ s. record s { job = None } in
     let f = found ss i c.below.0 in
     let s = f.0 in
-    let is : is_ready s ≡ true = first_is is_ready 0 i ss (runs_in ns) s c.ready f.1 in
+    let is : is_ready s ≡ true = first_is0 is_ready i ss (runs_in ns) s c.ready f.1 in
     let j = ready_at s is in
-    let own : IsOwn r.program r.options i j.job = subst (λ (x : Option Job). IsOwnIn r.program r.options i x) j.is_job (own_at r.program r.options 0 i ss s c.own f.1) in
+    let own : IsOwn r.program r.options i j.job = subst (λ (x : Option Job). IsOwnIn r.program r.options i x) j.is_job (own_at0 r.program r.options i ss s c.own f.1) in
     let one : more ≡ j.job ∷ [] = h.1 ∙ ap (λ (x : Option PlainSeat). option_to_list (job_at x)) f.1 ∙ ap (λ (x : Option Job). option_to_list x) j.is_job in
     let there : slice_get (map seated old) i ≡ Some (seated s) = get_map seated old i s (sym l.same.0 ∙ f.1) in
     let body : own_body (slice_get (map seated old) i) ≡ Some (record { origin = (plain_job j.job).origin; replies = (plain_job j.job).replies }) =
@@ -312,8 +312,8 @@ lend_runs r base o i all ns js more old ss new h l =
     let len : length (change out i ss) ≡ length ss = change_length out i ss in
     let count = l.count in
     subst (λ (us : List PlainSeat). Lending r base o all ns (js ++ more) old us) (sym h.0) (record {
-      can = later_can r base o ns (change out i ss) (own_changed r.program r.options 0 i out ss c.own (λ x w y. tt))
-          (where_first is_ready 0 i out ss (runs_in ns) c.ready (λ x w. never_ready x.ended (is_none (outcome_in None)))) c.alone (subst (λ (n : ℕ). AreBelow n ns) (sym len) c.below.1) c.program_is c.ground_is c.options_are;
+      can = later_can r base o ns (change out i ss) (own_changed0 r.program r.options i out ss c.own (λ x w y. tt))
+          (where_first0 is_ready i out ss (runs_in ns) c.ready (λ x w. never_ready x.ended (is_none (outcome_in None)))) c.alone (subst (λ (n : ℕ). AreBelow n ns) (sym len) c.below.1) c.program_is c.ground_is c.options_are;
       waiting = where_like is_waiting 0 i out ss (λ x w. out_waits x (ap is_ready (some_seat x s (sym w ∙ f.1)) ∙ is)) ∙ l.waiting;
       stated = stated_like 0 i out ss (λ x w k. out_states k x (ap is_ready (some_seat x s (sym w ∙ f.1)) ∙ is)) ∙ l.stated;
       same = same_changed ns out i ss old rises.0 l.same.1;

@@ -5,3 +5,7 @@ pub mod Widening
 pub mod Returns
 pub mod Turns
 pub mod Lent
+pub mod Onward
+pub mod Touches
+pub mod Going
+pub mod Rests

@@ -105,7 +105,7 @@ statement_number_at false n o t h = stop_number n o t h
 pub statement_number : (n : ℕ) (s : PlainSeat) (t : Live PlainSet) → statement_at n s ≡ Some t → t.number ≡ n
 statement_number n s t h = statement_number_at s.ended n (outcome_in s.job) t h
 
-from_lower : (low high : ℕ) (ns : List ℕ) → low ≤ high → AreFrom high ns → AreFrom low ns
+pub from_lower : (low high : ℕ) (ns : List ℕ) → low ≤ high → AreFrom high ns → AreFrom low ns
 from_lower low high [] h k = tt
 from_lower low high (n ∷ ns) h k = let a = k.0 in (omega (arith, a, h), from_lower low high ns h k.1)
 
@@ -188,7 +188,7 @@ where_first f n (suc i) g (s ∷ ss) rest h k =
     let w = where_next (f s) n i (where_from f (suc n) ss) rest h in
     rw w.0 (where_first f (suc n) i g ss rest w.1 k)
 
-none_step : (b : Bool) (n : ℕ) (w : List ℕ) → (if b then n ∷ w else w) ≡ [] → (b ≡ false) × (w ≡ [])
+pub none_step : (b : Bool) (n : ℕ) (w : List ℕ) → (if b then n ∷ w else w) ≡ [] → (b ≡ false) × (w ≡ [])
 none_step true n w h = absurd (cc)
 none_step false n w h = (refl, h)
 
@@ -359,3 +359,49 @@ pub get_below : (ss : List PlainSeat) (i : ℕ) (s : PlainSeat) → slice_get ss
 get_below [] i s h = absurd (cc)
 get_below (x ∷ ss) zero s h = omega arith
 get_below (x ∷ ss) (suc i) s h = let b = get_below ss i s h in omega (arith, b)
+
+-- ---- from the first one on
+
+pub zero_add : (i : ℕ) → 0 + i ≡ i
+zero_add i = omega arith
+
+pub where_first0 : (f : PlainSeat → Bool) (i : ℕ) (g : PlainSeat → PlainSeat) (ss : List PlainSeat) (rest : List ℕ) → where_from f 0 ss ≡ i ∷ rest →
+    ((s : PlainSeat) → slice_get ss i ≡ Some s → f (g s) ≡ false) → where_from f 0 (change g i ss) ≡ rest
+where_first0 f i g ss rest h k = where_first f 0 i g ss rest (h ∙ ap (λ (m : ℕ). m ∷ rest) (sym (zero_add i))) k
+
+pub where_below0 : (f : PlainSeat → Bool) (ss : List PlainSeat) (i : ℕ) (rest : List ℕ) → where_from f 0 ss ≡ i ∷ rest → i < length ss
+where_below0 f ss i rest h = where_below f 0 ss i rest (h ∙ ap (λ (m : ℕ). m ∷ rest) (sym (zero_add i)))
+
+pub first_is0 : (f : PlainSeat → Bool) (i : ℕ) (ss : List PlainSeat) (rest : List ℕ) (s : PlainSeat) → where_from f 0 ss ≡ i ∷ rest → slice_get ss i ≡ Some s → f s ≡ true
+first_is0 f i ss rest s h k = first_is f 0 i ss rest s (h ∙ ap (λ (m : ℕ). m ∷ rest) (sym (zero_add i))) k
+
+pub waits_at0 : (i : ℕ) (ss : List PlainSeat) (rest : List ℕ) (s : PlainSeat) → where_from is_waiting 0 ss ≡ i ∷ rest → slice_get ss i ≡ Some s → s.ended ≡ false
+waits_at0 i ss rest s h k = waits_at 0 i ss rest s (h ∙ ap (λ (m : ℕ). m ∷ rest) (sym (zero_add i))) k
+
+pub stated_changed0 : (i : ℕ) (f : PlainSeat → PlainSeat) (x : Option (Statement PlainSet)) (ss : List PlainSeat) → i < length ss →
+    ((s : PlainSeat) → slice_get ss i ≡ Some s → (k : ℕ) → statement_at k (f s) ≡ live_at k x) → stated_from 0 (change f i ss) ≡ placed i x (stated_from 0 ss)
+stated_changed0 i f x ss l h = stated_changed 0 i f x ss l h ∙ ap (λ (m : ℕ). placed m x (stated_from 0 ss)) (zero_add i)
+
+pub own_changed0 : (g : PlainProgram) (o : PlainOptions) (i : ℕ) (f : PlainSeat → PlainSeat) (ss : List PlainSeat) → AreOwn g o 0 ss →
+    ((s : PlainSeat) → slice_get ss i ≡ Some s → IsOwnIn g o i s.job → IsOwnIn g o i (f s).job) → AreOwn g o 0 (change f i ss)
+own_changed0 g o i f ss h k =
+    own_changed g o 0 i f ss h
+    (λ s w y. subst (λ (m : ℕ). IsOwnIn g o m (f s).job) (sym (zero_add i)) (k s w (subst (λ (m : ℕ). IsOwnIn g o m s.job) (zero_add i) y)))
+
+pub own_at0 : (g : PlainProgram) (o : PlainOptions) (i : ℕ) (ss : List PlainSeat) (s : PlainSeat) → AreOwn g o 0 ss → slice_get ss i ≡ Some s → IsOwnIn g o i s.job
+own_at0 g o i ss s h k = subst (λ (m : ℕ). IsOwnIn g o m s.job) (zero_add i) (own_at g o 0 i ss s h k)
+
+pub where_last0 : (f : PlainSeat → Bool) (ss : List PlainSeat) (s : PlainSeat) → f s ≡ true → where_from f 0 (ss ++ s ∷ []) ≡ where_from f 0 ss ++ length ss ∷ []
+where_last0 f ss s h = where_last f 0 ss s h ∙ ap (λ (m : ℕ). where_from f 0 ss ++ m ∷ []) (zero_add (length ss))
+
+pub own_last0 : (g : PlainProgram) (o : PlainOptions) (ss : List PlainSeat) (s : PlainSeat) → AreOwn g o 0 ss → IsOwnIn g o (length ss) s.job → AreOwn g o 0 (ss ++ s ∷ [])
+own_last0 g o ss s h k = own_last g o 0 ss s h (subst (λ (m : ℕ). IsOwnIn g o m s.job) (sym (zero_add (length ss))) k)
+
+pub where_more0 : (f : PlainSeat → Bool) (i : ℕ) (g : PlainSeat → PlainSeat) (ss : List PlainSeat) → i < length ss → ((s : PlainSeat) → slice_get ss i ≡ Some s → (f s ≡ false) × (f (g s) ≡ true)) →
+    AllBelow i (where_from f 0 ss) → where_from f 0 (change g i ss) ≡ where_from f 0 ss ++ i ∷ []
+where_more0 f i g ss l h a =
+    where_more f 0 i g ss l h (subst (λ (m : ℕ). AllBelow m (where_from f 0 ss)) (sym (zero_add i)) a) ∙ ap (λ (m : ℕ). where_from f 0 ss ++ m ∷ []) (zero_add i)
+
+pub where_ended0 : (f : PlainSeat → Bool) (first i : ℕ) (ss : List PlainSeat) → ((s : PlainSeat) → f (record s { ended = true }) ≡ false) → AreFrom first (where_from f 0 ss) → i < first →
+    where_from f 0 (change (λ s. record s { ended = true }) i ss) ≡ where_from f 0 ss
+where_ended0 f first i ss h a k = where_ended f first 0 i ss h a (omega (arith, k))

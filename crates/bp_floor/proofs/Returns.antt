@@ -1,5 +1,5 @@
 -- Jobs come back, one after the other.
-use Rattle.std.proofs.Common.{◌≡◌, ℕ, zero, suc, ◌+◌, ◌<◌, ◌≤◌, Bool, true, false, not, ◌&&◌, List, [], ◌∷◌, ◌++◌, length, map, refl, sym, ap, ◌∙◌, subst, arith, Option, Some, None, is_none, is_some, slice_get, if◌then◌else◌}
+use Rattle.std.proofs.Common.{◌≡◌, ℕ, zero, suc, ◌+◌, ◌<◌, ◌≤◌, Bool, true, false, not, ◌&&◌, List, [], ◌∷◌, ◌++◌, length, map, refl, sym, ap, ◌∙◌, subst, arith, append_assoc, append-nil, Option, Some, None, is_none, is_some, slice_get, if◌then◌else◌}
 use Rattle.js_data.specs.Event.{PlainEvent}
 use Rattle.js_value.specs.Value.{PlainSet}
 use Rattle.js_program.specs.PlainProgram.{PlainProgram}
@@ -10,7 +10,7 @@ use Rattle.bp_log.specs.declared.limits.TheConstants.{MOST_WAITING, MOST_THREADS
 use Rattle.bp_run.specs.Bodies as run
 use Rattle.bp_run.specs.Bodies.{Part, Outcome}
 use Rattle.bp_run.specs.Configuration.{Thread, Stand, change}
-use Rattle.bp_run.specs.Settling.{Body, Entry, body_of, own_body, part_of}
+use Rattle.bp_run.specs.Settling.{Body, Entry, Ran, body_of, own_body, part_of}
 use Rattle.bp_run.specs.Settling.Entry.{The_top, Runs, Stops}
 use Rattle.bp_run.specs.Numbers.{number_of}
 use Rattle.bp_meaning.specs.After.{effect_of}
@@ -24,9 +24,9 @@ use Rattle.bp_floor.specs.Seating.{PlainSeat, seated, outcome_in, is_waiting, is
 use Rattle.bp_floor.specs.Parts.{unstated, unstated_part, nothing_stated}
 use Rattle.bp_floor.specs.Kept.{Running, runs_in, AreBelow}
 use Rattle.bp_floor.specs.Lending.{JobFor, IsJobOf, IsCarried, IsDone, AreJobs, AreDone, fill, filled, has_body, standing}
-use Rattle.bp_floor.specs.Returning.{ground_at, AreLater, RunsAlone, IsBack, IsSameBut, part_in, Puts, IsPut, IsTaken, IsKeptBy}
+use Rattle.bp_floor.specs.Returning.{ground_at, AreLater, RunsAlone, IsBack, IsSameBut, part_in, Puts, IsPut, IsTaken, IsKeptBy, ran_in, AreAllBack}
 use Rattle.bp_floor.proofs.Lists.{change_length, change_map, found}
-use Rattle.bp_floor.proofs.Places.{own_changed, stated_changed, where_first, where_none, where_below, waits_at}
+use Rattle.bp_floor.proofs.Places.{own_changed0, stated_changed0, where_first0, where_none, where_below0, waits_at0, map_length}
 
 pub filled_none : (ns : List (Entry Origin)) (ts : List (Thread Origin)) → filled ns [] ts ≡ ts
 filled_none [] ts = refl
@@ -60,16 +60,12 @@ later_ground p budget (The_top ∷ ns) h = absurd h
 later_ground p budget (Runs i ∷ ns) h = refl
 later_ground p budget (Stops i b ∷ ns) h = refl
 
-map-length : {A B : Type 0} {f : A → B} (xs : List A) → length (map f xs) ≡ length xs
-map-length [] = refl
-map-length {f = f} (x ∷ xs) = ap (λ (n : ℕ). suc n) (map-length {f = f} xs)
-
 some_one : {A : Type 0} (x y : A) → Some x ≡ Some y → x ≡ y
 some_one x y h = cc
 
-none_at : {Is : ℕ → Body Origin → Job → Type 0} {n : ℕ} {rest : List Job → Type 0} (o : Option (Body Origin)) → is_some o ≡ true → JobFor Is n o [] rest → ⊥
-none_at None h k = absurd (cc)
-none_at (Some b) h k = k
+none_at : (Is : ℕ → Body Origin → Job → Type 0) (n : ℕ) (rest : List Job → Type 0) (o : Option (Body Origin)) → is_some o ≡ true → JobFor Is n o [] rest → ⊥
+none_at Is n rest None h k = absurd (cc)
+none_at Is n rest (Some b) h k = k
 
 puts_no : (b o : Bool) → o ≡ false → (not b && o) ≡ false
 puts_no true o h = refl
@@ -100,7 +96,7 @@ own_some (t ∷ ts) zero h = refl
 own_some (t ∷ ts) (suc i) h = own_some ts i (omega arith)
 
 -- nothing is put back for an entry without a body
-idle_part : Part Origin (Unit {0})
+abbrev pub idle_part : Part Origin (Unit {0})
 idle_part = record { effects = []; outcome = run.Outcome.Ended }
 
 idle_back : (r : Running) (base : Ground) (i : ℕ) (ns : List (Entry Origin)) (js : List Job) (b : Board) → IsBack r base (Stops i None ∷ ns) js b → IsBack r base ns js b
@@ -141,8 +137,8 @@ puts_nothing (Stops i None) js base b part h e =
 none_comes : (r : Running) (base : Ground) (n : Entry Origin) (ns : List (Entry Origin)) (b : Board) → has_body n ≡ true → IsBack r base (n ∷ ns) [] b → ⊥
 none_comes r base The_top ns b h m = m.done
 none_comes r base (Runs i) ns b h m =
-    let low = where_below is_waiting 0 b.seats i (runs_in ns) m.waiting in
-    none_at (own_body (slice_get (map seated b.seats) i)) (own_some (map seated b.seats) i (rw (map-length seated b.seats) low)) m.done
+    let low = where_below0 is_waiting b.seats i (runs_in ns) m.waiting in
+    none_at (IsDone r.program r.options) i (AreDone r.program r.options (standing (map seated b.seats)) ns) (own_body (slice_get (map seated b.seats) i)) (own_some (map seated b.seats) i (rw (map_length seated b.seats) low)) m.done
 none_comes r base (Stops i (Some x)) ns b h m = m.done
 none_comes r base (Stops i None) ns b h m = absurd (cc)
 
@@ -240,8 +236,8 @@ first_runs : (r : Running) (base : Ground) (i : ℕ) (ns : List (Entry Origin)) 
     First r (Runs i) (filled (Runs i ∷ ns) (j ∷ js) (map seated b.seats)) j (AreDone r.program r.options (standing (filled (Runs i ∷ ns) (j ∷ js) (map seated b.seats))) ns) js
 first_runs r base i ns j js b m =
     let ts = filled (Runs i ∷ ns) (j ∷ js) (map seated b.seats) in
-    let low = where_below is_waiting 0 b.seats i (runs_in ns) m.waiting in
-    let len = filled_length (Runs i ∷ ns) (j ∷ js) (map seated b.seats) ∙ map-length seated b.seats in
+    let low = where_below0 is_waiting b.seats i (runs_in ns) m.waiting in
+    let len = filled_length (Runs i ∷ ns) (j ∷ js) (map seated b.seats) ∙ map_length seated b.seats in
     first_at r (Runs i) ts (own_body (slice_get ts i)) j js (AreDone r.program r.options (standing ts) ns) refl (own_some ts i (omega (arith, low, len))) m.done
 
 back_runs : (r : Running) (base left : Ground) (i : ℕ) (ns : List (Entry Origin)) (j k : Job) (js : List Job) (old new : Board) → IsTaken j k → IsKeptBy (Runs i) k base old left new →
@@ -250,7 +246,7 @@ back_runs r base left i ns j k js old new t h m =
     let f = first_runs r base i ns j js old m in
     let c = taken_carried r i f.body j k f.done.carried t in
     let put : PlainSeat → PlainSeat = λ s. record s { job = Some k } in
-    let low = where_below is_waiting 0 old.seats i (runs_in ns) m.waiting in
+    let low = where_below0 is_waiting old.seats i (runs_in ns) m.waiting in
     let some : is_none (plain_job k).outcome ≡ false = rw c.outcome refl in
     let seats : map seated (change put i old.seats) ≡ change (fill (plain_job j)) i (map seated old.seats) =
     change_map seated put (fill (plain_job k)) i old.seats (λ s. refl) ∙ ap (λ (p : PlainJob). change (fill p) i (map seated old.seats)) t.plain in
@@ -263,13 +259,13 @@ back_runs r base left i ns j k js old new t h m =
       done = subst (λ (ts : List (Thread Origin)). AreDone r.program r.options (standing (filled ns js ts)) ns js) (sym seats_now) f.left;
       alone = later_alone ns m.alone;
       below = subst (λ (ss : List PlainSeat). AreBelow (length ss) ns) (sym h.0.seats) (subst (λ (n : ℕ). AreBelow n ns) (sym len) m.below.1);
-      own = subst (λ (ss : List PlainSeat). AreOwn r.program r.options 0 ss) (sym h.0.seats) (own_changed r.program r.options 0 i put old.seats m.own (λ s w y. own));
+      own = subst (λ (ss : List PlainSeat). AreOwn r.program r.options 0 ss) (sym h.0.seats) (own_changed0 r.program r.options i put old.seats m.own (λ s w y. own));
       waiting = ap (λ (ss : List PlainSeat). where_from is_waiting 0 ss) h.0.seats
-          ∙ where_first is_waiting 0 i put old.seats (runs_in ns) m.waiting (λ s w. puts_no s.ended (is_none (plain_job k).outcome) some);
+          ∙ where_first0 is_waiting i put old.seats (runs_in ns) m.waiting (λ s w. puts_no s.ended (is_none (plain_job k).outcome) some);
       ready = ap (λ (ss : List PlainSeat). where_from is_ready 0 ss) h.0.seats
           ∙ where_none is_ready 0 i put old.seats m.ready (λ s w. puts_ready s.ended (is_none (plain_job k).outcome) some);
       mirror = h.0.live ∙ ap (λ (ts : List _). placed i h.0.statement ts) m.mirror
-          ∙ sym (stated_changed 0 i put h.0.statement old.seats low (λ s w n. open_states s n k h.0.statement (waits_at 0 i old.seats (runs_in ns) s m.waiting w) (h.0.stated n)))
+          ∙ sym (stated_changed0 i put h.0.statement old.seats low (λ s w n. open_states s n k h.0.statement (waits_at0 i old.seats (runs_in ns) s m.waiting w) (h.0.stated n)))
           ∙ ap (λ (ss : List PlainSeat). stated_from 0 ss) (sym h.0.seats);
       fits = h.0.fits (ground_of r.program r.options.budget) r.options.budget m.fits;
       few = subst (λ (ss : List PlainSeat). length ss ≤ MOST_THREADS) (sym h.0.seats) (omega (arith, few, len));
@@ -313,4 +309,43 @@ puts_kept (Stops i (Some x)) j k js base left old new part b t h p e o =
           part_done r (Stops i (Some x)) (filled (Stops i (Some x) ∷ ns) (j ∷ js) (map seated old.seats)) j (AreDone r.program r.options (standing (filled (Stops i (Some x) ∷ ns) (j ∷ js) (map seated old.seats))) ns) js part
           (record { body = x; is_body = refl; done = m.done.0; left = m.done.1 }) e (λ y w. o y (ap (λ (q : PlainJob). q.outcome) t.plain ∙ w));
       same = ap_same old new h.0;
+    }
+
+-- ---- all jobs come back
+
+same_then : (a b c : Board) → IsSameBut a b → IsSameBut b c → IsSameBut a c
+same_then a b c x y =
+    record { queue = y.queue ∙ x.queue; transitions = y.transitions ∙ x.transitions; weight = y.weight ∙ x.weight; lines = y.lines ∙ x.lines; verdict = y.verdict ∙ x.verdict; wave = y.wave ∙ x.wave }
+
+-- Where putting back stands: these entries and jobs are left.
+pub record Putting (r : Running) (base : Ground) (all : List (Entry Origin)) (jobs : List Job) (old : Board) (left : List (Entry Origin)) (js : List Job) (now : Ground) (b : Board) (rans : List (Ran Origin (Unit {0}))) : Type 0 where
+  pub back : IsBack r now left js b
+  pub threads : filled left js (map seated b.seats) ≡ filled all jobs (map seated old.seats)
+  pub told : rans ++ map (ran_in r (filled all jobs (map seated old.seats))) left ≡ map (ran_in r (filled all jobs (map seated old.seats))) all
+  pub same : IsSameBut old b
+
+pub putting_start : (r : Running) (base : Ground) (all : List (Entry Origin)) (jobs : List Job) (old : Board) → IsBack r base all jobs old → Putting r base all jobs old all jobs base old []
+putting_start r base all jobs old m = record { back = m; threads = refl; told = refl; same = same_but old }
+
+pub putting_end : (r : Running) (base : Ground) (all : List (Entry Origin)) (jobs : List Job) (old : Board) (js : List Job) (now : Ground) (b : Board) (rans : List (Ran Origin (Unit {0}))) →
+    Putting r base all jobs old [] js now b rans → AreAllBack r all (filled all jobs (map seated old.seats)) now b rans
+putting_end r base all jobs old js now b rans p =
+    record {
+      back = subst (λ (ks : List Job). IsBack r now [] ks b) p.back.done p.back;
+      threads = p.threads;
+      rans_are = sym (append-nil rans) ∙ p.told;
+    }
+
+pub putting_next : (r : Running) (base : Ground) (all : List (Entry Origin)) (jobs : List Job) (old : Board) (n : Entry Origin) (left : List (Entry Origin)) (js ks : List Job) (now next : Ground) (b new : Board) (rans more : List (Ran Origin (Unit {0}))) (x : Ran Origin (Unit {0})) →
+    Putting r base all jobs old (n ∷ left) js now b rans → Puts n js now b ks next new x.part → x.entry ≡ n → more ≡ rans ++ x ∷ [] → Putting r base all jobs old left ks next new more
+putting_next r base all jobs old n left js ks now next b new rans more x p h e m =
+    let ts = filled all jobs (map seated old.seats) in
+    let part : x.part ≡ part_in r ts n = h.part_is r left p.back ∙ ap (λ (us : List (Thread Origin)). part_in r us n) p.threads in
+    let one : x ≡ ran_in r ts n = ap (λ (y : Entry Origin). let z : Ran Origin (Unit {0}) = record { entry = y; part = x.part } in z) e ∙ ap (λ (y : Part Origin (Unit {0})). let z : Ran Origin (Unit {0}) = record { entry = n; part = y } in z) part in
+    record {
+      back = h.back r left p.back;
+      threads = h.threads r left p.back ∙ p.threads;
+      told = ap (λ (ys : List (Ran Origin (Unit {0}))). ys ++ map (ran_in r ts) left) m ∙ append_assoc rans (x ∷ []) (map (ran_in r ts) left)
+          ∙ ap (λ (y : Ran Origin (Unit {0})). rans ++ y ∷ map (ran_in r ts) left) one ∙ p.told;
+      same = same_then old b new p.same h.same;
     }

@@ -27,7 +27,7 @@ use Rattle.bp_floor.specs.Kept.{Running, AreFrom, Rises}
 use Rattle.bp_floor.specs.Returning.{IsSameBut}
 use Rattle.bp_floor.specs.Touching.{IsStanding, IsGivenTo, IsSilent, IsTouch, AreStanding, moves_in, CanTouch, IsTouchedBy}
 use Rattle.bp_floor.proofs.Lists.{change_length, change_map, change_map_at, change_apart}
-use Rattle.bp_floor.proofs.Places.{where_like, where_more, rises_below, stated_changed, own_changed, own_at, get_below}
+use Rattle.bp_floor.proofs.Places.{where_like, where_more0, rises_below, stated_changed0, own_changed0, own_at0, get_below}
 
 -- Where reaching stands: these are left.
 pub record Touching (r : Running) (e : PlainEvent) (all xs : List Touched) (old now : Board) : Type 0 where
@@ -124,7 +124,7 @@ stands_quiet ss i s k h =
     let j : s.job ≡ Some k.job = ap (λ (x : PlainSeat). x.job) (sym e) ∙ k.is_job in
     let n = (stopped_some (plain_job k.job).outcome k.stopped).0 in
     let o : is_none (outcome_in s.job) ≡ false = ap (λ (x : Option Job). is_none (outcome_in x)) j ∙ n in
-    (ap (λ (x : PlainSeat). x.ended) (sym e) ∙ k.open, j, false_and (not s.ended) (is_none (outcome_in s.job)) o, false_ready (not s.ended) (is_none (outcome_in s.job)) (is_some s.job) o)
+    (ap (λ (x : PlainSeat). x.ended) (sym e) ∙ k.going, j, false_and (not s.ended) (is_none (outcome_in s.job)) o, false_ready (not s.ended) (is_none (outcome_in s.job)) (is_some s.job) o)
 
 none_some : (x : Outcome PlainSet) → None ≡ Some x → ⊥
 none_some x h = absurd (cc)
@@ -182,17 +182,17 @@ touch_moves r e i all xs old now new h t =
     record {
       threads = ap (λ (ts : List (Thread Origin)). touch_all e xs ts) threads ∙ t.threads;
       own = subst (λ (ss : List PlainSeat). AreOwn r.program r.options 0 ss) (sym h.0.seats)
-          (own_changed r.program r.options 0 i put now.seats t.own
+          (own_changed0 r.program r.options i put now.seats t.own
           (λ s w y. given_own r i h.0.job g e (subst (λ (o : Option Job). IsOwnIn r.program r.options i o) (h.0.old_is s w) y) (subst (λ (j : Job). is_stopped (plain_job j).outcome ≡ true) (sym (jobs s w)) k.stopped) h.0.plain h.0.of_program h.0.whole));
       waiting = ap (λ (ss : List PlainSeat). where_from is_waiting 0 ss ++ moves_in xs) h.0.seats
-          ∙ ap (λ (ns : List ℕ). ns ++ moves_in xs) (where_more is_waiting 0 i put now.seats low (λ s w. let q = stands_quiet now.seats i s k w in (q.2, given_waits s g q.0 outcome)) below)
+          ∙ ap (λ (ns : List ℕ). ns ++ moves_in xs) (where_more0 is_waiting i put now.seats low (λ s w. let q = stands_quiet now.seats i s k w in (q.2, given_waits s g q.0 outcome)) below)
           ∙ append_assoc (where_from is_waiting 0 now.seats) (i ∷ []) (moves_in xs) ∙ t.waiting;
       ready = ap (λ (ss : List PlainSeat). where_from is_ready 0 ss ++ moves_in xs) h.0.seats
-          ∙ ap (λ (ns : List ℕ). ns ++ moves_in xs) (where_more is_ready 0 i put now.seats low (λ s w. let q = stands_quiet now.seats i s k w in (q.3, given_ready s g q.0 outcome)) below_ready)
+          ∙ ap (λ (ns : List ℕ). ns ++ moves_in xs) (where_more0 is_ready i put now.seats low (λ s w. let q = stands_quiet now.seats i s k w in (q.3, given_ready s g q.0 outcome)) below_ready)
           ∙ append_assoc (where_from is_ready 0 now.seats) (i ∷ []) (moves_in xs) ∙ t.ready;
       rising = t.rising;
       mirror = h.1.live ∙ ap (λ (ts : List (Live PlainSet)). placed i None ts) t.mirror
-          ∙ sym (stated_changed 0 i put None now.seats low (λ s w n. given_silent s g n outcome))
+          ∙ sym (stated_changed0 i put None now.seats low (λ s w n. given_silent s g n outcome))
           ∙ ap (λ (ss : List PlainSeat). stated_from 0 ss) (sym h.0.seats);
       fits = h.1.fits (ground_of r.program r.options.budget) r.options.budget t.fits;
       few = subst (λ (ss : List PlainSeat). length ss ≤ MOST_THREADS) (sym h.0.seats) (omega (arith, few, len));
@@ -213,14 +213,14 @@ touch_interrupts r e i all xs old now new h t =
     record {
       threads = ap (λ (ss : List PlainSeat). touch_all e xs (map seated ss)) h.0
           ∙ ap (λ (ts : List (Thread Origin)). touch_all e xs ts) (change_map seated end (λ (x : Thread Origin). record x { ended = true }) i now.seats (λ s. refl)) ∙ t.threads;
-      own = subst (λ (ss : List PlainSeat). AreOwn r.program r.options 0 ss) (sym h.0) (own_changed r.program r.options 0 i end now.seats t.own (λ s w y. y));
+      own = subst (λ (ss : List PlainSeat). AreOwn r.program r.options 0 ss) (sym h.0) (own_changed0 r.program r.options i end now.seats t.own (λ s w y. y));
       waiting = ap (λ (ss : List PlainSeat). where_from is_waiting 0 ss ++ moves_in xs) h.0
           ∙ ap (λ (ns : List ℕ). ns ++ moves_in xs) (where_like is_waiting 0 i end now.seats (λ s w. sym (stands_quiet now.seats i s k w).2)) ∙ t.waiting;
       ready = ap (λ (ss : List PlainSeat). where_from is_ready 0 ss ++ moves_in xs) h.0
           ∙ ap (λ (ns : List ℕ). ns ++ moves_in xs) (where_like is_ready 0 i end now.seats (λ s w. sym (stands_quiet now.seats i s k w).3)) ∙ t.ready;
       rising = t.rising;
       mirror = h.1.live ∙ ap (λ (ts : List (Live PlainSet)). placed i None ts) t.mirror
-          ∙ sym (stated_changed 0 i end None now.seats low (λ s w n. refl)) ∙ ap (λ (ss : List PlainSeat). stated_from 0 ss) (sym h.0);
+          ∙ sym (stated_changed0 i end None now.seats low (λ s w n. refl)) ∙ ap (λ (ss : List PlainSeat). stated_from 0 ss) (sym h.0);
       fits = h.1.fits (ground_of r.program r.options.budget) r.options.budget t.fits;
       few = subst (λ (ss : List PlainSeat). length ss ≤ MOST_THREADS) (sym h.0) (omega (arith, few, len));
       room = subst (λ (q : List PlainEvent). length q ≤ MOST_WAITING) (sym h.1.same.queue) room;

@@ -58,9 +58,9 @@ wider_end (Stops i e) p = wider_same p (with_end (Stops i e) p) refl
 wider_outcome : {O S : Type 0} (n : Entry O) (x : Outcome S) (p : Pair O) → Wider p (with_outcome n x p)
 wider_outcome n (Stopped s) p = wider_same p p refl
 wider_outcome n Ended p = wider_end n p
-wider_outcome n (Broken f l) p = wider_same p (with_outcome n (Broken f l) p) refl
-wider_outcome n (Violated t) p = wider_same p (with_outcome n (Violated t) p) refl
-wider_outcome n Spent p = wider_same p (with_outcome n Spent p) refl
+wider_outcome {O} {S} n (Broken f l) p = wider_same p (with_outcome {Origin = O} {Set = S} n (Broken f l) p) refl
+wider_outcome {O} {S} n (Violated t) p = wider_same p (with_outcome {Origin = O} {Set = S} n (Violated t) p) refl
+wider_outcome {O} {S} n Spent p = wider_same p (with_outcome {Origin = O} {Set = S} n Spent p) refl
 
 pub wider_part : {O S : Type 0} (n : Entry O) (x : Part O S) (p : Pair O) → Wider p (unless_over (with_part n x) p)
 wider_part n x p =

@@ -10,7 +10,7 @@ use Rattle.bp_run.specs.Configuration.{Stand, change}
 use Rattle.bp_run.specs.Settling.{Entry, Pair}
 use Rattle.bp_run.specs.Story.{touch_all, without, line_of_choice}
 use Rattle.bp_run.specs.Choosing.{Touched}
-use Rattle.bp_run.specs.Choosing.Touched as to
+use Rattle.bp_run.specs.Choosing.{Touched as to}
 use Rattle.bp_run.specs.Numbers.{number_in}
 use Rattle.bp_select.specs.Benches.{placed, Fits}
 use Rattle.bp_select.specs.Answers.{move_of}
@@ -33,7 +33,7 @@ pub record IsStanding (o : Option PlainSeat) : Type 0 where
   pub job : Job
   pub is_seat : o ≡ Some seat
   pub is_job : seat.job ≡ Some job
-  pub open : seat.ended ≡ false
+  pub going : seat.ended ≡ false
   pub stopped : is_stopped (plain_job job).outcome ≡ true
   pub effects : (plain_job job).effects ≡ []
 

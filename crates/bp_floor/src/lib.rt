@@ -9,6 +9,7 @@ mod lines;
 mod merging;
 mod part;
 mod seats;
+mod touching;
 mod turning;
 
 pub use board::Board;
@@ -17,3 +18,4 @@ pub use events::EventList;
 pub use lines::LineList;
 pub use part::{Ending, Part, Ran, Rans};
 pub use seats::{Seat, Seats};
+pub use touching::Touch;
