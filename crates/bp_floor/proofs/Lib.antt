@@ -9,3 +9,4 @@ pub mod Onward
 pub mod Touches
 pub mod Going
 pub mod Rests
+pub mod Handlers

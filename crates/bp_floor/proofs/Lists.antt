@@ -81,3 +81,34 @@ pub change_map_at : {A B : Type 0} (v : A → B) (f : A → A) (g : B → B) (i 
 change_map_at v f g i [] h = refl
 change_map_at v f g zero (x ∷ xs) h = ap (λ y. y ∷ map v xs) (h x refl)
 change_map_at v f g (suc i) (x ∷ xs) h = ap (λ ys. v x ∷ ys) (change_map_at v f g i xs h)
+
+-- changes of all, one after the other
+pub change_split : {A : Type 0} (f : A → A) (xs : List A) (d : A) (ys : List A) (i : ℕ) → i ≡ length xs → change f i (xs ++ d ∷ ys) ≡ xs ++ f d ∷ ys
+change_split f [] d ys i h = rw h refl
+change_split f (x ∷ xs) d ys zero h = absurd (omega (arith, h))
+change_split f (x ∷ xs) d ys (suc i) h = ap (λ zs. x ∷ zs) (change_split f xs d ys i (omega (arith, h)))
+
+-- so many were changed
+abbrev pub changed_first : {A : Type 0} → (A → A) → ℕ → List A → List A
+changed_first f n [] = []
+changed_first f zero (x ∷ xs) = x ∷ xs
+changed_first f (suc n) (x ∷ xs) = f x ∷ changed_first f n xs
+
+pub changed_none : {A : Type 0} (f : A → A) (xs : List A) → changed_first f 0 xs ≡ xs
+changed_none f [] = refl
+changed_none f (x ∷ xs) = refl
+
+pub changed_next : {A : Type 0} (f : A → A) (n : ℕ) (xs : List A) → change f n (changed_first f n xs) ≡ changed_first f (suc n) xs
+changed_next f n [] = refl
+changed_next f zero (x ∷ xs) = ap (λ ys. f x ∷ ys) (sym (changed_none f xs))
+changed_next f (suc n) (x ∷ xs) = ap (λ ys. f x ∷ ys) (changed_next f n xs)
+
+pub changed_all : {A : Type 0} (f : A → A) (n : ℕ) (xs : List A) → length xs ≤ n → changed_first f n xs ≡ map f xs
+changed_all f n [] h = refl
+changed_all f zero (x ∷ xs) h = absurd (omega arith)
+changed_all f (suc n) (x ∷ xs) h = ap (λ ys. f x ∷ ys) (changed_all f n xs (omega (arith, h)))
+
+pub changed_length : {A : Type 0} (f : A → A) (n : ℕ) (xs : List A) → length (changed_first f n xs) ≡ length xs
+changed_length f n [] = refl
+changed_length f zero (x ∷ xs) = refl
+changed_length f (suc n) (x ∷ xs) = ap (λ (m : ℕ). suc m) (changed_length f n xs)

@@ -1,5 +1,5 @@
 -- The b-threads of a board: who waits, what is stated, whose jobs they are.
-use Rattle.std.proofs.Common.{◌≡◌, ℕ, zero, suc, ◌+◌, ◌<◌, ◌≤◌, Bool, true, false, not, ◌&&◌, List, [], ◌∷◌, ◌++◌, length, map, refl, sym, ap, ◌∙◌, subst, arith, Option, Some, None, is_none, is_some, nat_lt, nat_eq, slice_get, if◌then◌else◌}
+use Rattle.std.proofs.Common.{◌≡◌, ℕ, zero, suc, ◌+◌, ◌<◌, ◌≤◌, Bool, true, false, not, ◌&&◌, List, [], ◌∷◌, ◌++◌, length, map, refl, sym, ap, ◌∙◌, subst, arith, Option, Some, None, is_none, is_some, nat_lt, nat_eq, slice_get, option_map, if◌then◌else◌}
 use Rattle.std.proofs.lemmas.Bool.{lt-ltb, le-ltb, eq-eqb, eqb-true}
 use Rattle.std.specs.List.{filter_map, cons_option}
 use Rattle.js_value.specs.Value.{PlainSet}
@@ -405,3 +405,24 @@ where_more0 f i g ss l h a =
 pub where_ended0 : (f : PlainSeat → Bool) (first i : ℕ) (ss : List PlainSeat) → ((s : PlainSeat) → f (record s { ended = true }) ≡ false) → AreFrom first (where_from f 0 ss) → i < first →
     where_from f 0 (change (λ s. record s { ended = true }) i ss) ≡ where_from f 0 ss
 where_ended0 f first i ss h a k = where_ended f first 0 i ss h a (omega (arith, k))
+
+-- ---- one is swept
+
+ended_one : (s : PlainSeat) (b : Bool) → Some b ≡ Some s.ended → s.ended ≡ b
+ended_one s b h = cc
+
+swept_so : (s : PlainSeat) → s.ended ≡ true → record s { job = None } ≡ swept s
+swept_so s h = rw h refl
+
+swept_same : (s : PlainSeat) → s.ended ≡ false → swept s ≡ s
+swept_same s h = rw h refl
+
+pub sweeps : (i : ℕ) (ss : List PlainSeat) (b : Bool) → Some b ≡ option_map (λ (x : PlainSeat). x.ended) (slice_get ss i) → b ≡ true → change (λ s. record s { job = None }) i ss ≡ change swept i ss
+sweeps i [] b h k = refl
+sweeps zero (s ∷ ss) b h k = ap (λ (x : PlainSeat). x ∷ ss) (swept_so s (ended_one s b h ∙ k))
+sweeps (suc i) (s ∷ ss) b h k = ap (λ (xs : List PlainSeat). s ∷ xs) (sweeps i ss b h k)
+
+pub sweeps_not : (i : ℕ) (ss : List PlainSeat) (b : Bool) → Some b ≡ option_map (λ (x : PlainSeat). x.ended) (slice_get ss i) → b ≡ false → ss ≡ change swept i ss
+sweeps_not i [] b h k = refl
+sweeps_not zero (s ∷ ss) b h k = ap (λ (x : PlainSeat). x ∷ ss) (sym (swept_same s (ended_one s b h ∙ k)))
+sweeps_not (suc i) (s ∷ ss) b h k = ap (λ (xs : List PlainSeat). s ∷ xs) (sweeps_not i ss b h k)

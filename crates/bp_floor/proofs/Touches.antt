@@ -99,7 +99,7 @@ standing_changed (x ∷ xs) f i ss h k =
     (subst (λ (o : Option PlainSeat). IsStanding o) (sym (change_apart f i (number_in x) ss (λ e. omega (arith, a, e)))) k.0, standing_changed xs f i ss h.1 k.1)
 
 -- what is known of a b-thread at its point
-stopped_some : (o : Option (Outcome PlainSet)) → is_stopped o ≡ true → (is_none o ≡ false) × (x : Outcome PlainSet) × (o ≡ Some x)
+pub stopped_some : (o : Option (Outcome PlainSet)) → is_stopped o ≡ true → (is_none o ≡ false) × (x : Outcome PlainSet) × (o ≡ Some x)
 stopped_some None h = absurd (cc)
 stopped_some (Some x) h = (refl, x, refl)
 

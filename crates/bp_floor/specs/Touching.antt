@@ -1,17 +1,21 @@
 -- An event reaches b-threads, one after the other.
-use Rattle.std.specs.Prelude.{◌≡◌, ℕ, true, false, List, [], ◌∷◌, ◌++◌, ◌+◌, Option, Some, None, length, map, slice_get, ◌≤◌, ◌<◌}
+use Rattle.std.specs.Prelude.{◌≡◌, ℕ, true, false, List, [], ◌∷◌, ◌++◌, ◌+◌, Option, Some, None, length, map, slice_get, ◌≤◌, ◌<◌, IsSome}
 use Rattle.std.specs.List.{filter_map}
 use Rattle.js_data.specs.Event.{PlainEvent}
+use Rattle.js_value.specs.Value as value
+use Rattle.js_value.specs.Value.{PlainValue}
+use Rattle.js_program.specs.declared.builtin.Mode.TheVariants as mode
 use Rattle.js_meaning.specs.State.{Ground}
-use Rattle.js_meaning.specs.Bodies.{Origin, ground_of}
+use Rattle.js_meaning.specs.Bodies.{Origin, function, ground_of}
 use Rattle.js_program.specs.PlainProgram.{PlainProgram}
 use Rattle.bp_log.specs.declared.limits.TheConstants.{MOST_WAITING, MOST_THREADS}
 use Rattle.bp_run.specs.Configuration.{Stand, change}
-use Rattle.bp_run.specs.Settling.{Entry, Pair}
+use Rattle.bp_run.specs.Settling.{Body, Entry, Pair}
 use Rattle.bp_run.specs.Story.{touch_all, without, line_of_choice}
 use Rattle.bp_run.specs.Choosing.{Touched}
 use Rattle.bp_run.specs.Choosing.{Touched as to}
 use Rattle.bp_run.specs.Numbers.{number_in}
+use Rattle.bp_meaning.specs.After.{handler}
 use Rattle.bp_select.specs.Benches.{placed, Fits}
 use Rattle.bp_select.specs.Answers.{move_of}
 use Rattle.bp_thread.specs.declared.job.Job.{Job}
@@ -26,6 +30,15 @@ use Rattle.bp_floor.specs.Returning.{IsSameBut}
 abbrev pub touch_seen : Touch → Touched
 touch_seen (Moves i) = to.Moves i
 touch_seen (Interrupts i) = to.Interrupts i
+
+-- the run of a handler at an event
+abbrev pub handler_at : PlainEvent → PlainValue → Body Origin
+handler_at e f = record { origin = function mode.Handler f (value.event e ∷ []); replies = [] }
+
+-- where its outcome is there, the handler of a job is that of its body
+abbrev pub HasHandler : Job → Type 0
+HasHandler j =
+    (base : Ground) (budget : ℕ) → StandsFor base budget j → IsSome (plain_job j).outcome → (plain_job j).handler ≡ handler base budget (plain_job j).origin (plain_job j).replies
 
 -- a b-thread that stands at its synchronisation point
 pub record IsStanding (o : Option PlainSeat) : Type 0 where

@@ -1,5 +1,5 @@
 //! B-threads with their jobs.
-ghost use Rattle.std.specs.Prelude.{◌≡◌, ◌<◌, ◌∷◌, ◌++◌, [], length, map, option_map, not, count_by, OnOk, Some, None, slice_get, true, false};
+ghost use Rattle.std.specs.Prelude.{◌≡◌, ◌<◌, ◌∷◌, ◌++◌, [], length, map, option_map, OnOk, Some, None, slice_get};
 ghost use Rattle.bp_run.specs.Configuration.{change, name_in};
 ghost use Rattle.bp_floor.specs.Seating.{PlainSeat, seated, swept};
 ghost use Rattle.bp_floor.specs.Seated.{seat_seen, job_at};
@@ -107,21 +107,29 @@ impl Seats {
         self.items[number].ended = true;
     }
 
+    /// Whether a b-thread has ended. Takes no memory.
+    fn has_ended(&self, number: usize) -> bool
+        requires { number < length self.now }
+        ensures { Some result ≡ option_map (λ s. s.ended) (slice_get self.now number) }
+    {
+        self.items[number].ended
+    }
+
+    fn sweep_one(&mut self, number: usize)
+        requires { number < length self.old }
+        ensures { self.new ≡ change swept number self.old }
+    {
+        if self.has_ended(number) {
+            let _job = self.take(number);
+        }
+    }
+
     /// Those that have ended let their jobs go. Takes no memory.
     pub fn sweep(&mut self)
         ensures { self.new ≡ map swept self.old }
     {
-        for seat in &mut self.items {
-            if seat.ended {
-                seat.job = None;
-            }
+        for number in 0..self.len() {
+            self.sweep_one(number);
         }
-    }
-
-    /// How many have not ended. Takes no memory.
-    pub fn live(&self) -> usize
-        ensures { result ≡ count_by (λ s. not s.ended) self.now }
-    {
-        self.items.iter().filter(|seat| !seat.ended).count()
     }
 }

@@ -3,12 +3,13 @@ ghost use Rattle.std.specs.Prelude.{◌≡◌, ◌<◌, ◌+◌, ◌^◌, length
 ghost use Rattle.js_value.specs.Value as value;
 ghost use Rattle.js_value.specs.Views.{plain_value};
 ghost use Rattle.bp_run.specs.Story.{line_of_choice, without, handler_body, entry_of};
+ghost use Rattle.bp_thread.specs.Jobs.{plain_job};
 ghost use Rattle.bp_floor.specs.Programs.{code_of};
 ghost use Rattle.bp_floor.specs.Seating.{seated, AreOwn};
 ghost use Rattle.bp_floor.specs.Entries.{handler_seen, entry_seen};
 ghost use Rattle.bp_floor.specs.Boards.{stand_of, pair_of};
 ghost use Rattle.bp_floor.specs.Kept.{Running, IsKept, runs_in};
-ghost use Rattle.bp_floor.specs.Touching.{touch_seen, IsStanding, AreStanding, IsGivenTo, IsTouch, CanTouch, IsTouchedBy, moves_in, moved_pair};
+ghost use Rattle.bp_floor.specs.Touching.{touch_seen, handler_at, HasHandler, IsStanding, AreStanding, IsGivenTo, IsTouch, CanTouch, IsTouchedBy, moves_in, moved_pair};
 ghost use Rattle.bp_floor.specs.Forgetting.{forgotten};
 ghost use Rattle.js_meaning.specs.Bodies.{Origin, the_top};
 ghost use Rattle.bp_run.specs.Configuration.{Stand};
@@ -17,6 +18,7 @@ ghost use Rattle.bp_run.specs.Numbers.{number_in};
 use crate::{Board, Entry, EventList, Handler, Seats, Wave};
 use bp_log::{Line, Memory};
 use js_data::Event;
+use bp_thread::Job;
 use js_value::{Value, copy};
 use std::alloc::Global;
 
@@ -44,6 +46,26 @@ fn argument_of(event: &Event) -> Result<Value, Memory>
     ensures { IfOk result (λ v. plain_value v ≡ value.event event.now) }
 {
     Ok(Value::Event(event.copy()?))
+}
+
+/// What a job keeps of its handler, as a fact for its callers. Does nothing.
+fn keeps_handler(job: &Job)
+    ensures { HasHandler job.now }
+{
+    let _handler = job.handler();
+}
+
+/// The handler of a job at an event, if it set one.
+fn handler_of(alloc: Global, job: &Job, event: &Event) -> Result<Option<Handler>, Memory>
+    ensures { IfOk result (λ h. option_map handler_seen h ≡ option_map (handler_at event.now) (plain_job job.now).handler) }
+{
+    match job.handler() {
+        None => Ok(None),
+        Some(function) => Ok(Some(Handler {
+            function: copy(alloc, function)?,
+            argument: argument_of(event)?,
+        })),
+    }
 }
 
 impl EventList {
@@ -78,13 +100,10 @@ impl Seats {
     {
         match self.job(number) {
             None => Ok(None),
-            Some(job) => match job.handler() {
-                None => Ok(None),
-                Some(function) => Ok(Some(Handler {
-                    function: copy(alloc, function)?,
-                    argument: argument_of(event)?,
-                })),
-            },
+            Some(job) => {
+                keeps_handler(job);
+                handler_of(alloc, job, event)
+            }
         }
     }
 
