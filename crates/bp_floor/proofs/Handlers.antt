@@ -36,7 +36,7 @@ mapped_twice e (Some f) = refl
 
 some_some : (o : Option (Outcome PlainSet)) (x : Outcome PlainSet) → o ≡ Some x → IsSome o
 some_some None x h = absurd (cc)
-some_some (Some y) x h = tt
+some_some (Some y) x h = refl
 
 -- the handler of a job at its point
 some_job : (x y : Job) → Some x ≡ Some y → x ≡ y

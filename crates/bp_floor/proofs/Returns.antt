@@ -349,3 +349,27 @@ putting_next r base all jobs old n left js ks now next b new rans more x p h e m
           ∙ ap (λ (y : Ran Origin (Unit {0})). rans ++ y ∷ map (ran_in r ts) left) one ∙ p.told;
       same = same_then old b new p.same h.same;
     }
+
+-- the same for whatever program runs
+pub record Goes (base : Ground) (all : List (Entry Origin)) (jobs : List Job) (old : Board) (left : List (Entry Origin)) (js : List Job) (now : Ground) (b : Board) (rans : List (Ran Origin (Unit {0}))) : Type 0 where
+  pub goes : (r : Running) → IsBack r base all jobs old → Putting r base all jobs old left js now b rans
+  pub some : Running
+  pub begins : IsBack some base all jobs old
+  pub same : IsSameBut old b
+
+pub goes_start : (base : Ground) (all : List (Entry Origin)) (jobs : List Job) (old : Board) (r : Running) → IsBack r base all jobs old → Goes base all jobs old all jobs base old []
+goes_start base all jobs old r m = record { goes = λ s k. putting_start s base all jobs old k; some = r; begins = m; same = same_but old }
+
+pub goes_some : (base : Ground) (all : List (Entry Origin)) (jobs : List Job) (old : Board) (left : List (Entry Origin)) (js : List Job) (now : Ground) (b : Board) (rans : List (Ran Origin (Unit {0}))) →
+    Goes base all jobs old left js now b rans → (r : Running) × IsBack r now left js b
+goes_some base all jobs old left js now b rans g = (g.some, (g.goes g.some g.begins).back)
+
+pub goes_next : (base : Ground) (all : List (Entry Origin)) (jobs : List Job) (old : Board) (n : Entry Origin) (left : List (Entry Origin)) (js ks : List Job) (now next : Ground) (b new : Board) (rans more : List (Ran Origin (Unit {0}))) (x : Ran Origin (Unit {0})) →
+    Goes base all jobs old (n ∷ left) js now b rans → Puts n js now b ks next new x.part → x.entry ≡ n → more ≡ rans ++ x ∷ [] → Goes base all jobs old left ks next new more
+goes_next base all jobs old n left js ks now next b new rans more x g h e m =
+    record {
+      goes = λ r k. putting_next r base all jobs old n left js ks now next b new rans more x (g.goes r k) h e m;
+      some = g.some;
+      begins = g.begins;
+      same = same_then old b new g.same h.same;
+    }

@@ -164,8 +164,7 @@ impl Board {
         ensures merged { OnOk result (pair_of self.new ≡ merged rans (pair_of self.old)) }
         ensures keeps { OnOk result ((r : Running) (first : ℕ) → IsOn r (plain_ground ground.now) options → AreBelow first (map entry_in rans) → IsKept r first self.old → IsKept r first self.new) }
     {
-        for ran in rans.into_vec() {
-            let Ran { entry, part } = ran;
+        for Ran { entry, part } in rans.into_vec() {
             self.part(alloc, ground, options, &entry, part)?;
         }
         Ok(())

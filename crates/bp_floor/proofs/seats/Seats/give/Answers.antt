@@ -15,10 +15,10 @@ put-requires c =
 pub returns-in_ok-give : goal.returns-in_ok-give
 returns-in_ok-give c = record {
   job = c.in-Some.job;
-  given = c.give.new.job;
+  given = c.give.new.self;
   old_is = λ s w. sym (ap (λ (x : Option PlainSeat). job_at x) w) ∙ sym c.take.ensures.given ∙ c.in-Some.is;
-  seats = c.put.ensures ∙ ap (λ (ss : List PlainSeat). change (λ s. record s { job = Some c.give.new.job }) c.args.number ss) c.take.ensures.left
-      ∙ change_twice (λ s. record s { job = Some c.give.new.job }) (λ s. record s { job = None }) c.args.number c.args.self.now;
+  seats = c.put.ensures ∙ ap (λ (ss : List PlainSeat). change (λ s. record s { job = Some c.give.new.self }) c.args.number ss) c.take.ensures.left
+      ∙ change_twice (λ s. record s { job = Some c.give.new.self }) (λ s. record s { job = None }) c.args.number c.args.self.now;
   plain = c.in_ok-give.ensures.given;
   of_program = c.give.ensures.program;
   whole = c.in_ok-give.ensures.whole;
