@@ -68,21 +68,26 @@ impl Floor {
         ensures { IfOk result (λ f. f ≡ record { base = bare program; options = options; pair = opening; phase = phase.Ready; broken = false }) }
     {
         let ground = Ground::bare(alloc, program);
+        let seats = Seats::new(alloc);
+        let bench = Bench::new(alloc);
+        let queue = EventList::new(alloc);
+        let lines = LineList::new(alloc);
         let mut wave = Wave::new(alloc);
         wave.push(Entry::Top)?;
+        let board = Board {
+            seats,
+            bench,
+            queue,
+            transitions: 0,
+            weight: 0,
+            lines,
+            verdict: None,
+            wave,
+        };
         Ok(Floor {
             ground,
             options,
-            board: Board {
-                seats: Seats::new(alloc),
-                bench: Bench::new(alloc),
-                queue: EventList::new(alloc),
-                transitions: 0,
-                weight: 0,
-                lines: LineList::new(alloc),
-                verdict: None,
-                wave,
-            },
+            board,
             phase: Phase::Ready,
             broken: false,
         })
