@@ -1,0 +1,7 @@
+pub mod Lines
+pub mod Numbers
+pub mod Quotes
+pub mod Texts
+pub mod Back
+pub mod Law
+pub mod Whole
