@@ -2,10 +2,10 @@
 ghost use Rattle.std.specs.Prelude.{◌≡◌, ◌≤◌, ◌++◌, IfOk, OnOk, OnErr, IsErrOf, decimal, codes};
 ghost use Rattle.bp_base.specs.Counts.{Rose};
 ghost use Rattle.bp_base.specs.Pieces.{Appends, AppendsFront};
-ghost use Rattle.bp_log.specs.Logs.{record_text, whole_record, options_text, header_text};
+ghost use Rattle.bp_log.specs.Logs.{record_text, whole_record, strategy_name, options_text, header_text};
 
 use crate::lines::{bad, joined, numbered, verdict_after};
-use crate::{Header, Memory, Options, PrintError, Record};
+use crate::{Header, Memory, Options, PrintError, Record, Strategy};
 use bp_base::{Sink, write_all};
 use js_data::{Event, Text};
 use js_json::event_text;
@@ -24,17 +24,29 @@ fn limits_of(alloc: Global, options: Options) -> Result<Text, Memory>
     ))
 }
 
+/// The strategy and the seed as text, before the limits.
+fn chosen(
+    alloc: Global,
+    strategy: Strategy,
+    seed: u64,
+    limits: &Text,
+) -> Result<Text, Memory>
+    ensures { IfOk result (λ t. t
+        ≡ codes "strategy " ++ (strategy_name strategy ++ (codes "\nseed " ++ (decimal seed ++ (codes "\nbudget " ++ limits.now))))) }
+{
+    let name = strategy.name();
+    let limits = limits.as_str();
+    Ok(Text::new(
+        format!(in alloc; "strategy {name}\nseed {seed}\nbudget {limits}")?,
+    ))
+}
+
 /// The options as text.
 fn options_of(alloc: Global, options: Options) -> Result<Text, Memory>
     ensures { IfOk result (λ t. t ≡ options_text options) }
 {
-    let strategy = options.strategy().name();
-    let seed = options.seed();
     let limits = limits_of(alloc, options)?;
-    let limits = limits.as_str();
-    Ok(Text::new(
-        format!(in alloc; "strategy {strategy}\nseed {seed}\nbudget {limits}")?,
-    ))
+    chosen(alloc, options.strategy(), options.seed(), &limits)
 }
 
 /// The header as bytes, with the program in it.
