@@ -19,26 +19,17 @@ fn limits_of(alloc: Global, options: Options) -> Result<Text, Memory>
     let budget = options.budget();
     let steps = options.steps();
     let injectors = options.injectors();
-    Ok(Text::new(
-        format!(in alloc; "{budget}\nsteps {steps}\ninjectors {injectors}")?,
-    ))
+    Ok(Text::new(format!(in alloc; "{budget}\nsteps {steps}\ninjectors {injectors}")?))
 }
 
 /// The strategy and the seed as text, before the limits.
-fn chosen(
-    alloc: Global,
-    strategy: Strategy,
-    seed: u64,
-    limits: &Text,
-) -> Result<Text, Memory>
+fn chosen(alloc: Global, strategy: Strategy, seed: u64, limits: &Text) -> Result<Text, Memory>
     ensures { IfOk result (λ t. t
         ≡ codes "strategy " ++ (strategy_name strategy ++ (codes "\nseed " ++ (decimal seed ++ (codes "\nbudget " ++ limits.now))))) }
 {
     let name = strategy.name();
     let limits = limits.as_str();
-    Ok(Text::new(
-        format!(in alloc; "strategy {name}\nseed {seed}\nbudget {limits}")?,
-    ))
+    Ok(Text::new(format!(in alloc; "strategy {name}\nseed {seed}\nbudget {limits}")?))
 }
 
 /// The options as text.
@@ -66,11 +57,7 @@ fn header_of(alloc: Global, header: &Header) -> Result<Vec<u8>, Memory>
 
 /// Writes the head of a log, up to the line end behind the program. After `Write` a part of it, from
 /// its front, was appended, and after `Memory` nothing.
-pub fn write_header<K: Sink>(
-    alloc: Global,
-    header: &Header,
-    sink: &mut K,
-) -> Result<(), PrintError>
+pub fn write_header<K: Sink>(alloc: Global, header: &Header, sink: &mut K) -> Result<(), PrintError>
     ensures whole { OnOk result (Appends (K.written sink.old) (header_text header.now) (K.written sink.new)) }
     ensures front { OnErr result (AppendsFront (K.written sink.old) (header_text header.now) (K.written sink.new)) }
     ensures nothing { IsErrOf result PrintError.Memory → K.written sink.new ≡ K.written sink.old }
@@ -117,11 +104,7 @@ fn whole_record_of(alloc: Global, entry: &Record) -> Result<Text, Memory>
 
 /// Writes the line of a record, with its line end. After `Write` a part of it, from its front, was
 /// appended, and after `Memory` nothing.
-pub fn write_record<K: Sink>(
-    alloc: Global,
-    entry: &Record,
-    sink: &mut K,
-) -> Result<(), PrintError>
+pub fn write_record<K: Sink>(alloc: Global, entry: &Record, sink: &mut K) -> Result<(), PrintError>
     ensures whole { OnOk result (Appends (K.written sink.old) (whole_record entry.now) (K.written sink.new)) }
     ensures front { OnErr result (AppendsFront (K.written sink.old) (whole_record entry.now) (K.written sink.new)) }
     ensures nothing { IsErrOf result PrintError.Memory → K.written sink.new ≡ K.written sink.old }
