@@ -3,7 +3,9 @@ ghost use Rattle.std.specs.Prelude.{◌≡◌, IfOk};
 ghost use Rattle.bp_reading.specs.Lines.{handed_at, in_at, bad_at, eof_at, sel_at, end_at, record_at};
 
 use crate::verdicts::verdict_of;
-use crate::words::{around_byte, behind_word, compact_event_of, number_behind, numbers_of, small_number_of};
+use crate::words::{
+    around_byte, behind_word, compact_event_of, number_behind, numbers_of, small_number_of,
+};
 use bp_log::{Memory, Record};
 use std::alloc::Global;
 

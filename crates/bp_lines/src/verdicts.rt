@@ -2,7 +2,10 @@
 ghost use Rattle.std.specs.Prelude.{◌≡◌, IfOk, option_map, option_and_then};
 ghost use Rattle.bp_reading.specs.Lines.{place_at, limit_at, limits_at, bad_end_at, numbered_at, said_at, violated_at, fault_at, kind_at, blamed_at, faulty_at, spent_by, spent_at, placed_at, verdict_at};
 
-use crate::words::{around_byte, behind_word, number_behind, number_of, numbers_of, quoted_at_front, small_number_of, text_of};
+use crate::words::{
+    around_byte, behind_word, number_behind, number_of, numbers_of, quoted_at_front,
+    small_number_of, text_of,
+};
 use bp_log::limits::{MOST_THREADS, MOST_WAITING, MOST_WEIGHT};
 use bp_log::{Memory, Place, Verdict};
 use js_data::Fault;
@@ -39,10 +42,20 @@ fn limit_of(word: &[u8], limit: u64, verdict: Verdict, line: &[u8]) -> Option<Ve
 fn limits_of(line: &[u8]) -> Option<Verdict>
     ensures { result ≡ limits_at line.now }
 {
-    if let Some(verdict) = limit_of(b"limit queue ", u64::from(MOST_WAITING), Verdict::Queue, line) {
+    if let Some(verdict) = limit_of(
+        b"limit queue ",
+        u64::from(MOST_WAITING),
+        Verdict::Queue,
+        line,
+    ) {
         return Some(verdict);
     }
-    if let Some(verdict) = limit_of(b"limit bthreads ", u64::from(MOST_THREADS), Verdict::Threads, line) {
+    if let Some(verdict) = limit_of(
+        b"limit bthreads ",
+        u64::from(MOST_THREADS),
+        Verdict::Threads,
+        line,
+    ) {
         return Some(verdict);
     }
     limit_of(b"limit weight ", MOST_WEIGHT, Verdict::Weight, line)

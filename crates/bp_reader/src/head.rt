@@ -1,7 +1,7 @@
 //! The header of a log.
 ghost use Rattle.std.specs.Prelude.{◌≡◌, ◌≤◌, IfOk, IfSome, IsErrOf, length};
 ghost use Rattle.bp_base.specs.Counts.{Rose};
-ghost use Rattle.bp_reading.specs.Heads.{version_at, strategy_behind, strategy_line_at, field, field_at, program_at, choice_at, options_at, header_at, most_seed};
+ghost use Rattle.bp_reading.specs.Heads.{version_at, strategy_behind, strategy_line_at, field, field_at, program_at, choice_at, limits_at, options_at, header_at, most_seed};
 ghost use Rattle.bp_reader.specs.Gets.{Gets};
 
 use crate::LogFault;
@@ -137,6 +137,20 @@ fn choice_of<S: Source>(alloc: Global, input: &mut Input<S>) -> Result<(Strategy
     Ok((strategy, seed))
 }
 
+/// The budget and the steps.
+#[tactic(auto, unfolding(bp_reading::specs::Heads::limits_at))]
+fn limits_of<S: Source>(alloc: Global, input: &mut Input<S>) -> Result<(u64, u32), LogFault>
+    ensures gets { IfSome input.old.left (λ bytes. Gets (λ p. p) result (limits_at bytes) input.new.left) }
+    ensures budget { IfOk result (λ p. (1 ≤ p.0) × (p.0 ≤ MOST_BUDGET)) }
+    ensures steps { IfOk result (λ p. (1 ≤ p.1) × (p.1 ≤ MOST_STEPS)) }
+    ensures cause { IsErrOf result LogFault.Read → Rose input.old.faults input.new.faults }
+    ensures counts { input.old.faults ≤ input.new.faults }
+{
+    let budget = field_of(alloc, input, b"budget ", 1, MOST_BUDGET)?;
+    let steps = field_of(alloc, input, b"steps ", 1, u64::from(MOST_STEPS))?;
+    Ok((budget, steps as u32))
+}
+
 /// The first line and the options.
 #[tactic(auto, unfolding(bp_reading::specs::Heads::options_at))]
 fn options_of<S: Source>(alloc: Global, input: &mut Input<S>) -> Result<Options, LogFault>
@@ -145,10 +159,9 @@ fn options_of<S: Source>(alloc: Global, input: &mut Input<S>) -> Result<Options,
     ensures counts { input.old.faults ≤ input.new.faults }
 {
     let (strategy, seed) = choice_of(alloc, input)?;
-    let budget = field_of(alloc, input, b"budget ", 1, MOST_BUDGET)?;
-    let steps = field_of(alloc, input, b"steps ", 1, u64::from(MOST_STEPS))?;
+    let (budget, steps) = limits_of(alloc, input)?;
     let injectors = field_of(alloc, input, b"injectors ", 0, u64::from(MOST_INJECTORS))?;
-    match Options::new(strategy, seed, budget, steps as u32, injectors as u32) {
+    match Options::new(strategy, seed, budget, steps, injectors as u32) {
         None => Err(LogFault::Header),
         Some(options) => Ok(options),
     }

@@ -102,8 +102,8 @@ violated_back p t h k = ap (option_and_then said_at) (place_back p (32 ∷ quote
 faulty_back : (p : Place) (n : ℕ) (f : Fault) → IsPlace p → n < 2 ^ 32 → option_and_then blamed_at (place_at (place_text p ++ 32 ∷ (decimal n ++ 32 ∷ fault_name f))) ≡ Some (verdict.Fault p n f)
 faulty_back p n f h k = ap (option_and_then blamed_at) (place_back p (32 ∷ (decimal n ++ 32 ∷ fault_name f)) h) ∙ kind_back p n f k
 
-spent_back : (p : Place) → IsPlace p → option_and_then (λ q. spent_by q.0 q.1) (place_at (place_text p)) ≡ Some (verdict.Spent p)
-spent_back p h = ap (option_and_then (λ q. spent_by q.0 q.1)) (place_alone p h)
+spent_back : (p : Place) → IsPlace p → option_and_then (λ (q : Place × List ℕ). spent_by q.0 q.1) (place_at (place_text p)) ≡ Some (verdict.Spent p)
+spent_back p h = ap (option_and_then (λ (q : Place × List ℕ). spent_by q.0 q.1)) (place_alone p h)
 
 first : {A : Type 0} {x : A} {o : Option A} → o ≡ Some x → option_or o None ≡ Some x
 first h = ap (λ o. option_or o None) h

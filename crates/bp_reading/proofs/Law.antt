@@ -82,7 +82,7 @@ options_regrouped : (o : PlainOptions) (more : List ℕ) → options_text o ++ m
 unfolding options_then
 options_regrouped o more =
     let a = append_assoc (codes "injectors ") (decimal o.injectors) more in
-    let b = level (codes "steps ") (decimal o.steps) _ _ more a in
+    let b = level (codes "steps ") (decimal o.steps) (codes "injectors " ++ decimal o.injectors) (codes "injectors " ++ (decimal o.injectors ++ more)) more a in
     let c = level (codes "budget ") (decimal o.budget) _ _ more b in
     let d = level (codes "seed ") (decimal o.seed) _ _ more c in
     level (codes "strategy ") (strategy_name o.strategy) _ _ more d
@@ -94,7 +94,7 @@ header_regrouped h more =
     let b = level (codes "\nprogram ") (decimal (length h.program)) (h.program ++ 10 ∷ []) (h.program ++ 10 ∷ more) more a in
     let c = append_assoc (options_text h.options) (codes "\nprogram " ++ (decimal (length h.program) ++ 10 ∷ (h.program ++ 10 ∷ []))) more in
     let d = ap (λ l. options_text h.options ++ l) b in
-    ap (λ l. codes "bp-log 1" ++ 10 ∷ l) (c ∙ d ∙ options_regrouped h.options _)
+    ap (λ l. codes "bp-log 1" ++ 10 ∷ l) (c ∙ d ∙ options_regrouped h.options (10 ∷ (codes "program " ++ (decimal (length h.program) ++ 10 ∷ (h.program ++ 10 ∷ more)))))
 
 options_cut : (o p : PlainOptions) (x y : List ℕ) → o.seed < 2 ^ 64 → p.seed < 2 ^ 64 → AreOptions o → AreOptions p → options_then o (10 ∷ x) ≡ options_then p (10 ∷ y) → (o ≡ p) × (x ≡ y)
 unfolding options_then

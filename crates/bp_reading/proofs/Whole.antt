@@ -14,7 +14,7 @@ use Rattle.bp_log.specs.declared.record.Record.{Record}
 use Rattle.bp_reading.specs.declared.limits.TheConstants.{MOST_LINE_BYTES, MOST_RECORDS}
 use Rattle.bp_reading.specs.Words.{behind, number_at}
 use Rattle.bp_reading.specs.Lines.{record_at}
-use Rattle.bp_reading.specs.Heads.{Refusal, ◌>>=◌, line_at, whole, version_at, strategy_line_at, field_at, program_at, choice_at, options_at, header_at, most_seed}
+use Rattle.bp_reading.specs.Heads.{Refusal, ◌>>=◌, line_at, whole, version_at, strategy_line_at, field_at, program_at, choice_at, limits_at, options_at, header_at, most_seed}
 use Rattle.bp_reading.specs.Reading.{Stage, first_stage, after, can_stand, Says, next_at, found, finished}
 use Rattle.bp_reading.specs.Laws.{IsHeader, IsRecord, AreRecords, Stands, LogsAreRead}
 use Rattle.bp_reading.proofs.Lines.{lacks, lacks-append, line_is}
@@ -64,7 +64,7 @@ program_back [] rest = refl
 program_back (b ∷ p) rest = ap (λ r. r >>= λ q. Ok (b ∷ q.0, q.1)) (program_back p rest)
 
 options_back : (o : PlainOptions) (rest : List ℕ) → o.seed < 2 ^ 64 → AreOptions o → options_at (codes "bp-log 1" ++ 10 ∷ options_then o (10 ∷ rest)) ≡ Ok (o, rest)
-unfolding options_at choice_at options_then
+unfolding options_at choice_at limits_at options_then
 options_back o rest small k =
     rw (version_back _, strategy_back o.strategy _,
       field_back (codes "seed ") 0 most_seed o.seed _ refl (omega arith) (omega arith) (omega arith) (omega (arith, small)),

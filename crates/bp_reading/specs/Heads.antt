@@ -102,13 +102,19 @@ choice_at bytes = do
   seed ← field_at (codes "seed ") 0 most_seed strategy.1
   Ok ((strategy.0, seed.0), seed.1)
 
+-- the budget and the steps
+unfoldable pub limits_at : List ℕ → Result ((ℕ × ℕ) × List ℕ) Refusal
+limits_at bytes = do
+  budget ← field_at (codes "budget ") 1 MOST_BUDGET bytes
+  steps ← field_at (codes "steps ") 1 MOST_STEPS budget.1
+  Ok ((budget.0, steps.0), steps.1)
+
 unfoldable pub options_at : List ℕ → Result (PlainOptions × List ℕ) Refusal
 options_at bytes = do
   choice ← choice_at bytes
-  budget ← field_at (codes "budget ") 1 MOST_BUDGET choice.1
-  steps ← field_at (codes "steps ") 1 MOST_STEPS budget.1
-  injectors ← field_at (codes "injectors ") 0 MOST_INJECTORS steps.1
-  Ok (record { strategy = choice.0.0; seed = choice.0.1; budget = budget.0; steps = steps.0; injectors = injectors.0 }, injectors.1)
+  limits ← limits_at choice.1
+  injectors ← field_at (codes "injectors ") 0 MOST_INJECTORS limits.1
+  Ok (record { strategy = choice.0.0; seed = choice.0.1; budget = limits.0.0; steps = limits.0.1; injectors = injectors.0 }, injectors.1)
 
 unfoldable pub header_at : List ℕ → Result (PlainHeader × List ℕ) Refusal
 header_at bytes = do
