@@ -1,6 +1,6 @@
 -- The command that words are.
 use Rattle.std.specs.Prelude.{ℕ, ◌&&◌, ◌||◌, Bool, true, false, not, nat_le, if◌then◌else◌, List, [], ◌∷◌, Option, Some, None, option_map, option_and_then, unwrap_or, codes}
-use Rattle.core.specs.Option.{is_some}
+use Rattle.std.specs.Option.{is_some}
 use Rattle.std.specs.Str.{bytes_eq}
 use Rattle.bp_log.specs.Options.{PlainOptions, default_options}
 use Rattle.bp_log.specs.declared.limits.TheConstants.{MOST_BUDGET, MOST_STEPS}

@@ -1,6 +1,6 @@
 -- What the words of a command say, word by word from left to right.
 use Rattle.std.specs.Prelude.{ℕ, ◌&&◌, ◌==◌, Bool, true, false, nat_le, nat_lt, if◌then◌else◌, List, [], ◌∷◌, length, Option, Some, None, option_map, option_and_then, codes}
-use Rattle.core.specs.List.{position_or_len, before_first, after_first}
+use Rattle.std.specs.List.{position_or_len, before_first, after_first}
 use Rattle.std.specs.Str.{all_ascii_digits, bytes_eq}
 use Rattle.bp_log.specs.Logs.{strategy_at}
 use Rattle.bp_reading.specs.Words.{value_on, most_32}

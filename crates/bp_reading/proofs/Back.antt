@@ -17,7 +17,7 @@ use Rattle.js_data.specs.Event.{PlainEvent, IsEvent}
 use Rattle.js_data.specs.JsonText.{event_text, quoted_text, escaped_byte}
 use Rattle.js_json.proofs.Law.{event_back}
 use Rattle.js_json.proofs.Escapes.{quoted_is}
-use Rattle.core.specs.Option.{option_or}
+use Rattle.std.specs.Option.{option_or}
 use Rattle.js_data.specs.Faults.{fault_name}
 use Rattle.js_data.specs.declared.fault.Fault.{Fault}
 use Rattle.js_data.specs.declared.fault.Fault.TheVariants as fault

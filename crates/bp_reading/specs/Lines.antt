@@ -1,6 +1,6 @@
 -- The record that a line says. No line fits two of the forms.
 use Rattle.std.specs.Prelude.{ℕ, ◌==◌, if◌then◌else◌, List, [], ◌∷◌, Option, Some, None, option_map, option_and_then, codes}
-use Rattle.core.specs.Option.{option_or}
+use Rattle.std.specs.Option.{option_or}
 use Rattle.std.specs.Str.{bytes_eq}
 use Rattle.js_data.specs.Faults.{fault_name}
 use Rattle.js_data.specs.declared.fault.Fault.{Fault}
