@@ -21,7 +21,7 @@ use Rattle.std.specs.Option.{option_or}
 use Rattle.js_data.specs.Faults.{fault_name}
 use Rattle.js_data.specs.declared.fault.Fault.{Fault}
 use Rattle.js_data.specs.declared.fault.Fault.TheVariants as fault
-use Rattle.bp_log.specs.Texts.{place_text, verdict_text}
+use Rattle.bp_log.specs.Texts.{place_text}
 use Rattle.bp_log.specs.Logs.{record_text}
 use Rattle.bp_log.specs.declared.record.Record.{Record}
 use Rattle.bp_log.specs.declared.record.Record.TheVariants.{In, Bad, Eof, Sel, End}
@@ -32,6 +32,7 @@ use Rattle.bp_log.specs.declared.verdict.Verdict.TheVariants as verdict
 use Rattle.bp_reading.specs.Words.{text_at, compact_event_at, number_at, numbers_at, around, to_quote, most_32}
 use Rattle.bp_reading.specs.Lines.{place_at, said_at, fault_at, kind_at, blamed_at, spent_by, verdict_at, handed_at, record_at}
 use Rattle.bp_reading.specs.Laws.{IsPlace, IsVerdict, IsRecord}
+use Rattle.bp_reading.proofs.Spelled.{spelled_verdict, spelled_record, record_is}
 use Rattle.bp_reading.proofs.Lines.{around_is}
 use Rattle.bp_reading.proofs.Numbers.{number_back, lacks-decimal}
 use Rattle.bp_reading.proofs.Quotes.{to_quote_is}
@@ -108,7 +109,7 @@ spent_back p h = ap (option_and_then (λ (q : Place × List ℕ). spent_by q.0 q
 first : {A : Type 0} {x : A} {o : Option A} → o ≡ Some x → option_or o None ≡ Some x
 first h = ap (λ o. option_or o None) h
 
-verdict_back : (v : Verdict) → IsVerdict v → verdict_at (verdict_text v) ≡ Some v
+verdict_back : (v : Verdict) → IsVerdict v → verdict_at (spelled_verdict v) ≡ Some v
 verdict_back (verdict.Quiet n) h = rw (number_32 n h) refl
 verdict_back (verdict.Violated p t) h = first (violated_back p t h.0 h.1)
 verdict_back (verdict.Fault p n f) h = first (faulty_back p n f h.0 h.1)
@@ -124,10 +125,13 @@ verdict_back (verdict.Bad j line) h = rw (numbers_back j line h.0 h.1) refl
 handed_back : (j : ℕ) (e : PlainEvent) → j < 2 ^ 32 → IsEvent e → handed_at (decimal j ++ 32 ∷ event_text e) ≡ Some (In j e)
 handed_back j e h k = rw (around_is 32 (decimal j) (event_text e) (lacks-decimal 32 (omega arith) j (omega (arith, h))), number_32 j h, event_again e k) refl
 
+spelled_back : (r : Record) → IsRecord r → record_at (spelled_record r) ≡ Some r
+unfolding record_at
+spelled_back (In j e) h = first (handed_back j e h.0 h.1)
+spelled_back (Bad j line) h = rw (numbers_back j line h.0 h.1) refl
+spelled_back (Eof j) h = rw (number_32 j h) refl
+spelled_back (Sel e) h = rw (event_again e h) refl
+spelled_back (End v) h = ap (option_map End) (verdict_back v h)
+
 pub record_back : (r : Record) → IsRecord r → record_at (record_text r) ≡ Some r
-unfolding record_at record_text
-record_back (In j e) h = first (handed_back j e h.0 h.1)
-record_back (Bad j line) h = rw (numbers_back j line h.0 h.1) refl
-record_back (Eof j) h = rw (number_32 j h) refl
-record_back (Sel e) h = rw (event_again e h) refl
-record_back (End v) h = ap (option_map End) (verdict_back v h)
+record_back r h = ap record_at (record_is r) ∙ spelled_back r h

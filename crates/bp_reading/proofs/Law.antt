@@ -14,6 +14,7 @@ use Rattle.bp_reading.specs.Lines.{record_at}
 use Rattle.bp_reading.specs.Laws.{IsHeader, IsRecord, AreRecords, OneReading}
 use Rattle.bp_reading.proofs.Lines.{lacks, cut_same, Same, some_is}
 use Rattle.bp_reading.proofs.Numbers.{lacks-decimal}
+use Rattle.bp_reading.proofs.Spelled.{six, options_then, options_regrouped}
 use Rattle.bp_reading.proofs.Texts.{lacks-record}
 use Rattle.bp_reading.proofs.Back.{record_back}
 
@@ -64,37 +65,17 @@ strategy_cut s t x y e =
     let c = cut_same 10 (strategy_name s) (strategy_name t) x y (lacks-strategy s) (lacks-strategy t) e in
     (some_is s t (sym (strategy_back s) ∙ ap strategy_at c.front ∙ strategy_back t), c.rest)
 
--- the text of options, and what follows
-unfoldable pub options_then : PlainOptions → List ℕ → List ℕ
-options_then o more =
-    codes "strategy " ++ (strategy_name o.strategy ++ 10 ∷ (codes "seed " ++ (decimal o.seed ++ 10 ∷ (codes "budget " ++ (decimal o.budget
-    ++ 10 ∷ (codes "steps " ++ (decimal o.steps ++ 10 ∷ (codes "injectors " ++ (decimal o.injectors ++ more)))))))))
-
 -- a header's text, and what follows
 unfoldable pub header_then : PlainHeader → List ℕ → List ℕ
 header_then h more =
     codes "bp-log 1" ++ 10 ∷ options_then h.options (10 ∷ (codes "program " ++ (decimal (length h.program) ++ 10 ∷ (h.program ++ 10 ∷ more))))
 
-level : (w d t u more : List ℕ) → t ++ more ≡ u → (w ++ (d ++ 10 ∷ t)) ++ more ≡ w ++ (d ++ 10 ∷ u)
-level w d t u more e = append_assoc w (d ++ 10 ∷ t) more ∙ ap (λ l. w ++ l) (append_assoc d (10 ∷ t) more ∙ ap (λ l. d ++ 10 ∷ l) e)
-
-options_regrouped : (o : PlainOptions) (more : List ℕ) → options_text o ++ more ≡ options_then o more
-unfolding options_then
-options_regrouped o more =
-    let a = append_assoc (codes "injectors ") (decimal o.injectors) more in
-    let b = level (codes "steps ") (decimal o.steps) (codes "injectors " ++ decimal o.injectors) (codes "injectors " ++ (decimal o.injectors ++ more)) more a in
-    let c = level (codes "budget ") (decimal o.budget) _ _ more b in
-    let d = level (codes "seed ") (decimal o.seed) _ _ more c in
-    level (codes "strategy ") (strategy_name o.strategy) _ _ more d
-
 pub header_regrouped : (h : PlainHeader) (more : List ℕ) → header_text h ++ more ≡ header_then h more
 unfolding header_then
 header_regrouped h more =
-    let a = append_assoc h.program (10 ∷ []) more in
-    let b = level (codes "\nprogram ") (decimal (length h.program)) (h.program ++ 10 ∷ []) (h.program ++ 10 ∷ more) more a in
-    let c = append_assoc (options_text h.options) (codes "\nprogram " ++ (decimal (length h.program) ++ 10 ∷ (h.program ++ 10 ∷ []))) more in
-    let d = ap (λ l. options_text h.options ++ l) b in
-    ap (λ l. codes "bp-log 1" ++ 10 ∷ l) (c ∙ d ∙ options_regrouped h.options (10 ∷ (codes "program " ++ (decimal (length h.program) ++ 10 ∷ (h.program ++ 10 ∷ more)))))
+    ap (λ l. codes "bp-log 1" ++ (10 ∷ l))
+    (six (options_text h.options) (codes "\nprogram ") (decimal (length h.program)) (codes "\n") h.program (codes "\n") more
+    ∙ options_regrouped h.options (10 ∷ (codes "program " ++ (decimal (length h.program) ++ (10 ∷ (h.program ++ (10 ∷ more)))))))
 
 options_cut : (o p : PlainOptions) (x y : List ℕ) → o.seed < 2 ^ 64 → p.seed < 2 ^ 64 → AreOptions o → AreOptions p → options_then o (10 ∷ x) ≡ options_then p (10 ∷ y) → (o ≡ p) × (x ≡ y)
 unfolding options_then

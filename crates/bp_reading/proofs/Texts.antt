@@ -9,7 +9,7 @@ use Rattle.js_data.specs.JsonText.{event_text, data_text, data_list_text, data_f
 use Rattle.js_data.specs.Faults.{fault_name}
 use Rattle.js_data.specs.declared.fault.Fault.{Fault}
 use Rattle.js_data.specs.declared.fault.Fault.TheVariants as fault
-use Rattle.bp_log.specs.Texts.{place_text, verdict_text}
+use Rattle.bp_log.specs.Texts.{place_text}
 use Rattle.bp_log.specs.Logs.{record_text}
 use Rattle.bp_log.specs.declared.record.Record.{Record}
 use Rattle.bp_log.specs.declared.record.Record.TheVariants.{In, Bad, Eof, Sel, End}
@@ -21,6 +21,7 @@ use Rattle.bp_reading.specs.Laws.{IsVerdict, IsRecord}
 use Rattle.bp_reading.proofs.Lines.{lacks, lacks-append}
 use Rattle.bp_reading.proofs.Numbers.{lacks-decimal}
 use Rattle.bp_reading.proofs.Quotes.{lacks-quoted}
+use Rattle.bp_reading.proofs.Spelled.{spelled_verdict, spelled_record, record_is}
 
 lacks_whole : (z : ℤ) → IsWhole z → lacks 10 (data_text (whole z)) ≡ true
 lacks_whole (pos n) h = let k : n < 9_007_199_254_740_992 = ltb-true n 9_007_199_254_740_992 h in lacks-decimal 10 (omega arith) n (omega arith)
@@ -81,7 +82,7 @@ lacks-number n h = lacks-decimal 10 (omega arith) n (omega (arith, h))
 lacks-numbers : (m n : ℕ) → m < 2 ^ 32 → n < 2 ^ 32 → lacks 10 (decimal m ++ 32 ∷ decimal n) ≡ true
 lacks-numbers m n h k = lacks-append 10 (decimal m) (32 ∷ decimal n) (lacks-number m h) (lacks-number n k)
 
-lacks-verdict : (v : Verdict) → IsVerdict v → lacks 10 (verdict_text v) ≡ true
+lacks-verdict : (v : Verdict) → IsVerdict v → lacks 10 (spelled_verdict v) ≡ true
 lacks-verdict (verdict.Quiet n) h = lacks-number n h
 lacks-verdict (verdict.Violated place t) h = lacks-append 10 (place_text place) (32 ∷ quoted_text t) (lacks-place place) (lacks-quoted t)
 lacks-verdict (verdict.Fault place line f) h =
@@ -94,11 +95,13 @@ lacks-verdict verdict.Threads h = lacks-number 4096 (omega arith)
 lacks-verdict verdict.Weight h = lacks-number 16777216 (omega arith)
 lacks-verdict (verdict.Bad j line) h = lacks-numbers j line h.0 h.1
 
+lacks-spelled : (r : Record) → IsRecord r → lacks 10 (spelled_record r) ≡ true
+lacks-spelled (In j e) h = lacks-append 10 (decimal j) (32 ∷ event_text e) (lacks-number j h.0) (lacks-event e h.1)
+lacks-spelled (Bad j line) h = lacks-numbers j line h.0 h.1
+lacks-spelled (Eof j) h = lacks-number j h
+lacks-spelled (Sel e) h = lacks-event e h
+lacks-spelled (End v) h = lacks-verdict v h
+
 -- no record's text has an LF
 pub lacks-record : (r : Record) → IsRecord r → lacks 10 (record_text r) ≡ true
-unfolding record_text
-lacks-record (In j e) h = lacks-append 10 (decimal j) (32 ∷ event_text e) (lacks-number j h.0) (lacks-event e h.1)
-lacks-record (Bad j line) h = lacks-numbers j line h.0 h.1
-lacks-record (Eof j) h = lacks-number j h
-lacks-record (Sel e) h = lacks-event e h
-lacks-record (End v) h = lacks-verdict v h
+lacks-record r h = rw (record_is r) (lacks-spelled r h)

@@ -19,8 +19,9 @@ use Rattle.bp_reading.specs.Reading.{Stage, first_stage, after, can_stand, Says,
 use Rattle.bp_reading.specs.Laws.{IsHeader, IsRecord, AreRecords, Stands, LogsAreRead}
 use Rattle.bp_reading.proofs.Lines.{lacks, lacks-append, line_is}
 use Rattle.bp_reading.proofs.Numbers.{number_back, lacks-decimal}
+use Rattle.bp_reading.proofs.Spelled.{options_then}
 use Rattle.bp_reading.proofs.Texts.{lacks-record}
-use Rattle.bp_reading.proofs.Law.{regrouped, options_then, header_then, header_regrouped}
+use Rattle.bp_reading.proofs.Law.{regrouped, header_then, header_regrouped}
 use Rattle.bp_reading.proofs.Back.{record_back}
 
 next_back : (s : Stage) (r : Record) (rest : List ℕ) → IsRecord r → s.ended ≡ false → s.lines < MOST_RECORDS → can_stand s r ≡ true → length (record_text r) ≤ MOST_LINE_BYTES → next_at s (record_text r ++ 10 ∷ rest) ≡ found r rest
@@ -66,18 +67,23 @@ program_back (b ∷ p) rest = ap (λ r. r >>= λ q. Ok (b ∷ q.0, q.1)) (progra
 options_back : (o : PlainOptions) (rest : List ℕ) → o.seed < 2 ^ 64 → AreOptions o → options_at (codes "bp-log 1" ++ 10 ∷ options_then o (10 ∷ rest)) ≡ Ok (o, rest)
 unfolding options_at choice_at limits_at options_then
 options_back o rest small k =
-    rw (version_back _, strategy_back o.strategy _,
+    rw (
+      version_back _,
+      strategy_back o.strategy _,
       field_back (codes "seed ") 0 most_seed o.seed _ refl (omega arith) (omega arith) (omega arith) (omega (arith, small)),
       field_back (codes "budget ") 1 MOST_BUDGET o.budget _ refl (omega arith) (omega arith) k.some_budget k.budget,
       field_back (codes "steps ") 1 MOST_STEPS o.steps _ refl (omega arith) (omega arith) k.some_steps k.steps,
-      field_back (codes "injectors ") 0 MOST_INJECTORS o.injectors _ refl (omega arith) (omega arith) (omega arith) k.injectors) refl
+      field_back (codes "injectors ") 0 MOST_INJECTORS o.injectors _ refl (omega arith) (omega arith) (omega arith) k.injectors,
+    ) refl
 
 header_back : (h : PlainHeader) (rest : List ℕ) → IsHeader h → header_at (header_then h rest) ≡ Ok (h, rest)
 unfolding header_at header_then
 header_back h rest k =
-    rw (options_back h.options _ k.seed k.options,
+    rw (
+      options_back h.options _ k.seed k.options,
       field_back (codes "program ") 0 MOST_BYTES (length h.program) _ refl (omega arith) (omega arith) (omega arith) k.program,
-      program_back h.program rest) refl
+      program_back h.program rest,
+    ) refl
 
 pub logs_are_read : LogsAreRead
 unfolding log_text
