@@ -88,7 +88,10 @@ fn number_of(word: &str, most: u64) -> Option<u64>
     ensures { result ≡ number_word most word.now }
 {
     let digits = word.as_bytes();
-    if digits.is_empty() || digits.len() > 20 {
+    if digits.is_empty() {
+        return None;
+    }
+    if digits.len() > 20 {
         return None;
     }
     if digits[0] == b'+' {

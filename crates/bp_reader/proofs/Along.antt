@@ -1,8 +1,9 @@
 -- A line that is taken byte by byte.
-use Rattle.std.proofs.Common.{◌≡◌, ◌≢◌, ℕ, ◌-◌, ◌<◌, ◌≤◌, Bool, true, false, cond, List, [], ◌∷◌, ◌++◌, Option, Some, None, refl, sym, ap, ◌∙◌, inl, inr, arith}
+use Rattle.std.proofs.Common.{◌≡◌, ◌≢◌, ℕ, ◌-◌, ◌<◌, ◌≤◌, Bool, true, false, cond, List, [], ◌∷◌, ◌++◌, Option, Some, None, refl, sym, ap, ◌∙◌, inl, inr, arith, option_map}
 use Rattle.std.specs.Prelude.{◌==◌, IfSome, IsSomeAnd}
 use Rattle.std.proofs.lemmas.Bool.Decides.{eqb_tells}
 use Rattle.bp_reading.specs.Heads.{Front, nothing, partial, excess, whole, onto, line_at}
+use Rattle.bp_base.specs.Pieces.{GivesSome}
 use Rattle.bp_reader.specs.Fed.{Comes}
 use Rattle.bp_reading.specs.declared.limits.TheConstants.{MOST_LINE_BYTES}
 
@@ -70,3 +71,8 @@ passes (Some bytes) (Some rest) (Some more) line room c h k n r =
 
 pub with_room : (before after : Option (List ℕ)) (line : List ℕ) (room other : ℕ) → room ≡ other → Along before after line other → Along before after line room
 with_room before after line room other e h = rw e h
+
+-- the rest of a block stands before what comes
+pub gives_rest : (piece : List ℕ) (after : Option (List ℕ)) → GivesSome (option_map (λ rest. piece ++ rest) after) after
+gives_rest piece None = (piece, tt)
+gives_rest piece (Some rest) = (piece, refl)
