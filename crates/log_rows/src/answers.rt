@@ -21,7 +21,13 @@ pub fn answer(alloc: Global, bytes: &[u8]) -> Result<String, Fail> {
     write_header(alloc, &header, &mut sink)?;
     for _ in 0..MOST_RECORDS {
         match reader.next(alloc) {
-            Ok(Some(entry)) => write_record(alloc, &entry, &mut sink)?,
+            Ok(Some(entry)) => {
+                let copy = entry.copy()?;
+                if !copy.same(&entry) {
+                    return Ok(String::from_str(alloc, "copied otherwise")?);
+                }
+                write_record(alloc, &copy, &mut sink)?;
+            }
             Ok(None) => {
                 let same = sink.written() == bytes;
                 return Ok(String::from_str(alloc, if same { "read" } else { "other" })?);
