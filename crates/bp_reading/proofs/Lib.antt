@@ -6,3 +6,5 @@ pub mod Texts
 pub mod Back
 pub mod Law
 pub mod Whole
+pub mod Again
+pub mod Told

@@ -1,5 +1,5 @@
 -- What is true of the texts of logs.
-use Rattle.std.specs.Prelude.{◌≡◌, ◌<◌, ◌≤◌, ◌^◌, true, false, List, [], ◌∷◌, length, Ok, None}
+use Rattle.std.specs.Prelude.{◌≡◌, ℕ, ◌<◌, ◌≤◌, ◌^◌, true, false, List, [], ◌∷◌, length, Ok, None}
 use Rattle.std.specs.Str.{is_utf8}
 use Rattle.js_data.specs.Event.{IsEvent}
 use Rattle.bp_log.specs.Options.{AreOptions}
@@ -66,3 +66,9 @@ abbrev pub LogsAreRead : Type 0
 LogsAreRead =
     (h : PlainHeader) (rs : List Record) → IsHeader h → AreRecords rs → Stands (first_stage h.options.injectors) rs →
     (header_at (log_text h rs) ≡ Ok (h, records_text rs)) × Says (first_stage h.options.injectors) (records_text rs) rs None
+
+-- bytes that say a header and a complete list are the text of these
+abbrev pub ReadLogsAreTexts : Type 0
+ReadLogsAreTexts =
+    (bytes rest : List ℕ) (h : PlainHeader) (rs : List Record) → header_at bytes ≡ Ok (h, rest) →
+    Says (first_stage h.options.injectors) rest rs None → bytes ≡ log_text h rs
