@@ -36,6 +36,17 @@ pub trait Source {
         ensures counts { faults self.old ≤ faults self.new };
 }
 
+/// A source that is lent.
+impl<S: Source> Source for &mut S {
+    ghost left = { λ s. S.left s.now };
+
+    ghost faults = { λ s. S.faults s.now };
+
+    fn read(&mut self, into: &mut [u8]) -> Result<usize, Failed> {
+        Source::read(&mut **self, into)
+    }
+}
+
 /// A place for bytes.
 pub trait Sink {
     /// All that was written, where the sink tells it.

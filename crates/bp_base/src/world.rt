@@ -180,7 +180,11 @@ impl MemoryWorld {
     {
         let fails = self.failing(name)?;
         let sink = MemorySink::new(self.alloc, self.room, fails)?;
-        let entry = Entry::new(self.alloc, name.to_string(self.alloc)?, Vec::new(self.alloc))?;
+        let entry = Entry::new(
+            self.alloc,
+            name.to_string(self.alloc)?,
+            Vec::new(self.alloc),
+        )?;
         Ok(MemoryOutput { entry, sink })
     }
 
