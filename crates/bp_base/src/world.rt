@@ -165,6 +165,17 @@ impl MemoryWorld {
         find(&self.held, name)
     }
 
+    /// Counts one more call with that name, and says whether it is to fail.
+    fn ask(&mut self, name: &str) -> Result<bool, Memory>
+        ensures fails { IfOk result (λ fails. fails ≡ is_to_fail self.old.calls) }
+        ensures asked { OnOk result (self.new ≡ asked_for self.old name.now) }
+        ensures err { OnErr result (self.new ≡ self.old) }
+    {
+        let asked = name.to_string(self.alloc)?;
+        self.asked.push(asked)?;
+        Ok(self.calls.count())
+    }
+
     /// The calls that are to fail under the name.
     fn failing(&self, name: &str) -> Result<Vec<u64>, Memory>
         ensures { IfOk result (λ calls. calls.items ≡ failing_under self.now name.now) }
@@ -239,9 +250,7 @@ impl World for MemoryWorld {
         ensures after_memory { IsErrOf result WorldError.Memory → self.new ≡ self.old }
     {
         let input = self.input(name)?;
-        let asked = name.to_string(self.alloc)?;
-        self.asked.push(asked)?;
-        let fails = self.calls.count();
+        let fails = self.ask(name)?;
         match input {
             Some(input) if !fails => Ok(input),
             _ => {
@@ -274,9 +283,7 @@ impl World for MemoryWorld {
         ensures after_memory { IsErrOf result WorldError.Memory → self.new ≡ self.old }
     {
         let made = self.output(name)?;
-        let asked = name.to_string(self.alloc)?;
-        self.asked.push(asked)?;
-        if self.calls.count() {
+        if self.ask(name)? {
             self.write_faults = self.write_faults.saturating_add(1);
             return Err(WorldError::Failed);
         }
