@@ -9,6 +9,7 @@ use std::test::Fail;
 use std::{fs, io};
 
 const NAME: &str = "bp_base_test";
+const WRITTEN: &str = "bp_base_written";
 
 // Five bytes, read to their end within a limit, where a call fails; and how often the source failed.
 fn read_is(
@@ -72,6 +73,46 @@ fn a_world_opens_what_it_holds(rt: HostRuntime) -> Result<(), Fail> {
     world.close_input(input);
     assert_eq!(rt; world.open("b").err(), Some(WorldError::Failed));
     assert_eq!(rt; world.open("a").err(), Some(WorldError::Failed));
+    Ok(())
+}
+
+#[test]
+fn a_world_holds_what_was_written(rt: HostRuntime) -> Result<(), Fail> {
+    let alloc = rt.alloc();
+    let mut world = MemoryWorld::new(alloc, 5, [3].to_vec(alloc)?);
+    world.hold("a".to_string(alloc)?, b"old".to_vec(alloc)?)?;
+    world.fail("b".to_string(alloc)?, [2].to_vec(alloc)?)?;
+    let mut output = world.create("a")?;
+    assert_eq!(rt; write_all(&mut output, b"new"), Ok(()));
+    assert_eq!(rt; output.written(), b"new".as_slice());
+    assert_eq!(rt; world.held("a"), Some(b"old".as_slice()));
+    world.close_output("a", output);
+    assert_eq!(rt; world.held("a"), Some(b"new".as_slice()));
+    let mut output = world.create("b")?;
+    assert_eq!(rt; write_all(&mut output, b"ab"), Ok(()));
+    assert_eq!(rt; write_all(&mut output, b"cd"), Err(Failed));
+    world.close_output("b", output);
+    assert_eq!(rt; world.held("b"), Some(b"ab".as_slice()));
+    assert_eq!(rt; world.create("a").err(), Some(WorldError::Failed));
+    assert_eq!(rt; world.held("a"), Some(b"new".as_slice()));
+    Ok(())
+}
+
+#[test]
+fn a_file_of_the_system_is_written(rt: HostRuntime) -> Result<(), Fail> {
+    let alloc = rt.alloc();
+    let mut world = FileWorld::new(rt.clone()?);
+    let mut output = world.create(WRITTEN)?;
+    assert_eq!(rt; write_all(&mut output, b"written"), Ok(()));
+    world.close_output(WRITTEN, output);
+    let mut input = world.open(WRITTEN)?;
+    assert_eq!(rt;
+        read_all(alloc, &mut input, 9)?.as_slice(),
+        b"written".as_slice()
+    );
+    world.close_input(input);
+    fs::remove_file(&rt, WRITTEN)?;
+    assert_eq!(rt; world.create("").err(), Some(WorldError::Failed));
     Ok(())
 }
 
