@@ -190,7 +190,6 @@ impl Sink for MemorySink {
         ensures failed { OnErr result (self.new.written ≡ self.old.written) }
         ensures cause { OnErr result (Rose self.old.faults self.new.faults) }
         ensures counts { self.old.faults ≤ self.new.faults }
-        ensures named { None ≡ None }
 
         // It fails exactly where this call is to fail or passes the room, and else takes the whole piece.
         ensures refuses { is_err result ≡ refuses self.old bytes.now }
