@@ -34,7 +34,7 @@ bp.registerBThread("One green at a time", () => {
   }
 });
 
-// Every green but that of the road whose turn it is.
+// Blocks every green but that of the road whose turn it is.
 bp.registerBThread("Taking turns", () => {
   while (true) {
     for (const road of roads) bp.sync({waitFor: green(road), block: greens.and(green(road).negate())});

@@ -11,7 +11,7 @@ const calls = bp.EventSet("calls", e => e.name === "call");
 const next = e => bp.sync({request: e, block: calls, interrupt: smoke});
 const pause = () => bp.sync({waitFor: tick, block: calls, interrupt: smoke});
 
-// What is to be done where the cabin stands at this floor. A handler has a copy of the floor, as all functions have.
+// What is done about smoke where the cabin stands at this floor: the function has a copy of the floor that it was made with.
 const handlerAt = floor => e => {
   bp.log.info(e.name + ", at floor " + floor);
   bp.enqueueExternalEvent(bp.Event("siren"));
