@@ -10,3 +10,5 @@ pub mod Touches
 pub mod Going
 pub mod Rests
 pub mod Handlers
+pub mod Standing
+pub mod Sound

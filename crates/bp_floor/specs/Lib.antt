@@ -10,3 +10,5 @@ pub mod Lending
 pub mod Returning
 pub mod Lent
 pub mod Touching
+pub mod Floors
+pub mod Absorbing

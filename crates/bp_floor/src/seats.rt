@@ -1,5 +1,5 @@
 //! B-threads with their jobs.
-ghost use Rattle.std.specs.Prelude.{◌≡◌, ◌<◌, ◌∷◌, ◌++◌, [], length, map, option_map, OnOk, Some, None, slice_get};
+ghost use Rattle.std.specs.Prelude.{◌≡◌, ◌<◌, ◌∷◌, ◌++◌, [], length, map, option_map, OnOk, Some, None, slice_get, true};
 ghost use Rattle.bp_run.specs.Configuration.{change, name_in};
 ghost use Rattle.bp_floor.specs.Seating.{PlainSeat, seated, swept};
 ghost use Rattle.bp_floor.specs.Seated.{seat_seen, job_at};
