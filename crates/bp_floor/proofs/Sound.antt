@@ -1,5 +1,5 @@
 -- What a floor keeps.
-use Rattle.std.proofs.Common.{◌≡◌, ℕ, ◌≤◌, ◌<◌, ◌+◌, List, [], ◌∷◌, ◌++◌, length, length-append, refl, sym, ap, ◌∙◌, subst, arith, Option, Some, None}
+use Rattle.std.proofs.Common.{◌≡◌, ℕ, ◌≤◌, ◌<◌, ◌+◌, List, [], ◌∷◌, ◌++◌, length, length-append, refl, sym, ap, ◌∙◌, subst, arith, Option, Some, None, Result, Ok, Err, OnOk, OnErr}
 use Rattle.js_data.specs.Event.{PlainEvent}
 use Rattle.js_value.specs.Value.{PlainSet}
 use Rattle.js_program.specs.PlainProgram.{PlainProgram}
@@ -41,6 +41,12 @@ sound_queued r base b phase queue e s low h =
       at_phase = s.at_phase;
       light = s.light;
     }
+
+-- where it found room
+pub sound_pushed : {A E : Type 0} (r : Running) (base : Ground) (b : Board) (phase : Phase) (queue : List PlainEvent) (e : PlainEvent) (res : Result A E) → IsSound r base b phase → length b.queue < MOST_WAITING →
+    OnOk res (queue ≡ b.queue ++ e ∷ []) → OnErr res (queue ≡ b.queue) → IsSound r base (record b { queue = queue }) phase
+sound_pushed r base b phase queue e (Ok x) s low h k = sound_queued r base b phase queue e s low h
+sound_pushed r base b phase queue e (Err y) s low h k = subst (λ (q : List PlainEvent). IsSound r base (record b { queue = q }) phase) (sym k) s
 
 rest_entries : (v : Option Verdict) (ns : List (Entry Origin)) → Rest ≡ phase_at v ns → ns ≡ []
 rest_entries None [] h = refl

@@ -192,7 +192,10 @@ impl Floor {
         if self.board.queue.len() >= MOST_WAITING as usize {
             return Err(Absorb::Full(Item::Offered(event)));
         }
-        Err(Absorb::Memory(Item::Offered(event)))
+        match self.board.queue.push(event) {
+            Ok(()) => Ok(()),
+            Err(failed) => Err(Absorb::Memory(Item::Offered(failed.value))),
+        }
     }
 
     /// What can be selected.
