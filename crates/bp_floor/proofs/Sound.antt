@@ -4,21 +4,23 @@ use Rattle.js_data.specs.Event.{PlainEvent}
 use Rattle.js_value.specs.Value.{PlainSet}
 use Rattle.js_program.specs.PlainProgram.{PlainProgram}
 use Rattle.js_meaning.specs.State.{Ground}
-use Rattle.js_meaning.specs.Bodies.{Origin, ground_of}
+use Rattle.js_meaning.specs.Bodies.{Origin, bare, ground_of}
 use Rattle.bp_log.specs.Options.{PlainOptions}
 use Rattle.bp_log.specs.declared.limits.TheConstants.{MOST_WAITING}
 use Rattle.bp_log.specs.declared.verdict.Verdict.{Verdict}
 use Rattle.bp_run.specs.Settling.{Entry}
+use Rattle.bp_run.specs.Settling.Entry.{The_top}
 use Rattle.bp_run.specs.Selecting.{live}
 use Rattle.bp_meaning.specs.Membership.{member}
+use Rattle.bp_select.specs.Benches.{PlainBench, empty_bench, Fits}
 use Rattle.bp_floor.specs.declared.board.Board.{Board}
 use Rattle.bp_floor.specs.declared.phase.Phase.{Phase}
-use Rattle.bp_floor.specs.declared.phase.Phase.TheVariants.{Rest}
+use Rattle.bp_floor.specs.declared.phase.Phase.TheVariants.{Ready, Rest}
 use Rattle.bp_floor.specs.Programs.{code_of}
-use Rattle.bp_floor.specs.Seating.{is_waiting, where_from}
+use Rattle.bp_floor.specs.Seating.{PlainSeat, is_waiting, where_from, stated_from, AreOwn}
 use Rattle.bp_floor.specs.Boards.{stand_of, pair_of}
-use Rattle.bp_floor.specs.Kept.{Running, runs_in}
-use Rattle.bp_floor.specs.Returning.{ground_at}
+use Rattle.bp_floor.specs.Kept.{Running, AreBelow, runs_in}
+use Rattle.bp_floor.specs.Returning.{RunsAlone, ground_at}
 use Rattle.bp_floor.specs.Floors.{IsSound, phase_at}
 use Rattle.bp_floor.proofs.Rests.{stated_live}
 
@@ -68,3 +70,23 @@ rest_ground r base b s = s.ground_is ∙ ap (λ (ns : List (Entry Origin)). grou
 pub has_is : (p : PlainProgram) (o : PlainOptions) → (code_of p o).has ≡ member (ground_of p o.budget) o.budget
 unfolding code_of
 has_is p o = refl
+
+-- before anything has run
+pub sound_opened : (r : Running) (base : Ground) (b : Board) → base.program ≡ r.program → base ≡ bare r.program → b.seats ≡ [] → b.bench ≡ empty_bench → b.queue ≡ [] → b.weight ≡ 0 → b.verdict ≡ None → b.wave ≡ The_top ∷ [] →
+    Fits b.bench (ground_of r.program r.options.budget) r.options.budget → IsSound r base b Ready
+sound_opened r base b p g s n q w v a f =
+    record {
+      own = subst (λ (ss : List PlainSeat). AreOwn r.program r.options 0 ss) (sym s) tt;
+      waiting = rw (s, a) refl;
+      ready = rw (s, a) refl;
+      mirror = ap (λ (x : PlainBench). x.live) n ∙ ap (λ (ss : List PlainSeat). stated_from 0 ss) (sym s);
+      fits = f;
+      few = rw s (omega arith);
+      room = rw q (omega arith);
+      alone = subst (λ (ns : List (Entry Origin)). RunsAlone ns) (sym a) refl;
+      below = subst (λ (ns : List (Entry Origin)). AreBelow (length b.seats) ns) (sym a) (tt, tt);
+      program_is = p;
+      ground_is = g ∙ ap (λ (ns : List (Entry Origin)). ground_at r.program r.options.budget ns) (sym a);
+      at_phase = ap (λ (ns : List (Entry Origin)). phase_at None ns) (sym a) ∙ ap (λ (x : Option Verdict). phase_at x b.wave) (sym v);
+      light = rw w (omega arith);
+    }

@@ -17,10 +17,10 @@ ghost use Rattle.bp_floor.specs.Lending.{AreLent, filled_pair, standing};
 ghost use Rattle.bp_floor.specs.Floors.{StandsFor, StandsWith, AreBack, IsSealed, IsGivenUp, CanGo, GoesAs, stop_of, code_on, phase_of};
 ghost use Rattle.bp_floor.specs.Absorbing.{IsRefused};
 
-use crate::{Absorb, Board, Phase, Went};
+use crate::{Absorb, Board, Entry, EventList, LineList, Phase, Seats, Wave, Went};
 use bp_log::limits::MOST_WAITING;
 use bp_log::{Item, Lines, Memory, Options, Verdict};
-use bp_select::{Enabled, SelectFault};
+use bp_select::{Bench, Enabled, SelectFault};
 use bp_thread::Job;
 use js_data::{Event, Text};
 use js_frames::Ground;
@@ -64,10 +64,33 @@ impl Model for Floor {
 
 impl Floor {
     /// The floor of a program before anything has run: its top level is to be run.
-    pub fn open(_alloc: Global, _program: Program, _options: Options) -> Result<Floor, Memory>
-        ensures { IfOk result (λ f. f ≡ record { base = bare _program; options = _options; pair = opening; phase = phase.Ready; broken = false }) }
+    pub fn open(alloc: Global, program: Program, options: Options) -> Result<Floor, Memory>
+        ensures { IfOk result (λ f. f ≡ record { base = bare program; options = options; pair = opening; phase = phase.Ready; broken = false }) }
     {
-        Err(AllocError)
+        let ground = Ground::bare(alloc, program);
+        let seats = Seats::new(alloc);
+        let bench = Bench::new(alloc);
+        let queue = EventList::new(alloc);
+        let lines = LineList::new(alloc);
+        let mut wave = Wave::new(alloc);
+        wave.push(Entry::Top)?;
+        let board = Board {
+            seats,
+            bench,
+            queue,
+            transitions: 0,
+            weight: 0,
+            lines,
+            verdict: None,
+            wave,
+        };
+        Ok(Floor {
+            ground,
+            options,
+            board,
+            phase: Phase::Ready,
+            broken: false,
+        })
     }
 
     /// What can be done. Takes no memory.
