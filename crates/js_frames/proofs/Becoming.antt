@@ -3,7 +3,6 @@ use Rattle.std.proofs.Common.{◌≡◌, ℕ, List, Result, Ok, Err, sym, ap, �
 use Rattle.std.specs.Prelude.{IfOk}
 use Rattle.std.specs.declared.alloc.AllocError.{AllocError}
 use Rattle.js_data.specs.declared.fault.Fault.{Fault}
-use Rattle.js_value.specs.Value.{PlainValue}
 use Rattle.js_value.specs.Views.{plain_value}
 use Rattle.js_value.specs.declared.value.Value.{Value}
 use Rattle.js_meaning.specs.State.{State, Setting, Outcome, violated, left_of, gives, breaks, answered}

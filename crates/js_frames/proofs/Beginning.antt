@@ -1,5 +1,5 @@
 -- What nodes do that begin.
-use Rattle.std.proofs.Common.{◌≡◌, ℕ, map, List, [], ◌∷◌, ◌++◌, Option, Some, None, Result, Ok, Err, refl, sym, ap, ◌∙◌, subst}
+use Rattle.std.proofs.Common.{◌≡◌, ℕ, map, List, [], ◌∷◌, ◌++◌, Option, Some, None, Result, refl, sym, ap, ◌∙◌, subst}
 use Rattle.std.specs.Prelude.{IfOk, slice_get, option_to_list}
 use Rattle.std.specs.declared.alloc.AllocError.{AllocError}
 use Rattle.js_tree.specs.declared.tree.Operator.{Operator}
@@ -14,21 +14,20 @@ use Rattle.js_program.specs.Views.{plain_node, plain_node_form, plain_declared}
 use Rattle.js_program.specs.declared.node.Node.{Node}
 use Rattle.js_program.specs.declared.node.NodeForm.{NodeForm}
 use Rattle.js_program.specs.declared.node.NodeForm.TheVariants as f
-use Rattle.js_meaning.specs.State.{State, Setting, ◌>>=◌}
+use Rattle.js_meaning.specs.State.{State, Setting}
 use Rattle.js_meaning.specs.Variables.{undeclare}
 use Rattle.js_meaning.specs.Calls.{sequence}
 use Rattle.js_meaning.specs.Statements.{does_declaration}
 use Rattle.js_meaning.specs.Meaning.{does, eval, turns_of}
 use Rattle.js_frames.specs.declared.step.Step.{Step}
 use Rattle.js_frames.specs.declared.step.Step.TheVariants.{Begin}
-use Rattle.js_frames.specs.declared.frame.Turns.{Turns}
 use Rattle.js_frames.specs.declared.frame.Sequence.TheVariants.{Block}
-use Rattle.js_frames.specs.declared.frame.Part.TheVariants.{First, Second, Or, And}
+use Rattle.js_frames.specs.declared.frame.Part.TheVariants.{First, Second}
 use Rattle.js_frames.specs.declared.frame.Frame.{Frame}
 use Rattle.js_frames.specs.declared.frame.Frame.TheVariants.{Waiting}
 use Rattle.js_frames.specs.Places.{Place}
 use Rattle.js_frames.specs.Frames.{rest, resume, parts_from, declaring_from, sequence_from, block_of, block_in}
-use Rattle.js_frames.specs.Fits.{IsNode, AreNodes, IsPerhapsNode, HasForm, IsShort, IsDouble, IsLong, IsDeclaration, TurnsFit, FrameFits}
+use Rattle.js_frames.specs.Fits.{IsNode, AreNodes, IsPerhapsNode, HasForm, IsShort, IsDouble, IsLong, IsDeclaration, FrameFits}
 use Rattle.js_frames.specs.Leads.{pushed, operand_frame}
 use Rattle.js_frames.proofs.InOrder.{parts_wait}
 

@@ -1,6 +1,6 @@
 -- Calls of the machine.
-use Rattle.std.proofs.Common.{◌≡◌, ℕ, zero, suc, ◌+◌, ◌-◌, ◌<◌, ◌≤◌, Bool, true, false, cond, List, [], ◌∷◌, ◌++◌, length, drop, take, map, Option, Some, None, Result, Ok, Err, refl, sym, ap, ◌∙◌, subst, arith}
-use Rattle.std.specs.Prelude.{IfOk, OnOk, slice_get, slice_set, fold, nat_lt, pos, replicate, unwrap_or, option_map}
+use Rattle.std.proofs.Common.{◌≡◌, ℕ, suc, ◌+◌, ◌-◌, true, false, cond, List, [], ◌∷◌, ◌++◌, length, drop, map, Option, Some, None, Result, Ok, Err, refl, sym, ap, ◌∙◌, subst, arith}
+use Rattle.std.specs.Prelude.{IfOk, OnOk, slice_get, slice_set, fold, nat_lt, pos, replicate, unwrap_or}
 use Rattle.std.specs.declared.alloc.AllocError.{AllocError}
 use Rattle.js_data.specs.declared.fault.Fault.TheVariants as fault
 use Rattle.js_value.specs.Value as v
@@ -32,7 +32,7 @@ use Rattle.js_frames.specs.declared.frame.Part.TheVariants.{Statements, Returned
 use Rattle.js_frames.specs.declared.frame.Frame.{Frame}
 use Rattle.js_frames.specs.declared.frame.Frame.TheVariants.{Waiting, Called}
 use Rattle.js_frames.specs.Places.{Place, Beside, plain_effects, place_of, setting_at, state_at}
-use Rattle.js_frames.specs.Frames.{plain_completion, rest, resume, plug, step_outcome, future, statements_in, statements_of, sequence_from, walk_from}
+use Rattle.js_frames.specs.Frames.{plain_completion, rest, resume, plug, statements_in, statements_of, sequence_from, walk_from}
 use Rattle.js_frames.specs.Fits.{IsNode, AreNodes, SequenceFits, FrameFits, StackFits}
 use Rattle.js_program.specs.Views.{plain_content}
 use Rattle.js_program.specs.declared.node.Content.{Content}

@@ -1,5 +1,5 @@
 -- Lists that grow at their end.
-use Rattle.std.proofs.Common.{◌≡◌, ℕ, zero, suc, ◌+◌, ◌-◌, ◌≤◌, ◌<◌, List, [], ◌∷◌, ◌++◌, length, ◌∙◌, ap, sym, refl, replicate, map, take, drop, arith, append_assoc, Option, Some, None, inl, inr, ◌⊎◌}
+use Rattle.std.proofs.Common.{◌≡◌, ℕ, zero, suc, ◌+◌, ◌-◌, ◌≤◌, List, [], ◌∷◌, ◌++◌, length, ◌∙◌, ap, sym, refl, replicate, map, take, drop, arith, append_assoc, Option, Some, None, inl, inr, ◌⊎◌}
 use Rattle.std.proofs.lemmas.List.{replicate_more, map-append, length-map, length-append, length-take, length-replicate}
 use Rattle.js_value.specs.Value.{PlainValue, undefined}
 use Rattle.js_program.specs.PlainProgram.{PlainBody}

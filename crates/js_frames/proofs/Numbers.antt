@@ -1,17 +1,16 @@
 -- The numbers that a sound program names are numbers of nodes.
-use Rattle.std.proofs.Common.{◌≡◌, ℕ, List, [], ◌∷◌, ◌<◌, ◌+◌, length, Option, Some, None, refl, sym, ap, subst}
+use Rattle.std.proofs.Common.{◌≡◌, ℕ, [], length, Option, Some, None, refl, ap}
 use Rattle.std.specs.Prelude.{slice_get, unwrap_or}
 use Rattle.js_program.specs.PlainProgram as p
 use Rattle.js_program.specs.PlainProgram.{PlainProgram, PlainNode, PlainNodeForm, PlainContent, PlainBody, parts_of, content_parts}
 use Rattle.js_program.specs.Sound.{IsSound}
 use Rattle.js_program.proofs.Order.{part_there}
 use Rattle.js_program.proofs.Bodies.{BodyFits, top_body, function_body, content_below}
-use Rattle.js_meaning.specs.Calls.{body_of, no_body}
+use Rattle.js_meaning.specs.Calls.{no_body}
 use Rattle.js_frames.specs.declared.frame.Sequence.{Sequence}
 use Rattle.js_frames.specs.declared.frame.Sequence.TheVariants.{Block, Function, Top}
 use Rattle.js_frames.specs.Frames.{statements_of, statements_in, block_of, block_in}
-use Rattle.js_frames.specs.Leads.{first_of}
-use Rattle.js_frames.specs.Fits.{IsNode, AreNodes, SequenceFits}
+use Rattle.js_frames.specs.Fits.{AreNodes}
 
 -- the parts of a node
 pub parts_there : (program : PlainProgram) (n : ℕ) (x : PlainNode) → IsSound program → slice_get program.nodes n ≡ Some x → AreNodes program (parts_of x.form)

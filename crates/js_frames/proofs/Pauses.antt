@@ -1,7 +1,7 @@
 -- What the pauses of a machine say.
 use Rattle.std.proofs.lemmas.Bool.{false≢true}
 use Rattle.std.specs.Prelude.{nat_lt, IsSome}
-use Rattle.std.proofs.Common.{inl, inr, Bool, true, false, cond, ◌≡◌, ℕ, zero, suc, ◌+◌, ◌<◌, List, [], ◌∷◌, ◌++◌, length, map, Option, Some, None, refl, sym, ap, ◌∙◌, subst, arith, append_assoc, append-nil}
+use Rattle.std.proofs.Common.{inl, inr, Bool, true, false, cond, ◌≡◌, ℕ, zero, suc, ◌+◌, List, [], ◌∷◌, ◌++◌, length, Option, Some, None, refl, sym, ap, ◌∙◌, subst, arith, append_assoc, append-nil}
 use Rattle.js_data.specs.Event.{PlainEvent}
 use Rattle.js_data.specs.declared.fault.Fault.{Fault}
 use Rattle.js_data.specs.declared.fault.Fault.TheVariants as fault
@@ -13,11 +13,10 @@ use Rattle.js_value.specs.declared.value.Value.{Value}
 use Rattle.js_program.specs.PlainProgram.{PlainProgram}
 use Rattle.js_meaning.specs.State as js
 use Rattle.js_meaning.specs.State.{State, Setting, Left, left_of, Outcome, went, normal, broken, violated, spent, stopped, gives, spends, breaks}
-use Rattle.js_meaning.specs.Calls.{after_call, answer_of, body_of, runs, enters, calls}
-use Rattle.js_meaning.specs.Forms.{asks}
+use Rattle.js_meaning.specs.Calls.{after_call, answer_of, body_of, enters, calls}
 use Rattle.js_meaning.specs.declared.limits.TheConstants.{MOST_CALLS}
 use Rattle.js_meaning.specs.Meaning.{begins_with, eval}
-use Rattle.js_meaning.specs.Bodies.{Origin, the_top, function, mode_of, setting_of, own_constants, start_of, runs_body, evaluation}
+use Rattle.js_meaning.specs.Bodies.{Origin, the_top, function, mode_of, setting_of, own_constants, runs_body, evaluation}
 use Rattle.js_meaning.proofs.Bound.{eval_begins}
 use Rattle.js_frames.specs.declared.step.Completion.{Completion}
 use Rattle.js_frames.specs.declared.step.Completion.TheVariants.{Normal, Broke, Continued, Returned}
@@ -33,9 +32,9 @@ use Rattle.js_frames.specs.declared.machine.Machine.{Machine}
 use Rattle.js_frames.specs.declared.engine.Engine.{Engine}
 use Rattle.js_frames.specs.Places.{Place, Beside, plain_effects, place_of, setting_at, state_at, fresh}
 use Rattle.js_frames.specs.Frames.{plain_completion, resume, plug, step_outcome, future}
-use Rattle.js_frames.specs.Leads.{Leads, IsSettled, IsHeld, Advanced, Ran, node_does}
+use Rattle.js_frames.specs.Leads.{Leads, IsSettled, IsHeld, Advanced, node_does}
 use Rattle.js_frames.specs.Fits.{StackFits, StepFits}
-use Rattle.js_frames.specs.Runs.{PendingFits, IsOfProgram, IsLost, Coming, Stands, untaken, asked_at, line_at, answer_at, asked_by, line_asked, answer_by, constants_by, Waits, Asks, Answers, Spends, Says, Runs, pause_of, if_zero, pending_outcome, future_of}
+use Rattle.js_frames.specs.Runs.{PendingFits, IsOfProgram, Stands, untaken, asked_at, answer_at, asked_by, line_asked, answer_by, constants_by, Answers, Says, Runs, pause_of, if_zero, pending_outcome, future_of}
 
 -- what is over passes by all frames
 module _ (g : Setting) where

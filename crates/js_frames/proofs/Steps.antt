@@ -1,13 +1,13 @@
 -- Steps of the machine, over its frames.
-use Rattle.std.proofs.Common.{◌≡◌, ℕ, zero, suc, ◌+◌, ◌-◌, ◌<◌, Bool, true, false, cond, List, [], ◌∷◌, ◌++◌, length, drop, Option, Some, None, Result, Ok, Err, refl, sym, ap, ◌∙◌, subst, arith, inl, inr, ◌⊎◌}
+use Rattle.std.proofs.Common.{◌≡◌, ℕ, zero, suc, ◌+◌, ◌-◌, ◌<◌, Bool, true, false, cond, List, [], ◌∷◌, ◌++◌, Option, Some, Result, Ok, Err, refl, sym, ap, ◌∙◌, subst, arith, inl, inr, ◌⊎◌}
 use Rattle.std.specs.Prelude.{IfOk, slice_get}
 use Rattle.std.specs.declared.alloc.AllocError.{AllocError}
 use Rattle.js_data.specs.declared.fault.Fault.{Fault}
-use Rattle.js_value.specs.Value.{PlainValue, undefined}
+use Rattle.js_value.specs.Value.{PlainValue}
 use Rattle.js_value.specs.Views.{plain_value}
 use Rattle.js_value.specs.declared.value.Value.{Value}
 use Rattle.js_value.specs.declared.value.Value.TheVariants.{Undefined}
-use Rattle.js_program.specs.PlainProgram.{PlainNodeForm, PlainNode, PlainProgram, parts_of}
+use Rattle.js_program.specs.PlainProgram.{PlainNodeForm, PlainProgram, parts_of}
 use Rattle.js_program.specs.Views.{plain_node, plain_node_form}
 use Rattle.js_program.specs.declared.node.Node.{Node}
 use Rattle.js_program.specs.declared.node.NodeForm.{NodeForm}
@@ -22,12 +22,10 @@ use Rattle.js_frames.specs.declared.step.Completion.TheVariants.{Normal, Broke, 
 use Rattle.js_frames.specs.declared.step.Step.{Step}
 use Rattle.js_frames.specs.declared.step.Step.TheVariants.{Begin, Give, Ask, Fail, Violate}
 use Rattle.js_frames.specs.declared.frame.Part.{Part}
-use Rattle.js_frames.specs.declared.frame.Turn.{Turn}
 use Rattle.js_frames.specs.declared.frame.Frame.{Frame}
-use Rattle.js_frames.specs.declared.frame.Frame.TheVariants.{Waiting, Turning, Called}
 use Rattle.js_frames.specs.Places.{Place, Beside, setting_at, state_at}
-use Rattle.js_frames.specs.Frames.{plain_completion, rest, again, resume, plug, step_outcome, future}
-use Rattle.js_frames.specs.Fits.{IsNode, AreNodes, HasForm, PartFits, FrameFits, StackFits, StepFits}
+use Rattle.js_frames.specs.Frames.{plain_completion, rest, resume, plug, step_outcome, future}
+use Rattle.js_frames.specs.Fits.{IsNode, AreNodes, HasForm, FrameFits, StackFits, StepFits}
 use Rattle.js_frames.specs.Leads.{Rests, Leads, pushed, Keeps, IsSettled, Ran, Becomes, Picks, Gives, node_does}
 
 -- the last frame takes the outcome first

@@ -1,6 +1,6 @@
 -- Slots that are written.
-use Rattle.std.proofs.Common.{◌≡◌, ℕ, List, [], ◌∷◌, ◌++◌, map, Option, Some, None, Result, Ok, Err, refl, sym, ap, ◌∙◌, subst}
-use Rattle.std.specs.Prelude.{slice_set, option_map, IfOk}
+use Rattle.std.proofs.Common.{◌≡◌, ℕ, List, Option, Some, None, Result, Ok, Err, refl, sym, ap, ◌∙◌, subst}
+use Rattle.std.specs.Prelude.{slice_set, IfOk}
 use Rattle.std.specs.declared.alloc.AllocError.{AllocError}
 use Rattle.js_data.specs.declared.fault.Fault.{Fault}
 use Rattle.js_data.specs.declared.fault.Fault.TheVariants as fault
@@ -18,11 +18,11 @@ use Rattle.js_meaning.specs.Expressions.{writes}
 use Rattle.js_frames.specs.declared.step.Step.{Step}
 use Rattle.js_frames.specs.declared.step.Step.TheVariants.{Give, Fail}
 use Rattle.js_frames.specs.declared.step.Completion.TheVariants.{Normal}
-use Rattle.js_frames.specs.Places.{Place, Beside, setting_at, state_at}
-use Rattle.js_frames.specs.Frames.{plain_completion, writes_behind}
+use Rattle.js_frames.specs.Places.{Place, state_at}
+use Rattle.js_frames.specs.Frames.{writes_behind}
 use Rattle.js_frames.specs.Fits.{StackFits}
-use Rattle.js_frames.specs.Leads.{Leads, Becomes, FailsAs}
-use Rattle.js_frames.proofs.Steps.{completes_at, fails_at, moves, becomes, on_ok}
+use Rattle.js_frames.specs.Leads.{Leads, FailsAs}
+use Rattle.js_frames.proofs.Steps.{completes_at, fails_at, moves, on_ok}
 
 module _ (base : js.Ground) (old : Place) (k line : ℕ) (fits : StackFits base.program old.stack) where
   -- the value is in the slot

@@ -1,6 +1,5 @@
 -- What each frame does with what it waits for, and what a machine will come to.
 use Rattle.std.specs.Prelude.{ℕ, cond, List, [], ◌∷◌, ◌++◌, length, drop, Option, Some, None, Ok, slice_get}
-use Rattle.js_tree.specs.declared.tree.DeclareKind.{DeclareKind}
 use Rattle.js_value.specs.Value as v
 use Rattle.js_value.specs.Value.{PlainValue, is_truthy}
 use Rattle.js_value.specs.Lists.{values_in}

@@ -1,6 +1,3 @@
-use Rattle.std.proofs.Common.{refl, sym, ap, ◌∙◌}
-use Rattle.js_frames.specs.Frames.{block_of, statements_in}
-use Rattle.js_program.specs.PlainProgram.{PlainBody}
 use Rattle.js_frames.proofs.Numbers.{statements_there}
 use Rattle.js_frames.proofs.blocks.statements_of.Goals as goal
 

@@ -1,7 +1,6 @@
-use Rattle.std.proofs.Common.{refl, sym, ap, ◌∙◌, subst, ◌++◌, append_assoc}
+use Rattle.std.proofs.Common.{refl, sym, ap, ◌∙◌, ◌++◌, append_assoc}
 use Rattle.js_meaning.specs.State.{leaves}
 use Rattle.js_frames.specs.Places.{plain_ground, place_of, plain_effects, state_at}
-use Rattle.js_frames.specs.Leads.{Leads}
 use Rattle.js_frames.proofs.Steps.{moves, left}
 use Rattle.js_frames.proofs.engine.Engine.act.Goals as goal
 

@@ -1,4 +1,3 @@
-use Rattle.std.proofs.Common.{refl, sym, ap, ◌∙◌}
 use Rattle.js_data.specs.declared.fault.Fault.TheVariants as fault
 use Rattle.js_program.specs.Builtins.{has_effect_in}
 use Rattle.js_meaning.specs.State.{breaks}

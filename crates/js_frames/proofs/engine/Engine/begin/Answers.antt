@@ -1,9 +1,9 @@
 -- What each node does that has begun.
-use Rattle.std.proofs.Common.{◌≡◌, [], refl, sym, ap, ◌∙◌, subst, Some, None}
+use Rattle.std.proofs.Common.{[], refl, sym, ap, ◌∙◌, subst}
 use Rattle.js_frames.specs.declared.frame.Part.TheVariants.{Choice}
 use Rattle.js_frames.specs.declared.frame.Frame.TheVariants.{Waiting}
 use Rattle.js_frames.specs.Places.{plain_ground, place_of, here}
-use Rattle.js_frames.specs.Fits.{AreNodes, IsShort, IsLong, IsDeclaration, TurnsFit}
+use Rattle.js_frames.specs.Fits.{AreNodes, IsShort, IsDeclaration, TurnsFit}
 use Rattle.js_meaning.specs.Variables.{undeclare}
 use Rattle.js_program.specs.PlainProgram.{parts_of}
 use Rattle.js_program.specs.Views.{plain_node_form}

@@ -1,7 +1,6 @@
-use Rattle.std.proofs.Common.{[], refl, sym, ap, ◌∙◌, subst}
+use Rattle.std.proofs.Common.{[], sym, ap, ◌∙◌, subst}
 use Rattle.js_value.specs.Lists.{values_in}
 use Rattle.js_value.specs.Views.{value_list_view}
-use Rattle.js_program.specs.Views.{plain_body}
 use Rattle.js_meaning.specs.Calls.{enters}
 use Rattle.js_meaning.specs.Meaning.{eval}
 use Rattle.js_frames.specs.Places.{plain_ground, here}

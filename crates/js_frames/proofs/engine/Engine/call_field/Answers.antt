@@ -1,7 +1,5 @@
-use Rattle.std.proofs.Common.{◌≡◌, subst}
+use Rattle.std.proofs.Common.{subst}
 use Rattle.std.specs.Prelude.{IfOk}
-use Rattle.js_value.specs.Views.{plain_value}
-use Rattle.js_ops.specs.Answers.{AnswersAs}
 use Rattle.js_meaning.specs.Calls.{calls}
 use Rattle.js_meaning.specs.Meaning.{eval}
 use Rattle.js_frames.specs.Places.{plain_ground, place_of, here}

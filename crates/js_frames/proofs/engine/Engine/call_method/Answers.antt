@@ -1,4 +1,4 @@
-use Rattle.std.proofs.Common.{refl, sym, ap}
+use Rattle.std.proofs.Common.{sym, ap}
 use Rattle.js_value.specs.Views.{plain_value}
 use Rattle.js_meaning.specs.Calls.{calls_method}
 use Rattle.js_meaning.specs.Meaning.{eval}

@@ -1,4 +1,4 @@
-use Rattle.std.proofs.Common.{refl, sym, ap, ◌∙◌}
+use Rattle.std.proofs.Common.{sym, ap, ◌∙◌}
 use Rattle.js_program.specs.Views.{plain_node_form}
 use Rattle.js_meaning.specs.Expressions.{combines}
 use Rattle.js_meaning.specs.Meaning.{eval}

@@ -1,8 +1,7 @@
-use Rattle.std.proofs.Common.{ap, ◌∙◌, drop}
+use Rattle.std.proofs.Common.{ap, ◌∙◌}
 use Rattle.js_meaning.specs.Calls.{calls_method}
 use Rattle.js_meaning.specs.Meaning.{eval}
 use Rattle.js_frames.specs.Places.{plain_ground, here}
-use Rattle.js_value.specs.Views.{plain_value}
 use Rattle.js_meaning.specs.Forms.{argument}
 use Rattle.js_frames.proofs.Steps.{means_ok}
 use Rattle.js_frames.proofs.engine.Engine.combine_method.Goals as goal

@@ -1,4 +1,4 @@
-use Rattle.std.proofs.Common.{◌≡◌, Some, refl, sym, ap, ◌∙◌, ◌+◌, arith}
+use Rattle.std.proofs.Common.{Some, refl, sym, ap, ◌∙◌, ◌+◌, arith}
 use Rattle.js_value.specs.Views.{plain_value}
 use Rattle.js_meaning.specs.Statements.{after_turn}
 use Rattle.js_meaning.specs.Meaning.{eval}

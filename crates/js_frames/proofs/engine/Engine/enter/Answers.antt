@@ -1,11 +1,10 @@
-use Rattle.std.proofs.Common.{◌≡◌, refl, sym, ap, ◌∙◌, subst, ◌++◌, [], ◌∷◌}
+use Rattle.std.proofs.Common.{refl, sym, subst}
 use Rattle.std.proofs.lemmas.Bool.{false≢true}
-use Rattle.std.specs.Prelude.{IsSome, IfOk}
+use Rattle.std.specs.Prelude.{IsSome}
 use Rattle.js_program.specs.Views.{plain_body, plain_content}
 use Rattle.js_value.specs.Lists.{values_in}
-use Rattle.js_frames.specs.declared.step.Step.TheVariants.{Begin}
 use Rattle.js_frames.specs.Places.{plain_ground, place_of}
-use Rattle.js_frames.specs.Leads.{IsBegin, pushed}
+use Rattle.js_frames.specs.Leads.{IsBegin}
 use Rattle.js_frames.proofs.Steps.{on_ok}
 use Rattle.js_frames.proofs.Calling.{same_effects, enter_nothing, enter_leads, first_part, statements_fit, statements_wait, value_fits, value_waits}
 use Rattle.js_frames.proofs.engine.Engine.enter.Goals as goal

@@ -1,12 +1,9 @@
-use Rattle.std.proofs.Common.{refl, sym, ap, ◌∙◌, subst, [], ◌∷◌}
+use Rattle.std.proofs.Common.{refl, subst, [], ◌∷◌}
 use Rattle.js_value.specs.Views.{plain_value}
-use Rattle.js_meaning.specs.Expressions.{unary_for}
-use Rattle.js_meaning.specs.State.{answered}
 use Rattle.js_ops.specs.Answers.{AnswersAs}
 use Rattle.js_ops.specs.Operators.{unary_of}
 use Rattle.js_frames.specs.Places.{plain_ground, place_of, here}
 use Rattle.js_frames.specs.Fits.{IsDouble}
-use Rattle.js_frames.specs.Frames.{rest, resume}
 use Rattle.js_frames.proofs.Steps.{becomes_ok, wait_leads, part_is, has_form}
 use Rattle.js_frames.proofs.Beginning.{parts_with, second_waits}
 use Rattle.js_frames.specs.Fits.{IsShort}

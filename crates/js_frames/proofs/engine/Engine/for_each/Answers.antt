@@ -1,4 +1,4 @@
-use Rattle.std.proofs.Common.{◌≡◌, [], ◌∷◌, refl, sym, ap, ◌∙◌, subst}
+use Rattle.std.proofs.Common.{sym, subst}
 use Rattle.js_meaning.specs.Calls.{for_each_call}
 use Rattle.js_meaning.specs.Meaning.{eval}
 use Rattle.js_frames.specs.Places.{plain_ground, place_of, here}

@@ -1,4 +1,4 @@
-use Rattle.std.proofs.Common.{sym, ap, ◌∙◌, map}
+use Rattle.std.proofs.Common.{ap, ◌∙◌, map}
 use Rattle.std.specs.Prelude.{unwrap_or}
 use Rattle.js_value.specs.Value as v
 use Rattle.js_value.specs.Lists.{value_list_of}

@@ -1,8 +1,7 @@
 use Rattle.std.proofs.Common.{sym, ap, ◌∙◌}
-use Rattle.js_value.specs.Views.{plain_value}
 use Rattle.js_meaning.specs.State.{went}
 use Rattle.js_frames.specs.declared.frame.Frame.TheVariants.{Waiting}
-use Rattle.js_frames.specs.Places.{plain_ground, place_of, here}
+use Rattle.js_frames.specs.Places.{plain_ground, here}
 use Rattle.js_frames.specs.Frames.{plain_completion, rest, resume}
 use Rattle.js_frames.proofs.Steps.{means_ok, means, completes, passes, returned_to}
 use Rattle.js_frames.proofs.engine.Engine.give.Goals as goal

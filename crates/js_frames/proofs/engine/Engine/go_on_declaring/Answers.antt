@@ -1,12 +1,11 @@
-use Rattle.std.proofs.Common.{◌≡◌, ℕ, List, Option, map, refl, sym, ap, ◌∙◌, subst, Some, None, arith}
-use Rattle.std.specs.Prelude.{slice_get, IfOk}
+use Rattle.std.proofs.Common.{◌≡◌, ℕ, List, Option, map, refl, sym, ap, ◌∙◌, subst, arith}
+use Rattle.std.specs.Prelude.{slice_get}
 use Rattle.js_program.specs.PlainProgram.{PlainDeclared, parts_of}
 use Rattle.js_program.specs.declared.node.Declared.{Declared}
 use Rattle.js_program.specs.Views.{plain_node, plain_declared, plain_node_form}
 use Rattle.js_frames.specs.Places.{plain_ground, place_of, here}
-use Rattle.js_frames.specs.Frames.{rest, resume, declaring_from}
 use Rattle.js_frames.specs.Fits.{StackFits, IsDeclaration}
-use Rattle.js_frames.proofs.Steps.{left, on_ok}
+use Rattle.js_frames.proofs.Steps.{left}
 use Rattle.js_frames.proofs.Beginning.{form_here, declaration_only}
 use Rattle.js_frames.proofs.Declaring.{onward_first, onward_next, onward_leads, onward_waits, declaring_over, declared_part}
 use Rattle.js_frames.proofs.engine.Engine.go_on_declaring.Goals as goal

@@ -1,5 +1,5 @@
-use Rattle.std.proofs.Common.{ℕ, ◌-◌, length}
-use Rattle.js_frames.specs.Places.{plain_ground, place_of, here}
+use Rattle.std.proofs.Common.{◌-◌, length}
+use Rattle.js_frames.specs.Places.{plain_ground, place_of}
 use Rattle.js_frames.proofs.Declaring.{Onward}
 use Rattle.js_frames.proofs.engine.Engine.go_on_declaring.Given as goal
 

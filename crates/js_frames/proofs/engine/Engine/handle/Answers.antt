@@ -1,5 +1,4 @@
-use Rattle.std.proofs.Common.{refl, sym, ap, ◌∙◌, subst}
-use Rattle.js_value.specs.Value as v
+use Rattle.std.proofs.Common.{sym, ap, ◌∙◌, subst}
 use Rattle.js_value.specs.Views.{plain_value}
 use Rattle.js_meaning.specs.Forms.{argument, sets_handler}
 use Rattle.js_frames.specs.Places.{plain_ground, place_of}

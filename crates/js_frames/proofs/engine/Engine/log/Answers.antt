@@ -1,5 +1,4 @@
-use Rattle.std.proofs.Common.{refl, sym, ap, ◌∙◌, subst, Some, None}
-use Rattle.js_value.specs.Views.{plain_value}
+use Rattle.std.proofs.Common.{sym, ap, ◌∙◌, subst}
 use Rattle.js_meaning.specs.Forms.{argument, log_text, logs}
 use Rattle.js_frames.specs.Places.{plain_ground, place_of}
 use Rattle.js_frames.specs.Leads.{Leads}

@@ -1,8 +1,7 @@
 use Rattle.std.proofs.Common.{Some, sym, ap, ◌∙◌}
-use Rattle.js_program.specs.declared.node.Variable.TheVariants.{Constant}
 use Rattle.js_value.specs.Views.{plain_value}
 use Rattle.std.specs.Prelude.{option_map, slice_set}
-use Rattle.js_frames.specs.Places.{Place, place_of, put_at}
+use Rattle.js_frames.specs.Places.{place_of}
 use Rattle.js_frames.proofs.engine.Engine.put_constant.Goals as goal
 
 pub returns-in-Some : goal.returns-in-Some

@@ -1,4 +1,4 @@
-use Rattle.std.proofs.Common.{refl, sym, ap, ◌∙◌, subst, [], ◌∷◌}
+use Rattle.std.proofs.Common.{subst, [], ◌∷◌}
 use Rattle.js_value.specs.Views.{plain_value}
 use Rattle.js_meaning.specs.Expressions.{by_rule}
 use Rattle.js_ops.specs.Answers.{AnswersAs}

@@ -1,7 +1,4 @@
-use Rattle.std.proofs.Common.{sym, subst}
-use Rattle.js_frames.specs.declared.step.Step.TheVariants.{Give}
 use Rattle.js_frames.specs.Places.{plain_ground, place_of}
-use Rattle.js_frames.specs.Leads.{Keeps, IsSettled}
 use Rattle.js_frames.proofs.Steps.{keeps_same, settled_unless, keeps_given}
 use Rattle.js_frames.proofs.engine.Engine.settle.Goals as goal
 

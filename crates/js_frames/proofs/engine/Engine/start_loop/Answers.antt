@@ -1,4 +1,4 @@
-use Rattle.std.proofs.Common.{Some, refl, ap, ◌∙◌, subst}
+use Rattle.std.proofs.Common.{refl, ap, ◌∙◌, subst}
 use Rattle.js_meaning.specs.State.{◌>>=◌}
 use Rattle.js_meaning.specs.Meaning.{eval}
 use Rattle.js_frames.specs.declared.frame.Part.TheVariants.{Started}

@@ -1,9 +1,9 @@
-use Rattle.std.proofs.Common.{[], refl, sym, ap, ◌∙◌}
+use Rattle.std.proofs.Common.{[], sym, ap, ◌∙◌}
 use Rattle.js_value.specs.declared.op.Make.TheVariants as make
 use Rattle.js_ops.specs.Making.{make_of}
 use Rattle.js_meaning.specs.State.{answered}
 use Rattle.js_meaning.specs.Forms.{takes_effect}
-use Rattle.js_frames.specs.Places.{plain_ground, place_of, here}
+use Rattle.js_frames.specs.Places.{plain_ground, place_of}
 use Rattle.js_frames.proofs.Steps.{means_ok, becomes_ok, becomes}
 use Rattle.js_frames.proofs.engine.Engine.take_effect.Goals as goal
 

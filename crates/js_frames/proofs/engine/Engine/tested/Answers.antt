@@ -1,12 +1,11 @@
-use Rattle.std.proofs.Common.{sym, ap}
 use Rattle.js_value.specs.Value.{is_truthy}
 use Rattle.js_value.specs.Views.{plain_value}
-use Rattle.js_meaning.specs.State.{◌>>=◌, leaves}
-use Rattle.js_meaning.specs.Statements.{after_turn, perhaps}
+use Rattle.js_meaning.specs.State.{leaves}
+use Rattle.js_meaning.specs.Statements.{after_turn}
 use Rattle.js_meaning.specs.Meaning.{eval}
 use Rattle.js_frames.specs.declared.frame.Turn.TheVariants.{OfLoop}
 use Rattle.js_frames.specs.Places.{plain_ground, here}
-use Rattle.js_frames.specs.Frames.{rest, again, loop}
+use Rattle.js_frames.specs.Frames.{rest, again}
 use Rattle.js_frames.proofs.Steps.{means_ok, left, if_true, if_false}
 use Rattle.js_frames.proofs.engine.Engine.tested.Goals as goal
 

@@ -1,6 +1,5 @@
 use Rattle.std.proofs.Common.{refl}
 use Rattle.js_frames.specs.Places.{plain_ground}
-use Rattle.js_frames.specs.Fits.{TurnsFit}
 use Rattle.js_frames.specs.Frames.{resume}
 use Rattle.js_frames.proofs.Steps.{wait_leads}
 use Rattle.js_frames.proofs.engine.Engine.turn.Goals as goal

@@ -1,4 +1,4 @@
-use Rattle.std.proofs.Common.{Some, subst}
+use Rattle.std.proofs.Common.{subst}
 use Rattle.js_frames.specs.Places.{plain_ground, here}
 use Rattle.js_frames.specs.Fits.{IsPerhapsNode}
 use Rattle.js_frames.specs.Frames.{resume}

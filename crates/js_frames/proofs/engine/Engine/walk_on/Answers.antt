@@ -1,12 +1,12 @@
-use Rattle.std.proofs.Common.{◌≡◌, ◌+◌, arith, [], ◌∷◌, refl, sym, ap, ◌∙◌, subst}
+use Rattle.std.proofs.Common.{◌+◌, arith, refl, sym, ap, subst}
 use Rattle.std.proofs.lemmas.Bool.{lt-ltb}
 use Rattle.std.proofs.lemmas.Option.{slice_get_within}
-use Rattle.std.specs.Prelude.{IsSome, IfOk}
+use Rattle.std.specs.Prelude.{IfOk}
 use Rattle.js_value.specs.Lists.{values_in}
 use Rattle.js_program.specs.Views.{plain_body}
 use Rattle.js_meaning.specs.Calls.{enters}
 use Rattle.js_meaning.specs.Meaning.{eval}
-use Rattle.js_frames.specs.Places.{Place, plain_ground, place_of, setting_at, here}
+use Rattle.js_frames.specs.Places.{plain_ground, place_of, setting_at}
 use Rattle.js_frames.specs.Fits.{StackFits}
 use Rattle.js_frames.proofs.Numbers.{function_statements}
 use Rattle.js_frames.specs.Leads.{Leads}

@@ -1,4 +1,4 @@
-use Rattle.std.proofs.Common.{[], ap, ◌∙◌}
+use Rattle.std.proofs.Common.{ap, ◌∙◌}
 use Rattle.std.specs.Prelude.{unwrap_or}
 use Rattle.js_frames.specs.Runs.{constants_by}
 use Rattle.js_frames.proofs.machine.Machine.constants.Goals as goal

@@ -1,8 +1,6 @@
-use Rattle.std.proofs.Common.{◌≡◌, sym, ap, subst}
-use Rattle.js_frames.specs.declared.machine.Pending.TheVariants.{Next, Resumed}
+use Rattle.std.proofs.Common.{ap}
 use Rattle.js_frames.specs.Places.{Place}
-use Rattle.js_frames.specs.Fits.{StackFits}
-use Rattle.js_frames.specs.Runs.{IsOfProgram, PendingFits, untaken, asked_by}
+use Rattle.js_frames.specs.Runs.{untaken}
 use Rattle.js_frames.proofs.Pauses.{resumed, of_program_resumed}
 use Rattle.js_frames.proofs.machine.Machine.resume.Goals as goal
 

@@ -1,11 +1,9 @@
-use Rattle.std.proofs.Common.{◌≡◌, None, Some, Result, Ok, Err, refl, sym, ap, ◌∙◌, subst}
+use Rattle.std.proofs.Common.{◌≡◌, None, Some, Result, Ok, Err, sym, ◌∙◌, subst}
 use Rattle.std.specs.Prelude.{OnErr}
 use Rattle.js_program.specs.PlainProgram.{PlainProgram}
 use Rattle.js_frames.specs.declared.machine.Machine.{Machine}
-use Rattle.js_frames.specs.declared.machine.Pending.{Pending}
 use Rattle.js_frames.specs.declared.machine.Pending.TheVariants.{Next}
-use Rattle.js_frames.specs.Places.{plain_ground, place_of}
-use Rattle.js_frames.specs.Fits.{StackFits}
+use Rattle.js_frames.specs.Places.{plain_ground}
 use Rattle.js_frames.specs.Runs.{IsOfProgram, IsLost, Runs, PendingFits}
 use Rattle.js_frames.proofs.Pauses.{runs_on, asks_at}
 use Rattle.js_frames.proofs.machine.Machine.run.Goals as goal

@@ -1,11 +1,11 @@
-use Rattle.std.proofs.Common.{◌≡◌, [], Some, map, refl, sym, ap, subst, ◌∙◌}
+use Rattle.std.proofs.Common.{map, sym, ap, subst, ◌∙◌}
 use Rattle.js_value.specs.Views.{plain_value}
 use Rattle.js_meaning.specs.Calls.{calls}
 use Rattle.js_meaning.specs.Meaning.{eval}
 use Rattle.js_meaning.specs.Bodies.{function}
-use Rattle.js_frames.specs.Places.{Place, plain_ground, place_of, here}
+use Rattle.js_frames.specs.Places.{Place, plain_ground, here}
 use Rattle.js_frames.specs.Fits.{StackFits}
-use Rattle.js_frames.specs.Runs.{IsOfProgram, untaken}
+use Rattle.js_frames.specs.Runs.{untaken}
 use Rattle.js_frames.proofs.Steps.{means}
 use Rattle.js_frames.proofs.Pauses.{started, of_program_started}
 use Rattle.js_frames.proofs.machine.Machine.start.Goals as goal

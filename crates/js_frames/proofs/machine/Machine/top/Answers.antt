@@ -1,11 +1,11 @@
-use Rattle.std.proofs.Common.{◌≡◌, [], Some, map, refl, sym, ap, subst, ◌∙◌}
+use Rattle.std.proofs.Common.{Some, map, sym, ap, subst, ◌∙◌}
 use Rattle.js_program.specs.PlainProgram.{PlainProgram}
 use Rattle.js_meaning.specs.Variables.{constant_start}
 use Rattle.js_meaning.specs.Bodies.{the_top}
 use Rattle.js_program.specs.declared.builtin.Mode.TheVariants.{Top}
-use Rattle.js_frames.specs.Places.{Place, plain_ground, place_of, fresh}
+use Rattle.js_frames.specs.Places.{Place, plain_ground, fresh}
 use Rattle.js_frames.specs.Fits.{StackFits}
-use Rattle.js_frames.specs.Runs.{IsOfProgram, untaken}
+use Rattle.js_frames.specs.Runs.{untaken}
 use Rattle.js_frames.proofs.Pauses.{started, of_program_started}
 use Rattle.js_frames.proofs.machine.Machine.top.Goals as goal
 

@@ -1,4 +1,4 @@
-use Rattle.std.proofs.Common.{◌≡◌, ◌++◌, ◌∷◌, [], ◌-◌, ◌∙◌, ap, None, replicate, arith, inl, inr}
+use Rattle.std.proofs.Common.{◌++◌, ◌∷◌, [], ◌-◌, ◌∙◌, ap, None, replicate, arith, inr}
 use Rattle.js_frames.proofs.Filling.{fill_more, filled}
 use Rattle.js_frames.proofs.slots.Slots.fill.Goals as goal
 

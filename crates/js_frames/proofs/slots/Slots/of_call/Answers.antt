@@ -1,4 +1,4 @@
-use Rattle.std.proofs.Common.{◌≡◌, ◌++◌, ◌∙◌, ap, map, Some}
+use Rattle.std.proofs.Common.{◌++◌, ◌∙◌, ap, map, Some}
 use Rattle.std.specs.Prelude.{fold, slice_set}
 use Rattle.js_value.specs.Value.{undefined}
 use Rattle.js_value.specs.Lists.{values_in}

@@ -1,4 +1,4 @@
-use Rattle.std.proofs.Common.{◌≡◌, ◌++◌, ◌∷◌, [], ◌-◌, ◌∙◌, ap, length, take, replicate, arith, inl, inr}
+use Rattle.std.proofs.Common.{◌≡◌, ◌++◌, ◌∷◌, [], ◌-◌, ◌∙◌, ap, length, take, replicate, arith, inr}
 use Rattle.std.proofs.lemmas.List.{length-take}
 use Rattle.js_value.specs.Value.{undefined}
 use Rattle.js_frames.proofs.Filling.{fill_more, filled}
