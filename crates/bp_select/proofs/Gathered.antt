@@ -1,0 +1,105 @@
+-- Events that are gathered without repeats are the distinct ones.
+use Rattle.std.proofs.Common.{◌≡◌, ℕ, ◌+◌, ◌<◌, ◌≤◌, Bool, true, false, not, ◌&&◌, ◌||◌, List, [], ◌∷◌, ◌++◌, length, map, drop, get_or, refl, ap, sym, ◌∙◌, subst, append_assoc, append-nil, filter, flat_map, cond, if◌then◌else◌}
+use Rattle.std.specs.List.{list_any}
+use Rattle.std.proofs.lemmas.List.Folds.{list_any-append}
+use Rattle.js_data.specs.Event.{PlainEvent, same_event}
+use Rattle.js_data.proofs.SameEvent.{same_event-sound, same_event-self}
+use Rattle.bp_run.specs.Selecting.{distinct, candidates}
+use Rattle.bp_select.specs.declared.bench.Stated.{Stated}
+use Rattle.bp_select.specs.Lives.{live_of}
+use Rattle.bp_select.specs.Gathering.{with_new, with_all}
+use Rattle.bp_select.proofs.Questions.{drop_is, drop_end}
+
+abbrev among : PlainEvent → List PlainEvent → Bool
+among e xs = list_any (same_event e) xs
+
+abbrev other : PlainEvent → PlainEvent → Bool
+other e f = not (same_event e f)
+
+-- ---- filters
+
+-- what fails a test is no loss to what passes it
+drop_failing_at : (p : PlainEvent → Bool) (e x : PlainEvent) (xs : List PlainEvent) (b : Bool) → p e ≡ false → same_event e x ≡ b → filter p (filter (other e) xs) ≡ filter p xs →
+    filter p (cond (not b) (x ∷ filter (other e) xs) (filter (other e) xs)) ≡ cond (p x) (x ∷ filter p xs) (filter p xs)
+drop_failing_at p e x xs true h k ih =
+    let q : p x ≡ false = subst (λ (y : PlainEvent). p y ≡ false) (same_event-sound e x k) h in
+    rw q ih
+drop_failing_at p e x xs false h k ih = ap (λ (ys : List PlainEvent). cond (p x) (x ∷ ys) ys) ih
+
+filter-filter-other : (p : PlainEvent → Bool) (e : PlainEvent) (xs : List PlainEvent) → p e ≡ false → filter p (filter (other e) xs) ≡ filter p xs
+filter-filter-other p e [] h = refl
+filter-filter-other p e (x ∷ xs) h = drop_failing_at p e x xs (same_event e x) h refl (filter-filter-other p e xs h)
+
+both_at : (p q : PlainEvent → Bool) (e x : PlainEvent) (xs : List PlainEvent) (b : Bool) → other e x ≡ b → q x ≡ (b && p x) → filter q xs ≡ filter p (filter (other e) xs) →
+    cond (q x) (x ∷ filter q xs) (filter q xs) ≡ filter p (cond b (x ∷ filter (other e) xs) (filter (other e) xs))
+both_at p q e x xs true h k ih = rw (k, ih) refl
+both_at p q e x xs false h k ih = rw (k, ih) refl
+
+-- two tests one after the other
+filter-both : (p q : PlainEvent → Bool) (e : PlainEvent) (xs : List PlainEvent) → ((x : PlainEvent) → q x ≡ (other e x && p x)) → filter q xs ≡ filter p (filter (other e) xs)
+filter-both p q e [] h = refl
+filter-both p q e (x ∷ xs) h = both_at p q e x xs (other e x) refl (h x) (filter-both p q e xs h)
+
+-- ---- one more
+
+same_sym_at : (a b : PlainEvent) (x y : Bool) → same_event a b ≡ x → same_event b a ≡ y → x ≡ y
+same_sym_at a b true true h k = refl
+same_sym_at a b false false h k = refl
+same_sym_at a b true false h k = let f : same_event b a ≡ true = subst (λ (z : PlainEvent). same_event z a ≡ true) (same_event-sound a b h) (same_event-self a) in absurd (cc)
+same_sym_at a b false true h k = let f : same_event a b ≡ true = subst (λ (z : PlainEvent). same_event z b ≡ true) (same_event-sound b a k) (same_event-self b) in absurd (cc)
+
+same_sym : (a b : PlainEvent) → same_event a b ≡ same_event b a
+same_sym a b = same_sym_at a b (same_event a b) (same_event b a) refl refl
+
+not_or : (a b c : Bool) → not (a || (b || false)) ≡ (not b && not a)
+not_or true true c = refl
+not_or true false c = refl
+not_or false true c = refl
+not_or false false c = refl
+
+not_among : (acc : List PlainEvent) (e x : PlainEvent) → not (among x (acc ++ e ∷ [])) ≡ (other e x && not (among x acc))
+not_among acc e x =
+    ap (λ (b : Bool). not b) (list_any-append (same_event x) acc (e ∷ []))
+    ∙ not_or (among x acc) (same_event x e) true
+    ∙ ap (λ (b : Bool). not b && not (among x acc)) (same_sym x e)
+
+-- ---- all
+
+gathered_at : (acc : List PlainEvent) (e : PlainEvent) (ds : List PlainEvent) (b : Bool) → among e acc ≡ b →
+    (if b then acc else acc ++ e ∷ []) ++ filter (λ x. not (among x (if b then acc else acc ++ e ∷ []))) ds
+    ≡ acc ++ cond (not b) (e ∷ filter (λ x. not (among x acc)) (filter (other e) ds)) (filter (λ x. not (among x acc)) (filter (other e) ds))
+gathered_at acc e ds true h =
+    ap (λ (xs : List PlainEvent). acc ++ xs) (sym (filter-filter-other (λ x. not (among x acc)) e ds (ap (λ (b : Bool). not b) h)))
+gathered_at acc e ds false h =
+    append_assoc acc (e ∷ []) (filter (λ x. not (among x (acc ++ e ∷ []))) ds)
+    ∙ ap (λ (xs : List PlainEvent). acc ++ e ∷ xs) (filter-both (λ x. not (among x acc)) (λ x. not (among x (acc ++ e ∷ []))) e ds (λ x. not_among acc e x))
+
+gathered_from : (acc xs : List PlainEvent) → with_all acc xs ≡ acc ++ filter (λ x. not (among x acc)) (distinct xs)
+gathered_from acc [] = sym (append-nil acc)
+gathered_from acc (e ∷ es) = gathered_from (with_new acc e) es ∙ gathered_at acc e (distinct es) (among e acc) refl
+
+filter_all : (xs : List PlainEvent) → filter (λ x. true) xs ≡ xs
+filter_all [] = refl
+filter_all (x ∷ xs) = ap (λ (ys : List PlainEvent). x ∷ ys) (filter_all xs)
+
+pub gathered : (xs : List PlainEvent) → with_all [] xs ≡ distinct xs
+gathered xs = gathered_from [] xs ∙ filter_all (distinct xs)
+
+pub with_all-append : (acc xs ys : List PlainEvent) → with_all acc (xs ++ ys) ≡ with_all (with_all acc xs) ys
+with_all-append acc [] ys = refl
+with_all-append acc (x ∷ xs) ys = with_all-append (with_new acc x) xs ys
+
+abbrev pub requests_of : List Stated → List PlainEvent
+requests_of ts = flat_map (λ t. t.statement.request) (map live_of ts)
+
+pub gathers_step : (all : List Stated) (i : ℕ) (x : Stated) (old new whole : List PlainEvent) → i < length all → x ≡ get_or all i x → new ≡ with_all old (live_of x).statement.request →
+    with_all old (requests_of (drop i all)) ≡ whole → with_all new (requests_of (drop (i + 1) all)) ≡ whole
+gathers_step all i x old new whole h k m w =
+    ap (λ (xs : List PlainEvent). with_all xs (requests_of (drop (i + 1) all))) m
+    ∙ sym (with_all-append old (live_of x).statement.request (requests_of (drop (i + 1) all)))
+    ∙ sym (ap (λ (ts : List Stated). with_all old (requests_of ts)) (drop_is all i x h k)) ∙ w
+
+pub gathers_last : (all : List Stated) (i : ℕ) (found : List PlainEvent) → length all ≤ i → with_all found (requests_of (drop i all)) ≡ with_all [] (requests_of all) →
+    found ≡ candidates (map live_of all)
+gathers_last all i found h w =
+    sym (ap (λ (ts : List Stated). with_all found (requests_of ts)) (drop_end all i h)) ∙ w ∙ gathered (requests_of all)

@@ -1,0 +1,168 @@
+-- Statements put at their places.
+use Rattle.std.proofs.Common.{◌≡◌, ℕ, suc, ◌+◌, ◌<◌, ◌≤◌, arith, Bool, true, false, List, [], ◌∷◌, ◌++◌, length, map, take, drop, set, get_or, refl, ap, sym, ◌∙◌, subst, Option, Some, None, nat_lt, nat_eq, if◌then◌else◌, slice_get}
+use Rattle.std.specs.List.{cons_option, insert, remove}
+use Rattle.std.proofs.lemmas.Bool.{lt-ltb, le-ltb, ltb-false, ltb-true, eqb-true, eq-eqb}
+use Rattle.js_value.specs.Value.{PlainSet}
+use Rattle.bp_run.specs.Bodies.{Statement}
+use Rattle.bp_run.specs.Selecting.{Live}
+use Rattle.bp_select.specs.declared.bench.Stated.{Stated}
+use Rattle.bp_select.specs.Lives.{live_of}
+use Rattle.bp_select.specs.Benches.{live_at, placed}
+use Rattle.bp_select.specs.Places.{place_in, is_number}
+use Rattle.bp_select.proofs.Questions.{drop_is, drop_end}
+
+-- ---- where it stands
+
+place_of_one : (n : ℕ) (x : Stated) (rest : List Stated) (b : Bool) → nat_lt (live_of x).number n ≡ b → place_in n (map live_of (x ∷ rest)) ≡ (if b then suc (place_in n (map live_of rest)) else 0)
+place_of_one n x rest b h = rw h refl
+
+pub place_step : (n : ℕ) (all : List Stated) (i : ℕ) (x : Stated) → i < length all → x ≡ get_or all i x → (live_of x).number < n →
+    place_in n (map live_of all) ≡ i + place_in n (map live_of (drop i all)) → place_in n (map live_of all) ≡ (i + 1) + place_in n (map live_of (drop (i + 1) all))
+place_step n all i x h k m w =
+    let one = ap (λ (ts : List Stated). place_in n (map live_of ts)) (drop_is all i x h k) ∙ place_of_one n x (drop (i + 1) all) true (lt-ltb (live_of x).number n m) in
+    omega (arith, w, one)
+
+pub place_here : (n : ℕ) (all : List Stated) (i : ℕ) (x : Stated) → i < length all → x ≡ get_or all i x → n ≤ (live_of x).number →
+    place_in n (map live_of all) ≡ i + place_in n (map live_of (drop i all)) → i ≡ place_in n (map live_of all)
+place_here n all i x h k m w =
+    let one = ap (λ (ts : List Stated). place_in n (map live_of ts)) (drop_is all i x h k) ∙ place_of_one n x (drop (i + 1) all) false (le-ltb (live_of x).number n m) in
+    omega (arith, w, one)
+
+pub place_end : (n : ℕ) (all : List Stated) (i : ℕ) → length all ≤ i → i ≤ length all → place_in n (map live_of all) ≡ i + place_in n (map live_of (drop i all)) → length all ≡ place_in n (map live_of all)
+place_end n all i h k w =
+    let none = ap (λ (ts : List Stated). place_in n (map live_of ts)) (drop_end all i h) in
+    omega (arith, w, none, h, k)
+
+pub place_within : (n : ℕ) (all : List Stated) → place_in n (map live_of all) ≤ length all
+place_within n [] = omega arith
+place_within n (x ∷ xs) = at (nat_lt (live_of x).number n) refl (place_within n xs)
+  where
+    at : (b : Bool) → nat_lt (live_of x).number n ≡ b → place_in n (map live_of xs) ≤ length xs → place_in n (map live_of (x ∷ xs)) ≤ suc (length xs)
+    at true h k = let e = place_of_one n x xs true h in omega (arith, e, k)
+    at false h k = let e = place_of_one n x xs false h in omega (arith, e)
+
+-- ---- what is placed, by the first one
+
+placed_before : (n : ℕ) (o : Option (Statement PlainSet)) (t : Live PlainSet) (ts : List (Live PlainSet)) → n < t.number → placed n o (t ∷ ts) ≡ cons_option (live_at n o) (t ∷ ts)
+placed_before n o t ts h = rw (lt-ltb n t.number h) refl
+
+placed_at : (n : ℕ) (o : Option (Statement PlainSet)) (t : Live PlainSet) (ts : List (Live PlainSet)) → t.number ≡ n → placed n o (t ∷ ts) ≡ cons_option (live_at n o) ts
+placed_at n o t ts h = rw (le-ltb n t.number (omega (arith, h)), eq-eqb n t.number (sym h)) refl
+
+not_equal : (m i : ℕ) (b : Bool) → nat_eq m i ≡ b → (m ≡ i → ⊥) → b ≡ false
+not_equal m i true h k = absurd (k (eqb-true m i h))
+not_equal m i false h k = refl
+
+placed_after : (n : ℕ) (o : Option (Statement PlainSet)) (t : Live PlainSet) (ts : List (Live PlainSet)) → t.number < n → placed n o (t ∷ ts) ≡ t ∷ placed n o ts
+placed_after n o t ts h = rw (le-ltb n t.number (omega (arith, h)), not_equal n t.number (nat_eq n t.number) refl (λ e. omega (arith, e, h))) refl
+
+-- ---- in the place of one of its number
+
+abbrev Set_is : ℕ → Stated → Option (Statement PlainSet) → List Stated → ℕ → Type 0
+Set_is n x o xs k = map live_of (set xs k x) ≡ placed n o (map live_of xs)
+
+set_at : (n : ℕ) (x y : Stated) (o : Option (Statement PlainSet)) (xs : List Stated) (k : ℕ) (b : Bool) → nat_lt (live_of y).number n ≡ b → k ≡ (if b then suc (place_in n (map live_of xs)) else 0) →
+    Some (live_of x) ≡ live_at n o → is_number n (slice_get (map live_of (y ∷ xs)) k) ≡ true →
+    (is_number n (slice_get (map live_of xs) (place_in n (map live_of xs))) ≡ true → Set_is n x o xs (place_in n (map live_of xs))) → Set_is n x o (y ∷ xs) k
+set_at n x y o xs k true h e s f ih =
+    let j = place_in n (map live_of xs) in
+    let f' : is_number n (slice_get (map live_of xs) j) ≡ true = subst (λ (i : ℕ). is_number n (slice_get (map live_of (y ∷ xs)) i) ≡ true) e f in
+    subst (λ (i : ℕ). Set_is n x o (y ∷ xs) i) (sym e)
+    (ap (λ (ts : List (Live PlainSet)). live_of y ∷ ts) (ih f') ∙ sym (placed_after n o (live_of y) (map live_of xs) (ltb-true (live_of y).number n h)))
+set_at n x y o xs k false h e s f ih =
+    let f' : nat_eq (live_of y).number n ≡ true = subst (λ (i : ℕ). is_number n (slice_get (map live_of (y ∷ xs)) i) ≡ true) e f in
+    subst (λ (i : ℕ). Set_is n x o (y ∷ xs) i) (sym e)
+    (ap (λ (t : Option (Live PlainSet)). cons_option t (map live_of xs)) s ∙ sym (placed_at n o (live_of y) (map live_of xs) (eqb-true (live_of y).number n f')))
+
+set_in : (n : ℕ) (x : Stated) (o : Option (Statement PlainSet)) (xs : List Stated) → Some (live_of x) ≡ live_at n o → is_number n (slice_get (map live_of xs) (place_in n (map live_of xs))) ≡ true →
+    Set_is n x o xs (place_in n (map live_of xs))
+set_in n x o [] s f = absurd (cc)
+set_in n x o (y ∷ xs) s f =
+    set_at n x y o xs (place_in n (map live_of (y ∷ xs))) (nat_lt (live_of y).number n) refl (place_of_one n y xs (nat_lt (live_of y).number n) refl) s f (λ g. set_in n x o xs s g)
+
+pub put_set : (n : ℕ) (x : Stated) (o : Option (Statement PlainSet)) (xs : List Stated) (k : ℕ) (b : Bool) → Some (live_of x) ≡ live_at n o → k ≡ place_in n (map live_of xs) →
+    b ≡ is_number n (slice_get (map live_of xs) k) → b ≡ true → map live_of (set xs k x) ≡ placed n o (map live_of xs)
+put_set n x o xs k b s e f t =
+    subst (λ (i : ℕ). Set_is n x o xs i) (sym e) (set_in n x o xs s (subst (λ (i : ℕ). is_number n (slice_get (map live_of xs) i) ≡ true) e (sym f ∙ t)))
+
+-- ---- where none has its number
+
+abbrev Insert_is : ℕ → Stated → Option (Statement PlainSet) → List Stated → ℕ → Type 0
+Insert_is n x o xs k = map live_of (take k xs ++ x ∷ drop k xs) ≡ placed n o (map live_of xs)
+
+above : (a n : ℕ) → nat_lt a n ≡ false → nat_eq a n ≡ false → n < a
+above a n h k =
+    let m : n ≤ a = ltb-false a n h in
+    let f : (a ≡ n) → ⊥ = λ e. (let t : nat_eq a n ≡ true = eq-eqb a n e in cc) in
+    omega (arith, m, f)
+
+insert_at : (n : ℕ) (x y : Stated) (o : Option (Statement PlainSet)) (xs : List Stated) (k : ℕ) (b : Bool) → nat_lt (live_of y).number n ≡ b → k ≡ (if b then suc (place_in n (map live_of xs)) else 0) →
+    Some (live_of x) ≡ live_at n o → is_number n (slice_get (map live_of (y ∷ xs)) k) ≡ false →
+    (is_number n (slice_get (map live_of xs) (place_in n (map live_of xs))) ≡ false → Insert_is n x o xs (place_in n (map live_of xs))) → Insert_is n x o (y ∷ xs) k
+insert_at n x y o xs k true h e s f ih =
+    let j = place_in n (map live_of xs) in
+    let f' : is_number n (slice_get (map live_of xs) j) ≡ false = subst (λ (i : ℕ). is_number n (slice_get (map live_of (y ∷ xs)) i) ≡ false) e f in
+    subst (λ (i : ℕ). Insert_is n x o (y ∷ xs) i) (sym e)
+    (ap (λ (ts : List (Live PlainSet)). live_of y ∷ ts) (ih f') ∙ sym (placed_after n o (live_of y) (map live_of xs) (ltb-true (live_of y).number n h)))
+insert_at n x y o xs k false h e s f ih =
+    let f' : nat_eq (live_of y).number n ≡ false = subst (λ (i : ℕ). is_number n (slice_get (map live_of (y ∷ xs)) i) ≡ false) e f in
+    subst (λ (i : ℕ). Insert_is n x o (y ∷ xs) i) (sym e)
+    (ap (λ (t : Option (Live PlainSet)). cons_option t (live_of y ∷ map live_of xs)) s ∙ sym (placed_before n o (live_of y) (map live_of xs) (above (live_of y).number n h f')))
+
+insert_in : (n : ℕ) (x : Stated) (o : Option (Statement PlainSet)) (xs : List Stated) → Some (live_of x) ≡ live_at n o → is_number n (slice_get (map live_of xs) (place_in n (map live_of xs))) ≡ false →
+    Insert_is n x o xs (place_in n (map live_of xs))
+insert_in n x o [] s f = ap (λ (t : Option (Live PlainSet)). cons_option t []) s
+insert_in n x o (y ∷ xs) s f =
+    insert_at n x y o xs (place_in n (map live_of (y ∷ xs))) (nat_lt (live_of y).number n) refl (place_of_one n y xs (nat_lt (live_of y).number n) refl) s f (λ g. insert_in n x o xs s g)
+
+pub put_insert : (n : ℕ) (x : Stated) (o : Option (Statement PlainSet)) (xs : List Stated) (k : ℕ) (b : Bool) → Some (live_of x) ≡ live_at n o → k ≡ place_in n (map live_of xs) →
+    b ≡ is_number n (slice_get (map live_of xs) k) → b ≡ false → map live_of (insert xs k x) ≡ placed n o (map live_of xs)
+put_insert n x o xs k b s e f t =
+    subst (λ (i : ℕ). Insert_is n x o xs i) (sym e) (insert_in n x o xs s (subst (λ (i : ℕ). is_number n (slice_get (map live_of xs) i) ≡ false) e (sym f ∙ t)))
+
+-- ---- taken away
+
+abbrev Remove_is : ℕ → List Stated → ℕ → Type 0
+Remove_is n xs k = map live_of (take k xs ++ drop (suc k) xs) ≡ placed n None (map live_of xs)
+
+remove_at : (n : ℕ) (y : Stated) (xs : List Stated) (k : ℕ) (b : Bool) → nat_lt (live_of y).number n ≡ b → k ≡ (if b then suc (place_in n (map live_of xs)) else 0) →
+    is_number n (slice_get (map live_of (y ∷ xs)) k) ≡ true →
+    (is_number n (slice_get (map live_of xs) (place_in n (map live_of xs))) ≡ true → Remove_is n xs (place_in n (map live_of xs))) → Remove_is n (y ∷ xs) k
+remove_at n y xs k true h e f ih =
+    let j = place_in n (map live_of xs) in
+    let f' : is_number n (slice_get (map live_of xs) j) ≡ true = subst (λ (i : ℕ). is_number n (slice_get (map live_of (y ∷ xs)) i) ≡ true) e f in
+    subst (λ (i : ℕ). Remove_is n (y ∷ xs) i) (sym e)
+    (ap (λ (ts : List (Live PlainSet)). live_of y ∷ ts) (ih f') ∙ sym (placed_after n None (live_of y) (map live_of xs) (ltb-true (live_of y).number n h)))
+remove_at n y xs k false h e f ih =
+    let f' : nat_eq (live_of y).number n ≡ true = subst (λ (i : ℕ). is_number n (slice_get (map live_of (y ∷ xs)) i) ≡ true) e f in
+    subst (λ (i : ℕ). Remove_is n (y ∷ xs) i) (sym e) (sym (placed_at n None (live_of y) (map live_of xs) (eqb-true (live_of y).number n f')))
+
+remove_in : (n : ℕ) (xs : List Stated) → is_number n (slice_get (map live_of xs) (place_in n (map live_of xs))) ≡ true → Remove_is n xs (place_in n (map live_of xs))
+remove_in n [] f = absurd (cc)
+remove_in n (y ∷ xs) f =
+    remove_at n y xs (place_in n (map live_of (y ∷ xs))) (nat_lt (live_of y).number n) refl (place_of_one n y xs (nat_lt (live_of y).number n) refl) f (λ g. remove_in n xs g)
+
+pub take_removes : (n : ℕ) (xs : List Stated) (k : ℕ) (b : Bool) → k ≡ place_in n (map live_of xs) → b ≡ is_number n (slice_get (map live_of xs) k) → b ≡ true →
+    map live_of (remove xs k) ≡ placed n None (map live_of xs)
+take_removes n xs k b e f t =
+    subst (λ (i : ℕ). Remove_is n xs i) (sym e) (remove_in n xs (subst (λ (i : ℕ). is_number n (slice_get (map live_of xs) i) ≡ true) e (sym f ∙ t)))
+
+absent_at : (n : ℕ) (y : Stated) (xs : List Stated) (k : ℕ) (b : Bool) → nat_lt (live_of y).number n ≡ b → k ≡ (if b then suc (place_in n (map live_of xs)) else 0) →
+    is_number n (slice_get (map live_of (y ∷ xs)) k) ≡ false →
+    (is_number n (slice_get (map live_of xs) (place_in n (map live_of xs))) ≡ false → map live_of xs ≡ placed n None (map live_of xs)) → map live_of (y ∷ xs) ≡ placed n None (map live_of (y ∷ xs))
+absent_at n y xs k true h e f ih =
+    let j = place_in n (map live_of xs) in
+    let f' : is_number n (slice_get (map live_of xs) j) ≡ false = subst (λ (i : ℕ). is_number n (slice_get (map live_of (y ∷ xs)) i) ≡ false) e f in
+    ap (λ (ts : List (Live PlainSet)). live_of y ∷ ts) (ih f') ∙ sym (placed_after n None (live_of y) (map live_of xs) (ltb-true (live_of y).number n h))
+absent_at n y xs k false h e f ih =
+    let f' : nat_eq (live_of y).number n ≡ false = subst (λ (i : ℕ). is_number n (slice_get (map live_of (y ∷ xs)) i) ≡ false) e f in
+    sym (placed_before n None (live_of y) (map live_of xs) (above (live_of y).number n h f'))
+
+absent_in : (n : ℕ) (xs : List Stated) → is_number n (slice_get (map live_of xs) (place_in n (map live_of xs))) ≡ false → map live_of xs ≡ placed n None (map live_of xs)
+absent_in n [] f = refl
+absent_in n (y ∷ xs) f =
+    absent_at n y xs (place_in n (map live_of (y ∷ xs))) (nat_lt (live_of y).number n) refl (place_of_one n y xs (nat_lt (live_of y).number n) refl) f (λ g. absent_in n xs g)
+
+pub take_nothing : (n : ℕ) (xs : List Stated) (k : ℕ) (b : Bool) → k ≡ place_in n (map live_of xs) → b ≡ is_number n (slice_get (map live_of xs) k) → b ≡ false →
+    map live_of xs ≡ placed n None (map live_of xs)
+take_nothing n xs k b e f t = absent_in n xs (subst (λ (i : ℕ). is_number n (slice_get (map live_of xs) i) ≡ false) e (sym f ∙ t))

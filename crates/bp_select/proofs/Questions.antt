@@ -1,0 +1,203 @@
+-- Steps of the questions over b-threads and events.
+use Rattle.std.proofs.Common.{◌≡◌, ℕ, zero, suc, ◌+◌, ◌<◌, ◌≤◌, arith, Bool, true, false, ◌||◌, List, [], ◌∷◌, ◌++◌, length, map, drop, get_or, refl, ap, sym, ◌∙◌, add-one, append_assoc, append-nil, Option, Some, None, Result, Ok, Err, if◌then◌else◌}
+use Rattle.std.proofs.Math.Seq.{drop-cons}
+use Rattle.js_data.specs.Event.{PlainEvent}
+use Rattle.js_value.specs.Value.{PlainSet}
+use Rattle.bp_sets.specs.declared.fault.SetFault.TheVariants as set_fault
+use Rattle.bp_run.specs.Bodies as run
+use Rattle.bp_run.specs.Selecting.{Live, Has, Asked, by_number, both, blocked, unblocked, first_unblocked, blocker}
+use Rattle.bp_select.specs.declared.bench.Stated.{Stated}
+use Rattle.bp_select.specs.declared.answers.SelectFault.{SelectFault}
+use Rattle.bp_select.specs.declared.answers.SelectFault.TheVariants.{Set, Memory}
+use Rattle.bp_select.specs.Lives.{live_of}
+use Rattle.bp_select.specs.Answers.{FaultAs}
+
+-- ---- lists
+
+pub drop_is : {A : Type 0} (xs : List A) (i : ℕ) (x : A) → i < length xs → x ≡ get_or xs i x → drop i xs ≡ x ∷ drop (i + 1) xs
+drop_is xs i x h e = rw add-one (drop-cons xs i x h ∙ ap (λ y. y ∷ drop (suc i) xs) (sym e))
+
+pub drop_end : {A : Type 0} (xs : List A) (i : ℕ) → length xs ≤ i → drop i xs ≡ []
+drop_end [] zero h = refl
+drop_end [] (suc i) h = refl
+drop_end (x ∷ xs) zero h = absurd (omega arith)
+drop_end (x ∷ xs) (suc i) h = drop_end xs i (omega arith)
+
+-- ---- faults
+
+-- the fault of a part is that of the whole
+pub fault_on : {A B : Type 0} (x : Asked A) (y : Asked B) (f : SelectFault) → ((z : ℕ × run.SetFault) → x ≡ Err z → y ≡ Err z) → FaultAs x f → FaultAs y f
+fault_on x y (Set n (set_fault.Broken g l)) h k = h (n, run.SetFault.Broken g l) k
+fault_on x y (Set n set_fault.Spent) h k = h (n, run.SetFault.Spent) k
+fault_on x y (Set n (set_fault.NotTruth l)) h k = h (n, run.SetFault.NotTruth l) k
+fault_on x y (Set n set_fault.Memory) h k = k
+fault_on x y Memory h k = tt
+
+-- ---- whether an event is blocked
+
+-- what was said so far, and what is still said
+abbrev pub seen : Bool → Asked Bool → Asked Bool
+seen b x = let first : Asked Bool = Ok b in both (λ a c. a || c) first x
+
+or_twice : (a b c : Bool) → (a || (b || c)) ≡ ((a || b) || c)
+or_twice true b c = refl
+or_twice false b c = refl
+
+seen_twice : (b c : Bool) (x : Asked Bool) → seen b (seen c x) ≡ seen (b || c) x
+seen_twice b c (Err z) = refl
+seen_twice b c (Ok d) = ap (λ (r : Bool). Ok r) (or_twice b c d)
+
+seen_none : (x : Asked Bool) → x ≡ seen false x
+seen_none (Err z) = refl
+seen_none (Ok d) = refl
+
+or_none : (b : Bool) → (b || false) ≡ b
+or_none true = refl
+or_none false = refl
+
+blocked_of : (has : Has PlainSet) (x : Stated) (rest : List Stated) (e : PlainEvent) (c : Bool) →
+    by_number (live_of x).number (has (live_of x).statement.block e) ≡ Ok c → blocked has (map live_of (x ∷ rest)) e ≡ seen c (blocked has (map live_of rest) e)
+blocked_of has x rest e c h = rw h refl
+
+pub blocked_first : (has : Has PlainSet) (all : List Stated) (e : PlainEvent) → blocked has (map live_of all) e ≡ seen false (blocked has (map live_of (drop 0 all)) e)
+blocked_first has all e = seen_none (blocked has (map live_of all) e)
+
+pub blocked_step : (has : Has PlainSet) (all : List Stated) (i : ℕ) (x : Stated) (e : PlainEvent) (b c d : Bool) → i < length all → x ≡ get_or all i x → d ≡ (b || c) →
+    by_number (live_of x).number (has (live_of x).statement.block e) ≡ Ok c → blocked has (map live_of all) e ≡ seen b (blocked has (map live_of (drop i all)) e) →
+    blocked has (map live_of all) e ≡ seen d (blocked has (map live_of (drop (i + 1) all)) e)
+blocked_step has all i x e b c d h k m q w =
+    w ∙ ap (λ (xs : List Stated). seen b (blocked has (map live_of xs) e)) (drop_is all i x h k)
+    ∙ ap (λ (r : Asked Bool). seen b r) (blocked_of has x (drop (i + 1) all) e c q)
+    ∙ seen_twice b c (blocked has (map live_of (drop (i + 1) all)) e)
+    ∙ ap (λ (r : Bool). seen r (blocked has (map live_of (drop (i + 1) all)) e)) (sym m)
+
+pub blocked_last : (has : Has PlainSet) (all : List Stated) (i : ℕ) (e : PlainEvent) (b : Bool) → length all ≤ i →
+    blocked has (map live_of all) e ≡ seen b (blocked has (map live_of (drop i all)) e) → blocked has (map live_of all) e ≡ Ok b
+blocked_last has all i e b h w =
+    w ∙ ap (λ (xs : List Stated). seen b (blocked has (map live_of xs) e)) (drop_end all i h) ∙ ap (λ (r : Bool). Ok r) (or_none b)
+
+pub blocked_fault : (has : Has PlainSet) (all : List Stated) (i : ℕ) (x : Stated) (e : PlainEvent) (b : Bool) (f : SelectFault) → i < length all → x ≡ get_or all i x →
+    blocked has (map live_of all) e ≡ seen b (blocked has (map live_of (drop i all)) e) →
+    FaultAs (by_number (live_of x).number (has (live_of x).statement.block e)) f → FaultAs (blocked has (map live_of all) e) f
+blocked_fault has all i x e b f h k w q =
+    fault_on (by_number (live_of x).number (has (live_of x).statement.block e)) (blocked has (map live_of all) e) f
+    (λ z m. w ∙ ap (λ (xs : List Stated). seen b (blocked has (map live_of xs) e)) (drop_is all i x h k) ∙ (rw m refl)) q
+
+-- ---- which events nobody blocks
+
+abbrev pub behind : List PlainEvent → Asked (List PlainEvent) → Asked (List PlainEvent)
+behind kept (Ok r) = Ok (kept ++ r)
+behind kept (Err z) = Err z
+
+behind_none : (x : Asked (List PlainEvent)) → x ≡ behind [] x
+behind_none (Ok r) = refl
+behind_none (Err z) = refl
+
+pub unblocked_first : (has : Has PlainSet) (ts : List (Live PlainSet)) (all : List PlainEvent) → unblocked has ts all ≡ behind [] (unblocked has ts (drop 0 all))
+unblocked_first has ts all = behind_none (unblocked has ts all)
+
+behind_one : (kept : List PlainEvent) (e : PlainEvent) (b : Bool) (x : Asked (List PlainEvent)) →
+    behind kept (let first : Asked Bool = Ok b in both (λ c rest. if c then rest else e ∷ rest) first x) ≡ behind (if b then kept else kept ++ e ∷ []) x
+behind_one kept e true (Ok r) = refl
+behind_one kept e true (Err z) = refl
+behind_one kept e false (Ok r) = ap (λ (xs : List PlainEvent). Ok xs) (sym (append_assoc kept (e ∷ []) r))
+behind_one kept e false (Err z) = refl
+
+unblocked_of : (has : Has PlainSet) (ts : List (Live PlainSet)) (kept : List PlainEvent) (e : PlainEvent) (rest : List PlainEvent) (b : Bool) → blocked has ts e ≡ Ok b →
+    behind kept (unblocked has ts (e ∷ rest)) ≡ behind (if b then kept else kept ++ e ∷ []) (unblocked has ts rest)
+unblocked_of has ts kept e rest b h = rw h (behind_one kept e b (unblocked has ts rest))
+
+pub unblocked_step : (has : Has PlainSet) (ts : List (Live PlainSet)) (all : List PlainEvent) (i : ℕ) (e : PlainEvent) (kept new : List PlainEvent) (b : Bool) → i < length all → e ≡ get_or all i e →
+    blocked has ts e ≡ Ok b → new ≡ (if b then kept else kept ++ e ∷ []) → unblocked has ts all ≡ behind kept (unblocked has ts (drop i all)) →
+    unblocked has ts all ≡ behind new (unblocked has ts (drop (i + 1) all))
+unblocked_step has ts all i e kept new b h k m n w =
+    w ∙ ap (λ (xs : List PlainEvent). behind kept (unblocked has ts xs)) (drop_is all i e h k)
+    ∙ unblocked_of has ts kept e (drop (i + 1) all) b m
+    ∙ ap (λ (xs : List PlainEvent). behind xs (unblocked has ts (drop (i + 1) all))) (sym n)
+
+pub unblocked_last : (has : Has PlainSet) (ts : List (Live PlainSet)) (all : List PlainEvent) (i : ℕ) (kept : List PlainEvent) → length all ≤ i →
+    unblocked has ts all ≡ behind kept (unblocked has ts (drop i all)) → unblocked has ts all ≡ Ok kept
+unblocked_last has ts all i kept h w =
+    w ∙ ap (λ (xs : List PlainEvent). behind kept (unblocked has ts xs)) (drop_end all i h) ∙ ap (λ (xs : List PlainEvent). Ok xs) (append-nil kept)
+
+pub unblocked_fault : (has : Has PlainSet) (ts : List (Live PlainSet)) (all : List PlainEvent) (i : ℕ) (e : PlainEvent) (kept : List PlainEvent) (f : SelectFault) → i < length all → e ≡ get_or all i e →
+    unblocked has ts all ≡ behind kept (unblocked has ts (drop i all)) → FaultAs (blocked has ts e) f → FaultAs (unblocked has ts all) f
+unblocked_fault has ts all i e kept f h k w q =
+    fault_on (blocked has ts e) (unblocked has ts all) f
+    (λ z m. w ∙ ap (λ (xs : List PlainEvent). behind kept (unblocked has ts xs)) (drop_is all i e h k) ∙ (rw m refl)) q
+
+-- ---- the queue
+
+first_of : (has : Has PlainSet) (ts : List (Live PlainSet)) (i : ℕ) (e : PlainEvent) (rest : List PlainEvent) (b : Bool) → blocked has ts e ≡ Ok b →
+    first_unblocked has ts i (e ∷ rest) ≡ (if b then first_unblocked has ts (suc i) rest else Ok (Some i))
+first_of has ts i e rest true h = rw (h, first_unblocked) refl
+first_of has ts i e rest false h = rw (h, first_unblocked) refl
+
+pub first_step : (has : Has PlainSet) (ts : List (Live PlainSet)) (all : List PlainEvent) (i : ℕ) (e : PlainEvent) → i < length all → e ≡ get_or all i e → blocked has ts e ≡ Ok true →
+    first_unblocked has ts 0 all ≡ first_unblocked has ts i (drop i all) → first_unblocked has ts 0 all ≡ first_unblocked has ts (i + 1) (drop (i + 1) all)
+first_step has ts all i e h k m w =
+    w ∙ ap (λ (xs : List PlainEvent). first_unblocked has ts i xs) (drop_is all i e h k) ∙ first_of has ts i e (drop (i + 1) all) true m
+    ∙ ap (λ (n : ℕ). first_unblocked has ts n (drop (i + 1) all)) (sym (add-one i))
+
+pub first_found : (has : Has PlainSet) (ts : List (Live PlainSet)) (all : List PlainEvent) (i : ℕ) (e : PlainEvent) → i < length all → e ≡ get_or all i e → blocked has ts e ≡ Ok false →
+    first_unblocked has ts 0 all ≡ first_unblocked has ts i (drop i all) → first_unblocked has ts 0 all ≡ Ok (Some i)
+first_found has ts all i e h k m w =
+    w ∙ ap (λ (xs : List PlainEvent). first_unblocked has ts i xs) (drop_is all i e h k) ∙ first_of has ts i e (drop (i + 1) all) false m
+
+pub first_none : (has : Has PlainSet) (ts : List (Live PlainSet)) (all : List PlainEvent) (i : ℕ) → length all ≤ i →
+    first_unblocked has ts 0 all ≡ first_unblocked has ts i (drop i all) → first_unblocked has ts 0 all ≡ Ok None
+first_none has ts all i h w = w ∙ ap (λ (xs : List PlainEvent). first_unblocked has ts i xs) (drop_end all i h)
+
+pub first_fault : (has : Has PlainSet) (ts : List (Live PlainSet)) (all : List PlainEvent) (i : ℕ) (e : PlainEvent) (f : SelectFault) → i < length all → e ≡ get_or all i e →
+    first_unblocked has ts 0 all ≡ first_unblocked has ts i (drop i all) → FaultAs (blocked has ts e) f → FaultAs (first_unblocked has ts 0 all) f
+first_fault has ts all i e f h k w q =
+    fault_on (blocked has ts e) (first_unblocked has ts 0 all) f
+    (λ z m. w ∙ ap (λ (xs : List PlainEvent). first_unblocked has ts i xs) (drop_is all i e h k) ∙ (rw (m, first_unblocked) refl)) q
+
+-- ---- who blocks
+
+blocker_of : (has : Has PlainSet) (x : Stated) (rest : List Stated) (e : PlainEvent) (x' : Result Bool run.SetFault) → has (live_of x).statement.block e ≡ x' →
+    (let a : Asked (Option ℕ) = elim x' [ Err f ↦ Err ((live_of x).number, f) | Ok b ↦ elim b [ true ↦ Ok (Some (live_of x).number) | false ↦ blocker has (map live_of rest) e ] ] in
+    blocker has (map live_of (x ∷ rest)) e ≡ a)
+unfolding blocker
+blocker_of has x rest e x' h = rw h refl
+
+told_ok : (n : ℕ) (x : Result Bool run.SetFault) (b : Bool) → by_number n x ≡ Ok b → x ≡ Ok b
+told_ok n (Ok a) b h = let e : a ≡ b = cc in ap (λ (c : Bool). Ok c) e
+told_ok n (Err f) b h = absurd (cc)
+
+told_err : (n : ℕ) (x : Result Bool run.SetFault) (z : ℕ × run.SetFault) → by_number n x ≡ Err z → (f : run.SetFault) × (x ≡ Err f) × (z ≡ (n, f))
+told_err n (Ok a) z h = absurd (cc)
+told_err n (Err f) z h = (f, refl, err_same (n, f) z h)
+  where
+    err_same : (y z : ℕ × run.SetFault) → (let a : Asked Bool = Err y in a ≡ Err z) → z ≡ y
+    err_same y z h = cc
+
+pub blocker_step : (has : Has PlainSet) (all : List Stated) (i : ℕ) (x : Stated) (e : PlainEvent) → i < length all → x ≡ get_or all i x →
+    by_number (live_of x).number (has (live_of x).statement.block e) ≡ Ok false → blocker has (map live_of all) e ≡ blocker has (map live_of (drop i all)) e →
+    blocker has (map live_of all) e ≡ blocker has (map live_of (drop (i + 1) all)) e
+blocker_step has all i x e h k q w =
+    w ∙ ap (λ (xs : List Stated). blocker has (map live_of xs) e) (drop_is all i x h k)
+    ∙ blocker_of has x (drop (i + 1) all) e (Ok false) (told_ok (live_of x).number (has (live_of x).statement.block e) false q)
+
+pub blocker_found : (has : Has PlainSet) (all : List Stated) (i : ℕ) (x : Stated) (e : PlainEvent) → i < length all → x ≡ get_or all i x →
+    by_number (live_of x).number (has (live_of x).statement.block e) ≡ Ok true → blocker has (map live_of all) e ≡ blocker has (map live_of (drop i all)) e →
+    blocker has (map live_of all) e ≡ Ok (Some (live_of x).number)
+blocker_found has all i x e h k q w =
+    w ∙ ap (λ (xs : List Stated). blocker has (map live_of xs) e) (drop_is all i x h k)
+    ∙ blocker_of has x (drop (i + 1) all) e (Ok true) (told_ok (live_of x).number (has (live_of x).statement.block e) true q)
+
+pub blocker_none : (has : Has PlainSet) (all : List Stated) (i : ℕ) (e : PlainEvent) → length all ≤ i → blocker has (map live_of all) e ≡ blocker has (map live_of (drop i all)) e →
+    blocker has (map live_of all) e ≡ Ok None
+unfolding blocker
+blocker_none has all i e h w = w ∙ ap (λ (xs : List Stated). blocker has (map live_of xs) e) (drop_end all i h)
+
+pub blocker_fault : (has : Has PlainSet) (all : List Stated) (i : ℕ) (x : Stated) (e : PlainEvent) (f : SelectFault) → i < length all → x ≡ get_or all i x →
+    blocker has (map live_of all) e ≡ blocker has (map live_of (drop i all)) e →
+    FaultAs (by_number (live_of x).number (has (live_of x).statement.block e)) f → FaultAs (blocker has (map live_of all) e) f
+blocker_fault has all i x e f h k w q =
+    fault_on (by_number (live_of x).number (has (live_of x).statement.block e)) (blocker has (map live_of all) e) f
+    (λ z m.
+    let t = told_err (live_of x).number (has (live_of x).statement.block e) z m in
+    w ∙ ap (λ (xs : List Stated). blocker has (map live_of xs) e) (drop_is all i x h k)
+    ∙ blocker_of has x (drop (i + 1) all) e (Err t.0) t.1 ∙ ap (λ (y : ℕ × run.SetFault). Err y) (sym t.2)) q

@@ -1,0 +1,58 @@
+-- What is selected and chosen, from its parts.
+use Rattle.std.proofs.Common.{◌≡◌, ℕ, arith, List, [], ◌∷◌, length, refl, ap, sym, ◌∙◌, subst, None, Ok}
+use Rattle.js_data.specs.Event.{PlainEvent}
+use Rattle.js_value.specs.Value.{PlainSet}
+use Rattle.bp_log.specs.declared.options.Strategy.{Strategy}
+use Rattle.bp_log.specs.declared.options.Strategy.TheVariants.{Simple, Ordered, Priority}
+use Rattle.bp_run.specs.Selecting.{Live, Has, Asked, Enabled, without_fault, unblocked, first_unblocked, candidates, or_queued, selectable}
+use Rattle.bp_run.specs.Choosing.{remaining, drawn_of, chosen, choice}
+use Rattle.bp_select.specs.declared.answers.SelectFault.{SelectFault}
+use Rattle.bp_select.specs.Answers.{FaultAs}
+use Rattle.bp_select.proofs.Questions.{fault_on}
+
+-- ---- what can be selected
+
+pub select_fault : (has : Has PlainSet) (ts : List (Live PlainSet)) (queue es : List PlainEvent) (f : SelectFault) → es ≡ candidates ts → FaultAs (unblocked has ts es) f → FaultAs (selectable has ts queue) f
+unfolding selectable
+select_fault has ts queue es f h q =
+    fault_on (unblocked has ts es) (selectable has ts queue) f
+    (λ z k. ap (λ (x : Asked (List PlainEvent)). or_queued has ts queue x) (ap (λ (xs : List PlainEvent). unblocked has ts xs) (sym h) ∙ k)) q
+
+pub select_queued : (has : Has PlainSet) (ts : List (Live PlainSet)) (queue es inner : List PlainEvent) → es ≡ candidates ts → unblocked has ts es ≡ Ok inner → length inner ≡ 0 →
+    selectable has ts queue ≡ without_fault (λ place. record { inner = []; outer = place }) (first_unblocked has ts 0 queue)
+unfolding selectable
+select_queued has ts queue es [] h k n = ap (λ (x : Asked (List PlainEvent)). or_queued has ts queue x) (ap (λ (xs : List PlainEvent). unblocked has ts xs) (sym h) ∙ k)
+select_queued has ts queue es (e ∷ inner) h k n = absurd (omega arith)
+
+pub select_inner : (has : Has PlainSet) (ts : List (Live PlainSet)) (queue es inner : List PlainEvent) → es ≡ candidates ts → unblocked has ts es ≡ Ok inner → (length inner ≡ 0 → ⊥) →
+    selectable has ts queue ≡ Ok (record { inner = inner; outer = None })
+unfolding selectable
+select_inner has ts queue es [] h k n = absurd (n refl)
+select_inner has ts queue es (e ∷ inner) h k n = ap (λ (x : Asked (List PlainEvent)). or_queued has ts queue x) (ap (λ (xs : List PlainEvent). unblocked has ts xs) (sym h) ∙ k)
+
+-- ---- the choice
+
+remaining_none : (s : Strategy) (ts : List (Live PlainSet)) → remaining s ts [] ≡ []
+remaining_none Simple ts = refl
+remaining_none Ordered ts = refl
+remaining_none Priority ts = refl
+
+pub chosen_inner : (word : ℕ → ℕ) (s : Strategy) (ts : List (Live PlainSet)) (queue : List PlainEvent) (d : ℕ) (inner : List PlainEvent) →
+    chosen word s ts queue d inner None ≡ drawn_of word d (remaining s ts inner)
+chosen_inner word s ts queue d [] = rw (remaining_none s ts) refl
+chosen_inner word s ts queue d (e ∷ es) = refl
+
+-- the choice, from what can be selected
+pub choice_of : (has : Has PlainSet) (word : ℕ → ℕ) (s : Strategy) (ts : List (Live PlainSet)) (queue : List PlainEvent) (d : ℕ) (x : Enabled) → selectable has ts queue ≡ Ok x →
+    choice has word s ts queue d ≡ Ok (chosen word s ts queue d x.inner x.outer)
+unfolding choice
+choice_of has word s ts queue d x h = rw h refl
+
+choice_fault : (has : Has PlainSet) (word : ℕ → ℕ) (s : Strategy) (ts : List (Live PlainSet)) (queue : List PlainEvent) (d : ℕ) (f : SelectFault) → FaultAs (selectable has ts queue) f →
+    FaultAs (choice has word s ts queue d) f
+unfolding choice
+choice_fault has word s ts queue d f q = fault_on (selectable has ts queue) (choice has word s ts queue d) f (λ z k. rw k refl) q
+
+pub choice_fault_at : (has : Has PlainSet) (word : ℕ → ℕ) (s : Strategy) (ts us : List (Live PlainSet)) (queue : List PlainEvent) (d : ℕ) (f : SelectFault) → ts ≡ us → FaultAs (selectable has ts queue) f →
+    FaultAs (choice has word s us queue d) f
+choice_fault_at has word s ts us queue d f h q = choice_fault has word s us queue d f (subst (λ (xs : List (Live PlainSet)). FaultAs (selectable has xs queue) f) h q)

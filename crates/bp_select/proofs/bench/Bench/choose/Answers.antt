@@ -1,0 +1,35 @@
+use Rattle.std.proofs.Common.{◌≡◌, ◌∙◌, List, Option, Ok, map, ap, sym, subst}
+use Rattle.std.proofs.lemmas.Result.{err_from_is_err_and}
+use Rattle.js_value.specs.Value.{PlainSet}
+use Rattle.js_frames.specs.Places.{plain_ground}
+use Rattle.bp_words.specs.Words.{draw_word}
+use Rattle.bp_meaning.specs.Membership.{member}
+use Rattle.bp_run.specs.Selecting.{Live, selectable}
+use Rattle.bp_run.specs.Choosing.{Choice, chosen}
+use Rattle.bp_select.specs.declared.bench.Stated.{Stated}
+use Rattle.bp_select.specs.Lives.{live_of}
+use Rattle.bp_select.specs.Benches.{PlainBench}
+use Rattle.bp_select.specs.Free.{free_of}
+use Rattle.bp_select.proofs.Selects.{choice_of, choice_fault_at}
+use Rattle.bp_select.proofs.bench.Bench.choose.Goals as goal
+
+pub returns-in_err-free-clause-chosen : goal.returns-in_err-free-clause-chosen
+returns-in_err-free-clause-chosen c =
+    let p = err_from_is_err_and c.from_residual.result c.from_residual.ensures.1 in
+    let has = member (plain_ground c.args.ground.now) c.args.budget in
+    let here : map live_of c.as_slice.result.now ≡ c.args.self.now.live = ap (λ (ts : List Stated). map live_of ts) c.as_slice.ensures.value ∙ ap (λ (b : PlainBench). b.live) c.self.view_is in
+    rw (p.1, p.2)
+    (choice_fault_at has (draw_word c.args.draw.now.seed) c.args.strategy (map live_of c.as_slice.result.now) c.args.self.now.live c.args.queue.now c.args.draw.now.drawn _ here c.in_err-free.ensures)
+
+pub returns-clause-chosen : goal.returns-clause-chosen
+returns-clause-chosen c =
+    let has = member (plain_ground c.args.ground.now) c.args.budget in
+    let word = draw_word c.args.draw.now.seed in
+    let free = free_of c.in_ok-free.free in
+    let d = c.args.draw.now.drawn in
+    let here : map live_of c.as_slice.result.now ≡ c.args.self.now.live = ap (λ (ts : List Stated). map live_of ts) c.as_slice.ensures.value ∙ ap (λ (b : PlainBench). b.live) c.self.view_is in
+    let again : map live_of c.as_slice-2.result.now ≡ c.args.self.now.live = ap (λ (ts : List Stated). map live_of ts) c.as_slice-2.ensures.value ∙ ap (λ (b : PlainBench). b.live) c.self.view_is in
+    choice_of has word c.args.strategy c.args.self.now.live c.args.queue.now d free (subst (λ (ts : List (Live PlainSet)). selectable has ts c.args.queue.now ≡ Ok free) here c.in_ok-free.ensures)
+    ∙ ap (λ (o : Option Choice). Ok o)
+    (sym (c.in_ok-chosen.ensures.chosen c.args.queue.now
+    ∙ ap (λ (ts : List (Live PlainSet)). chosen word c.args.strategy ts c.args.queue.now d free.inner free.outer) again))

@@ -1,0 +1,6 @@
+use Rattle.std.proofs.Common.{◌≡◌, drop}
+use Rattle.bp_select.specs.Gathering.{with_all}
+use Rattle.bp_select.proofs.candidates.add_all.Given as goal
+
+abbrev pub invariant-loop-event : goal.invariant-loop-event
+invariant-loop-event l = with_all l.found (drop l.event-index l.events) ≡ with_all l.fn.found l.events

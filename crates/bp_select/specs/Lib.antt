@@ -1,0 +1,9 @@
+pub mod Draws
+pub mod Lives
+pub mod Benches
+pub mod Answers
+pub mod Gathering
+pub mod Priorities
+pub mod Touches
+pub mod Free
+pub mod Places

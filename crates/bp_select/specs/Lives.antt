@@ -1,0 +1,8 @@
+-- A live b-thread of a bench as the definitions see it.
+use Rattle.js_value.specs.Value.{PlainSet}
+use Rattle.bp_run.specs.Selecting.{Live}
+use Rattle.bp_thread.specs.Views.{plain_statement}
+use Rattle.bp_select.specs.declared.bench.Stated.{Stated}
+
+abbrev pub live_of : Stated → Live PlainSet
+live_of s = record { number = s.number; statement = plain_statement s.statement }

@@ -1,0 +1,212 @@
+//! The bench: what the live b-threads state, and the questions that are asked of it.
+ghost use Rattle.std.specs.Prelude.{◌≡◌, ◌<◌, ◌≤◌, ◌+◌, ◌^◌, ℕ, length, option_map, OnOk, OnErr};
+ghost use Rattle.std.specs.List.{list_any};
+ghost use Rattle.js_meaning.specs.State.{Ground as Base};
+ghost use Rattle.js_frames.specs.Places.{plain_ground};
+ghost use Rattle.bp_words.specs.Words.{draw_word};
+ghost use Rattle.bp_run.specs.Selecting.{selectable, blocker, requests, requested};
+ghost use Rattle.bp_run.specs.Choosing.{choice, reach};
+ghost use Rattle.bp_meaning.specs.Membership.{member};
+ghost use Rattle.bp_thread.specs.Views.{plain_statement};
+ghost use Rattle.bp_select.specs.Benches.{empty_bench, Fits, placed};
+ghost use Rattle.bp_select.specs.Lives.{live_of};
+ghost use Rattle.bp_select.specs.Answers.{AnswersAs, AnswersReach, chosen_of, enabled_of};
+
+use crate::asking::blocker;
+use crate::placing::{place_of, put, take_away};
+use crate::reaching::reach;
+use crate::selecting::{chosen, selectable};
+use crate::{Choice, Draw, Enabled, Reach, SelectFault};
+use bp_log::{Memory, Strategy};
+use bp_thread::Statement;
+use js_data::Event;
+use js_frames::Ground;
+use std::alloc::Global;
+use std::marker::Model;
+
+/// A live b-thread.
+#[derive(Debug, Drop)]
+pub(crate) struct Stated {
+    /// Its number.
+    pub number: u32,
+    /// What it states at its synchronisation point.
+    pub statement: Statement,
+}
+
+/// What the live b-threads state, by their numbers. Contracts see the list of statements, and the
+/// answers of sets that are kept.
+///
+/// A bench fits a ground and a budget where each answer that it keeps is that of its set under
+/// them. A new bench fits all of them.
+#[derive(Debug, Drop)]
+pub struct Bench {
+    live: Vec<Stated>,
+}
+
+impl Model for Bench {
+    ghost use Rattle.std.specs.Prelude.{⊤, [], map};
+    ghost use Rattle.std.specs.Coded.{codes};
+    ghost use Rattle.js_data.specs.Codes.{event_code};
+    ghost use Rattle.js_value.specs.Codes.{set_code};
+    ghost use Rattle.bp_select.specs.Benches.{PlainBench};
+    ghost use Rattle.bp_select.specs.Lives.{live_of};
+
+    ghost Value = { PlainBench };
+
+    ghost coded = { Prim.hlevel (codes, event_code, set_code) };
+
+    ghost view = { λ b. record { live = map live_of b.live.items; kept = [] } };
+}
+
+impl Bench {
+    /// Nobody is live. Takes no memory.
+    pub fn new(alloc: Global) -> Bench
+        ensures empty { result ≡ empty_bench }
+        ensures fits { (base : Base) (budget : ℕ) → Fits result base budget }
+    {
+        Bench {
+            live: Vec::new(alloc),
+        }
+    }
+
+    /// The b-thread of this number states this from now on; with nothing it is not live.
+    ///
+    /// # Errors
+    ///
+    /// Want of memory alone, and then all state what they stated.
+    pub fn place(&mut self, number: u32, statement: Option<Statement>) -> Result<(), Memory>
+        ensures placed { OnOk result (self.new.live ≡ placed number (option_map plain_statement statement) self.old.live) }
+        ensures failed { OnErr result (self.new.live ≡ self.old.live) }
+        ensures fits { (base : Base) (budget : ℕ) → Fits self.old base budget → Fits self.new base budget }
+    {
+        let at = place_of(self.live.as_slice(), number);
+        match statement {
+            Some(statement) => put(&mut self.live, at, Stated { number, statement }),
+            None => {
+                take_away(&mut self.live, at, number);
+                Ok(())
+            }
+        }
+    }
+
+    /// What can be selected: the requested events that nobody blocks, or else the first event of the
+    /// queue that nobody blocks.
+    ///
+    /// # Errors
+    ///
+    /// `Set` exactly where a set is at fault: the first one, of candidate after candidate and then of
+    /// the queue, and for each event of b-thread after b-thread; and `Memory`.
+    pub fn enabled(
+        &mut self,
+        alloc: Global,
+        ground: &Ground,
+        queue: &[Event],
+        budget: u64,
+    ) -> Result<Enabled, SelectFault>
+        requires fits { Fits self.old (plain_ground ground.now) budget }
+        requires few { length queue.now < 2 ^ 32 }
+        ensures enabled { AnswersAs enabled_of (selectable (member (plain_ground ground.now) budget) self.old.live queue.now) result }
+        ensures same { self.new.live ≡ self.old.live }
+        ensures fits { Fits self.new (plain_ground ground.now) budget }
+    {
+        let free = selectable(alloc, ground, budget, self.live.as_slice(), queue)?;
+        Ok(free.into_enabled(alloc))
+    }
+
+    /// Which event comes next, under this strategy. Of several candidates that remain, the next word
+    /// draws one; one candidate draws nothing, and an event of the queue draws nothing.
+    ///
+    /// # Errors
+    ///
+    /// As `enabled`; and then nothing was drawn.
+    pub fn choose(
+        &mut self,
+        alloc: Global,
+        ground: &Ground,
+        queue: &[Event],
+        strategy: Strategy,
+        budget: u64,
+        draw: &mut Draw,
+    ) -> Result<Choice, SelectFault>
+        requires fits { Fits self.old (plain_ground ground.now) budget }
+        requires few { length queue.now < 2 ^ 32 }
+        requires words { draw.old.drawn + 1 < 2 ^ 64 }
+        ensures chosen { AnswersAs (chosen_of queue.now draw.new.drawn)
+            (choice (member (plain_ground ground.now) budget) (draw_word draw.old.seed) strategy self.old.live queue.now draw.old.drawn) result }
+        ensures seed { draw.new.seed ≡ draw.old.seed }
+        ensures drawn { (draw.old.drawn ≤ draw.new.drawn) × (draw.new.drawn ≤ draw.old.drawn + 1) }
+        ensures failed { OnErr result (draw.new ≡ draw.old) }
+        ensures same { self.new.live ≡ self.old.live }
+        ensures fits { Fits self.new (plain_ground ground.now) budget }
+    {
+        let free = selectable(alloc, ground, budget, self.live.as_slice(), queue)?;
+        Ok(chosen(alloc, strategy, self.live.as_slice(), free, draw)?)
+    }
+
+    /// Whom the event reaches: those that it interrupts, and of the others those that request it or
+    /// wait for it.
+    ///
+    /// # Errors
+    ///
+    /// `Set` exactly where a set that is asked is at fault: the first one; and `Memory`.
+    pub fn reach(
+        &mut self,
+        alloc: Global,
+        ground: &Ground,
+        event: &Event,
+        budget: u64,
+    ) -> Result<Reach, SelectFault>
+        requires fits { Fits self.old (plain_ground ground.now) budget }
+        ensures reached { AnswersReach (reach (member (plain_ground ground.now) budget) event.now self.old.live) result }
+        ensures same { self.new.live ≡ self.old.live }
+        ensures fits { Fits self.new (plain_ground ground.now) budget }
+    {
+        reach(alloc, ground, budget, self.live.as_slice(), event)
+    }
+
+    /// The first live b-thread whose block set has the event.
+    ///
+    /// # Errors
+    ///
+    /// `Set` exactly where a set is at fault before one says yes; and `Memory`.
+    pub fn blocker(
+        &mut self,
+        alloc: Global,
+        ground: &Ground,
+        event: &Event,
+        budget: u64,
+    ) -> Result<Option<u32>, SelectFault>
+        requires fits { Fits self.old (plain_ground ground.now) budget }
+        ensures blocker { AnswersAs (λ o. o) (blocker (member (plain_ground ground.now) budget) self.old.live event.now) result }
+        ensures same { self.new.live ≡ self.old.live }
+        ensures fits { Fits self.new (plain_ground ground.now) budget }
+    {
+        blocker(alloc, ground, budget, self.live.as_slice(), event)
+    }
+
+    /// Whether a live b-thread requests the event. Takes no memory.
+    pub fn requested(&self, event: &Event) -> bool
+        ensures { result ≡ requested self.now.live event.now }
+    {
+        is_requested(self.live.as_slice(), event)
+    }
+}
+
+/// Whether one of them requests the event.
+fn is_requested(live: &[Stated], event: &Event) -> bool
+    ensures { result ≡ list_any (λ t. requests event.now (live_of t)) live.now }
+{
+    live.iter().any(|t| requests(event, t))
+}
+
+/// Whether the b-thread requests the event.
+pub(crate) fn requests(event: &Event, stated: &Stated) -> bool
+    ensures { result ≡ requests event.now (live_of stated.now) }
+{
+    stated
+        .statement
+        .request
+        .as_slice()
+        .iter()
+        .any(|e| event.same(e))
+}

@@ -1,0 +1,52 @@
+//! The words of the random choice, one after another.
+ghost use Rattle.std.specs.Prelude.{◌≡◌, ◌<◌, ◌+◌, ◌^◌};
+ghost use Rattle.bp_words.specs.Words.{draw_word};
+
+use bp_words::word_of;
+use std::marker::Model;
+
+/// The words that are drawn for a seed. Contracts see the seed, and how many words were drawn.
+#[derive(Debug, Drop)]
+pub struct Draw {
+    seed: u64,
+    drawn: u64,
+}
+
+impl Model for Draw {
+    ghost use Rattle.bp_select.specs.Draws.{PlainDraw};
+
+    ghost Value = { PlainDraw };
+
+    ghost view = { λ d. record { seed = d.seed; drawn = d.drawn } };
+}
+
+impl Draw {
+    /// The words of this seed; none is drawn yet. Takes no memory.
+    pub fn new(seed: u64) -> Draw
+        ensures { result ≡ record { seed = seed; drawn = 0 } }
+    {
+        Draw { seed, drawn: 0 }
+    }
+
+    /// How many words were drawn. Takes no memory.
+    pub fn drawn(&self) -> u64
+        ensures { result ≡ self.now.drawn }
+    {
+        self.drawn
+    }
+
+    /// The next word. Takes no memory.
+    pub(crate) fn word(&self) -> u32
+        ensures { result ≡ draw_word self.now.seed self.now.drawn }
+    {
+        word_of(self.seed, self.drawn)
+    }
+
+    /// One word more is drawn. Takes no memory.
+    pub(crate) fn advance(&mut self)
+        requires { self.old.drawn + 1 < 2 ^ 64 }
+        ensures { self.new ≡ record { seed = self.old.seed; drawn = self.old.drawn + 1 } }
+    {
+        self.drawn += 1;
+    }
+}

@@ -1,0 +1,5 @@
+pub mod Standing
+pub mod Beginning
+pub mod Giving
+pub mod Slicing
+pub mod Carrying

@@ -1,0 +1,40 @@
+-- What a job stands for, over plain variables.
+use Rattle.std.proofs.Common.{◌≡◌, ℕ, List, [], ◌∷◌, ◌++◌, Bool, true, false, Option, Some, None, IsSome, map, fold, option_map, refl, sym, ap, ◌∙◌}
+use Rattle.std.proofs.lemmas.List.{append_cancel_left}
+use Rattle.js_value.specs.Value.{PlainValue, PlainSet}
+use Rattle.js_meaning.specs.State as js
+use Rattle.js_meaning.specs.State.{Ground, Effect, effects_of, effects_since}
+use Rattle.js_meaning.specs.Bodies.{evaluation}
+use Rattle.js_frames.specs.declared.machine.Machine.{Machine}
+use Rattle.js_frames.specs.Places.{plain_effects}
+use Rattle.bp_run.specs.Bodies as run
+use Rattle.bp_meaning.specs.After.{outcome_of, handler, handler_after}
+use Rattle.bp_thread.specs.declared.job.Job.{Job}
+use Rattle.bp_thread.specs.Views.{plain_origin}
+use Rattle.bp_thread.specs.Jobs.{PlainJob, plain_job, IsOutcome, StandsAt, StandsFor, IsWhole}
+use Rattle.bp_thread.specs.Carried.{carried}
+
+pub same_machine : (m : Option Machine) (a b : Machine) → m ≡ Some a → m ≡ Some b → a ≡ b
+same_machine m a b e f = cc
+
+pub false_true : false ≡ true → ⊥
+false_true h = cc
+
+-- an outcome that is there is that of the evaluation, and all of its effects were made
+pub outcome_there : (e : js.Outcome) (made : List Effect) (o : Option (run.Outcome PlainSet)) → IsOutcome e made o → IsSome o → (o ≡ Some (outcome_of e)) × (effects_of e ≡ made)
+outcome_there e made None h s = absurd (false_true s)
+outcome_there e made (Some out) h s = (ap Some h.0, h.1)
+
+renewed : (p : PlainJob) (es : List Effect) (h : Option PlainValue) (o : Option (run.Outcome PlainSet)) → p.effects ≡ es → p.handler ≡ h → p.outcome ≡ o → p ≡ record p { effects = es; handler = h; outcome = o }
+renewed p es h o a b c =
+    ap (λ x. record p { effects = x }) a ∙ ap (λ x. record p { effects = es; handler = x }) b ∙ ap (λ x. record p { effects = es; handler = h; outcome = x }) c
+
+-- a whole job with its outcome is the job carried to its outcome
+pub whole_done : (base : Ground) (budget : ℕ) (j : Job) → IsWhole base budget j → IsSome (plain_job j).outcome → plain_job j ≡ carried base budget (plain_job j)
+whole_done base budget j w s =
+    let e = evaluation base budget (plain_origin j.origin) j.replies in
+    let there = outcome_there e _ _ (w.stands).outcome s in
+    renewed (plain_job j) _ _ _
+    (append_cancel_left w.before _ _ (sym there.1 ∙ w.since))
+    ((w.stands).handler ∙ ap (fold handler_after None) (sym there.1))
+    there.0

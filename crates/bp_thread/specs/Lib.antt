@@ -1,0 +1,5 @@
+pub mod Views
+pub mod Kept
+pub mod Pauses
+pub mod Jobs
+pub mod Carried

@@ -1,0 +1,17 @@
+//! What b-threads state, and b-threads, handlers and the top level as jobs that are carried on slice by slice.
+#![tactic(auto)]
+
+mod events;
+mod job;
+mod keeping;
+mod origin;
+mod outcome;
+mod pausing;
+mod reading;
+mod statement;
+
+pub use events::Events;
+pub use job::Job;
+pub use outcome::Outcome;
+pub use reading::{StatementFault, statement_of};
+pub use statement::Statement;

@@ -1,0 +1,152 @@
+//! A statement, read from the two values that `bp.sync` is given.
+ghost use Rattle.std.specs.Prelude.{◌≡◌, unwrap_or, option_map};
+ghost use Rattle.std.specs.List.{list_all};
+ghost use Rattle.js_value.specs.Lists.{fields_in};
+ghost use Rattle.js_value.specs.Value.{undefined};
+ghost use Rattle.js_value.specs.Views.{plain_value, value_list_of};
+ghost use Rattle.bp_meaning.specs.Statements.{statement_of as statement_that_is, statement_in as statement_in_fields, requested as requested_by, set_stated as set_that_is, priority_stated as priority_that_is, events_in, is_key as is_stated_key};
+ghost use Rattle.bp_thread.specs.Views.{plain_statement, Reads};
+
+use crate::events::Events;
+use crate::statement::Statement;
+use js_data::{Memory, Text, Whole};
+use js_value::{EventSet, Items, Pairs, SetTree, Value, set_of_value};
+use std::alloc::Global;
+use thiserror::Error;
+
+/// Why two values give no statement.
+#[derive(Debug, Clone, Copy, Error)]
+pub enum StatementFault {
+    /// The values are no statement and its priority.
+    #[error("the values are no statement")]
+    Shape,
+    /// Memory was wanting.
+    #[error("memory was wanting")]
+    Memory,
+}
+
+impl From<Memory> for StatementFault {
+    ghost use Rattle.std.specs.Prelude.{◌≡◌};
+    ghost use Rattle.bp_thread.specs.declared.reading.StatementFault.TheVariants as fault;
+
+    ghost from_gives = { λ _ f. f ≡ fault.Memory };
+
+    fn from(_error: Memory) -> StatementFault {
+        StatementFault::Memory
+    }
+}
+
+fn is_key(key: &Text) -> bool
+    ensures { result ≡ is_stated_key key.now }
+{
+    let key = key.as_str();
+    key == "request" || key == "waitFor" || key == "block" || key == "interrupt"
+}
+
+fn have_keys(fields: &Pairs) -> bool
+    ensures { result ≡ list_all (λ f. is_stated_key f.0) (fields_in fields.now) }
+{
+    for field in fields.as_slice() {
+        if !is_key(&field.0) {
+            return false;
+        }
+    }
+    true
+}
+
+// The events of a list of events.
+fn events_of(alloc: Global, items: &Items) -> Result<Events, StatementFault>
+    ensures { Reads (λ es. es) (events_in items.now) result }
+{
+    let mut events = Events::new(alloc);
+    for item in items.as_slice() {
+        match item {
+            Value::Event(event) => events.push(event.copy()?)?,
+            _ => return Err(StatementFault::Shape),
+        }
+    }
+    Ok(events)
+}
+
+// What is requested: an event or a list of events; undefined is the empty list.
+fn requested(alloc: Global, stated: Option<&Value>) -> Result<Events, StatementFault>
+    ensures { Reads (λ es. es)
+        (requested_by (unwrap_or (option_map (λ v. plain_value v.now) stated.entry) undefined)) result }
+{
+    match stated {
+        None | Some(Value::Undefined) => Ok(Events::new(alloc)),
+        Some(Value::Event(event)) => {
+            let mut events = Events::new(alloc);
+            events.push(event.copy()?)?;
+            Ok(events)
+        }
+        Some(Value::List(items)) => events_of(alloc, items),
+        Some(_) => Err(StatementFault::Shape),
+    }
+}
+
+// An event, a set, or a list of such, nested or not; undefined is the empty list.
+fn set_stated(alloc: Global, stated: Option<&Value>) -> Result<EventSet, StatementFault>
+    ensures { Reads (λ s. s)
+        (set_that_is (unwrap_or (option_map (λ v. plain_value v.now) stated.entry) undefined)) result }
+{
+    match stated {
+        None | Some(Value::Undefined) => {
+            Ok(EventSet::new(alloc, SetTree::Any(Vec::new(alloc)))?)
+        }
+        Some(value) => match set_of_value(alloc, value)? {
+            Some(set) => Ok(set),
+            None => Err(StatementFault::Shape),
+        },
+    }
+}
+
+// A whole number, and 0 for undefined.
+fn priority_stated(value: &Value) -> Result<Whole, StatementFault>
+    ensures { Reads (λ n. n) (priority_that_is (plain_value value.now)) result }
+{
+    match value {
+        Value::Undefined => Whole::new(0).ok_or(StatementFault::Shape),
+        Value::Whole(number) => Ok(*number),
+        _ => Err(StatementFault::Shape),
+    }
+}
+
+fn statement_in(
+    alloc: Global,
+    fields: &Pairs,
+    priority: &Value,
+) -> Result<Statement, StatementFault>
+    ensures { Reads plain_statement (statement_in_fields fields.now (plain_value priority.now)) result }
+{
+    Ok(Statement {
+        request: requested(alloc, fields.get("request"))?,
+        wait_for: set_stated(alloc, fields.get("waitFor"))?,
+        block: set_stated(alloc, fields.get("block"))?,
+        interrupt: set_stated(alloc, fields.get("interrupt"))?,
+        priority: priority_stated(priority)?,
+    })
+}
+
+/// The statement that the two values are. Sets are shared, and each requested event is copied once.
+///
+/// # Errors
+///
+/// `Shape` exactly where the values are no statement and its priority; and `Memory`.
+pub fn statement_of(
+    alloc: Global,
+    asked: &Value,
+    priority: &Value,
+) -> Result<Statement, StatementFault>
+    ensures { Reads plain_statement (statement_that_is (plain_value asked.now) (plain_value priority.now)) result }
+{
+    match asked {
+        Value::Fields(fields) => {
+            if !have_keys(fields) {
+                return Err(StatementFault::Shape);
+            }
+            statement_in(alloc, fields, priority)
+        }
+        _ => Err(StatementFault::Shape),
+    }
+}
