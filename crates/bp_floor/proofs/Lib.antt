@@ -1,0 +1,14 @@
+pub mod Lists
+pub mod Places
+pub mod Forgetting
+pub mod Widening
+pub mod Returns
+pub mod Turns
+pub mod Lent
+pub mod Onward
+pub mod Touches
+pub mod Going
+pub mod Rests
+pub mod Handlers
+pub mod Standing
+pub mod Sound
