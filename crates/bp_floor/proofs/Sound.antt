@@ -42,6 +42,7 @@ sound_queued r base b phase queue e s low h =
       ground_is = s.ground_is;
       at_phase = s.at_phase;
       light = s.light;
+      counted = s.counted;
     }
 
 -- where it found room
@@ -72,9 +73,9 @@ unfolding code_of
 has_is p o = refl
 
 -- before anything has run
-pub sound_opened : (r : Running) (base : Ground) (b : Board) → base.program ≡ r.program → base ≡ bare r.program → b.seats ≡ [] → b.bench ≡ empty_bench → b.queue ≡ [] → b.weight ≡ 0 → b.verdict ≡ None → b.wave ≡ The_top ∷ [] →
+pub sound_opened : (r : Running) (base : Ground) (b : Board) → base.program ≡ r.program → base ≡ bare r.program → b.seats ≡ [] → b.bench ≡ empty_bench → b.queue ≡ [] → b.transitions ≡ 0 → b.weight ≡ 0 → b.verdict ≡ None → b.wave ≡ The_top ∷ [] →
     Fits b.bench (ground_of r.program r.options.budget) r.options.budget → IsSound r base b Ready
-sound_opened r base b p g s n q w v a f =
+sound_opened r base b p g s n q t w v a f =
     record {
       own = subst (λ (ss : List PlainSeat). AreOwn r.program r.options 0 ss) (sym s) tt;
       waiting = rw (s, a) refl;
@@ -89,4 +90,5 @@ sound_opened r base b p g s n q w v a f =
       ground_is = g ∙ ap (λ (ns : List (Entry Origin)). ground_at r.program r.options.budget ns) (sym a);
       at_phase = ap (λ (ns : List (Entry Origin)). phase_at None ns) (sym a) ∙ ap (λ (x : Option Verdict). phase_at x b.wave) (sym v);
       light = rw w (omega arith);
+      counted = rw (t, w) (omega arith);
     }

@@ -9,10 +9,7 @@ use Rattle.bp_floor.specs.Floors.{PlainFloor, StandsFor}
 pub taken_all : (p : Pair Origin) (lines rest : List Line) → lines ≡ p.stand.lines → rest ≡ [] → p ≡ before lines (record p { stand = record p.stand { lines = rest } })
 taken_all p lines rest h k = rw (h, k) (sym (ap (λ (xs : List Line). let q : Pair Origin = record p { stand = record p.stand { lines = xs } } in q) (append-nil p.stand.lines)))
 
-pub stands_taken : (f g : PlainFloor) (lines : List Line) → f.pair ≡ before lines g.pair → (p : Pair Origin) → StandsFor f p → StandsFor g p
-stands_taken f g lines h p s =
-    record {
-      taken = s.taken ++ lines;
-      stands = s.stands ∙ ap (λ (q : Pair Origin). before s.taken q) h
-          ∙ sym (ap (λ (xs : List Line). let q : Pair Origin = record g.pair { stand = record g.pair.stand { lines = xs } } in q) (append_assoc s.taken lines g.pair.stand.lines));
-    }
+pub stands_taken : (f g : PlainFloor) (lines : List Line) → f.pair ≡ before lines g.pair → (taken : List Line) (p : Pair Origin) → StandsFor f taken p → StandsFor g (taken ++ lines) p
+stands_taken f g lines h taken p s =
+    s ∙ ap (λ (q : Pair Origin). before taken q) h
+    ∙ sym (ap (λ (xs : List Line). let q : Pair Origin = record g.pair { stand = record g.pair.stand { lines = xs } } in q) (append_assoc taken lines g.pair.stand.lines))

@@ -43,15 +43,13 @@ pub record PlainFloor : Type 0 where
 abbrev pub code_on : PlainFloor → Code Origin PlainSet
 code_on f = code_of f.base.program f.options
 
--- A floor stands for a pair, whatever lines were taken before: with the bodies of those that have ended forgotten, it is the floor's own.
-pub record StandsFor (f : PlainFloor) (p : Pair Origin) : Type 0 where
-  pub taken : List Line
-  pub stands : forgotten the_top p ≡ before taken f.pair
+-- A floor from which these lines were taken stands for a pair: with the bodies of those that have ended forgotten, the pair is the floor's own behind the lines.
+abbrev pub StandsFor : PlainFloor → List Line → Pair Origin → Type 0
+StandsFor f taken p = forgotten the_top p ≡ before taken f.pair
 
 -- At `Lent` it does so together with the lent jobs, which hold the bodies and the replies of their b-threads.
-pub record StandsWith (f : PlainFloor) (jobs : List Job) (p : Pair Origin) : Type 0 where
-  pub taken : List Line
-  pub stands : forgotten the_top p ≡ before taken (filled_pair jobs f.pair)
+abbrev pub StandsWith : PlainFloor → List Job → List Line → Pair Origin → Type 0
+StandsWith f jobs taken p = forgotten the_top p ≡ before taken (filled_pair jobs f.pair)
 
 -- The jobs are the lent ones, each carried to its outcome with its effects whole.
 abbrev pub AreBack : PlainFloor → List Job → Type 0
@@ -94,6 +92,24 @@ pub record IsSound (r : Running) (base : Ground) (b : Board) (phase : Phase) : T
   pub ground_is : base ≡ ground_at r.program r.options.budget b.wave
   pub at_phase : not_lent phase ≡ phase_of (pair_of b)
   pub light : b.weight ≤ MOST_WEIGHT
+  pub counted : b.transitions ≤ b.weight
+
+-- nobody is to be run
+abbrev pub is_idle : Phase → Bool
+is_idle Ready = false
+is_idle Lent = false
+is_idle Rest = true
+is_idle Over = true
+
+-- what its pair keeps while memory was never wanting
+pub record IsPhased (f : PlainFloor) : Type 0 where
+  pub at_phase : not_lent f.phase ≡ phase_of f.pair
+  pub grounded : f.base ≡ ground_at f.base.program f.options.budget f.pair.entries
+  pub alone : RunsAlone f.pair.entries
+  pub few : length f.pair.stand.threads ≤ MOST_THREADS
+  pub room : length f.pair.stand.queue ≤ MOST_WAITING
+  pub light : f.pair.stand.weight ≤ MOST_WEIGHT
+  pub counted : f.pair.stand.transitions ≤ f.pair.stand.weight
 
 -- after a turn of the pair that it has with its jobs
 pub record IsSealed (f : PlainFloor) (jobs : List Job) (g : PlainFloor) : Type 0 where

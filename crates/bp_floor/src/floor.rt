@@ -1,20 +1,24 @@
 //! A floor: where the b-threads of a run stand.
-ghost use Rattle.std.specs.Prelude.{◌≡◌, ◌<◌, ◌++◌, ◌∷◌, [], ℕ, length, option_map, slice_get, None, OnOk, OnErr, IfOk, IfErr, false};
+ghost use Rattle.std.specs.Prelude.{◌≡◌, ◌<◌, ◌≤◌, ◌+◌, ◌^◌, ◌++◌, ◌∷◌, [], ℕ, List, length, option_map, slice_get, None, OnOk, OnErr, IfOk, IfErr, Err, true, false};
 ghost use Rattle.js_value.specs.Value.{PlainSet};
 ghost use Rattle.js_meaning.specs.Bodies.{Origin, bare};
 ghost use Rattle.js_frames.specs.Places.{plain_ground};
 ghost use Rattle.bp_log.specs.declared.limits.TheConstants.{MOST_WAITING};
 ghost use Rattle.bp_log.specs.declared.item.Item.TheVariants as item;
-ghost use Rattle.bp_run.specs.Configuration.{name_in};
+ghost use Rattle.bp_log.specs.declared.trace.Line.{Line};
+ghost use Rattle.bp_words.specs.Words.{draw_word};
+ghost use Rattle.bp_run.specs.Configuration.{name_in, not_ended};
 ghost use Rattle.bp_run.specs.Settling.{Pair, turn, before, opening, queued};
 ghost use Rattle.bp_run.specs.Selecting.{live, selectable, blocker, requested};
-ghost use Rattle.bp_run.specs.Story.{stepped};
-ghost use Rattle.bp_select.specs.Answers.{AnswersAs, enabled_of};
+ghost use Rattle.bp_run.specs.Choosing.{choice};
+ghost use Rattle.bp_run.specs.Story.{over, stepped};
+ghost use Rattle.bp_select.specs.declared.answers.SelectFault.TheVariants as fault;
+ghost use Rattle.bp_select.specs.Answers.{AnswersAs, chosen_of, enabled_of};
 ghost use Rattle.bp_floor.specs.declared.phase.Phase.TheVariants as phase;
 ghost use Rattle.bp_floor.specs.declared.absorb.Absorb.TheVariants as absorb;
 ghost use Rattle.bp_floor.specs.Boards.{pair_of};
 ghost use Rattle.bp_floor.specs.Lending.{AreLent, filled_pair, standing};
-ghost use Rattle.bp_floor.specs.Floors.{StandsFor, StandsWith, AreBack, IsSealed, IsGivenUp, CanGo, GoesAs, stop_of, code_on, phase_of};
+ghost use Rattle.bp_floor.specs.Floors.{StandsFor, StandsWith, AreBack, IsSealed, IsGivenUp, IsPhased, is_idle, CanGo, GoesAs, stop_of, code_on, phase_of};
 ghost use Rattle.bp_floor.specs.Absorbing.{IsRefused};
 
 use crate::{Absorb, Board, Entry, EventList, LineList, Phase, Seats, Wave, Went};
@@ -93,6 +97,11 @@ impl Floor {
         })
     }
 
+    /// What a floor keeps while memory was never wanting, as facts for its callers. Does nothing.
+    pub fn keeps(&self)
+        ensures { self.now.broken ≡ false → IsPhased self.now }
+    {}
+
     /// What can be done. Takes no memory.
     pub fn phase(&self) -> Phase
         ensures { result ≡ self.now.phase }
@@ -105,6 +114,13 @@ impl Floor {
         ensures { plain_ground result.now ≡ self.now.base }
     {
         &self.ground
+    }
+
+    /// The options. Takes no memory.
+    pub fn options(&self) -> Options
+        ensures { result ≡ self.now.options }
+    {
+        self.options
     }
 
     /// The verdict, if there is one. Takes no memory.
@@ -134,7 +150,7 @@ impl Floor {
         ensures filled { IfOk result (λ jobs. filled_pair jobs.items self.new.pair ≡ self.old.pair) }
         ensures lent { IfOk result (λ jobs. AreLent self.old.base.program self.old.options
             (standing self.old.pair.stand.threads) self.old.pair.entries jobs.items) }
-        ensures stands { IfOk result (λ jobs. (p : Pair Origin) → StandsFor self.old p → StandsWith self.new jobs.items p) }
+        ensures stands { IfOk result (λ jobs. (taken : List Line) (p : Pair Origin) → StandsFor self.old taken p → StandsWith self.new jobs.items taken p) }
         ensures phase { OnOk result (self.new.phase ≡ phase.Lent) }
         ensures ground { self.new.base ≡ self.old.base }
         ensures options { self.new.options ≡ self.old.options }
@@ -159,7 +175,7 @@ impl Floor {
         requires back { self.old.broken ≡ false → AreBack self.old jobs.items }
         ensures sealed { OnOk result (IsSealed self.old jobs.items self.new) }
         ensures answered { IfOk result (λ p. p ≡ self.new.phase) }
-        ensures stands { OnOk result ((p : Pair Origin) → StandsWith self.old jobs.items p → StandsFor self.new (turn (code_on self.old) p)) }
+        ensures stands { OnOk result ((taken : List Line) (p : Pair Origin) → StandsWith self.old jobs.items taken p → StandsFor self.new taken (turn (code_on self.old) p)) }
         ensures program { self.new.base.program ≡ self.old.base.program }
         ensures options { self.new.options ≡ self.old.options }
         ensures whole { OnOk result (self.old.broken ≡ false) }
@@ -199,10 +215,11 @@ impl Floor {
     }
 
     /// The verdict with which `go` would stop at the event, if there is one. Its only error is want of memory.
-    pub fn stop(&mut self, alloc: Global, event: &Event, _place: Option<u32>) -> Result<Option<Verdict>, Memory>
+    pub fn stop(&mut self, alloc: Global, event: &Event, place: Option<u32>) -> Result<Option<Verdict>, Memory>
         requires rest { self.old.phase ≡ phase.Rest }
-        requires can { self.old.broken ≡ false → CanGo self.old event.now _place }
+        requires can { self.old.broken ≡ false → CanGo self.old event.now place }
         ensures stop { IfOk result (λ v. v ≡ stop_of self.old event.now) }
+        ensures whole { OnOk result (self.old.broken ≡ false) }
         ensures same { self.new ≡ self.old }
     {
         if self.broken {
@@ -236,8 +253,12 @@ impl Floor {
     pub fn enabled(&mut self, alloc: Global) -> Result<Enabled, SelectFault>
         requires rest { self.old.phase ≡ phase.Rest }
         ensures enabled { AnswersAs enabled_of (selectable (code_on self.old).has (live (code_on self.old) self.old.pair.stand) self.old.pair.stand.queue) result }
+        ensures broken { self.old.broken ≡ true → result ≡ Err fault.Memory }
         ensures same { self.new ≡ self.old }
     {
+        if self.broken {
+            return Err(SelectFault::Memory);
+        }
         let budget = self.options.budget();
         self.board.bench.enabled(alloc, &self.ground, self.board.queue.as_slice(), budget)
     }
@@ -246,8 +267,12 @@ impl Floor {
     pub fn blocker(&mut self, alloc: Global, event: &Event) -> Result<Option<u32>, SelectFault>
         requires rest { self.old.phase ≡ phase.Rest }
         ensures blocker { AnswersAs (λ o. o) (blocker (code_on self.old).has (live (code_on self.old) self.old.pair.stand) event.now) result }
+        ensures broken { self.old.broken ≡ true → result ≡ Err fault.Memory }
         ensures same { self.new ≡ self.old }
     {
+        if self.broken {
+            return Err(SelectFault::Memory);
+        }
         let budget = self.options.budget();
         self.board.bench.blocker(alloc, &self.ground, event, budget)
     }
@@ -260,7 +285,7 @@ impl Floor {
         ensures broken { self.new.broken ≡ self.old.broken }
         ensures ground { self.new.base ≡ self.old.base }
         ensures options { self.new.options ≡ self.old.options }
-        ensures stands { (p : Pair Origin) → StandsFor self.old p → StandsFor self.new p }
+        ensures stands { (taken : List Line) (p : Pair Origin) → StandsFor self.old taken p → StandsFor self.new (taken ++ result) p }
     {
         self.board.lines.take()
     }
@@ -272,9 +297,14 @@ impl Floor {
         ensures chosen { AnswersAs (chosen_of self.old.pair.stand.queue draw.new.drawn)
             (choice (code_on self.old).has (draw_word draw.old.seed) self.old.options.strategy (live (code_on self.old) self.old.pair.stand) self.old.pair.stand.queue draw.old.drawn) result }
         ensures seed { draw.new.seed ≡ draw.old.seed }
-        ensures drawn { draw.new.drawn ≤ draw.old.drawn + 1 }
+        ensures drawn { (draw.old.drawn ≤ draw.new.drawn) × (draw.new.drawn ≤ draw.old.drawn + 1) }
+        ensures failed { OnErr result (draw.new ≡ draw.old) }
+        ensures broken { self.old.broken ≡ true → result ≡ Err fault.Memory }
         ensures same { self.new ≡ self.old }
     {
+        if self.broken {
+            return Err(SelectFault::Memory);
+        }
         let budget = self.options.budget();
         self.board.bench.choose(
             alloc,
@@ -311,8 +341,9 @@ impl Floor {
 
     /// Writes the verdict down. What ends a run ends its floor.
     pub fn end(&mut self, verdict: Verdict) -> Result<(), Memory>
-        requires rest { self.old.phase ≡ phase.Rest }
-        ensures over { OnOk result (self.new ≡ record self.old { pair = record self.old.pair { stand = over self.old.pair.stand verdict }; phase = phase.Over }) }
+        requires idle { is_idle self.old.phase ≡ true }
+        ensures whole { OnOk result (self.old.broken ≡ false) }
+        ensures ended { OnOk result (self.new ≡ record self.old { pair = record self.old.pair { stand = over self.old.pair.stand verdict }; phase = phase.Over }) }
         ensures failed { OnErr result (IsGivenUp self.old self.new) }
     {
         if self.broken {

@@ -21,9 +21,9 @@ impl Seats {
         ensures { IfOk result (λ j. IsStarted (plain_ground ground.now) options number (handler_seen handler.now).origin j) }
     {
         let name = self.name_of(number as usize).copy()?;
-        let function = copy(alloc, &handler.function)?;
+        let function = copy(&handler.function)?;
         let mut args = Vec::new(alloc);
-        args.push(copy(alloc, &handler.argument)?)?;
+        args.push(copy(&handler.argument)?)?;
         Job::start(alloc, ground, number, name, Mode::Handler, function, args, options.budget())
     }
 

@@ -1,5 +1,5 @@
 //! B-threads with their jobs.
-ghost use Rattle.std.specs.Prelude.{◌≡◌, ◌<◌, ◌∷◌, ◌++◌, [], length, map, option_map, OnOk, Some, None, slice_get, true};
+ghost use Rattle.std.specs.Prelude.{◌≡◌, ◌<◌, ◌^◌, ◌∷◌, ◌++◌, [], length, map, not, count_by, option_map, OnOk, Some, None, slice_get, true};
 ghost use Rattle.bp_run.specs.Configuration.{change, name_in};
 ghost use Rattle.bp_floor.specs.Seating.{PlainSeat, seated, swept};
 ghost use Rattle.bp_floor.specs.Seated.{seat_seen, job_at};
@@ -113,6 +113,20 @@ impl Seats {
         ensures { Some result ≡ option_map (λ s. s.ended) (slice_get self.now number) }
     {
         self.items[number].ended
+    }
+
+    /// How many have not ended. Takes no memory.
+    pub fn live(&self) -> u32
+        requires { length self.now < 2 ^ 32 }
+        ensures { result ≡ count_by (λ t. not t.ended) (map seated self.now) }
+    {
+        let mut live = 0;
+        for seat in self.items.iter() {
+            if !seat.ended {
+                live += 1;
+            }
+        }
+        live
     }
 
     fn sweep_one(&mut self, number: usize)

@@ -19,7 +19,7 @@ use crate::{Board, Entry, EventList, Handler, Seats, Wave};
 use bp_log::{Line, Memory};
 use js_data::Event;
 use bp_thread::Job;
-use js_value::{Value, copy};
+use js_value::{Value, copy, event_value};
 use std::alloc::Global;
 
 /// What an event does to a b-thread, by its number.
@@ -42,10 +42,10 @@ fn line_of(event: &Event, place: Option<u32>) -> Result<Line, Memory>
 }
 
 /// An event as the argument of a handler.
-fn argument_of(event: &Event) -> Result<Value, Memory>
+fn argument_of(alloc: Global, event: &Event) -> Result<Value, Memory>
     ensures { IfOk result (λ v. plain_value v ≡ value.event event.now) }
 {
-    Ok(Value::Event(event.copy()?))
+    event_value(alloc, event.copy()?)
 }
 
 /// What a job keeps of its handler, as a fact for its callers. Does nothing.
@@ -62,8 +62,8 @@ fn handler_of(alloc: Global, job: &Job, event: &Event) -> Result<Option<Handler>
     match job.handler() {
         None => Ok(None),
         Some(function) => Ok(Some(Handler {
-            function: copy(alloc, function)?,
-            argument: argument_of(event)?,
+            function: copy(function)?,
+            argument: argument_of(alloc, event)?,
         })),
     }
 }
