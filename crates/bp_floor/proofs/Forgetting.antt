@@ -15,7 +15,7 @@ use Rattle.bp_run.specs.Configuration.{Stand, Thread, change, name_in}
 use Rattle.bp_run.specs.Settling.{Entry, Pair, Ran, ran, own_body, unless_at, unless_over, stopped, said, queued, registered, with_effect, with_effects, with_end, with_outcome, with_part, merged, turn, place_of, before}
 use Rattle.bp_run.specs.Settling.Entry.{The_top, Runs, Stops}
 use Rattle.bp_run.proofs.Before.{before_turn}
-use Rattle.bp_floor.specs.Forgetting.{forget, forgotten_in, forgotten}
+use Rattle.bp_floor.specs.Forgetting.{forget, forgotten_in, forgotten, AreGoing}
 
 -- ---- one b-thread
 
@@ -142,16 +142,6 @@ merged_forgets o (r ∷ rs) p =
     (unless_forgets o p.stand.verdict (with_part r.entry r.part) p (part_forgets o r.entry r.part p)) (merged_forgets o rs)
 
 -- ---- turns
-
--- those that go on have not ended
-abbrev pub IsGoing : {O : Type 0} → List (Thread O) → Entry O → Type 0
-IsGoing ts The_top = Unit {0}
-IsGoing {O} ts (Runs i) = (t : Thread O) → slice_get ts i ≡ Some t → t.ended ≡ false
-IsGoing ts (Stops i b) = Unit {0}
-
-abbrev pub AreGoing : {O : Type 0} → List (Thread O) → List (Entry O) → Type 0
-AreGoing ts [] = Unit {0}
-AreGoing ts (n ∷ ns) = IsGoing ts n × AreGoing ts ns
 
 going_body : {O : Type 0} (o : O) (ts : List (Thread O)) (i : ℕ) → ((t : Thread O) → slice_get ts i ≡ Some t → t.ended ≡ false) → own_body (slice_get (map (forget o) ts) i) ≡ own_body (slice_get ts i)
 going_body o [] i h = refl

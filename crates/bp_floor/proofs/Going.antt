@@ -10,12 +10,12 @@ use Rattle.js_value.specs.Value.{PlainSet}
 use Rattle.bp_thread.specs.declared.job.Job.{Job}
 use Rattle.bp_thread.specs.Jobs.{plain_job}
 use Rattle.bp_floor.specs.Seating.{PlainSeat, seated, outcome_in, is_waiting, where_from}
-use Rattle.bp_floor.specs.Forgetting.{forget, forgotten}
+use Rattle.bp_floor.specs.Forgetting.{forget, forgotten, IsGoing, AreGoing}
 use Rattle.bp_floor.specs.Kept.{AreFrom, runs_in}
 use Rattle.bp_floor.specs.Lending.{fill, filled}
 use Rattle.bp_floor.proofs.Lists.{change_here, change_apart}
 use Rattle.bp_floor.proofs.Places.{where_above, zero_add}
-use Rattle.bp_floor.proofs.Forgetting.{IsGoing, AreGoing, turn_stands}
+use Rattle.bp_floor.proofs.Forgetting.{turn_stands}
 
 -- each of these numbers is that of one that is so
 AllAt : (PlainSeat → Bool) → ℕ → List PlainSeat → List ℕ → Type 0

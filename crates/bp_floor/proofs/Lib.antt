@@ -12,3 +12,7 @@ pub mod Rests
 pub mod Handlers
 pub mod Standing
 pub mod Sound
+pub mod Weaving
+pub mod Looking
+pub mod Gone
+pub mod Sealing

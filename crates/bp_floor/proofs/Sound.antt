@@ -1,14 +1,14 @@
 -- What a floor keeps.
-use Rattle.std.proofs.Common.{◌≡◌, ℕ, ◌≤◌, ◌<◌, ◌+◌, List, [], ◌∷◌, ◌++◌, length, length-append, refl, sym, ap, ◌∙◌, subst, arith, Option, Some, None, Result, Ok, Err, OnOk, OnErr}
+use Rattle.std.proofs.Common.{◌≡◌, ℕ, ◌≤◌, ◌<◌, ◌+◌, List, [], ◌∷◌, ◌++◌, length, map, length-append, refl, sym, ap, ◌∙◌, subst, arith, Option, Some, None, Result, Ok, Err, OnOk, OnErr}
 use Rattle.js_data.specs.Event.{PlainEvent}
 use Rattle.js_value.specs.Value.{PlainSet}
 use Rattle.js_program.specs.PlainProgram.{PlainProgram}
 use Rattle.js_meaning.specs.State.{Ground}
 use Rattle.js_meaning.specs.Bodies.{Origin, bare, ground_of}
 use Rattle.bp_log.specs.Options.{PlainOptions}
-use Rattle.bp_log.specs.declared.limits.TheConstants.{MOST_WAITING}
+use Rattle.bp_log.specs.declared.limits.TheConstants.{MOST_WAITING, MOST_THREADS}
 use Rattle.bp_log.specs.declared.verdict.Verdict.{Verdict}
-use Rattle.bp_run.specs.Settling.{Entry}
+use Rattle.bp_run.specs.Settling.{Entry, Pair}
 use Rattle.bp_run.specs.Settling.Entry.{The_top}
 use Rattle.bp_run.specs.Selecting.{live}
 use Rattle.bp_meaning.specs.Membership.{member}
@@ -17,11 +17,13 @@ use Rattle.bp_floor.specs.declared.board.Board.{Board}
 use Rattle.bp_floor.specs.declared.phase.Phase.{Phase}
 use Rattle.bp_floor.specs.declared.phase.Phase.TheVariants.{Ready, Rest}
 use Rattle.bp_floor.specs.Programs.{code_of}
-use Rattle.bp_floor.specs.Seating.{PlainSeat, is_waiting, where_from, stated_from, AreOwn}
+use Rattle.bp_floor.specs.Seating.{PlainSeat, seated, is_waiting, where_from, stated_from, AreOwn}
 use Rattle.bp_floor.specs.Boards.{stand_of, pair_of}
 use Rattle.bp_floor.specs.Kept.{Running, AreBelow, runs_in}
 use Rattle.bp_floor.specs.Returning.{RunsAlone, ground_at}
-use Rattle.bp_floor.specs.Floors.{IsSound, phase_at}
+use Rattle.bp_floor.specs.Floors.{PlainFloor, IsSound, IsPhased, phase_at}
+use Rattle.bp_floor.proofs.Going.{seats_going}
+use Rattle.bp_floor.proofs.Places.{map_length}
 use Rattle.bp_floor.proofs.Rests.{stated_live}
 
 -- one more event waits
@@ -92,3 +94,21 @@ sound_opened r base b p g s n q t w v a f =
       light = rw w (omega arith);
       counted = rw (t, w) (omega arith);
     }
+
+-- what the pair of a floor keeps
+pub phased : (f : PlainFloor) (b : Board) → f.pair ≡ pair_of b → IsSound (record { program = f.base.program; options = f.options }) f.base b f.phase → IsPhased f
+phased f b e s =
+    let few = s.few in
+    let len = map_length seated b.seats in
+    let small : length (map seated b.seats) ≤ MOST_THREADS = omega (arith, few, len) in
+    let q : Pair Origin = pair_of b in
+    subst (λ (p : Pair Origin). IsPhased (record f { pair = p })) (sym e) (record {
+      at_phase = s.at_phase;
+      grounded = s.ground_is;
+      alone = s.alone;
+      going = seats_going b.seats b.wave s.waiting;
+      few = small;
+      room = s.room;
+      light = s.light;
+      counted = s.counted;
+    })

@@ -26,7 +26,7 @@ use Rattle.bp_floor.specs.declared.went.Went.TheVariants.{Moved, Stopped}
 use Rattle.bp_floor.specs.Programs.{code_of}
 use Rattle.bp_floor.specs.Seating.{is_waiting, is_ready, where_from, stated_from, AreOwn}
 use Rattle.bp_floor.specs.Boards.{pair_of}
-use Rattle.bp_floor.specs.Forgetting.{forgotten}
+use Rattle.bp_floor.specs.Forgetting.{forgotten, AreGoing}
 use Rattle.bp_floor.specs.Kept.{Running, AreBelow, runs_in}
 use Rattle.bp_floor.specs.Lending.{AreDone, filled_pair, standing}
 use Rattle.bp_floor.specs.Returning.{RunsAlone, ground_at}
@@ -106,6 +106,7 @@ pub record IsPhased (f : PlainFloor) : Type 0 where
   pub at_phase : not_lent f.phase ≡ phase_of f.pair
   pub grounded : f.base ≡ ground_at f.base.program f.options.budget f.pair.entries
   pub alone : RunsAlone f.pair.entries
+  pub going : AreGoing f.pair.stand.threads f.pair.entries
   pub few : length f.pair.stand.threads ≤ MOST_THREADS
   pub room : length f.pair.stand.queue ≤ MOST_WAITING
   pub light : f.pair.stand.weight ≤ MOST_WEIGHT

@@ -10,3 +10,6 @@ pub mod Lending
 pub mod Returning
 pub mod Lent
 pub mod Touching
+pub mod Absorbing
+pub mod Floors
+pub mod Going

@@ -162,7 +162,10 @@ impl Floor {
             return Err(AllocError);
         }
         self.broken = true;
-        let jobs = self.board.seats.lend(alloc, &self.ground, self.options, &self.board.wave)?;
+        let jobs = self
+            .board
+            .seats
+            .lend(alloc, &self.ground, self.options, &self.board.wave)?;
         self.phase = Phase::Lent;
         self.broken = false;
         Ok(jobs)
@@ -186,7 +189,8 @@ impl Floor {
             return Err(AllocError);
         }
         self.broken = true;
-        self.board.turn(alloc, &mut self.ground, self.options, jobs)?;
+        self.board
+            .turn(alloc, &mut self.ground, self.options, jobs)?;
         self.phase = self.board.phase();
         self.broken = false;
         Ok(self.phase)
@@ -208,14 +212,21 @@ impl Floor {
             return Err(AllocError);
         }
         self.broken = true;
-        let went = self.board.go(alloc, &self.ground, self.options, event, place)?;
+        let went = self
+            .board
+            .go(alloc, &self.ground, self.options, event, place)?;
         self.phase = self.board.phase();
         self.broken = false;
         Ok(went)
     }
 
     /// The verdict with which `go` would stop at the event, if there is one. Its only error is want of memory.
-    pub fn stop(&mut self, alloc: Global, event: &Event, place: Option<u32>) -> Result<Option<Verdict>, Memory>
+    pub fn stop(
+        &mut self,
+        alloc: Global,
+        event: &Event,
+        place: Option<u32>,
+    ) -> Result<Option<Verdict>, Memory>
         requires rest { self.old.phase ≡ phase.Rest }
         requires can { self.old.broken ≡ false → CanGo self.old event.now place }
         ensures stop { IfOk result (λ v. v ≡ stop_of self.old event.now) }
@@ -260,7 +271,9 @@ impl Floor {
             return Err(SelectFault::Memory);
         }
         let budget = self.options.budget();
-        self.board.bench.enabled(alloc, &self.ground, self.board.queue.as_slice(), budget)
+        self.board
+            .bench
+            .enabled(alloc, &self.ground, self.board.queue.as_slice(), budget)
     }
 
     /// The first live b-thread that blocks the event.

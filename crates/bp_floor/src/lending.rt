@@ -16,7 +16,14 @@ use std::alloc::Global;
 
 impl Seats {
     /// The job of a handler.
-    fn handler_job(&self, alloc: Global, ground: &Ground, options: Options, number: u32, handler: &Handler) -> Result<Job, Memory>
+    fn handler_job(
+        &self,
+        alloc: Global,
+        ground: &Ground,
+        options: Options,
+        number: u32,
+        handler: &Handler,
+    ) -> Result<Job, Memory>
         requires { number < length self.now }
         ensures { IfOk result (λ j. IsStarted (plain_ground ground.now) options number (handler_seen handler.now).origin j) }
     {
@@ -24,11 +31,26 @@ impl Seats {
         let function = copy(&handler.function)?;
         let mut args = Vec::new(alloc);
         args.push(copy(&handler.argument)?)?;
-        Job::start(alloc, ground, number, name, Mode::Handler, function, args, options.budget())
+        Job::start(
+            alloc,
+            ground,
+            number,
+            name,
+            Mode::Handler,
+            function,
+            args,
+            options.budget(),
+        )
     }
 
     /// The job of an entry, if it has a body. A b-thread's own is taken out.
-    fn lend_one(&mut self, alloc: Global, ground: &Ground, options: Options, entry: &Entry) -> Result<Option<Job>, Memory>
+    fn lend_one(
+        &mut self,
+        alloc: Global,
+        ground: &Ground,
+        options: Options,
+        entry: &Entry,
+    ) -> Result<Option<Job>, Memory>
         requires { IsBelow (length self.old) (entry_seen entry.now) }
         ensures { IfOk result (λ j. Lends (plain_ground ground.now) options (entry_seen entry.now) self.old self.new (option_to_list j)) }
     {
@@ -43,7 +65,13 @@ impl Seats {
     }
 
     /// The jobs of what is to be run, in order.
-    pub fn lend(&mut self, alloc: Global, ground: &Ground, options: Options, wave: &Wave) -> Result<Vec<Job>, Memory>
+    pub fn lend(
+        &mut self,
+        alloc: Global,
+        ground: &Ground,
+        options: Options,
+        wave: &Wave,
+    ) -> Result<Vec<Job>, Memory>
         requires { (r : Running) × CanLend r (plain_ground ground.now) options wave.now self.old }
         ensures { IfOk result (λ js. (r : Running) → CanLend r (plain_ground ground.now) options wave.now self.old → AreOut r wave.now js.items self.old self.new) }
     {

@@ -51,14 +51,31 @@ impl Board {
     }
 
     /// Puts a b-thread at the end, which runs next.
-    fn admit(&mut self, alloc: Global, ground: &Ground, options: Options, number: u32, name: Text, callee: Value) -> Result<(), Memory>
+    fn admit(
+        &mut self,
+        alloc: Global,
+        ground: &Ground,
+        options: Options,
+        number: u32,
+        name: Text,
+        callee: Value,
+    ) -> Result<(), Memory>
         requires { number ≡ length self.old.seats }
         ensures merged { OnOk result (pair_of self.new ≡ registered name (function mode.Thread (plain_value callee) []) (pair_of self.old)) }
         ensures keeps { OnOk result (number < MOST_THREADS → (r : Running) (first : ℕ) → IsOn r (plain_ground ground.now) options → IsKept r first self.old → IsKept r first self.new) }
     {
         let named = name.copy()?;
         let budget = options.budget();
-        let job = Job::start(alloc, ground, number, named, Mode::Thread, callee, Vec::new(alloc), budget)?;
+        let job = Job::start(
+            alloc,
+            ground,
+            number,
+            named,
+            Mode::Thread,
+            callee,
+            Vec::new(alloc),
+            budget,
+        )?;
         self.seats.push(Seat {
             name,
             job: Some(job),
@@ -67,7 +84,15 @@ impl Board {
         self.wave.push(Entry::Runs(number))
     }
 
-    fn register(&mut self, alloc: Global, ground: &Ground, options: Options, at: &Place, name: Text, callee: Value) -> Result<(), Memory>
+    fn register(
+        &mut self,
+        alloc: Global,
+        ground: &Ground,
+        options: Options,
+        at: &Place,
+        name: Text,
+        callee: Value,
+    ) -> Result<(), Memory>
         ensures merged { OnOk result (pair_of self.new
             ≡ with_effect at.now (run.Effect.Register name (function mode.Thread (plain_value callee) [])) (pair_of self.old)) }
         ensures keeps { OnOk result ((r : Running) (first : ℕ) → IsOn r (plain_ground ground.now) options → IsKept r first self.old → IsKept r first self.new) }
@@ -80,7 +105,14 @@ impl Board {
         self.admit(alloc, ground, options, number as u32, name, callee)
     }
 
-    fn effect(&mut self, alloc: Global, ground: &Ground, options: Options, at: &Place, effect: Effect) -> Result<(), Memory>
+    fn effect(
+        &mut self,
+        alloc: Global,
+        ground: &Ground,
+        options: Options,
+        at: &Place,
+        effect: Effect,
+    ) -> Result<(), Memory>
         ensures merged { OnOk result (pair_of self.new
             ≡ unless_over (with_effect at.now (effect_of (plain_effect effect))) (pair_of self.old)) }
         ensures keeps { OnOk result ((r : Running) (first : ℕ) → IsOn r (plain_ground ground.now) options → IsKept r first self.old → IsKept r first self.new) }
@@ -91,12 +123,21 @@ impl Board {
         match effect {
             Effect::Line(text) => self.say(Line::Log(at.copy()?, text)),
             Effect::Enqueue(event) => self.enqueue(at, event),
-            Effect::Register(name, callee) => self.register(alloc, ground, options, at, name, callee),
+            Effect::Register(name, callee) => self.register(
+                alloc, ground, options, at, name, callee,
+            ),
             Effect::Handler(_) => Ok(()),
         }
     }
 
-    fn effects(&mut self, alloc: Global, ground: &Ground, options: Options, at: &Place, effects: Effects) -> Result<(), Memory>
+    fn effects(
+        &mut self,
+        alloc: Global,
+        ground: &Ground,
+        options: Options,
+        at: &Place,
+        effects: Effects,
+    ) -> Result<(), Memory>
         ensures merged { OnOk result (pair_of self.new
             ≡ with_effects at.now (map effect_of (plain_effects effects)) (pair_of self.old)) }
         ensures keeps { OnOk result ((r : Running) (first : ℕ) → IsOn r (plain_ground ground.now) options → IsKept r first self.old → IsKept r first self.new) }
@@ -178,7 +219,14 @@ impl Board {
     }
 
     /// Merges what the body of an entry did.
-    pub fn part(&mut self, alloc: Global, ground: &Ground, options: Options, entry: &Entry, part: Part) -> Result<(), Memory>
+    pub fn part(
+        &mut self,
+        alloc: Global,
+        ground: &Ground,
+        options: Options,
+        entry: &Entry,
+        part: Part,
+    ) -> Result<(), Memory>
         requires { IsBelow (length self.old.seats) (entry_seen entry.now) }
         ensures merged { OnOk result (pair_of self.new ≡ unless_over (with_part (entry_seen entry.now) (part_seen part)) (pair_of self.old)) }
         ensures keeps { OnOk result ((r : Running) (first : ℕ) → IsOn r (plain_ground ground.now) options → IsBelow first (entry_seen entry.now) → IsKept r first self.old → IsKept r first self.new) }

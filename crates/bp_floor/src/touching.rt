@@ -17,8 +17,8 @@ ghost use Rattle.bp_run.specs.Numbers.{number_in};
 
 use crate::{Board, Entry, EventList, Handler, Seats, Wave};
 use bp_log::{Line, Memory};
-use js_data::Event;
 use bp_thread::Job;
+use js_data::Event;
 use js_value::{Value, copy, event_value};
 use std::alloc::Global;
 
@@ -93,7 +93,12 @@ impl Seats {
     }
 
     /// The handler of a b-thread at the event that interrupts it, if it set one.
-    fn handler(&self, alloc: Global, number: usize, event: &Event) -> Result<Option<Handler>, Memory>
+    fn handler(
+        &self,
+        alloc: Global,
+        number: usize,
+        event: &Event,
+    ) -> Result<Option<Handler>, Memory>
         requires { IsStanding (slice_get self.now number) }
         ensures { IfOk result (λ h. (r : Running) → AreOwn r.program r.options 0 self.now →
             option_map handler_seen h ≡ handler_body (code_of r.program r.options) event.now (slice_get (map seated self.now) number)) }
@@ -115,12 +120,15 @@ impl Seats {
     {
         match touch {
             Touch::Moves(number) => Ok(Entry::Runs(number)),
-            Touch::Interrupts(number) => Ok(Entry::Stops(number, self.handler(alloc, number as usize, event)?)),
+            Touch::Interrupts(number) => Ok(Entry::Stops(
+                number,
+                self.handler(alloc, number as usize, event)?,
+            )),
         }
     }
 
     /// What runs after an event does all this.
-    fn entries(&self, alloc: Global, event: &Event, touches: &[Touch]) -> Result<Wave, Memory>
+    pub fn entries(&self, alloc: Global, event: &Event, touches: &[Touch]) -> Result<Wave, Memory>
         requires { AreStanding (map touch_seen touches.now) self.now }
         ensures { IfOk result (λ w. (r : Running) (s : Stand Origin) → AreOwn r.program r.options 0 self.now → s.threads ≡ map seated self.now →
             w ≡ map (entry_of (code_of r.program r.options) s event.now) (map touch_seen touches.now)) }
@@ -164,7 +172,14 @@ impl Board {
     }
 
     /// The transition itself. What takes memory comes first, and the line last of that.
-    pub fn step(&mut self, event: &Event, place: Option<u32>, touches: &[Touch], wave: Wave, weight: u64) -> Result<(), Memory>
+    pub fn step(
+        &mut self,
+        event: &Event,
+        place: Option<u32>,
+        touches: &[Touch],
+        wave: Wave,
+        weight: u64,
+    ) -> Result<(), Memory>
         requires there { IfSome place (λ i. i < length self.old.queue) }
         requires few { self.old.transitions + 1 < 2 ^ 32 }
         requires can { (r : Running) × CanTouch r (map touch_seen touches.now) self.old }

@@ -93,7 +93,13 @@ impl Board {
     }
 
     /// A job whose effects were taken goes to its place: only a b-thread's own is kept.
-    fn keep(&mut self, alloc: Global, ground: &mut Ground, entry: &Entry, job: Job) -> Result<(), Memory>
+    fn keep(
+        &mut self,
+        alloc: Global,
+        ground: &mut Ground,
+        entry: &Entry,
+        job: Job,
+    ) -> Result<(), Memory>
         requires { RunsBelow (length self.old.seats) (entry_seen entry.now) }
         ensures program { ground.new.program ≡ ground.old.program }
         ensures kept { OnOk result (IsKeptBy (entry_seen entry.now) job (plain_ground ground.old) self.old (plain_ground ground.new) self.new) }
@@ -109,7 +115,13 @@ impl Board {
     }
 
     /// The job of an entry comes back.
-    fn back(&mut self, alloc: Global, ground: &mut Ground, entry: &Entry, mut job: Job) -> Result<Part, Memory>
+    fn back(
+        &mut self,
+        alloc: Global,
+        ground: &mut Ground,
+        entry: &Entry,
+        mut job: Job,
+    ) -> Result<Part, Memory>
         requires below { RunsBelow (length self.old.seats) (entry_seen entry.now) }
         requires body { has_body (entry_seen entry.now) ≡ true }
         ensures program { ground.new.program ≡ ground.old.program }
@@ -123,7 +135,13 @@ impl Board {
     }
 
     /// What the body of the next entry did, if it has one. Its job comes back.
-    fn next_part(&mut self, alloc: Global, ground: &mut Ground, entry: &Entry, jobs: &mut IntoIter<Job>) -> Result<Part, Memory>
+    fn next_part(
+        &mut self,
+        alloc: Global,
+        ground: &mut Ground,
+        entry: &Entry,
+        jobs: &mut IntoIter<Job>,
+    ) -> Result<Part, Memory>
         requires { (r : Running) × (ns : List (settling.Entry Origin)) × IsBack r (plain_ground ground.old) (entry_seen entry.now ∷ ns) (into_iter_items jobs.old) self.old }
         ensures program { ground.new.program ≡ ground.old.program }
         ensures puts { IfOk result (λ p. Puts (entry_seen entry.now) (into_iter_items jobs.old) (plain_ground ground.old) self.old
@@ -143,7 +161,13 @@ impl Board {
     }
 
     /// The jobs come back, and what their bodies did is told.
-    fn put_back(&mut self, alloc: Global, ground: &mut Ground, wave: Wave, mut jobs: IntoIter<Job>) -> Result<Rans, Memory>
+    fn put_back(
+        &mut self,
+        alloc: Global,
+        ground: &mut Ground,
+        wave: Wave,
+        mut jobs: IntoIter<Job>,
+    ) -> Result<Rans, Memory>
         requires { (r : Running) × IsBack r (plain_ground ground.old) wave (into_iter_items jobs) self.old }
         ensures program { ground.new.program ≡ ground.old.program }
         ensures back { IfOk result (λ rans. (r : Running) → IsBack r (plain_ground ground.old) wave (into_iter_items jobs) self.old →
@@ -159,7 +183,13 @@ impl Board {
     }
 
     /// Merges what bodies did, in order.
-    fn merge(&mut self, alloc: Global, ground: &Ground, options: Options, rans: Rans) -> Result<(), Memory>
+    fn merge(
+        &mut self,
+        alloc: Global,
+        ground: &Ground,
+        options: Options,
+        rans: Rans,
+    ) -> Result<(), Memory>
         requires { AreBelow (length self.old.seats) (map entry_in rans) }
         ensures merged { OnOk result (pair_of self.new ≡ merged rans (pair_of self.old)) }
         ensures keeps { OnOk result ((r : Running) (first : ℕ) → IsOn r (plain_ground ground.now) options → AreBelow first (map entry_in rans) → IsKept r first self.old → IsKept r first self.new) }
@@ -171,7 +201,14 @@ impl Board {
     }
 
     /// A turn of a board that has neither lines nor entries.
-    fn turn_apart(&mut self, alloc: Global, ground: &mut Ground, options: Options, wave: Wave, jobs: IntoIter<Job>) -> Result<(), Memory>
+    fn turn_apart(
+        &mut self,
+        alloc: Global,
+        ground: &mut Ground,
+        options: Options,
+        wave: Wave,
+        jobs: IntoIter<Job>,
+    ) -> Result<(), Memory>
         requires back { (r : Running) × (options ≡ r.options) × IsBack r (plain_ground ground.old) wave (into_iter_items jobs) self.old }
         requires clear { self.old.wave ≡ [] }
         ensures program { ground.new.program ≡ ground.old.program }
@@ -187,7 +224,13 @@ impl Board {
     }
 
     /// A turn, with what the jobs did.
-    pub fn turn(&mut self, alloc: Global, ground: &mut Ground, options: Options, jobs: Vec<Job>) -> Result<(), Memory>
+    pub fn turn(
+        &mut self,
+        alloc: Global,
+        ground: &mut Ground,
+        options: Options,
+        jobs: Vec<Job>,
+    ) -> Result<(), Memory>
         requires back { (r : Running) × (options ≡ r.options) × IsBack r (plain_ground ground.old) self.old.wave jobs.items self.old }
         requires open { self.old.verdict ≡ None }
         ensures program { ground.new.program ≡ ground.old.program }
