@@ -1,0 +1,13 @@
+pub mod Programs
+pub mod Seating
+pub mod Entries
+pub mod Parts
+pub mod Seated
+pub mod Forgetting
+pub mod Boards
+pub mod Kept
+pub mod Lending
+pub mod Returning
+pub mod Touching
+pub mod Absorbing
+pub mod Floors
