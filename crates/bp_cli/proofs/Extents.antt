@@ -1,8 +1,12 @@
 -- How much is printed, from the bytes of a program to a command.
-use Rattle.std.proofs.Common.{◌≡◌, ℕ, List, [], ◌++◌, refl, sym, append-nil, inl, inr}
-use Rattle.std.specs.Prelude.{◌⊎◌, Option, Some, None}
+use Rattle.std.proofs.Common.{◌≡◌, ℕ, List, [], ◌++◌, refl, sym, subst, append-nil, inl, inr}
+use Rattle.std.specs.Prelude.{◌⊎◌, Option, Some, None, IsSomeAnd}
 use Rattle.bp_base.specs.Pieces.{Appends, AppendsFront}
 use Rattle.bp_base.specs.Worlds.{Holdings}
+use Rattle.js_program.specs.PlainProgram.{PlainProgram}
+use Rattle.bp_log.specs.Options.{PlainOptions, default_options}
+use Rattle.bp_script.specs.Programs.{IsProgram}
+use Rattle.bp_code.specs.Code.{text_alone}
 use Rattle.bp_log.specs.declared.verdict.Verdict.{Verdict}
 use Rattle.bp_log.specs.declared.verdict.Verdict.TheVariants.{Quiet, Violated, Fault, Spent, Steps, Queue, Threads, Weight, Bad}
 use Rattle.bp_cli.specs.declared.words.Verb.{Verb}
@@ -11,6 +15,10 @@ use Rattle.bp_cli.specs.Conclusions.{verdict_code}
 use Rattle.bp_cli.specs.Programs.{IsUnder, OfProgram, IsText}
 use Rattle.bp_cli.specs.Printing.{Extent, extent_of, PrintsWhole, PrintsFront, PrintsOf, Prints}
 use Rattle.bp_cli.specs.Printing.Extent.{Nothing, Front, Whole, NothingOrFront}
+
+there_is : {A : Type 0} (o : Option A) (P : A → Type 0) → IsSomeAnd o P → (a : A) × (o ≡ Some a) × P a
+there_is None P h = absurd h
+there_is (Some a) P h = (a, refl, h)
 
 -- a run that came to its end was printed whole
 pub verdict_whole : (v : Verdict) → extent_of (verdict_code v) ≡ Whole
@@ -24,14 +32,31 @@ verdict_whole Threads = refl
 verdict_whole Weight = refl
 verdict_whole (Bad injector line) = refl
 
--- what is printed for the bytes of its program is printed by the command
-pub prints_of : (verb : Verb) (name bytes : List ℕ) (holds : Option Holdings) (before after : Option (List ℕ)) (x : Extent) →
+prints_of : (verb : Verb) (name bytes : List ℕ) (holds : Option Holdings) (before after : Option (List ℕ)) (x : Extent) →
     IsUnder holds name bytes → PrintsOf verb bytes before after x → Prints (Some (record { verb = verb; name = name })) holds before after x
 prints_of verb name bytes holds before after Nothing u p = p
 prints_of verb name bytes holds before after Front u p = (bytes, u, p)
 prints_of verb name bytes holds before after Whole u p = (bytes, u, p)
 prints_of verb name bytes holds before after NothingOrFront u (inl same) = inl same
 prints_of verb name bytes holds before after NothingOrFront u (inr p) = inr (bytes, u, p)
+
+-- what is printed for the bytes of its program is printed by the command
+pub prints_at : (command : Option PlainCommand) (verb v : Verb) (name bytes read : List ℕ) (holds : Option Holdings) (before after : Option (List ℕ)) (x : Extent) →
+    Some (record { verb = verb; name = name }) ≡ command → verb ≡ v → read ≡ bytes → IsUnder holds name bytes →
+    PrintsOf v read before after x → Prints command holds before after x
+prints_at command verb v name bytes read holds before after x e d r u p =
+    let there : PrintsOf verb bytes before after x =
+    subst (λ (w : Verb). PrintsOf w bytes before after x) (sym d) (subst (λ (bs : List ℕ). PrintsOf v bs before after x) r p) in
+    subst (λ (c : Option PlainCommand). Prints c holds before after x) e (prints_of verb name bytes holds before after x u there)
+
+-- a front of the text of an accepted program's run was printed
+pub run_front : (bytes : List ℕ) (program : PlainProgram) (o : PlainOptions) (before after : Option (List ℕ)) → IsProgram bytes program → o ≡ default_options →
+    IsSomeAnd (text_alone program o) (λ text. AppendsFront before text after) → PrintsFront before after Verb.Run bytes
+run_front bytes program o before after p e h =
+    let there : IsSomeAnd (text_alone program default_options) (λ text. AppendsFront before text after) =
+    subst (λ (x : PlainOptions). IsSomeAnd (text_alone program x) (λ text. AppendsFront before text after)) e h in
+    let some = there_is (text_alone program default_options) (λ text. AppendsFront before text after) there in
+    (some.0, (program, p, some.1), some.2)
 
 -- the whole is a front
 whole_front : (before after : Option (List ℕ)) (verb : Verb) (bytes : List ℕ) → PrintsWhole before after verb bytes → PrintsFront before after verb bytes

@@ -19,4 +19,4 @@ RefusesAt bytes code = (refusal : Refusal) → IsRefused bytes refusal → (code
 abbrev pub Refuses : Option PlainCommand → Option Holdings → ℕ → Type 0
 Refuses command holds code =
     IfSome holds (λ held. IfSome command (λ c. IfSome (held c.name) (λ bytes.
-        (refusal : Refusal) → IsRefused bytes refusal → (code ≡ 2) ⊎ ((code ≡ 8) ⊎ (code ≡ 10)))))
+    (refusal : Refusal) → IsRefused bytes refusal → (code ≡ 2) ⊎ ((code ≡ 8) ⊎ (code ≡ 10)))))
