@@ -1,7 +1,7 @@
 -- A job that was carried on stands for its body as before.
 use Rattle.std.proofs.lemmas.List.{append_assoc}
 use Rattle.std.proofs.lemmas.List.Sums.{fold-append}
-use Rattle.std.proofs.Common.{◌≡◌, ℕ, ◌+◌, Bool, false, true, List, [], ◌∷◌, ◌++◌, Option, Some, None, IsSome, is_some, option_map, refl, sym, ap, subst, ◌∙◌, fold}
+use Rattle.std.proofs.Common.{◌≡◌, ℕ, ◌+◌, Bool, false, true, List, [], ◌∷◌, ◌++◌, Option, Some, None, IsSome, IsTrue, ◌↔◌, is_some, option_map, refl, sym, ap, subst, ◌∙◌, fold}
 use Rattle.js_data.specs.Event.{PlainEvent}
 use Rattle.js_value.specs.Value.{PlainValue, PlainSet}
 use Rattle.js_meaning.specs.State as js
@@ -59,6 +59,10 @@ module _ (o : js.Outcome) (begun more nodes budget : ℕ) (effects : List Effect
 pub some_outcome : (o : Option Outcome) → is_some (option_map plain_outcome o) ≡ is_some o
 some_outcome None = refl
 some_outcome (Some x) = refl
+
+-- done exactly where the outcome is there
+pub done_is_outcome : (o : Option Outcome) (done : Bool) → done ≡ is_some o → IsTrue done ↔ IsSome (option_map plain_outcome o)
+done_is_outcome o done is = (λ h. some_outcome o ∙ sym is ∙ h, λ h. is ∙ sym (some_outcome o) ∙ h)
 
 -- the second machine is the first one without its effects
 pub record Taken (m n : Machine) (fresh : List Effect) : Type 0 where
