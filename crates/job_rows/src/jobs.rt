@@ -1,5 +1,5 @@
 //! Jobs: a line has the body of a function of one parameter `e`, and what it does with an event at each stop.
-ghost use Rattle.std.specs.Prelude.{◌≡◌, IfOk, None};
+ghost use Rattle.std.specs.Prelude.{◌≡◌, [], IfOk, OnOk, None};
 ghost use Rattle.js_frames.specs.Places.{plain_ground};
 ghost use Rattle.bp_thread.specs.Jobs.{plain_job, IsOf};
 
@@ -14,14 +14,14 @@ use std::process::Abort;
 use std::test::Fail;
 use std::thread::{Threads, join};
 
-/// How many events a b-thread gets.
-const REPLIES: u32 = 3;
+/// The events that a b-thread gets, one at each stop.
+const REPLIES: [&str; 3] = ["e", "f", "g"];
 
 const THREADS: &str = r#"
  --> ended
 return 1 --> ended
 bp.sync({}); bp.log.info('behind') --> stop; behind; ended
-bp.log.info(bp.sync({}).name) --> stop; r; ended
+bp.log.info(bp.sync({}).name) --> stop; e; ended
 bp.log.info(1); bp.sync({}); bp.log.info(2); bp.sync({}); bp.log.info(3) --> 1; stop; 2; stop; 3; ended
 for (;;) { bp.sync({}); bp.log.info('t') } --> stop; t; stop; t; stop; t; stop
 for (let i = 0; i < 3; i++) { for (let k = 0; k < 15; k++) ; bp.sync({}) } --> stop; stop; stop; ended
@@ -34,7 +34,7 @@ bp.enqueueExternalEvent(e); bp.registerBThread('n', () => {}) --> enqueue ["e"];
 bp.setInterruptHandler(e => { bp.log.info("stop " + e.name); }); bp.sync({waitFor: bp.Event("e"), interrupt: bp.Event("e")}); bp.log.info("never") --> handler; stop; never; ended; handled
 bp.sync({}); bp.setInterruptHandler(() => 1); bp.setInterruptHandler(() => 2); bp.sync({}); --> stop; handler; handler; stop; ended; handled
 bp.setInterruptHandler(1) --> type 1
-[1, 2].forEach(x => { bp.log.info(bp.sync({}).name + x) }) --> stop; r1; stop; r2; ended
+[1, 2].forEach(x => { bp.log.info(bp.sync({}).name + x) }) --> stop; e1; stop; f2; ended
 "#;
 
 const HANDLERS: &str = r#"
@@ -100,7 +100,27 @@ fn sliced(ground: &Ground, job: Job, nodes: u64) -> Result<(Job, bool), Memory>
     Ok((moved, done))
 }
 
-/// What the body does, in slices of so many nodes.
+/// What the job does up to its outcome, in slices of so many nodes.
+fn push_slices(
+    out: &mut String,
+    alloc: Global,
+    job: &mut Job,
+    ground: &Ground,
+    nodes: u64,
+) -> Result<(), Fail>
+    requires program { IsOf (plain_ground ground.now).program job.old }
+    requires open { (plain_job job.old).outcome ≡ None }
+    ensures program { IsOf (plain_ground ground.now).program job.new }
+    ensures taken { OnOk result ((plain_job job.new).effects ≡ []) }
+{
+    carry_on(job, ground, nodes)?;
+    let effects = job.take_effects();
+    push_effects(out, alloc, &effects)?;
+    push_outcome(out, job)?;
+    Ok(())
+}
+
+/// What the body does up to its end or a last stop, in slices of so many nodes.
 fn told(alloc: Global, kind: Mode, body: &str, nodes: u64) -> Result<String, Fail> {
     let mut script = String::from_str(alloc, "bp.registerBThread('t', (e) => { ")?;
     for part in body.split("\\n") {
@@ -111,16 +131,14 @@ fn told(alloc: Global, kind: Mode, body: &str, nodes: u64) -> Result<String, Fai
     let (ground, function) = registered(alloc, script.as_str())?;
     let mut job = job_of(alloc, &ground, function, kind, BUDGET)?;
     let mut out = String::new(alloc);
-    for _ in 0..REPLIES + 1 {
-        carry_on(&mut job, &ground, nodes)?;
-        let effects = job.take_effects();
-        push_effects(&mut out, alloc, &effects)?;
-        push_outcome(&mut out, &job)?;
-        if !is_stopped(&job) || job.replies().len() == 3 {
+    push_slices(&mut out, alloc, &mut job, &ground, nodes)?;
+    for name in REPLIES {
+        if !is_stopped(&job) {
             break;
         }
-        job.give(&event(alloc, "r")?)?;
+        job.give(&event(alloc, name)?)?;
         out.push_str("; ")?;
+        push_slices(&mut out, alloc, &mut job, &ground, nodes)?;
     }
     if job.handler().is_some() {
         out.push_str("; handled")?;

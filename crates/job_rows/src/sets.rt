@@ -7,6 +7,7 @@ use std::test::Fail;
 
 const SETS: &str = r#"
 bp.Event('x') --> yes; no
+bp.Event('x', 1) --> no; no
 bp.all --> yes; yes
 bp.none --> no; no
 [] --> no; no
