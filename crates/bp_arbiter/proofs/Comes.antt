@@ -146,17 +146,21 @@ pub can_go_on : (r : Run) (f : PlainFloor) (e : PlainEvent) (place : Option ℕ)
 can_go_on r f e place d h c =
     subst (λ (g : PlainFloor). CanGo g e place) (sym h) (can_go r.floor (draw_word r.draw.seed) r.draw.drawn (record { event = e; place = place; drawn = d }) c)
 
+-- what a floor says of the verdict of a fault
+abbrev pub VerdictFor : PlainFloor → ℕ → set_fault.SetFault → Verdict → Type 0
+VerdictFor f n x v = (y : ℕ × SetFault) → FaultAs {A = List Touched} (Err y) (Set n x) → v ≡ fault_verdict f.pair.stand y
+
 -- the fault that a bench answers
 record Faulty {A : Type 0} (asked : Asked A) (n : ℕ) (f : set_fault.SetFault) : Type 0 where
   pub fault : ℕ × SetFault
   pub is_fault : asked ≡ Err fault
   pub number : fault.0 ≡ n
-  pub same : (other : Asked (List Touched)) → other ≡ Err fault → FaultAs other (Set n f)
+  pub same : FaultAs {A = List Touched} (Err fault) (Set n f)
 
 faulty : {A : Type 0} (asked : Asked A) (n : ℕ) (f : set_fault.SetFault) → FaultAs asked (Set n f) → Faulty asked n f
-faulty asked n (fault_kind.Broken f line) h = record { fault = (n, bodies.SetFault.Broken f line); is_fault = h; number = refl; same = λ o e. e }
-faulty asked n fault_kind.Spent h = record { fault = (n, bodies.SetFault.Spent); is_fault = h; number = refl; same = λ o e. e }
-faulty asked n (fault_kind.NotTruth line) h = record { fault = (n, bodies.SetFault.NotTruth line); is_fault = h; number = refl; same = λ o e. e }
+faulty asked n (fault_kind.Broken f line) h = record { fault = (n, bodies.SetFault.Broken f line); is_fault = h; number = refl; same = refl }
+faulty asked n fault_kind.Spent h = record { fault = (n, bodies.SetFault.Spent); is_fault = h; number = refl; same = refl }
+faulty asked n (fault_kind.NotTruth line) h = record { fault = (n, bodies.SetFault.NotTruth line); is_fault = h; number = refl; same = refl }
 faulty asked n fault_kind.Memory h = absurd h
 
 -- it is that of a registered b-thread
@@ -168,11 +172,14 @@ fault_within r f n x h k =
 
 -- and the run ends in its verdict
 pub next_faulty : (r : Run) (f : PlainFloor) (n : ℕ) (x : set_fault.SetFault) (v : Verdict) → r.floor.pair.stand.verdict ≡ None → r.draw.seed ≡ r.floor.options.seed → f ≡ r.floor → FaultAs (choice_in r) (Set n x) →
-    ((other : Asked (List Touched)) → (y : ℕ × SetFault) → other ≡ Err y → FaultAs other (Set n x) → v ≡ fault_verdict f.pair.stand y) → next_in r ≡ Ends v
+    VerdictFor f n x v → next_in r ≡ Ends v
 next_faulty r f n x v h k e c w =
     let y = faulty (choice_in r) n x c in
-    next_fault_is r y.fault v h k y.is_fault
-    (w (Err y.fault) y.fault refl (y.same (Err y.fault) refl) ∙ ap (λ (g : PlainFloor). fault_verdict g.pair.stand y.fault) e)
+    next_fault_is r y.fault v h k y.is_fault (w y.fault y.same ∙ ap (λ (g : PlainFloor). fault_verdict g.pair.stand y.fault) e)
+
+-- the same fault, in the parts of an answer
+pub fault_told : (f : PlainFloor) (v : Verdict) (m n : ℕ) (x y : set_fault.SetFault) → m ≡ n → x ≡ y → VerdictFor f m x v → VerdictFor f n y v
+fault_told f v m n x y h k w = subst (λ (i : ℕ). VerdictFor f i y v) h (subst (λ (u : set_fault.SetFault). VerdictFor f m u v) k w)
 
 pub ok_map : {T E A B : Type 0} (r : Result T E) → (A → B) → OnOk r A → OnOk r B
 ok_map (Ok t) f a = f a
@@ -182,9 +189,13 @@ pub on_err : {T E A : Type 0} (r : Result T E) → A → OnErr r A
 on_err (Ok t) a = tt
 on_err (Err e) a = a
 
-pub if_map : {T E : Type 0} {P Q : T → Type 0} (r : Result T E) → ((t : T) → P t → Q t) → IfOk r P → IfOk r Q
-if_map (Ok t) f h = f t h
-if_map (Err e) f h = tt
+pub if_both : {T E A : Type 0} {P Q : T → Type 0} (r : Result T E) → ((t : T) → A → P t → Q t) → OnOk r A → IfOk r P → IfOk r Q
+if_both (Ok t) f a h = f t a h
+if_both (Err e) f a h = tt
+
+pub ok_both : {T E A B C : Type 0} (r : Result T E) → (A → B → C) → OnOk r A → OnOk r B → OnOk r C
+ok_both (Ok t) f a b = f a b
+ok_both (Err e) f a b = tt
 
 pub queued_some : (xs : List PlainEvent) (n : ℕ) → n < length xs → (e : PlainEvent) × (slice_get xs n ≡ Some e)
 queued_some [] n h = absurd (omega (arith, h))

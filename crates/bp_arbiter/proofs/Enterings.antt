@@ -110,28 +110,24 @@ at_reserved f a r x g b h v k w s o =
     let e : seen (record r { records = x }) g b ≡ seen r g b = ap (λ (rs : List Record). record (seen r g b) { records = rs }) h in
     at_phase f a (record r { records = x }) g b (e ∙ v) k w (subst (λ (y : PlainArbiter). IsSound r.draw.seed y) (sym e) s) o
 
-pub not_false : (b : Bool) → not b ≡ false → b ≡ true
-not_false true h = refl
-not_false false h = absurd (cc)
+at_last : (g : Phase) (b : Bool) → g ≡ Rest → b ≡ false → (P : Phase → Bool → Type 0) → P Rest false → P g b
+at_last g b rest whole P h = subst (λ (f : Phase). P f b) (sym rest) (subst (λ (w : Bool). P Rest w) (sym whole) h)
 
 module _ {T E : Type 0} (a : PlainArbiter) (r : Run) (i : IsAt Rest a r) (j : ℕ) (x : Item) (read : list_any (nat_eq j) a.reading ≡ true) (sound : is_failed x ≡ false) (room : fits (stand_in a) x ≡ true) (g : Phase) (b : Bool)
     (rest : g ≡ Rest) (whole : b ≡ false) (r' : Run) (seed : r'.draw.seed ≡ r.draw.seed) where
-  at_last : (P : Phase → Bool → Type 0) → P Rest false → P g b
-  at_last P h = subst (λ (f : Phase). P f b) (sym rest) (subst (λ (w : Bool). P Rest w) (sym whole) h)
-
   pub entered_sound : (res : Result T E) → OnOk res ((f : Phase) (w : Bool) → seen r' f w ≡ absorbed j x (seen r f w)) → OnErr res ((f : Phase) (w : Bool) → seen r' f w ≡ seen r f w) →
       IsSound r'.draw.seed (seen r' g b)
-  entered_sound (Ok t) ok err = at_last (λ f w. IsSound r'.draw.seed (seen r' f w)) (absorb_sound a r i j x read sound room r' ok seed)
+  entered_sound (Ok t) ok err = at_last g b rest whole (λ f w. IsSound r'.draw.seed (seen r' f w)) (absorb_sound a r i j x read sound room r' ok seed)
   entered_sound (Err t) ok err =
-      at_last (λ f w. IsSound r'.draw.seed (seen r' f w))
+      at_last g b rest whole (λ f w. IsSound r'.draw.seed (seen r' f w))
       (subst (λ (n : ℕ). IsSound n (seen r' Rest false)) (sym seed) (subst (λ (y : PlainArbiter). IsSound r.draw.seed y) (sym (err Rest false)) i.sound))
 
   pub entered_stands : (res : Result T E) → OnOk res ((f : Phase) (w : Bool) → seen r' f w ≡ absorbed j x (seen r f w)) →
       OnOk res ((taken : List Line) (p : Pair Origin) → Stands a [] taken p → Stands (seen r' g b) [] taken (with_item x p))
   entered_stands (Ok t) ok =
-      at_last (λ f w. (taken : List Line) (p : Pair Origin) → Stands a [] taken p → Stands (seen r' f w) [] taken (with_item x p)) (absorb_stands a r i j x read sound room r' ok seed)
+      at_last g b rest whole (λ f w. (taken : List Line) (p : Pair Origin) → Stands a [] taken p → Stands (seen r' f w) [] taken (with_item x p)) (absorb_stands a r i j x read sound room r' ok seed)
   entered_stands (Err t) ok = tt
 
   pub entered_same : (res : Result T E) → OnErr res ((f : Phase) (w : Bool) → seen r' f w ≡ seen r f w) → OnErr res (seen r' g b ≡ a)
   entered_same (Ok t) err = tt
-  entered_same (Err t) err = at_last (λ f w. seen r' f w ≡ a) (err Rest false ∙ sym i.is)
+  entered_same (Err t) err = at_last g b rest whole (λ f w. seen r' f w ≡ a) (err Rest false ∙ sym i.is)

@@ -2,11 +2,11 @@ pub mod Calls
 pub mod Forgets
 pub mod Nexts
 pub mod Told
-pub mod Takes
 pub mod Standing
 pub mod Choices
 pub mod Comes
 pub mod Picks
+pub mod Takes
 pub mod Seals
 pub mod Lends
 pub mod Absorbs

@@ -1,18 +1,22 @@
 -- What an arbiter keeps from call to call.
 use Rattle.std.proofs.Common.{◌≡◌, ◌≤◌, ◌<◌, ◌+◌, ℕ, zero, suc, Bool, true, false, List, [], ◌∷◌, ◌++◌, length, refl, sym, ap, ◌∙◌, subst, Option, Some, None, is_some, option_map, IsSome, option_and_then, slice_get, ◌-◌, arith}
+use Rattle.js_program.specs.PlainProgram.{PlainProgram}
 use Rattle.js_meaning.specs.Bodies.{Origin}
+use Rattle.bp_log.specs.Options.{PlainOptions}
 use Rattle.bp_log.specs.Records.{is_complete}
 use Rattle.bp_log.specs.declared.record.Record.{Record}
 use Rattle.bp_log.specs.declared.record.Record.TheVariants.{In, Bad, Eof, Sel, End}
 use Rattle.bp_log.specs.declared.trace.Line.{Line}
 use Rattle.bp_log.specs.declared.verdict.Verdict.{Verdict}
-use Rattle.bp_run.specs.Settling.{Pair}
+use Rattle.bp_run.specs.Configuration.{below}
+use Rattle.bp_run.specs.Settling.{Pair, opening}
 use Rattle.bp_thread.specs.declared.job.Job.{Job}
 use Rattle.bp_floor.specs.declared.phase.Phase.{Phase}
 use Rattle.bp_floor.specs.declared.phase.Phase.TheVariants as phase
-use Rattle.bp_arbiter.specs.Arbiters.{PlainArbiter, Stands, Tells, Keeps, verdict_in, verdict_of, is_over, options_in}
+use Rattle.bp_floor.specs.Floors.{PlainFloor}
+use Rattle.bp_arbiter.specs.Arbiters.{PlainArbiter, Stands, Tells, Keeps, verdict_in, verdict_of, is_over, options_in, opened}
 use Rattle.bp_arbiter.specs.Sound.{IsSound, IsStanding, is_lent}
-use Rattle.bp_arbiter.proofs.Told.{stands_tells}
+use Rattle.bp_arbiter.proofs.Told.{stands_tells, stands_opened}
 
 -- ---- records
 
@@ -97,3 +101,22 @@ verdict_last (r ∷ rs) o h =
     verdict_at (r ∷ rs) (length rs) (omega arith)
     ∙ ap (λ (n : ℕ). option_and_then verdict_in (slice_get (r ∷ rs) n)) (let e : length rs ≡ length (r ∷ rs) - 1 = omega arith in e)
     ∙ ap (option_and_then verdict_in) (sym h)
+
+-- ---- before anything has run
+
+-- the parts of an arbiter that was opened
+pub opened_is : (program : PlainProgram) (o : PlainOptions) (f : PlainFloor) (d n : ℕ) (reading : List ℕ) (rs : List Record) → f ≡ (opened program o).floor → d ≡ 0 → reading ≡ below n → n ≡ o.injectors → rs ≡ [] →
+    record { floor = f; drawn = d; reading = reading; bad = None; records = rs; phase = phase.Ready; broken = false } ≡ opened program o
+opened_is program o f d n reading rs h k l m r =
+    let made : PlainFloor → ℕ → List ℕ → List Record → PlainArbiter = λ g e ns ss. record { floor = g; drawn = e; reading = ns; bad = None; records = ss; phase = phase.Ready; broken = false } in
+    ap (λ (g : PlainFloor). made g d reading rs) h ∙ ap (λ (e : ℕ). made (opened program o).floor e reading rs) k
+    ∙ ap (λ (ns : List ℕ). made (opened program o).floor 0 ns rs) (l ∙ ap below m) ∙ ap (λ (ss : List Record). made (opened program o).floor 0 (below o.injectors) ss) r
+
+pub opened_sound : (program : PlainProgram) (o : PlainOptions) (seed : ℕ) (a : PlainArbiter) → a ≡ opened program o → seed ≡ o.seed → IsSound seed a
+opened_sound program o seed a h k =
+    subst (λ (x : PlainArbiter). IsSound seed x) (sym h)
+    (sound_of seed (opened program o) [] [] opening k refl (stands_opened program o) (λ u. refl)
+    (record { steps = omega arith; drawn = λ n. omega arith; floor_phase = refl; floor_whole = refl }))
+
+pub opened_stands : (program : PlainProgram) (o : PlainOptions) (a : PlainArbiter) → a ≡ opened program o → Stands a [] [] opening
+opened_stands program o a h = subst (λ (x : PlainArbiter). Stands x [] [] opening) (sym h) (stands_opened program o)

@@ -1,20 +1,24 @@
 -- Lines are taken.
-use Rattle.std.proofs.Common.{◌≡◌, ◌≤◌, ℕ, true, false, List, [], ◌++◌, refl, sym, ap, ◌∙◌, subst, append_assoc}
+use Rattle.std.proofs.Common.{◌≡◌, ◌≤◌, ◌+◌, ℕ, Bool, true, false, not, cond, fold, List, [], ◌∷◌, ◌++◌, map, refl, sym, ap, ◌∙◌, subst, append_assoc}
 use Rattle.js_value.specs.Value.{PlainSet}
 use Rattle.js_meaning.specs.State.{Ground}
 use Rattle.js_meaning.specs.Bodies.{Origin, the_top}
 use Rattle.bp_log.specs.Options.{PlainOptions}
 use Rattle.bp_log.specs.declared.trace.Line.{Line}
 use Rattle.bp_run.specs.Bodies.{Code}
-use Rattle.bp_run.specs.Configuration.{Configuration}
+use Rattle.std.specs.Prelude.{count_by}
+use Rattle.bp_run.specs.Configuration.{Configuration, Stand, Thread, not_ended}
 use Rattle.bp_run.specs.Settling.{Pair, before, settle}
 use Rattle.bp_thread.specs.declared.job.Job.{Job}
-use Rattle.bp_floor.specs.Forgetting.{forgotten}
+use Rattle.bp_floor.specs.declared.phase.Phase.{Phase}
+use Rattle.bp_floor.specs.declared.phase.Phase.TheVariants.{Ready, Lent, Rest, Over}
+use Rattle.bp_floor.specs.Forgetting.{forget, forgotten}
 use Rattle.bp_floor.specs.Lending.{filled_pair}
 use Rattle.bp_floor.specs.Floors.{PlainFloor, IsPhased, is_idle}
-use Rattle.bp_arbiter.specs.Arbiters.{PlainArbiter, Stands, Tells, Keeps, Recounts, code_in, options_in, stand_in, is_over}
-use Rattle.bp_arbiter.specs.Sound.{IsSound, IsStanding}
-use Rattle.bp_arbiter.proofs.Told.{same_code, same_story, told_lines}
+use Rattle.bp_arbiter.specs.Arbiters.{PlainArbiter, Stands, Tells, Keeps, Recounts, code_in, options_in, stand_in, is_over, Shows}
+use Rattle.bp_arbiter.specs.Sound.{IsSound, IsStanding, is_lent}
+use Rattle.bp_arbiter.proofs.Picks.{unfilled}
+use Rattle.bp_arbiter.proofs.Told.{same_code, same_story, same_told, told_lines, settled_idle}
 
 -- the same floor, without these lines
 record IsTaken (f g : PlainFloor) (ls : List Line) : Type 0 where
@@ -96,3 +100,43 @@ pub exact_now : (a : PlainArbiter) → (a.broken ≡ false → IsStanding a) →
 exact_now a s k taken p h i c r =
     let q = (s h.whole).keeps in
     told_lines a [] taken p c h (k q.floor_whole) (ap is_idle q.floor_phase ∙ i) r
+
+ended_at : {O : Type 0} (o : O) (b : Bool) (t : Thread O) → t.ended ≡ b → (forget o t).ended ≡ t.ended
+ended_at o true t h = rw h refl
+ended_at o false t h = rw h refl
+
+counts : {O : Type 0} → ℕ → Thread O → ℕ
+counts n t = n + cond (not t.ended) 1 0
+
+live_from : {O : Type 0} (o : O) (n : ℕ) (ts : List (Thread O)) → fold counts n (map (forget o) ts) ≡ fold counts n ts
+unfolding counts
+live_from o n [] = refl
+live_from o n (t ∷ ts) =
+    live_from o (n + cond (not (forget o t).ended) 1 0) ts ∙ ap (λ (b : Bool). fold counts (n + cond (not b) 1 0) ts) (ended_at o t.ended t refl)
+
+live_count : {O : Type 0} (o : O) (ts : List (Thread O)) → count_by (λ t. not t.ended) (map (forget o) ts) ≡ count_by (λ t. not t.ended) ts
+unfolding counts
+live_count o ts = live_from o 0 ts
+
+idle_unlent : (f : Phase) → is_idle f ≡ true → is_lent f ≡ false
+idle_unlent Ready h = refl
+idle_unlent Lent h = absurd (cc)
+idle_unlent Rest h = refl
+idle_unlent Over h = refl
+
+-- and its floor shows where the story leads
+pub shows_now : (a : PlainArbiter) → (a.broken ≡ false → IsStanding a) → (a.floor.broken ≡ false → IsPhased a.floor) → a.broken ≡ false → is_idle a.phase ≡ true → (c : Configuration Origin) → Recounts a c → Shows (stand_in a) c.stand
+shows_now a s k w i c r =
+    let q = s w in
+    let kept = q.keeps in
+    let p = q.pair in
+    let h = subst (λ (js : List Job). Stands a js q.taken p) (q.unlent (idle_unlent a.phase i)) q.stands in
+    let stand : c.stand ≡ p.stand = ap (λ (x : Configuration Origin). x.stand) (same_told a c h.told r h.story) ∙ h.settles
+        ∙ settled_idle a [] q.taken p h (k kept.floor_whole) (ap is_idle kept.floor_phase ∙ i) in
+    let e : before q.taken a.floor.pair ≡ forgotten the_top p = ap (λ (x : Pair Origin). before q.taken x) (sym (unfilled a.floor.pair)) ∙ sym h.floor in
+    record {
+      queue = ap (λ (x : Pair Origin). x.stand.queue) e ∙ ap (λ (x : Stand Origin). x.queue) (sym stand);
+      transitions = ap (λ (x : Pair Origin). x.stand.transitions) e ∙ ap (λ (x : Stand Origin). x.transitions) (sym stand);
+      verdict = ap (λ (x : Pair Origin). x.stand.verdict) e ∙ ap (λ (x : Stand Origin). x.verdict) (sym stand);
+      live = ap (λ (x : Pair Origin). not_ended x.stand) e ∙ live_count the_top p.stand.threads ∙ ap not_ended (sym stand);
+    }

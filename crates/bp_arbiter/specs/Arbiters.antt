@@ -10,7 +10,7 @@ use Rattle.bp_log.specs.declared.record.Record.TheVariants.{In, Bad, Eof, Sel, E
 use Rattle.bp_log.specs.declared.trace.Line.{Line}
 use Rattle.bp_log.specs.declared.verdict.Verdict.{Verdict}
 use Rattle.bp_run.specs.Bodies.{Code}
-use Rattle.bp_run.specs.Configuration.{Configuration, Stand, below}
+use Rattle.bp_run.specs.Configuration.{Configuration, Stand, below, not_ended}
 use Rattle.bp_run.specs.Settling.{Pair, settle, opening}
 use Rattle.bp_run.specs.Story.{Next, story, next}
 use Rattle.bp_thread.specs.declared.job.Job.{Job}
@@ -120,3 +120,10 @@ pub record Keeps (a : PlainArbiter) : Type 0 where
   pub drawn : is_over a.phase ≡ false → a.drawn ≤ (stand_in a).transitions
   pub floor_phase : a.floor.phase ≡ a.phase
   pub floor_whole : a.floor.broken ≡ false
+
+-- a floor shows where its b-threads stand
+pub record Shows (shown told : Stand Origin) : Type 0 where
+  pub queue : shown.queue ≡ told.queue
+  pub transitions : shown.transitions ≡ told.transitions
+  pub verdict : shown.verdict ≡ told.verdict
+  pub live : not_ended shown ≡ not_ended told

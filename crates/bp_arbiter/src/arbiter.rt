@@ -15,7 +15,7 @@ ghost use Rattle.bp_thread.specs.Carried.{AreCarriedOut};
 ghost use Rattle.bp_floor.specs.declared.phase.Phase.TheVariants as phase;
 ghost use Rattle.bp_floor.specs.Floors.{is_idle, phase_of};
 ghost use Rattle.bp_arbiter.specs.declared.picked.Picked.TheVariants as picked;
-ghost use Rattle.bp_arbiter.specs.Arbiters.{opened, code_in, options_in, stand_in, Recounts, coming, Stands, Tells, verdict_of, IsGivenUp, Keeps};
+ghost use Rattle.bp_arbiter.specs.Arbiters.{opened, code_in, options_in, stand_in, Recounts, coming, Stands, Tells, verdict_of, IsGivenUp, Keeps, Shows};
 ghost use Rattle.bp_arbiter.specs.Absorbing.{is_failed, fits, ComesBack, with_item, absorbed};
 ghost use Rattle.bp_arbiter.specs.Picking.{picked_of, after_pick, phase_after};
 ghost use Rattle.bp_arbiter.specs.Lending.{AreOut, AreBack};
@@ -111,10 +111,14 @@ impl Arbiter {
         self.phase
     }
 
-    /// The floor. Takes no memory.
+    /// The floor: at `Rest` and `Over` its queue, transitions and live b-threads are those of the story, until
+    /// memory is wanting. Takes no memory.
     pub fn floor(&self) -> &Floor
-        ensures { result.now ≡ self.now.floor }
+        ensures floor { result.now ≡ self.now.floor }
+        ensures shows { self.now.broken ≡ false → is_idle self.now.phase ≡ true →
+            (c : Configuration Origin) → Recounts self.now c → Shows (stand_in self.now) c.stand }
     {
+        self.run.floor.keeps();
         &self.run.floor
     }
 
@@ -194,8 +198,8 @@ impl Arbiter {
     ///
     /// # Errors
     ///
-    /// `Full` exactly where the item is an event and as many wait as may, and `Memory`. Both hand the item
-    /// back, and nothing has changed.
+    /// `Full` exactly where the item is an event and as many wait as may, and `Memory`, also after want of
+    /// memory of another call. Both hand the item back, and nothing has changed.
     pub fn absorb(&mut self, injector: u32, item: Item) -> Result<(), Absorb>
         requires rest { self.old.phase ≡ phase.Rest }
         requires read { list_any (nat_eq injector) self.old.reading ≡ true }
