@@ -20,8 +20,8 @@ use Rattle.bp_floor.specs.Floors as floors
 use Rattle.bp_floor.specs.Floors.{PlainFloor, code_on, phase_at, phase_of}
 use Rattle.bp_floor.specs.Lending.{filled_pair}
 use Rattle.bp_arbiter.specs.declared.run.Run.{Run}
-use Rattle.bp_arbiter.specs.Arbiters.{PlainArbiter, Stands, Tells, Keeps, Recounts, coming, code_in, options_in, stand_in, is_over}
-use Rattle.bp_arbiter.specs.Sound.{IsSound, IsStanding, is_lent}
+use Rattle.bp_arbiter.specs.Arbiters.{PlainArbiter, Stands, Tells, Keeps, Recounts, coming, code_in, options_in, stand_in, is_over, is_lent}
+use Rattle.bp_arbiter.specs.Sound.{IsSound, IsStanding}
 use Rattle.bp_arbiter.specs.Lending.{AreBack}
 use Rattle.bp_arbiter.specs.Runs.{seen, IsBeside}
 use Rattle.bp_arbiter.specs.Sealing.{ending, ended_with, after_turn, turned_in, Turns, IsTurned, HasTurned, IsCutOff}

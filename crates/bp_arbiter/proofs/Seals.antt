@@ -139,7 +139,7 @@ has_grown r r' jobs t h =
     let entries : r'.floor.pair.entries ≡ map Runs (numbers_from (length p.stand.threads) w.0) = ap (λ (x : Pair Origin). x.entries) t.pair_is ∙ ended_entries q q.stand.verdict ∙ w.1 in
     let count : length r'.floor.pair.entries ≡ w.0 = ap (λ (ns : List (Entry Origin)). length ns) entries ∙ length_map Runs (numbers_from (length p.stand.threads) w.0) ∙ numbers_length (length p.stand.threads) w.0 in
     let new : length r'.floor.pair.stand.threads ≡ length p.stand.threads + w.0 = ap (λ (x : Pair Origin). length x.stand.threads) t.pair_is ∙ ap (λ (ts : List (Thread Origin)). length ts) (ended_threads q q.stand.verdict)
-        ∙ length_map (forget the_top) (turn (code_on r.floor) p).stand.threads ∙ w.2 in
+    ∙ length_map (forget the_top) (turn (code_on r.floor) p).stand.threads ∙ w.2 in
     let old = filled_length r.floor.pair.entries jobs r.floor.pair.stand.threads in
     omega (arith, some, count, new, old)
 

@@ -14,8 +14,8 @@ use Rattle.bp_thread.specs.declared.job.Job.{Job}
 use Rattle.bp_floor.specs.declared.phase.Phase.{Phase}
 use Rattle.bp_floor.specs.declared.phase.Phase.TheVariants as phase
 use Rattle.bp_floor.specs.Floors.{PlainFloor}
-use Rattle.bp_arbiter.specs.Arbiters.{PlainArbiter, Stands, Tells, Keeps, verdict_in, verdict_of, is_over, options_in, opened}
-use Rattle.bp_arbiter.specs.Sound.{IsSound, IsStanding, is_lent}
+use Rattle.bp_arbiter.specs.Arbiters.{PlainArbiter, Stands, Tells, Keeps, verdict_in, verdict_of, is_over, options_in, opened, is_lent}
+use Rattle.bp_arbiter.specs.Sound.{IsSound, IsStanding}
 use Rattle.bp_arbiter.proofs.Told.{stands_tells, stands_opened}
 
 -- ---- records

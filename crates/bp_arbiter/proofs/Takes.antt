@@ -15,8 +15,8 @@ use Rattle.bp_floor.specs.declared.phase.Phase.TheVariants.{Ready, Lent, Rest, O
 use Rattle.bp_floor.specs.Forgetting.{forget, forgotten}
 use Rattle.bp_floor.specs.Lending.{filled_pair}
 use Rattle.bp_floor.specs.Floors.{PlainFloor, IsPhased, is_idle}
-use Rattle.bp_arbiter.specs.Arbiters.{PlainArbiter, Stands, Tells, Keeps, Recounts, code_in, options_in, stand_in, is_over, Shows}
-use Rattle.bp_arbiter.specs.Sound.{IsSound, IsStanding, is_lent}
+use Rattle.bp_arbiter.specs.Arbiters.{PlainArbiter, Stands, StandsSomewhere, Tells, Keeps, Recounts, code_in, options_in, stand_in, is_over, Shows, is_lent}
+use Rattle.bp_arbiter.specs.Sound.{IsSound, IsStanding}
 use Rattle.bp_arbiter.proofs.Picks.{unfilled}
 use Rattle.bp_arbiter.proofs.Told.{same_code, same_story, same_told, told_lines, settled_idle}
 
@@ -82,8 +82,8 @@ taken_sound seed a g ls h1 h2 h3 h4 h5 s =
       taken = s.taken ++ ls;
       tells = taken_tells a g ls t s.taken s.tells;
       standing = λ w.
-      let k = s.standing w in
-      record { jobs = k.jobs; taken = k.taken ++ ls; pair = k.pair; stands = taken_stands a g ls t k.jobs k.taken k.pair k.stands; unlent = k.unlent; keeps = taken_keeps a g ls t k.keeps };
+          let k = s.standing w in
+          record { jobs = k.jobs; taken = k.taken ++ ls; pair = k.pair; stands = taken_stands a g ls t k.jobs k.taken k.pair k.stands; unlent = k.unlent; keeps = taken_keeps a g ls t k.keeps };
     }
 
 pub stands_taken : (a : PlainArbiter) (g : PlainFloor) (ls : List Line) → a.floor.pair ≡ before ls g.pair → g.phase ≡ a.floor.phase → g.broken ≡ a.floor.broken → g.base ≡ a.floor.base → g.options ≡ a.floor.options →
@@ -132,7 +132,7 @@ shows_now a s k w i c r =
     let p = q.pair in
     let h = subst (λ (js : List Job). Stands a js q.taken p) (q.unlent (idle_unlent a.phase i)) q.stands in
     let stand : c.stand ≡ p.stand = ap (λ (x : Configuration Origin). x.stand) (same_told a c h.told r h.story) ∙ h.settles
-        ∙ settled_idle a [] q.taken p h (k kept.floor_whole) (ap is_idle kept.floor_phase ∙ i) in
+    ∙ settled_idle a [] q.taken p h (k kept.floor_whole) (ap is_idle kept.floor_phase ∙ i) in
     let e : before q.taken a.floor.pair ≡ forgotten the_top p = ap (λ (x : Pair Origin). before q.taken x) (sym (unfilled a.floor.pair)) ∙ sym h.floor in
     record {
       queue = ap (λ (x : Pair Origin). x.stand.queue) e ∙ ap (λ (x : Stand Origin). x.queue) (sym stand);
@@ -140,3 +140,8 @@ shows_now a s k w i c r =
       verdict = ap (λ (x : Pair Origin). x.stand.verdict) e ∙ ap (λ (x : Stand Origin). x.verdict) (sym stand);
       live = ap (λ (x : Pair Origin). not_ended x.stand) e ∙ live_count the_top p.stand.threads ∙ ap not_ended (sym stand);
     }
+
+pub somewhere : (a : PlainArbiter) → (a.broken ≡ false → IsStanding a) → a.broken ≡ false → is_lent a.phase ≡ false → StandsSomewhere a
+somewhere a s w u =
+    let q = s w in
+    record { taken = q.taken; pair = q.pair; stands = subst (λ (js : List Job). Stands a js q.taken q.pair) (q.unlent u) q.stands }

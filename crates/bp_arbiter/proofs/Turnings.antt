@@ -22,8 +22,8 @@ use Rattle.bp_floor.specs.Forgetting.{forgotten}
 use Rattle.bp_floor.specs.Floors.{PlainFloor, IsPhased, code_on, phase_of}
 use Rattle.bp_arbiter.specs.declared.run.Run.{Run}
 use Rattle.bp_arbiter.specs.declared.picked.Picked.TheVariants as picked
-use Rattle.bp_arbiter.specs.Arbiters.{PlainArbiter, Stands, Tells, Keeps, Recounts, coming, code_in, options_in, stand_in, is_over}
-use Rattle.bp_arbiter.specs.Sound.{IsSound, IsStanding, is_lent}
+use Rattle.bp_arbiter.specs.Arbiters.{PlainArbiter, Stands, Tells, Keeps, Recounts, coming, code_in, options_in, stand_in, is_over, is_lent}
+use Rattle.bp_arbiter.specs.Sound.{IsSound, IsStanding}
 use Rattle.bp_arbiter.specs.Picking.{after_pick, picked_of, phase_after}
 use Rattle.bp_arbiter.specs.Runs.{seen, next_in, configuration_of, HasCome, IsBeside, IsUnheard, IsEnded, IsMoved, IsStill}
 use Rattle.bp_arbiter.proofs.Told.{stands_tells, tells_same}

@@ -81,6 +81,12 @@ pub record Stands (a : PlainArbiter) (jobs : List Job) (taken : List Line) (p : 
   pub floor : StandsWith a.floor jobs taken p
   pub calls : RunCalls p
 
+-- the arbiter, without jobs that are lent, stands for some pair
+pub record StandsSomewhere (a : PlainArbiter) : Type 0 where
+  pub taken : List Line
+  pub pair : Pair Origin
+  pub stands : Stands a [] taken pair
+
 -- The records are a story, also after want of memory: the lines taken, then those to be taken, then the rest are its lines.
 pub record Tells (a : PlainArbiter) (taken : List Line) : Type 0 where
   pub told : Configuration Origin
@@ -101,6 +107,12 @@ abbrev pub verdict_of : List Record → Option Verdict
 verdict_of [] = None
 verdict_of (End v ∷ []) = Some v
 verdict_of (r ∷ rs) = verdict_of rs
+
+abbrev pub is_lent : Phase → Bool
+is_lent Ready = false
+is_lent Lent = true
+is_lent Rest = false
+is_lent Over = false
 
 abbrev pub is_over : Phase → Bool
 is_over Ready = false

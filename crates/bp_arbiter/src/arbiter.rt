@@ -15,7 +15,7 @@ ghost use Rattle.bp_thread.specs.Carried.{AreCarriedOut};
 ghost use Rattle.bp_floor.specs.declared.phase.Phase.TheVariants as phase;
 ghost use Rattle.bp_floor.specs.Floors.{is_idle, phase_of};
 ghost use Rattle.bp_arbiter.specs.declared.picked.Picked.TheVariants as picked;
-ghost use Rattle.bp_arbiter.specs.Arbiters.{opened, code_in, options_in, stand_in, Recounts, coming, Stands, Tells, verdict_of, IsGivenUp, Keeps, Shows};
+ghost use Rattle.bp_arbiter.specs.Arbiters.{opened, code_in, options_in, stand_in, Recounts, coming, Stands, StandsSomewhere, Tells, is_lent, verdict_of, IsGivenUp, Keeps, Shows};
 ghost use Rattle.bp_arbiter.specs.Absorbing.{is_failed, fits, ComesBack, with_item, absorbed};
 ghost use Rattle.bp_arbiter.specs.Picking.{picked_of, after_pick, phase_after};
 ghost use Rattle.bp_arbiter.specs.Lending.{AreOut, AreBack};
@@ -94,6 +94,7 @@ impl Arbiter {
 
     /// What an arbiter keeps unless memory was wanting, as facts for its callers. Does nothing.
     pub fn keeps(&self)
+        ensures stands { self.now.broken ≡ false → is_lent self.now.phase ≡ false → StandsSomewhere self.now }
         ensures kept { self.now.broken ≡ false → Keeps self.now }
         ensures few { self.now.broken ≡ false → length (stand_in self.now).threads ≤ MOST_THREADS }
         ensures tells { (jobs : List Lent) (taken : List Line) (p : Pair Origin) → Stands self.now jobs taken p → Tells self.now taken }
