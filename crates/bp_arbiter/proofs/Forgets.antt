@@ -1,5 +1,5 @@
 -- A transition doesn't read what an ended b-thread ran and received.
-use Rattle.std.proofs.Common.{◌≡◌, ℕ, zero, suc, Bool, true, false, List, [], ◌∷◌, ◌++◌, length, map, refl, sym, ap, ◌∙◌, Option, Some, None, Ok, Err, if◌then◌else◌, ◌==◌, slice_get, option_map, append_assoc}
+use Rattle.std.proofs.Common.{◌≡◌, ℕ, zero, suc, Bool, true, false, List, [], ◌∷◌, ◌++◌, length, map, refl, sym, ap, ◌∙◌, Option, Some, None, Ok, Err, if◌then◌else◌, ◌==◌, slice_get, option_map, append_assoc, arith}
 use Rattle.std.specs.List.{cons_option}
 use Rattle.js_data.specs.Event.{PlainEvent}
 use Rattle.bp_log.specs.declared.trace.Line.{Line}
@@ -78,7 +78,7 @@ touched_all o e (x ∷ xs) ts us h =
 
 -- ---- entries
 
-got : {A B : Type 0} (f : A → B) (xs : List A) (i : ℕ) → slice_get (map f xs) i ≡ option_map f (slice_get xs i)
+pub got : {A B : Type 0} (f : A → B) (xs : List A) (i : ℕ) → slice_get (map f xs) i ≡ option_map f (slice_get xs i)
 got f [] i = refl
 got f (x ∷ xs) zero = refl
 got f (x ∷ xs) (suc i) = got f xs i

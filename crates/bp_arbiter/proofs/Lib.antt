@@ -1,2 +1,16 @@
 pub mod Calls
 pub mod Forgets
+pub mod Nexts
+pub mod Told
+pub mod Standing
+pub mod Choices
+pub mod Comes
+pub mod Picks
+pub mod Takes
+pub mod Seals
+pub mod Lends
+pub mod Absorbs
+pub mod Turnings
+pub mod Sealings
+pub mod Enterings
+pub mod Lendings

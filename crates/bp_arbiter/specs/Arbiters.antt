@@ -6,11 +6,11 @@ use Rattle.js_meaning.specs.Bodies.{Origin, bare}
 use Rattle.bp_log.specs.Options.{PlainOptions}
 use Rattle.bp_log.specs.Records.{is_complete}
 use Rattle.bp_log.specs.declared.record.Record.{Record}
-use Rattle.bp_log.specs.declared.record.Record.TheVariants.{End}
+use Rattle.bp_log.specs.declared.record.Record.TheVariants.{In, Bad, Eof, Sel, End}
 use Rattle.bp_log.specs.declared.trace.Line.{Line}
 use Rattle.bp_log.specs.declared.verdict.Verdict.{Verdict}
 use Rattle.bp_run.specs.Bodies.{Code}
-use Rattle.bp_run.specs.Configuration.{Configuration, Stand, below}
+use Rattle.bp_run.specs.Configuration.{Configuration, Stand, below, not_ended}
 use Rattle.bp_run.specs.Settling.{Pair, settle, opening}
 use Rattle.bp_run.specs.Story.{Next, story, next}
 use Rattle.bp_thread.specs.declared.job.Job.{Job}
@@ -81,6 +81,12 @@ pub record Stands (a : PlainArbiter) (jobs : List Job) (taken : List Line) (p : 
   pub floor : StandsWith a.floor jobs taken p
   pub calls : RunCalls p
 
+-- the arbiter, without jobs that are lent, stands for some pair
+pub record StandsSomewhere (a : PlainArbiter) : Type 0 where
+  pub taken : List Line
+  pub pair : Pair Origin
+  pub stands : Stands a [] taken pair
+
 -- The records are a story, also after want of memory: the lines taken, then those to be taken, then the rest are its lines.
 pub record Tells (a : PlainArbiter) (taken : List Line) : Type 0 where
   pub told : Configuration Origin
@@ -88,11 +94,25 @@ pub record Tells (a : PlainArbiter) (taken : List Line) : Type 0 where
   pub rest : List Line
   pub lines : told.stand.lines ≡ taken ++ ((stand_in a).lines ++ rest)
 
+-- the verdict of the record of an end
+abbrev pub verdict_in : Record → Option Verdict
+verdict_in (In j e) = None
+verdict_in (Bad j n) = None
+verdict_in (Eof j) = None
+verdict_in (Sel e) = None
+verdict_in (End v) = Some v
+
 -- the verdict with which the records end
 abbrev pub verdict_of : List Record → Option Verdict
 verdict_of [] = None
 verdict_of (End v ∷ []) = Some v
 verdict_of (r ∷ rs) = verdict_of rs
+
+abbrev pub is_lent : Phase → Bool
+is_lent Ready = false
+is_lent Lent = true
+is_lent Rest = false
+is_lent Over = false
 
 abbrev pub is_over : Phase → Bool
 is_over Ready = false
@@ -112,3 +132,10 @@ pub record Keeps (a : PlainArbiter) : Type 0 where
   pub drawn : is_over a.phase ≡ false → a.drawn ≤ (stand_in a).transitions
   pub floor_phase : a.floor.phase ≡ a.phase
   pub floor_whole : a.floor.broken ≡ false
+
+-- a floor shows where its b-threads stand
+pub record Shows (shown told : Stand Origin) : Type 0 where
+  pub queue : shown.queue ≡ told.queue
+  pub transitions : shown.transitions ≡ told.transitions
+  pub verdict : shown.verdict ≡ told.verdict
+  pub live : not_ended shown ≡ not_ended told

@@ -1,19 +1,11 @@
 -- What every arbiter keeps.
-use Rattle.std.specs.Prelude.{◌≡◌, ℕ, Bool, true, false, List, []}
+use Rattle.std.specs.Prelude.{◌≡◌, ℕ, false, List, []}
 use Rattle.js_meaning.specs.Bodies.{Origin}
 use Rattle.bp_log.specs.Records.{is_complete}
 use Rattle.bp_log.specs.declared.trace.Line.{Line}
 use Rattle.bp_run.specs.Settling.{Pair}
 use Rattle.bp_thread.specs.declared.job.Job.{Job}
-use Rattle.bp_floor.specs.declared.phase.Phase.{Phase}
-use Rattle.bp_floor.specs.declared.phase.Phase.TheVariants.{Ready, Lent, Rest, Over}
-use Rattle.bp_arbiter.specs.Arbiters.{PlainArbiter, Stands, Tells, Keeps, is_over, options_in}
-
-abbrev pub is_lent : Phase → Bool
-is_lent Ready = false
-is_lent Lent = true
-is_lent Rest = false
-is_lent Over = false
+use Rattle.bp_arbiter.specs.Arbiters.{PlainArbiter, Stands, Tells, Keeps, is_lent, is_over, options_in}
 
 -- it stands for some pair; jobs are lent at `Lent` alone
 pub record IsStanding (a : PlainArbiter) : Type 0 where

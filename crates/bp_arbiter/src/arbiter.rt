@@ -15,7 +15,7 @@ ghost use Rattle.bp_thread.specs.Carried.{AreCarriedOut};
 ghost use Rattle.bp_floor.specs.declared.phase.Phase.TheVariants as phase;
 ghost use Rattle.bp_floor.specs.Floors.{is_idle, phase_of};
 ghost use Rattle.bp_arbiter.specs.declared.picked.Picked.TheVariants as picked;
-ghost use Rattle.bp_arbiter.specs.Arbiters.{opened, code_in, options_in, stand_in, Recounts, coming, Stands, Tells, verdict_of, IsGivenUp, Keeps};
+ghost use Rattle.bp_arbiter.specs.Arbiters.{opened, code_in, options_in, stand_in, Recounts, coming, Stands, StandsSomewhere, Tells, is_lent, verdict_of, IsGivenUp, Keeps, Shows};
 ghost use Rattle.bp_arbiter.specs.Absorbing.{is_failed, fits, ComesBack, with_item, absorbed};
 ghost use Rattle.bp_arbiter.specs.Picking.{picked_of, after_pick, phase_after};
 ghost use Rattle.bp_arbiter.specs.Lending.{AreOut, AreBack};
@@ -94,12 +94,16 @@ impl Arbiter {
 
     /// What an arbiter keeps unless memory was wanting, as facts for its callers. Does nothing.
     pub fn keeps(&self)
+        ensures stands { self.now.broken ≡ false → is_lent self.now.phase ≡ false → StandsSomewhere self.now }
         ensures kept { self.now.broken ≡ false → Keeps self.now }
         ensures few { self.now.broken ≡ false → length (stand_in self.now).threads ≤ MOST_THREADS }
         ensures tells { (jobs : List Lent) (taken : List Line) (p : Pair Origin) → Stands self.now jobs taken p → Tells self.now taken }
         ensures exact { (taken : List Line) (p : Pair Origin) → Stands self.now [] taken p → is_idle self.now.phase ≡ true →
             (c : Configuration Origin) → Recounts self.now c → c.stand.lines ≡ taken ++ (stand_in self.now).lines }
-    {}
+    {
+        let _run = &self.run;
+        self.run.floor.keeps();
+    }
 
     /// What can be done: after want of memory that before the call. Takes no memory.
     pub fn phase(&self) -> Phase
@@ -108,10 +112,14 @@ impl Arbiter {
         self.phase
     }
 
-    /// The floor. Takes no memory.
+    /// The floor: at `Rest` and `Over` its queue, transitions and live b-threads are those of the story, until
+    /// memory is wanting. Takes no memory.
     pub fn floor(&self) -> &Floor
-        ensures { result.now ≡ self.now.floor }
+        ensures floor { result.now ≡ self.now.floor }
+        ensures shows { self.now.broken ≡ false → is_idle self.now.phase ≡ true →
+            (c : Configuration Origin) → Recounts self.now c → Shows (stand_in self.now) c.stand }
     {
+        self.run.floor.keeps();
         &self.run.floor
     }
 
@@ -172,7 +180,18 @@ impl Arbiter {
     pub fn into_records(self) -> Records
         ensures { result ≡ self.records }
     {
-        self.run.records.into_records()
+        let run = self.run;
+        run.records.into_records()
+    }
+
+    /// Whether the item needs no place of the queue, or has one.
+    fn fits(&self, item: &Item) -> bool
+        ensures { result ≡ fits (stand_in self.now) item.now }
+    {
+        match item {
+            Item::Offered(_) => self.room(),
+            _ => true,
+        }
     }
 
     /// The item of an injector enters: an event waits at the end of the queue, and at a bad line or at its
@@ -180,8 +199,8 @@ impl Arbiter {
     ///
     /// # Errors
     ///
-    /// `Full` exactly where the item is an event and as many wait as may, and `Memory`. Both hand the item
-    /// back, and nothing has changed.
+    /// `Full` exactly where the item is an event and as many wait as may, and `Memory`, also after want of
+    /// memory of another call. Both hand the item back, and nothing has changed.
     pub fn absorb(&mut self, injector: u32, item: Item) -> Result<(), Absorb>
         requires rest { self.old.phase ≡ phase.Rest }
         requires read { list_any (nat_eq injector) self.old.reading ≡ true }
@@ -192,7 +211,14 @@ impl Arbiter {
         ensures refused { IfErr result (ComesBack (stand_in self.old) item) }
         ensures same { OnErr result (self.new ≡ self.old) }
     {
-        Err(Absorb::Memory(item))
+        if !self.fits(&item) {
+            return Err(Absorb::Full(item));
+        }
+        if self.broken || self.run.records.reserve().is_err() {
+            return Err(Absorb::Memory(item));
+        }
+        self.run.floor.keeps();
+        self.run.absorb(injector, item)
     }
 
     /// What comes next by the definitions of a run: an event is selected, or the run waits for an injector,
@@ -212,8 +238,15 @@ impl Arbiter {
         ensures failed { OnErr result (IsGivenUp self.old self.new) }
         ensures stays { self.old.broken ≡ true → IsErr result × (self.new ≡ self.old) }
     {
+        if self.broken {
+            return Err(AllocError);
+        }
+        self.run.floor.keeps();
         self.broken = true;
-        Err(AllocError)
+        let picked = self.run.pick(alloc)?;
+        self.phase = self.run.floor.phase();
+        self.broken = false;
+        Ok(picked)
     }
 
     /// The jobs of what is to be run, in order: at `Ready`, and then it is `Lent`. Its only error is want of
@@ -231,8 +264,15 @@ impl Arbiter {
         ensures failed { OnErr result (IsGivenUp self.old self.new) }
         ensures stays { self.old.broken ≡ true → IsErr result × (self.new ≡ self.old) }
     {
+        if self.broken {
+            return Err(AllocError);
+        }
+        self.run.floor.keeps();
         self.broken = true;
-        Err(AllocError)
+        let jobs = self.run.floor.lend(alloc)?;
+        self.phase = Phase::Lent;
+        self.broken = false;
+        Ok(jobs)
     }
 
     /// Merges what the lent jobs did, one turn: they are the lent ones in the same order, each carried to its
@@ -257,7 +297,14 @@ impl Arbiter {
         ensures failed { OnErr result (IsGivenUp self.old self.new) }
         ensures stays { self.old.broken ≡ true → IsErr result × (self.new ≡ self.old) }
     {
+        if self.broken {
+            return Err(AllocError);
+        }
+        self.run.floor.keeps();
         self.broken = true;
-        Err(AllocError)
+        self.run.seal(alloc, jobs)?;
+        self.phase = self.run.floor.phase();
+        self.broken = false;
+        Ok(self.phase)
     }
 }

@@ -54,6 +54,6 @@ impl Numbers {
     pub fn take_away(&mut self, number: u32)
         ensures { self.new ≡ filter (λ k. not (nat_eq number k)) self.old }
     {
-        self.items.retain(|n| *n != number);
+        self.items.retain(|n| number != *n);
     }
 }

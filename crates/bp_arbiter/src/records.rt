@@ -1,6 +1,6 @@
 //! What was recorded of a run so far.
 ghost use Rattle.std.specs.Prelude.{◌≡◌, ◌++◌, ◌∷◌, [], OnOk, option_map, true, false};
-ghost use Rattle.bp_arbiter.specs.Arbiters.{verdict_of};
+ghost use Rattle.bp_arbiter.specs.Arbiters.{verdict_in, verdict_of};
 
 use bp_log::{Memory, Record, Records, Verdict};
 use std::alloc::Global;
@@ -44,11 +44,11 @@ impl RecordList {
     }
 
     /// Puts a record at its place. Takes no memory.
-    pub fn put(&mut self, record: Record)
+    pub fn put(&mut self, entry: Record)
         requires { self.old.has_place ≡ true }
-        ensures { self.new.records ≡ self.old.records ++ record ∷ [] }
+        ensures { self.new.records ≡ self.old.records ++ entry ∷ [] }
     {
-        self.items.push_reserved(record);
+        self.items.push_reserved(entry);
     }
 
     /// The records, in order. Takes no memory.
@@ -63,8 +63,8 @@ impl RecordList {
         ensures { option_map (λ v. v.now) result ≡ verdict_of self.now.records }
     {
         match self.items.last() {
-            Some(Record::End(verdict)) => Some(verdict),
-            _ => None,
+            Some(entry) => verdict_in(entry),
+            None => None,
         }
     }
 
@@ -73,5 +73,15 @@ impl RecordList {
         ensures { result ≡ self.records }
     {
         Records::new(self.items)
+    }
+}
+
+/// The verdict of the record of an end.
+fn verdict_in(entry: &Record) -> Option<&Verdict>
+    ensures { option_map (λ v. v.now) result ≡ verdict_in entry.now }
+{
+    match entry {
+        Record::End(verdict) => Some(verdict),
+        _ => None,
     }
 }
