@@ -1,3 +1,5 @@
+// Hot and cold water, mixed. Two taps each pour twice, and know nothing of one another; a third b-thread makes them
+// take turns, by waiting for the one and blocking the other. Without it any order could come.
 bp.registerBThread("Add hot", function() {
   bp.sync({request: bp.Event("hot")});
   bp.sync({request: bp.Event("hot")});
