@@ -1,5 +1,5 @@
 //! A floor: where the b-threads of a run stand.
-ghost use Rattle.std.specs.Prelude.{◌≡◌, ◌<◌, ◌≤◌, ◌+◌, ◌^◌, ◌++◌, ◌∷◌, [], ℕ, List, length, option_map, slice_get, None, OnOk, OnErr, IfOk, IfErr, Err, true, false};
+ghost use Rattle.std.specs.Prelude.{◌≡◌, ◌<◌, ◌≤◌, ◌+◌, ◌^◌, ◌++◌, ◌∷◌, [], ℕ, List, length, option_map, slice_get, None, OnOk, OnErr, IfOk, IfErr, Ok, Err, true, false};
 ghost use Rattle.js_value.specs.Value.{PlainSet};
 ghost use Rattle.js_meaning.specs.Bodies.{Origin, bare};
 ghost use Rattle.js_frames.specs.Places.{plain_ground};
@@ -12,6 +12,7 @@ ghost use Rattle.bp_run.specs.Settling.{Pair, turn, before, opening, queued};
 ghost use Rattle.bp_run.specs.Selecting.{live, selectable, blocker, requested};
 ghost use Rattle.bp_run.specs.Choosing.{choice};
 ghost use Rattle.bp_run.specs.Story.{over, stepped};
+ghost use Rattle.bp_select.specs.declared.answers.Choice.TheVariants as choice_made;
 ghost use Rattle.bp_select.specs.declared.answers.SelectFault.TheVariants as fault;
 ghost use Rattle.bp_select.specs.Answers.{AnswersAs, chosen_of, enabled_of};
 ghost use Rattle.bp_floor.specs.declared.phase.Phase.TheVariants as phase;
@@ -311,6 +312,7 @@ impl Floor {
             (choice (code_on self.old).has (draw_word draw.old.seed) self.old.options.strategy (live (code_on self.old) self.old.pair.stand) self.old.pair.stand.queue draw.old.drawn) result }
         ensures seed { draw.new.seed ≡ draw.old.seed }
         ensures drawn { (draw.old.drawn ≤ draw.new.drawn) × (draw.new.drawn ≤ draw.old.drawn + 1) }
+        ensures nothing { result ≡ Ok choice_made.Nothing → draw.new ≡ draw.old }
         ensures failed { OnErr result (draw.new ≡ draw.old) }
         ensures broken { self.old.broken ≡ true → result ≡ Err fault.Memory }
         ensures same { self.new ≡ self.old }
@@ -356,6 +358,8 @@ impl Floor {
     pub fn end(&mut self, verdict: Verdict) -> Result<(), Memory>
         requires idle { is_idle self.old.phase ≡ true }
         ensures whole { OnOk result (self.old.broken ≡ false) }
+        ensures ground { self.new.base ≡ self.old.base }
+        ensures options { self.new.options ≡ self.old.options }
         ensures ended { OnOk result (self.new ≡ record self.old { pair = record self.old.pair { stand = over self.old.pair.stand verdict }; phase = phase.Over }) }
         ensures failed { OnErr result (IsGivenUp self.old self.new) }
     {
