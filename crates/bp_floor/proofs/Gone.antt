@@ -127,27 +127,28 @@ gone base o b new e place k weight wave s q w p kept =
     let light : new.weight ≡ weight = ap (λ (x : Pair Origin). x.stand.weight) p in
     let more : new.transitions ≡ b.transitions + 1 = ap (λ (x : Pair Origin). x.stand.transitions) p in
     let counted = heavier b.transitions b.weight (event_weight e) _ weight s.counted q.weight_is (event_weighs e) in
-    let small = q.light in
-    (record {
-      reached = xs;
-      reach_is = q.reach_is;
-      stop_is = looks_open (floor_on base o b) e k weight q;
-      pair_is = p ∙ ap (λ (x : Pair Origin). forgotten the_top x) (moved_is_stepped l (stand_of b) e place xs weight wave q.weight_is w);
-      phase_is = refl;
-    },
-    record {
-      own = kept.own;
-      waiting = kept.waiting;
-      ready = kept.ready ∙ sym (ready_phase new.verdict new.wave);
-      mirror = kept.mirror;
-      fits = kept.fits;
-      few = kept.few;
-      room = kept.room;
-      alone = later_alone new.wave later;
-      below = below;
-      program_is = refl;
-      ground_is = s.ground_is ∙ ap (λ (ns : List (Entry Origin)). ground_at base.program o.budget ns) (rest_nobody _ base b s) ∙ sym (later_ground base.program o.budget new.wave later);
-      at_phase = lent_phase new.verdict new.wave;
-      light = omega (arith, light, small);
-      counted = omega (arith, light, more, counted);
-    })
+    let small = q.light in (
+      record {
+        reached = xs;
+        reach_is = q.reach_is;
+        stop_is = looks_open (floor_on base o b) e k weight q;
+        pair_is = p ∙ ap (λ (x : Pair Origin). forgotten the_top x) (moved_is_stepped l (stand_of b) e place xs weight wave q.weight_is w);
+        phase_is = refl;
+      },
+      record {
+        own = kept.own;
+        waiting = kept.waiting;
+        ready = kept.ready ∙ sym (ready_phase new.verdict new.wave);
+        mirror = kept.mirror;
+        fits = kept.fits;
+        few = kept.few;
+        room = kept.room;
+        alone = later_alone new.wave later;
+        below = below;
+        program_is = refl;
+        ground_is = s.ground_is ∙ ap (λ (ns : List (Entry Origin)). ground_at base.program o.budget ns) (rest_nobody _ base b s) ∙ sym (later_ground base.program o.budget new.wave later);
+        at_phase = lent_phase new.verdict new.wave;
+        light = omega (arith, light, small);
+        counted = omega (arith, light, more, counted);
+      },
+    )
