@@ -1,5 +1,5 @@
 -- The handler of a b-thread at its point.
-use Rattle.std.proofs.Common.{◌≡◌, ℕ, List, [], ◌∷◌, map, refl, sym, ap, ◌∙◌, subst, Option, Some, None, true, Result, Ok, Err, option_map, slice_get, IfOk, IsSome}
+use Rattle.std.proofs.Common.{◌≡◌, ℕ, List, [], ◌∷◌, ◌++◌, append_assoc, append-nil, map, refl, sym, ap, ◌∙◌, subst, Option, Some, None, true, Result, Ok, Err, option_map, slice_get, IfOk, IsSome}
 use Rattle.js_data.specs.Event.{PlainEvent}
 use Rattle.js_value.specs.Value as value
 use Rattle.js_value.specs.Value.{PlainValue, PlainSet}
@@ -8,9 +8,11 @@ use Rattle.js_meaning.specs.State.{Ground}
 use Rattle.js_meaning.specs.Bodies.{Origin, function}
 use Rattle.js_program.specs.declared.builtin.Mode.TheVariants as mode
 use Rattle.bp_code.specs.Code.{ground_for}
-use Rattle.bp_run.specs.Configuration.{Thread}
-use Rattle.bp_run.specs.Settling.{Body}
-use Rattle.bp_run.specs.Story.{handler_body}
+use Rattle.bp_run.specs.Configuration.{Thread, Stand}
+use Rattle.bp_run.specs.Settling.{Body, Entry}
+use Rattle.bp_run.specs.Choosing.{Touched}
+use Rattle.bp_run.specs.Numbers.{number_in}
+use Rattle.bp_run.specs.Story.{handler_body, entry_of}
 use Rattle.bp_meaning.specs.After.{handler}
 use Rattle.bp_thread.specs.declared.job.Job.{Job}
 use Rattle.bp_thread.specs.Jobs.{PlainJob, plain_job, StandsFor, is_stopped}
@@ -20,7 +22,7 @@ use Rattle.bp_floor.specs.Entries.{handler_seen}
 use Rattle.bp_floor.specs.Seating.{PlainSeat, seated, origin_in, replies_in, IsOwn, IsOwnIn, AreOwn}
 use Rattle.bp_floor.specs.Seated.{job_at}
 use Rattle.bp_floor.specs.Kept.{Running}
-use Rattle.bp_floor.specs.Touching.{IsStanding, HasHandler, handler_at}
+use Rattle.bp_floor.specs.Touching.{IsStanding, AreStanding, HasHandler, handler_at}
 use Rattle.bp_floor.proofs.Lists.{get_map}
 use Rattle.bp_floor.proofs.Places.{own_at0}
 use Rattle.bp_floor.proofs.Touches.{stopped_some}
@@ -68,3 +70,40 @@ handled res ss i e j k g h a =
     let job : k.seat.job ≡ Some j = k.is_job ∙ sym (ap (λ (y : Job). Some y) eq) in
     w ∙ own_handler r i j e (seated k.seat) mine stopped h (ap (λ (y : Option Job). origin_in y) job) (ap (λ (y : Option Job). replies_in y) job)
     ∙ ap (λ (y : Option (Thread Origin)). handler_body (code_of r.program r.options) e y) (sym there)) a
+
+-- ---- what runs after an event
+
+-- Where entering stands: these are left.
+pub record Entering (e : PlainEvent) (all left : List Touched) (ss : List PlainSeat) (wave : List (Entry Origin)) : Type 0 where
+  pub standing : AreStanding left ss
+  pub entered : (r : Running) (s : Stand Origin) → AreOwn r.program r.options 0 ss → s.threads ≡ map seated ss →
+      wave ++ map (entry_of (code_of r.program r.options) s e) left ≡ map (entry_of (code_of r.program r.options) s e) all
+
+pub entering_start : (e : PlainEvent) (all left : List Touched) (ss : List PlainSeat) (wave : List (Entry Origin)) → AreStanding all ss → left ≡ all → wave ≡ [] → Entering e all left ss wave
+entering_start e all left ss wave h l w =
+    subst (λ (xs : List Touched). Entering e all xs ss wave) (sym l) (record {
+      standing = h;
+      entered = λ r s own t. ap (λ (ns : List (Entry Origin)). ns ++ map (entry_of (code_of r.program r.options) s e) all) w;
+    })
+
+pub entering_standing : (e : PlainEvent) (all left : List Touched) (ss : List PlainSeat) (wave : List (Entry Origin)) (x : Touched) (rest : List Touched) → Entering e all left ss wave → left ≡ x ∷ rest →
+    IsStanding (slice_get ss (number_in x))
+entering_standing e all left ss wave x rest h k = let s = subst (λ (xs : List Touched). AreStanding xs ss) k h.standing in s.0
+
+pub entering_next : (e : PlainEvent) (all left : List Touched) (ss : List PlainSeat) (wave more : List (Entry Origin)) (x : Touched) (rest : List Touched) (n : Entry Origin) → Entering e all left ss wave → left ≡ x ∷ rest →
+    ((r : Running) (s : Stand Origin) → AreOwn r.program r.options 0 ss → s.threads ≡ map seated ss → n ≡ entry_of (code_of r.program r.options) s e x) → more ≡ wave ++ n ∷ [] → Entering e all rest ss more
+entering_next e all left ss wave more x rest n h k f m =
+    let s = subst (λ (xs : List Touched). AreStanding xs ss) k h.standing in
+    record {
+      standing = s.1;
+      entered = λ r s own t.
+          let g : Touched → Entry Origin = entry_of (code_of r.program r.options) s e in
+          ap (λ (ns : List (Entry Origin)). ns ++ map g rest) m ∙ append_assoc wave (n ∷ []) (map g rest) ∙ ap (λ (y : Entry Origin). wave ++ y ∷ map g rest) (f r s own t)
+          ∙ ap (λ (xs : List Touched). wave ++ map g xs) (sym k) ∙ h.entered r s own t;
+    }
+
+pub entering_end : (e : PlainEvent) (all left : List Touched) (ss : List PlainSeat) (wave : List (Entry Origin)) → Entering e all left ss wave → left ≡ [] → (r : Running) (s : Stand Origin) → AreOwn r.program r.options 0 ss → s.threads ≡ map seated ss →
+    wave ≡ map (entry_of (code_of r.program r.options) s e) all
+entering_end e all left ss wave h k r s own t =
+    let g : Touched → Entry Origin = entry_of (code_of r.program r.options) s e in
+    sym (append-nil wave) ∙ ap (λ (xs : List Touched). wave ++ map g xs) (sym k) ∙ h.entered r s own t

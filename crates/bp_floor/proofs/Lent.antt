@@ -20,7 +20,7 @@ use Rattle.bp_floor.specs.Entries.{handler_seen, entry_seen}
 use Rattle.bp_floor.specs.Programs.{code_of}
 use Rattle.bp_floor.specs.Seating.{PlainSeat, seated, origin_in, replies_in, outcome_in, is_waiting, is_ready, where_from, stop_at, statement_at, stated_from, IsOwn, IsOwnIn, AreOwn}
 use Rattle.bp_floor.specs.Seated.{job_at}
-use Rattle.bp_floor.specs.Kept.{Running, AreBelow, AreFrom, Rises, runs_in}
+use Rattle.bp_floor.specs.Kept.{Running, IsBelow, AreBelow, AreFrom, Rises, runs_in}
 use Rattle.bp_floor.specs.Lending.{JobFor, IsJobOf, IsLent, AreJobs, AreLent, fill, filled, standing}
 use Rattle.bp_floor.specs.Returning.{ground_at, AreLater, RunsAlone}
 use Rattle.bp_floor.specs.Lent.{IsStarted, IsGroundOf, Lends, CanLend, AreOut}
@@ -345,3 +345,30 @@ lending_next r base o The_top all ns js more old ss new h a l = lend_top r base 
 lending_next r base o (Runs i) all ns js more old ss new h a l = lend_runs r base o i all ns js more old ss new h l
 lending_next r base o (Stops i None) all ns js more old ss new h a l = lend_none r base o i all ns js more old ss new h l
 lending_next r base o (Stops i (Some b)) all ns js more old ss new h a l = lend_stops r base o i b all ns js more old ss new h a l
+
+-- Where lending stands, for whatever program runs.
+pub record Outgoing (base : Ground) (o : PlainOptions) (all left : List (Entry Origin)) (js : List Job) (old ss : List PlainSeat) : Type 0 where
+  pub goes : (r : Running) → CanLend r base o all old → Lending r base o all left js old ss
+  pub some : Running
+  pub begins : CanLend some base o all old
+
+pub outgoing_start : (base : Ground) (o : PlainOptions) (all left : List (Entry Origin)) (ss : List PlainSeat) (r : Running) → CanLend r base o all ss → left ≡ all → Outgoing base o all left [] ss ss
+outgoing_start base o all left ss r c h =
+    subst (λ (ns : List (Entry Origin)). Outgoing base o all ns [] ss ss) (sym h) (record { goes = λ s k. lending_start s base o all ss k; some = r; begins = c })
+
+pub outgoing_below : (base : Ground) (o : PlainOptions) (all left : List (Entry Origin)) (js : List Job) (old ss : List PlainSeat) (n : Entry Origin) (ns : List (Entry Origin)) → Outgoing base o all left js old ss → left ≡ n ∷ ns → IsBelow (length ss) n
+outgoing_below base o all left js old ss n ns g h = let b = subst (λ (ms : List (Entry Origin)). AreBelow (length ss) ms) h (g.goes g.some g.begins).can.below in b.0
+
+pub outgoing_next : (base : Ground) (o : PlainOptions) (all left : List (Entry Origin)) (js more next : List Job) (old ss new : List PlainSeat) (n : Code_entry) (ns : List (Entry Origin)) → Outgoing base o all left js old ss → left ≡ entry_seen n ∷ ns →
+    Lends base o (entry_seen n) ss new more → next ≡ js ++ more → Outgoing base o all ns next old new
+outgoing_next base o all left js more next old ss new n ns g h l e =
+    subst (λ (ks : List Job). Outgoing base o all ns ks old new) (sym e) (record {
+      goes = λ r c.
+          lending_next r base o (entry_seen n) all ns js more old ss new l (called r n)
+          (subst (λ (ms : List (Entry Origin)). Lending r base o all ms js old ss) h (g.goes r c));
+      some = g.some;
+      begins = g.begins;
+    })
+
+pub outgoing_end : (base : Ground) (o : PlainOptions) (all left : List (Entry Origin)) (js : List Job) (old ss : List PlainSeat) → Outgoing base o all left js old ss → left ≡ [] → (r : Running) → CanLend r base o all old → AreOut r all js old ss
+outgoing_end base o all left js old ss g h r c = lending_end r base o all js old ss c (subst (λ (ms : List (Entry Origin)). Lending r base o all ms js old ss) h (g.goes r c))

@@ -7,11 +7,12 @@ pub mod Turns
 pub mod Lent
 pub mod Onward
 pub mod Touches
-pub mod Going
+pub mod Unended
 pub mod Rests
 pub mod Handlers
 pub mod Standing
 pub mod Sound
+pub mod Asking
 pub mod Weaving
 pub mod Looking
 pub mod Gone

@@ -373,3 +373,13 @@ goes_next base all jobs old n left js ks now next b new rans more x g h e m =
       begins = g.begins;
       same = same_then old b new g.same h.same;
     }
+
+-- what is left of entries and jobs
+pub goes_left : (base : Ground) (all : List (Entry Origin)) (jobs : List Job) (old : Board) (left : List (Entry Origin)) (js : List Job) (now : Ground) (b : Board) (rans : List (Ran Origin (Unit {0}))) (n : Entry Origin) (ns : List (Entry Origin)) →
+    Goes base all jobs old left js now b rans → left ≡ n ∷ ns → Goes base all jobs old (n ∷ ns) js now b rans
+goes_left base all jobs old left js now b rans n ns g h = subst (λ (ms : List (Entry Origin)). Goes base all jobs old ms js now b rans) h g
+
+pub goes_end : (base : Ground) (all : List (Entry Origin)) (jobs : List Job) (old : Board) (left : List (Entry Origin)) (js : List Job) (now : Ground) (b : Board) (rans : List (Ran Origin (Unit {0}))) → Goes base all jobs old left js now b rans →
+    left ≡ [] → (r : Running) → IsBack r base all jobs old → AreAllBack r all (filled all jobs (map seated old.seats)) now b rans
+goes_end base all jobs old left js now b rans g h r m =
+    putting_end r base all jobs old js now b rans (subst (λ (ms : List (Entry Origin)). Putting r base all jobs old ms js now b rans) h (g.goes r m))

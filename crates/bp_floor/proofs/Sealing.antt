@@ -27,7 +27,7 @@ use Rattle.bp_floor.specs.Returning.{AreLater, RunsAlone, IsBack, ground_at}
 use Rattle.bp_floor.specs.Lent.{CanLend, AreOut, IsGroundOf}
 use Rattle.bp_floor.specs.Floors.{PlainFloor, IsSound, StandsFor, StandsWith, phase_at, phase_of, code_on}
 use Rattle.bp_floor.proofs.Forgetting.{length_forgotten}
-use Rattle.bp_floor.proofs.Going.{seats_going, filled_going, turn_of_standing}
+use Rattle.bp_floor.proofs.Unended.{seats_going, filled_going, turn_of_standing}
 use Rattle.bp_floor.proofs.Gone.{ready_phase, lent_phase}
 use Rattle.bp_floor.proofs.Places.{map_length}
 use Rattle.bp_floor.proofs.Returns.{filled_length, later_alone, later_ground}

@@ -22,7 +22,7 @@ use Rattle.bp_floor.specs.Boards.{stand_of, pair_of}
 use Rattle.bp_floor.specs.Kept.{Running, AreBelow, runs_in}
 use Rattle.bp_floor.specs.Returning.{RunsAlone, ground_at}
 use Rattle.bp_floor.specs.Floors.{PlainFloor, IsSound, IsPhased, phase_at}
-use Rattle.bp_floor.proofs.Going.{seats_going}
+use Rattle.bp_floor.proofs.Unended.{seats_going}
 use Rattle.bp_floor.proofs.Places.{map_length}
 use Rattle.bp_floor.proofs.Rests.{stated_live}
 

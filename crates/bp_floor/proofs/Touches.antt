@@ -232,3 +232,28 @@ touch_interrupts r e i all xs old now new h t =
 pub touching_next : (r : Running) (e : PlainEvent) (x : Touched) (all xs : List Touched) (old now new : Board) → IsTouch e x now new → Touching r e all (x ∷ xs) old now → Touching r e all xs old new
 touching_next r e (Moves i) all xs old now new h t = touch_moves r e i all xs old now new h t
 touching_next r e (Interrupts i) all xs old now new h t = touch_interrupts r e i all xs old now new h t
+
+-- the same for whatever program runs
+pub record Reaches (e : PlainEvent) (all xs : List Touched) (old now : Board) : Type 0 where
+  pub reaches : (r : Running) → CanTouch r all old → Touching r e all xs old now
+  pub some : Running
+  pub begins : CanTouch some all old
+
+pub reaches_start : (e : PlainEvent) (xs ys : List Touched) (b : Board) (r : Running) → CanTouch r xs b → ys ≡ xs → Reaches e xs ys b b
+reaches_start e xs ys b r c h =
+    subst (λ (zs : List Touched). Reaches e xs zs b b) (sym h) (record { reaches = λ s k. touching_start s e xs b k; some = r; begins = c })
+
+pub reaches_standing : (e : PlainEvent) (all xs : List Touched) (old now : Board) (x : Touched) (rest : List Touched) → Reaches e all xs old now → xs ≡ x ∷ rest → IsStanding (slice_get now.seats (number_in x))
+reaches_standing e all xs old now x rest h k =
+    let s = subst (λ (ys : List Touched). AreStanding ys now.seats) k (h.reaches h.some h.begins).standing in s.0
+
+pub reaches_next : (e : PlainEvent) (all xs : List Touched) (old now new : Board) (x : Touched) (rest : List Touched) → Reaches e all xs old now → xs ≡ x ∷ rest → IsTouch e x now new → Reaches e all rest old new
+reaches_next e all xs old now new x rest h k t =
+    record {
+      reaches = λ r c. touching_next r e x all rest old now new t (subst (λ (ys : List Touched). Touching r e all ys old now) k (h.reaches r c));
+      some = h.some;
+      begins = h.begins;
+    }
+
+pub reaches_end : (e : PlainEvent) (all xs : List Touched) (old now : Board) → Reaches e all xs old now → xs ≡ [] → (r : Running) → CanTouch r all old → IsTouchedBy r e all old now
+reaches_end e all xs old now h k r c = touching_end r e all old now (subst (λ (ys : List Touched). Touching r e all ys old now) k (h.reaches r c))

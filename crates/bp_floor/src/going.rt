@@ -36,7 +36,7 @@ pub enum Outlook {
 
 /// The first of the next that goes on and the next that is interrupted.
 fn first_touch(moved: Option<&u32>, interrupted: Option<&u32>) -> Option<Touch>
-    ensures { option_map touch_seen result ≡ first_touch (option_map (λ n. n.now) moved) (option_map (λ n. n.now) interrupted) }
+    ensures { option_map touch_seen result ≡ first_touch (option_map (λ n. n.now) moved.entry) (option_map (λ n. n.now) interrupted.entry) }
 {
     match (moved, interrupted) {
         (Some(first), Some(other)) => {
@@ -101,17 +101,17 @@ impl Board {
     }
 
     /// What an event leads to that reaches these.
-    fn weighed(&self, event: &Event, reach: Reach) -> Outlook
+    fn weighed(&self, event: &Event, reached: Reach) -> Outlook
         requires light { self.now.weight ≤ MOST_WEIGHT }
-        requires few { length reach.moved.items ≤ MOST_THREADS }
+        requires few { length reached.moved.items ≤ MOST_THREADS }
         ensures { (f : PlainFloor) (xs : List Touched) → f.pair ≡ pair_of self.now → reach (code_on f).has event.now (live (code_on f) f.pair.stand) ≡ Ok xs →
-            IsReach xs reach → LooksAs f event.now result }
+            IsReach xs reached → LooksAs f event.now result }
     {
-        let weight = self.weight_after(event, reach.moved.len());
+        let weight = self.weight_after(event, reached.moved.len());
         if weight > MOST_WEIGHT {
             return Outlook::Stops(Verdict::Weight);
         }
-        Outlook::Reaches(reach, weight)
+        Outlook::Reaches(reached, weight)
     }
 
     /// What an event leads to. Its only error is want of memory.
