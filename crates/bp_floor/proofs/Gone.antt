@@ -104,7 +104,7 @@ heavier t w e n x h k p = let m : 1 ≤ e * (1 + n) = one-le-mul p (omega arith)
 event_weighs : (e : PlainEvent) → 1 ≤ event_weight e
 event_weighs e = omega arith
 
-moved_is_stepped : (l : Code Origin _) (s : Stand Origin) (e : PlainEvent) (place : Option ℕ) (xs : List Touched) (weight : ℕ) (wave : List (Entry Origin)) → weight ≡ (step s e place xs).weight → wave ≡ map (entry_of l s e) xs →
+moved_is_stepped : {S : Type 0} (l : Code Origin S) (s : Stand Origin) (e : PlainEvent) (place : Option ℕ) (xs : List Touched) (weight : ℕ) (wave : List (Entry Origin)) → weight ≡ (step s e place xs).weight → wave ≡ map (entry_of l s e) xs →
     moved_pair s e place xs weight wave ≡ stepped l s e place xs
 unfolding step
 moved_is_stepped l s e place xs weight wave h k = rw (h, k) refl

@@ -372,3 +372,17 @@ outgoing_next base o all left js more next old ss new n ns g h l e =
 
 pub outgoing_end : (base : Ground) (o : PlainOptions) (all left : List (Entry Origin)) (js : List Job) (old ss : List PlainSeat) → Outgoing base o all left js old ss → left ≡ [] → (r : Running) → CanLend r base o all old → AreOut r all js old ss
 outgoing_end base o all left js old ss g h r c = lending_end r base o all js old ss c (subst (λ (ms : List (Entry Origin)). Lending r base o all ms js old ss) h (g.goes r c))
+
+-- a job that has just been made
+pub started : (base : Ground) (o : PlainOptions) (number : ℕ) (name : List ℕ) (origin : Origin) (j : Job) (budget : ℕ) →
+    plain_job j ≡ record { number = number; name = name; origin = origin; replies = []; effects = []; handler = None; outcome = None } → IsOf base.program j → budget ≡ o.budget → IsWhole base budget j → IsStarted base o number origin j
+started base o number name origin j budget p q h w =
+    record {
+      number_is = ap (λ (x : PlainJob). x.number) p;
+      origin_is = ap (λ (x : PlainJob). x.origin) p;
+      replies = ap (λ (x : PlainJob). x.replies) p;
+      effects = ap (λ (x : PlainJob). x.effects) p;
+      outcome = ap (λ (x : PlainJob). x.outcome) p;
+      of_program = q;
+      whole = subst (λ (n : ℕ). IsWhole base n j) h w;
+    }

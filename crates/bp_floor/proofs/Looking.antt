@@ -1,7 +1,8 @@
 -- What an event leads to: whom it reaches, how much the run weighs then, and whose set is at fault.
-use Rattle.std.proofs.Common.{◌≡◌, ℕ, suc, ◌+◌, ◌*◌, ◌<◌, ◌≤◌, Bool, true, false, List, [], ◌∷◌, length, map, refl, sym, ap, ◌∙◌, subst, arith, Option, Some, None, Result, Ok, Err, nat_lt, count_by, slice_get, if◌then◌else◌}
+use Rattle.std.proofs.Common.{◌≡◌, ℕ, suc, ◌+◌, ◌*◌, ◌<◌, ◌≤◌, Bool, true, false, List, [], ◌∷◌, length, map, refl, sym, ap, ◌∙◌, subst, arith, Option, Some, None, Result, Ok, Err, nat_lt, cond, count_by, slice_get, if◌then◌else◌}
 use Rattle.std.specs.List.{filter_map, cons_option}
 use Rattle.std.proofs.lemmas.Bool.{lt-ltb, le-ltb}
+use Rattle.std.proofs.lemmas.List.Recursion.{is_count_by}
 use Rattle.js_data.specs.Event.{PlainEvent, event_weight}
 use Rattle.js_value.specs.Value.{PlainSet}
 use Rattle.js_meaning.specs.Bodies.{Origin}
@@ -48,10 +49,12 @@ reached_few l s e xs k h r =
 
 -- ---- what it weighs
 
+count_step : (x : Touched) (xs : List Touched) → length (filter_map move_of (x ∷ xs)) ≡ cond (is_move x) (1 + length (filter_map move_of xs)) (length (filter_map move_of xs))
+count_step (Moves i) xs = omega arith
+count_step (Interrupts i) xs = refl
+
 moves_counted : (xs : List Touched) → length (filter_map move_of xs) ≡ count_by is_move xs
-moves_counted [] = refl
-moves_counted (Moves i ∷ xs) = let r = moves_counted xs in omega (arith, r)
-moves_counted (Interrupts i ∷ xs) = let r = moves_counted xs in omega (arith, r)
+moves_counted xs = is_count_by (λ (ys : List Touched). length (filter_map move_of ys)) is_move refl count_step xs
 
 weighs : {O : Type 0} (s : Stand O) (e : PlainEvent) (xs : List Touched) (k : Reach) → IsReach xs k → s.weight + event_weight e * (1 + length k.moved.items) ≡ weight_after s e xs
 weighs s e xs k r = ap (λ (n : ℕ). s.weight + event_weight e * (1 + n)) (ap (λ (ns : List ℕ). length ns) r.moved ∙ moves_counted xs)

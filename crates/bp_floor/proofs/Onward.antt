@@ -1,18 +1,24 @@
 -- What merging keeps, step after step.
-use Rattle.std.proofs.Common.{◌≡◌, ℕ, ◌≤◌, ◌<◌, ◌+◌, List, [], ◌∷◌, ◌++◌, length, map, refl, sym, ap, ◌∙◌, subst, arith, true, false, length-append, Option, Some, None}
+use Rattle.std.proofs.Common.{◌≡◌, ℕ, ◌≤◌, ◌<◌, ◌+◌, List, [], ◌∷◌, ◌++◌, length, map, refl, sym, ap, ◌∙◌, subst, arith, nat_eq, true, false, length-append, Option, Some, None}
 use Rattle.js_data.specs.Event.{PlainEvent}
 use Rattle.js_program.specs.PlainProgram.{PlainProgram}
 use Rattle.js_program.specs.declared.builtin.Mode.TheVariants as mode
 use Rattle.js_meaning.specs.Bodies.{Origin, function, ground_of}
 use Rattle.js_meaning.specs.State.{Ground}
 use Rattle.js_value.specs.Value.{PlainValue, PlainSet}
+use Rattle.js_value.specs.declared.value.Value.{Value}
+use Rattle.js_value.specs.Views.{plain_value}
 use Rattle.bp_log.specs.Options.{PlainOptions}
 use Rattle.bp_log.specs.declared.limits.TheConstants.{MOST_WAITING, MOST_THREADS}
-use Rattle.bp_run.specs.Bodies.{Part, Outcome}
+use Rattle.bp_run.specs.Bodies.{Part, Outcome, Effect}
+use Rattle.bp_run.specs.Bodies.Effect.{Register}
+use Rattle.bp_log.specs.declared.verdict.Place.{Place}
+use Rattle.bp_log.specs.declared.verdict.Verdict.TheVariants as verdict
+use Rattle.std.proofs.lemmas.Bool.{eq-eqb}
 use Rattle.std.proofs.lemmas.List.{map-append}
 use Rattle.bp_code.specs.Code.{ground_for}
 use Rattle.bp_run.specs.Configuration.{Thread, change}
-use Rattle.bp_run.specs.Settling.{Entry, Pair, Ran, registered, merged, with_part, unless_over, ended}
+use Rattle.bp_run.specs.Settling.{Entry, Pair, Ran, registered, merged, stopped, with_effect, with_effects, with_part, unless_over, ended}
 use Rattle.bp_run.specs.Settling.Entry.{The_top, Runs, Stops}
 use Rattle.bp_run.specs.Selecting.{Live}
 use Rattle.bp_select.specs.Benches.{PlainBench, placed, Fits}
@@ -22,9 +28,10 @@ use Rattle.bp_floor.specs.declared.board.Board.{Board}
 use Rattle.bp_floor.specs.Seating.{PlainSeat, seated, is_waiting, is_ready, where_from, stated_from, IsOwn, AreOwn}
 use Rattle.bp_floor.specs.Boards.{stand_of, pair_of, retired}
 use Rattle.bp_floor.specs.Kept.{Running, IsOn, IsKept, IsBelow, AreBelow, AreFrom, runs_in}
+use Rattle.bp_floor.specs.Returning.{entry_in}
 use Rattle.bp_floor.proofs.Lists.{change_length, change_map}
-use Rattle.bp_floor.proofs.Places.{where_last0, stated_last, own_last0, from_last, runs_last, where_ended0, own_changed0, stated_changed0, map_length}
-use Rattle.bp_floor.proofs.Widening.{Wider, wider_part, all_below_more, below_more}
+use Rattle.bp_floor.proofs.Places.{where_last0, stated_last, own_last0, from_last, runs_last, not_equal, where_ended0, own_changed0, stated_changed0, map_length}
+use Rattle.bp_floor.proofs.Widening.{Wider, wider_effects, wider_part, all_below_more, below_more}
 
 none_some : (x : Outcome PlainSet) → None ≡ Some x → ⊥
 none_some x h = absurd (cc)
@@ -146,3 +153,45 @@ merging_next base o all left x old now new m h k =
       below = m.below.1;
       keeps = λ r first on a k2. let q = m.keeps r first on a k2 in (q.0.1, k r first on q.0.0 q.1);
     }
+
+-- a b-thread that is registered stays so while effects are merged
+pub part_within : (at : Place) (xs : List (Effect Origin)) (b new : Board) (n : Entry Origin) → pair_of new ≡ with_effects at xs (pair_of b) → IsBelow (length b.seats) n → IsBelow (length new.seats) n
+part_within at xs b new n h k =
+    let more = (wider_effects at xs (pair_of b)).threads in
+    let len : length (map seated new.seats) ≡ length (with_effects at xs (pair_of b)).stand.threads = ap (λ (p : Pair Origin). length p.stand.threads) h in
+    let a = map_length seated new.seats in
+    let c = map_length seated b.seats in
+    below_more (length b.seats) (length new.seats) n (omega (arith, more, len, a, c)) k
+
+-- as many b-threads as may are registered, or fewer
+pub threads_full : (at : Place) (name : List ℕ) (o : Origin) (b : Board) → length b.seats ≡ MOST_THREADS → stopped verdict.Threads (pair_of b) ≡ with_effect at (Register name o) (pair_of b)
+threads_full at name o b h =
+    let e : nat_eq (length (map seated b.seats)) MOST_THREADS ≡ true = eq-eqb (length (map seated b.seats)) MOST_THREADS (map_length seated b.seats ∙ h) in
+    rw e refl
+
+pub threads_few : (at : Place) (name : List ℕ) (o : Origin) (b : Board) → (length b.seats ≡ MOST_THREADS → ⊥) → registered name o (pair_of b) ≡ with_effect at (Register name o) (pair_of b)
+threads_few at name o b h =
+    let e : nat_eq (length (map seated b.seats)) MOST_THREADS ≡ false =
+    not_equal (length (map seated b.seats)) MOST_THREADS (nat_eq (length (map seated b.seats)) MOST_THREADS) refl (λ k. h (sym (map_length seated b.seats) ∙ k)) in
+    rw e refl
+
+-- ---- all of them
+
+pub merging_begin : (base : Ground) (o : PlainOptions) (all left : List (Ran Origin (Unit {0}))) (b : Board) → left ≡ all → AreBelow (length b.seats) (map entry_in all) → Merging base o all left b b
+merging_begin base o all left b e h = subst (λ (xs : List (Ran Origin (Unit {0}))). Merging base o all xs b b) (sym e) (merging_start base o all b h)
+
+pub merging_left : (base : Ground) (o : PlainOptions) (all left : List (Ran Origin (Unit {0}))) (x : Ran Origin (Unit {0})) (rest : List (Ran Origin (Unit {0}))) (old now : Board) → Merging base o all left old now → left ≡ x ∷ rest →
+    Merging base o all (x ∷ rest) old now
+merging_left base o all left x rest old now m h = subst (λ (xs : List (Ran Origin (Unit {0}))). Merging base o all xs old now) h m
+
+pub merging_end : (base : Ground) (o : PlainOptions) (all left : List (Ran Origin (Unit {0}))) (old now : Board) → Merging base o all left old now → left ≡ [] →
+    (pair_of now ≡ merged all (pair_of old)) × ((r : Running) (first : ℕ) → IsOn r base o → AreBelow first (map entry_in all) → IsKept r first old → IsKept r first now)
+merging_end base o all left old now m h =
+    let n = subst (λ (xs : List (Ran Origin (Unit {0}))). Merging base o all xs old now) h m in
+    (n.merged_is, λ r first on a k. (n.keeps r first on a k).1)
+
+-- the job of a b-thread that has just been registered
+pub started_thread : (j : Job) (number n : ℕ) (name named : List ℕ) (callee : PlainValue) (args : List Value) →
+    plain_job j ≡ record { number = number; name = named; origin = function mode.Thread callee (map plain_value args); replies = []; effects = []; handler = None; outcome = None } → number ≡ n → named ≡ name → args ≡ [] →
+    plain_job j ≡ record { number = n; name = name; origin = function mode.Thread callee []; replies = []; effects = []; handler = None; outcome = None }
+started_thread j number n name named callee args p a b e = p ∙ rw (a, b, e) refl

@@ -1,9 +1,10 @@
 -- Jobs come back, one after the other.
 use Rattle.std.proofs.Common.{◌≡◌, ℕ, zero, suc, ◌+◌, ◌<◌, ◌≤◌, Bool, true, false, not, ◌&&◌, List, [], ◌∷◌, ◌++◌, length, map, refl, sym, ap, ◌∙◌, subst, arith, append_assoc, append-nil, Option, Some, None, is_none, is_some, slice_get, if◌then◌else◌}
 use Rattle.js_data.specs.Event.{PlainEvent}
-use Rattle.js_value.specs.Value.{PlainSet}
+use Rattle.js_value.specs.Value.{PlainValue, PlainSet}
 use Rattle.js_program.specs.PlainProgram.{PlainProgram}
-use Rattle.js_meaning.specs.Bodies.{Origin, the_top, bare, ground_of}
+use Rattle.js_meaning.specs.Bodies.{Origin, the_top, bare, ground_of, evaluation, constants_left}
+use Rattle.js_meaning.specs.State as js
 use Rattle.js_meaning.specs.State.{Ground}
 use Rattle.bp_log.specs.Options.{PlainOptions}
 use Rattle.bp_log.specs.declared.limits.TheConstants.{MOST_WAITING, MOST_THREADS}
@@ -13,10 +14,10 @@ use Rattle.bp_run.specs.Configuration.{Thread, Stand, change}
 use Rattle.bp_run.specs.Settling.{Body, Entry, Ran, body_of, own_body, part_of}
 use Rattle.bp_run.specs.Settling.Entry.{The_top, Runs, Stops}
 use Rattle.bp_run.specs.Numbers.{number_of}
-use Rattle.bp_meaning.specs.After.{effect_of}
+use Rattle.bp_meaning.specs.After.{effect_of, outcome_of}
 use Rattle.bp_select.specs.Benches.{placed, live_at}
 use Rattle.bp_thread.specs.declared.job.Job.{Job}
-use Rattle.bp_thread.specs.Jobs.{PlainJob, plain_job, IsOf, StandsFor, IsWhole}
+use Rattle.bp_thread.specs.Jobs.{PlainJob, plain_job, IsOf, StandsAt, StandsFor, IsWhole}
 use Rattle.bp_floor.specs.declared.board.Board.{Board}
 use Rattle.bp_code.specs.Code.{ground_for}
 use Rattle.bp_floor.specs.Programs.{code_of}
@@ -24,7 +25,7 @@ use Rattle.bp_floor.specs.Seating.{PlainSeat, seated, outcome_in, is_waiting, is
 use Rattle.bp_floor.specs.Parts.{unstated, unstated_part, nothing_stated}
 use Rattle.bp_floor.specs.Kept.{Running, runs_in, AreBelow}
 use Rattle.bp_floor.specs.Lending.{JobFor, IsJobOf, IsCarried, IsDone, AreJobs, AreDone, fill, filled, has_body, standing}
-use Rattle.bp_floor.specs.Returning.{ground_at, AreLater, RunsAlone, IsBack, IsSameBut, part_in, Puts, IsPut, IsTaken, IsKeptBy, ran_in, AreAllBack}
+use Rattle.bp_floor.specs.Returning.{ground_at, AreLater, RunsAlone, IsBack, IsSameBut, part_in, Puts, IsPut, IsTaken, IsKeptBy, IsFilled, ran_in, AreAllBack}
 use Rattle.bp_floor.proofs.Lists.{change_length, change_map, found}
 use Rattle.bp_floor.proofs.Places.{own_changed0, stated_changed0, where_first0, where_none, where_below0, waits_at0, map_length}
 
@@ -383,3 +384,43 @@ pub goes_end : (base : Ground) (all : List (Entry Origin)) (jobs : List Job) (ol
     left ≡ [] → (r : Running) → IsBack r base all jobs old → AreAllBack r all (filled all jobs (map seated old.seats)) now b rans
 goes_end base all jobs old left js now b rans g h r m =
     putting_end r base all jobs old js now b rans (subst (λ (ms : List (Entry Origin)). Putting r base all jobs old ms js now b rans) h (g.goes r m))
+
+-- ---- the constants that the top level leaves
+
+none_left : (e : js.Outcome) → (outcome_of e ≡ run.Outcome.Ended → ⊥) → constants_left e ≡ []
+none_left (js.went c s) h = absurd (h refl)
+none_left (js.broken f line left) h = refl
+none_left (js.violated text left) h = refl
+none_left (js.spent left) h = refl
+none_left (js.stopped statement priority line left) h = refl
+
+-- the top level came to its end
+pub filled_ended : (j : Job) (cs : List (Option PlainValue)) (old new : Ground) →
+    ((base : Ground) (budget : ℕ) → StandsFor base budget j → (plain_job j).origin ≡ the_top → cs ≡ constants_left (evaluation base budget the_top (plain_job j).replies)) → new ≡ record old { constants = cs } → IsFilled j old new
+unfolding ground_of
+filled_ended j cs old new h k = λ r n c e.
+    let left = h (bare r.program) r.options.budget c.stands c.job.origin_is
+    ∙ ap (λ (es : List PlainEvent). constants_left (evaluation (bare r.program) r.options.budget the_top es)) c.job.replies_are in
+    k ∙ ap (λ (g : Ground). let x : Ground = record g { constants = cs } in x) e ∙ ap (λ (xs : List (Option PlainValue)). let x : Ground = record { program = r.program; constants = xs } in x) left
+
+-- it did not, so nothing is left of it
+pub filled_not : (j : Job) (old : Ground) → ((plain_job j).outcome ≡ Some run.Outcome.Ended → ⊥) → IsFilled j old old
+unfolding ground_of code_of
+filled_not j old h = λ r n c e.
+    let o = evaluation (bare r.program) r.options.budget the_top [] in
+    e ∙ ap (λ (xs : List (Option PlainValue)). let x : Ground = record { program = r.program; constants = xs } in x) (sym (none_left o (λ w. h (c.outcome ∙ ap (λ (x : Outcome PlainSet). Some x) w))))
+
+pub goes_begin : (base : Ground) (all left : List (Entry Origin)) (jobs : List Job) (old : Board) (rans : List (Ran Origin (Unit {0}))) (r : Running) → left ≡ all → rans ≡ [] → IsBack r base all jobs old → Goes base all jobs old left jobs base old rans
+goes_begin base all left jobs old rans r h k m =
+    subst (λ (ns : List (Entry Origin)). Goes base all jobs old ns jobs base old rans) (sym h)
+    (subst (λ (xs : List (Ran Origin (Unit {0}))). Goes base all jobs old all jobs base old xs) (sym k) (goes_start base all jobs old r m))
+
+-- no job comes where one should
+pub puts_none_left : (n : Entry Origin) (js ks : List Job) (base : Ground) (b : Board) (part : Part Origin (Unit {0})) → js ≡ [] → ks ≡ [] → has_body n ≡ true → Puts n js base b ks base b part
+puts_none_left n js ks base b part h k w =
+    subst (λ (xs : List Job). Puts n xs base b ks base b part) (sym h) (subst (λ (ys : List Job). Puts n [] base b ys base b part) (sym k) (puts_none n base b part w))
+
+-- what taking the effects of a job leaves
+pub taken : (j k : Job) → plain_job k ≡ record (plain_job j) { effects = [] } → ((program : PlainProgram) → IsOf program j → IsOf program k) →
+    ((base : Ground) (budget begun : ℕ) (made : List js.Effect) → StandsAt base budget begun made j → StandsAt base budget begun made k) → IsTaken j k
+taken j k p q s = record { plain = p; of_program = q; stands = λ base budget h. record { begun = h.begun; made = h.made; stands = s base budget h.begun h.made h.stands } }

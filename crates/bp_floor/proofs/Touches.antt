@@ -1,5 +1,6 @@
 -- An event reaches b-threads, one after the other.
-use Rattle.std.proofs.Common.{◌≡◌, ℕ, zero, suc, ◌+◌, ◌<◌, ◌≤◌, Bool, true, false, not, ◌&&◌, List, [], ◌∷◌, ◌++◌, length, map, refl, sym, ap, ◌∙◌, subst, arith, Option, Some, None, is_none, is_some, slice_get, append_assoc, append-nil, if◌then◌else◌}
+use Rattle.std.proofs.lemmas.List.Edits.{length-remove}
+use Rattle.std.proofs.Common.{◌≡◌, ℕ, zero, suc, ◌+◌, ◌<◌, ◌≤◌, Bool, true, false, not, ◌&&◌, List, [], ◌∷◌, ◌++◌, length, map, refl, sym, ap, ◌∙◌, subst, arith, Option, Some, None, is_none, is_some, slice_get, append_assoc, append-nil, if◌then◌else◌, IfSome}
 use Rattle.js_data.specs.Event.{PlainEvent}
 use Rattle.js_value.specs.Value.{PlainSet}
 use Rattle.js_program.specs.PlainProgram.{PlainProgram}
@@ -14,20 +15,25 @@ use Rattle.bp_run.specs.Configuration.{Thread, change}
 use Rattle.bp_run.specs.Selecting.{Live}
 use Rattle.bp_run.specs.Choosing.{Touched}
 use Rattle.bp_run.specs.Choosing.Touched.{Moves, Interrupts}
-use Rattle.bp_run.specs.Story.{touch, touch_all}
+use Rattle.bp_run.specs.Settling.{Entry, Pair}
+use Rattle.bp_log.specs.declared.trace.Line.{Line}
+use Rattle.bp_run.specs.Story.{touch, touch_all, without, line_of_choice}
 use Rattle.bp_run.specs.Numbers.{number_in}
-use Rattle.bp_select.specs.Benches.{placed, live_at, Fits}
+use Rattle.bp_select.specs.Benches.{PlainBench, placed, live_at, Fits}
 use Rattle.bp_select.specs.Answers.{move_of}
 use Rattle.bp_thread.specs.declared.job.Job.{Job}
 use Rattle.bp_thread.specs.Jobs.{PlainJob, plain_job, IsOf, StandsFor, IsWhole, is_stopped}
 use Rattle.bp_floor.specs.declared.board.Board.{Board}
 use Rattle.bp_floor.specs.Programs.{code_of}
-use Rattle.bp_floor.specs.Seating.{PlainSeat, seated, origin_in, replies_in, outcome_in, is_waiting, is_ready, where_from, stop_at, statement_at, stated_from, IsOwn, IsOwnIn, AreOwn}
-use Rattle.bp_floor.specs.Kept.{Running, AreFrom, Rises}
+use Rattle.bp_floor.specs.Seating.{PlainSeat, seated, origin_in, replies_in, outcome_in, is_waiting, is_ready, where_from, stop_at, statement_at, stated_from, IsOwn, IsOwnIn, AreOwn, swept}
+use Rattle.bp_floor.specs.Boards.{stand_of, pair_of}
+use Rattle.bp_floor.specs.Forgetting.{forget, forgotten}
+use Rattle.bp_floor.specs.Kept.{Running, IsKept, AreFrom, Rises, runs_in}
 use Rattle.bp_floor.specs.Returning.{IsSameBut}
-use Rattle.bp_floor.specs.Touching.{IsStanding, IsGivenTo, IsSilent, IsTouch, AreStanding, moves_in, CanTouch, IsTouchedBy}
+use Rattle.bp_floor.specs.Touching.{IsStanding, IsGivenTo, IsSilent, IsTouch, AreStanding, moves_in, moved_pair, CanTouch, IsTouchedBy}
 use Rattle.bp_floor.proofs.Lists.{change_length, change_map, change_map_at, change_apart}
-use Rattle.bp_floor.proofs.Places.{where_like, where_more0, rises_below, stated_changed0, own_changed0, own_at0, get_below}
+use Rattle.bp_floor.proofs.Places.{where_like, where_more0, rises_below, stated_changed0, own_changed0, own_at0, get_below, waits_swept, ready_swept, stated_swept, own_swept, forgets_swept, swept_length}
+use Rattle.bp_floor.proofs.Turns.{from_zero}
 
 -- Where reaching stands: these are left.
 pub record Touching (r : Running) (e : PlainEvent) (all xs : List Touched) (old now : Board) : Type 0 where
@@ -257,3 +263,42 @@ reaches_next e all xs old now new x rest h k t =
 
 pub reaches_end : (e : PlainEvent) (all xs : List Touched) (old now : Board) → Reaches e all xs old now → xs ≡ [] → (r : Running) → CanTouch r all old → IsTouchedBy r e all old now
 reaches_end e all xs old now h k r c = touching_end r e all old now (subst (λ (ys : List Touched). Touching r e all ys old now) k (h.reaches r c))
+
+-- ---- a transition
+
+-- the pair after it
+pub stepped_is : (r : Running) (e : PlainEvent) (place : Option ℕ) (xs : List Touched) (weight : ℕ) (wave : List (Entry Origin)) (line : Line) (old mid new : Board) → IsTouchedBy r e xs old mid → line ≡ line_of_choice e place →
+    new.seats ≡ map swept mid.seats → new.queue ≡ without mid.queue place → new.transitions ≡ mid.transitions + 1 → new.weight ≡ weight → new.lines ≡ mid.lines ++ line ∷ [] → new.verdict ≡ mid.verdict → new.wave ≡ wave →
+    pair_of new ≡ forgotten the_top (moved_pair (stand_of old) e place xs weight wave)
+stepped_is r e place xs weight wave line old mid new t l s q n w ls v a =
+    let threads : map seated new.seats ≡ map (forget the_top) (touch_all e xs (map seated old.seats)) =
+    ap (λ (ss : List PlainSeat). map seated ss) s ∙ forgets_swept mid.seats ∙ ap (λ (ts : List (Thread Origin)). map (forget the_top) ts) t.threads in
+    let queue : new.queue ≡ without old.queue place = q ∙ ap (λ (es : List PlainEvent). without es place) t.same.queue in
+    let transitions : new.transitions ≡ old.transitions + 1 = n ∙ ap (λ (m : ℕ). m + 1) t.same.transitions in
+    let lines : new.lines ≡ old.lines ++ line_of_choice e place ∷ [] = ls ∙ ap (λ (x : Line). mid.lines ++ x ∷ []) l ∙ ap (λ (xs : List Line). xs ++ line_of_choice e place ∷ []) t.same.lines in
+    let verdict : new.verdict ≡ old.verdict = v ∙ t.same.verdict in
+    rw (threads, queue, transitions, w, lines, verdict, a) refl
+
+fewer_left : (place : Option ℕ) (es : List PlainEvent) → IfSome place (λ i. i < length es) → length (without es place) ≤ length es
+fewer_left None es h = omega arith
+fewer_left (Some i) es h = let e = length-remove es i h in omega (arith, e)
+
+-- and what it keeps
+pub stepped_keeps : (r : Running) (e : PlainEvent) (place : Option ℕ) (xs : List Touched) (wave : List (Entry Origin)) (old mid new : Board) → IsTouchedBy r e xs old mid → IfSome place (λ i. i < length old.queue) →
+    new.seats ≡ map swept mid.seats → new.bench ≡ mid.bench → new.queue ≡ without mid.queue place → new.wave ≡ wave → moves_in xs ≡ runs_in wave → IsKept r 0 new
+stepped_keeps r e place xs wave old mid new t there s bench q a h =
+    let few = t.few in
+    let room = t.room in
+    let len = swept_length mid.seats in
+    let left = fewer_left place mid.queue (subst (λ (es : List PlainEvent). IfSome place (λ i. i < length es)) (sym t.same.queue) there) in
+    record {
+      own = subst (λ (ss : List PlainSeat). AreOwn r.program r.options 0 ss) (sym s) (own_swept r.program r.options 0 mid.seats t.own);
+      waiting = ap (λ (ss : List PlainSeat). where_from is_waiting 0 ss) s ∙ waits_swept 0 mid.seats ∙ t.waiting ∙ h ∙ ap (λ (ns : List (Entry Origin)). runs_in ns) (sym a);
+      ready = ap (λ (ss : List PlainSeat). where_from is_ready 0 ss) s ∙ ready_swept 0 mid.seats ∙ t.ready ∙ h ∙ ap (λ (ns : List (Entry Origin)). runs_in ns) (sym a);
+      mirror = ap (λ (x : PlainBench). x.live) bench ∙ t.mirror ∙ sym (stated_swept 0 mid.seats) ∙ ap (λ (ss : List PlainSeat). stated_from 0 ss) (sym s);
+      fits = subst (λ (x : PlainBench). Fits x (ground_of r.program r.options.budget) r.options.budget) (sym bench) t.fits;
+      fresh = from_zero (runs_in new.wave);
+      older = omega arith;
+      few = subst (λ (ss : List PlainSeat). length ss ≤ MOST_THREADS) (sym s) (omega (arith, few, len));
+      room = subst (λ (es : List PlainEvent). length es ≤ MOST_WAITING) (sym q) (omega (arith, room, left));
+    }

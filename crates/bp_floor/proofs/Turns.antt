@@ -19,9 +19,11 @@ use Rattle.bp_floor.specs.Boards.{stand_of, pair_of}
 use Rattle.bp_floor.specs.Forgetting.{forgotten}
 use Rattle.bp_floor.specs.Kept.{Running, IsOn, IsKept, AreBelow, AreFrom, runs_in}
 use Rattle.bp_floor.specs.Lending.{filled, filled_pair, standing}
-use Rattle.bp_floor.specs.Returning.{IsBack, AreAllBack, ran_in, entry_in, turned_apart}
+use Rattle.bp_thread.specs.declared.job.Job.{Job}
+use Rattle.bp_floor.specs.Returning.{IsBack, IsSameBut, AreAllBack, ran_in, entry_in, turned_apart}
+use Rattle.bp_floor.proofs.Returns.{filled_length}
 use Rattle.bp_floor.proofs.Widening.{merged_unstated}
-use Rattle.bp_floor.proofs.Places.{waits_swept, ready_swept, stated_swept, own_swept, forgets_swept, swept_length}
+use Rattle.bp_floor.proofs.Places.{waits_swept, ready_swept, stated_swept, own_swept, forgets_swept, swept_length, map_length}
 
 -- a body finds its b-thread wherever the rest stands
 ran_standing : (r : Running) (s : Stand Origin) (n : Entry Origin) → ran_in r s.threads n ≡ unstated_ran (ran (code_of r.program r.options) s n)
@@ -76,7 +78,7 @@ kept_back r left b m w =
 pub on_back : (r : Running) (left : Ground) (o : PlainOptions) (b : Board) → IsBack r left [] [] b → o ≡ r.options → IsOn r left o
 on_back r left o b m h = record { program_is = m.program_is; ground_is = m.ground_is; options_are = h }
 
-from_zero : (ns : List ℕ) → AreFrom 0 ns
+pub from_zero : (ns : List ℕ) → AreFrom 0 ns
 from_zero [] = tt
 from_zero (n ∷ ns) = (omega arith, from_zero ns)
 
@@ -109,3 +111,29 @@ pub below_back : (r : Running) (ns : List (Entry Origin)) (ts : List (Thread Ori
 below_back r ns ts left b rans most a h =
     subst (λ (xs : List (Ran Origin (Unit {0}))). AreBelow most (map entry_in xs)) (sym a.rans_are)
     (subst (λ (xs : List (Entry Origin)). AreBelow most xs) (sym (entries_in r ts ns)) h)
+
+-- the entries of a turn are registered when its jobs are back
+pub back_within : (r : Running) (base left : Ground) (ns : List (Entry Origin)) (js : List Job) (old new : Board) (rans : List (Ran Origin (Unit {0}))) → IsBack r base ns js old → AreAllBack r ns (filled ns js (map seated old.seats)) left new rans →
+    AreBelow (length new.seats) (map entry_in rans)
+back_within r base left ns js old new rans m a =
+    let len : length new.seats ≡ length old.seats =
+    sym (map_length seated new.seats) ∙ ap (λ (ts : List (Thread Origin)). length ts) a.threads ∙ filled_length ns js (map seated old.seats) ∙ map_length seated old.seats in
+    below_back r ns (filled ns js (map seated old.seats)) left new rans (length new.seats) a (subst (λ (n : ℕ). AreBelow n ns) (sym len) m.below)
+
+-- a turn of a board that has neither lines nor entries
+pub turned_is : (r : Running) (ns : List (Entry Origin)) (ts : List (Thread Origin)) (left : Ground) (old back merged_board new : Board) (rans : List (Ran Origin (Unit {0}))) → old.wave ≡ [] → IsSameBut old back → AreAllBack r ns ts left back rans →
+    pair_of merged_board ≡ merged rans (pair_of back) → new ≡ record merged_board { seats = map swept merged_board.seats } → pair_of new ≡ turned_apart r ns ts (stand_of old)
+turned_is r ns ts left old back merged_board new rans w same a m h =
+    let p : pair_of back ≡ record { stand = record (stand_of old) { threads = ts }; entries = [] } =
+    rw (a.threads, same.queue, same.transitions, same.weight, same.lines, same.verdict, same.wave, w) refl in
+    pair_swept merged_board new h
+    ∙ ap (λ (q : Pair Origin). forgotten the_top q) (m ∙ ap (λ (q : Pair Origin). merged rans q) p ∙ ap (λ (xs : List (Ran Origin (Unit {0}))). merged xs (record { stand = record (stand_of old) { threads = ts }; entries = [] })) a.rans_are)
+
+-- and what it keeps
+pub turn_keeps : (r : Running) (base left : Ground) (o : PlainOptions) (ns : List (Entry Origin)) (js : List Job) (old back merged_board new : Board) (rans : List (Ran Origin (Unit {0}))) → o ≡ r.options → IsBack r base ns js old →
+    old.wave ≡ [] → IsSameBut old back → AreAllBack r ns (filled ns js (map seated old.seats)) left back rans →
+    ((s : Running) (first : ℕ) → IsOn s left o → AreBelow first (map entry_in rans) → IsKept s first back → IsKept s first merged_board) → new ≡ record merged_board { seats = map swept merged_board.seats } →
+    IsKept r 0 new × IsOn r left o
+turn_keeps r base left o ns js old back merged_board new rans e m w same a k h =
+    let on = on_back r left o back a.back e in
+    (kept_swept r (length back.seats) merged_board new (k r (length back.seats) on (back_within r base left ns js old back rans m a) (kept_back r left back a.back (same.wave ∙ w))) h, on)

@@ -58,7 +58,7 @@ fn touches_of(alloc: Global, reach: &Reach) -> Result<Vec<Touch>, Memory>
     let mut touches = Vec::new(alloc);
     let mut moved = 0;
     let mut interrupted = 0;
-    for _turn in 0..reach.moved.len() + reach.interrupted.len() {
+    for turn in 0..reach.moved.len() + reach.interrupted.len() {
         match first_touch(reach.moved.get(moved), reach.interrupted.get(interrupted)) {
             Some(Touch::Moves(number)) => {
                 touches.push(Touch::Moves(number))?;

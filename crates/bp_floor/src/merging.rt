@@ -21,7 +21,7 @@ use js_data::{Event, Text};
 use js_frames::{Effect, Effects, Ground};
 use js_program::Mode;
 use js_value::Value;
-use std::alloc::Global;
+use std::alloc::{AllocError, Global};
 
 impl Board {
     fn say(&mut self, line: Line) -> Result<(), Memory>
@@ -98,9 +98,13 @@ impl Board {
         ensures keeps { OnOk result ((r : Running) (first : ℕ) → IsOn r (plain_ground ground.now) options → IsKept r first self.old → IsKept r first self.new) }
     {
         let number = self.seats.len();
-        if number >= MOST_THREADS as usize {
+        if number == MOST_THREADS as usize {
             self.stop(Verdict::Threads);
             return Ok(());
+        }
+        // Never so many: the limit is far below.
+        if number > u32::MAX as usize {
+            return Err(AllocError);
         }
         self.admit(alloc, ground, options, number as u32, name, callee)
     }

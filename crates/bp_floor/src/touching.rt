@@ -145,7 +145,9 @@ impl Board {
     /// An event does this to a b-thread.
     fn touch(&mut self, event: &Event, touch: Touch) -> Result<(), Memory>
         requires { IsStanding (slice_get self.old.seats (number_in (touch_seen touch))) }
-        ensures { OnOk result (IsTouch event.now (touch_seen touch) self.old self.new) }
+        ensures touched { OnOk result (IsTouch event.now (touch_seen touch) self.old self.new) }
+        ensures lines { self.new.lines ≡ self.old.lines }
+        ensures verdict { self.new.verdict ≡ self.old.verdict }
     {
         match touch {
             Touch::Moves(number) => {
@@ -163,7 +165,9 @@ impl Board {
     /// An event does all this.
     fn touch_all(&mut self, event: &Event, touches: &[Touch]) -> Result<(), Memory>
         requires { (r : Running) × CanTouch r (map touch_seen touches.now) self.old }
-        ensures { OnOk result ((r : Running) → CanTouch r (map touch_seen touches.now) self.old → IsTouchedBy r event.now (map touch_seen touches.now) self.old self.new) }
+        ensures touched { OnOk result ((r : Running) → CanTouch r (map touch_seen touches.now) self.old → IsTouchedBy r event.now (map touch_seen touches.now) self.old self.new) }
+        ensures lines { self.new.lines ≡ self.old.lines }
+        ensures verdict { self.new.verdict ≡ self.old.verdict }
     {
         for touch in touches {
             self.touch(event, *touch)?;

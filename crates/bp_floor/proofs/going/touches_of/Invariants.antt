@@ -3,5 +3,5 @@ use Rattle.bp_floor.specs.Touching.{touch_seen}
 use Rattle.bp_floor.proofs.Weaving.{Weaves}
 use Rattle.bp_floor.proofs.going.touches_of.Given as goal
 
-abbrev pub invariant-loop-_turn : goal.invariant-loop-_turn
-invariant-loop-_turn l = record { weaves : Weaves l.reach l.moved l.interrupted l._turn (map touch_seen l.touches.items) }
+abbrev pub invariant-loop-turn : goal.invariant-loop-turn
+invariant-loop-turn l = record { weaves : Weaves l.reach l.moved l.interrupted l.turn (map touch_seen l.touches.items) }
