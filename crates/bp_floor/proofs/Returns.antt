@@ -17,7 +17,7 @@ use Rattle.bp_run.specs.Numbers.{number_of}
 use Rattle.bp_meaning.specs.After.{effect_of, outcome_of}
 use Rattle.bp_select.specs.Benches.{placed, live_at}
 use Rattle.bp_thread.specs.declared.job.Job.{Job}
-use Rattle.bp_thread.specs.Jobs.{PlainJob, plain_job, IsOf, StandsAt, StandsFor, IsWhole}
+use Rattle.bp_thread.specs.Jobs.{PlainJob, plain_job, is_ended, IsOf, StandsAt, StandsFor, IsWhole}
 use Rattle.bp_floor.specs.declared.board.Board.{Board}
 use Rattle.bp_code.specs.Code.{ground_for}
 use Rattle.bp_floor.specs.Programs.{code_of}
@@ -404,11 +404,14 @@ filled_ended j cs old new h k = λ r n c e.
     k ∙ ap (λ (g : Ground). let x : Ground = record g { constants = cs } in x) e ∙ ap (λ (xs : List (Option PlainValue)). let x : Ground = record { program = r.program; constants = xs } in x) left
 
 -- it did not, so nothing is left of it
-pub filled_not : (j : Job) (old : Ground) → ((plain_job j).outcome ≡ Some run.Outcome.Ended → ⊥) → IsFilled j old old
+not_ended : (o : Option (Outcome PlainSet)) → is_ended o ≡ false → o ≡ Some run.Outcome.Ended → ⊥
+not_ended o h k = let e : is_ended o ≡ true = ap (λ (x : Option (Outcome PlainSet)). is_ended x) k in absurd (cc)
+
+pub filled_not : (j : Job) (old : Ground) → is_ended (plain_job j).outcome ≡ false → IsFilled j old old
 unfolding ground_of code_of
 filled_not j old h = λ r n c e.
     let o = evaluation (bare r.program) r.options.budget the_top [] in
-    e ∙ ap (λ (xs : List (Option PlainValue)). let x : Ground = record { program = r.program; constants = xs } in x) (sym (none_left o (λ w. h (c.outcome ∙ ap (λ (x : Outcome PlainSet). Some x) w))))
+    e ∙ ap (λ (xs : List (Option PlainValue)). let x : Ground = record { program = r.program; constants = xs } in x) (sym (none_left o (λ w. not_ended (plain_job j).outcome h (c.outcome ∙ ap (λ (x : Outcome PlainSet). Some x) w))))
 
 pub goes_begin : (base : Ground) (all left : List (Entry Origin)) (jobs : List Job) (old : Board) (rans : List (Ran Origin (Unit {0}))) (r : Running) → left ≡ all → rans ≡ [] → IsBack r base all jobs old → Goes base all jobs old left jobs base old rans
 goes_begin base all left jobs old rans r h k m =

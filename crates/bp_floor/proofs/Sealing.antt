@@ -1,5 +1,5 @@
 -- Jobs leave a floor and come back to it.
-use Rattle.std.proofs.Common.{◌≡◌, ℕ, suc, ◌+◌, ◌<◌, ◌≤◌, List, [], ◌∷◌, length, map, refl, sym, ap, ◌∙◌, subst, arith, Option, Some, None, false}
+use Rattle.std.proofs.Common.{◌≡◌, ℕ, suc, ◌+◌, ◌<◌, ◌≤◌, List, [], ◌∷◌, length, map, refl, sym, ap, ◌∙◌, subst, arith, Bool, Option, Some, None, false}
 use Rattle.js_value.specs.Value.{PlainSet}
 use Rattle.js_meaning.specs.State.{Ground}
 use Rattle.js_meaning.specs.Bodies.{Origin, the_top, ground_of}
@@ -25,7 +25,8 @@ use Rattle.bp_floor.specs.Kept.{Running, IsKept, IsOn, AreBelow, IsBelow, runs_i
 use Rattle.bp_floor.specs.Lending.{AreDone, filled, filled_pair, standing}
 use Rattle.bp_floor.specs.Returning.{AreLater, RunsAlone, IsBack, ground_at}
 use Rattle.bp_floor.specs.Lent.{CanLend, AreOut, IsGroundOf}
-use Rattle.bp_floor.specs.Floors.{PlainFloor, IsSound, StandsFor, StandsWith, phase_at, phase_of, code_on}
+use Rattle.js_program.specs.PlainProgram.{PlainProgram}
+use Rattle.bp_floor.specs.Floors.{PlainFloor, AreBack, IsSound, StandsFor, StandsWith, phase_at, phase_of, code_on}
 use Rattle.bp_floor.proofs.Forgetting.{length_forgotten}
 use Rattle.bp_floor.proofs.Unended.{seats_going, filled_going, turn_of_standing}
 use Rattle.bp_floor.proofs.Gone.{ready_phase, lent_phase}
@@ -152,3 +153,38 @@ sealed_stands f g r base b js s e h taken p w =
     turn_of_standing (code_on f) taken p (filled_pair js f.pair) w
     (subst (λ (x : Pair Origin). AreGoing (filled_pair js x).stand.threads (filled_pair js x).entries) (sym e) going)
     ∙ ap (λ (q : Pair Origin). before taken q) (sym h)
+
+-- ---- the same of a floor
+
+-- the floor of a board
+abbrev pub floor_of : Ground → PlainOptions → Board → Phase → Bool → PlainFloor
+floor_of base o b phase broken = record { base = base; options = o; pair = pair_of b; phase = phase; broken = broken }
+
+abbrev pub run_on : Ground → PlainOptions → Running
+run_on base o = record { program = base.program; options = o }
+
+pub lent_now : (base : Ground) (o : PlainOptions) (b : Board) (phase : Phase) (broken : Bool) (f : PlainFloor) → floor_of base o b phase broken ≡ f → f.phase ≡ Lent → IsSound (run_on base o) base b phase → IsSound (run_on base o) base b Lent
+lent_now base o b phase broken f v h s = subst (λ (x : Phase). IsSound (run_on base o) base b x) (ap (λ (x : PlainFloor). x.phase) v ∙ h) s
+
+pub ready_now : (base : Ground) (o : PlainOptions) (b : Board) (phase : Phase) (broken : Bool) (f : PlainFloor) → floor_of base o b phase broken ≡ f → f.phase ≡ Ready → IsSound (run_on base o) base b phase → IsSound (run_on base o) base b Ready
+ready_now base o b phase broken f v h s = subst (λ (x : Phase). IsSound (run_on base o) base b x) (ap (λ (x : PlainFloor). x.phase) v ∙ h) s
+
+pub floor_back : (base : Ground) (o : PlainOptions) (b : Board) (phase : Phase) (broken : Bool) (f : PlainFloor) (js : List Job) → floor_of base o b phase broken ≡ f → IsSound (run_on base o) base b Lent → AreBack f js →
+    IsBack (run_on base o) base b.wave js b
+floor_back base o b phase broken f js v s a = jobs_back (run_on base o) base b js s (subst (λ (x : PlainFloor). AreBack x js) (sym v) a)
+
+pub floor_sound : (base left : Ground) (o : PlainOptions) (b new : Board) (phase : Phase) (js : List Job) → IsSound (run_on base o) base b Lent →
+    pair_of new ≡ forgotten the_top (turn (code_of base.program o) (filled_pair js (pair_of b))) → IsKept (run_on base o) 0 new × IsOn (run_on base o) left o → left.program ≡ base.program → phase ≡ phase_of (pair_of new) →
+    IsSound (run_on left o) left new phase
+floor_sound base left o b new phase js s p k e h =
+    subst (λ (x : Phase). IsSound (run_on left o) left new x) (sym h)
+    (subst (λ (x : PlainProgram). IsSound (record { program = x; options = o }) left new (phase_of (pair_of new))) (sym e) (sealed_sound (run_on base o) left base b new js s p k.0 k.1))
+
+pub floor_turned : (base : Ground) (o : PlainOptions) (b new : Board) (phase : Phase) (broken : Bool) (f : PlainFloor) (js : List Job) → floor_of base o b phase broken ≡ f →
+    pair_of new ≡ forgotten the_top (turn (code_of base.program o) (filled_pair js (pair_of b))) → pair_of new ≡ forgotten the_top (turn (code_on f) (filled_pair js f.pair))
+floor_turned base o b new phase broken f js v p = p ∙ ap (λ (x : PlainFloor). forgotten the_top (turn (code_on x) (filled_pair js x.pair))) v
+
+pub floor_stands : (base : Ground) (o : PlainOptions) (b new : Board) (phase : Phase) (broken : Bool) (f : PlainFloor) (js : List Job) → floor_of base o b phase broken ≡ f → IsSound (run_on base o) base b Lent →
+    pair_of new ≡ forgotten the_top (turn (code_of base.program o) (filled_pair js (pair_of b))) → (taken : List Line) (p : Pair Origin) → StandsWith f js taken p → forgotten the_top (turn (code_on f) p) ≡ before taken (pair_of new)
+floor_stands base o b new phase broken f js v s h taken p w =
+    sealed_stands f (record f { pair = pair_of new }) (run_on base o) base b js s (ap (λ (x : PlainFloor). x.pair) (sym v)) (floor_turned base o b new phase broken f js v h) taken p w

@@ -137,3 +137,32 @@ pub turn_keeps : (r : Running) (base left : Ground) (o : PlainOptions) (ns : Lis
 turn_keeps r base left o ns js old back merged_board new rans e m w same a k h =
     let on = on_back r left o back a.back e in
     (kept_swept r (length back.seats) merged_board new (k r (length back.seats) on (back_within r base left ns js old back rans m a) (kept_back r left back a.back (same.wave ∙ w))) h, on)
+
+-- the board of a turn has neither lines nor entries
+pub apart_back : (r : Running) (base : Ground) (b : Board) (lines : List Line) (wave : List (Entry Origin)) (jobs js : List Job) (ms : List (Entry Origin)) → ms ≡ b.wave → js ≡ jobs → IsBack r base b.wave jobs b →
+    IsBack r base ms js (record b { lines = lines; wave = wave })
+apart_back r base b lines wave jobs js ms h k m =
+    subst (λ (xs : List (Entry Origin)). IsBack r base xs js (record b { lines = lines; wave = wave })) (sym h)
+    (subst (λ (ys : List Job). IsBack r base b.wave ys (record b { lines = lines; wave = wave })) (sym k) (record {
+      done = m.done;
+      alone = m.alone;
+      below = m.below;
+      own = m.own;
+      waiting = m.waiting;
+      ready = m.ready;
+      mirror = m.mirror;
+      fits = m.fits;
+      few = m.few;
+      room = m.room;
+      program_is = m.program_is;
+      ground_is = m.ground_is;
+    }))
+
+pub apart_joined : (r : Running) (b : Board) (jobs js : List Job) (ms : List (Entry Origin)) (pending fresh : List Line) (wave : List (Entry Origin)) (new : Board) → pending ≡ b.lines → fresh ≡ [] → ms ≡ b.wave → js ≡ jobs →
+    pair_of new ≡ turned_apart r ms (filled ms js (map seated b.seats)) (stand_of (record b { lines = fresh; wave = wave })) →
+    before pending (pair_of new) ≡ forgotten the_top (turn (code_of r.program r.options) (filled_pair jobs (pair_of b)))
+apart_joined r b jobs js ms pending fresh wave new p f h k e =
+    let ts : filled ms js (map seated b.seats) ≡ filled b.wave jobs (map seated b.seats) =
+    ap (λ (ns : List (Entry Origin)). filled ns js (map seated b.seats)) h ∙ ap (λ (xs : List Job). filled b.wave xs (map seated b.seats)) k in
+    turn_joined r (stand_of b) (filled b.wave jobs (map seated b.seats)) b.wave ms pending fresh (pair_of new) p f h
+    (e ∙ ap (λ (us : List (Thread Origin)). turned_apart r ms us (record (stand_of b) { lines = fresh })) ts)

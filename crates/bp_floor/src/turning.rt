@@ -10,7 +10,7 @@ ghost use Rattle.bp_run.specs.Settling as settling;
 ghost use Rattle.bp_run.specs.Settling.{merged, turn, before};
 ghost use Rattle.bp_select.specs.Benches.{live_at};
 ghost use Rattle.bp_thread.specs.Views.{plain_statement};
-ghost use Rattle.bp_thread.specs.Jobs.{plain_job};
+ghost use Rattle.bp_thread.specs.Jobs.{plain_job, is_ended};
 ghost use Rattle.bp_floor.specs.Seating.{seated, stop_at};
 ghost use Rattle.bp_floor.specs.Entries.{entry_seen};
 ghost use Rattle.bp_floor.specs.Parts.{part_seen, ending_seen, unstated};
@@ -70,12 +70,19 @@ fn statement_of(alloc: Global, job: &Job) -> Result<Option<Statement>, Memory>
     }
 }
 
+/// Whether a job came to its end.
+fn has_ended(job: &Job) -> bool
+    ensures { result ≡ is_ended (plain_job job.now).outcome }
+{
+    matches!(job.outcome(), Some(Outcome::Ended))
+}
+
 /// The constants are those that the top level leaves, if it came to its end.
 fn fill(ground: &mut Ground, job: Job)
     ensures program { ground.new.program ≡ ground.old.program }
     ensures filled { IsFilled job (plain_ground ground.old) (plain_ground ground.new) }
 {
-    if let Some(Outcome::Ended) = job.outcome() {
+    if has_ended(&job) {
         ground.fill(job.constants());
     }
 }

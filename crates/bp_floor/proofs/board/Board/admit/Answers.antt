@@ -18,8 +18,8 @@ pub returns-clause-keeps : goal.returns-clause-keeps
 returns-clause-keeps c =
     on_ok_weaker c.push-2.result
     (λ w low r first on k.
-    admitted r first (plain_ground c.args.ground.now) c.args.options c.args.self.now _ c.args.name (plain_value c.args.callee) c.in_ok-job.job on (subst (λ (n : ℕ). n < MOST_THREADS) c.requires low)
+    admitted r first (plain_ground c.args.ground.now) c.args.options c.args.self.now (record c.args.self.now { seats = c.push.new.self; wave = c.push-2.new.self }) c.args.name (plain_value c.args.callee) c.in_ok-job.job on (subst (λ (n : ℕ). n < MOST_THREADS) c.requires low)
     c.in_ok-push.ensures (w ∙ ap (λ (n : ℕ). c.args.self.now.wave ++ Runs n ∷ []) c.requires) refl refl c.in_ok-job.ensures.program
-    (started_thread _ _ _ _ _ _ _ c.in_ok-job.ensures.made c.requires c.in_ok-named.ensures c.new.ensures.items)
+    (started_thread c.in_ok-job.job _ _ _ _ _ _ c.in_ok-job.ensures.made c.requires c.in_ok-named.ensures c.new.ensures.items)
     (subst (λ (n : ℕ). IsWhole (plain_ground c.args.ground.now) n c.in_ok-job.job) c.budget-budget.ensures.budget c.in_ok-job.ensures.whole) k)
     c.push-2.ensures

@@ -12,7 +12,7 @@ use Rattle.bp_floor.proofs.board.Board.effects.Goals as goal
 
 pub loop-effect-init : goal.loop-effect-init
 loop-effect-init c = record {
-  merged = ap (λ (xs : List made.Effect). with_effects c.args.at.now (map effect_of (map plain_effect xs)) (pair_of c.args.self.now)) c.into_iter-effect-iterator.ensures.into_iter_gives;
+  merged = ap (λ (xs : List made.Effect). with_effects c.args.at.now (map effect_of (map plain_effect xs)) (pair_of c.args.self.now)) c.into_iter-effect-iterator.ensures.into_iter_gives.0;
   onward = onward_same _ _ _;
 }
 

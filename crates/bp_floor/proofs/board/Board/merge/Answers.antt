@@ -12,7 +12,7 @@ use Rattle.bp_floor.proofs.board.Board.merge.Goals as goal
 
 pub loop-entry-init : goal.loop-entry-init
 loop-entry-init c = record {
-  merging = merging_begin _ _ _ _ _ (ap (λ (xs : List made.Ran). map ran_seen xs) c.into_iter-entry-iterator.ensures.into_iter_gives ∙ c.into_vec-entry-items.ensures) c.requires;
+  merging = merging_begin _ _ _ _ _ (ap (λ (xs : List made.Ran). map ran_seen xs) c.into_iter-entry-iterator.ensures.into_iter_gives.0 ∙ c.into_vec-entry-items.ensures) c.requires;
 }
 
 pub part-requires : goal.part-requires

@@ -14,7 +14,9 @@ pub returns-then-number-clause-keeps : goal.returns-then-number-clause-keeps
 returns-then-number-clause-keeps c = λ r first on k. c.stop.ensures.keeps r first k
 
 pub returns-clause-merged : goal.returns-clause-merged
-returns-clause-merged c = ?
+returns-clause-merged c =
+    on_ok_weaker c.admit.result
+    (λ h. h ∙ threads_few c.args.at.now c.args.name (function mode.Thread (plain_value c.args.callee) []) c.args.self.now (λ e. c.if-number.false (c.len-number.ensures ∙ e))) c.admit.ensures.merged
 
 pub returns-clause-keeps : goal.returns-clause-keeps
 returns-clause-keeps c =
