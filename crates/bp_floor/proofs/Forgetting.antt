@@ -15,7 +15,7 @@ use Rattle.bp_run.specs.Configuration.{Stand, Thread, change, name_in}
 use Rattle.bp_run.specs.Settling.{Entry, Pair, Ran, ran, own_body, unless_at, unless_over, stopped, said, queued, registered, with_effect, with_effects, with_end, with_outcome, with_part, merged, turn, place_of, before}
 use Rattle.bp_run.specs.Settling.Entry.{The_top, Runs, Stops}
 use Rattle.bp_run.proofs.Before.{before_turn}
-use Rattle.bp_floor.specs.Forgetting.{forget, forgotten_in, forgotten, AreGoing}
+use Rattle.bp_floor.specs.Forgetting.{forget, forgotten_in, forgotten, IsGoing, AreGoing}
 
 -- ---- one b-thread
 

@@ -1,5 +1,5 @@
 -- What a floor keeps.
-use Rattle.std.proofs.Common.{◌≡◌, ℕ, ◌≤◌, ◌<◌, ◌+◌, List, [], ◌∷◌, ◌++◌, length, map, length-append, refl, sym, ap, ◌∙◌, subst, arith, Option, Some, None, Result, Ok, Err, OnOk, OnErr}
+use Rattle.std.proofs.Common.{◌≡◌, ℕ, ◌≤◌, ◌<◌, ◌+◌, List, [], ◌∷◌, ◌++◌, length, map, length-append, refl, sym, ap, ◌∙◌, subst, arith, Bool, Option, Some, None, Result, Ok, Err, OnOk, OnErr}
 use Rattle.js_data.specs.Event.{PlainEvent}
 use Rattle.js_value.specs.Value.{PlainSet}
 use Rattle.js_program.specs.PlainProgram.{PlainProgram}
@@ -22,7 +22,7 @@ use Rattle.bp_floor.specs.Boards.{stand_of, pair_of}
 use Rattle.bp_floor.specs.Kept.{Running, AreBelow, runs_in}
 use Rattle.bp_floor.specs.Returning.{RunsAlone, ground_at}
 use Rattle.bp_floor.specs.Floors.{PlainFloor, IsSound, IsPhased, phase_at}
-use Rattle.bp_floor.proofs.Going.{seats_going}
+use Rattle.bp_floor.proofs.Unended.{seats_going}
 use Rattle.bp_floor.proofs.Places.{map_length}
 use Rattle.bp_floor.proofs.Rests.{stated_live}
 
@@ -112,3 +112,8 @@ phased f b e s =
       light = s.light;
       counted = s.counted;
     })
+
+-- a floor at rest
+pub rests_now : (base : Ground) (o : PlainOptions) (b : Board) (phase : Phase) (broken : Bool) (f : PlainFloor) → record { base = base; options = o; pair = pair_of b; phase = phase; broken = broken } ≡ f → f.phase ≡ Rest →
+    IsSound (record { program = base.program; options = o }) base b phase → IsSound (record { program = base.program; options = o }) base b Rest
+rests_now base o b phase broken f v h s = subst (λ (x : Phase). IsSound (record { program = base.program; options = o }) base b x) (ap (λ (x : PlainFloor). x.phase) v ∙ h) s

@@ -8,6 +8,8 @@ pub mod Boards
 pub mod Kept
 pub mod Lending
 pub mod Returning
+pub mod Lent
 pub mod Touching
 pub mod Absorbing
 pub mod Floors
+pub mod Going

@@ -18,7 +18,6 @@ pub struct Handler {
 }
 
 /// What is to be run.
-#[derive(Drop)]
 pub enum Entry {
     /// The top level.
     Top,
@@ -26,6 +25,16 @@ pub enum Entry {
     Runs(u32),
     /// The handler of the b-thread of this number, which was interrupted, if it set one.
     Stops(u32, Option<Handler>),
+}
+
+impl Drop for Entry {
+    fn drop(self) {
+        match self {
+            Entry::Top => {}
+            Entry::Runs(_) => {}
+            Entry::Stops(_, _) => {}
+        }
+    }
 }
 
 /// What is to be run, in order. Contracts see the list, as the definitions do.

@@ -10,11 +10,12 @@ ghost use Rattle.bp_words.specs.Words.{draw_word};
 ghost use Rattle.bp_run.specs.Configuration.{name_in, not_ended};
 ghost use Rattle.bp_run.specs.Settling.{Pair, turn, before, opening, queued};
 ghost use Rattle.bp_run.specs.Selecting.{live, selectable, blocker, requested};
-ghost use Rattle.bp_run.specs.Choosing.{choice};
-ghost use Rattle.bp_run.specs.Story.{over, stepped};
+ghost use Rattle.bp_run.specs.Bodies as run;
+ghost use Rattle.bp_run.specs.Choosing.{Touched, choice};
+ghost use Rattle.bp_run.specs.Story.{fault_verdict, over};
 ghost use Rattle.bp_select.specs.declared.answers.Choice.TheVariants as choice_made;
-ghost use Rattle.bp_select.specs.declared.answers.SelectFault.TheVariants as fault;
-ghost use Rattle.bp_select.specs.Answers.{AnswersAs, chosen_of, enabled_of};
+ghost use Rattle.bp_select.specs.declared.answers.SelectFault.TheVariants as select_fault;
+ghost use Rattle.bp_select.specs.Answers.{AnswersAs, FaultAs, chosen_of, enabled_of};
 ghost use Rattle.bp_floor.specs.declared.phase.Phase.TheVariants as phase;
 ghost use Rattle.bp_floor.specs.declared.absorb.Absorb.TheVariants as absorb;
 ghost use Rattle.bp_floor.specs.Boards.{pair_of};
@@ -26,6 +27,7 @@ use crate::{Absorb, Board, Entry, EventList, LineList, Phase, Seats, Wave, Went}
 use bp_log::limits::MOST_WAITING;
 use bp_log::{Item, Line, Lines, Memory, Options, Verdict};
 use bp_select::{Bench, Choice, Draw, Enabled, SelectFault};
+use bp_sets::SetFault;
 use bp_thread::Job;
 use js_data::{Event, Text};
 use js_frames::Ground;
@@ -101,7 +103,10 @@ impl Floor {
     /// What a floor keeps while memory was never wanting, as facts for its callers. Does nothing.
     pub fn keeps(&self)
         ensures { self.now.broken ≡ false → IsPhased self.now }
-    {}
+    {
+        // Reads a field for the proof alone: so what the type keeps is known.
+        let _ground = &self.ground;
+    }
 
     /// What can be done. Takes no memory.
     pub fn phase(&self) -> Phase
@@ -159,7 +164,17 @@ impl Floor {
         ensures stays { OnOk result (self.new.broken ≡ false) }
         ensures failed { OnErr result (IsGivenUp self.old self.new) }
     {
-        Err(AllocError)
+        if self.broken {
+            return Err(AllocError);
+        }
+        self.broken = true;
+        let jobs = self
+            .board
+            .seats
+            .lend(alloc, &self.ground, self.options, &self.board.wave)?;
+        self.phase = Phase::Lent;
+        self.broken = false;
+        Ok(jobs)
     }
 
     /// Merges what the lent jobs did: they are the lent ones in the same order, each carried to its outcome
@@ -176,7 +191,15 @@ impl Floor {
         ensures stays { OnOk result (self.new.broken ≡ false) }
         ensures failed { OnErr result (IsGivenUp self.old self.new) }
     {
-        Err(AllocError)
+        if self.broken {
+            return Err(AllocError);
+        }
+        self.broken = true;
+        self.board
+            .turn(alloc, &mut self.ground, self.options, jobs)?;
+        self.phase = self.board.phase();
+        self.broken = false;
+        Ok(self.phase)
     }
 
     /// Makes the transition of an event that can be selected at this place, unless it would stop the run.
@@ -191,7 +214,16 @@ impl Floor {
         ensures stays { OnOk result (self.new.broken ≡ false) }
         ensures failed { OnErr result (IsGivenUp self.old self.new) }
     {
-        Err(AllocError)
+        if self.broken {
+            return Err(AllocError);
+        }
+        self.broken = true;
+        let went = self
+            .board
+            .go(alloc, &self.ground, self.options, event, place)?;
+        self.phase = self.board.phase();
+        self.broken = false;
+        Ok(went)
     }
 
     /// The verdict with which `go` would stop at the event, if there is one. Its only error is want of memory.
@@ -207,7 +239,10 @@ impl Floor {
         ensures whole { OnOk result (self.old.broken ≡ false) }
         ensures same { self.new ≡ self.old }
     {
-        Err(AllocError)
+        if self.broken {
+            return Err(AllocError);
+        }
+        self.board.stop_at(alloc, &self.ground, self.options, event)
     }
 
     /// Puts an event at the end of the queue.
@@ -235,20 +270,30 @@ impl Floor {
     pub fn enabled(&mut self, alloc: Global) -> Result<Enabled, SelectFault>
         requires rest { self.old.phase ≡ phase.Rest }
         ensures enabled { AnswersAs enabled_of (selectable (code_on self.old).has (live (code_on self.old) self.old.pair.stand) self.old.pair.stand.queue) result }
-        ensures broken { self.old.broken ≡ true → result ≡ Err fault.Memory }
+        ensures broken { self.old.broken ≡ true → result ≡ Err select_fault.Memory }
         ensures same { self.new ≡ self.old }
     {
-        Err(SelectFault::Memory)
+        if self.broken {
+            return Err(SelectFault::Memory);
+        }
+        let budget = self.options.budget();
+        self.board
+            .bench
+            .enabled(alloc, &self.ground, self.board.queue.as_slice(), budget)
     }
 
     /// The first live b-thread that blocks the event.
     pub fn blocker(&mut self, alloc: Global, event: &Event) -> Result<Option<u32>, SelectFault>
         requires rest { self.old.phase ≡ phase.Rest }
         ensures blocker { AnswersAs (λ o. o) (blocker (code_on self.old).has (live (code_on self.old) self.old.pair.stand) event.now) result }
-        ensures broken { self.old.broken ≡ true → result ≡ Err fault.Memory }
+        ensures broken { self.old.broken ≡ true → result ≡ Err select_fault.Memory }
         ensures same { self.new ≡ self.old }
     {
-        Err(SelectFault::Memory)
+        if self.broken {
+            return Err(SelectFault::Memory);
+        }
+        let budget = self.options.budget();
+        self.board.bench.blocker(alloc, &self.ground, event, budget)
     }
 
     /// The lines since the last taking. Takes no memory.
@@ -274,10 +319,21 @@ impl Floor {
         ensures drawn { (draw.old.drawn ≤ draw.new.drawn) × (draw.new.drawn ≤ draw.old.drawn + 1) }
         ensures nothing { result ≡ Ok choice_made.Nothing → draw.new ≡ draw.old }
         ensures failed { OnErr result (draw.new ≡ draw.old) }
-        ensures broken { self.old.broken ≡ true → result ≡ Err fault.Memory }
+        ensures broken { self.old.broken ≡ true → result ≡ Err select_fault.Memory }
         ensures same { self.new ≡ self.old }
     {
-        Err(SelectFault::Memory)
+        if self.broken {
+            return Err(SelectFault::Memory);
+        }
+        let budget = self.options.budget();
+        self.board.bench.choose(
+            alloc,
+            &self.ground,
+            self.board.queue.as_slice(),
+            self.options.strategy(),
+            budget,
+            draw,
+        )
     }
 
     /// Whether a live b-thread requests the event. Takes no memory.
@@ -288,10 +344,13 @@ impl Floor {
         self.board.bench.requested(event)
     }
 
-    /// How many b-threads have not ended. Takes no memory.
+    /// How many b-threads have not ended; 0 after want of memory. Takes no memory.
     pub fn live(&self) -> u32
         ensures { self.now.broken ≡ false → result ≡ not_ended self.now.pair.stand }
     {
+        if self.broken {
+            return 0;
+        }
         self.board.seats.live()
     }
 
@@ -303,6 +362,15 @@ impl Floor {
         self.board.seats.name_of(number as usize)
     }
 
+    /// The fault of a set, as the verdict in the name of its b-thread. Its only error is want of memory.
+    pub fn fault_verdict(&self, number: u32, fault: SetFault) -> Result<Verdict, Memory>
+        requires { number < length self.now.pair.stand.threads }
+        ensures { IfOk result (λ v. (x : ℕ × run.SetFault) → FaultAs {A = List Touched} (Err x) (select_fault.Set number fault) →
+            v ≡ fault_verdict self.now.pair.stand x) }
+    {
+        self.board.fault_verdict(number, fault)
+    }
+
     /// Writes the verdict down. What ends a run ends its floor.
     pub fn end(&mut self, verdict: Verdict) -> Result<(), Memory>
         requires idle { is_idle self.old.phase ≡ true }
@@ -312,6 +380,15 @@ impl Floor {
         ensures ended { OnOk result (self.new ≡ record self.old { pair = record self.old.pair { stand = over self.old.pair.stand verdict }; phase = phase.Over }) }
         ensures failed { OnErr result (IsGivenUp self.old self.new) }
     {
-        Err(AllocError)
+        if self.broken {
+            return Err(AllocError);
+        }
+        self.broken = true;
+        let line = Line::Verdict(verdict.copy()?);
+        self.board.lines.push(line)?;
+        self.board.verdict = Some(verdict);
+        self.phase = Phase::Over;
+        self.broken = false;
+        Ok(())
     }
 }

@@ -121,7 +121,7 @@ impl Seats {
         ensures { result ≡ count_by (λ t. not t.ended) (map seated self.now) }
     {
         let mut live = 0;
-        for seat in self.items.iter() {
+        for seat in self.items.as_slice() {
             if !seat.ended {
                 live += 1;
             }

@@ -1,5 +1,5 @@
 //! What can be selected, and which of it is chosen.
-ghost use Rattle.std.specs.Prelude.{◌≡◌, ◌<◌, ◌≤◌, ◌+◌, ◌^◌, [], ℕ, List, length, map, IfOk, OnErr};
+ghost use Rattle.std.specs.Prelude.{◌≡◌, ◌<◌, ◌≤◌, ◌+◌, ◌^◌, [], ℕ, List, Ok, length, map, IfOk, OnErr};
 ghost use Rattle.js_data.specs.Event.{PlainEvent};
 ghost use Rattle.js_frames.specs.Places.{plain_ground};
 ghost use Rattle.bp_words.specs.Words.{draw_word};
@@ -99,6 +99,7 @@ pub(crate) fn drawn(draw: &mut Draw, remaining: &[Event]) -> Result<Choice, Memo
     ensures chosen { IfOk result (λ c. (queue : List PlainEvent) → chosen_of queue draw.new.drawn c ≡ drawn_of (draw_word draw.old.seed) draw.old.drawn remaining.now) }
     ensures seed { draw.new.seed ≡ draw.old.seed }
     ensures drawn { (draw.old.drawn ≤ draw.new.drawn) × (draw.new.drawn ≤ draw.old.drawn + 1) }
+    ensures nothing { result ≡ Ok Choice.Nothing → draw.new ≡ draw.old }
     ensures failed { OnErr result (draw.new ≡ draw.old) }
 {
     match remaining {
@@ -127,6 +128,7 @@ pub(crate) fn chosen(
         ≡ chosen (draw_word draw.old.seed) strategy (map live_of live.now) queue draw.old.drawn (free_of free).inner (free_of free).outer) }
     ensures seed { draw.new.seed ≡ draw.old.seed }
     ensures drawn { (draw.old.drawn ≤ draw.new.drawn) × (draw.new.drawn ≤ draw.old.drawn + 1) }
+    ensures nothing { result ≡ Ok Choice.Nothing → draw.new ≡ draw.old }
     ensures failed { OnErr result (draw.new ≡ draw.old) }
 {
     match free {
