@@ -108,8 +108,8 @@ module _ (base : Ground) (o : PlainOptions) (b mid : Board) (e : PlainEvent) (ts
       let l = code_of base.program o in
       let entries : wave ≡ map (entry_of l (stand_of mid) e) ts = w r (stand_of mid) resting.own refl in
       let g = gone base o mid new e place k weight wave resting looked (entries ∙ ap (map (entry_of l (stand_of mid) e)) woven_is)
-          (p r can ∙ ap (λ (xs : List Touched). forgotten the_top (moved_pair (stand_of mid) e place xs weight wave)) woven_is)
-          (kept r can (moves_run l (stand_of mid) e ts ∙ ap (λ (ns : List (Entry Origin)). runs_in ns) (sym entries))) in
+      (p r can ∙ ap (λ (xs : List Touched). forgotten the_top (moved_pair (stand_of mid) e place xs weight wave)) woven_is)
+      (kept r can (moves_run l (stand_of mid) e ts ∙ ap (λ (ns : List (Entry Origin)). runs_in ns) (sym entries))) in
       (subst (λ (x : Pair Origin). IsMoved (floor_of x) e place (floor_on base o new)) same g.0, g.1)
 
 -- ---- weaving, in the parts of a loop

@@ -1,5 +1,5 @@
 //! Lending jobs.
-ghost use Rattle.std.specs.Prelude.{◌≡◌, ◌<◌, length, option_to_list, IfOk};
+ghost use Rattle.std.specs.Prelude.{◌≡◌, ◌<◌, ◌++◌, length, option_to_list, IfOk, OnOk};
 ghost use Rattle.js_frames.specs.Places.{plain_ground};
 ghost use Rattle.bp_floor.specs.Entries.{entry_seen};
 ghost use Rattle.bp_floor.specs.Kept.{IsBelow, Running};
@@ -13,6 +13,16 @@ use js_frames::Ground;
 use js_program::Mode;
 use js_value::copy;
 use std::alloc::Global;
+
+// One more job, if there is one.
+fn push_some(jobs: &mut Vec<Job>, job: Option<Job>) -> Result<(), Memory>
+    ensures { OnOk result (jobs.new.items ≡ jobs.old.items ++ option_to_list job) }
+{
+    if let Some(job) = job {
+        jobs.push(job)?;
+    }
+    Ok(())
+}
 
 impl Seats {
     /// The job of a handler.
@@ -77,9 +87,8 @@ impl Seats {
     {
         let mut jobs = Vec::new(alloc);
         for entry in wave.as_slice() {
-            if let Some(job) = self.lend_one(alloc, ground, options, entry)? {
-                jobs.push(job)?;
-            }
+            let job = self.lend_one(alloc, ground, options, entry)?;
+            push_some(&mut jobs, job)?;
         }
         Ok(jobs)
     }

@@ -24,24 +24,24 @@ loop-turn-preserved c =
     (let t = c.loop-turn-test.true in let x = c.len.ensures ∙ reach.moved.ok.0 in let y = c.len-2.ensures ∙ reach.interrupted.ok.0 in omega (arith, t, x, y)) in
     elim c.match-first_touch.branch [
       | in-Some-Moves+in_ok-push-in-Some-Moves w ↦
-        let k = w.in-Some-Moves.number in
-        let f = first_is (Some (to.Moves k)) _ _ _ _ a b (sym (ap (λ (t : Touch). Some (touch_seen t)) w.in-Some-Moves.field-0-is) ∙ w.in-Some-Moves.ensures) in
-        record {
-          weaves = weaves_same reach _ _ _ _ _ _ _ _ (w.moved-is ∙ one_more m) w.interrupted-is (one_more n)
-              (ap (λ (ts : Vec Touch Global). map touch_seen ts.items) w.touches-is ∙ pushed_seen c.loop-turn.touches.items _ _ (to.Moves k) w.in_ok-push-in-Some-Moves.ensures.items (ap to.Moves w.in-Some-Moves.number-is))
-              (weaves_moves reach m i n k done (c.loop-turn.invariant).weaves low f);
-        }
+          let k = w.in-Some-Moves.number in
+          let f = first_is (Some (to.Moves k)) _ _ _ _ a b (sym (ap (λ (t : Touch). Some (touch_seen t)) w.in-Some-Moves.field-0-is) ∙ w.in-Some-Moves.ensures) in
+          record {
+            weaves = weaves_same reach _ _ _ _ _ _ _ _ (w.moved-is ∙ one_more m) w.interrupted-is (one_more n)
+                (ap (λ (ts : Vec Touch Global). map touch_seen ts.items) w.touches-is ∙ pushed_seen c.loop-turn.touches.items _ _ (to.Moves k) w.in_ok-push-in-Some-Moves.ensures.items (ap to.Moves w.in-Some-Moves.number-is))
+                (weaves_moves reach m i n k done (c.loop-turn.invariant).weaves low f);
+          }
       | in-Some-Interrupts+in_ok-push-in-Some-Interrupts w ↦
-        let k = w.in-Some-Interrupts.number in
-        let f = first_is (Some (to.Interrupts k)) _ _ _ _ a b (sym (ap (λ (t : Touch). Some (touch_seen t)) w.in-Some-Interrupts.field-0-is) ∙ w.in-Some-Interrupts.ensures) in
-        record {
-          weaves = weaves_same reach _ _ _ _ _ _ _ _ w.moved-is (w.interrupted-is ∙ one_more i) (one_more n)
-              (ap (λ (ts : Vec Touch Global). map touch_seen ts.items) w.touches-is ∙ pushed_seen c.loop-turn.touches.items _ _ (to.Interrupts k) w.in_ok-push-in-Some-Interrupts.ensures.items (ap to.Interrupts w.in-Some-Interrupts.number-is))
-              (weaves_interrupts reach m i n k done (c.loop-turn.invariant).weaves low f);
-        }
+          let k = w.in-Some-Interrupts.number in
+          let f = first_is (Some (to.Interrupts k)) _ _ _ _ a b (sym (ap (λ (t : Touch). Some (touch_seen t)) w.in-Some-Interrupts.field-0-is) ∙ w.in-Some-Interrupts.ensures) in
+          record {
+            weaves = weaves_same reach _ _ _ _ _ _ _ _ w.moved-is (w.interrupted-is ∙ one_more i) (one_more n)
+                (ap (λ (ts : Vec Touch Global). map touch_seen ts.items) w.touches-is ∙ pushed_seen c.loop-turn.touches.items _ _ (to.Interrupts k) w.in_ok-push-in-Some-Interrupts.ensures.items (ap to.Interrupts w.in-Some-Interrupts.number-is))
+                (weaves_interrupts reach m i n k done (c.loop-turn.invariant).weaves low f);
+          }
       | in-None w ↦
-        record {
-          weaves = weaves_same reach _ _ _ _ _ _ _ _ w.moved-is w.interrupted-is (one_more n) (ap (λ (ts : Vec Touch Global). map touch_seen ts.items) w.touches-is)
-              (weaves_none reach m i n done (c.loop-turn.invariant).weaves low (first_is None _ _ _ _ a b w.in-None.ensures));
-        }
+          record {
+            weaves = weaves_same reach _ _ _ _ _ _ _ _ w.moved-is w.interrupted-is (one_more n) (ap (λ (ts : Vec Touch Global). map touch_seen ts.items) w.touches-is)
+                (weaves_none reach m i n done (c.loop-turn.invariant).weaves low (first_is None _ _ _ _ a b w.in-None.ensures));
+          }
     ]

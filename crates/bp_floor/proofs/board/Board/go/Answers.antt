@@ -33,7 +33,7 @@ step-requires-clause-can c =
     let q = subst (λ (x : Outlook). LooksAs (floor_on base c.args.options c.args.self.now) c.args.event.now x) c.in-Reaches.is c.in_ok-verdict.ensures.looks in (
       record { program = base.program; options = c.args.options },
       can base c.args.options c.args.self.now c.look.new.self c.args.event.now (map touch_seen c.as_slice-in-Reaches.result.now) c.in-Reaches.reach c.in-Reaches.weight c.look.ensures.resting c.look.ensures.same q
-      (λ xs h r. ap (map touch_seen) c.as_slice-in-Reaches.ensures.value ∙ c.in_ok-touches-in-Reaches.ensures xs h r),
+          (λ xs h r. ap (map touch_seen) c.as_slice-in-Reaches.ensures.value ∙ c.in_ok-touches-in-Reaches.ensures xs h r),
     )
 
 pub returns-in_ok-step-in-Reaches-clause-goes : goal.returns-in_ok-step-in-Reaches-clause-goes
