@@ -1,5 +1,6 @@
 -- An event that is looked at, and its transition.
-use Rattle.std.proofs.Common.{◌≡◌, ℕ, suc, ◌+◌, ◌<◌, ◌≤◌, ◌++◌, false, List, [], ◌∷◌, length, map, refl, sym, ap, ◌∙◌, subst, arith, Option, Some, None, Result, Ok, Err, IfSome}
+use Rattle.std.proofs.Common.{◌≡◌, ℕ, suc, ◌+◌, ◌<◌, ◌≤◌, ◌++◌, false, List, [], ◌∷◌, length, map, refl, sym, ap, ◌∙◌, subst, arith, Option, Some, None, Result, Ok, Err, IfSome, MatchOption, HoldsAt, option_map, slice_get}
+use Rattle.std.proofs.lemmas.Option.{slice_get_past, slice_get-get_or}
 use Rattle.std.proofs.lemmas.List.{map-append}
 use Rattle.js_data.specs.Event.{PlainEvent}
 use Rattle.js_value.specs.Value.{PlainSet}
@@ -127,3 +128,9 @@ pushed_seen ts us x y h e = ap (map touch_seen) h ∙ map-append touch_seen ts (
 
 pub one_more : (n : ℕ) → n + 1 ≡ suc n
 one_more n = omega arith
+
+-- what is found at a place of a list, as a value
+pub looked_up : {B : Type 0} (f : B → ℕ) (r : Option B) (xs : List ℕ) (i : ℕ) →
+    MatchOption r (length xs ≤ i) (λ (x : B). (i < length xs) × HoldsAt (λ (y : ℕ). f x ≡ y) xs i) → option_map f r ≡ slice_get xs i
+looked_up f None xs i h = sym (slice_get_past xs i h)
+looked_up f (Some x) xs i h = ap Some (h.1 (f x)) ∙ sym (slice_get-get_or xs i (f x) h.0)

@@ -1,10 +1,11 @@
 use Rattle.std.proofs.Common.{◌≡◌, ◌<◌, ◌+◌, ◌∙◌, ◌++◌, ◌∷◌, [], ℕ, List, length, map, slice_get, sym, subst, ap, refl, arith, Some, None, Vec, Global}
+use Rattle.std.specs.Borrow.{Bor}
 use Rattle.bp_run.specs.Choosing.{Touched}
 use Rattle.bp_run.specs.Choosing.{Touched as to}
 use Rattle.bp_floor.specs.declared.touching.Touch.{Touch}
 use Rattle.bp_floor.specs.Touching.{touch_seen}
 use Rattle.bp_floor.proofs.Weaving.{Weaves, weaves_start, weaves_moves, weaves_interrupts, weaves_none}
-use Rattle.bp_floor.proofs.Goes.{first_is, weaves_same, pushed_seen, one_more}
+use Rattle.bp_floor.proofs.Goes.{first_is, looked_up, weaves_same, pushed_seen, one_more}
 use Rattle.bp_floor.proofs.going.touches_of.Goals.{in-Some-Moves+in_ok-push-in-Some-Moves, in-Some-Interrupts+in_ok-push-in-Some-Interrupts, in-None}
 use Rattle.bp_floor.proofs.going.touches_of.Goals as goal
 
@@ -18,8 +19,8 @@ loop-turn-preserved c =
     let i = c.loop-turn.interrupted in
     let n = c.loop-turn.turn in
     let done = map touch_seen c.loop-turn.touches.items in
-    let a = c.get.ensures.lookup ∙ ap (λ (xs : List ℕ). slice_get xs m) c.deref.ensures.value in
-    let b = c.get-in-loop-turn.ensures.lookup ∙ ap (λ (xs : List ℕ). slice_get xs i) c.deref-in-loop-turn.ensures.value in
+    let a = looked_up (λ (x : Bor ℕ). x.now) _ _ m c.get.ensures.lookup.3 ∙ ap (λ (xs : List ℕ). slice_get xs m) c.deref.ensures.value in
+    let b = looked_up (λ (x : Bor ℕ). x.now) _ _ i c.get-in-loop-turn.ensures.lookup.3 ∙ ap (λ (xs : List ℕ). slice_get xs i) c.deref-in-loop-turn.ensures.value in
     let low : n < length reach.moved.items + length reach.interrupted.items =
     (let t = c.loop-turn-test.true in let x = c.len.ensures ∙ reach.moved.ok.0 in let y = c.len-2.ensures ∙ reach.interrupted.ok.0 in omega (arith, t, x, y)) in
     elim c.match-first_touch.branch [
