@@ -34,7 +34,8 @@ pub fn carry_all(
     requires some_budget { 0 < budget }
     requires some_slice { 0 < slice }
     requires can_run { AllCanRun (plain_ground ground.now) budget jobs.old.items }
-    ensures { OnOk result (AreCarriedOut (plain_ground ground.now) budget jobs.old.items jobs.new.items) }
+    ensures { OnOk result
+        (AreCarriedOut (plain_ground ground.now) budget jobs.old.items jobs.new.items) }
 {
     for job in jobs.iter_mut() {
         carry(ground, budget, slice, job)?;
