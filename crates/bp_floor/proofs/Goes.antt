@@ -1,5 +1,5 @@
 -- An event that is looked at, and its transition.
-use Rattle.std.proofs.Common.{◌≡◌, ℕ, suc, ◌+◌, ◌<◌, ◌≤◌, ◌++◌, false, List, [], ◌∷◌, length, map, refl, sym, ap, ◌∙◌, subst, arith, Option, Some, None, Result, Ok, Err, IfSome, MatchOption, HoldsAt, option_map, slice_get}
+use Rattle.std.proofs.Common.{◌≡◌, ℕ, suc, ◌+◌, ◌<◌, ◌≤◌, ◌++◌, false, List, [], ◌∷◌, length, map, refl, sym, ap, ◌∙◌, subst, arith, Option, Some, None, Result, Ok, Err, MatchOption, HoldsAt, option_map, slice_get}
 use Rattle.std.proofs.lemmas.Option.{slice_get_past, slice_get-get_or}
 use Rattle.std.proofs.lemmas.List.{map-append}
 use Rattle.js_data.specs.Event.{PlainEvent}
@@ -30,11 +30,11 @@ use Rattle.bp_floor.specs.Seating.{seated, AreOwn}
 use Rattle.bp_floor.specs.Boards.{stand_of, pair_of}
 use Rattle.bp_floor.specs.Forgetting.{forgotten}
 use Rattle.bp_floor.specs.Kept.{Running, IsKept, Rises, runs_in}
-use Rattle.bp_floor.specs.Touching.{CanTouch, AreStanding, moves_in, moved_pair, touch_seen}
-use Rattle.bp_floor.specs.Floors.{PlainFloor, IsMoved, CanGo, code_on, phase_of, stop_at_reach, stop_of}
+use Rattle.bp_floor.specs.Touching.{CanTouch, moves_in, moved_pair, touch_seen}
+use Rattle.bp_floor.specs.Floors.{PlainFloor, IsMoved, phase_of, stop_at_reach}
 use Rattle.bp_floor.specs.Going.{IsSoundOn, IsResting, IsReached, floor_on, first_touch}
 use Rattle.bp_floor.proofs.Asking.{has_at_rest, live_at_rest}
-use Rattle.bp_floor.proofs.Gone.{can_touch, place_there, moves_run, gone}
+use Rattle.bp_floor.proofs.Gone.{can_touch, moves_run, gone}
 use Rattle.bp_floor.proofs.Looking.{reached_few, faulty_below}
 use Rattle.bp_floor.proofs.Places.{map_length}
 use Rattle.bp_floor.proofs.Weaving.{Weaves}

@@ -1,34 +1,31 @@
 -- After an event the board is as its definition says, and keeps what a floor keeps.
-use Rattle.std.proofs.Common.{◌≡◌, ℕ, suc, ◌+◌, ◌*◌, ◌^◌, ◌<◌, ◌≤◌, List, [], ◌∷◌, length, map, refl, sym, ap, ◌∙◌, subst, arith, Option, Some, None, Ok, slice_get, IfSome}
+use Rattle.std.proofs.Common.{◌≡◌, ℕ, ◌+◌, ◌*◌, ◌^◌, ◌<◌, ◌≤◌, List, [], ◌∷◌, length, map, refl, sym, ap, ◌∙◌, subst, arith, Option, Some, None, Ok, IfSome}
 use Rattle.std.proofs.Math.Nat.{one-le-mul}
 use Rattle.std.proofs.lemmas.Option.{slice_get_within}
 use Rattle.js_data.specs.Event.{PlainEvent, event_weight}
 use Rattle.js_meaning.specs.State.{Ground}
-use Rattle.js_meaning.specs.Bodies.{Origin, the_top, ground_of}
+use Rattle.js_meaning.specs.Bodies.{Origin, the_top}
 use Rattle.bp_log.specs.Options.{PlainOptions}
-use Rattle.bp_log.specs.declared.limits.TheConstants.{MOST_THREADS, MOST_WEIGHT}
 use Rattle.bp_log.specs.declared.verdict.Verdict.{Verdict}
 use Rattle.bp_run.specs.Bodies.{Code}
-use Rattle.bp_run.specs.Configuration.{Stand, Thread}
+use Rattle.bp_run.specs.Configuration.{Stand}
 use Rattle.bp_run.specs.Settling.{Entry, Pair}
 use Rattle.bp_run.specs.Selecting.{live}
 use Rattle.bp_run.specs.Choosing.{Touched, reach}
 use Rattle.bp_run.specs.Choosing.Touched.{Moves, Interrupts}
-use Rattle.bp_run.specs.Story.{step, stepped, entry_of, touch_all, is_move}
+use Rattle.bp_run.specs.Story.{step, stepped, entry_of, touch_all}
 use Rattle.bp_run.specs.Numbers.{number_in, IsRising}
 use Rattle.bp_run.proofs.Numbers.{reach_rising, live_rising, length-touch_all}
 use Rattle.bp_select.specs.declared.answers.Reach.{Reach}
 use Rattle.bp_floor.specs.declared.board.Board.{Board}
-use Rattle.bp_floor.specs.declared.phase.Phase.{Phase}
-use Rattle.bp_floor.specs.declared.phase.Phase.TheVariants.{Rest}
 use Rattle.bp_floor.specs.Programs.{code_of}
-use Rattle.bp_floor.specs.Seating.{PlainSeat, seated}
+use Rattle.bp_floor.specs.Seating.{seated}
 use Rattle.bp_floor.specs.Boards.{stand_of, pair_of}
-use Rattle.bp_floor.specs.Forgetting.{forget, forgotten}
-use Rattle.bp_floor.specs.Kept.{Running, IsKept, AreBelow, Rises, runs_in}
+use Rattle.bp_floor.specs.Forgetting.{forgotten}
+use Rattle.bp_floor.specs.Kept.{Running, IsKept, AreBelow, runs_in}
 use Rattle.bp_floor.specs.Returning.{AreLater, ground_at}
 use Rattle.bp_floor.specs.Touching.{CanTouch, moves_in, moved_pair}
-use Rattle.bp_floor.specs.Floors.{PlainFloor, IsMoved, CanGo, IsAmong, phase_at, phase_of, not_lent, ready_in}
+use Rattle.bp_floor.specs.Floors.{PlainFloor, IsMoved, CanGo, phase_at, phase_of, not_lent, ready_in}
 use Rattle.bp_floor.specs.Going.{IsSoundOn, IsResting, IsReached, floor_on}
 use Rattle.bp_floor.proofs.Forgetting.{length_forgotten}
 use Rattle.bp_floor.proofs.Places.{map_length}

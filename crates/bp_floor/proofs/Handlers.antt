@@ -4,7 +4,6 @@ use Rattle.js_data.specs.Event.{PlainEvent}
 use Rattle.js_value.specs.Value as value
 use Rattle.js_value.specs.Value.{PlainValue, PlainSet}
 use Rattle.bp_run.specs.Bodies.{Outcome}
-use Rattle.js_meaning.specs.State.{Ground}
 use Rattle.js_meaning.specs.Bodies.{Origin, function}
 use Rattle.js_program.specs.declared.builtin.Mode.TheVariants as mode
 use Rattle.bp_code.specs.Code.{ground_for}
@@ -15,7 +14,7 @@ use Rattle.bp_run.specs.Numbers.{number_in}
 use Rattle.bp_run.specs.Story.{handler_body, entry_of}
 use Rattle.bp_meaning.specs.After.{handler}
 use Rattle.bp_thread.specs.declared.job.Job.{Job}
-use Rattle.bp_thread.specs.Jobs.{PlainJob, plain_job, StandsFor, is_stopped}
+use Rattle.bp_thread.specs.Jobs.{plain_job, is_stopped}
 use Rattle.bp_floor.specs.declared.entry.Handler.{Handler}
 use Rattle.bp_floor.specs.Programs.{code_of}
 use Rattle.bp_floor.specs.Entries.{handler_seen}

@@ -1,16 +1,15 @@
 -- Jobs are taken out, one after the other.
-use Rattle.std.proofs.Common.{◌≡◌, ℕ, zero, suc, ◌+◌, ◌<◌, ◌≤◌, Bool, true, false, not, ◌&&◌, List, [], ◌∷◌, ◌++◌, length, map, refl, sym, ap, ◌∙◌, subst, arith, Option, Some, None, is_none, is_some, option_map, option_to_list, slice_get, append_assoc, append-nil, if◌then◌else◌}
+use Rattle.std.proofs.Common.{◌≡◌, ℕ, zero, suc, Bool, true, false, not, ◌&&◌, List, [], ◌∷◌, ◌++◌, length, map, refl, sym, ap, ◌∙◌, subst, arith, Option, Some, None, is_none, is_some, option_map, option_to_list, slice_get, append_assoc, append-nil, if◌then◌else◌}
 use Rattle.js_value.specs.Value.{PlainSet}
 use Rattle.js_program.specs.PlainProgram.{PlainProgram}
-use Rattle.js_meaning.specs.Bodies.{Origin, the_top, function, bare, ground_of}
+use Rattle.js_meaning.specs.Bodies.{Origin, the_top, ground_of}
 use Rattle.js_meaning.specs.State.{Ground}
 use Rattle.bp_log.specs.Options.{PlainOptions}
 use Rattle.bp_code.specs.Code.{ground_for}
 use Rattle.bp_run.specs.Bodies.{Outcome}
 use Rattle.bp_run.specs.Configuration.{Thread, change}
-use Rattle.bp_run.specs.Settling.{Body, Entry, body_of, own_body}
+use Rattle.bp_run.specs.Settling.{Body, Entry, own_body}
 use Rattle.bp_run.specs.Settling.Entry.{The_top, Runs, Stops}
-use Rattle.bp_run.specs.Numbers.{number_of}
 use Rattle.bp_thread.specs.declared.job.Job.{Job}
 use Rattle.bp_thread.specs.Jobs.{PlainJob, plain_job, IsOf, IsWhole}
 use Rattle.bp_floor.specs.declared.entry.Handler.{Handler}
@@ -21,8 +20,8 @@ use Rattle.bp_floor.specs.Programs.{code_of}
 use Rattle.bp_floor.specs.Seating.{PlainSeat, seated, origin_in, replies_in, outcome_in, is_waiting, is_ready, where_from, stop_at, statement_at, stated_from, IsOwn, IsOwnIn, AreOwn}
 use Rattle.bp_floor.specs.Seated.{job_at}
 use Rattle.bp_floor.specs.Kept.{Running, IsBelow, AreBelow, AreFrom, Rises, runs_in}
-use Rattle.bp_floor.specs.Lending.{JobFor, IsJobOf, IsLent, AreJobs, AreLent, fill, filled, standing}
-use Rattle.bp_floor.specs.Returning.{ground_at, AreLater, RunsAlone}
+use Rattle.bp_floor.specs.Lending.{JobFor, IsLent, AreLent, fill, filled, standing}
+use Rattle.bp_floor.specs.Returning.{AreLater}
 use Rattle.bp_floor.specs.Lent.{IsStarted, IsGroundOf, Lends, CanLend, AreOut}
 use Rattle.bp_floor.proofs.Lists.{change_length, change_map, change_none, change_twice, change_apart, found, get_map}
 use Rattle.bp_floor.proofs.Places.{where_first0, first_is0, where_rises, where_like, stated_like, own_changed0, own_at0, map_length}

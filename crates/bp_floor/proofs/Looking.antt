@@ -1,12 +1,10 @@
 -- What an event leads to: whom it reaches, how much the run weighs then, and whose set is at fault.
-use Rattle.std.proofs.Common.{◌≡◌, ℕ, suc, ◌+◌, ◌*◌, ◌<◌, ◌≤◌, Bool, true, false, List, [], ◌∷◌, length, map, refl, sym, ap, ◌∙◌, subst, arith, Option, Some, None, Result, Ok, Err, nat_lt, cond, count_by, slice_get, if◌then◌else◌}
+use Rattle.std.proofs.Common.{◌≡◌, ℕ, ◌+◌, ◌*◌, ◌<◌, ◌≤◌, Bool, true, false, List, [], ◌∷◌, length, map, refl, sym, ap, ◌∙◌, arith, Option, Some, None, Result, Ok, Err, nat_lt, cond, count_by}
 use Rattle.std.specs.List.{filter_map, cons_option}
 use Rattle.std.proofs.lemmas.Bool.{lt-ltb, le-ltb}
 use Rattle.std.proofs.lemmas.List.Recursion.{is_count_by}
 use Rattle.js_data.specs.Event.{PlainEvent, event_weight}
-use Rattle.js_value.specs.Value.{PlainSet}
-use Rattle.js_meaning.specs.Bodies.{Origin}
-use Rattle.bp_log.specs.declared.limits.TheConstants.{MOST_THREADS, MOST_WEIGHT}
+use Rattle.bp_log.specs.declared.limits.TheConstants.{MOST_WEIGHT}
 use Rattle.bp_log.specs.declared.verdict.Verdict.TheVariants as verdict
 use Rattle.bp_sets.specs.declared.fault.SetFault as set
 use Rattle.bp_sets.specs.declared.fault.SetFault.TheVariants as set_fault

@@ -1,5 +1,5 @@
 -- What merging keeps, step after step.
-use Rattle.std.proofs.Common.{◌≡◌, ℕ, ◌≤◌, ◌<◌, ◌+◌, List, [], ◌∷◌, ◌++◌, length, map, refl, sym, ap, ◌∙◌, subst, arith, nat_eq, true, false, length-append, Option, Some, None}
+use Rattle.std.proofs.Common.{◌≡◌, ℕ, ◌≤◌, ◌<◌, ◌+◌, List, [], ◌∷◌, ◌++◌, length, map, refl, sym, ap, ◌∙◌, subst, arith, nat_eq, true, false, length-append, Some, None}
 use Rattle.js_data.specs.Event.{PlainEvent}
 use Rattle.js_program.specs.PlainProgram.{PlainProgram}
 use Rattle.js_program.specs.declared.builtin.Mode.TheVariants as mode
@@ -10,7 +10,7 @@ use Rattle.js_value.specs.declared.value.Value.{Value}
 use Rattle.js_value.specs.Views.{plain_value}
 use Rattle.bp_log.specs.Options.{PlainOptions}
 use Rattle.bp_log.specs.declared.limits.TheConstants.{MOST_WAITING, MOST_THREADS}
-use Rattle.bp_run.specs.Bodies.{Part, Outcome, Effect}
+use Rattle.bp_run.specs.Bodies.{Outcome, Effect}
 use Rattle.bp_run.specs.Bodies.Effect.{Register}
 use Rattle.bp_log.specs.declared.verdict.Place.{Place}
 use Rattle.bp_log.specs.declared.verdict.Verdict.TheVariants as verdict
@@ -18,20 +18,20 @@ use Rattle.std.proofs.lemmas.Bool.{eq-eqb}
 use Rattle.std.proofs.lemmas.List.{map-append}
 use Rattle.bp_code.specs.Code.{ground_for}
 use Rattle.bp_run.specs.Configuration.{Thread, change}
-use Rattle.bp_run.specs.Settling.{Entry, Pair, Ran, registered, merged, stopped, with_effect, with_effects, with_part, unless_over, ended}
-use Rattle.bp_run.specs.Settling.Entry.{The_top, Runs, Stops}
+use Rattle.bp_run.specs.Settling.{Entry, Pair, Ran, registered, merged, stopped, with_effect, with_effects, with_part, unless_over}
+use Rattle.bp_run.specs.Settling.Entry.{Runs}
 use Rattle.bp_run.specs.Selecting.{Live}
 use Rattle.bp_select.specs.Benches.{PlainBench, placed, Fits}
 use Rattle.bp_thread.specs.declared.job.Job.{Job}
 use Rattle.bp_thread.specs.Jobs.{PlainJob, plain_job, IsOf, IsWhole}
 use Rattle.bp_floor.specs.declared.board.Board.{Board}
 use Rattle.bp_floor.specs.Seating.{PlainSeat, seated, is_waiting, is_ready, where_from, stated_from, IsOwn, AreOwn}
-use Rattle.bp_floor.specs.Boards.{stand_of, pair_of, retired}
+use Rattle.bp_floor.specs.Boards.{pair_of}
 use Rattle.bp_floor.specs.Kept.{Running, IsOn, IsKept, IsBelow, AreBelow, AreFrom, runs_in}
 use Rattle.bp_floor.specs.Returning.{entry_in}
 use Rattle.bp_floor.proofs.Lists.{change_length, change_map}
 use Rattle.bp_floor.proofs.Places.{where_last0, stated_last, own_last0, from_last, runs_last, not_equal, where_ended0, own_changed0, stated_changed0, map_length}
-use Rattle.bp_floor.proofs.Widening.{Wider, wider_effects, wider_part, all_below_more, below_more}
+use Rattle.bp_floor.proofs.Widening.{wider_effects, wider_part, below_more}
 
 none_some : (x : Outcome PlainSet) → None ≡ Some x → ⊥
 none_some x h = absurd (cc)

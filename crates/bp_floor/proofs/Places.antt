@@ -1,7 +1,7 @@
 -- The b-threads of a board: who waits, what is stated, whose jobs they are.
-use Rattle.std.proofs.Common.{◌≡◌, ℕ, zero, suc, ◌+◌, ◌<◌, ◌≤◌, Bool, true, false, not, ◌&&◌, List, [], ◌∷◌, ◌++◌, length, map, refl, sym, ap, ◌∙◌, subst, arith, Option, Some, None, is_none, is_some, nat_lt, nat_eq, slice_get, option_map, if◌then◌else◌}
+use Rattle.std.proofs.Common.{◌≡◌, ℕ, zero, suc, ◌+◌, ◌<◌, ◌≤◌, Bool, true, false, not, ◌&&◌, List, [], ◌∷◌, ◌++◌, length, map, refl, sym, ap, ◌∙◌, subst, arith, Option, Some, None, is_none, nat_lt, nat_eq, slice_get, option_map, if◌then◌else◌}
 use Rattle.std.proofs.lemmas.Bool.{lt-ltb, le-ltb, eq-eqb, eqb-true}
-use Rattle.std.specs.List.{filter_map, cons_option}
+use Rattle.std.specs.List.{cons_option}
 use Rattle.js_value.specs.Value.{PlainSet}
 use Rattle.js_program.specs.PlainProgram.{PlainProgram}
 use Rattle.bp_log.specs.Options.{PlainOptions}
@@ -10,8 +10,8 @@ use Rattle.bp_run.specs.Bodies.Outcome.{Stopped, Ended, Broken, Violated, Spent}
 use Rattle.js_meaning.specs.Bodies.{Origin, the_top}
 use Rattle.bp_run.specs.Configuration.{Thread, change}
 use Rattle.bp_run.specs.Settling.{Entry}
-use Rattle.bp_run.specs.Settling.Entry.{The_top, Runs, Stops}
-use Rattle.bp_run.specs.Selecting.{Live, at_stop}
+use Rattle.bp_run.specs.Settling.Entry.{Runs}
+use Rattle.bp_run.specs.Selecting.{Live}
 use Rattle.bp_select.specs.Benches.{placed, live_at}
 use Rattle.bp_floor.specs.Forgetting.{forget}
 use Rattle.bp_floor.specs.Seating.{PlainSeat, seated, is_waiting, is_ready, outcome_in, where_from, stop_at, statement_at, stated_from, IsOwnIn, AreOwn, swept}

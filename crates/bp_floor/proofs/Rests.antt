@@ -1,13 +1,11 @@
 -- At rest the bench has what the live b-threads state, and those that an event reaches stand at their points.
-use Rattle.std.proofs.Common.{◌≡◌, ℕ, zero, suc, ◌+◌, ◌<◌, ◌≤◌, Bool, true, false, not, ◌&&◌, ◌==◌, nat_eq, List, [], ◌∷◌, length, map, refl, sym, ap, ◌∙◌, subst, arith, Option, Some, None, Ok, is_none, is_some, slice_get, if◌then◌else◌}
-use Rattle.std.proofs.lemmas.Bool.{eqb-true, eq-eqb}
+use Rattle.std.proofs.Common.{◌≡◌, ℕ, zero, suc, ◌+◌, ◌<◌, Bool, true, false, not, ◌&&◌, ◌==◌, nat_eq, List, [], ◌∷◌, length, map, refl, sym, ap, ◌∙◌, subst, arith, Option, Some, None, Ok, is_none, is_some, slice_get, if◌then◌else◌}
+use Rattle.std.proofs.lemmas.Bool.{eq-eqb}
 use Rattle.std.specs.List.{cons_option}
 use Rattle.js_data.specs.Event.{PlainEvent}
 use Rattle.js_value.specs.Value.{PlainSet}
-use Rattle.js_program.specs.PlainProgram.{PlainProgram}
-use Rattle.js_meaning.specs.Bodies.{Origin, ground_of}
-use Rattle.bp_log.specs.Options.{PlainOptions}
-use Rattle.bp_run.specs.Bodies.{Code, Outcome, SetFault}
+use Rattle.js_meaning.specs.Bodies.{Origin}
+use Rattle.bp_run.specs.Bodies.{Outcome}
 use Rattle.bp_run.specs.Bodies.Outcome.{Stopped, Ended, Broken, Violated, Spent}
 use Rattle.bp_run.specs.Configuration.{Stand, Thread}
 use Rattle.bp_run.specs.Selecting.{Live, Has, Asked, at_stop, stated, live_from, live}

@@ -1,32 +1,31 @@
 -- Jobs come back, one after the other.
-use Rattle.std.proofs.Common.{◌≡◌, ℕ, zero, suc, ◌+◌, ◌<◌, ◌≤◌, Bool, true, false, not, ◌&&◌, List, [], ◌∷◌, ◌++◌, length, map, refl, sym, ap, ◌∙◌, subst, arith, append_assoc, append-nil, Option, Some, None, is_none, is_some, slice_get, if◌then◌else◌}
+use Rattle.std.proofs.Common.{◌≡◌, ℕ, zero, suc, ◌<◌, ◌≤◌, Bool, true, false, not, ◌&&◌, List, [], ◌∷◌, ◌++◌, length, map, refl, sym, ap, ◌∙◌, subst, arith, append_assoc, append-nil, Option, Some, None, is_none, is_some, slice_get}
 use Rattle.js_data.specs.Event.{PlainEvent}
 use Rattle.js_value.specs.Value.{PlainValue, PlainSet}
 use Rattle.js_program.specs.PlainProgram.{PlainProgram}
 use Rattle.js_meaning.specs.Bodies.{Origin, the_top, bare, ground_of, evaluation, constants_left}
 use Rattle.js_meaning.specs.State as js
 use Rattle.js_meaning.specs.State.{Ground}
-use Rattle.bp_log.specs.Options.{PlainOptions}
 use Rattle.bp_log.specs.declared.limits.TheConstants.{MOST_WAITING, MOST_THREADS}
 use Rattle.bp_run.specs.Bodies as run
 use Rattle.bp_run.specs.Bodies.{Part, Outcome}
-use Rattle.bp_run.specs.Configuration.{Thread, Stand, change}
+use Rattle.bp_run.specs.Configuration.{Thread, change}
 use Rattle.bp_run.specs.Settling.{Body, Entry, Ran, body_of, own_body, part_of}
 use Rattle.bp_run.specs.Settling.Entry.{The_top, Runs, Stops}
 use Rattle.bp_run.specs.Numbers.{number_of}
 use Rattle.bp_meaning.specs.After.{effect_of, outcome_of}
 use Rattle.bp_select.specs.Benches.{placed, live_at}
 use Rattle.bp_thread.specs.declared.job.Job.{Job}
-use Rattle.bp_thread.specs.Jobs.{PlainJob, plain_job, is_ended, IsOf, StandsAt, StandsFor, IsWhole}
+use Rattle.bp_thread.specs.Jobs.{PlainJob, plain_job, is_ended, IsOf, StandsAt, StandsFor}
 use Rattle.bp_floor.specs.declared.board.Board.{Board}
 use Rattle.bp_code.specs.Code.{ground_for}
 use Rattle.bp_floor.specs.Programs.{code_of}
-use Rattle.bp_floor.specs.Seating.{PlainSeat, seated, outcome_in, is_waiting, is_ready, where_from, stop_at, statement_at, stated_from, IsOwn, IsOwnIn, AreOwn}
-use Rattle.bp_floor.specs.Parts.{unstated, unstated_part, nothing_stated}
+use Rattle.bp_floor.specs.Seating.{PlainSeat, seated, is_waiting, is_ready, where_from, stop_at, statement_at, stated_from, IsOwn, AreOwn}
+use Rattle.bp_floor.specs.Parts.{unstated, unstated_part}
 use Rattle.bp_floor.specs.Kept.{Running, runs_in, AreBelow}
-use Rattle.bp_floor.specs.Lending.{JobFor, IsJobOf, IsCarried, IsDone, AreJobs, AreDone, fill, filled, has_body, standing}
-use Rattle.bp_floor.specs.Returning.{ground_at, AreLater, RunsAlone, IsBack, IsSameBut, part_in, Puts, IsPut, IsTaken, IsKeptBy, IsFilled, ran_in, AreAllBack}
-use Rattle.bp_floor.proofs.Lists.{change_length, change_map, found}
+use Rattle.bp_floor.specs.Lending.{JobFor, IsCarried, IsDone, AreDone, fill, filled, has_body, standing}
+use Rattle.bp_floor.specs.Returning.{ground_at, AreLater, RunsAlone, IsBack, IsSameBut, part_in, Puts, IsTaken, IsKeptBy, IsFilled, ran_in, AreAllBack}
+use Rattle.bp_floor.proofs.Lists.{change_length, change_map}
 use Rattle.bp_floor.proofs.Places.{own_changed0, stated_changed0, where_first0, where_none, where_below0, waits_at0, map_length}
 
 pub filled_none : (ns : List (Entry Origin)) (ts : List (Thread Origin)) → filled ns [] ts ≡ ts

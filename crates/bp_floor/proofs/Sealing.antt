@@ -1,12 +1,10 @@
 -- Jobs leave a floor and come back to it.
-use Rattle.std.proofs.Common.{◌≡◌, ℕ, suc, ◌+◌, ◌<◌, ◌≤◌, List, [], ◌∷◌, length, map, refl, sym, ap, ◌∙◌, subst, arith, Bool, Option, Some, None, false}
-use Rattle.js_value.specs.Value.{PlainSet}
+use Rattle.std.proofs.Common.{◌≡◌, ℕ, ◌+◌, List, [], ◌∷◌, length, map, refl, sym, ap, ◌∙◌, subst, arith, Bool, Option, Some, None}
 use Rattle.js_meaning.specs.State.{Ground}
-use Rattle.js_meaning.specs.Bodies.{Origin, the_top, ground_of}
+use Rattle.js_meaning.specs.Bodies.{Origin, the_top}
 use Rattle.bp_log.specs.Options.{PlainOptions}
 use Rattle.bp_log.specs.declared.trace.Line.{Line}
 use Rattle.bp_log.specs.declared.verdict.Verdict.{Verdict}
-use Rattle.bp_run.specs.Bodies.{Code}
 use Rattle.bp_run.specs.Configuration.{Thread}
 use Rattle.bp_run.specs.Settling.{Entry, Pair, turn, before}
 use Rattle.bp_run.specs.Settling.Entry.{The_top, Runs, Stops}
@@ -16,14 +14,14 @@ use Rattle.bp_run.proofs.Numbers.{turn_entries, turn_rising}
 use Rattle.bp_thread.specs.declared.job.Job.{Job}
 use Rattle.bp_floor.specs.declared.board.Board.{Board}
 use Rattle.bp_floor.specs.declared.phase.Phase.{Phase}
-use Rattle.bp_floor.specs.declared.phase.Phase.TheVariants.{Ready, Lent, Rest, Over}
+use Rattle.bp_floor.specs.declared.phase.Phase.TheVariants.{Ready, Lent}
 use Rattle.bp_floor.specs.Programs.{code_of}
 use Rattle.bp_floor.specs.Seating.{PlainSeat, seated}
 use Rattle.bp_floor.specs.Boards.{stand_of, pair_of}
 use Rattle.bp_floor.specs.Forgetting.{forgotten, AreGoing}
-use Rattle.bp_floor.specs.Kept.{Running, IsKept, IsOn, AreBelow, IsBelow, runs_in}
+use Rattle.bp_floor.specs.Kept.{Running, IsKept, IsOn, AreBelow}
 use Rattle.bp_floor.specs.Lending.{AreDone, filled, filled_pair, standing}
-use Rattle.bp_floor.specs.Returning.{AreLater, RunsAlone, IsBack, ground_at}
+use Rattle.bp_floor.specs.Returning.{AreLater, IsBack, ground_at}
 use Rattle.bp_floor.specs.Lent.{CanLend, AreOut, IsGroundOf}
 use Rattle.js_program.specs.PlainProgram.{PlainProgram}
 use Rattle.bp_floor.specs.Floors.{PlainFloor, AreBack, IsSound, StandsFor, StandsWith, phase_at, phase_of, code_on}
@@ -31,7 +29,7 @@ use Rattle.bp_floor.proofs.Forgetting.{length_forgotten}
 use Rattle.bp_floor.proofs.Unended.{seats_going, filled_going, turn_of_standing}
 use Rattle.bp_floor.proofs.Gone.{ready_phase, lent_phase}
 use Rattle.bp_floor.proofs.Places.{map_length}
-use Rattle.bp_floor.proofs.Returns.{filled_length, later_alone, later_ground}
+use Rattle.bp_floor.proofs.Returns.{later_alone, later_ground}
 
 -- ---- lending
 

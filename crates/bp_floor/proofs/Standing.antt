@@ -1,6 +1,6 @@
 -- What a floor stands for, after its lines were taken.
-use Rattle.std.proofs.Common.{◌≡◌, List, [], ◌++◌, refl, sym, ap, ◌∙◌, append_assoc, append-nil}
-use Rattle.js_meaning.specs.Bodies.{Origin, the_top}
+use Rattle.std.proofs.Common.{◌≡◌, List, [], ◌++◌, sym, ap, ◌∙◌, append_assoc, append-nil}
+use Rattle.js_meaning.specs.Bodies.{Origin}
 use Rattle.bp_log.specs.declared.trace.Line.{Line}
 use Rattle.bp_run.specs.Settling.{Pair, before}
 use Rattle.bp_floor.specs.Floors.{PlainFloor, StandsFor}

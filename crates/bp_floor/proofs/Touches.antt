@@ -1,38 +1,34 @@
 -- An event reaches b-threads, one after the other.
 use Rattle.std.proofs.lemmas.List.Edits.{length-remove}
-use Rattle.std.proofs.Common.{◌≡◌, ℕ, zero, suc, ◌+◌, ◌<◌, ◌≤◌, Bool, true, false, not, ◌&&◌, List, [], ◌∷◌, ◌++◌, length, map, refl, sym, ap, ◌∙◌, subst, arith, Option, Some, None, is_none, is_some, slice_get, append_assoc, append-nil, if◌then◌else◌, IfSome}
+use Rattle.std.proofs.Common.{◌≡◌, ℕ, suc, ◌+◌, ◌<◌, ◌≤◌, Bool, true, false, not, ◌&&◌, List, [], ◌∷◌, ◌++◌, length, map, refl, sym, ap, ◌∙◌, subst, arith, Option, Some, None, is_none, is_some, slice_get, append_assoc, append-nil, if◌then◌else◌, IfSome}
 use Rattle.js_data.specs.Event.{PlainEvent}
 use Rattle.js_value.specs.Value.{PlainSet}
 use Rattle.js_program.specs.PlainProgram.{PlainProgram}
 use Rattle.js_meaning.specs.Bodies.{Origin, the_top, ground_of}
 use Rattle.js_meaning.specs.State.{Ground}
-use Rattle.bp_log.specs.Options.{PlainOptions}
 use Rattle.bp_log.specs.declared.limits.TheConstants.{MOST_WAITING, MOST_THREADS}
 use Rattle.bp_code.specs.Code.{ground_for}
-use Rattle.bp_run.specs.Bodies as run
 use Rattle.bp_run.specs.Bodies.{Outcome}
 use Rattle.bp_run.specs.Configuration.{Thread, change}
 use Rattle.bp_run.specs.Selecting.{Live}
 use Rattle.bp_run.specs.Choosing.{Touched}
 use Rattle.bp_run.specs.Choosing.Touched.{Moves, Interrupts}
-use Rattle.bp_run.specs.Settling.{Entry, Pair}
+use Rattle.bp_run.specs.Settling.{Entry}
 use Rattle.bp_log.specs.declared.trace.Line.{Line}
 use Rattle.bp_run.specs.Story.{touch, touch_all, without, line_of_choice}
 use Rattle.bp_run.specs.Numbers.{number_in}
-use Rattle.bp_select.specs.Benches.{PlainBench, placed, live_at, Fits}
-use Rattle.bp_select.specs.Answers.{move_of}
+use Rattle.bp_select.specs.Benches.{PlainBench, placed, Fits}
 use Rattle.bp_thread.specs.declared.job.Job.{Job}
 use Rattle.bp_thread.specs.Jobs.{PlainJob, plain_job, IsOf, StandsFor, IsWhole, is_stopped}
 use Rattle.bp_floor.specs.declared.board.Board.{Board}
-use Rattle.bp_floor.specs.Programs.{code_of}
-use Rattle.bp_floor.specs.Seating.{PlainSeat, seated, origin_in, replies_in, outcome_in, is_waiting, is_ready, where_from, stop_at, statement_at, stated_from, IsOwn, IsOwnIn, AreOwn, swept}
+use Rattle.bp_floor.specs.Seating.{PlainSeat, seated, origin_in, replies_in, outcome_in, is_waiting, is_ready, where_from, statement_at, stated_from, IsOwn, IsOwnIn, AreOwn, swept}
 use Rattle.bp_floor.specs.Boards.{stand_of, pair_of}
 use Rattle.bp_floor.specs.Forgetting.{forget, forgotten}
 use Rattle.bp_floor.specs.Kept.{Running, IsKept, AreFrom, Rises, runs_in}
 use Rattle.bp_floor.specs.Returning.{IsSameBut}
-use Rattle.bp_floor.specs.Touching.{IsStanding, IsGivenTo, IsSilent, IsTouch, AreStanding, moves_in, moved_pair, CanTouch, IsTouchedBy}
+use Rattle.bp_floor.specs.Touching.{IsStanding, IsTouch, AreStanding, moves_in, moved_pair, CanTouch, IsTouchedBy}
 use Rattle.bp_floor.proofs.Lists.{change_length, change_map, change_map_at, change_apart}
-use Rattle.bp_floor.proofs.Places.{where_like, where_more0, rises_below, stated_changed0, own_changed0, own_at0, get_below, waits_swept, ready_swept, stated_swept, own_swept, forgets_swept, swept_length}
+use Rattle.bp_floor.proofs.Places.{where_like, where_more0, rises_below, stated_changed0, own_changed0, get_below, waits_swept, ready_swept, stated_swept, own_swept, forgets_swept, swept_length}
 use Rattle.bp_floor.proofs.Turns.{from_zero}
 
 -- Where reaching stands: these are left.

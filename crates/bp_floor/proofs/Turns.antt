@@ -1,24 +1,21 @@
 -- A turn, put together from its parts.
-use Rattle.std.proofs.Common.{◌≡◌, ℕ, ◌≤◌, ◌<◌, List, [], ◌∷◌, ◌++◌, length, map, refl, sym, ap, ◌∙◌, subst, arith, Option, Some, None}
-use Rattle.js_value.specs.Value.{PlainSet}
-use Rattle.js_meaning.specs.Bodies.{Origin, the_top, ground_of}
+use Rattle.std.proofs.Common.{◌≡◌, ℕ, List, [], ◌∷◌, length, map, refl, sym, ap, ◌∙◌, subst, arith}
+use Rattle.js_meaning.specs.Bodies.{Origin, the_top}
 use Rattle.js_meaning.specs.State.{Ground}
 use Rattle.bp_log.specs.Options.{PlainOptions}
-use Rattle.bp_log.specs.declared.limits.TheConstants.{MOST_WAITING, MOST_THREADS}
 use Rattle.bp_log.specs.declared.trace.Line.{Line}
-use Rattle.bp_run.specs.Bodies.{Code}
 use Rattle.bp_run.specs.Configuration.{Stand, Thread}
 use Rattle.bp_run.specs.Settling.{Entry, Pair, Ran, turn, merged, ran, before}
 use Rattle.bp_run.specs.Settling.Entry.{The_top, Runs, Stops}
 use Rattle.bp_run.proofs.Before.{turn_apart}
 use Rattle.bp_floor.specs.declared.board.Board.{Board}
 use Rattle.bp_floor.specs.Programs.{code_of}
-use Rattle.bp_floor.specs.Seating.{PlainSeat, seated, swept, is_waiting, is_ready, where_from, stated_from, AreOwn}
+use Rattle.bp_floor.specs.Seating.{seated, swept}
 use Rattle.bp_floor.specs.Parts.{unstated_ran}
 use Rattle.bp_floor.specs.Boards.{stand_of, pair_of}
 use Rattle.bp_floor.specs.Forgetting.{forgotten}
 use Rattle.bp_floor.specs.Kept.{Running, IsOn, IsKept, AreBelow, AreFrom, runs_in}
-use Rattle.bp_floor.specs.Lending.{filled, filled_pair, standing}
+use Rattle.bp_floor.specs.Lending.{filled, filled_pair}
 use Rattle.bp_thread.specs.declared.job.Job.{Job}
 use Rattle.bp_floor.specs.Returning.{IsBack, IsSameBut, AreAllBack, ran_in, entry_in, turned_apart}
 use Rattle.bp_floor.proofs.Returns.{filled_length}

@@ -1,5 +1,5 @@
 -- Those that go on have not ended.
-use Rattle.std.proofs.Common.{◌≡◌, ℕ, zero, suc, ◌+◌, ◌<◌, ◌≤◌, Bool, true, false, not, ◌&&◌, List, [], ◌∷◌, length, map, refl, sym, ap, ◌∙◌, subst, arith, Option, Some, None, is_none, slice_get, if◌then◌else◌}
+use Rattle.std.proofs.Common.{◌≡◌, ℕ, zero, suc, ◌+◌, ◌≤◌, Bool, true, false, not, ◌&&◌, List, [], ◌∷◌, map, refl, sym, ap, ◌∙◌, subst, arith, Some, None, is_none, slice_get, if◌then◌else◌}
 use Rattle.js_meaning.specs.Bodies.{Origin, the_top}
 use Rattle.bp_log.specs.declared.trace.Line.{Line}
 use Rattle.bp_run.specs.Configuration.{Thread, change}
@@ -10,10 +10,9 @@ use Rattle.js_value.specs.Value.{PlainSet}
 use Rattle.bp_thread.specs.declared.job.Job.{Job}
 use Rattle.bp_thread.specs.Jobs.{plain_job}
 use Rattle.bp_floor.specs.Seating.{PlainSeat, seated, outcome_in, is_waiting, where_from}
-use Rattle.bp_floor.specs.Forgetting.{forget, forgotten, IsGoing, AreGoing}
+use Rattle.bp_floor.specs.Forgetting.{forget, forgotten, AreGoing}
 use Rattle.bp_floor.specs.Kept.{AreFrom, runs_in}
 use Rattle.bp_floor.specs.Lending.{fill, filled}
-use Rattle.bp_floor.proofs.Lists.{change_here, change_apart}
 use Rattle.bp_floor.proofs.Places.{where_above, zero_add}
 use Rattle.bp_floor.proofs.Forgetting.{turn_stands}
 

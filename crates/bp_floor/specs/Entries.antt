@@ -1,6 +1,5 @@
 -- What is to be run, as the definitions see it.
-use Rattle.std.specs.Prelude.{ℕ, List, [], ◌∷◌, Option, Some, None, option_map}
-use Rattle.std.specs.List.{filter_map}
+use Rattle.std.specs.Prelude.{[], ◌∷◌, option_map}
 use Rattle.js_value.specs.Views.{plain_value}
 use Rattle.js_program.specs.declared.builtin.Mode.TheVariants as mode
 use Rattle.js_meaning.specs.Bodies.{Origin, function}

@@ -1,5 +1,5 @@
 -- What contracts see of a floor, and what it stands for.
-use Rattle.std.specs.Prelude.{◌≡◌, ℕ, ◌≤◌, nat_lt, Bool, true, false, List, [], ◌∷◌, ◌++◌, Option, Some, None, Result, Ok, Err, length, map, slice_get, if◌then◌else◌}
+use Rattle.std.specs.Prelude.{◌≡◌, ℕ, ◌≤◌, nat_lt, Bool, true, false, List, [], ◌∷◌, Option, Some, None, Ok, Err, length, slice_get, if◌then◌else◌}
 use Rattle.std.specs.List.{list_any}
 use Rattle.js_data.specs.Event.{PlainEvent, same_event}
 use Rattle.js_value.specs.Value.{PlainSet}
@@ -12,7 +12,7 @@ use Rattle.bp_log.specs.declared.verdict.Verdict.{Verdict}
 use Rattle.bp_log.specs.declared.verdict.Verdict.TheVariants as verdict
 use Rattle.bp_run.specs.Bodies.{Code}
 use Rattle.bp_run.specs.Configuration.{Stand}
-use Rattle.bp_run.specs.Settling.{Entry, Pair, turn, before, queued}
+use Rattle.bp_run.specs.Settling.{Entry, Pair, turn, before}
 use Rattle.bp_run.specs.Selecting.{Asked, Enabled, Has, Live, live, selectable}
 use Rattle.bp_run.specs.Choosing.{Touched, reach}
 use Rattle.bp_run.specs.Story.{stepped, weight_after, fault_verdict}

@@ -1,7 +1,7 @@
 -- What a board keeps of its b-threads while they run.
-use Rattle.std.specs.Prelude.{◌≡◌, ℕ, suc, ◌≤◌, ◌<◌, List, [], ◌∷◌, Option, Some, None, length, map}
+use Rattle.std.specs.Prelude.{◌≡◌, ℕ, suc, ◌≤◌, ◌<◌, List, [], ◌∷◌, Option, Some, None, length}
 use Rattle.std.specs.List.{filter_map}
-use Rattle.js_meaning.specs.Bodies.{Origin, ground_of}
+use Rattle.js_meaning.specs.Bodies.{ground_of}
 use Rattle.js_meaning.specs.State.{Ground}
 use Rattle.js_program.specs.PlainProgram.{PlainProgram}
 use Rattle.bp_log.specs.Options.{PlainOptions}

@@ -1,5 +1,5 @@
 -- The jobs that are lent, and that come back with their outcomes.
-use Rattle.std.specs.Prelude.{◌≡◌, ℕ, Bool, true, false, List, [], ◌∷◌, Option, Some, None, map, is_some}
+use Rattle.std.specs.Prelude.{◌≡◌, ℕ, Bool, true, List, [], ◌∷◌, Option, Some, None, map, is_some}
 use Rattle.js_program.specs.PlainProgram.{PlainProgram}
 use Rattle.js_meaning.specs.Bodies.{Origin}
 use Rattle.bp_log.specs.Options.{PlainOptions}

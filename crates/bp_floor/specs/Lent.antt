@@ -1,15 +1,13 @@
 -- Jobs are taken out, one after the other.
-use Rattle.std.specs.Prelude.{◌≡◌, ℕ, List, [], ◌∷◌, Option, Some, None, length, map, option_to_list, slice_get}
-use Rattle.js_value.specs.Value.{PlainSet}
-use Rattle.js_program.specs.PlainProgram.{PlainProgram}
+use Rattle.std.specs.Prelude.{◌≡◌, ℕ, List, [], ◌∷◌, Some, None, length, map, option_to_list, slice_get}
 use Rattle.js_meaning.specs.State.{Ground}
 use Rattle.js_meaning.specs.Bodies.{Origin, the_top}
 use Rattle.bp_log.specs.Options.{PlainOptions}
-use Rattle.bp_run.specs.Configuration.{Thread, change}
-use Rattle.bp_run.specs.Settling.{Body, Entry}
+use Rattle.bp_run.specs.Configuration.{change}
+use Rattle.bp_run.specs.Settling.{Entry}
 use Rattle.bp_run.specs.Settling.Entry.{The_top, Runs, Stops}
 use Rattle.bp_thread.specs.declared.job.Job.{Job}
-use Rattle.bp_thread.specs.Jobs.{PlainJob, plain_job, IsOf, IsWhole}
+use Rattle.bp_thread.specs.Jobs.{plain_job, IsOf, IsWhole}
 use Rattle.bp_floor.specs.Seating.{PlainSeat, seated, is_waiting, is_ready, where_from, stated_from, AreOwn}
 use Rattle.bp_floor.specs.Seated.{job_at}
 use Rattle.bp_floor.specs.Kept.{Running, AreBelow, runs_in}

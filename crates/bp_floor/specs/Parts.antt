@@ -1,5 +1,5 @@
 -- What bodies did, but for what they state.
-use Rattle.std.specs.Prelude.{ℕ, pos, List, [], map}
+use Rattle.std.specs.Prelude.{pos, [], map}
 use Rattle.js_meaning.specs.Bodies.{Origin}
 use Rattle.js_frames.specs.Places.{plain_effects}
 use Rattle.bp_run.specs.Bodies as run

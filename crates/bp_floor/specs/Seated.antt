@@ -1,5 +1,5 @@
 -- B-threads as contracts see them.
-use Rattle.std.specs.Prelude.{◌≡◌, Option, Some, None}
+use Rattle.std.specs.Prelude.{Option, Some, None}
 use Rattle.bp_thread.specs.declared.job.Job.{Job}
 use Rattle.bp_floor.specs.declared.seats.Seat.{Seat}
 use Rattle.bp_floor.specs.Seating.{PlainSeat}

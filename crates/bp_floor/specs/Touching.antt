@@ -1,5 +1,5 @@
 -- An event reaches b-threads, one after the other.
-use Rattle.std.specs.Prelude.{◌≡◌, ℕ, true, false, List, [], ◌∷◌, ◌++◌, ◌+◌, Option, Some, None, length, map, slice_get, ◌≤◌, ◌<◌, IsSome}
+use Rattle.std.specs.Prelude.{◌≡◌, ℕ, true, false, List, [], ◌∷◌, ◌++◌, ◌+◌, Option, Some, None, length, map, slice_get, ◌≤◌, IsSome}
 use Rattle.std.specs.List.{filter_map}
 use Rattle.js_data.specs.Event.{PlainEvent}
 use Rattle.js_value.specs.Value as value

@@ -1,6 +1,5 @@
-use Rattle.std.proofs.Common.{◌≡◌, ◌<◌, ◌+◌, ◌∙◌, ◌++◌, ◌∷◌, [], ℕ, List, length, map, slice_get, sym, subst, ap, refl, arith, Some, None, Vec, Global}
+use Rattle.std.proofs.Common.{◌<◌, ◌+◌, ◌∙◌, ℕ, List, length, map, slice_get, sym, subst, ap, arith, Some, None, Vec, Global}
 use Rattle.std.specs.Borrow.{Bor}
-use Rattle.bp_run.specs.Choosing.{Touched}
 use Rattle.bp_run.specs.Choosing.{Touched as to}
 use Rattle.bp_floor.specs.declared.touching.Touch.{Touch}
 use Rattle.bp_floor.specs.Touching.{touch_seen}

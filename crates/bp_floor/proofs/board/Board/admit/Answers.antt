@@ -1,14 +1,8 @@
-use Rattle.std.proofs.Common.{◌≡◌, ◌∙◌, ◌<◌, ℕ, List, [], ◌∷◌, ◌++◌, Option, None, refl, sym, ap, map, subst}
+use Rattle.std.proofs.Common.{◌∙◌, ◌<◌, ℕ, [], ◌∷◌, ◌++◌, refl, ap, subst}
 use Rattle.std.proofs.lemmas.Result.{on_ok_weaker}
-use Rattle.js_data.specs.Event.{PlainEvent}
-use Rattle.js_value.specs.Value.{PlainValue}
-use Rattle.js_value.specs.declared.value.Value as value
 use Rattle.js_value.specs.Views.{plain_value}
-use Rattle.js_program.specs.declared.builtin.Mode.TheVariants as mode
-use Rattle.js_meaning.specs.Bodies.{Origin, function}
 use Rattle.js_frames.specs.Places.{plain_ground}
 use Rattle.bp_log.specs.declared.limits.TheConstants.{MOST_THREADS}
-use Rattle.bp_run.specs.Settling.{Entry}
 use Rattle.bp_run.specs.Settling.Entry.{Runs}
 use Rattle.bp_thread.specs.Jobs.{IsWhole}
 use Rattle.bp_floor.proofs.Onward.{admitted, started_thread}

@@ -1,12 +1,9 @@
-use Rattle.std.proofs.Common.{◌≡◌, ◌<◌, ℕ, ◌∙◌, List, ap, sym, subst, map, length, IfSome}
+use Rattle.std.proofs.Common.{◌<◌, ◌∙◌, ap, sym, subst, map, length, IfSome}
 use Rattle.js_meaning.specs.Bodies.{Origin}
 use Rattle.js_frames.specs.Places.{plain_ground}
-use Rattle.bp_run.specs.Choosing.{Touched}
 use Rattle.bp_run.specs.Settling.{Pair}
 use Rattle.bp_floor.specs.declared.going.Outlook.{Outlook}
-use Rattle.bp_floor.specs.declared.touching.Touch.{Touch}
-use Rattle.bp_floor.specs.Kept.{Running}
-use Rattle.bp_floor.specs.Touching.{CanTouch, touch_seen}
+use Rattle.bp_floor.specs.Touching.{touch_seen}
 use Rattle.bp_floor.specs.Going.{LooksAs, floor_on}
 use Rattle.bp_floor.proofs.Gone.{place_there, few_transitions}
 use Rattle.bp_floor.proofs.Goes.{can, moved}

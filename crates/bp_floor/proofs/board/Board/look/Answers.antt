@@ -1,4 +1,4 @@
-use Rattle.std.proofs.Common.{◌≡◌, ◌<◌, ℕ, ◌∙◌, ap, sym, subst, refl, length, Ok, Err}
+use Rattle.std.proofs.Common.{◌<◌, ℕ, sym, subst, refl, length, Ok, Err}
 use Rattle.bp_run.specs.Choosing.{reach}
 use Rattle.bp_run.specs.Selecting.{live}
 use Rattle.bp_select.specs.declared.answers.SelectFault.{SelectFault}

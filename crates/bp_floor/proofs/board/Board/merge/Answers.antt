@@ -1,13 +1,9 @@
-use Rattle.std.proofs.Common.{◌∙◌, List, [], ◌∷◌, sym, ap, map, subst}
+use Rattle.std.proofs.Common.{◌∙◌, List, ap, map}
 use Rattle.std.specs.Vec.Iter.{into_iter_items}
-use Rattle.js_frames.specs.Places.{plain_ground}
-use Rattle.js_meaning.specs.Bodies.{Origin}
-use Rattle.bp_run.specs.Settling.{Pair, Ran, merged}
 use Rattle.bp_floor.specs.declared.part.Ran as made
-use Rattle.bp_floor.specs.Boards.{pair_of}
 use Rattle.bp_floor.specs.Parts.{ran_seen}
 use Rattle.bp_floor.proofs.Lists.{nothing_to_come}
-use Rattle.bp_floor.proofs.Onward.{Merging, merging_begin, merging_left, merging_within, merging_next, merging_end}
+use Rattle.bp_floor.proofs.Onward.{merging_begin, merging_left, merging_within, merging_next, merging_end}
 use Rattle.bp_floor.proofs.board.Board.merge.Goals as goal
 
 pub loop-entry-init : goal.loop-entry-init

@@ -1,4 +1,4 @@
-use Rattle.std.proofs.Common.{◌≡◌, ◌∙◌, [], List, arith, sym, ap, subst, OnOk}
+use Rattle.std.proofs.Common.{◌∙◌, [], arith, sym}
 use Rattle.std.proofs.lemmas.Result.{on_ok_weaker}
 use Rattle.js_value.specs.Views.{plain_value}
 use Rattle.js_meaning.specs.Bodies.{function}

@@ -1,9 +1,7 @@
-use Rattle.std.proofs.Common.{◌≡◌, ◌∙◌, List, sym, ap, map}
+use Rattle.std.proofs.Common.{◌∙◌}
 use Rattle.std.proofs.lemmas.Result.{on_ok_weaker}
 use Rattle.std.specs.Vec.Iter.{into_iter_items}
 use Rattle.js_frames.specs.Places.{plain_ground}
-use Rattle.bp_floor.specs.Seating.{seated}
-use Rattle.bp_floor.specs.Boards.{stand_of}
 use Rattle.bp_floor.proofs.Turns.{apart_back, apart_joined}
 use Rattle.bp_floor.proofs.board.Board.turn.Goals as goal
 

@@ -1,8 +1,6 @@
-use Rattle.std.proofs.Common.{◌≡◌, ◌∙◌, List, Option, ℕ, ap, subst}
-use Rattle.js_data.specs.Event.{PlainEvent}
-use Rattle.js_value.specs.Value.{PlainSet}
+use Rattle.std.proofs.Common.{Option, ℕ, subst}
 use Rattle.js_frames.specs.Places.{plain_ground}
-use Rattle.bp_run.specs.Selecting.{Has, Live, live, blocker}
+use Rattle.bp_run.specs.Selecting.{live, blocker}
 use Rattle.bp_select.specs.Answers.{AnswersAs}
 use Rattle.bp_floor.specs.Floors.{PlainFloor, code_on}
 use Rattle.bp_floor.proofs.Asking.{asked_at_rest}

@@ -1,8 +1,7 @@
-use Rattle.std.proofs.Common.{◌≡◌, ◌∙◌, List, Option, ℕ, ap, subst}
+use Rattle.std.proofs.Common.{List, ℕ, subst}
 use Rattle.js_data.specs.Event.{PlainEvent}
-use Rattle.js_value.specs.Value.{PlainSet}
 use Rattle.js_frames.specs.Places.{plain_ground}
-use Rattle.bp_run.specs.Selecting.{Has, Live, live}
+use Rattle.bp_run.specs.Selecting.{live}
 use Rattle.bp_words.specs.Words.{draw_word}
 use Rattle.bp_log.specs.declared.options.Strategy as log
 use Rattle.bp_run.specs.Choosing.{choice}

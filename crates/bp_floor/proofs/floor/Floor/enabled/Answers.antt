@@ -1,8 +1,7 @@
-use Rattle.std.proofs.Common.{◌≡◌, ◌∙◌, List, Option, ℕ, ap, subst}
+use Rattle.std.proofs.Common.{List, subst}
 use Rattle.js_data.specs.Event.{PlainEvent}
-use Rattle.js_value.specs.Value.{PlainSet}
 use Rattle.js_frames.specs.Places.{plain_ground}
-use Rattle.bp_run.specs.Selecting.{Has, Live, live, selectable}
+use Rattle.bp_run.specs.Selecting.{live, selectable}
 use Rattle.bp_select.specs.Answers.{AnswersAs, enabled_of}
 use Rattle.bp_floor.specs.Boards.{stand_of}
 use Rattle.bp_floor.specs.Floors.{PlainFloor, code_on}

@@ -1,5 +1,5 @@
-use Rattle.std.proofs.Common.{◌≡◌, ◌∙◌, ◌++◌, ◌∷◌, [], List, ap, sym, refl}
-use Rattle.js_meaning.specs.Bodies.{Origin, bare, ground_of}
+use Rattle.std.proofs.Common.{◌∙◌, ◌++◌, ◌∷◌, [], List, ap, sym, refl}
+use Rattle.js_meaning.specs.Bodies.{Origin, bare}
 use Rattle.js_meaning.specs.State.{Ground}
 use Rattle.bp_run.specs.Settling.{Entry}
 use Rattle.bp_run.specs.Settling.Entry.{The_top}

@@ -1,4 +1,4 @@
-use Rattle.std.proofs.Common.{◌≡◌, ◌∙◌, List, ap, subst}
+use Rattle.std.proofs.Common.{◌∙◌, List, ap}
 use Rattle.js_value.specs.Value.{PlainSet}
 use Rattle.js_frames.specs.Places.{plain_ground}
 use Rattle.bp_run.specs.Selecting.{Live, live, requested}

@@ -1,4 +1,4 @@
-use Rattle.std.proofs.Common.{◌≡◌, ◌∙◌, refl, sym, ap, subst}
+use Rattle.std.proofs.Common.{◌∙◌, refl, sym, ap}
 use Rattle.js_frames.specs.Places.{plain_ground}
 use Rattle.bp_floor.specs.Floors.{PlainFloor}
 use Rattle.bp_floor.proofs.Sealing.{run_on, lent_now, lent_open, floor_back, floor_sound, floor_turned, floor_stands}

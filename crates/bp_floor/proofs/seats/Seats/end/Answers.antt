@@ -1,4 +1,3 @@
-use Rattle.bp_floor.proofs.Rests as eight
 use Rattle.std.proofs.Common.{refl, true}
 use Rattle.bp_floor.specs.Seated.{seat_seen}
 use Rattle.bp_floor.proofs.Lists.{written}

@@ -1,4 +1,4 @@
-use Rattle.std.proofs.Common.{◌+◌, List, map, drop}
+use Rattle.std.proofs.Common.{List, map}
 use Rattle.std.proofs.lemmas.List.{at_drop_more, at_drop_all}
 use Rattle.bp_floor.specs.declared.touching.Touch.{Touch}
 use Rattle.bp_floor.specs.declared.touching.Touch.TheVariants.{Moves}

@@ -1,4 +1,4 @@
-use Rattle.std.proofs.Common.{◌≡◌, ◌∙◌, List, Some, None, Option, length, sym, ap, arith}
+use Rattle.std.proofs.Common.{◌∙◌, List, Some, None, Option, length, sym, ap, arith}
 use Rattle.bp_run.specs.Configuration.{change}
 use Rattle.bp_floor.specs.Seating.{PlainSeat}
 use Rattle.bp_floor.specs.Seated.{job_at}

@@ -1,5 +1,4 @@
-use Rattle.std.proofs.Common.{◌≡◌, ◌∙◌, sym, ap, Option, option_map, true, false}
-use Rattle.bp_floor.specs.Seating.{PlainSeat}
+use Rattle.std.proofs.Common.{◌∙◌}
 use Rattle.bp_floor.proofs.Places.{sweeps, sweeps_not}
 use Rattle.bp_floor.proofs.seats.Seats.sweep_one.Goals as goal
 
