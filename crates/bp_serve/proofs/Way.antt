@@ -409,6 +409,11 @@ pub shows_opened : (program : PlainProgram) (options : PlainOptions) (a : PlainA
     IsSomeAnd (text (code_in a) (options_in a) (alone (code_in a) (options_in a))) (λ t. Shows b t page c) → IsSomeAnd (text_alone program options) (λ t. Shows b t page c)
 shows_opened program options a e b c page h = subst (λ (x : Option (List ℕ)). IsSomeAnd x (λ t. Shows b t page c)) (text_opened program options a e) h
 
+-- a text that is shown is a front of itself
+pub front_all : (b c : Option (List ℕ)) (page : List ℕ) (x : Option (List ℕ)) → IsSomeAnd x (λ t. Shows b t page c) → IsSomeAnd x (λ t. ShowsFront b t page c)
+front_all b c page None h = absurd h
+front_all b c page (Some t) h = record { shown = t; rest = []; is_text = sym (append-nil t); shows = h }
+
 -- its verdict is that of the last record
 pub verdict_opened : (program : PlainProgram) (options : PlainOptions) (a : PlainArbiter) (rs : List Record) (v : Verdict) → a ≡ opened program options → rs ≡ alone (code_in a) (options_in a) →
     Some v ≡ verdict_of rs → verdict_alone program options ≡ Some v
