@@ -1,5 +1,5 @@
 //! Bodies: a line has a program and what its run does.
-use crate::runs::{Place, agree};
+use crate::runs::{Place, agree, answer, pauses};
 use js_program::Mode;
 use std::test::Fail;
 
@@ -138,7 +138,13 @@ bp.enqueueExternalEvent('q') --> type 1
 const THREAD: &str = r#"
 bp.registerBThread('n', () => {}) --> register n; ended
 bp.sync({}); bp.log.info('behind') --> sync 1; behind; ended
-bp.log.info(bp.sync({request: e}).name) --> sync 1; e; ended
+bp.log.info(bp.sync({request: e}).name) --> sync 1 request ["e"]; e; ended
+bp.sync({request: [bp.Event('a'), bp.Event('b'), bp.Event('c')]}) --> sync 1 request ["a"] ["b"] ["c"]; ended
+bp.sync({waitFor: bp.all, request: []}, 7) --> sync 1 request waitFor at 7; ended
+bp.log.info(9007199254740991); bp.log.info(9007199254740991 + 1) --> 9007199254740991; whole 1
+bp.log.info(-7 % 3); bp.log.info(Math.floor(-7 / 2)); 7 / 2 --> -1; -4; fraction 1
+bp.log.info(-7 % 3); bp.log.info(Math.floor(-7 / 2)); 1 / 0 --> -1; -4; zero 1
+const f = () => {\n return\n 1\n}\nconst g = x => x\nconst h = g\n(2)\nbp.log.info(f())\nbp.log.info(h) --> undefined; 2; ended
 \nbp.sync() --> sync 2; ended
 const a = bp.sync({}); const b = bp.sync({}); bp.log.info(a === b) --> sync 1; sync 1; true; ended
 for (;;) { bp.sync({}); bp.log.info('t') } --> sync 1; t; sync 1; t; sync 1; 
@@ -170,6 +176,35 @@ bp.log.info(1 / 0) --> zero 1
 bp.log.info(1) --> mode 1
 bp.Event('a'); bp.EventSet('a', () => true); bp.all; bp.none; Math.floor(1) --> ended
 "#;
+
+/// A body of exactly ten nodes.
+const TEN_NODES: &str =
+    r#"bp.registerBThread("A", function() { let a = 1 + 2; let b = a; a + b; });"#;
+
+#[test]
+fn slices_end_at_the_budget(rt: HostRuntime) -> Result<(), Fail> {
+    let alloc = rt.alloc();
+    for (budget, nodes, want) in [
+        (10, 3, "more more more ended"),
+        (10, 10, "ended"),
+        (10, 9, "more ended"),
+        (9, 9, "spent"),
+        (9, 3, "more more spent"),
+        (9, 10, "spent"),
+    ] {
+        let found = pauses(alloc, TEN_NODES, budget, nodes)?;
+        assert_eq!(rt; found.as_str(), want, "{budget} {nodes}");
+    }
+    Ok(())
+}
+
+#[test]
+fn the_event_is_the_value_of_sync(rt: HostRuntime) -> Result<(), Fail> {
+    let script = r#"bp.registerBThread("A", function() { return bp.sync({}) })"#;
+    let found = answer(rt.alloc(), script)?;
+    assert_eq!(rt; found.as_str(), r#"["e"]"#);
+    Ok(())
+}
 
 #[test]
 fn expressions(rt: HostRuntime) -> Result<(), Fail> {
