@@ -13,4 +13,4 @@ answer-requires c =
     let first = c.in_ok-stop.ensures.stands s.0 s.1 [] 0 [] s.2 in
     let again = c.resume.ensures.stands base s.0 s.1 [] (0 + first.more) [] first.stands in
     let last = c.in_ok-end.ensures.stands s.0 s.1 _ 0 [] again in
-    ended_answers base s.0 s.1 _ 0 [] _ c.in_ok-end.end c.run-end.new.self c.in-Ended.is last
+    ended_answers base s.0 s.1 _ 0 [] _ c.in_ok-end.end c.run-2.new.self c.in-Ended.is last
