@@ -124,7 +124,9 @@ impl Engine {
         let Some(first) = first_in(&body.content) else {
             return Ok(leave());
         };
-        let slots = Slots::of_call(self.alloc, body, captured, args)?;
+        let mut values = args;
+        let slots = Slots::of_call(self.alloc, body, captured, &mut values)?;
+        self.done_with(values);
         self.push_call(slots, active)?;
         match &body.content {
             Content::Statements(_) => {

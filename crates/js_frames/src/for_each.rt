@@ -40,16 +40,17 @@ fn index_value(index: usize) -> Result<Value, Memory>
 
 /// The arguments of the function: the element, its index and the list, but no more than it has parameters.
 fn element_args(
-    alloc: Global,
+    none: Values,
     wanted: u32,
     item: &Value,
     index: usize,
     items: &Items,
 ) -> Result<Values, Memory>
+    requires { none ≡ [] }
     ensures { IfOk result (λ args. padded wanted args
         ≡ padded wanted (plain_value item.now ∷ whole (pos index) ∷ list items.now ∷ [])) }
 {
-    let mut args = Values::new(alloc);
+    let mut args = none;
     let element = copy(item)?;
     args.push(element)?;
     if wanted <= 1 {
@@ -111,7 +112,8 @@ impl Engine {
         let Some(_first) = first_in(&body.content) else {
             return Ok(leave());
         };
-        let args = element_args(self.alloc, body.parameters, item, walk.index, &walk.items)?;
+        let none = self.no_values();
+        let args = element_args(none, body.parameters, item, walk.index, &walk.items)?;
         base.keeps();
         self.walk_on(base, body, walk, args)
     }

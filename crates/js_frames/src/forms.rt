@@ -6,9 +6,9 @@ ghost use Rattle.js_value.specs.Views.{plain_value, plain_set};
 ghost use Rattle.js_value.specs.DataValues.{value_data};
 ghost use Rattle.js_meaning.specs.State.{gives};
 ghost use Rattle.js_meaning.specs.Forms.{argument, does_to_run, registers_thread, asks, asserted, enqueues_event, sets_handler, log_text, logs, floors, takes_effect, applies_form};
-ghost use Rattle.js_frames.specs.Places.{here, plain_effect};
+ghost use Rattle.js_frames.specs.Places.{here, place_of, plain_ground, plain_effect};
 ghost use Rattle.js_frames.specs.Fits.{StackFits};
-ghost use Rattle.js_frames.specs.Leads.{Goes, Becomes};
+ghost use Rattle.js_frames.specs.Leads.{Leads, Goes, Becomes};
 
 use crate::effect::Effect;
 use crate::engine::Engine;
@@ -61,13 +61,13 @@ fn assert_with(line: u32, condition: &Value, text: &Value) -> Result<Step, Memor
 }
 
 /// `Math.floor` of anything but a division. Takes no memory.
-fn floor(line: u32, mut args: Values) -> Step
-    ensures { Becomes (λ g. floors line (argument 0 args)) result }
+fn floored(line: u32, args: &mut Values) -> Step
+    ensures { Becomes (λ g. floors line (argument 0 args.old)) result }
 {
-    match args.take(0) {
-        Value::Whole(n) => give(Value::Whole(n)),
-        _ => mistyped(line),
-    }
+    let Value::Whole(n) = args.take(0) else {
+        return mistyped(line);
+    };
+    give(Value::Whole(n))
 }
 
 /// The text of a value in the log; none where it has no such text.
@@ -133,7 +133,7 @@ impl Engine {
             Builtin::EnqueueExternalEvent => self.enqueue(base, line, args),
             Builtin::SetInterruptHandler => self.handle(base, line, args),
             Builtin::LogInfo => self.log(base, line, args),
-            Builtin::Floor => Ok(floor(line, args)),
+            Builtin::Floor => Ok(self.floor(base, line, args)),
         }
     }
 
@@ -144,6 +144,16 @@ impl Engine {
     {
         self.effects.push(effect)?;
         Ok(leave())
+    }
+
+    fn floor(&mut self, base: &Ground, line: u32, args: Values) -> Step
+        requires { StackFits base.now.program self.old.stack.items }
+        ensures { Leads (plain_ground base.now) (place_of self.old) (floors line (argument 0 args)) (place_of self.new) result }
+    {
+        let mut values = args;
+        let step = floored(line, &mut values);
+        self.done_with(values);
+        step
     }
 
     fn register(&mut self, base: &Ground, line: u32, mut args: Values) -> Result<Step, Memory>

@@ -118,15 +118,6 @@ fn apply_method(
     }
 }
 
-/// The quotient of the first two, rounded down; the others are dropped.
-fn floor_divide(alloc: Global, line: u32, mut done: Values) -> Result<Step, Memory>
-    ensures { IfOk result (Becomes (λ g. answered line (value_of Op.FloorDivide (argument 0 done) (argument 1 done)))) }
-{
-    let divisor = done.take(1);
-    let dividend = done.take(0);
-    answered(apply(alloc, Op::FloorDivide, &dividend, &divisor), line)
-}
-
 impl Engine {
     /// The first part begins, if there is one.
     pub fn begin_parts(&mut self, base: &Ground, number: u32) -> Result<Step, Memory>
@@ -136,7 +127,19 @@ impl Engine {
         ensures { Goes base.now self.old
             (parts_from (here base.now self.old) (slice_get base.now.program.nodes number) []) self.new result }
     {
-        let none = Values::new(self.alloc);
+        let none = self.no_values();
+        self.go_on_parts(base, number, none)
+    }
+
+    /// The same, of a node whose value holds those of its parts: so many have room in it.
+    pub fn begin_making(&mut self, base: &Ground, number: u32, count: usize) -> Result<Step, Memory>
+        requires number { IsNode base.now.program number }
+        requires form { HasForm IsLong base.now.program number }
+        requires fits { StackFits base.now.program self.old.stack.items }
+        ensures { Goes base.now self.old
+            (parts_from (here base.now self.old) (slice_get base.now.program.nodes number) []) self.new result }
+    {
+        let none = Values::with_capacity(self.alloc, count)?;
         self.go_on_parts(base, number, none)
     }
 
@@ -233,9 +236,24 @@ impl Engine {
             NodeForm::Call(_, _) => self.combine_call(base, node.line, done),
             NodeForm::Method(_, word, _) => self.combine_method(base, node.line, word, done),
             NodeForm::Builtin(form, _) => self.apply_form(base, node.line, *form, done),
-            NodeForm::FloorDivide(_, _, _) => floor_divide(self.alloc, node.line, done),
+            NodeForm::FloorDivide(_, _, _) => self.floor_divide(base, node.line, done),
             _ => unreachable!(),
         }
+    }
+
+    /// The quotient of the first two values, rounded down; the others are dropped.
+    fn floor_divide(&mut self, base: &Ground, line: u32, mut done: Values) -> Result<Step, Memory>
+        requires { StackFits base.now.program self.old.stack.items }
+        ensures { Goes base.now self.old
+            (answered line (value_of Op.FloorDivide (argument 0 done) (argument 1 done))) self.new result }
+    {
+        let divisor = done.take(1);
+        let dividend = done.take(0);
+        self.done_with(done);
+        answered(
+            apply(self.alloc, Op::FloorDivide, &dividend, &divisor),
+            line,
+        )
     }
 
     /// The first value is called with the others.

@@ -159,19 +159,19 @@ impl Slots {
         Ok(())
     }
 
-    /// The variables of a call: the parameters, the captured values, and the other variables.
+    /// The variables of a call: the parameters, to which the arguments move, the captured values, and the
+    /// other variables.
     pub fn of_call(
         alloc: Global,
         body: &Body,
         captured: &Items,
-        args: Values,
+        args: &mut Values,
     ) -> Result<Slots, Memory>
-        ensures { IfOk result (λ slots. slots ≡ slots_of_call (plain_body body.now) (values_in captured.now) args) }
+        ensures { IfOk result (λ slots. slots ≡ slots_of_call (plain_body body.now) (values_in captured.now) args.old) }
     {
-        let mut values = args;
-        values.pad(body.parameters as usize)?;
+        args.pad(body.parameters as usize)?;
         let mut slots = Slots::with_capacity(alloc, body.slots as usize)?;
-        slots.push_all(&mut values)?;
+        slots.push_all(args)?;
         slots.push_copies(captured.as_slice())?;
         slots.fill(body.slots as usize)?;
         slots.unset(&body.vars);

@@ -42,6 +42,14 @@ impl Values {
         }
     }
 
+    /// No values, with room for so many.
+    pub fn with_capacity(alloc: Global, count: usize) -> Result<Values, Memory>
+        ensures { IfOk result (λ values. values ≡ []) }
+    {
+        let items = Vec::with_capacity(alloc, count)?;
+        Ok(Values { items })
+    }
+
     /// How many there are. Takes no memory.
     pub fn len(&self) -> usize
         ensures { result ≡ length self.now }

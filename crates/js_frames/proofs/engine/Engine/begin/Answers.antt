@@ -57,13 +57,13 @@ pub returns-in-ForOf : goal.returns-in-ForOf
 returns-in-ForOf c = begin_means (plain_ground c.args.base.now) (place_of c.args.self.now) c.args.number c.node_of-node.result.now c.node_of-node.ensures.node _ c.in-ForOf.is _ c.for_of.result _ c.for_of.ensures (λ s. refl)
 
 pub returns-in-List : goal.returns-in-List
-returns-in-List c = begin_means (plain_ground c.args.base.now) (place_of c.args.self.now) c.args.number c.node_of-node.result.now c.node_of-node.ensures.node _ c.in-List.is _ c.begin_parts.result _ c.begin_parts.ensures (λ s. long_begins (here c.args.base.now c.args.self.now) c.args.number c.node_of-node.result.now c.node_of-node.ensures.node _ c.in-List.is s [] refl tt)
+returns-in-List c = begin_means (plain_ground c.args.base.now) (place_of c.args.self.now) c.args.number c.node_of-node.result.now c.node_of-node.ensures.node _ c.in-List.is _ c.begin_making.result _ c.begin_making.ensures (λ s. long_begins (here c.args.base.now c.args.self.now) c.args.number c.node_of-node.result.now c.node_of-node.ensures.node _ c.in-List.is s [] refl tt)
 
 pub returns-in-Fields : goal.returns-in-Fields
-returns-in-Fields c = begin_means (plain_ground c.args.base.now) (place_of c.args.self.now) c.args.number c.node_of-node.result.now c.node_of-node.ensures.node _ c.in-Fields.is _ c.begin_parts-in-Fields.result _ c.begin_parts-in-Fields.ensures (λ s. long_begins (here c.args.base.now c.args.self.now) c.args.number c.node_of-node.result.now c.node_of-node.ensures.node _ c.in-Fields.is s [] refl tt)
+returns-in-Fields c = begin_means (plain_ground c.args.base.now) (place_of c.args.self.now) c.args.number c.node_of-node.result.now c.node_of-node.ensures.node _ c.in-Fields.is _ c.begin_making-in-Fields.result _ c.begin_making-in-Fields.ensures (λ s. long_begins (here c.args.base.now c.args.self.now) c.args.number c.node_of-node.result.now c.node_of-node.ensures.node _ c.in-Fields.is s [] refl tt)
 
 pub returns-in-Call : goal.returns-in-Call
-returns-in-Call c = begin_means (plain_ground c.args.base.now) (place_of c.args.self.now) c.args.number c.node_of-node.result.now c.node_of-node.ensures.node _ c.in-Call.is _ c.begin_parts-in-Call.result _ c.begin_parts-in-Call.ensures (λ s. long_begins (here c.args.base.now c.args.self.now) c.args.number c.node_of-node.result.now c.node_of-node.ensures.node _ c.in-Call.is s [] refl tt)
+returns-in-Call c = begin_means (plain_ground c.args.base.now) (place_of c.args.self.now) c.args.number c.node_of-node.result.now c.node_of-node.ensures.node _ c.in-Call.is _ c.begin_parts.result _ c.begin_parts.ensures (λ s. long_begins (here c.args.base.now c.args.self.now) c.args.number c.node_of-node.result.now c.node_of-node.ensures.node _ c.in-Call.is s [] refl tt)
 
 pub returns-in-Method : goal.returns-in-Method
 returns-in-Method c = begin_means (plain_ground c.args.base.now) (place_of c.args.self.now) c.args.number c.node_of-node.result.now c.node_of-node.ensures.node _ c.in-Method.is _ c.begin_parts-in-Method.result _ c.begin_parts-in-Method.ensures (λ s. long_begins (here c.args.base.now c.args.self.now) c.args.number c.node_of-node.result.now c.node_of-node.ensures.node _ c.in-Method.is s [] refl tt)

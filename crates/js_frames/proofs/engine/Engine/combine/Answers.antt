@@ -35,7 +35,10 @@ pub apply_form-requires : goal.apply_form-requires
 apply_form-requires c = c.requires.fits
 
 pub returns-in-FloorDivide : goal.returns-in-FloorDivide
-returns-in-FloorDivide c = becomes_ok (plain_ground c.args.base.now) (place_of c.args.self.now) _ _ c.floor_divide.result c.requires.fits c.floor_divide.ensures (λ s. ap (λ f. combines (here c.args.base.now c.args.self.now) (eval (here c.args.base.now c.args.self.now)) (let n = c.args.node.now in n.line) (plain_node_form f) c.args.done s) (sym c.in-FloorDivide.is))
+returns-in-FloorDivide c = means_ok (plain_ground c.args.base.now) _ _ _ _ c.floor_divide.result c.floor_divide.ensures (λ s. ap (λ f. combines (here c.args.base.now c.args.self.now) (eval (here c.args.base.now c.args.self.now)) (let n = c.args.node.now in n.line) (plain_node_form f) c.args.done s) (sym c.in-FloorDivide.is))
+
+pub floor_divide-requires : goal.floor_divide-requires
+floor_divide-requires c = c.requires.fits
 
 pub unreachable-unreachable : goal.unreachable-unreachable
 unreachable-unreachable c = long_only (let n = c.args.node.now in n.form) c.requires.form c.in_default.not-List c.in_default.not-Fields c.in_default.not-Call c.in_default.not-Method c.in_default.not-Builtin c.in_default.not-FloorDivide
