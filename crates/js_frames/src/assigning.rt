@@ -32,7 +32,8 @@ use std::alloc::Global;
 
 /// A function with these captured values.
 fn made_function(alloc: Global, code: u32, values: Vec<Value>, line: u32) -> Result<Step, Memory>
-    ensures { IfOk result (Becomes (λ g. answered line (made (function code (value_list_of (map plain_value values.items)))))) }
+    ensures { IfOk result (Becomes (λ g. answered line
+        (made (function code (value_list_of (map plain_value values.items)))))) }
 {
     let captured = Items::new(alloc, values)?;
     answered(made(Value::Function { code, captured }), line)
@@ -41,7 +42,8 @@ fn made_function(alloc: Global, code: u32, values: Vec<Value>, line: u32) -> Res
 impl Engine {
     /// The value of a variable, if it is declared. Takes no memory.
     fn held<'a>(&'a self, base: &'a Ground, variable: Variable) -> Option<&'a Value>
-        ensures { option_map (λ v. plain_value v.now) result ≡ held_at (plain_ground base.now) variable (place_of self.now) }
+        ensures { option_map (λ v. plain_value v.now) result
+            ≡ held_at (plain_ground base.now) variable (place_of self.now) }
     {
         match variable {
             Variable::Slot(slot) => self.slots.get(slot),
@@ -63,7 +65,8 @@ impl Engine {
     pub fn read(&mut self, base: &Ground, variable: Variable, line: u32) -> Result<Step, Memory>
         requires { StackFits base.now.program self.old.stack.items }
         ensures { Goes base.now self.old
-            (λ s. if_declared line (held (plain_ground base.now) variable s) gives s) self.new result }
+            (λ s. if_declared line (held (plain_ground base.now) variable s) gives s)
+            self.new result }
     {
         match self.held(base, variable) {
             None => Ok(Step::Fail(Fault::Early, line)),
@@ -123,7 +126,8 @@ impl Engine {
         line: u32,
     ) -> Result<Step, Memory>
         requires { StackFits base.now.program self.old.stack.items }
-        ensures { (a : Answer) → AnswersAs a answer → Goes base.now self.old (writes line slot a) self.new result }
+        ensures { (a : Answer) → AnswersAs a answer → Goes base.now self.old (writes line slot a)
+            self.new result }
     {
         match answer {
             Ok(value) => {
@@ -169,7 +173,8 @@ impl Engine {
         requires part { IsNode base.now.program part }
         requires fits { StackFits base.now.program self.old.stack.items }
         ensures { Goes base.now self.old
-            (assigns (eval (here base.now self.old)) line (op_before operator) slot part) self.new result }
+            (assigns (eval (here base.now self.old)) line (op_before operator) slot part)
+            self.new result }
     {
         match op_before(operator) {
             None => self.wait(part, Frame::Waiting(Part::Assigned(slot, line))),
@@ -210,7 +215,8 @@ impl Engine {
     ) -> Result<Step, Memory>
         requires { StackFits base.now.program self.old.stack.items }
         ensures { Goes base.now self.old
-            (λ s. if_declared line (in_slot slot s.slots) (λ _. writes line slot (Ok (plain_value value))) s) self.new result }
+            (λ s. if_declared line (in_slot slot s.slots)
+            (λ _. writes line slot (Ok (plain_value value))) s) self.new result }
     {
         let Some(_held) = self.slots.get(slot) else {
             return Ok(Step::Fail(Fault::Early, line));
@@ -240,7 +246,8 @@ impl Engine {
     pub fn function(&mut self, base: &Ground, code: u32, line: u32) -> Result<Step, Memory>
         requires { StackFits base.now.program self.old.stack.items }
         ensures { Goes base.now self.old
-            (λ s. answered line (made (function code (value_list_of (captured (body_of base.now.program code).captures s.slots)))) s)
+            (λ s. answered line (made (function code (value_list_of
+            (captured (body_of base.now.program code).captures s.slots)))) s)
             self.new result }
     {
         match function_of(base, code) {

@@ -57,7 +57,8 @@ impl Engine {
     pub fn begin(&mut self, base: &Ground, number: u32) -> Result<Step, Memory>
         requires number { IsNode base.now.program number }
         requires fits { StackFits base.now.program self.old.stack.items }
-        ensures { Goes base.now self.old (node_does (here base.now self.old) number) self.new result }
+        ensures { Goes base.now self.old (node_does (here base.now self.old) number)
+            self.new result }
     {
         let node = node_of(base, number);
         match &node.form {

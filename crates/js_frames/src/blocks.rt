@@ -55,7 +55,8 @@ fn statements_of(base: &Ground, sequence: Sequence) -> &[u32]
 
 /// The declarator at a place. Takes no memory.
 fn declarator_at(declared: &[Declared], place: usize) -> Option<Declared>
-    ensures value { option_map plain_declared result ≡ slice_get (map plain_declared declared.now) place }
+    ensures value { option_map plain_declared result
+        ≡ slice_get (map plain_declared declared.now) place }
     ensures room { IfSome result (λ _. place < length declared.now) }
     ensures fits { IfSome result (λ _. place + 1 < 2 ^ 64) }
 {
@@ -68,7 +69,8 @@ impl Engine {
         requires number { IsNode base.now.program number }
         requires fits { StackFits base.now.program self.old.stack.items }
         ensures { Goes base.now self.old
-            (λ s. sequence_from (here base.now self.old) (Sequence.Block number) 0 (undeclare slots.now s)) self.new result }
+            (λ s. sequence_from (here base.now self.old) (Sequence.Block number) 0
+            (undeclare slots.now s)) self.new result }
     {
         self.slots.undeclare(slots);
         self.go_on(base, Sequence::Block(number), 0)
@@ -78,7 +80,8 @@ impl Engine {
     pub fn go_on(&mut self, base: &Ground, sequence: Sequence, place: usize) -> Result<Step, Memory>
         requires sequence { SequenceFits base.now.program sequence }
         requires fits { StackFits base.now.program self.old.stack.items }
-        ensures { Goes base.now self.old (sequence_from (here base.now self.old) sequence place) self.new result }
+        ensures { Goes base.now self.old (sequence_from (here base.now self.old) sequence place)
+            self.new result }
     {
         match number_at(statements_of(base, sequence), place) {
             None => Ok(leave()),
@@ -100,7 +103,8 @@ impl Engine {
         requires form { HasForm IsDeclaration base.now.program number }
         requires fits { StackFits base.now.program self.old.stack.items }
         ensures { Goes base.now self.old
-            (declaring_from (here base.now self.old) (slice_get base.now.program.nodes number) place) self.new result }
+            (declaring_from (here base.now self.old) (slice_get base.now.program.nodes number)
+            place) self.new result }
     {
         let NodeForm::Declaration(kind, declared) = &node_of(base, number).form else {
             unreachable!()
@@ -144,7 +148,8 @@ impl Engine {
 
     /// The constant has this value, at the top level. Takes no memory.
     fn put_constant(&mut self, number: u32, value: Value)
-        ensures { place_of self.new ≡ put_at (Variable.Constant number) (plain_value value) (place_of self.old) }
+        ensures { place_of self.new
+            ≡ put_at (Variable.Constant number) (plain_value value) (place_of self.old) }
     {
         if let Some(constants) = &mut self.constants {
             constants.set(number, Some(value));
@@ -164,7 +169,8 @@ impl Engine {
         requires form { HasForm IsDeclaration base.now.program number }
         requires fits { StackFits base.now.program self.old.stack.items }
         ensures { Goes base.now self.old
-            (λ s. declaring_from (here base.now self.old) (slice_get base.now.program.nodes number) place
+            (λ s. declaring_from (here base.now self.old)
+            (slice_get base.now.program.nodes number) place
             (set_variable variable (plain_value value) s)) self.new result }
     {
         self.put(variable, value);

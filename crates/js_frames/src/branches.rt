@@ -14,7 +14,8 @@ use js_value::{Value, truthy};
 /// The right side, where the left one is not true. Takes no memory.
 pub fn or(right: u32, left: Value) -> Step
     ensures { (program : PlainProgram) → IsNode program right →
-        Picks program (λ g. cond (is_truthy (plain_value left)) (gives (plain_value left)) (eval g right)) result }
+        Picks program (λ g. cond (is_truthy (plain_value left))
+        (gives (plain_value left)) (eval g right)) result }
 {
     if truthy(&left) {
         give(left)
@@ -26,7 +27,8 @@ pub fn or(right: u32, left: Value) -> Step
 /// The right side, where the left one is true. Takes no memory.
 pub fn and(right: u32, left: Value) -> Step
     ensures { (program : PlainProgram) → IsNode program right →
-        Picks program (λ g. cond (is_truthy (plain_value left)) (eval g right) (gives (plain_value left))) result }
+        Picks program (λ g. cond (is_truthy (plain_value left))
+        (eval g right) (gives (plain_value left))) result }
 {
     if truthy(&left) {
         Step::Begin(right)
@@ -38,7 +40,8 @@ pub fn and(right: u32, left: Value) -> Step
 /// One of two. Takes no memory.
 pub fn choose(yes: u32, no: u32, test: &Value) -> Step
     ensures { (program : PlainProgram) → IsNode program yes → IsNode program no →
-        Picks program (λ g. cond (is_truthy (plain_value test.now)) (eval g yes) (eval g no)) result }
+        Picks program (λ g. cond (is_truthy (plain_value test.now)) (eval g yes) (eval g no))
+        result }
 {
     if truthy(test) {
         Step::Begin(yes)

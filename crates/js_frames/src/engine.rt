@@ -89,7 +89,8 @@ impl Engine {
 
     /// Begins a part, and has a frame wait for it.
     pub fn wait(&mut self, part: u32, frame: Frame) -> Result<Step, Memory>
-        ensures { IfOk result (λ step. (step ≡ Step.Begin part) × (place_of self.new ≡ pushed (place_of self.old) frame)) }
+        ensures { IfOk result (λ step. (step ≡ Step.Begin part)
+            × (place_of self.new ≡ pushed (place_of self.old) frame)) }
     {
         self.stack.push(frame)?;
         Ok(Step::Begin(part))

@@ -38,7 +38,8 @@ fn index_value(index: usize) -> Result<Value, Memory>
     }
 }
 
-/// The arguments of the function: the element, its index and the list, but no more than it has parameters.
+/// The arguments of the function: the element, its index and the list, but no more than it has
+/// parameters.
 fn element_args(
     none: Values,
     wanted: u32,
@@ -128,8 +129,10 @@ impl Engine {
     ) -> Result<Step, Memory>
         requires room { self.old.calls < 200 }
         requires places { walk.index + 1 < 2 ^ 64 }
-        requires found { slice_get base.now.program.functions walk.code ≡ Some (plain_body body.now) }
-        requires parts { AreNodes base.now.program (content_parts (plain_content body.now.content)) }
+        requires found { slice_get base.now.program.functions walk.code
+            ≡ Some (plain_body body.now) }
+        requires parts { AreNodes base.now.program
+            (content_parts (plain_content body.now.content)) }
         requires starts { IsSome (first_of (plain_content body.now.content)) }
         requires args { AreElementArgs walk body.now.parameters args }
         requires fits { StackFits base.now.program self.old.stack.items }

@@ -31,7 +31,8 @@ impl Engine {
         requires turns { TurnsFit base.now.program turns }
         requires first { IsPerhapsNode base.now.program first }
         requires fits { StackFits base.now.program self.old.stack.items }
-        ensures { Goes base.now self.old (starts_loop (here base.now self.old) slots.now first turns)
+        ensures { Goes base.now self.old
+            (starts_loop (here base.now self.old) slots.now first turns)
             self.new result }
     {
         self.slots.undeclare(slots);
@@ -186,7 +187,8 @@ impl Engine {
         requires turn { TurnFits base.now.program turn }
         requires fits { StackFits base.now.program self.old.stack.items }
         ensures { Goes base.now self.old
-            (λ s. resume (here base.now self.old) (Frame.Turning turn) (went (plain_completion completion) s))
+            (λ s. resume (here base.now self.old) (Frame.Turning turn)
+            (went (plain_completion completion) s))
             self.new result }
     {
         match completion {

@@ -69,7 +69,8 @@ fn behind_two(first: u32, second: u32, parts: &[u32], place: usize) -> Option<u3
     }
 }
 
-/// What an operator of two sides answers; `||` and `&&` have no rule. Takes memory for a text that is joined.
+/// What an operator of two sides answers; `||` and `&&` have no rule. Takes memory for a text that
+/// is joined.
 fn by_rule(alloc: Global, op: Option<Op>, left: &Value, right: &Value) -> Result<Value, OpFault>
     ensures { AnswersAs (by_rule op (plain_value left.now) (plain_value right.now)) result }
 {
@@ -110,7 +111,8 @@ fn apply_method(
     word: &Text,
     args: &Values,
 ) -> Result<Step, Memory>
-    ensures { IfOk result (Becomes (λ g. applies line (method_named word.now) (plain_value on.now) args.now)) }
+    ensures { IfOk result
+        (Becomes (λ g. applies line (method_named word.now) (plain_value on.now) args.now)) }
 {
     match method_named(word.as_str()) {
         None => Ok(mistyped(line)),
@@ -125,7 +127,8 @@ impl Engine {
         requires form { HasForm IsLong base.now.program number }
         requires fits { StackFits base.now.program self.old.stack.items }
         ensures { Goes base.now self.old
-            (parts_from (here base.now self.old) (slice_get base.now.program.nodes number) []) self.new result }
+            (parts_from (here base.now self.old) (slice_get base.now.program.nodes number) [])
+            self.new result }
     {
         let none = self.no_values();
         self.go_on_parts(base, number, none)
@@ -137,7 +140,8 @@ impl Engine {
         requires form { HasForm IsLong base.now.program number }
         requires fits { StackFits base.now.program self.old.stack.items }
         ensures { Goes base.now self.old
-            (parts_from (here base.now self.old) (slice_get base.now.program.nodes number) []) self.new result }
+            (parts_from (here base.now self.old) (slice_get base.now.program.nodes number) [])
+            self.new result }
     {
         let none = Values::with_capacity(self.alloc, count)?;
         self.go_on_parts(base, number, none)
@@ -149,7 +153,8 @@ impl Engine {
         requires form { HasForm IsLong base.now.program number }
         requires fits { StackFits base.now.program self.old.stack.items }
         ensures { Goes base.now self.old
-            (parts_from (here base.now self.old) (slice_get base.now.program.nodes number) done) self.new result }
+            (parts_from (here base.now self.old) (slice_get base.now.program.nodes number) done)
+            self.new result }
     {
         let node = node_of(base, number);
         match part_at(&node.form, done.len()) {
@@ -170,7 +175,8 @@ impl Engine {
         requires form { HasForm IsLong base.now.program number }
         requires fits { StackFits base.now.program self.old.stack.items }
         ensures { Goes base.now self.old
-            (parts_from (here base.now self.old) (slice_get base.now.program.nodes number) (done ++ plain_value value ∷ [])) self.new result }
+            (parts_from (here base.now self.old) (slice_get base.now.program.nodes number)
+            (done ++ plain_value value ∷ [])) self.new result }
     {
         done.push(value)?;
         self.go_on_parts(base, number, done)
@@ -182,7 +188,8 @@ impl Engine {
         requires form { HasForm IsShort base.now.program number }
         requires fits { StackFits base.now.program self.old.stack.items }
         ensures { Goes base.now self.old
-            (parts_from (here base.now self.old) (slice_get base.now.program.nodes number) (plain_value value ∷ [])) self.new result }
+            (parts_from (here base.now self.old) (slice_get base.now.program.nodes number)
+            (plain_value value ∷ [])) self.new result }
     {
         let node = node_of(base, number);
         match &node.form {
@@ -210,7 +217,8 @@ impl Engine {
         requires form { HasForm IsDouble base.now.program number }
         requires fits { StackFits base.now.program self.old.stack.items }
         ensures { Goes base.now self.old
-            (parts_from (here base.now self.old) (slice_get base.now.program.nodes number) (plain_value first ∷ plain_value value ∷ [])) self.new result }
+            (parts_from (here base.now self.old) (slice_get base.now.program.nodes number)
+            (plain_value first ∷ plain_value value ∷ [])) self.new result }
     {
         let node = node_of(base, number);
         match &node.form {
@@ -228,7 +236,8 @@ impl Engine {
         requires form { IsLong (plain_node_form node.now.form) }
         requires fits { StackFits base.now.program self.old.stack.items }
         ensures { let g = here base.now self.old in Goes base.now self.old
-            (combines g (eval g) node.now.line (plain_node_form node.now.form) done) self.new result }
+            (combines g (eval g) node.now.line (plain_node_form node.now.form) done)
+            self.new result }
     {
         match &node.form {
             NodeForm::List(_) => answered(made_list(self.alloc, done), node.line),
@@ -245,7 +254,8 @@ impl Engine {
     fn floor_divide(&mut self, base: &Ground, line: u32, mut done: Values) -> Result<Step, Memory>
         requires { StackFits base.now.program self.old.stack.items }
         ensures { Goes base.now self.old
-            (answered line (value_of Op.FloorDivide (argument 0 done) (argument 1 done))) self.new result }
+            (answered line (value_of Op.FloorDivide (argument 0 done) (argument 1 done)))
+            self.new result }
     {
         let divisor = done.take(1);
         let dividend = done.take(0);
@@ -276,7 +286,8 @@ impl Engine {
     ) -> Result<Step, Memory>
         requires { StackFits base.now.program self.old.stack.items }
         ensures { let g = here base.now self.old in Goes base.now self.old
-            (calls_method g (eval g) line word.now (argument 0 done) (drop 1 done)) self.new result }
+            (calls_method g (eval g) line word.now (argument 0 done) (drop 1 done))
+            self.new result }
     {
         let on = done.take_first();
         self.call_method(base, line, word, on, done)

@@ -14,7 +14,8 @@ impl Engine {
     fn settle(&mut self, base: &Ground, step: Step) -> Result<Step, Memory>
         requires step { StepFits base.now.program step }
         requires fits { StackFits base.now.program self.old.stack.items }
-        ensures keeps { IfOk result (λ last. Keeps (plain_ground base.now) (place_of self.old) step (place_of self.new) last) }
+        ensures keeps { IfOk result (λ last.
+            Keeps (plain_ground base.now) (place_of self.old) step (place_of self.new) last) }
         ensures settled { IfOk result (λ last. IsSettled last self.new.stack.items) }
     {
         match step {
@@ -26,7 +27,8 @@ impl Engine {
     /// Gives a completion to the last frame, what comes of it to the one before, and so on.
     fn unwind(&mut self, base: &Ground, completion: Completion) -> Result<Step, Memory>
         requires fits { StackFits base.now.program self.old.stack.items }
-        ensures keeps { IfOk result (λ last. Keeps (plain_ground base.now) (place_of self.old) (Step.Give completion) (place_of self.new) last) }
+        ensures keeps { IfOk result (λ last. Keeps (plain_ground base.now)
+            (place_of self.old) (Step.Give completion) (place_of self.new) last) }
         ensures settled { IfOk result (λ last. IsSettled last self.new.stack.items) }
     {
         let mut current = completion;
@@ -43,7 +45,8 @@ impl Engine {
     pub fn advance(&mut self, base: &Ground, step: Step, nodes: u64) -> Result<Step, Memory>
         requires step { StepFits base.now.program step }
         requires fits { StackFits base.now.program self.old.stack.items }
-        ensures { IfOk result (λ last. (begun : ℕ) × Advanced (plain_ground base.now) (place_of self.old) step (place_of self.new) last nodes begun) }
+        ensures { IfOk result (λ last. (begun : ℕ) × Advanced (plain_ground base.now)
+            (place_of self.old) step (place_of self.new) last nodes begun) }
     {
         let mut current = self.settle(base, step)?;
         for _ in 0..nodes {

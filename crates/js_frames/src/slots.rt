@@ -13,7 +13,8 @@ use std::alloc::Global;
 use std::marker::Model;
 use std::mem;
 
-/// Variables by their numbers: none where one is not declared yet. Contracts see the list of their plain forms.
+/// Variables by their numbers: none where one is not declared yet. Contracts see the list of their
+/// plain forms.
 #[derive(Drop)]
 pub struct Slots {
     items: Vec<Option<Value>>,
@@ -120,7 +121,8 @@ impl Slots {
 
     /// The variables with these numbers are undefined. Takes no memory.
     fn unset(&mut self, numbers: &[u32])
-        ensures { self.new ≡ fold (λ slots k. slice_set slots k (Some undefined)) self.old numbers.now }
+        ensures { self.new
+            ≡ fold (λ slots k. slice_set slots k (Some undefined)) self.old numbers.now }
     {
         for number in numbers {
             self.set(*number, Some(Value::Undefined));
@@ -159,15 +161,16 @@ impl Slots {
         Ok(())
     }
 
-    /// The variables of a call: the parameters, to which the arguments move, the captured values, and the
-    /// other variables.
+    /// The variables of a call: the parameters, to which the arguments move, the captured values,
+    /// and the other variables.
     pub fn of_call(
         alloc: Global,
         body: &Body,
         captured: &Items,
         args: &mut Values,
     ) -> Result<Slots, Memory>
-        ensures { IfOk result (λ slots. slots ≡ slots_of_call (plain_body body.now) (values_in captured.now) args.old) }
+        ensures { IfOk result (λ slots. slots
+            ≡ slots_of_call (plain_body body.now) (values_in captured.now) args.old) }
     {
         args.pad(body.parameters as usize)?;
         let mut slots = Slots::with_capacity(alloc, body.slots as usize)?;

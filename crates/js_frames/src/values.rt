@@ -141,7 +141,8 @@ pub fn number_at(numbers: &[u32], place: usize) -> Option<u32>
 
 /// The value at a place of a list. Takes no memory.
 pub fn item_at(items: &Items, place: usize) -> Option<&Value>
-    ensures value { option_map (λ v. plain_value v.now) result ≡ slice_get (values_in items.now) place }
+    ensures value { option_map (λ v. plain_value v.now) result
+        ≡ slice_get (values_in items.now) place }
     ensures room { IfSome result (λ _. place + 1 < 2 ^ 64) }
 {
     if place < items.len() {
