@@ -1,5 +1,6 @@
 //! Jobs: a line has the body of a function of one parameter `e`, and what it does with an event at each stop.
 ghost use Rattle.std.specs.Prelude.{◌≡◌, [], IfOk, OnOk, None, false};
+ghost use Rattle.js_program.specs.PlainProgram.{PlainProgram};
 ghost use Rattle.js_frames.specs.Places.{plain_ground};
 ghost use Rattle.bp_thread.specs.Jobs.{plain_job, IsOf};
 
@@ -100,6 +101,16 @@ fn sliced(ground: &Ground, job: Job, nodes: u64) -> Result<(Job, bool), Memory>
     Ok((moved, done))
 }
 
+/// What the job did since its start or its last event, and where it stands.
+fn push_done(out: &mut String, alloc: Global, job: &mut Job) -> Result<(), AllocError>
+    ensures program { (program : PlainProgram) → IsOf program job.old → IsOf program job.new }
+    ensures taken { (plain_job job.new).effects ≡ [] }
+{
+    let effects = job.take_effects();
+    push_effects(out, alloc, &effects)?;
+    push_outcome(out, job)
+}
+
 /// What the job does up to its outcome, in slices of so many nodes.
 fn push_slices(
     out: &mut String,
@@ -114,13 +125,31 @@ fn push_slices(
     ensures taken { OnOk result ((plain_job job.new).effects ≡ []) }
 {
     carry_on(job, ground, nodes)?;
-    let effects = job.take_effects();
-    push_effects(out, alloc, &effects)?;
-    push_outcome(out, job)?;
-    Ok(())
+    Ok(push_done(out, alloc, job)?)
 }
 
-/// What the body does up to its end or a last stop, in slices of so many nodes.
+/// What the job does up to its end or a last stop, in slices of so many nodes.
+fn told_by(alloc: Global, job: &mut Job, ground: &Ground, nodes: u64) -> Result<String, Fail>
+    requires program { IsOf (plain_ground ground.now).program job.old }
+    requires open { (plain_job job.old).outcome ≡ None }
+{
+    let mut out = String::new(alloc);
+    push_slices(&mut out, alloc, job, ground, nodes)?;
+    for name in REPLIES {
+        if !is_stopped(job) {
+            break;
+        }
+        job.give(&event(alloc, name)?)?;
+        out.push_str("; ")?;
+        push_slices(&mut out, alloc, job, ground, nodes)?;
+    }
+    if job.handler().is_some() {
+        out.push_str("; handled")?;
+    }
+    Ok(out)
+}
+
+/// What the body does, in slices of so many nodes.
 fn told(alloc: Global, kind: Mode, body: &str, nodes: u64) -> Result<String, Fail> {
     let mut script = String::from_str(alloc, "bp.registerBThread('t', (e) => { ")?;
     for part in body.split("\\n") {
@@ -130,20 +159,7 @@ fn told(alloc: Global, kind: Mode, body: &str, nodes: u64) -> Result<String, Fai
     script.push_str("})")?;
     let (ground, function) = registered(alloc, script.as_str())?;
     let mut job = job_of(alloc, &ground, function, kind, BUDGET)?;
-    let mut out = String::new(alloc);
-    push_slices(&mut out, alloc, &mut job, &ground, nodes)?;
-    for name in REPLIES {
-        if !is_stopped(&job) {
-            break;
-        }
-        job.give(&event(alloc, name)?)?;
-        out.push_str("; ")?;
-        push_slices(&mut out, alloc, &mut job, &ground, nodes)?;
-    }
-    if job.handler().is_some() {
-        out.push_str("; handled")?;
-    }
-    Ok(out)
+    told_by(alloc, &mut job, &ground, nodes)
 }
 
 fn agree(rt: &impl Abort, alloc: Global, kind: Mode, table: &str) -> Result<(), Fail> {
@@ -170,15 +186,22 @@ fn handlers(rt: HostRuntime) -> Result<(), Fail> {
     agree(&rt, rt.alloc(), Mode::Handler, HANDLERS)
 }
 
+fn outcome_by(alloc: Global, job: &mut Job, ground: &Ground, nodes: u64) -> Result<String, Fail>
+    requires program { IsOf (plain_ground ground.now).program job.old }
+    requires open { (plain_job job.old).outcome ≡ None }
+{
+    carry_on(job, ground, nodes)?;
+    let mut out = String::new(alloc);
+    push_outcome(&mut out, job)?;
+    Ok(out)
+}
+
 /// The outcome of a body under this budget, in slices of so many nodes.
 fn within(alloc: Global, body: &str, budget: u64, nodes: u64) -> Result<String, Fail> {
     let script = format!(in alloc; "bp.registerBThread('t', () => {{ {} }})", body)?;
     let (ground, function) = registered(alloc, script.as_str())?;
     let mut job = job_of(alloc, &ground, function, Mode::Thread, budget)?;
-    carry_on(&mut job, &ground, nodes)?;
-    let mut out = String::new(alloc);
-    push_outcome(&mut out, &job)?;
-    Ok(out)
+    outcome_by(alloc, &mut job, &ground, nodes)
 }
 
 #[test]
@@ -195,25 +218,35 @@ fn a_budget_is_one_of_nodes(rt: HostRuntime) -> Result<(), Fail> {
     Ok(())
 }
 
+/// The job with its outcome, after slices of two nodes, each in another thread.
+fn carried_beside<R: Threads + Sync>(rt: &R, ground: &Ground, job: Job) -> Result<Job, Fail>
+    requires program { IsOf (plain_ground ground.now).program job }
+    requires open { (plain_job job).outcome ≡ None }
+{
+    let mut carried = job;
+    for _ in 0..BUDGET {
+        let (moved, done) = beside(rt, ground, carried, 2)?;
+        if done {
+            return Ok(moved);
+        }
+        carried = moved;
+    }
+    Err("no outcome")?
+}
+
+fn words_of(alloc: Global, job: &mut Job) -> Result<String, Fail> {
+    let mut out = String::new(alloc);
+    push_done(&mut out, alloc, job)?;
+    Ok(out)
+}
+
 #[test]
 fn jobs_move_between_threads(rt: HostRuntime) -> Result<(), Fail> {
     let script = "bp.registerBThread('t', () => { bp.log.info(1 + 2); bp.log.info('b') })";
     let (ground, function) = registered(rt.alloc(), script)?;
-    let mut job = job_of(rt.alloc(), &ground, function, Mode::Thread, BUDGET)?;
-    let mut done = false;
-    for _ in 0..5 {
-        if done {
-            break;
-        }
-        let (moved, ended) = beside(&rt, &ground, job, 2)?;
-        job = moved;
-        done = ended;
-    }
-    assert_eq!(&rt; done, true);
-    let effects = job.take_effects();
-    let mut out = String::new(rt.alloc());
-    push_effects(&mut out, rt.alloc(), &effects)?;
-    push_outcome(&mut out, &job)?;
-    assert_eq!(&rt; out.as_str(), "3; b; ended");
+    let job = job_of(rt.alloc(), &ground, function, Mode::Thread, BUDGET)?;
+    let mut moved = carried_beside(&rt, &ground, job)?;
+    let words = words_of(rt.alloc(), &mut moved)?;
+    assert_eq!(&rt; words.as_str(), "3; b; ended");
     Ok(())
 }

@@ -1,5 +1,5 @@
 //! Programs whose top level has run, and jobs that are carried on to their outcomes.
-ghost use Rattle.std.specs.Prelude.{◌≡◌, IfOk, None};
+ghost use Rattle.std.specs.Prelude.{◌≡◌, IfOk, OnOk, None, true};
 ghost use Rattle.js_frames.specs.Places.{plain_ground};
 ghost use Rattle.bp_thread.specs.Jobs.{plain_job, IsOf, is_stopped as stops, is_ended as ends};
 
@@ -75,15 +75,24 @@ fn first_registered(effects: Effects) -> Option<Value> {
     None
 }
 
+// The function that a top level registers first, which runs to its end.
+fn run_top(top: &mut Job, ground: &Ground) -> Result<Value, Fail>
+    requires program { IsOf (plain_ground ground.now).program top.old }
+    requires open { (plain_job top.old).outcome ≡ None }
+    ensures { OnOk result (ends (plain_job top.new).outcome ≡ true) }
+{
+    carry_on(top, ground, 7)?;
+    if !is_ended(top) {
+        return Err("the top level did not end")?;
+    }
+    Ok(first_registered(top.take_effects()).ok_or("no b-thread")?)
+}
+
 /// The ground of a program whose top level has run, and the function that it registered first.
 pub fn registered(alloc: Global, script: &str) -> Result<(Ground, Value), Fail> {
     let mut ground = Ground::bare(alloc, program_of(alloc, script)?);
     let mut top = Job::top(alloc, &ground, BUDGET)?;
-    carry_on(&mut top, &ground, 7)?;
-    let function = first_registered(top.take_effects()).ok_or("no b-thread")?;
-    if !is_ended(&top) {
-        return Err("the top level did not end")?;
-    }
+    let function = run_top(&mut top, &ground)?;
     ground.fill(top.constants());
     Ok((ground, function))
 }
