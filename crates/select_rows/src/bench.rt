@@ -31,7 +31,7 @@ fn events(alloc: Global, names: &str) -> Result<Vec<Event>, Fail>
     for name in names.split_whitespace() {
         made.push(event(alloc, name)?)?;
     }
-    if made.len() > MOST_QUEUED {
+    if made.as_slice().len() > MOST_QUEUED {
         return Err(Fail::new("too many events"));
     }
     Ok(made)
