@@ -1,5 +1,5 @@
 //! The bench: what the live b-threads state, and the questions that are asked of it.
-ghost use Rattle.std.specs.Prelude.{◌≡◌, ◌<◌, ◌≤◌, ◌+◌, ◌^◌, ℕ, Ok, length, option_map, OnOk, OnErr};
+ghost use Rattle.std.specs.Prelude.{◌≡◌, ◌<◌, ◌≤◌, ◌+◌, ◌^◌, ℕ, Ok, length, option_map, IfOk, OnOk, OnErr};
 ghost use Rattle.std.specs.List.{list_any};
 ghost use Rattle.js_meaning.specs.State.{Ground as Base};
 ghost use Rattle.js_frames.specs.Places.{plain_ground};
@@ -139,6 +139,7 @@ impl Bench {
             self.old.live queue.now draw.old.drawn) result }
         ensures seed { draw.new.seed ≡ draw.old.seed }
         ensures drawn { (draw.old.drawn ≤ draw.new.drawn) × (draw.new.drawn ≤ draw.old.drawn + 1) }
+        ensures within { IfOk result (λ c. (i : ℕ) → c ≡ Choice.External i → i < length queue.now) }
         ensures nothing { result ≡ Ok Choice.Nothing → draw.new ≡ draw.old }
         ensures failed { OnErr result (draw.new ≡ draw.old) }
         ensures same { self.new.live ≡ self.old.live }
