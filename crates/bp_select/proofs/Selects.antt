@@ -11,7 +11,9 @@ use Rattle.bp_log.specs.declared.options.Strategy.TheVariants.{Simple, Ordered, 
 use Rattle.bp_run.specs.Selecting.{Live, Has, Asked, Enabled, without_fault, unblocked, first_unblocked, candidates, or_queued, selectable}
 use Rattle.bp_run.specs.Choosing.{Choice, remaining, drawn_of, chosen, choice}
 use Rattle.bp_select.specs.declared.answers.SelectFault.{SelectFault}
-use Rattle.bp_select.specs.Answers.{FaultAs}
+use Rattle.bp_select.specs.declared.answers.Choice as answer
+use Rattle.bp_select.specs.declared.answers.Choice.TheVariants as answers
+use Rattle.bp_select.specs.Answers.{FaultAs, IsFrom, IsWithin}
 use Rattle.bp_select.specs.Tops.{Top, events_of, with_live, HaveTops}
 use Rattle.js_meaning.specs.State.{Ground}
 use Rattle.bp_meaning.specs.Membership.{member}
@@ -98,6 +100,11 @@ selected_within has ts queue x i (Ok (e ∷ es)) h k =
 pub selectable_within : (has : Has PlainSet) (ts : List (Live PlainSet)) (queue : List PlainEvent) (x : Enabled) (i : ℕ) → selectable has ts queue ≡ Ok x → x.outer ≡ Some i → i < length queue
 unfolding selectable
 selectable_within has ts queue x i h k = selected_within has ts queue x i (unblocked has ts (candidates ts)) h k
+
+pub from_within : (n : ℕ) (place : Option ℕ) (c : answer.Choice) → IsFrom place c → ((i : ℕ) → place ≡ Some i → i < n) → IsWithin n c
+from_within n place (answers.Internal e) h f = tt
+from_within n place (answers.External i) h f = f i h
+from_within n place answers.Nothing h f = tt
 
 -- ---- the choice
 

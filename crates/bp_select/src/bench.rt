@@ -10,7 +10,7 @@ ghost use Rattle.bp_meaning.specs.Membership.{member};
 ghost use Rattle.bp_thread.specs.Views.{plain_statement};
 ghost use Rattle.bp_select.specs.Benches.{empty_bench, Fits, placed};
 ghost use Rattle.bp_select.specs.Lives.{live_of};
-ghost use Rattle.bp_select.specs.Answers.{AnswersAs, AnswersReach, chosen_of, enabled_of};
+ghost use Rattle.bp_select.specs.Answers.{AnswersAs, AnswersReach, IsWithin, chosen_of, enabled_of};
 
 use crate::asking::blocker;
 use crate::placing::{place_of, put, take_away};
@@ -139,7 +139,7 @@ impl Bench {
             self.old.live queue.now draw.old.drawn) result }
         ensures seed { draw.new.seed ≡ draw.old.seed }
         ensures drawn { (draw.old.drawn ≤ draw.new.drawn) × (draw.new.drawn ≤ draw.old.drawn + 1) }
-        ensures within { IfOk result (λ c. (i : ℕ) → c ≡ Choice.External i → i < length queue.now) }
+        ensures within { IfOk result (IsWithin (length queue.now)) }
         ensures nothing { result ≡ Ok Choice.Nothing → draw.new ≡ draw.old }
         ensures failed { OnErr result (draw.new ≡ draw.old) }
         ensures same { self.new.live ≡ self.old.live }
