@@ -4,11 +4,9 @@ use Rattle.std.specs.List.{list_any}
 use Rattle.std.proofs.lemmas.List.Folds.{list_any-append}
 use Rattle.js_data.specs.Event.{PlainEvent, same_event}
 use Rattle.js_data.proofs.SameEvent.{same_event-sound, same_event-self}
-use Rattle.bp_run.specs.Selecting.{distinct, candidates}
-use Rattle.bp_select.specs.declared.bench.Stated.{Stated}
-use Rattle.bp_select.specs.Lives.{live_of}
+use Rattle.bp_run.specs.Selecting.{distinct}
 use Rattle.bp_select.specs.Gathering.{with_new, with_all}
-use Rattle.bp_select.proofs.Questions.{drop_is, drop_end}
+use Rattle.bp_select.specs.Keys.{same_sym}
 
 abbrev among : PlainEvent → List PlainEvent → Bool
 among e xs = list_any (same_event e) xs
@@ -41,15 +39,6 @@ filter-both p q e [] h = refl
 filter-both p q e (x ∷ xs) h = both_at p q e x xs (other e x) refl (h x) (filter-both p q e xs h)
 
 -- ---- one more
-
-same_sym_at : (a b : PlainEvent) (x y : Bool) → same_event a b ≡ x → same_event b a ≡ y → x ≡ y
-same_sym_at a b true true h k = refl
-same_sym_at a b false false h k = refl
-same_sym_at a b true false h k = let f : same_event b a ≡ true = subst (λ (z : PlainEvent). same_event z a ≡ true) (same_event-sound a b h) (same_event-self a) in absurd (cc)
-same_sym_at a b false true h k = let f : same_event a b ≡ true = subst (λ (z : PlainEvent). same_event z b ≡ true) (same_event-sound b a k) (same_event-self b) in absurd (cc)
-
-same_sym : (a b : PlainEvent) → same_event a b ≡ same_event b a
-same_sym a b = same_sym_at a b (same_event a b) (same_event b a) refl refl
 
 not_or : (a b c : Bool) → not (a || (b || false)) ≡ (not b && not a)
 not_or true true c = refl
@@ -88,18 +77,3 @@ gathered xs = gathered_from [] xs ∙ filter_all (distinct xs)
 pub with_all-append : (acc xs ys : List PlainEvent) → with_all acc (xs ++ ys) ≡ with_all (with_all acc xs) ys
 with_all-append acc [] ys = refl
 with_all-append acc (x ∷ xs) ys = with_all-append (with_new acc x) xs ys
-
-abbrev pub requests_of : List Stated → List PlainEvent
-requests_of ts = flat_map (λ t. t.statement.request) (map live_of ts)
-
-pub gathers_step : (all : List Stated) (i : ℕ) (x : Stated) (old new whole : List PlainEvent) → i < length all → x ≡ get_or all i x → new ≡ with_all old (live_of x).statement.request →
-    with_all old (requests_of (drop i all)) ≡ whole → with_all new (requests_of (drop (i + 1) all)) ≡ whole
-gathers_step all i x old new whole h k m w =
-    ap (λ (xs : List PlainEvent). with_all xs (requests_of (drop (i + 1) all))) m
-    ∙ sym (with_all-append old (live_of x).statement.request (requests_of (drop (i + 1) all)))
-    ∙ sym (ap (λ (ts : List Stated). with_all old (requests_of ts)) (drop_is all i x h k)) ∙ w
-
-pub gathers_last : (all : List Stated) (i : ℕ) (found : List PlainEvent) → length all ≤ i → with_all found (requests_of (drop i all)) ≡ with_all [] (requests_of all) →
-    found ≡ candidates (map live_of all)
-gathers_last all i found h w =
-    sym (ap (λ (ts : List Stated). with_all found (requests_of ts)) (drop_end all i h)) ∙ w ∙ gathered (requests_of all)

@@ -1,8 +1,12 @@
 pub mod Lives
 pub mod Questions
+pub mod Feeds
+pub mod Blocks
 pub mod Gathered
 pub mod Remains
+pub mod Tops
+pub mod Entered
+pub mod Firsts
 pub mod Touching
 pub mod Selects
 pub mod Putting
-pub mod Indexed

@@ -1,5 +1,5 @@
 -- Steps of the questions over b-threads and events.
-use Rattle.std.proofs.Common.{◌≡◌, ℕ, zero, suc, ◌+◌, ◌<◌, ◌≤◌, arith, Bool, true, false, ◌||◌, List, [], ◌∷◌, ◌++◌, length, map, drop, get_or, refl, ap, sym, ◌∙◌, add-one, append_assoc, append-nil, Option, Some, None, Result, Ok, Err, if◌then◌else◌}
+use Rattle.std.proofs.Common.{◌≡◌, ℕ, zero, suc, ◌+◌, ◌<◌, ◌≤◌, arith, Bool, true, false, not, ◌||◌, List, [], ◌∷◌, ◌++◌, length, map, drop, get_or, refl, ap, sym, ◌∙◌, add-one, append_assoc, append-nil, Option, Some, None, Result, Ok, Err, if◌then◌else◌}
 use Rattle.std.proofs.Math.Seq.{drop-cons}
 use Rattle.js_data.specs.Event.{PlainEvent}
 use Rattle.js_value.specs.Value.{PlainSet}
@@ -55,33 +55,33 @@ or_none : (b : Bool) → (b || false) ≡ b
 or_none true = refl
 or_none false = refl
 
-blocked_of : (has : Has PlainSet) (x : Stated) (rest : List Stated) (e : PlainEvent) (c : Bool) →
-    by_number (live_of x).number (has (live_of x).statement.block e) ≡ Ok c → blocked has (map live_of (x ∷ rest)) e ≡ seen c (blocked has (map live_of rest) e)
-blocked_of has x rest e c h = rw h refl
+blocked_of : {A : Type 0} (f : A → Live PlainSet) (has : Has PlainSet) (x : A) (rest : List A) (e : PlainEvent) (c : Bool) →
+    by_number (f x).number (has (f x).statement.block e) ≡ Ok c → blocked has (map f (x ∷ rest)) e ≡ seen c (blocked has (map f rest) e)
+blocked_of f has x rest e c h = rw h refl
 
-pub blocked_first : (has : Has PlainSet) (all : List Stated) (e : PlainEvent) → blocked has (map live_of all) e ≡ seen false (blocked has (map live_of (drop 0 all)) e)
-blocked_first has all e = seen_none (blocked has (map live_of all) e)
+pub blocked_first : {A : Type 0} (f : A → Live PlainSet) (has : Has PlainSet) (all : List A) (e : PlainEvent) → blocked has (map f all) e ≡ seen false (blocked has (map f (drop 0 all)) e)
+blocked_first f has all e = seen_none (blocked has (map f all) e)
 
-pub blocked_step : (has : Has PlainSet) (all : List Stated) (i : ℕ) (x : Stated) (e : PlainEvent) (b c d : Bool) → i < length all → x ≡ get_or all i x → d ≡ (b || c) →
-    by_number (live_of x).number (has (live_of x).statement.block e) ≡ Ok c → blocked has (map live_of all) e ≡ seen b (blocked has (map live_of (drop i all)) e) →
-    blocked has (map live_of all) e ≡ seen d (blocked has (map live_of (drop (i + 1) all)) e)
-blocked_step has all i x e b c d h k m q w =
-    w ∙ ap (λ (xs : List Stated). seen b (blocked has (map live_of xs) e)) (drop_is all i x h k)
-    ∙ ap (λ (r : Asked Bool). seen b r) (blocked_of has x (drop (i + 1) all) e c q)
-    ∙ seen_twice b c (blocked has (map live_of (drop (i + 1) all)) e)
-    ∙ ap (λ (r : Bool). seen r (blocked has (map live_of (drop (i + 1) all)) e)) (sym m)
+pub blocked_step : {A : Type 0} (f : A → Live PlainSet) (has : Has PlainSet) (all : List A) (i : ℕ) (x : A) (e : PlainEvent) (b c d : Bool) → i < length all → x ≡ get_or all i x → d ≡ (b || c) →
+    by_number (f x).number (has (f x).statement.block e) ≡ Ok c → blocked has (map f all) e ≡ seen b (blocked has (map f (drop i all)) e) →
+    blocked has (map f all) e ≡ seen d (blocked has (map f (drop (i + 1) all)) e)
+blocked_step f has all i x e b c d h k m q w =
+    w ∙ ap (λ (xs : List A). seen b (blocked has (map f xs) e)) (drop_is all i x h k)
+    ∙ ap (λ (r : Asked Bool). seen b r) (blocked_of f has x (drop (i + 1) all) e c q)
+    ∙ seen_twice b c (blocked has (map f (drop (i + 1) all)) e)
+    ∙ ap (λ (r : Bool). seen r (blocked has (map f (drop (i + 1) all)) e)) (sym m)
 
-pub blocked_last : (has : Has PlainSet) (all : List Stated) (i : ℕ) (e : PlainEvent) (b : Bool) → length all ≤ i →
-    blocked has (map live_of all) e ≡ seen b (blocked has (map live_of (drop i all)) e) → blocked has (map live_of all) e ≡ Ok b
-blocked_last has all i e b h w =
-    w ∙ ap (λ (xs : List Stated). seen b (blocked has (map live_of xs) e)) (drop_end all i h) ∙ ap (λ (r : Bool). Ok r) (or_none b)
+pub blocked_last : {A : Type 0} (f : A → Live PlainSet) (has : Has PlainSet) (all : List A) (i : ℕ) (e : PlainEvent) (b : Bool) → length all ≤ i →
+    blocked has (map f all) e ≡ seen b (blocked has (map f (drop i all)) e) → blocked has (map f all) e ≡ Ok b
+blocked_last f has all i e b h w =
+    w ∙ ap (λ (xs : List A). seen b (blocked has (map f xs) e)) (drop_end all i h) ∙ ap (λ (r : Bool). Ok r) (or_none b)
 
-pub blocked_fault : (has : Has PlainSet) (all : List Stated) (i : ℕ) (x : Stated) (e : PlainEvent) (b : Bool) (f : SelectFault) → i < length all → x ≡ get_or all i x →
-    blocked has (map live_of all) e ≡ seen b (blocked has (map live_of (drop i all)) e) →
-    FaultAs (by_number (live_of x).number (has (live_of x).statement.block e)) f → FaultAs (blocked has (map live_of all) e) f
-blocked_fault has all i x e b f h k w q =
-    fault_on (by_number (live_of x).number (has (live_of x).statement.block e)) (blocked has (map live_of all) e) f
-    (λ z m. w ∙ ap (λ (xs : List Stated). seen b (blocked has (map live_of xs) e)) (drop_is all i x h k) ∙ (rw m refl)) q
+pub blocked_fault : {A : Type 0} (f : A → Live PlainSet) (has : Has PlainSet) (all : List A) (i : ℕ) (x : A) (e : PlainEvent) (b : Bool) (g : SelectFault) → i < length all → x ≡ get_or all i x →
+    blocked has (map f all) e ≡ seen b (blocked has (map f (drop i all)) e) →
+    FaultAs (by_number (f x).number (has (f x).statement.block e)) g → FaultAs (blocked has (map f all) e) g
+blocked_fault f has all i x e b g h k w q =
+    fault_on (by_number (f x).number (has (f x).statement.block e)) (blocked has (map f all) e) g
+    (λ z m. w ∙ ap (λ (xs : List A). seen b (blocked has (map f xs) e)) (drop_is all i x h k) ∙ (rw m refl)) q
 
 -- ---- which events nobody blocks
 
@@ -107,24 +107,33 @@ unblocked_of : (has : Has PlainSet) (ts : List (Live PlainSet)) (kept : List Pla
     behind kept (unblocked has ts (e ∷ rest)) ≡ behind (if b then kept else kept ++ e ∷ []) (unblocked has ts rest)
 unblocked_of has ts kept e rest b h = rw h (behind_one kept e b (unblocked has ts rest))
 
-pub unblocked_step : (has : Has PlainSet) (ts : List (Live PlainSet)) (all : List PlainEvent) (i : ℕ) (e : PlainEvent) (kept new : List PlainEvent) (b : Bool) → i < length all → e ≡ get_or all i e →
-    blocked has ts e ≡ Ok b → new ≡ (if b then kept else kept ++ e ∷ []) → unblocked has ts all ≡ behind kept (unblocked has ts (drop i all)) →
-    unblocked has ts all ≡ behind new (unblocked has ts (drop (i + 1) all))
-unblocked_step has ts all i e kept new b h k m n w =
-    w ∙ ap (λ (xs : List PlainEvent). behind kept (unblocked has ts xs)) (drop_is all i e h k)
-    ∙ unblocked_of has ts kept e (drop (i + 1) all) b m
-    ∙ ap (λ (xs : List PlainEvent). behind xs (unblocked has ts (drop (i + 1) all))) (sym n)
+pub map_push : {A B : Type 0} (f : A → B) (xs : List A) (x : A) → map f (xs ++ x ∷ []) ≡ map f xs ++ f x ∷ []
+map_push f [] x = refl
+map_push f (y ∷ ys) x = ap (λ zs. f y ∷ zs) (map_push f ys x)
 
-pub unblocked_last : (has : Has PlainSet) (ts : List (Live PlainSet)) (all : List PlainEvent) (i : ℕ) (kept : List PlainEvent) → length all ≤ i →
-    unblocked has ts all ≡ behind kept (unblocked has ts (drop i all)) → unblocked has ts all ≡ Ok kept
-unblocked_last has ts all i kept h w =
-    w ∙ ap (λ (xs : List PlainEvent). behind kept (unblocked has ts xs)) (drop_end all i h) ∙ ap (λ (xs : List PlainEvent). Ok xs) (append-nil kept)
+module _ {A : Type 0} (f : A → PlainEvent) (has : Has PlainSet) (ts : List (Live PlainSet)) where
+  kept_map : (kept new : List A) (x : A) (b : Bool) → new ≡ (if not b then kept ++ x ∷ [] else kept) → map f new ≡ (if b then map f kept else map f kept ++ f x ∷ [])
+  kept_map kept new x true n = ap (λ (xs : List A). map f xs) n
+  kept_map kept new x false n = ap (λ (xs : List A). map f xs) n ∙ map_push f kept x
 
-pub unblocked_fault : (has : Has PlainSet) (ts : List (Live PlainSet)) (all : List PlainEvent) (i : ℕ) (e : PlainEvent) (kept : List PlainEvent) (f : SelectFault) → i < length all → e ≡ get_or all i e →
-    unblocked has ts all ≡ behind kept (unblocked has ts (drop i all)) → FaultAs (blocked has ts e) f → FaultAs (unblocked has ts all) f
-unblocked_fault has ts all i e kept f h k w q =
-    fault_on (blocked has ts e) (unblocked has ts all) f
-    (λ z m. w ∙ ap (λ (xs : List PlainEvent). behind kept (unblocked has ts xs)) (drop_is all i e h k) ∙ (rw m refl)) q
+  pub unblocked_step : (all : List A) (i : ℕ) (x : A) (kept new : List A) (b : Bool) → i < length all → x ≡ get_or all i x →
+      blocked has ts (f x) ≡ Ok b → new ≡ (if not b then kept ++ x ∷ [] else kept) → unblocked has ts (map f all) ≡ behind (map f kept) (unblocked has ts (map f (drop i all))) →
+      unblocked has ts (map f all) ≡ behind (map f new) (unblocked has ts (map f (drop (i + 1) all)))
+  unblocked_step all i x kept new b h k m n w =
+      w ∙ ap (λ (xs : List A). behind (map f kept) (unblocked has ts (map f xs))) (drop_is all i x h k)
+      ∙ unblocked_of has ts (map f kept) (f x) (map f (drop (i + 1) all)) b m
+      ∙ ap (λ (xs : List PlainEvent). behind xs (unblocked has ts (map f (drop (i + 1) all)))) (sym (kept_map kept new x b n))
+
+  pub unblocked_last : (all : List A) (i : ℕ) (kept : List A) → length all ≤ i →
+      unblocked has ts (map f all) ≡ behind (map f kept) (unblocked has ts (map f (drop i all))) → unblocked has ts (map f all) ≡ Ok (map f kept)
+  unblocked_last all i kept h w =
+      w ∙ ap (λ (xs : List A). behind (map f kept) (unblocked has ts (map f xs))) (drop_end all i h) ∙ ap (λ (xs : List PlainEvent). Ok xs) (append-nil (map f kept))
+
+  pub unblocked_fault : (all : List A) (i : ℕ) (x : A) (kept : List A) (g : SelectFault) → i < length all → x ≡ get_or all i x →
+      unblocked has ts (map f all) ≡ behind (map f kept) (unblocked has ts (map f (drop i all))) → FaultAs (blocked has ts (f x)) g → FaultAs (unblocked has ts (map f all)) g
+  unblocked_fault all i x kept g h k w q =
+      fault_on (blocked has ts (f x)) (unblocked has ts (map f all)) g
+      (λ z m. w ∙ ap (λ (xs : List A). behind (map f kept) (unblocked has ts (map f xs))) (drop_is all i x h k) ∙ (rw m refl)) q
 
 -- ---- the queue
 

@@ -9,25 +9,11 @@ use Rattle.bp_run.specs.Selecting.{Live, requests}
 use Rattle.bp_run.specs.Choosing.{is_first_of, greater, priority_of, at_most, is_greatest, remaining}
 use Rattle.bp_select.specs.declared.bench.Stated.{Stated}
 use Rattle.bp_select.specs.Lives.{live_of}
-use Rattle.bp_select.specs.Priorities.{upper, if_requested, top_of}
+use Rattle.bp_select.specs.Priorities.{upper, top_of}
 use Rattle.bp_select.proofs.Lives.{any_of}
 use Rattle.bp_select.proofs.Questions.{drop_is, drop_end}
 
--- ---- filters in a loop
-
-kept_one : (p : PlainEvent → Bool) (e : PlainEvent) (old rest : List PlainEvent) (b : Bool) → p e ≡ b → old ++ filter p (e ∷ rest) ≡ (if not b then old else old ++ e ∷ []) ++ filter p rest
-kept_one p e old rest true h = rw h (sym (append_assoc old (e ∷ []) (filter p rest)))
-kept_one p e old rest false h = rw h refl
-
-pub kept_step : (p : PlainEvent → Bool) (all : List PlainEvent) (i : ℕ) (e : PlainEvent) (old new whole : List PlainEvent) (b : Bool) → i < length all → e ≡ get_or all i e → b ≡ p e →
-    new ≡ (if not b then old else old ++ e ∷ []) → old ++ filter p (drop i all) ≡ whole → new ++ filter p (drop (i + 1) all) ≡ whole
-kept_step p all i e old new whole b h k m n w =
-    ap (λ (xs : List PlainEvent). xs ++ filter p (drop (i + 1) all)) n
-    ∙ sym (kept_one p e old (drop (i + 1) all) b (sym m))
-    ∙ sym (ap (λ (xs : List PlainEvent). old ++ filter p xs) (drop_is all i e h k)) ∙ w
-
-pub kept_last : (p : PlainEvent → Bool) (all : List PlainEvent) (i : ℕ) (kept : List PlainEvent) → length all ≤ i → kept ++ filter p (drop i all) ≡ filter p all → kept ≡ filter p all
-kept_last p all i kept h w = sym (append-nil kept) ∙ sym (ap (λ (xs : List PlainEvent). kept ++ filter p xs) (drop_end all i h)) ∙ w
+-- ---- filters by tests that agree
 
 filter_same_at : (p q : PlainEvent → Bool) (x : PlainEvent) (xs : List PlainEvent) → p x ≡ q x → filter p xs ≡ filter q xs → filter p (x ∷ xs) ≡ filter q (x ∷ xs)
 filter_same_at p q x xs h k = rw (h, k) refl
@@ -35,32 +21,6 @@ filter_same_at p q x xs h k = rw (h, k) refl
 filter_same : (p q : PlainEvent → Bool) (xs : List PlainEvent) → ((x : PlainEvent) → p x ≡ q x) → filter p xs ≡ filter q xs
 filter_same p q [] h = refl
 filter_same p q (x ∷ xs) h = filter_same_at p q x xs (h x) (filter_same p q xs h)
-
--- ---- the first request
-
-abbrev pub first_in : List PlainEvent → PlainEvent → List PlainEvent → Bool
-first_in inner e rs = elim (find (λ r. list_any (same_event r) inner) rs) [ None ↦ false | Some r ↦ same_event r e ]
-
-first_at : (inner : List PlainEvent) (e r : PlainEvent) (rest : List PlainEvent) (b : Bool) → list_any (same_event r) inner ≡ b → first_in inner e (r ∷ rest) ≡ (if b then same_event r e else first_in inner e rest)
-first_at inner e r rest true h = rw (h, first_in) refl
-first_at inner e r rest false h = rw (h, first_in) refl
-
-pub first_found : (inner : List PlainEvent) (e : PlainEvent) (all : List PlainEvent) (i : ℕ) (r : PlainEvent) (whole b : Bool) → i < length all → r ≡ get_or all i r → b ≡ list_any (same_event r) inner → b ≡ true →
-    whole ≡ first_in inner e (drop i all) → same_event r e ≡ whole
-first_found inner e all i r whole b h k m n w =
-    sym (w ∙ ap (λ (xs : List PlainEvent). first_in inner e xs) (drop_is all i r h k) ∙ first_at inner e r (drop (i + 1) all) true (sym m ∙ n))
-
-pub first_on : (inner : List PlainEvent) (e : PlainEvent) (all : List PlainEvent) (i : ℕ) (r : PlainEvent) (whole b : Bool) → i < length all → r ≡ get_or all i r → b ≡ list_any (same_event r) inner → b ≡ false →
-    whole ≡ first_in inner e (drop i all) → whole ≡ first_in inner e (drop (i + 1) all)
-first_on inner e all i r whole b h k m n w =
-    w ∙ ap (λ (xs : List PlainEvent). first_in inner e xs) (drop_is all i r h k) ∙ first_at inner e r (drop (i + 1) all) false (sym m ∙ n)
-
-pub first_none : (inner : List PlainEvent) (e : PlainEvent) (all : List PlainEvent) (i : ℕ) (whole : Bool) → length all ≤ i → whole ≡ first_in inner e (drop i all) → false ≡ whole
-first_none inner e all i whole h w = sym (w ∙ ap (λ (xs : List PlainEvent). first_in inner e xs) (drop_end all i h))
-
-pub ordered_is : (live : List Stated) (inner : List PlainEvent) → filter (λ e. list_any (λ t. is_first_of inner e (live_of t)) live) inner ≡ remaining Ordered (map live_of live) inner
-ordered_is live inner =
-    filter_same (λ e. list_any (λ t. is_first_of inner e (live_of t)) live) (λ e. list_any (is_first_of inner e) (map live_of live)) inner (λ e. any_of (is_first_of inner e) live)
 
 -- ---- the order of priorities
 
@@ -110,10 +70,8 @@ all_most : (ts : List (Live PlainSet)) (q : Option ℤ) (xs : List PlainEvent) �
 all_most ts q [] = refl
 all_most ts q (x ∷ xs) = ap (λ (b : Bool). at_most (priority_of ts x) q && b) (all_most ts q xs) ∙ sym (at_most_upper (priority_of ts x) (top_of ts xs) q)
 
-pub priority_is : (live : List Stated) (inner : List PlainEvent) →
-    filter (λ e. at_most (top_of (map live_of live) inner) (priority_of (map live_of live) e)) inner ≡ remaining Priority (map live_of live) inner
-priority_is live inner =
-    let ts = map live_of live in
+pub priority_is : (ts : List (Live PlainSet)) (inner : List PlainEvent) → filter (λ e. at_most (top_of ts inner) (priority_of ts e)) inner ≡ remaining Priority ts inner
+priority_is ts inner =
     filter_same (λ e. at_most (top_of ts inner) (priority_of ts e)) (is_greatest ts inner) inner (λ e. sym (all_most ts (priority_of ts e) inner))
 
 -- ---- the greatest, one after another
@@ -132,7 +90,7 @@ above_at a b c false false z w h k m n =
     let e : w ≡ false = sym n ∙ m ∙ f in
     rw (h, e) refl
 
-upper_twice : (a b c : Option ℤ) → upper a (upper b c) ≡ upper (upper a b) c
+pub upper_twice : (a b c : Option ℤ) → upper a (upper b c) ≡ upper (upper a b) c
 upper_twice None b c = refl
 upper_twice (Some a) None c = refl
 upper_twice (Some a) (Some b) None = refl
@@ -147,33 +105,24 @@ greater_is : (a : ℤ) (b : Option ℤ) → greater a b ≡ upper (Some a) b
 greater_is a None = refl
 greater_is a (Some b) = greater_at a b (int_le a b)
 
-priority_at : (b : Bool) (a : ℤ) (rest : Option ℤ) → (if b then greater a rest else rest) ≡ upper (if b then Some a else None) rest
+pub priority_at : (b : Bool) (a : ℤ) (rest : Option ℤ) → (if b then greater a rest else rest) ≡ upper (if b then Some a else None) rest
 priority_at true a rest = greater_is a rest
 priority_at false a rest = refl
 
-upper_none : (x : Option ℤ) → upper x None ≡ x
+pub upper_none : (x : Option ℤ) → upper x None ≡ x
 upper_none None = refl
 upper_none (Some a) = refl
 
-pub priority_step : (e : PlainEvent) (all : List Stated) (i : ℕ) (x : Stated) (old one new : Option ℤ) → i < length all → x ≡ get_or all i x → one ≡ if_requested e (live_of x) → new ≡ upper old one →
-    priority_of (map live_of all) e ≡ upper old (priority_of (map live_of (drop i all)) e) → priority_of (map live_of all) e ≡ upper new (priority_of (map live_of (drop (i + 1) all)) e)
-priority_step e all i x old one new h k m n w =
-    let rest = priority_of (map live_of (drop (i + 1) all)) e in
-    w ∙ ap (λ (ts : List Stated). upper old (priority_of (map live_of ts) e)) (drop_is all i x h k)
-    ∙ ap (λ (y : Option ℤ). upper old y) (priority_at (requests e (live_of x)) (live_of x).statement.priority rest ∙ ap (λ (y : Option ℤ). upper y rest) (sym m))
-    ∙ upper_twice old one rest ∙ ap (λ (y : Option ℤ). upper y rest) (sym n)
+-- ---- the greatest of candidates
 
-pub priority_last : (e : PlainEvent) (all : List Stated) (i : ℕ) (top : Option ℤ) → length all ≤ i → priority_of (map live_of all) e ≡ upper top (priority_of (map live_of (drop i all)) e) →
-    top ≡ priority_of (map live_of all) e
-priority_last e all i top h w =
-    sym (w ∙ ap (λ (ts : List Stated). upper top (priority_of (map live_of ts) e)) (drop_end all i h) ∙ upper_none top)
+module _ {A : Type 0} (f : A → PlainEvent) where
+  pub top_step : (ts : List (Live PlainSet)) (all : List A) (i : ℕ) (x : A) (old new whole : Option ℤ) (p : ℤ) → i < length all → x ≡ get_or all i x → priority_of ts (f x) ≡ Some p → new ≡ upper old (Some p) →
+      upper old (top_of ts (map f (drop i all))) ≡ whole → upper new (top_of ts (map f (drop (i + 1) all))) ≡ whole
+  top_step ts all i x old new whole p h k m n w =
+      let rest = top_of ts (map f (drop (i + 1) all)) in
+      ap (λ (y : Option ℤ). upper y rest) n ∙ sym (upper_twice old (Some p) rest)
+      ∙ ap (λ (y : Option ℤ). upper old (upper y rest)) (sym m)
+      ∙ ap (λ (xs : List A). upper old (top_of ts (map f xs))) (sym (drop_is all i x h k)) ∙ w
 
-pub top_step : (ts : List (Live PlainSet)) (all : List PlainEvent) (i : ℕ) (e : PlainEvent) (old one new : Option ℤ) → i < length all → e ≡ get_or all i e → one ≡ priority_of ts e → new ≡ upper old one →
-    top_of ts all ≡ upper old (top_of ts (drop i all)) → top_of ts all ≡ upper new (top_of ts (drop (i + 1) all))
-top_step ts all i e old one new h k m n w =
-    let rest = top_of ts (drop (i + 1) all) in
-    w ∙ ap (λ (xs : List PlainEvent). upper old (top_of ts xs)) (drop_is all i e h k)
-    ∙ ap (λ (y : Option ℤ). upper old (upper y rest)) (sym m) ∙ upper_twice old one rest ∙ ap (λ (y : Option ℤ). upper y rest) (sym n)
-
-pub top_last : (ts : List (Live PlainSet)) (all : List PlainEvent) (i : ℕ) (top : Option ℤ) → length all ≤ i → top_of ts all ≡ upper top (top_of ts (drop i all)) → top ≡ top_of ts all
-top_last ts all i top h w = sym (w ∙ ap (λ (xs : List PlainEvent). upper top (top_of ts xs)) (drop_end all i h) ∙ upper_none top)
+  pub top_last : (ts : List (Live PlainSet)) (all : List A) (i : ℕ) (top whole : Option ℤ) → length all ≤ i → upper top (top_of ts (map f (drop i all))) ≡ whole → top ≡ whole
+  top_last ts all i top whole h w = sym (upper_none top) ∙ sym (ap (λ (xs : List A). upper top (top_of ts (map f xs))) (drop_end all i h)) ∙ w

@@ -1,5 +1,6 @@
 -- What is selected and chosen, from its parts.
-use Rattle.std.proofs.Common.{◌≡◌, ℕ, arith, List, [], ◌∷◌, length, refl, ap, sym, ◌∙◌, subst, None, Ok}
+use Rattle.std.proofs.Common.{◌≡◌, ℕ, arith, List, [], ◌∷◌, length, map, refl, ap, sym, ◌∙◌, subst, None, Ok}
+use Rattle.std.specs.Prelude.{ℤ}
 use Rattle.js_data.specs.Event.{PlainEvent}
 use Rattle.js_value.specs.Value.{PlainSet}
 use Rattle.bp_log.specs.declared.options.Strategy.{Strategy}
@@ -8,7 +9,18 @@ use Rattle.bp_run.specs.Selecting.{Live, Has, Asked, Enabled, without_fault, unb
 use Rattle.bp_run.specs.Choosing.{remaining, drawn_of, chosen, choice}
 use Rattle.bp_select.specs.declared.answers.SelectFault.{SelectFault}
 use Rattle.bp_select.specs.Answers.{FaultAs}
+use Rattle.bp_select.specs.Tops.{Top, events_of, with_live, HaveTops}
 use Rattle.bp_select.proofs.Questions.{fault_on}
+use Rattle.bp_select.proofs.Tops.{events_at, tops_events, tops_have}
+
+-- ---- candidates
+
+module _ {A : Type 0} (f : A → PlainEvent) (g : A → ℤ) (xs : List A) (ts : List (Live PlainSet)) where
+  pub are_candidates : map (λ x. (f x, g x)) xs ≡ with_live [] ts → map f xs ≡ candidates ts
+  are_candidates h = events_at f g xs ∙ ap (λ (us : List Top). events_of us) h ∙ tops_events ts
+
+  pub have_tops : map (λ x. (f x, g x)) xs ≡ with_live [] ts → HaveTops ts (map (λ x. (f x, g x)) xs)
+  have_tops h = subst (λ (us : List Top). HaveTops ts us) (sym h) (tops_have ts)
 
 -- ---- what can be selected
 

@@ -4,7 +4,11 @@ pub mod Benches
 pub mod Answers
 pub mod Gathering
 pub mod Priorities
+pub mod Tops
+pub mod Feeding
+pub mod Keys
+pub mod Candidates
+pub mod Blocking
 pub mod Touches
 pub mod Free
 pub mod Places
-pub mod Indexes

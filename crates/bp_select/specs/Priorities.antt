@@ -1,7 +1,7 @@
 -- The greatest of some priorities.
 use Rattle.std.specs.Prelude.{ℤ, int_le, List, [], ◌∷◌, Option, Some, None, if◌then◌else◌}
 use Rattle.js_data.specs.Event.{PlainEvent}
-use Rattle.bp_run.specs.Selecting.{Live, requests}
+use Rattle.bp_run.specs.Selecting.{Live}
 use Rattle.bp_run.specs.Choosing.{priority_of}
 
 -- the greater one; none is below all
@@ -9,9 +9,6 @@ abbrev pub upper : Option ℤ → Option ℤ → Option ℤ
 upper None b = b
 upper (Some a) None = Some a
 upper (Some a) (Some b) = Some (if int_le a b then b else a)
-
-abbrev pub if_requested : {Set : Type 0} → PlainEvent → Live Set → Option ℤ
-if_requested e t = if requests e t then Some t.statement.priority else None
 
 -- the greatest priority with which one of the events is requested
 abbrev pub top_of : {Set : Type 0} → List (Live Set) → List PlainEvent → Option ℤ

@@ -1,19 +1,24 @@
 //! What block sets answer.
-ghost use Rattle.std.specs.Prelude.{◌≡◌, ◌<◌, ◌^◌, ◌||◌, ◌++◌, ◌∷◌, [], length, map, if◌then◌else◌, OnOk};
+ghost use Rattle.std.specs.Prelude.{◌≡◌, ◌<◌, ◌^◌, ◌||◌, List, length, map, IfOk};
 ghost use Rattle.js_frames.specs.Places.{plain_ground};
 ghost use Rattle.bp_meaning.specs.Membership.{Membership, member};
+ghost use Rattle.js_value.specs.Value.{PlainSet};
 ghost use Rattle.bp_sets.specs.Answers.{TellsAs};
-ghost use Rattle.bp_run.specs.Selecting.{by_number, blocked, unblocked, first_unblocked, blocker};
-ghost use Rattle.bp_select.specs.Lives.{live_of};
+ghost use Rattle.bp_run.specs.Selecting.{Live, by_number, blocked, unblocked, first_unblocked, blocker};
+ghost use Rattle.bp_select.specs.Lives.{live_of, lent};
 ghost use Rattle.bp_select.specs.Answers.{AnswersAs};
+ghost use Rattle.bp_select.specs.Blocking.{is_empty as is_plainly_empty, blocking as those_that_block};
+ghost use Rattle.bp_select.specs.Tops.{HaveTops};
+ghost use Rattle.bp_select.specs.Candidates.{events_in, tops_of};
 
 use crate::SelectFault;
 use crate::bench::Stated;
+use crate::candidate::{Candidate, keep_if};
 use bp_log::Memory;
 use bp_sets::{SetFault, contains};
-use bp_thread::Events;
 use js_data::Event;
 use js_frames::Ground;
+use js_value::{EventSet, SetTree};
 use std::alloc::Global;
 
 /// The answer of a set of the b-thread of this number.
@@ -48,6 +53,31 @@ fn blocks(
     )
 }
 
+/// Whether no event is in the set, without a look at an event.
+fn is_empty(set: &EventSet) -> bool
+    ensures { result ≡ is_plainly_empty set.now }
+{
+    match set.tree() {
+        SetTree::Nothing => true,
+        SetTree::Any(sets) => sets.len() == 0,
+        _ => false,
+    }
+}
+
+/// The b-threads that block something. Its only error is want of memory.
+pub(crate) fn blocking<'a>(alloc: Global, live: &'a [Stated]) -> Result<Vec<&'a Stated>, Memory>
+    ensures { IfOk result (λ l. map lent l.items ≡ those_that_block (map live_of live.now)) }
+{
+    let mut those = Vec::new(alloc);
+    for stated in live {
+        let empty = is_empty(&stated.statement.block);
+        if !empty {
+            those.push(stated)?;
+        }
+    }
+    Ok(those)
+}
+
 /// Whether one of the two holds.
 fn either(left: bool, right: bool) -> bool
     ensures { result ≡ (left || right) }
@@ -56,49 +86,41 @@ fn either(left: bool, right: bool) -> bool
 }
 
 /// Whether some b-thread blocks the event. Every one is asked.
-pub(crate) fn is_blocked(
+fn is_blocked(
     alloc: Global,
     ground: &Ground,
     budget: u64,
-    live: &[Stated],
+    blocking: &[&Stated],
     event: &Event,
 ) -> Result<bool, SelectFault>
-    ensures { AnswersAs (λ b. b) (blocked (member (plain_ground ground.now) budget) (map live_of live.now) event.now) result }
+    ensures { AnswersAs (λ b. b) (blocked (member (plain_ground ground.now) budget) (map lent blocking.now) event.now) result }
 {
     let mut yes = false;
-    for stated in live {
+    for stated in blocking {
         let here = blocks(alloc, ground, budget, stated, event)?;
         yes = either(yes, here);
     }
     Ok(yes)
 }
 
-/// Those of the events that nobody blocks, in order.
-pub(crate) fn unblocked(
+/// Those of the candidates that nobody blocks, in order.
+pub(crate) fn unblocked<'a>(
     alloc: Global,
     ground: &Ground,
     budget: u64,
-    live: &[Stated],
-    events: &[Event],
-) -> Result<Events, SelectFault>
-    ensures { AnswersAs (λ l. l) (unblocked (member (plain_ground ground.now) budget) (map live_of live.now) events.now) result }
+    blocking: &[&Stated],
+    candidates: &[Candidate<'a>],
+) -> Result<Vec<Candidate<'a>>, SelectFault>
+    ensures events { AnswersAs (λ l. events_in l.items)
+        (unblocked (member (plain_ground ground.now) budget) (map lent blocking.now) (events_in candidates.now)) result }
+    ensures tops { (ts : List (Live PlainSet)) → HaveTops ts (tops_of candidates.now) → IfOk result (λ l. HaveTops ts (tops_of l.items)) }
 {
-    let mut kept = Events::new(alloc);
-    for event in events {
-        let blocked = is_blocked(alloc, ground, budget, live, event)?;
-        keep_unless(&mut kept, blocked, event)?;
+    let mut free = Vec::new(alloc);
+    for candidate in candidates {
+        let blocked = is_blocked(alloc, ground, budget, blocking, candidate.event)?;
+        keep_if(&mut free, !blocked, candidate)?;
     }
-    Ok(kept)
-}
-
-/// Keeps an equal event, unless this holds.
-pub(crate) fn keep_unless(kept: &mut Events, drops: bool, event: &Event) -> Result<(), Memory>
-    ensures { OnOk result (kept.new ≡ (if drops then kept.old else kept.old ++ event.now ∷ [])) }
-{
-    if drops {
-        return Ok(());
-    }
-    kept.push(event.copy()?)
+    Ok(free)
 }
 
 /// The first place of the queue whose event nobody blocks. Asking stops there.
@@ -106,14 +128,15 @@ pub(crate) fn first_unblocked(
     alloc: Global,
     ground: &Ground,
     budget: u64,
-    live: &[Stated],
+    blocking: &[&Stated],
     queue: &[Event],
 ) -> Result<Option<u32>, SelectFault>
     requires { length queue.now < 2 ^ 32 }
-    ensures { AnswersAs (λ o. o) (first_unblocked (member (plain_ground ground.now) budget) (map live_of live.now) 0 queue.now) result }
+    ensures { AnswersAs (λ o. o)
+        (first_unblocked (member (plain_ground ground.now) budget) (map lent blocking.now) 0 queue.now) result }
 {
     for (place, event) in queue.iter().enumerate() {
-        let blocked = is_blocked(alloc, ground, budget, live, event)?;
+        let blocked = is_blocked(alloc, ground, budget, blocking, event)?;
         if !blocked {
             return Ok(Some(place as u32));
         }

@@ -1,5 +1,5 @@
 //! The bench: what the live b-threads state, and the questions that are asked of it.
-ghost use Rattle.std.specs.Prelude.{◌≡◌, ◌<◌, ◌≤◌, ◌+◌, ◌^◌, ℕ, length, option_map, OnOk, OnErr};
+ghost use Rattle.std.specs.Prelude.{◌≡◌, ◌<◌, ◌≤◌, ◌+◌, ◌^◌, ℕ, Ok, length, option_map, OnOk, OnErr};
 ghost use Rattle.std.specs.List.{list_any};
 ghost use Rattle.js_meaning.specs.State.{Ground as Base};
 ghost use Rattle.js_frames.specs.Places.{plain_ground};
@@ -110,11 +110,11 @@ impl Bench {
         ensures fits { Fits self.new (plain_ground ground.now) budget }
     {
         let free = selectable(alloc, ground, budget, self.live.as_slice(), queue)?;
-        Ok(free.into_enabled(alloc))
+        Ok(free.into_enabled(alloc)?)
     }
 
     /// Which event comes next, under this strategy. Of several candidates that remain, the next word
-    /// draws one; one candidate draws nothing, and an event of the queue draws nothing.
+    /// draws one. One candidate, an event of the queue and nothing draw no word.
     ///
     /// # Errors
     ///
@@ -135,6 +135,7 @@ impl Bench {
             (choice (member (plain_ground ground.now) budget) (draw_word draw.old.seed) strategy self.old.live queue.now draw.old.drawn) result }
         ensures seed { draw.new.seed ≡ draw.old.seed }
         ensures drawn { (draw.old.drawn ≤ draw.new.drawn) × (draw.new.drawn ≤ draw.old.drawn + 1) }
+        ensures nothing { result ≡ Ok Choice.Nothing → draw.new ≡ draw.old }
         ensures failed { OnErr result (draw.new ≡ draw.old) }
         ensures same { self.new.live ≡ self.old.live }
         ensures fits { Fits self.new (plain_ground ground.now) budget }

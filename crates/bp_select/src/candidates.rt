@@ -1,73 +1,67 @@
 //! The requested events, each once, in the order in which they first appear.
-ghost use Rattle.std.specs.Prelude.{◌≡◌, OnOk, IfOk, map};
-ghost use Rattle.std.specs.List.{list_any};
-ghost use Rattle.js_data.specs.Event.{same_event};
-ghost use Rattle.bp_run.specs.Selecting.{candidates};
+ghost use Rattle.std.specs.Prelude.{◌≡◌, [], IfOk, OnOk, map};
 ghost use Rattle.bp_select.specs.Lives.{live_of};
-ghost use Rattle.bp_select.specs.Gathering.{with_new, with_all};
-ghost use Rattle.bp_select.specs.Indexes.{IsIndexed};
+ghost use Rattle.bp_select.specs.Tops.{raised, with_request, with_requests, with_live};
+ghost use Rattle.bp_select.specs.Candidates.{tops_in, tops_of};
 
 use crate::bench::Stated;
+use crate::candidate::Candidate;
+use crate::key::Key;
 use bp_log::Memory;
-use bp_thread::Events;
 use indexmap::IndexMap;
 use js_data::Event;
-use js_json::event_text;
 use std::alloc::Global;
 
-/// Whether an equal event is among these.
-pub(crate) fn is_among(event: &Event, events: &[Event]) -> bool
-    ensures { result ≡ list_any (same_event event.now) events.now }
-{
-    events.iter().any(|e| event.same(e))
-}
+/// Requested events, with the greatest priority of each.
+type Tops<'a> = IndexMap<Key<'a>, i64>;
 
-/// Events without repeats, and the place of each by its text.
-#[derive(Drop)]
-pub(crate) struct Found {
-    events: Events,
-    texts: IndexMap<String, usize>,
-}
-
-/// Adds an equal event, unless one is there.
-fn add(alloc: Global, found: &mut Found, event: &Event) -> Result<(), Memory>
-    requires { IsIndexed found.old.events found.old.texts }
-    ensures added { OnOk result (found.new.events ≡ with_new found.old.events event.now) }
-    ensures indexed { OnOk result (IsIndexed found.new.events found.new.texts) }
+/// The greatest priority, where this one comes to those before.
+fn raised(top: Option<i64>, priority: i64) -> i64
+    ensures { result ≡ raised top priority }
 {
-    event.keeps();
-    let text = event_text(alloc, event)?.into_string();
-    if found.texts.contains_key(text.as_str()) {
-        return Ok(());
+    match top {
+        None => priority,
+        Some(top) => {
+            if top <= priority {
+                priority
+            } else {
+                top
+            }
+        }
     }
-    let place = found.events.as_slice().len();
-    found.events.push(event.copy()?)?;
-    found.texts.insert(text, place)?;
+}
+
+/// One more request of the event. Its only error is want of memory.
+fn request<'a>(tops: &mut Tops<'a>, event: &'a Event, priority: i64) -> Result<(), Memory>
+    ensures { OnOk result (tops_in tops.new ≡ with_request priority (tops_in tops.old) event.now) }
+{
+    let key = Key { event };
+    let top = raised(tops.get(&key).copied(), priority);
+    tops.insert(key, top)?;
     Ok(())
 }
 
-/// Adds those of the events that are not there yet.
-fn add_all(alloc: Global, found: &mut Found, events: &[Event]) -> Result<(), Memory>
-    requires { IsIndexed found.old.events found.old.texts }
-    ensures added { OnOk result (found.new.events ≡ with_all found.old.events events.now) }
-    ensures indexed { OnOk result (IsIndexed found.new.events found.new.texts) }
+/// What one b-thread requests. Its only error is want of memory.
+fn request_all<'a>(tops: &mut Tops<'a>, stated: &'a Stated) -> Result<(), Memory>
+    ensures { let t = live_of stated.now in
+        OnOk result (tops_in tops.new ≡ with_requests t.statement.priority (tops_in tops.old) t.statement.request) }
 {
-    for event in events {
-        add(alloc, found, event)?;
+    let priority = stated.statement.priority.get();
+    for event in stated.statement.request.as_slice() {
+        request(tops, event, priority)?;
     }
     Ok(())
 }
 
 /// The events that the b-threads request. Its only error is want of memory.
-pub(crate) fn candidates(alloc: Global, live: &[Stated]) -> Result<Events, Memory>
-    ensures { IfOk result (λ l. l ≡ candidates (map live_of live.now)) }
+pub(crate) fn candidates<'a>(alloc: Global, live: &'a [Stated]) -> Result<Vec<Candidate<'a>>, Memory>
+    ensures { IfOk result (λ l. tops_of l.items ≡ with_live [] (map live_of live.now)) }
 {
-    let mut found = Found {
-        events: Events::new(alloc),
-        texts: IndexMap::new(alloc),
-    };
+    let mut tops = IndexMap::new(alloc);
     for stated in live {
-        add_all(alloc, &mut found, stated.statement.request.as_slice())?;
+        request_all(&mut tops, stated)?;
     }
-    Ok(found.events)
+    tops.into_iter()
+        .map(|(key, top)| Candidate { event: key.event, top })
+        .collect(alloc)
 }

@@ -1,45 +1,78 @@
-//! Which of the selectable events remain under a strategy, and which one is drawn.
-ghost use Rattle.std.specs.Prelude.{◌≡◌, map, filter, IfOk};
+//! Which of the selectable events remain under a strategy.
+ghost use Rattle.std.specs.Prelude.{◌≡◌, List, map, filter, option_map, find, IfOk};
 ghost use Rattle.std.specs.List.{list_any};
+ghost use Rattle.js_data.specs.Event.{PlainEvent, same_event};
+ghost use Rattle.js_value.specs.Value.{PlainSet};
+ghost use Rattle.bp_run.specs.Selecting.{Live};
 ghost use Rattle.bp_run.specs.Choosing.{is_first_of, priority_of, at_most, remaining};
 ghost use Rattle.bp_select.specs.Lives.{live_of};
-ghost use Rattle.bp_select.specs.Priorities.{upper, top_of, if_requested};
+ghost use Rattle.bp_select.specs.Priorities.{upper, top_of};
+ghost use Rattle.bp_select.specs.Tops.{HaveTops};
+ghost use Rattle.bp_select.specs.Candidates.{events_in, tops_of, is_among, is_first};
 
-use crate::asking::keep_unless;
-use crate::bench::{Stated, requests};
-use crate::candidates::is_among;
+use crate::bench::Stated;
+use crate::candidate::{Candidate, keep_if};
+use crate::key::Key;
 use bp_log::{Memory, Strategy};
-use bp_thread::Events;
+use indexmap::IndexSet;
 use js_data::Event;
 use std::alloc::Global;
 
-/// Whether the event is the first request of the b-thread that is among these.
-fn is_first_of(inner: &[Event], event: &Event, stated: &Stated) -> bool
-    ensures { result ≡ is_first_of inner.now event.now (live_of stated.now) }
+/// The events of the candidates. Its only error is want of memory.
+fn keys<'a>(alloc: Global, candidates: &[Candidate<'a>]) -> Result<IndexSet<Key<'a>>, Memory>
+    ensures { (e : PlainEvent) → IfOk result (λ s. is_among s e ≡ list_any (same_event e) (events_in candidates.now)) }
+{
+    let mut events = IndexSet::new(alloc);
+    for candidate in candidates {
+        events.insert(Key { event: candidate.event })?;
+    }
+    Ok(events)
+}
+
+/// The first request of the b-thread that is among these events.
+fn first_among<'a>(events: &IndexSet<Key<'_>>, stated: &'a Stated) -> Option<&'a Event>
+    ensures { option_map (λ e. e.now) result ≡ find (is_among events.now) (live_of stated.now).statement.request }
 {
     for request in stated.statement.request.as_slice() {
-        if is_among(request, inner) {
-            return request.same(event);
+        if events.contains(&Key { event: request }) {
+            return Some(request);
         }
     }
-    false
+    None
 }
 
-/// Whether the event is so for some b-thread.
-fn is_first_of_some(inner: &[Event], event: &Event, live: &[Stated]) -> bool
-    ensures { result ≡ list_any (λ t. is_first_of inner.now event.now (live_of t)) live.now }
+/// Each first request of a b-thread that is among these events. Its only error is want of memory.
+fn firsts<'a>(
+    alloc: Global,
+    live: &'a [Stated],
+    events: &IndexSet<Key<'_>>,
+) -> Result<IndexSet<Key<'a>>, Memory>
+    ensures { (e : PlainEvent) → IfOk result (λ s. is_among s e ≡ list_any (is_first (is_among events.now) e) (map live_of live.now)) }
 {
-    live.iter().any(|t| is_first_of(inner, event, t))
+    let mut firsts = IndexSet::new(alloc);
+    for stated in live {
+        if let Some(event) = first_among(events, stated) {
+            firsts.insert(Key { event })?;
+        }
+    }
+    Ok(firsts)
 }
 
-/// Those of the events that are the first of some b-thread. Its only error is want of memory.
-fn firsts(alloc: Global, live: &[Stated], inner: &[Event]) -> Result<Events, Memory>
-    ensures { IfOk result (λ l. l ≡ filter (λ e. list_any (λ t. is_first_of inner.now e (live_of t)) live.now) inner.now) }
+/// Those of the candidates that are the first of some b-thread. Its only error is want of memory.
+fn ordered<'a>(
+    alloc: Global,
+    live: &[Stated],
+    inner: Vec<Candidate<'a>>,
+) -> Result<Vec<Candidate<'a>>, Memory>
+    ensures { let events = events_in inner.items in
+        IfOk result (λ l. events_in l.items ≡ filter (λ e. list_any (is_first_of events e) (map live_of live.now)) events) }
 {
-    let mut kept = Events::new(alloc);
-    for event in inner {
-        let first = is_first_of_some(inner, event, live);
-        keep_unless(&mut kept, !first, event)?;
+    let events = keys(alloc, inner.as_slice())?;
+    let firsts = firsts(alloc, live, &events)?;
+    let mut kept = Vec::new(alloc);
+    for candidate in inner.as_slice() {
+        let first = firsts.contains(&Key { event: candidate.event });
+        keep_if(&mut kept, first, candidate)?;
     }
     Ok(kept)
 }
@@ -57,35 +90,13 @@ fn upper(left: Option<i64>, right: Option<i64>) -> Option<i64>
     }
 }
 
-/// The priority of the b-thread, if it requests the event.
-fn priority_if(event: &Event, stated: &Stated) -> Option<i64>
-    ensures { result ≡ if_requested event.now (live_of stated.now) }
-{
-    if requests(event, stated) {
-        Some(stated.statement.priority.get())
-    } else {
-        None
-    }
-}
-
-/// The greatest priority with which the event is requested.
-fn priority_of(event: &Event, live: &[Stated]) -> Option<i64>
-    ensures { result ≡ priority_of (map live_of live.now) event.now }
+/// The greatest priority of the candidates.
+fn top_of(candidates: &[Candidate<'_>]) -> Option<i64>
+    ensures { (ts : List (Live PlainSet)) → HaveTops ts (tops_of candidates.now) → result ≡ top_of ts (events_in candidates.now) }
 {
     let mut top = None;
-    for stated in live {
-        top = upper(top, priority_if(event, stated));
-    }
-    top
-}
-
-/// The greatest priority with which one of the events is requested.
-fn top_of(live: &[Stated], events: &[Event]) -> Option<i64>
-    ensures { result ≡ top_of (map live_of live.now) events.now }
-{
-    let mut top = None;
-    for event in events {
-        top = upper(top, priority_of(event, live));
+    for candidate in candidates {
+        top = upper(top, Some(candidate.top));
     }
     top
 }
@@ -103,32 +114,34 @@ fn at_most(left: Option<i64>, right: Option<i64>) -> bool
     }
 }
 
-/// Those of the events that are requested with the greatest priority. Its only error is want of
-/// memory.
-fn greatest(alloc: Global, live: &[Stated], inner: &[Event]) -> Result<Events, Memory>
-    ensures { IfOk result (λ l. l ≡ filter (λ e. at_most (top_of (map live_of live.now) inner.now) (priority_of (map live_of live.now) e)) inner.now) }
+/// Those of the candidates whose priority is the greatest. Its only error is want of memory.
+fn greatest<'a>(alloc: Global, inner: Vec<Candidate<'a>>) -> Result<Vec<Candidate<'a>>, Memory>
+    ensures { let events = events_in inner.items in
+        (ts : List (Live PlainSet)) → HaveTops ts (tops_of inner.items) →
+        IfOk result (λ l. events_in l.items ≡ filter (λ e. at_most (top_of ts events) (priority_of ts e)) events) }
 {
-    let top = top_of(live, inner);
-    let mut kept = Events::new(alloc);
-    for event in inner {
-        let reaches = at_most(top, priority_of(event, live));
-        keep_unless(&mut kept, !reaches, event)?;
+    let top = top_of(inner.as_slice());
+    let mut kept = Vec::new(alloc);
+    for candidate in inner.as_slice() {
+        let reaches = at_most(top, Some(candidate.top));
+        keep_if(&mut kept, reaches, candidate)?;
     }
     Ok(kept)
 }
 
-/// The events that remain under the strategy. Its only error is want of memory.
-pub(crate) fn remaining(
+/// The candidates that remain under the strategy. Its only error is want of memory.
+pub(crate) fn remaining<'a>(
     alloc: Global,
     strategy: Strategy,
     live: &[Stated],
-    inner: Events,
-) -> Result<Events, Memory>
-    ensures { IfOk result (λ l. l ≡ remaining strategy (map live_of live.now) inner) }
+    inner: Vec<Candidate<'a>>,
+) -> Result<Vec<Candidate<'a>>, Memory>
+    requires { HaveTops (map live_of live.now) (tops_of inner.items) }
+    ensures { IfOk result (λ l. events_in l.items ≡ remaining strategy (map live_of live.now) (events_in inner.items)) }
 {
     match strategy {
         Strategy::Simple => Ok(inner),
-        Strategy::Ordered => firsts(alloc, live, inner.as_slice()),
-        Strategy::Priority => greatest(alloc, live, inner.as_slice()),
+        Strategy::Ordered => ordered(alloc, live, inner),
+        Strategy::Priority => greatest(alloc, inner),
     }
 }

@@ -7,9 +7,12 @@
 mod answers;
 mod asking;
 mod bench;
+mod candidate;
 mod candidates;
 mod choosing;
 mod draw;
+mod feeding;
+mod key;
 mod placing;
 mod reaching;
 mod selecting;

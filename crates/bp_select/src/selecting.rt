@@ -1,112 +1,131 @@
 //! What can be selected, and which of it is chosen.
-ghost use Rattle.std.specs.Prelude.{◌≡◌, ◌<◌, ◌≤◌, ◌+◌, ◌^◌, [], ℕ, List, length, map, IfOk, OnErr};
+ghost use Rattle.std.specs.Prelude.{◌≡◌, ◌<◌, ◌≤◌, ◌+◌, ◌^◌, [], ℕ, List, Ok, length, map, IfOk, OnErr};
 ghost use Rattle.js_data.specs.Event.{PlainEvent};
 ghost use Rattle.js_frames.specs.Places.{plain_ground};
 ghost use Rattle.bp_words.specs.Words.{draw_word};
 ghost use Rattle.bp_meaning.specs.Membership.{member};
-ghost use Rattle.bp_run.specs.Selecting.{without_fault, first_unblocked, selectable};
+ghost use Rattle.js_value.specs.Value.{PlainSet};
+ghost use Rattle.bp_run.specs.Selecting.{Live, without_fault, first_unblocked, selectable};
 ghost use Rattle.bp_run.specs.Choosing.{drawn_of, chosen};
-ghost use Rattle.bp_select.specs.Lives.{live_of};
+ghost use Rattle.bp_select.specs.Lives.{live_of, lent};
 ghost use Rattle.bp_select.specs.Answers.{AnswersAs, chosen_of, enabled_of};
-ghost use Rattle.bp_select.specs.Free.{free_of};
+ghost use Rattle.bp_select.specs.Candidates.{events_in};
+ghost use Rattle.bp_select.specs.Free.{free_of, IsOf};
 
-use crate::asking::{first_unblocked, unblocked};
+use crate::asking::{blocking, first_unblocked, unblocked};
 use crate::bench::Stated;
+use crate::candidate::Candidate;
 use crate::candidates::candidates;
 use crate::choosing::remaining;
 use crate::{Choice, Draw, Enabled, SelectFault};
 use bp_log::{Memory, Strategy};
-use bp_thread::Events;
 use js_data::Event;
 use js_frames::Ground;
 use std::alloc::Global;
 
 /// What can be selected.
 #[derive(Debug, Drop)]
-pub(crate) enum Free {
-    /// These requested events.
-    Inner(Events),
+pub(crate) enum Free<'a> {
+    /// These candidates.
+    Inner(Vec<Candidate<'a>>),
     /// The event at this place of the queue.
     Outer(u32),
     /// Nothing.
     Nothing,
 }
 
-impl Free {
-    /// As a bench answers it. Takes no memory.
-    pub(crate) fn into_enabled(self, alloc: Global) -> Enabled
-        ensures { enabled_of result ≡ free_of self }
+/// Equal events, in order. Its only error is want of memory.
+fn copies(alloc: Global, candidates: &[Candidate<'_>]) -> Result<Vec<Event>, Memory>
+    ensures { IfOk result (λ l. l.items ≡ events_in candidates.now) }
+{
+    let mut events = Vec::new(alloc);
+    for candidate in candidates {
+        events.push(candidate.event.copy()?)?;
+    }
+    Ok(events)
+}
+
+impl<'a> Free<'a> {
+    /// As a bench answers it. Its only error is want of memory.
+    pub(crate) fn into_enabled(self, alloc: Global) -> Result<Enabled, Memory>
+        ensures { IfOk result (λ x. enabled_of x ≡ free_of self) }
     {
         match self {
-            Free::Inner(events) => Enabled {
-                inner: events.into_vec(),
-                outer: None,
-            },
-            Free::Outer(place) => Enabled {
+            Free::Inner(candidates) => {
+                let inner = copies(alloc, candidates.as_slice())?;
+                Ok(Enabled { inner, outer: None })
+            }
+            Free::Outer(place) => Ok(Enabled {
                 inner: Vec::new(alloc),
                 outer: Some(place),
-            },
-            Free::Nothing => Enabled {
+            }),
+            Free::Nothing => Ok(Enabled {
                 inner: Vec::new(alloc),
                 outer: None,
-            },
+            }),
         }
     }
 }
 
 /// What can be selected of the queue.
-fn queued(
+fn queued<'a>(
     alloc: Global,
     ground: &Ground,
     budget: u64,
-    live: &[Stated],
+    blocking: &[&Stated],
     queue: &[Event],
-) -> Result<Free, SelectFault>
+) -> Result<Free<'a>, SelectFault>
     requires { length queue.now < 2 ^ 32 }
-    ensures { AnswersAs free_of
-        (without_fault (λ place. record { inner = []; outer = place }) (first_unblocked (member (plain_ground ground.now) budget) (map live_of live.now) 0 queue.now)) result }
+    ensures free { AnswersAs free_of
+        (without_fault (λ place. record { inner = []; outer = place })
+        (first_unblocked (member (plain_ground ground.now) budget) (map lent blocking.now) 0 queue.now)) result }
+    ensures tops { (ts : List (Live PlainSet)) → IfOk result (λ f. IsOf ts f) }
 {
-    match first_unblocked(alloc, ground, budget, live, queue)? {
+    match first_unblocked(alloc, ground, budget, blocking, queue)? {
         Some(place) => Ok(Free::Outer(place)),
         None => Ok(Free::Nothing),
     }
 }
 
 /// What can be selected: candidates that nobody blocks, or else of the queue.
-pub(crate) fn selectable(
+pub(crate) fn selectable<'a>(
     alloc: Global,
     ground: &Ground,
     budget: u64,
-    live: &[Stated],
+    live: &'a [Stated],
     queue: &[Event],
-) -> Result<Free, SelectFault>
+) -> Result<Free<'a>, SelectFault>
     requires { length queue.now < 2 ^ 32 }
-    ensures { AnswersAs free_of (selectable (member (plain_ground ground.now) budget) (map live_of live.now) queue.now) result }
+    ensures free { AnswersAs free_of (selectable (member (plain_ground ground.now) budget) (map live_of live.now) queue.now) result }
+    ensures tops { IfOk result (λ f. IsOf (map live_of live.now) f) }
 {
     let candidates = candidates(alloc, live)?;
-    let inner = unblocked(alloc, ground, budget, live, candidates.as_slice())?;
-    let count = inner.as_slice().len();
+    let blocking = blocking(alloc, live)?;
+    let inner = unblocked(alloc, ground, budget, blocking.as_slice(), candidates.as_slice())?;
+    let count = inner.len();
     if count == 0 {
-        return queued(alloc, ground, budget, live, queue);
+        return queued(alloc, ground, budget, blocking.as_slice(), queue);
     }
     Ok(Free::Inner(inner))
 }
 
 /// The event that is drawn of these: the only one, or the one at the next word modulo their number.
 /// Its only error is want of memory, and then nothing was drawn.
-pub(crate) fn drawn(draw: &mut Draw, remaining: &[Event]) -> Result<Choice, Memory>
+pub(crate) fn drawn(draw: &mut Draw, remaining: &[Candidate<'_>]) -> Result<Choice, Memory>
     requires { draw.old.drawn + 1 < 2 ^ 64 }
-    ensures chosen { IfOk result (λ c. (queue : List PlainEvent) → chosen_of queue draw.new.drawn c ≡ drawn_of (draw_word draw.old.seed) draw.old.drawn remaining.now) }
+    ensures chosen { IfOk result (λ c. (queue : List PlainEvent) → chosen_of queue draw.new.drawn c
+        ≡ drawn_of (draw_word draw.old.seed) draw.old.drawn (events_in remaining.now)) }
     ensures seed { draw.new.seed ≡ draw.old.seed }
     ensures drawn { (draw.old.drawn ≤ draw.new.drawn) × (draw.new.drawn ≤ draw.old.drawn + 1) }
+    ensures nothing { result ≡ Ok Choice.Nothing → draw.new ≡ draw.old }
     ensures failed { OnErr result (draw.new ≡ draw.old) }
 {
     match remaining {
         [] => Ok(Choice::Nothing),
-        [event] => Ok(Choice::Internal(event.copy()?)),
+        [only] => Ok(Choice::Internal(only.event.copy()?)),
         [_, _, ..] => {
             let place = draw.word() as usize % remaining.len();
-            let event = remaining[place].copy()?;
+            let event = remaining[place].event.copy()?;
             draw.advance();
             Ok(Choice::Internal(event))
         }
@@ -119,14 +138,16 @@ pub(crate) fn chosen(
     alloc: Global,
     strategy: Strategy,
     live: &[Stated],
-    free: Free,
+    free: Free<'_>,
     draw: &mut Draw,
 ) -> Result<Choice, Memory>
-    requires { draw.old.drawn + 1 < 2 ^ 64 }
+    requires words { draw.old.drawn + 1 < 2 ^ 64 }
+    requires tops { IsOf (map live_of live.now) free }
     ensures chosen { IfOk result (λ c. (queue : List PlainEvent) → chosen_of queue draw.new.drawn c
         ≡ chosen (draw_word draw.old.seed) strategy (map live_of live.now) queue draw.old.drawn (free_of free).inner (free_of free).outer) }
     ensures seed { draw.new.seed ≡ draw.old.seed }
     ensures drawn { (draw.old.drawn ≤ draw.new.drawn) × (draw.new.drawn ≤ draw.old.drawn + 1) }
+    ensures nothing { result ≡ Ok Choice.Nothing → draw.new ≡ draw.old }
     ensures failed { OnErr result (draw.new ≡ draw.old) }
 {
     match free {

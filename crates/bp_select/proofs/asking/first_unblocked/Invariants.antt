@@ -2,8 +2,11 @@ use Rattle.std.proofs.Common.{◌≡◌, map, drop}
 use Rattle.js_frames.specs.Places.{plain_ground}
 use Rattle.bp_meaning.specs.Membership.{member}
 use Rattle.bp_run.specs.Selecting.{first_unblocked}
-use Rattle.bp_select.specs.Lives.{live_of}
+use Rattle.bp_select.specs.Lives.{lent}
 use Rattle.bp_select.proofs.asking.first_unblocked.Given as goal
 
 abbrev pub invariant-loop-place : goal.invariant-loop-place
-invariant-loop-place l = let has = member (plain_ground l.ground) l.budget in first_unblocked has (map live_of l.live) 0 l.queue ≡ first_unblocked has (map live_of l.live) l.place (drop l.place l.queue)
+invariant-loop-place l =
+    let has = member (plain_ground l.ground) l.budget in
+    let ts = map lent l.blocking in
+    first_unblocked has ts 0 l.queue ≡ first_unblocked has ts l.place (drop l.place l.queue)

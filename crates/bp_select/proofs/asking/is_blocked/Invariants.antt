@@ -2,9 +2,11 @@ use Rattle.std.proofs.Common.{◌≡◌, map, drop}
 use Rattle.js_frames.specs.Places.{plain_ground}
 use Rattle.bp_meaning.specs.Membership.{member}
 use Rattle.bp_run.specs.Selecting.{blocked}
-use Rattle.bp_select.specs.Lives.{live_of}
+use Rattle.bp_select.specs.Lives.{lent}
 use Rattle.bp_select.proofs.Questions.{seen}
 use Rattle.bp_select.proofs.asking.is_blocked.Given as goal
 
 abbrev pub invariant-loop-stated : goal.invariant-loop-stated
-invariant-loop-stated l = let has = member (plain_ground l.ground) l.budget in blocked has (map live_of l.live) l.event ≡ seen l.yes (blocked has (map live_of (drop l.stated-index l.live)) l.event)
+invariant-loop-stated l =
+    let has = member (plain_ground l.ground) l.budget in
+    blocked has (map lent l.blocking) l.event ≡ seen l.yes (blocked has (map lent (drop l.stated-index l.blocking)) l.event)

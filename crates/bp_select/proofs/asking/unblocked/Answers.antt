@@ -1,23 +1,32 @@
-use Rattle.std.proofs.Common.{map}
+use Rattle.std.proofs.Common.{map, not}
 use Rattle.std.proofs.lemmas.Result.{err_from_is_err_and}
-use Rattle.bp_meaning.specs.Membership.{member}
 use Rattle.js_frames.specs.Places.{plain_ground}
-use Rattle.bp_select.specs.Lives.{live_of}
+use Rattle.bp_meaning.specs.Membership.{member}
+use Rattle.bp_select.specs.Lives.{lent}
+use Rattle.bp_select.specs.Candidates.{event_of}
+use Rattle.bp_select.specs.declared.candidate.Candidate.{Candidate}
 use Rattle.bp_select.proofs.Questions.{unblocked_step, unblocked_last, unblocked_fault}
+use Rattle.bp_select.proofs.Tops.{tops_step}
 use Rattle.bp_select.proofs.asking.unblocked.Goals as goal
 
-pub loop-event-preserved : goal.loop-event-preserved
-loop-event-preserved c =
-    unblocked_step (member (plain_ground c.args.ground.now) c.args.budget) (map live_of c.args.live.now) c.args.events.now c.loop-event.event-index c.event-item.result c.loop-event.kept c.keep_unless.new.kept c.in_ok-blocked.blocked
-    c.loop-event-test.true c.event-item.is c.in_ok-blocked.ensures c.in_ok-keep_unless.ensures c.loop-event.invariant
+pub loop-candidate-preserved : goal.loop-candidate-preserved
+loop-candidate-preserved c = record {
+  events =
+      unblocked_step event_of (member (plain_ground c.args.ground.now) c.args.budget) (map lent c.args.blocking.now) c.args.candidates.now c.loop-candidate.candidate-index c.candidate-item.result c.loop-candidate.free.items c.keep_if.new.free.items
+      c.in_ok-blocked.blocked c.loop-candidate-test.true c.candidate-item.is c.in_ok-blocked.ensures c.in_ok-keep_if.ensures c.loop-candidate.invariant.events;
+  tops = λ ts h.
+      tops_step event_of (λ (x : Candidate). x.top) ts c.args.candidates.now c.loop-candidate.candidate-index c.candidate-item.result c.loop-candidate.free.items c.keep_if.new.free.items
+      (not c.in_ok-blocked.blocked) c.loop-candidate-test.true c.candidate-item.is c.in_ok-keep_if.ensures h (c.loop-candidate.invariant.tops ts h);
+}
 
-pub returns : goal.returns
-returns c =
-    unblocked_last (member (plain_ground c.args.ground.now) c.args.budget) (map live_of c.args.live.now) c.args.events.now c.loop-event.event-index c.loop-event.kept c.loop-event-test.false c.loop-event.invariant
+pub returns-clause-events : goal.returns-clause-events
+returns-clause-events c =
+    unblocked_last event_of (member (plain_ground c.args.ground.now) c.args.budget) (map lent c.args.blocking.now) c.args.candidates.now c.loop-candidate.candidate-index c.loop-candidate.free.items c.loop-candidate-test.false
+    c.loop-candidate.invariant.events
 
-pub returns-in_err-blocked : goal.returns-in_err-blocked
-returns-in_err-blocked c =
+pub returns-in_err-blocked-clause-events : goal.returns-in_err-blocked-clause-events
+returns-in_err-blocked-clause-events c =
     let p = err_from_is_err_and c.from_residual.result c.from_residual.ensures.1 in
     rw (p.1, p.2)
-    (unblocked_fault (member (plain_ground c.args.ground.now) c.args.budget) (map live_of c.args.live.now) c.args.events.now c.loop-event.event-index c.event-item.result c.loop-event.kept _
-    c.loop-event-test.true c.event-item.is c.loop-event.invariant c.in_err-blocked.ensures)
+    (unblocked_fault event_of (member (plain_ground c.args.ground.now) c.args.budget) (map lent c.args.blocking.now) c.args.candidates.now c.loop-candidate.candidate-index c.candidate-item.result c.loop-candidate.free.items _
+    c.loop-candidate-test.true c.candidate-item.is c.loop-candidate.invariant.events c.in_err-blocked.ensures)

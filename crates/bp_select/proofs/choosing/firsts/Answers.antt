@@ -1,15 +1,15 @@
+use Rattle.std.proofs.Common.{map}
 use Rattle.std.specs.List.{list_any}
-use Rattle.js_data.specs.Event.{PlainEvent}
-use Rattle.bp_run.specs.Choosing.{is_first_of}
 use Rattle.bp_select.specs.Lives.{live_of}
-use Rattle.bp_select.proofs.Remains.{kept_step, kept_last}
+use Rattle.bp_select.specs.Candidates.{is_among, is_first}
+use Rattle.bp_select.specs.declared.key.Key.{Key}
+use Rattle.bp_select.proofs.Firsts.{among_more, first_found, first_missing, firsts_more, firsts_same, firsts_last}
 use Rattle.bp_select.proofs.choosing.firsts.Goals as goal
 
-pub loop-event-preserved : goal.loop-event-preserved
-loop-event-preserved c =
-    kept_step (λ (e : PlainEvent). list_any (λ t. is_first_of c.args.inner.now e (live_of t)) c.args.live.now) c.args.inner.now c.loop-event.event-index c.event-item.result c.loop-event.kept c.keep_unless.new.kept _
-    c.is_first_of_some-first.result c.loop-event-test.true c.event-item.is c.is_first_of_some-first.ensures c.in_ok-keep_unless.ensures c.loop-event.invariant
+pub loop-stated-preserved : goal.loop-stated-preserved
+loop-stated-preserved c = ?
 
 pub returns : goal.returns
-returns c =
-    kept_last (λ (e : PlainEvent). list_any (λ t. is_first_of c.args.inner.now e (live_of t)) c.args.live.now) c.args.inner.now c.loop-event.event-index c.loop-event.kept c.loop-event-test.false c.loop-event.invariant
+returns c = λ e.
+    firsts_last (is_first (is_among c.args.events.now) e) c.args.live.now c.loop-stated.stated-index (is_among c.loop-stated.firsts e) (list_any (is_first (is_among c.args.events.now) e) (map live_of c.args.live.now))
+    c.loop-stated-test.false (c.loop-stated.invariant e)

@@ -1,9 +1,15 @@
-use Rattle.std.proofs.Common.{◌≡◌, ◌++◌, map, drop, filter}
+use Rattle.std.proofs.Common.{◌≡◌, ◌++◌, List, drop, filter}
 use Rattle.js_data.specs.Event.{PlainEvent}
+use Rattle.js_value.specs.Value.{PlainSet}
+use Rattle.bp_run.specs.Selecting.{Live}
 use Rattle.bp_run.specs.Choosing.{at_most, priority_of}
-use Rattle.bp_select.specs.Lives.{live_of}
 use Rattle.bp_select.specs.Priorities.{top_of}
+use Rattle.bp_select.specs.Tops.{HaveTops}
+use Rattle.bp_select.specs.Candidates.{events_in, tops_of}
 use Rattle.bp_select.proofs.choosing.greatest.Given as goal
 
-abbrev pub invariant-loop-event : goal.invariant-loop-event
-invariant-loop-event l = let p = λ (e : PlainEvent). at_most (top_of (map live_of l.live) l.inner) (priority_of (map live_of l.live) e) in l.kept ++ filter p (drop l.event-index l.inner) ≡ filter p l.inner
+abbrev pub invariant-loop-candidate : goal.invariant-loop-candidate
+invariant-loop-candidate l =
+    (ts : List (Live PlainSet)) → HaveTops ts (tops_of l.inner.items) →
+    (let p = λ (e : PlainEvent). at_most (top_of ts (events_in l.inner.items)) (priority_of ts e) in
+    events_in l.kept.items ++ filter p (events_in (drop l.candidate-index l.inner.items)) ≡ filter p (events_in l.inner.items))

@@ -19,7 +19,7 @@ returns-in_err-free-clause-chosen c =
     let has = member (plain_ground c.args.ground.now) c.args.budget in
     let here : map live_of c.as_slice.result.now ≡ c.args.self.now.live = ap (λ (ts : List Stated). map live_of ts) c.as_slice.ensures.value ∙ ap (λ (b : PlainBench). b.live) c.self.view_is in
     rw (p.1, p.2)
-    (choice_fault_at has (draw_word c.args.draw.now.seed) c.args.strategy (map live_of c.as_slice.result.now) c.args.self.now.live c.args.queue.now c.args.draw.now.drawn _ here c.in_err-free.ensures)
+    (choice_fault_at has (draw_word c.args.draw.now.seed) c.args.strategy (map live_of c.as_slice.result.now) c.args.self.now.live c.args.queue.now c.args.draw.now.drawn _ here c.in_err-free.ensures.free)
 
 pub returns-clause-chosen : goal.returns-clause-chosen
 returns-clause-chosen c =
@@ -29,7 +29,7 @@ returns-clause-chosen c =
     let d = c.args.draw.now.drawn in
     let here : map live_of c.as_slice.result.now ≡ c.args.self.now.live = ap (λ (ts : List Stated). map live_of ts) c.as_slice.ensures.value ∙ ap (λ (b : PlainBench). b.live) c.self.view_is in
     let again : map live_of c.as_slice-2.result.now ≡ c.args.self.now.live = ap (λ (ts : List Stated). map live_of ts) c.as_slice-2.ensures.value ∙ ap (λ (b : PlainBench). b.live) c.self.view_is in
-    choice_of has word c.args.strategy c.args.self.now.live c.args.queue.now d free (subst (λ (ts : List (Live PlainSet)). selectable has ts c.args.queue.now ≡ Ok free) here c.in_ok-free.ensures)
+    choice_of has word c.args.strategy c.args.self.now.live c.args.queue.now d free (subst (λ (ts : List (Live PlainSet)). selectable has ts c.args.queue.now ≡ Ok free) here c.in_ok-free.ensures.free)
     ∙ ap (λ (o : Option Choice). Ok o)
     (sym (c.in_ok-chosen.ensures.chosen c.args.queue.now
     ∙ ap (λ (ts : List (Live PlainSet)). chosen word c.args.strategy ts c.args.queue.now d free.inner free.outer) again))

@@ -1,0 +1,10 @@
+use Rattle.bp_select.specs.Candidates.{event_of, events_in}
+use Rattle.bp_select.proofs.Firsts.{copies_step, copies_last}
+use Rattle.bp_select.proofs.selecting.copies.Goals as goal
+
+pub loop-candidate-preserved : goal.loop-candidate-preserved
+loop-candidate-preserved c = ?
+
+pub returns : goal.returns
+returns c =
+    copies_last event_of c.args.candidates.now c.loop-candidate.candidate-index c.loop-candidate.events.items (events_in c.args.candidates.now) c.loop-candidate-test.false c.loop-candidate.invariant

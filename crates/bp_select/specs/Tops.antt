@@ -1,0 +1,36 @@
+-- Requested events, each with the greatest priority with which it is requested.
+use Rattle.std.specs.Prelude.{◌≡◌, ℤ, int_le, List, [], ◌∷◌, map, Option, Some, None, if◌then◌else◌}
+use Rattle.js_data.specs.Event.{PlainEvent, same_event}
+use Rattle.js_value.specs.Value.{PlainSet}
+use Rattle.bp_run.specs.Selecting.{Live}
+use Rattle.bp_run.specs.Choosing.{priority_of}
+
+abbrev pub Top : Type 0
+Top = PlainEvent × ℤ
+
+abbrev pub events_of : List Top → List PlainEvent
+events_of xs = map (λ x. x.0) xs
+
+-- the greater one
+abbrev pub raised : Option ℤ → ℤ → ℤ
+raised None p = p
+raised (Some a) p = if int_le a p then p else a
+
+-- one more request of e
+abbrev pub with_request : ℤ → List Top → PlainEvent → List Top
+with_request p [] e = (e, p) ∷ []
+with_request p (x ∷ xs) e = if same_event e x.0 then (x.0, raised (Some x.1) p) ∷ xs else x ∷ with_request p xs e
+
+abbrev pub with_requests : ℤ → List Top → List PlainEvent → List Top
+with_requests p xs [] = xs
+with_requests p xs (e ∷ es) = with_requests p (with_request p xs e) es
+
+-- what these b-threads request too
+abbrev pub with_live : List Top → List (Live PlainSet) → List Top
+with_live xs [] = xs
+with_live xs (t ∷ ts) = with_live (with_requests t.statement.priority xs t.statement.request) ts
+
+-- each has the greatest priority with which the b-threads request it
+abbrev pub HaveTops : List (Live PlainSet) → List Top → Type 0
+HaveTops ts [] = Unit {0}
+HaveTops ts (x ∷ xs) = (priority_of ts x.0 ≡ Some x.1) × HaveTops ts xs

@@ -1,0 +1,28 @@
+//! Candidates for being chosen.
+ghost use Rattle.std.specs.Prelude.{◌≡◌, ◌++◌, ◌∷◌, [], if◌then◌else◌, OnOk};
+
+use bp_log::Memory;
+use js_data::Event;
+
+/// A requested event, and the greatest priority with which it is requested.
+#[derive(Debug, Clone, Copy)]
+pub(crate) struct Candidate<'a> {
+    /// The event.
+    pub event: &'a Event,
+    /// The priority.
+    pub top: i64,
+}
+
+/// Keeps the candidate if this holds. Its only error is want of memory.
+pub(crate) fn keep_if<'a>(
+    kept: &mut Vec<Candidate<'a>>,
+    keeps: bool,
+    candidate: &Candidate<'a>,
+) -> Result<(), Memory>
+    ensures { OnOk result (kept.new.items ≡ (if keeps then kept.old.items ++ candidate.now ∷ [] else kept.old.items)) }
+{
+    if keeps {
+        kept.push(*candidate)?;
+    }
+    Ok(())
+}
