@@ -1,11 +1,16 @@
 //! Benches: what can be selected, which event is chosen, and whom it reaches.
+ghost use Rattle.std.specs.Prelude.{◌≤◌, ℕ, length, IfOk, OnOk};
+ghost use Rattle.js_meaning.specs.State.{Ground as Base};
+ghost use Rattle.bp_select.specs.Benches.{Fits};
+
 use bp_log::Strategy;
 use bp_script::accept;
-use bp_select::{Bench, Choice, Draw};
+use bp_select::{Bench, Choice, Draw, SelectFault};
+use bp_sets::SetFault;
 use bp_thread::{Events, Statement};
 use js_data::{Event, Text, Whole};
 use js_frames::Ground;
-use js_value::{EventSet, SetTree};
+use js_value::{EventSet, Items, SetTree};
 use std::alloc::Global;
 use std::process::Abort;
 use std::sync::Arc;
@@ -16,10 +21,18 @@ fn event(alloc: Global, name: &str) -> Result<Event, Fail> {
     Ok(Event::new(text, None)?)
 }
 
-fn events(alloc: Global, names: &str) -> Result<Vec<Event>, Fail> {
+/// The greatest number of events in a queue of the tables.
+const MOST_QUEUED: usize = 10;
+
+fn events(alloc: Global, names: &str) -> Result<Vec<Event>, Fail>
+    ensures { IfOk result (λ l. length l.items ≤ MOST_QUEUED) }
+{
     let mut made = Vec::new(alloc);
     for name in names.split_whitespace() {
         made.push(event(alloc, name)?)?;
+    }
+    if made.len() > MOST_QUEUED {
+        return Err(Fail::new("too many events"));
     }
     Ok(made)
 }
@@ -55,14 +68,22 @@ fn statement(alloc: Global, line: &str) -> Result<Statement, Fail> {
     })
 }
 
-// The b-threads in order, from 0; `ended` states nothing.
-fn bench(alloc: Global, lines: &str) -> Result<Bench, Fail> {
+// What the line states; `ended` is nothing.
+fn stated(alloc: Global, line: &str) -> Result<Option<Statement>, Fail> {
+    if line.trim() == "ended" {
+        return Ok(None);
+    }
+    Ok(Some(statement(alloc, line)?))
+}
+
+// The b-threads in order, from 0.
+fn bench(alloc: Global, lines: &str) -> Result<Bench, Fail>
+    ensures { (base : Base) (budget : ℕ) → IfOk result (λ made. Fits made base budget) }
+{
     let mut made = Bench::new(alloc);
     let mut number = 0u32;
     for line in lines.split("/") {
-        if line.trim() != "ended" {
-            made.place(number, Some(statement(alloc, line)?))?;
-        }
+        made.place(number, stated(alloc, line)?)?;
         number = number.checked_add(1).ok_or("too many")?;
     }
     Ok(made)
@@ -210,6 +231,8 @@ fn strategies_choose(rt: HostRuntime) -> Result<(), Fail> {
         ordered | x y ; - - - 0 / z ; - - - 0 / ; - x - 0 | --> z 1
         priority | x y ; - - - -3 / y ; - - - -1 / x ; - - - -2 | --> y 0
         priority | x ; - - - 3 / y ; - - - 3 / z ; - - - 0 | --> y 1
+        priority | x ; - - - 1 / y ; - - - 2 / x ; - - - 3 | --> x 0
+        ordered | x y ; - - - 0 / y x ; - - - 0 / ; - z - 0 | --> y 1
         simple | x ; - * - 0 | x --> nothing 0";
     agree(&rt, rt.alloc(), Table::Chooses, table)
 }
@@ -241,6 +264,44 @@ fn what_is_enabled(rt: HostRuntime) -> Result<(), Fail> {
         x ; - * - 0 | x y --> inner
         ended | --> inner";
     agree(&rt, rt.alloc(), Table::Enables, table)
+}
+
+fn fault(fault: &SelectFault) -> &'static str {
+    match fault {
+        SelectFault::Set(0, SetFault::NotTruth(1)) => "0 no truth on line 1",
+        SelectFault::Set(1, SetFault::NotTruth(1)) => "1 no truth on line 1",
+        SelectFault::Set(_, _) => "another fault",
+        SelectFault::Memory => "memory",
+    }
+}
+
+// A set whose predicate, the first function of the program, answers a number.
+fn no_truth(alloc: Global) -> Result<EventSet, Fail> {
+    let tree = SetTree::Predicate {
+        name: Arc::new(alloc, Text::new(String::from_str(alloc, "p")?))?,
+        code: 0,
+        captured: Items::new(alloc, Vec::new(alloc))?,
+    };
+    Ok(EventSet::new(alloc, tree)?)
+}
+
+// A yes hides no later fault, and the first fault is the answer.
+#[test]
+fn sets_that_answer_no_truth(rt: HostRuntime) -> Result<(), Fail> {
+    let alloc = rt.alloc();
+    let program = accept(alloc, b"const p = bp.EventSet(\"p\", e => 1)")?;
+    let ground = Ground::bare(alloc, program);
+    let mut draw = Draw::new(0);
+    let mut made = bench(alloc, "e ; - * - 0")?;
+    let mut faulty = statement(alloc, "e ; - - - 0")?;
+    faulty.block = no_truth(alloc)?;
+    made.place(1, Some(faulty))?;
+    let choice = made.choose(alloc, &ground, &[], Strategy::Simple, 1_000, &mut draw);
+    let said = choice.err().ok_or("a choice")?;
+    assert_eq!(rt; fault(&said), "1 no truth on line 1");
+    assert_eq!(rt; draw.drawn(), 0);
+    assert_eq!(rt; made.blocker(alloc, &ground, &event(alloc, "e")?, 1_000)?, Some(0));
+    Ok(())
 }
 
 // Statements are replaced and taken away, in any order of numbers.
