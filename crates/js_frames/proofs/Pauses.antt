@@ -1,7 +1,7 @@
 -- What the pauses of a machine say.
 use Rattle.std.proofs.lemmas.Bool.{false≢true}
 use Rattle.std.specs.Prelude.{nat_lt, IsSome}
-use Rattle.std.proofs.Common.{inl, inr, Bool, true, false, cond, ◌≡◌, ℕ, zero, suc, ◌+◌, List, [], ◌∷◌, ◌++◌, length, Option, Some, None, refl, sym, ap, ◌∙◌, subst, arith, append_assoc, append-nil}
+use Rattle.std.proofs.Common.{inl, inr, Bool, true, false, cond, ◌≡◌, ℕ, zero, suc, ◌+◌, ◌≤◌, List, [], ◌∷◌, ◌++◌, length, Option, Some, None, refl, sym, ap, ◌∙◌, subst, arith, append_assoc, append-nil}
 use Rattle.js_data.specs.Event.{PlainEvent}
 use Rattle.js_data.specs.declared.fault.Fault.{Fault}
 use Rattle.js_data.specs.declared.fault.Fault.TheVariants as fault
@@ -12,7 +12,7 @@ use Rattle.js_value.specs.Views.{plain_value}
 use Rattle.js_value.specs.declared.value.Value.{Value}
 use Rattle.js_program.specs.PlainProgram.{PlainProgram}
 use Rattle.js_meaning.specs.State as js
-use Rattle.js_meaning.specs.State.{State, Setting, Left, left_of, Outcome, went, normal, broken, violated, spent, stopped, gives, spends, breaks}
+use Rattle.js_meaning.specs.State.{State, Setting, Left, left_of, left_by, Outcome, went, normal, broken, violated, spent, stopped, gives, spends, breaks}
 use Rattle.js_meaning.specs.Calls.{after_call, answer_of, body_of, enters, calls}
 use Rattle.js_meaning.specs.declared.limits.TheConstants.{MOST_CALLS}
 use Rattle.js_meaning.specs.Meaning.{begins_with, eval}
@@ -34,7 +34,8 @@ use Rattle.js_frames.specs.Places.{Place, Beside, plain_effects, place_of, setti
 use Rattle.js_frames.specs.Frames.{plain_completion, resume, plug, step_outcome, future}
 use Rattle.js_frames.specs.Leads.{Leads, IsSettled, IsHeld, Advanced, node_does}
 use Rattle.js_frames.specs.Fits.{StackFits, StepFits}
-use Rattle.js_frames.specs.Runs.{PendingFits, IsOfProgram, Stands, untaken, asked_at, answer_at, asked_by, line_asked, answer_by, constants_by, Answers, Says, Runs, pause_of, if_zero, pending_outcome, future_of}
+use Rattle.js_frames.proofs.Fuel.{node_leaves}
+use Rattle.js_frames.specs.Runs.{PendingFits, IsOfProgram, Stands, untaken, asked_at, answer_at, asked_by, line_asked, answer_by, constants_by, Answers, Says, IsReached, Runs, pause_of, if_zero, pending_outcome, future_of}
 
 -- what is over passes by all frames
 module _ (g : Setting) where
@@ -111,49 +112,84 @@ module _ (base : js.Ground) (m : Engine) (o : Outcome) (gives_value : (c : js.Co
   abbrev g : Setting
   g = setting_at base (place_of m)
 
-  says_begin : (n f : ℕ) → future base (place_of m) (Begin n) (beside taken delivered) ≡ o → m.fuel ≡ f → IsHeld (Begin n) m.fuel more nodes → Says (if_zero f pause.Spent pause.More) o begun more nodes budget (taken ++ plain_effects m.effects) (record { engine = m; pending = Some (Next (Begin n)) })
+  abbrev at : State
+  at = now m taken delivered
+
+  -- the body comes to this
+  abbrev Comes : Step → Type 0
+  Comes last = future base (place_of m) last (beside taken delivered) ≡ o
+
+  is_spent : (n : ℕ) → Comes (Begin n) → m.fuel ≡ 0 → o ≡ spent (record (left_of at) { fuel = 0 })
   unfolding future step_outcome
-  says_begin n zero eq f held =
-      let s : State = now m taken delivered in
-      record {
-        left = record (left_of s) { fuel = 0 };
-        is = sym eq ∙ ap (plug g m.stack.items) (eval_begins g n s ∙ ap (λ k. begins_with k (node_does g n) s) f) ∙ plug_over g (spends s) (λ h. resume_spent g h (record (left_of s) { fuel = 0 })) m.stack.items;
-        made = refl;
-        all = omega arith;
-      }
+  is_spent n eq f =
+      sym eq ∙ ap (plug g m.stack.items) (eval_begins g n at ∙ ap (λ k. begins_with k (node_does g n) at) f)
+      ∙ plug_over g (spends at) (λ h. resume_spent g h (record (left_of at) { fuel = 0 })) m.stack.items
+
+  -- a node begins, and leaves less than there was
+  leaves_less : (n k : ℕ) → Comes (Begin n) → m.fuel ≡ suc k → (left_by o).fuel ≤ k
+  unfolding future step_outcome
+  leaves_less n k eq f =
+      let begun_at : State = record at { fuel = k } in
+      let is : plug g m.stack.items (node_does g n begun_at) ≡ o = sym (ap (plug g m.stack.items) (eval_begins g n at ∙ ap (λ q. begins_with q (node_does g n) at) f)) ∙ eq in
+      subst (λ q. (left_by q).fuel ≤ k) is (node_leaves g n begun_at m.stack.items refl)
+
+  is_given : (c : Completion) → Comes (Give c) → m.stack.items ≡ [] → o ≡ went (plain_completion c) at
+  unfolding future step_outcome plug
+  is_given c eq settled = sym eq ∙ ap (λ fs. plug g fs (went (plain_completion c) at)) settled
+
+  is_stopped : (s p : Value) (line : ℕ) → Comes (Ask s p line) → o ≡ stopped (plain_value s) (plain_value p) line (left_of at)
+  unfolding future step_outcome
+  is_stopped s p line eq =
+      sym eq ∙ plug_over g (stopped (plain_value s) (plain_value p) line (left_of at)) (λ h. resume_stopped g h (plain_value s) (plain_value p) line (left_of at)) m.stack.items
+
+  is_broken : (fault : Fault) (line : ℕ) → Comes (Fail fault line) → o ≡ broken fault line (left_of at)
+  unfolding future step_outcome
+  is_broken fault line eq = sym eq ∙ plug_over g (broken fault line (left_of at)) (λ h. resume_broken g h fault line (left_of at)) m.stack.items
+
+  is_violated : (text : List ℕ) → Comes (Violate text) → o ≡ violated text (left_of at)
+  unfolding future step_outcome
+  is_violated text eq = sym eq ∙ plug_over g (violated text (left_of at)) (λ h. resume_violated g h text (left_of at)) m.stack.items
+
+  -- as much is left as the machine has
+  reached_by : (q : Outcome) → o ≡ q → (left_by q).fuel ≡ m.fuel → (left_by o).fuel + (begun + more) ≡ budget
+  reached_by q is left = ap (λ r. (left_by r).fuel + (begun + more)) is ∙ ap (λ k. k + (begun + more)) left ∙ fuel
+
+  says_begin : (n f : ℕ) → Comes (Begin n) → m.fuel ≡ f → IsHeld (Begin n) m.fuel more nodes → Says (if_zero f pause.Spent pause.More) o begun more nodes budget (taken ++ plain_effects m.effects) (record { engine = m; pending = Some (Next (Begin n)) })
+  says_begin n zero eq f held = record { left = record (left_of at) { fuel = 0 }; is = is_spent n eq f; made = refl; all = omega arith }
   says_begin n (suc k) eq f held =
       let whole : more ≡ nodes = elim held [ inl e ↦ absurd (omega arith) | inr e ↦ e ] in
-      record { whole = whole; some_left = omega arith }
+      let less : (left_by o).fuel ≤ k = leaves_less n k eq f in
+      record { whole = whole; some_left = omega arith; another = omega arith }
 
-  says_value : (c : Completion) (x : PlainValue) → plain_completion c ≡ normal x → o ≡ went (plain_completion c) (now m taken delivered) → Answers o (taken ++ plain_effects m.effects) (record { engine = m; pending = Some (Next (Give c)) })
+  reaches_begin : (n f : ℕ) → Comes (Begin n) → m.fuel ≡ f → IsReached (if_zero f pause.Spent pause.More) o (begun + more) budget
+  reaches_begin n zero eq f = reached_by _ (is_spent n eq f) (sym f)
+  reaches_begin n (suc k) eq f = tt
+
+  says_value : (c : Completion) (x : PlainValue) → plain_completion c ≡ normal x → o ≡ went (plain_completion c) at → Answers o (taken ++ plain_effects m.effects) (record { engine = m; pending = Some (Next (Give c)) })
   unfolding answer_by constants_by
-  says_value (Normal y) x e h = record { answer = plain_value y; state = now m taken delivered; is = h; answered = refl; constants = refl; made = refl }
+  says_value (Normal y) x e h = record { answer = plain_value y; state = at; is = h; answered = refl; constants = refl; made = refl }
   says_value Broke x e h = cc
   says_value Continued x e h = cc
   says_value (Returned y) x e h = cc
 
-  pub says : (last : Step) → future base (place_of m) last (beside taken delivered) ≡ o → IsHeld last m.fuel more nodes → IsSettled last m.stack.items → Says (pause_of m.fuel last) o begun more nodes budget (taken ++ plain_effects m.effects) (record { engine = m; pending = Some (Next last) })
-  unfolding future step_outcome plug asked_by line_asked
+  pub says : (last : Step) → Comes last → IsHeld last m.fuel more nodes → IsSettled last m.stack.items → Says (pause_of m.fuel last) o begun more nodes budget (taken ++ plain_effects m.effects) (record { engine = m; pending = Some (Next last) })
+  unfolding asked_by line_asked
   says (Begin n) eq held settled = says_begin n m.fuel eq refl held
   says (Give c) eq held settled =
-      let s : State = now m taken delivered in
-      let whole : o ≡ went (plain_completion c) s = sym eq ∙ ap (λ fs. plug g fs (went (plain_completion c) s)) settled in
-      let x : IsValue (plain_completion c) = gives_value (plain_completion c) s whole in
+      let whole = is_given c eq settled in
+      let x : IsValue (plain_completion c) = gives_value (plain_completion c) at whole in
       says_value c x.0 x.1 whole
-  says (Ask s p line) eq held settled = record {
-    statement = plain_value s;
-    priority = plain_value p;
-    line = line;
-    left = left_of (now m taken delivered);
-    is = sym eq ∙ plug_over g (stopped (plain_value s) (plain_value p) line (left_of (now m taken delivered))) (λ h. resume_stopped g h (plain_value s) (plain_value p) line (left_of (now m taken delivered))) m.stack.items;
-    asked = refl;
-    at_line = refl;
-    made = refl;
-  }
-  says (Fail fault line) eq held settled =
-      (left_of (now m taken delivered), sym eq ∙ plug_over g (broken fault line (left_of (now m taken delivered))) (λ h. resume_broken g h fault line (left_of (now m taken delivered))) m.stack.items, refl)
-  says (Violate text) eq held settled =
-      (left_of (now m taken delivered), sym eq ∙ plug_over g (violated text (left_of (now m taken delivered))) (λ h. resume_violated g h text (left_of (now m taken delivered))) m.stack.items, refl)
+  says (Ask s p line) eq held settled =
+      record { statement = plain_value s; priority = plain_value p; line = line; left = left_of at; is = is_stopped s p line eq; asked = refl; at_line = refl; made = refl }
+  says (Fail fault line) eq held settled = (left_of at, is_broken fault line eq, refl)
+  says (Violate text) eq held settled = (left_of at, is_violated text eq, refl)
+
+  pub reaches : (last : Step) → Comes last → IsSettled last m.stack.items → IsReached (pause_of m.fuel last) o (begun + more) budget
+  reaches (Begin n) eq settled = reaches_begin n m.fuel eq refl
+  reaches (Give c) eq settled = reached_by _ (is_given c eq settled) refl
+  reaches (Ask s p line) eq settled = reached_by _ (is_stopped s p line eq) refl
+  reaches (Fail fault line) eq settled = reached_by _ (is_broken fault line eq) refl
+  reaches (Violate text) eq settled = reached_by _ (is_violated text eq) refl
 
 -- the step to come is the one that is pending
 same_next : (m : Option Pending) (a b : Pending) → m ≡ Some a → m ≡ Some b → a ≡ b
@@ -174,6 +210,7 @@ runs_on base old new next step last nodes more pending steps a budget o replies 
     ∙ ap (plug (setting_at base (place_of old.engine)) old.engine.stack.items) (steps (setting_at base (place_of old.engine)) (state_at (place_of old.engine) beside_it))
     ∙ ap (λ q. future_of base (place_of old.engine) q beside_it) (sym is)
     ∙ h.comes later in
+    let now_comes : future base (place_of new) last (beside taken h.delivered) ≡ evaluation base budget o replies = comes [] ∙ ap (evaluation base budget o) (append-nil replies) in
     record {
       more = more;
       few = a.few;
@@ -186,7 +223,8 @@ runs_on base old new next step last nodes more pending steps a budget o replies 
         mode_is = r.same_mode ∙ h.mode_is;
         fuel = omega arith;
       };
-      says = says base new (evaluation base budget o replies) (body_gives base budget o replies) taken h.delivered begun more nodes budget (omega arith) last (comes [] ∙ ap (evaluation base budget o) (append-nil replies)) a.held a.settled;
+      says = says base new (evaluation base budget o replies) (body_gives base budget o replies) taken h.delivered begun more nodes budget (omega arith) last now_comes a.held a.settled;
+      reached = reaches base new (evaluation base budget o replies) (body_gives base budget o replies) taken h.delivered begun more nodes budget (omega arith) last now_comes a.settled;
     }
 
 -- a machine that starts stands for its body

@@ -5,7 +5,7 @@ use Rattle.js_value.specs.Value as v
 use Rattle.js_value.specs.Value.{PlainValue}
 use Rattle.js_value.specs.Views.{plain_value}
 use Rattle.js_program.specs.PlainProgram.{PlainProgram}
-use Rattle.js_meaning.specs.State.{Ground, Setting, Effect, State, Left, Outcome, gives, normal, went, broken, violated, spent, stopped}
+use Rattle.js_meaning.specs.State.{Ground, Setting, Effect, State, Left, left_by, Outcome, gives, normal, went, broken, violated, spent, stopped}
 use Rattle.js_meaning.specs.Bodies.{Origin, mode_of, evaluation}
 use Rattle.js_frames.specs.declared.step.Completion.TheVariants.{Normal}
 use Rattle.js_frames.specs.declared.step.Step.{Step}
@@ -88,10 +88,16 @@ answer_by m = answer_at m.pending
 unfoldable pub constants_by : Machine → List (Option PlainValue)
 constants_by m = unwrap_or m.engine.constants []
 
--- so many nodes began as the slice allows, another must begin, and there is budget
-pub record Waits (begun more nodes budget : ℕ) : Type 0 where
+-- So many nodes began as the slice allows, there is budget, and another must begin: the body leaves less of the budget than is left now.
+pub record Waits (o : Outcome) (begun more nodes budget : ℕ) : Type 0 where
   pub whole : more ≡ nodes
   pub some_left : begun + more < budget
+  pub another : (left_by o).fuel + (begun + more) < budget
+
+-- where the body stops, no other must begin: it leaves what is left of the budget
+abbrev pub IsReached : Pause → Outcome → ℕ → ℕ → Type 0
+IsReached pause.More o begun budget = Unit {0}
+IsReached pause o begun budget = (left_by o).fuel + begun ≡ budget
 
 -- `bp.sync` asks
 pub record Asks (o : Outcome) (effects : List Effect) (m : Machine) : Type 0 where
@@ -122,7 +128,7 @@ pub record Spends (o : Outcome) (effects : List Effect) (begun more budget : ℕ
 
 -- A pause says what the outcome of the body is with the replies so far, and where the machine's answer to it is.
 abbrev pub Says : Pause → Outcome → ℕ → ℕ → ℕ → ℕ → List Effect → Machine → Type 0
-Says pause.More o begun more nodes budget effects m = Waits begun more nodes budget
+Says pause.More o begun more nodes budget effects m = Waits o begun more nodes budget
 Says pause.AtSync o begun more nodes budget effects m = Asks o effects m
 Says pause.Ended o begun more nodes budget effects m = Answers o effects m
 Says (pause.Broken fault line) o begun more nodes budget effects m = (left : Left) × (o ≡ broken fault line left) × (left.effects ≡ effects)
@@ -135,6 +141,7 @@ pub record Runs (base : Ground) (budget : ℕ) (o : Origin) (replies : List Plai
   pub few : more ≤ nodes
   pub stands : Stands base budget o replies (begun + more) taken m
   pub says : Says pause (evaluation base budget o replies) begun more nodes budget (taken ++ untaken m) m
+  pub reached : IsReached pause (evaluation base budget o replies) (begun + more) budget
 
 abbrev pub if_zero : ℕ → Pause → Pause → Pause
 if_zero zero a b = a

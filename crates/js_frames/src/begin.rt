@@ -16,8 +16,8 @@ use js_data::{Memory, Text};
 use js_ops::made;
 use js_program::NodeForm;
 use js_tree::Operator;
-use js_value::{Value, words};
-use std::alloc::Global;
+use js_value::Value;
+use std::sync::Arc;
 
 /// What waits for a test, and begins one of two.
 fn choice(yes: u32, no: u32) -> Frame
@@ -33,13 +33,12 @@ fn turns(test: Option<u32>, body: u32, next: Option<u32>) -> Turns
     Turns { test, body, next }
 }
 
-/// A text literal.
-fn literal(alloc: Global, text: &Text, line: u32) -> Result<Step, Memory>
-    ensures { IfOk result (Becomes (λ g. answered line (made (words text.now)))) }
+/// A text literal: one more owner of its text. Its only error is a full count of owners.
+fn literal(text: &Arc<Text>, line: u32) -> Result<Step, Memory>
+    ensures { IfOk result (Becomes (λ g. answered line (made (words text.now.value)))) }
 {
-    let copied = text.copy()?;
-    let value = words(alloc, copied)?;
-    answered(made(value), line)
+    let shared = text.clone()?;
+    answered(made(Value::Words(shared)), line)
 }
 
 /// What waits for the left side of an operator.
@@ -63,7 +62,7 @@ impl Engine {
         let node = node_of(base, number);
         match &node.form {
             NodeForm::Number(n) => Ok(give(Value::Whole(*n))),
-            NodeForm::Words(text) => literal(self.alloc, text, node.line),
+            NodeForm::Words(text) => literal(text, node.line),
             NodeForm::Truth(b) => Ok(give(Value::Truth(*b))),
             NodeForm::Null => Ok(give(Value::Null)),
             NodeForm::Undefined => Ok(give(Value::Undefined)),

@@ -6,6 +6,7 @@ mod begin;
 mod blocks;
 mod branches;
 mod calls;
+mod crossing;
 mod effect;
 mod engine;
 mod for_each;
@@ -23,6 +24,7 @@ mod slots;
 mod step;
 mod values;
 
+pub use crossing::ground_crosses;
 pub use effect::{Effect, Effects};
 pub use ground::Ground;
 pub use machine::{Machine, Pause};

@@ -139,7 +139,7 @@ sure_ways g = record {
 
 -- ---- the knot
 
-turns_sure : (g : Setting) (ev : ℕ → State → Outcome) → ((n : ℕ) → Sure g (ev n) (ev n)) → (k : ℕ) (test : Option ℕ) (body : ℕ) (next : Option ℕ) → Sure g (turns ev k test body next) (turns ev k test body next)
+pub turns_sure : (g : Setting) (ev : ℕ → State → Outcome) → ((n : ℕ) → Sure g (ev n) (ev n)) → (k : ℕ) (test : Option ℕ) (body : ℕ) (next : Option ℕ) → Sure g (turns ev k test body next) (turns ev k test body next)
 turns_sure g ev h zero test body next = record { at = spends_well g }
 turns_sure g ev h (suc k) test body next = one_turn_walk g (Sure g) (sure_ways g) ev ev h test body next _ _ (turns_sure g ev h k test body next)
 

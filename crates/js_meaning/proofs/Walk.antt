@@ -86,7 +86,7 @@ module _ (g : Setting) (W : (State → Outcome) → (State → Outcome) → Type
   where_true f f' h h' true x y = x refl
   where_true f f' h h' false x y = y
 
-  gives_walk : (x : PlainValue) → W (gives x) (gives x)
+  pub gives_walk : (x : PlainValue) → W (gives x) (gives x)
   gives_walk x = w.completing (normal x)
 
   pub leaves_walk : W leaves leaves
@@ -102,7 +102,7 @@ module _ (g : Setting) (W : (State → Outcome) → (State → Outcome) → Type
   if_declared_walk line None f f' h = w.breaking fault.Early line
   if_declared_walk line (Some y) f f' h = h y
 
-  slot_walk : (line k : ℕ) (f f' : PlainValue → State → Outcome) → ((y : PlainValue) → W (f y) (f' y)) → W (λ s. if_declared line (in_slot k s.slots) f s) (λ s. if_declared line (in_slot k s.slots) f' s)
+  pub slot_walk : (line k : ℕ) (f f' : PlainValue → State → Outcome) → ((y : PlainValue) → W (f y) (f' y)) → W (λ s. if_declared line (in_slot k s.slots) f s) (λ s. if_declared line (in_slot k s.slots) f' s)
   slot_walk line k f f' h =
       w.looking (λ slots _ _. if_declared line (in_slot k slots) f) (λ slots _ _. if_declared line (in_slot k slots) f') (λ slots _ _. if_declared_walk line (in_slot k slots) f f' h)
 
@@ -116,7 +116,7 @@ module _ (g : Setting) (W : (State → Outcome) → (State → Outcome) → Type
   undeclare_walk [] f f' h = h
   undeclare_walk (k ∷ ks) f f' h = w.changing k None (λ s. f (undeclare ks s)) (λ s. f' (undeclare ks s)) (undeclare_walk ks f f' h)
 
-  writes_walk : (line k : ℕ) (r : Answer) → W (writes line k r) (writes line k r)
+  pub writes_walk : (line k : ℕ) (r : Answer) → W (writes line k r) (writes line k r)
   writes_walk line k (Ok y) = w.changing k (Some y) (gives y) (gives y) (gives_walk y)
   writes_walk line k (Err f) = w.breaking f line
 
@@ -190,7 +190,7 @@ module _ (g : Setting) (W : (State → Outcome) → (State → Outcome) → Type
     sequence_walk [] = leaves_walk
     sequence_walk (n ∷ ns) = bind _ _ (h n) (λ x. sequence_walk ns)
 
-    in_order_walk : (ns : List ℕ) (vs : List PlainValue) (f f' : List PlainValue → State → Outcome) → ((us : List PlainValue) → W (f us) (f' us)) → W (in_order ev ns vs f) (in_order ev' ns vs f')
+    pub in_order_walk : (ns : List ℕ) (vs : List PlainValue) (f f' : List PlainValue → State → Outcome) → ((us : List PlainValue) → W (f us) (f' us)) → W (in_order ev ns vs f) (in_order ev' ns vs f')
     in_order_walk [] vs f f' k = k vs
     in_order_walk (n ∷ ns) vs f f' k = bind _ _ (h n) (λ x. in_order_walk ns (vs ++ x ∷ []) f f' k)
 
@@ -208,7 +208,7 @@ module _ (g : Setting) (W : (State → Outcome) → (State → Outcome) → Type
         (λ _ _ n. either (nat_lt n MOST_CALLS) (enters_walk (n + 1) (body_of g.base.program code) (values_in held) args) (w.breaking fault.Depth line))
     calls_walk line _ args = w.breaking fault.Mistyped line
 
-    for_each_from_walk : (line : ℕ) (f items : PlainValue) (index : ℕ) (xs : List PlainValue) → W (for_each_from g ev line f items index xs) (for_each_from g ev' line f items index xs)
+    pub for_each_from_walk : (line : ℕ) (f items : PlainValue) (index : ℕ) (xs : List PlainValue) → W (for_each_from g ev line f items index xs) (for_each_from g ev' line f items index xs)
     for_each_from_walk line f items index [] = leaves_walk
     for_each_from_walk line f items index (x ∷ xs) = bind _ _ (calls_walk line f (x ∷ v.whole (pos index) ∷ items ∷ [])) (λ y. for_each_from_walk line f items (suc index) xs)
 
@@ -221,7 +221,7 @@ module _ (g : Setting) (W : (State → Outcome) → (State → Outcome) → Type
     calls_method_walk line word (v.list xs) args = either (bytes_eq word (codes "forEach")) (for_each_call_walk line xs args) (applies_walk line (method_named word) (v.list xs) args)
     calls_method_walk line word x args = applies_walk line (method_named word) x args
 
-    combines_walk : (line : ℕ) (node : PlainNodeForm) (vs : List PlainValue) → W (combines g ev line node vs) (combines g ev' line node vs)
+    pub combines_walk : (line : ℕ) (node : PlainNodeForm) (vs : List PlainValue) → W (combines g ev line node vs) (combines g ev' line node vs)
     combines_walk line (p.number n) vs = gives_walk (v.whole n)
     combines_walk line (p.words text) vs = answered_walk line (made (v.words text))
     combines_walk line (p.truth b) vs = gives_walk (v.truth b)
@@ -254,18 +254,18 @@ module _ (g : Setting) (W : (State → Outcome) → (State → Outcome) → Type
     declares_walk kind x None = without_value_walk kind x
     declares_walk kind x (Some e) = bind _ _ (h e) (λ y. w.declaring x y)
 
-    declaration_walk : (kind : DeclareKind) (ds : List PlainDeclared) → W (does_declaration ev kind ds) (does_declaration ev' kind ds)
+    pub declaration_walk : (kind : DeclareKind) (ds : List PlainDeclared) → W (does_declaration ev kind ds) (does_declaration ev' kind ds)
     declaration_walk kind [] = leaves_walk
     declaration_walk kind (d ∷ ds) = bind _ _ (declares_walk kind d.variable d.value) (λ x. declaration_walk kind ds)
 
     if_else_walk : (test a b : ℕ) → W (does_if_else ev test a b) (does_if_else ev' test a b)
     if_else_walk test a b = bind _ _ (h test) (λ y. either (is_truthy y) (h a) (h b))
 
-    each_walk : (k body : ℕ) (vs : List PlainValue) → W (each ev k body vs) (each ev' k body vs)
+    pub each_walk : (k body : ℕ) (vs : List PlainValue) → W (each ev k body vs) (each ev' k body vs)
     each_walk k body [] = leaves_walk
     each_walk k body (y ∷ ys) = w.turning _ _ _ _ (w.changing k (Some y) (ev body) (ev' body) (h body)) (each_walk k body ys)
 
-    each_of_walk : (line k body : ℕ) (y : PlainValue) → W (each_of ev line k body y) (each_of ev' line k body y)
+    pub each_of_walk : (line k body : ℕ) (y : PlainValue) → W (each_of ev line k body y) (each_of ev' line k body y)
     each_of_walk line k body (v.list vs) = each_walk k body (values_in vs)
     each_of_walk line k body _ = w.breaking fault.Mistyped line
 

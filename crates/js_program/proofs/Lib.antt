@@ -2,3 +2,4 @@ pub mod Forms
 pub mod Order
 pub mod Nodes
 pub mod Bodies
+pub mod Crosses

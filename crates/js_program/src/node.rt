@@ -3,6 +3,7 @@
 use crate::builtin::Builtin;
 use js_data::{Text, Whole};
 use js_tree::{AssignOp, DeclareKind, Fix, Operator, Sign, Step};
+use std::sync::Arc;
 
 /// What a name that is read or declared stands for in its function. Names that are assigned or updated have slots.
 #[derive(Clone, Copy, Debug, PartialEq, Eq)]
@@ -24,7 +25,8 @@ pub struct Declared {
 #[derive(Debug)]
 pub enum NodeForm {
     Number(Whole),
-    Words(Text),
+    /// Shared, so that its value is one more owner of it.
+    Words(Arc<Text>),
     Truth(bool),
     Null,
     Undefined,

@@ -1,4 +1,4 @@
-use Rattle.std.proofs.Common.{ap, ◌∙◌}
+use Rattle.std.proofs.Common.{ap}
 use Rattle.js_value.specs.Value as v
 use Rattle.js_ops.specs.Made.{made}
 use Rattle.js_meaning.specs.State.{answered}
@@ -6,4 +6,4 @@ use Rattle.js_frames.proofs.Becoming.{becomes_as}
 use Rattle.js_frames.proofs.begin.literal.Goals as goal
 
 pub returns : goal.returns
-returns c = becomes_as _ _ c.answered.result (λ g s. ap (λ x. answered c.args.line (made x) s) (c.in_ok-value.ensures ∙ ap v.words c.in_ok-copied.ensures)) (c.answered.ensures _ c.made.ensures.answer)
+returns c = becomes_as _ _ c.answered.result (λ g s. ap (λ x. answered c.args.line (made x) s) (ap v.words c.in_ok-shared.ensures.cases)) (c.answered.ensures _ c.made.ensures.answer)
