@@ -7,11 +7,10 @@ use Rattle.js_data.proofs.SameEvent.{same_event-sound, same_event-self}
 use Rattle.js_value.specs.Value.{PlainSet}
 use Rattle.bp_run.specs.Selecting.{Live, requests, candidates}
 use Rattle.bp_run.specs.Choosing.{greater, priority_of}
-use Rattle.bp_select.specs.Gathering.{with_new, with_all}
 use Rattle.bp_select.specs.Priorities.{upper}
 use Rattle.bp_select.specs.Tops.{Top, events_of, raised, with_request, with_requests, with_live, HaveTops}
 use Rattle.bp_select.specs.Keys.{same_sym}
-use Rattle.bp_select.proofs.Gathered.{gathered, with_all-append}
+use Rattle.bp_select.proofs.Gathered.{with_new, with_all, gathered, with_all-append}
 use Rattle.bp_select.proofs.Remains.{upper_twice, upper_none, priority_at}
 
 -- ---- one request

@@ -2,7 +2,6 @@ pub mod Draws
 pub mod Lives
 pub mod Benches
 pub mod Answers
-pub mod Gathering
 pub mod Priorities
 pub mod Tops
 pub mod Feeding

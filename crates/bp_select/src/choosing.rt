@@ -30,7 +30,7 @@ fn keys<'a>(alloc: Global, candidates: &[Candidate<'a>]) -> Result<IndexSet<Key<
 }
 
 /// The first request of the b-thread that is among these events.
-fn first_among<'a>(events: &IndexSet<Key<'_>>, stated: &'a Stated) -> Option<&'a Event>
+fn first_among<'a>(events: &IndexSet<Key<'a>>, stated: &'a Stated) -> Option<&'a Event>
     ensures { option_map (λ e. e.now) result ≡ find (is_among events.now) (live_of stated.now).statement.request }
 {
     for request in stated.statement.request.as_slice() {
@@ -45,7 +45,7 @@ fn first_among<'a>(events: &IndexSet<Key<'_>>, stated: &'a Stated) -> Option<&'a
 fn firsts<'a>(
     alloc: Global,
     live: &'a [Stated],
-    events: &IndexSet<Key<'_>>,
+    events: &IndexSet<Key<'a>>,
 ) -> Result<IndexSet<Key<'a>>, Memory>
     ensures { (e : PlainEvent) → IfOk result (λ s. is_among s e ≡ list_any (is_first (is_among events.now) e) (map live_of live.now)) }
 {
@@ -61,16 +61,16 @@ fn firsts<'a>(
 /// Those of the candidates that are the first of some b-thread. Its only error is want of memory.
 fn ordered<'a>(
     alloc: Global,
-    live: &[Stated],
-    inner: Vec<Candidate<'a>>,
+    live: &'a [Stated],
+    inner: &[Candidate<'a>],
 ) -> Result<Vec<Candidate<'a>>, Memory>
-    ensures { let events = events_in inner.items in
+    ensures { let events = events_in inner.now in
         IfOk result (λ l. events_in l.items ≡ filter (λ e. list_any (is_first_of events e) (map live_of live.now)) events) }
 {
-    let events = keys(alloc, inner.as_slice())?;
+    let events = keys(alloc, inner)?;
     let firsts = firsts(alloc, live, &events)?;
     let mut kept = Vec::new(alloc);
-    for candidate in inner.as_slice() {
+    for candidate in inner {
         let first = firsts.contains(&Key { event: candidate.event });
         keep_if(&mut kept, first, candidate)?;
     }
@@ -115,14 +115,14 @@ fn at_most(left: Option<i64>, right: Option<i64>) -> bool
 }
 
 /// Those of the candidates whose priority is the greatest. Its only error is want of memory.
-fn greatest<'a>(alloc: Global, inner: Vec<Candidate<'a>>) -> Result<Vec<Candidate<'a>>, Memory>
-    ensures { let events = events_in inner.items in
-        (ts : List (Live PlainSet)) → HaveTops ts (tops_of inner.items) →
+fn greatest<'a>(alloc: Global, inner: &[Candidate<'a>]) -> Result<Vec<Candidate<'a>>, Memory>
+    ensures { let events = events_in inner.now in
+        (ts : List (Live PlainSet)) → HaveTops ts (tops_of inner.now) →
         IfOk result (λ l. events_in l.items ≡ filter (λ e. at_most (top_of ts events) (priority_of ts e)) events) }
 {
-    let top = top_of(inner.as_slice());
+    let top = top_of(inner);
     let mut kept = Vec::new(alloc);
-    for candidate in inner.as_slice() {
+    for candidate in inner {
         let reaches = at_most(top, Some(candidate.top));
         keep_if(&mut kept, reaches, candidate)?;
     }
@@ -133,15 +133,15 @@ fn greatest<'a>(alloc: Global, inner: Vec<Candidate<'a>>) -> Result<Vec<Candidat
 pub(crate) fn remaining<'a>(
     alloc: Global,
     strategy: Strategy,
-    live: &[Stated],
+    live: &'a [Stated],
     inner: Vec<Candidate<'a>>,
 ) -> Result<Vec<Candidate<'a>>, Memory>
     requires { HaveTops (map live_of live.now) (tops_of inner.items) }
-    ensures { IfOk result (λ l. events_in l.items ≡ remaining strategy (map live_of live.now) (events_in inner.items)) }
+    ensures { IfOk result (λ l. events_in l.items ≡ remaining strategy (map live_of live.now) (events_in inner.entry.items)) }
 {
     match strategy {
         Strategy::Simple => Ok(inner),
-        Strategy::Ordered => ordered(alloc, live, inner),
-        Strategy::Priority => greatest(alloc, inner),
+        Strategy::Ordered => ordered(alloc, live, inner.as_slice()),
+        Strategy::Priority => greatest(alloc, inner.as_slice()),
     }
 }

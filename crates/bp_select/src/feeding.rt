@@ -7,10 +7,10 @@ use js_data::{Data, Text};
 use std::hash::{Hash, Hasher};
 
 /// Feeds a truth value, a whole number or a text, and nothing else.
-fn feed_leaf<H: Hasher>(data: &Data, state: &mut H)
-    ensures { state.new ≡ fold H.write state.old (leaf_writes (plain_data data.now)) }
+fn feed_leaf<H: Hasher>(tree: &Data, state: &mut H)
+    ensures { state.new ≡ fold H.write state.old (leaf_writes (plain_data tree.now)) }
 {
-    match data {
+    match tree {
         Data::Truth(truth) => truth.hash(state),
         Data::Whole(number) => number.get().hash(state),
         Data::Words(text) => text.as_str().hash(state),
@@ -37,12 +37,12 @@ fn feed_fields<H: Hasher>(fields: &[(Text, Data)], state: &mut H)
 }
 
 /// Feeds the leaves of the data, down to those of its own parts.
-pub(crate) fn feed<H: Hasher>(data: &Data, state: &mut H)
-    ensures { state.new ≡ fold H.write state.old (data_writes (plain_data data.now)) }
+pub(crate) fn feed<H: Hasher>(tree: &Data, state: &mut H)
+    ensures { state.new ≡ fold H.write state.old (data_writes (plain_data tree.now)) }
 {
-    match data {
+    match tree {
         Data::List(items) => feed_items(items.as_slice(), state),
         Data::Fields(fields) => feed_fields(fields.as_slice(), state),
-        _ => feed_leaf(data, state),
+        _ => feed_leaf(tree, state),
     }
 }

@@ -48,7 +48,7 @@ fn copies(alloc: Global, candidates: &[Candidate<'_>]) -> Result<Vec<Event>, Mem
 impl<'a> Free<'a> {
     /// As a bench answers it. Its only error is want of memory.
     pub(crate) fn into_enabled(self, alloc: Global) -> Result<Enabled, Memory>
-        ensures { IfOk result (λ x. enabled_of x ≡ free_of self) }
+        ensures { IfOk result (λ x. enabled_of x ≡ free_of self.entry) }
     {
         match self {
             Free::Inner(candidates) => {
@@ -134,17 +134,17 @@ pub(crate) fn drawn(draw: &mut Draw, remaining: &[Candidate<'_>]) -> Result<Choi
 
 /// The event that is chosen of what can be selected. Its only error is want of memory, and then
 /// nothing was drawn.
-pub(crate) fn chosen(
+pub(crate) fn chosen<'a>(
     alloc: Global,
     strategy: Strategy,
-    live: &[Stated],
-    free: Free<'_>,
+    live: &'a [Stated],
+    free: Free<'a>,
     draw: &mut Draw,
 ) -> Result<Choice, Memory>
     requires words { draw.old.drawn + 1 < 2 ^ 64 }
     requires tops { IsOf (map live_of live.now) free }
     ensures chosen { IfOk result (λ c. (queue : List PlainEvent) → chosen_of queue draw.new.drawn c
-        ≡ chosen (draw_word draw.old.seed) strategy (map live_of live.now) queue draw.old.drawn (free_of free).inner (free_of free).outer) }
+        ≡ chosen (draw_word draw.old.seed) strategy (map live_of live.now) queue draw.old.drawn (free_of free.entry).inner (free_of free.entry).outer) }
     ensures seed { draw.new.seed ≡ draw.old.seed }
     ensures drawn { (draw.old.drawn ≤ draw.new.drawn) × (draw.new.drawn ≤ draw.old.drawn + 1) }
     ensures nothing { result ≡ Ok Choice.Nothing → draw.new ≡ draw.old }

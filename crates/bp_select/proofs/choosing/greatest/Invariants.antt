@@ -10,6 +10,6 @@ use Rattle.bp_select.proofs.choosing.greatest.Given as goal
 
 abbrev pub invariant-loop-candidate : goal.invariant-loop-candidate
 invariant-loop-candidate l =
-    (ts : List (Live PlainSet)) → HaveTops ts (tops_of l.inner.items) →
-    (let p = λ (e : PlainEvent). at_most (top_of ts (events_in l.inner.items)) (priority_of ts e) in
-    events_in l.kept.items ++ filter p (events_in (drop l.candidate-index l.inner.items)) ≡ filter p (events_in l.inner.items))
+    (ts : List (Live PlainSet)) → HaveTops ts (tops_of l.inner) →
+    (let p = λ (e : PlainEvent). at_most (top_of ts (events_in l.inner)) (priority_of ts e) in
+    events_in l.kept.items ++ filter p (events_in (drop l.candidate-index l.inner)) ≡ filter p (events_in l.inner))

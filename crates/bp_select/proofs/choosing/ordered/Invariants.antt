@@ -8,5 +8,5 @@ use Rattle.bp_select.proofs.choosing.ordered.Given as goal
 
 abbrev pub invariant-loop-candidate : goal.invariant-loop-candidate
 invariant-loop-candidate l =
-    let p = λ (e : PlainEvent). list_any (is_first_of (events_in l.inner.items) e) (map live_of l.live) in
-    events_in l.kept.items ++ filter p (events_in (drop l.candidate-index l.inner.items)) ≡ filter p (events_in l.inner.items)
+    let p = λ (e : PlainEvent). list_any (is_first_of (events_in l.inner) e) (map live_of l.live) in
+    events_in l.kept.items ++ filter p (events_in (drop l.candidate-index l.inner)) ≡ filter p (events_in l.inner)
