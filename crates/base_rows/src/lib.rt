@@ -4,6 +4,6 @@
 #[cfg(test)]
 mod base;
 #[cfg(test)]
-mod runs;
+mod lines;
 #[cfg(test)]
 mod words;

@@ -1,6 +1,9 @@
-pub mod Straight
-pub mod Standing
-pub mod Floor
-pub mod Following
-pub mod Stand
-pub mod Faults
+pub mod Calls
+pub mod Arbiters
+pub mod Sound
+pub mod Recording
+pub mod Runs
+pub mod Absorbing
+pub mod Picking
+pub mod Lending
+pub mod Sealing

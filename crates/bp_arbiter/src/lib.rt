@@ -1,20 +1,15 @@
-//! The run of a program: what is selected, who goes on, and what is recorded and printed of it.
+//! The arbiter: it picks which event comes next, records what happens, and tells the story of a run.
 //!
-//! So far it runs straight scripts alone, whose b-threads are lists of synchronisation points.
+//! An arbiter is a floor, the words of the random choice, the state of the injectors and the records.
+//! Its records are a story at any time; what its lines say is what the story says.
 #![tactic(auto)]
 
-mod choosing;
-mod floor;
-mod lines;
-mod next;
-mod pick;
-mod runner;
-mod running;
-mod step;
-mod thread;
+mod arbiter;
+mod numbers;
+mod picked;
+mod records;
+mod run;
 
-pub use floor::Floor;
-pub use next::{Next, Selection};
-pub use runner::{Picked, Runner};
-pub use running::{RunFault, run};
-pub use thread::Thread;
+pub use arbiter::Arbiter;
+pub use bp_floor::{Absorb, Floor, Phase};
+pub use picked::Picked;

@@ -1,4 +1,4 @@
--- The words of a command, and the notes that it ends with.
+-- The words of a command.
 use Rattle.std.specs.Prelude.{ℕ, Bool, true, false, ◌==◌, List, [], ◌∷◌, Option, Some, None, option_map, bytes_eq, codes, if◌then◌else◌}
 use Rattle.bp_cli.specs.declared.words.Verb.{Verb}
 
@@ -26,19 +26,3 @@ command_of (word ∷ []) = None
 command_of (word ∷ name ∷ []) =
     if is_name name then option_map (λ verb. record { verb = verb; name = name }) (verb_of word) else None
 command_of (word ∷ name ∷ other ∷ rest) = None
-
-abbrev pub name_of : Option PlainCommand → Option (List ℕ)
-name_of None = None
-name_of (Some c) = Some c.name
-
--- what a wrong command is told
-abbrev pub usage : List ℕ
-usage = codes "usage: bp run [OPTIONS] PROGRAM [INJECTOR]... | bp replay LOG | bp accept PROGRAM | bp large N"
-
--- the note of each status but that of a refused program
-abbrev pub note_of : ℕ → List ℕ
-note_of code =
-    if code == 1 then usage
-    else if code == 8 then codes "read fault"
-    else if code == 9 then codes "write fault"
-    else []

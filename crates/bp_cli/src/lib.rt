@@ -2,6 +2,8 @@
 #![tactic(auto)]
 
 mod commands;
+mod conclusion;
+mod programs;
 mod status;
 mod words;
 

@@ -1,8 +1,8 @@
-//! How a command ends.
-ghost use Rattle.std.specs.Prelude.{◌≡◌, ◌⊎◌, []};
-ghost use Rattle.bp_script.specs.Refusals.{note_of};
+//! What a command hands to the system.
+ghost use Rattle.std.specs.Prelude.{◌≡◌, ◌⊎◌};
+ghost use Rattle.bp_cli.specs.Conclusions.{IsStatusOf};
 
-use bp_script::Refusal;
+use crate::conclusion::Conclusion;
 use js_data::Text;
 use std::alloc::Global;
 
@@ -14,37 +14,20 @@ pub struct Status {
 }
 
 impl Status {
-    /// A status without a note.
-    pub(crate) fn plain(alloc: Global, code: u8) -> Status
-        ensures code { result.code ≡ code }
-        ensures note { result.note ≡ [] }
+    /// The status of a conclusion, or the one that says that no memory was left for its note.
+    pub(crate) fn of(alloc: Global, conclusion: &Conclusion) -> Status
+        ensures { IsStatusOf result.code result.note conclusion.now
+            ⊎ IsStatusOf result.code result.note Conclusion.NoMemory }
     {
-        Status {
-            code,
-            note: Text::new(String::new(alloc)),
-        }
-    }
-
-    /// A status with its note, or the one that says that memory is wanting.
-    pub(crate) fn noted(alloc: Global, code: u8, note: &str) -> Status
-        ensures { ((result.code ≡ code) × (result.note ≡ note.now)) ⊎ ((result.code ≡ 10) × (result.note ≡ [])) }
-    {
-        match note.to_string(alloc) {
-            Ok(text) => Status {
-                code,
-                note: Text::new(text),
+        match conclusion.note(alloc) {
+            Ok(note) => Status {
+                code: conclusion.code(),
+                note,
             },
-            Err(_) => Status::plain(alloc, 10),
-        }
-    }
-
-    /// The status of a refused program with the words for it, or the one that says that memory is wanting.
-    pub(crate) fn refused(alloc: Global, refusal: &Refusal) -> Status
-        ensures { ((result.code ≡ 2) × (result.note ≡ note_of refusal.now)) ⊎ ((result.code ≡ 10) × (result.note ≡ [])) }
-    {
-        match refusal.note(alloc) {
-            Ok(note) => Status { code: 2, note },
-            Err(_) => Status::plain(alloc, 10),
+            Err(_) => Status {
+                code: Conclusion::NoMemory.code(),
+                note: Text::new(String::new(alloc)),
+            },
         }
     }
 }

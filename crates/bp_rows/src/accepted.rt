@@ -1,6 +1,6 @@
 // What programs are accepted, and with which words others are refused.
 
-use crate::world::{Fails, NONE, bytes_of, fails_with, run_with, tells};
+use crate::world::{bytes_of, fails_with, tells};
 use std::test::Fail;
 
 /// A crossing: cars are counted, lights change, and jams are told.
@@ -68,8 +68,22 @@ const Math = 1 --> refused line 1: twice Math
 for (let i = 0; i < 3; i++) bp.registerBThread("t" + i, () => { bp.log.info(i) }) --> refused line 1: capture i
 return 1 --> refused line 1: return place
 if (true)\nbreak --> refused line 2: loop word
-switch (1) {} --> refused line 1: unsupported
+# --> refused line 1: character
+\n%0d\n%0d# --> refused line 4: character
+'abc --> refused line 1: open text
+1\n/* \n --> refused line 2: open text
+\n'\q\1' --> refused line 2: escape
+9007199254740992 --> refused line 1: number range
+let a = 1.5 --> refused line 1: unsupported
+1;\n`a` --> refused line 2: unsupported
+a;\nswitch (a) {} --> refused line 2: unsupported
+a &\n| b --> refused line 1: unsupported
+({__proto__: 1}) --> refused line 1: unsupported
+\n%ff --> refused line 2: utf-8
+'%c3 --> refused line 1: utf-8
 let a = 1 let b = 2 --> refused line 1: no tree
+const a --> refused line 1: no tree
+bp.sync({) --> refused line 1: no tree
 "#;
 
 #[test]
@@ -81,36 +95,5 @@ fn other_programs_are_refused_in_both_commands(rt: HostRuntime) -> Result<(), Fa
         fails_with(&rt, alloc, "accept|script.js", &script, 2, note)?;
         fails_with(&rt, alloc, "run|script.js", &script, 2, note)?;
     }
-    Ok(())
-}
-
-#[test]
-fn an_accepted_program_that_is_not_straight_does_not_run(rt: HostRuntime) -> Result<(), Fail> {
-    let script = CROSSING.as_bytes();
-    fails_with(
-        &rt,
-        rt.alloc(),
-        "run|script.js",
-        script,
-        2,
-        "refused: not yet",
-    )
-}
-
-#[test]
-fn accepting_meets_faults_as_running_does(rt: HostRuntime) -> Result<(), Fail> {
-    let read = Fails {
-        input: &[1],
-        ..NONE
-    };
-    let ran = run_with(&rt, rt.alloc(), "accept|script.js", b"", read)?;
-    assert_eq!(rt; ran.code, 8);
-    let write = Fails {
-        output: &[1],
-        ..NONE
-    };
-    let ran = run_with(&rt, rt.alloc(), "accept|script.js", b"", write)?;
-    assert_eq!(rt; ran.code, 9);
-    assert!(rt; ran.printed.is_empty());
     Ok(())
 }

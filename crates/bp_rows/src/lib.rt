@@ -4,7 +4,13 @@
 #[cfg(test)]
 mod accepted;
 #[cfg(test)]
-mod straight;
+mod limits;
+#[cfg(test)]
+mod outside;
+#[cfg(test)]
+mod runs;
+#[cfg(test)]
+mod verdicts;
 #[cfg(test)]
 mod words;
 #[cfg(test)]

@@ -43,7 +43,7 @@ pub fn run_words<R: Threads + Wait + Sync>(
     let mut world = MemoryWorld::new(alloc, 0, fails.world.to_vec(alloc)?);
     world.hold("script.js".to_string(alloc)?, script.to_vec(alloc)?)?;
     world.fail("script.js".to_string(alloc)?, fails.input.to_vec(alloc)?)?;
-    let mut out = MemorySink::new(alloc, 1_000_000, fails.output.to_vec(alloc)?)?;
+    let mut out = MemorySink::new(alloc, 2_000_000, fails.output.to_vec(alloc)?)?;
     let status = command(rt, alloc, words, &mut world, &mut out);
     Ok(Ran {
         code: status.code,
@@ -93,6 +93,27 @@ pub fn fails_with<R: Threads + Wait + Sync + Abort>(
     note: &str,
 ) -> Result<(), Fail> {
     tells(rt, alloc, words, script, (code, note, ""))
+}
+
+/// Each script of the table, run, prints its trace and ends with its status, without a note.
+///
+/// Between blank lines stand a line `# WHAT IS SHOWN`, the lines of a script, a line `--> STATUS`, and those of its trace.
+pub fn print_their_traces<R: Threads + Wait + Sync + Abort>(
+    rt: &R,
+    alloc: Global,
+    table: &str,
+) -> Result<(), Fail> {
+    for run in table.trim().split("\n\n") {
+        let (shown, rest) = run.split_once("\n").ok_or("no script")?;
+        let (script, rest) = rest.split_once("--> ").ok_or("no status")?;
+        let (code, trace) = rest.split_once("\n").ok_or("no trace")?;
+        let ran = run_with(rt, alloc, "run|script.js", script.as_bytes(), NONE)?;
+        assert_eq!(rt; ran.note.as_str(), "", "{shown}");
+        assert_eq!(rt; ran.code, code.parse::<u8>()?, "{shown}");
+        let printed = ran.printed.strip_suffix(b"\n").ok_or("no line end")?;
+        assert!(rt; printed == trace.as_bytes(), "{shown}");
+    }
+    Ok(())
 }
 
 /// The bytes of a cell, in which `\n` stands for a line end, and `%` and two digits for a byte.

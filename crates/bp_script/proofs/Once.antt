@@ -1,4 +1,4 @@
--- Bytes are at most one script, and none that are refused.
+-- Bytes are at most one program, and none that are refused.
 use Rattle.std.proofs.Common.{◌≡◌, ℕ, false, List, refl, ap, sym, ◌∙◌, subst, arith, inl, inr, Option, Some, None}
 use Rattle.js_lexer.specs.declared.token.Token.{Token}
 use Rattle.js_lexer.specs.declared.token.Flaw.{Flaw}
@@ -9,12 +9,10 @@ use Rattle.js_grammar.specs.Unsupported.{first_unsupported}
 use Rattle.js_grammar.proofs.Unique.{tree_once}
 use Rattle.js_program.specs.PlainProgram.{PlainProgram}
 use Rattle.js_resolver.specs.Resolved.{resolved, unless_fault, program_of_tree}
-use Rattle.js_straight.specs.declared.script.Straight.{Straight}
-use Rattle.js_straight.specs.Straight.{script_of}
 use Rattle.bp_script.specs.declared.refusal.Kind.{Kind}
 use Rattle.bp_script.specs.declared.refusal.Rule.{Rule}
 use Rattle.bp_script.specs.declared.refusal.Refusal.{Refusal}
-use Rattle.bp_script.specs.Programs.{AreCut, AreSpelled, AreAccepted, IsProgram, IsScript, HasFlaw, HasRefusedToken, IsNoText, HasNoSpelling, HasNameFault, BreaksRule, IsWrong, fault_of, IsBroken, IsOther, IsRefused, NeverBoth, NeverBothScript, OneProgram, EachIsProgram, OneScript}
+use Rattle.bp_script.specs.Programs.{AreCut, AreSpelled, AreAccepted, IsProgram, HasFlaw, HasRefusedToken, IsNoText, HasNoSpelling, HasNameFault, BreaksRule, IsWrong, fault_of, IsBroken, IsRefused, NeverBoth, OneProgram, EachIsProgram}
 use Rattle.js_names.specs.declared.place.NameFault.{NameFault}
 use Rattle.js_names.specs.Rules.{name_fault}
 
@@ -59,23 +57,9 @@ not_wrong bytes tree line Kind.ReturnPlace s h = no_breach bytes tree (NameFault
 not_wrong bytes tree line Kind.Slots s h = no_breach bytes tree (NameFault.Slots h.0) s h.1
 
 pub never : (bytes : List ℕ) → NeverBoth bytes
-never bytes tree Refusal.TooLong o s h = let short = ((s.spelled).cut).short in omega (arith, short, h)
-never bytes tree (Refusal.OnLine line kind) o s h = not_wrong bytes tree line kind s h
-never bytes tree (Refusal.OfName line rule text) o s h = no_breach bytes tree (fault_of rule h.0) s h.1
-never bytes tree Refusal.NotStraight o s h = absurd o
-
-pub never_script : (bytes : List ℕ) → NeverBothScript bytes
-never_script bytes script Refusal.TooLong s h = never bytes s.tree Refusal.TooLong tt s.accepted h
-never_script bytes script (Refusal.OnLine line kind) s h = never bytes s.tree (Refusal.OnLine line kind) tt s.accepted h
-never_script bytes script (Refusal.OfName line rule text) s h = never bytes s.tree (Refusal.OfName line rule text) tt s.accepted h
-never_script bytes script Refusal.NotStraight s h =
-    let same = same_tree bytes s.tree h.0 (s.accepted).spelled (h.1).spelled in
-    some_none script (sym s.straight ∙ ap (λ (t : List PlainItem). script_of t) same ∙ h.2)
-
-pub one_script : (bytes : List ℕ) → OneScript bytes
-one_script bytes a b s t =
-    let same = same_tree bytes s.tree t.tree (s.accepted).spelled (t.accepted).spelled in
-    let k : Some a ≡ Some b = sym s.straight ∙ ap (λ (x : List PlainItem). script_of x) same ∙ t.straight in cc
+never bytes tree Refusal.TooLong s h = let short = ((s.spelled).cut).short in omega (arith, short, h)
+never bytes tree (Refusal.OnLine line kind) s h = not_wrong bytes tree line kind s h
+never bytes tree (Refusal.OfName line rule text) s h = no_breach bytes tree (fault_of rule h.0) s h.1
 
 pub one_program : (bytes : List ℕ) → OneProgram bytes
 one_program bytes a b p q =

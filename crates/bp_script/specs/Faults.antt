@@ -1,4 +1,4 @@
--- What reading a script refuses.
+-- What reading a program refuses.
 use Rattle.std.specs.Prelude.{ℕ, List}
 use Rattle.js_parser.specs.declared.fault.ParseFault.{ParseFault}
 use Rattle.js_names.specs.declared.place.NameFault.{NameFault}
@@ -7,16 +7,11 @@ use Rattle.bp_script.specs.declared.refusal.Kind.{Kind}
 use Rattle.bp_script.specs.declared.refusal.Rule.{Rule}
 use Rattle.bp_script.specs.declared.refusal.Refusal.{Refusal}
 use Rattle.bp_script.specs.declared.reading.ScriptFault.{ScriptFault}
-use Rattle.bp_script.specs.Programs.{IsOther, IsRefused}
+use Rattle.bp_script.specs.Programs.{IsRefused}
 
 abbrev pub IsScriptFault : List ℕ → ScriptFault → Type 0
 IsScriptFault bytes (ScriptFault.Refused refusal) = IsRefused bytes refusal
 IsScriptFault bytes ScriptFault.Memory = Unit {0}
-
--- a program is refused, and for another cause than that it is not straight
-abbrev pub IsProgramFault : List ℕ → ScriptFault → Type 0
-IsProgramFault bytes (ScriptFault.Refused refusal) = IsOther refusal × IsRefused bytes refusal
-IsProgramFault bytes ScriptFault.Memory = Unit {0}
 
 abbrev pub fault_of_parse : ParseFault → ScriptFault
 fault_of_parse (ParseFault.Unsupported line) = ScriptFault.Refused (Refusal.OnLine line Kind.Unsupported)

@@ -16,8 +16,6 @@ use Rattle.js_names.specs.Rules.{name_fault}
 use Rattle.js_parser.specs.Parse.{IsLineIn}
 use Rattle.js_program.specs.PlainProgram.{PlainProgram}
 use Rattle.js_resolver.specs.Resolved.{resolved}
-use Rattle.js_straight.specs.declared.script.Straight.{Straight}
-use Rattle.js_straight.specs.Straight.{script_of}
 use Rattle.bp_script.specs.declared.refusal.Kind.{Kind}
 use Rattle.bp_script.specs.declared.refusal.Rule.{Rule}
 use Rattle.bp_script.specs.declared.refusal.Refusal.{Refusal}
@@ -45,12 +43,6 @@ pub record IsProgram (bytes : List ℕ) (program : PlainProgram) : Type 0 where
   pub tree : List PlainItem
   pub accepted : AreAccepted bytes tree
   pub is_resolved : resolved tree ≡ Some program
-
--- the tree is this straight script
-pub record IsScript (bytes : List ℕ) (script : List Straight) : Type 0 where
-  pub tree : List PlainItem
-  pub accepted : AreAccepted bytes tree
-  pub straight : script_of tree ≡ Some script
 
 -- the first place that is no token has this flaw, on this line
 abbrev pub HasFlaw : List ℕ → Flaw → ℕ → Type 0
@@ -103,15 +95,10 @@ abbrev pub IsRefused : List ℕ → Refusal → Type 0
 IsRefused bytes Refusal.TooLong = 1048576 < length bytes
 IsRefused bytes (Refusal.OnLine line kind) = IsWrong bytes line kind
 IsRefused bytes (Refusal.OfName line rule text) = IsBroken bytes line rule text
-IsRefused bytes Refusal.NotStraight = (tree : List PlainItem) × AreAccepted bytes tree × (script_of tree ≡ None)
 
--- but for what is no straight script, no bytes are both accepted and refused
-abbrev pub IsOther : Refusal → Type 0
-IsOther Refusal.NotStraight = ⊥
-IsOther _ = Unit {0}
-
+-- no bytes are both accepted and refused
 abbrev pub NeverBoth : List ℕ → Type 0
-NeverBoth bytes = (tree : List PlainItem) (refusal : Refusal) → IsOther refusal → AreAccepted bytes tree → ¬ (IsRefused bytes refusal)
+NeverBoth bytes = (tree : List PlainItem) (refusal : Refusal) → AreAccepted bytes tree → ¬ (IsRefused bytes refusal)
 
 -- the bytes are one program
 abbrev pub OneProgram : List ℕ → Type 0
@@ -120,10 +107,3 @@ OneProgram bytes = (a b : PlainProgram) → IsProgram bytes a → IsProgram byte
 -- and each accepted tree is a program
 abbrev pub EachIsProgram : List ℕ → Type 0
 EachIsProgram bytes = (tree : List PlainItem) → AreAccepted bytes tree → (program : PlainProgram) × IsProgram bytes program
-
--- no bytes are both a script and refused, nor two scripts
-abbrev pub NeverBothScript : List ℕ → Type 0
-NeverBothScript bytes = (script : List Straight) (refusal : Refusal) → IsScript bytes script → ¬ (IsRefused bytes refusal)
-
-abbrev pub OneScript : List ℕ → Type 0
-OneScript bytes = (a b : List Straight) → IsScript bytes a → IsScript bytes b → a ≡ b

@@ -33,4 +33,3 @@ abbrev pub note_of : Refusal → List ℕ
 note_of Refusal.TooLong = codes "refused: too long"
 note_of (Refusal.OnLine line kind) = line_note line (kind_name kind)
 note_of (Refusal.OfName line rule name) = named_note line (rule_name rule) name
-note_of Refusal.NotStraight = codes "refused: not yet"

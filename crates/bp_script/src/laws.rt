@@ -1,12 +1,10 @@
 //! Laws of what the bytes of a program are.
-ghost use Rattle.bp_script.specs.Programs.{NeverBoth, NeverBothScript, OneProgram, EachIsProgram, OneScript};
+ghost use Rattle.bp_script.specs.Programs.{NeverBoth, OneProgram, EachIsProgram};
 
-/// Laws of reading: no bytes are both accepted and refused, nor both a script and refused; accepted bytes are a
-/// program, and the bytes of one text are one program and one script.
+/// Laws of reading: no bytes are both accepted and refused; accepted bytes are a program, and the bytes of one
+/// text are one program.
 pub fn read_one_way(bytes: &[u8])
     ensures never_both { NeverBoth bytes.now }
-    ensures never_both_script { NeverBothScript bytes.now }
     ensures one_program { OneProgram bytes.now }
     ensures each_is_program { EachIsProgram bytes.now }
-    ensures one_script { OneScript bytes.now }
 {}

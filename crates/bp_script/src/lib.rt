@@ -1,4 +1,4 @@
-//! What the bytes of a program are: a straight script, or refused, and with which words.
+//! What the bytes of a program are: an accepted program, or refused, and with which words.
 #![tactic(auto)]
 
 mod laws;
@@ -6,5 +6,5 @@ mod reading;
 mod refusal;
 
 pub use laws::read_one_way;
-pub use reading::{ScriptFault, accept, read_script};
+pub use reading::{ScriptFault, accept};
 pub use refusal::{Kind, Refusal, Rule};

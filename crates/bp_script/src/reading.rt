@@ -1,23 +1,22 @@
-//! Bytes read as a program, and as a straight script.
+//! Bytes read as a program.
 ghost use Rattle.std.specs.Prelude.{◌≡◌, ◌≤◌, ◌<◌, length, IfOk, IfErr};
 ghost use Rattle.js_lexer.specs.Gaps.{line_of};
 ghost use Rattle.js_lexer.specs.Lexed.{IsRefusal};
 ghost use Rattle.js_tree.specs.Views.{plain_tree};
-ghost use Rattle.bp_script.specs.Programs.{AreSpelled, AreAccepted, IsProgram, IsScript};
-ghost use Rattle.bp_script.specs.Faults.{IsScriptFault, IsProgramFault, fault_of_parse, fault_of_names, of_name, of_line};
+ghost use Rattle.bp_script.specs.Programs.{AreSpelled, IsProgram};
+ghost use Rattle.bp_script.specs.Faults.{IsScriptFault, fault_of_parse, fault_of_names, of_name, of_line};
 
 use crate::refusal::{Kind, Refusal, Rule};
 use js_lexer::{LexFault, lex, line_at};
-use js_names::{NameFault, check_names};
+use js_names::NameFault;
 use js_parser::{ParseFault, parse};
 use js_program::Program;
 use js_resolver::resolve;
-use js_straight::{Script, script_of};
 use js_tree::{Name, Tree};
 use std::alloc::{AllocError, Global};
 use thiserror::Error;
 
-/// Why bytes were not read as a program or as a straight script.
+/// Why bytes were not read as a program.
 #[derive(Debug, Drop, Error)]
 pub enum ScriptFault {
     /// They are refused.
@@ -52,7 +51,7 @@ fn on_line(bytes: &[u8], place: u32, kind: Kind) -> ScriptFault
 fn no_tokens(bytes: &[u8], fault: LexFault) -> ScriptFault
     requires size { length bytes.now ≤ 1048576 }
     requires refusal { IsRefusal bytes.now fault }
-    ensures { IsProgramFault bytes.now result }
+    ensures { IsScriptFault bytes.now result }
 {
     match fault {
         LexFault::Character(place) => on_line(bytes, place, Kind::Character),
@@ -112,7 +111,7 @@ fn no_names(fault: NameFault) -> ScriptFault
 fn tree_of(alloc: Global, bytes: &[u8]) -> Result<Tree, ScriptFault>
     requires { length bytes.now ≤ 1048576 }
     ensures tree { IfOk result (λ t. AreSpelled bytes.now (plain_tree t)) }
-    ensures refused { IfErr result (IsProgramFault bytes.now) }
+    ensures refused { IfErr result (IsScriptFault bytes.now) }
 {
     let tokens = match lex(alloc, bytes) {
         Ok(tokens) => tokens,
@@ -127,7 +126,7 @@ fn tree_of(alloc: Global, bytes: &[u8]) -> Result<Tree, ScriptFault>
 /// The tree that the bytes spell.
 fn short_tree_of(alloc: Global, bytes: &[u8]) -> Result<Tree, ScriptFault>
     ensures tree { IfOk result (λ t. AreSpelled bytes.now (plain_tree t)) }
-    ensures refused { IfErr result (IsProgramFault bytes.now) }
+    ensures refused { IfErr result (IsScriptFault bytes.now) }
 {
     if bytes.len() > 1_048_576 {
         return Err(ScriptFault::Refused(Refusal::TooLong));
@@ -139,44 +138,15 @@ fn short_tree_of(alloc: Global, bytes: &[u8]) -> Result<Tree, ScriptFault>
 ///
 /// # Errors
 ///
-/// `Refused` exactly where the bytes are refused so, and never as `NotStraight`; bytes are never both accepted
-/// and refused (`read_one_way`).
+/// `Refused` exactly where the bytes are refused so; bytes are never both accepted and refused (`read_one_way`).
 #[tactic(auto, using(crate::proofs::Programs::spelled, crate::proofs::Programs::program_is))]
 pub fn accept(alloc: Global, bytes: &[u8]) -> Result<Program, ScriptFault>
     ensures program { IfOk result (IsProgram bytes.now) }
-    ensures refused { IfErr result (IsProgramFault bytes.now) }
+    ensures refused { IfErr result (IsScriptFault bytes.now) }
 {
     let tree = short_tree_of(alloc, bytes)?;
     match resolve(alloc, &tree) {
         Ok(program) => Ok(program),
         Err(fault) => Err(no_names(fault)),
-    }
-}
-
-/// The tree of an accepted program.
-fn accepted_tree(alloc: Global, bytes: &[u8]) -> Result<Tree, ScriptFault>
-    ensures accepted { IfOk result (λ t. AreAccepted bytes.now (plain_tree t)) }
-    ensures refused { IfErr result (IsProgramFault bytes.now) }
-{
-    let tree = short_tree_of(alloc, bytes)?;
-    match check_names(alloc, &tree) {
-        Ok(_) => Ok(tree),
-        Err(fault) => Err(no_names(fault)),
-    }
-}
-
-/// The straight script that the bytes are.
-///
-/// # Errors
-///
-/// `Refused` exactly where the bytes are refused so; bytes are never both (`read_one_way`).
-pub fn read_script(alloc: Global, bytes: &[u8]) -> Result<Script, ScriptFault>
-    ensures script { IfOk result (IsScript bytes.now) }
-    ensures refused { IfErr result (IsScriptFault bytes.now) }
-{
-    let tree = accepted_tree(alloc, bytes)?;
-    match script_of(alloc, &tree)? {
-        Some(script) => Ok(script),
-        None => Err(ScriptFault::Refused(Refusal::NotStraight)),
     }
 }

@@ -86,8 +86,6 @@ pub enum Refusal {
     OnLine(u32, Kind),
     /// The rule that this name breaks, on this line from 1.
     OfName(u32, Rule, Text),
-    /// It is accepted, and is no straight script.
-    NotStraight,
 }
 
 impl Refusal {
@@ -104,7 +102,6 @@ impl Refusal {
                 rule.name(),
                 name.as_str(),
             ),
-            Refusal::NotStraight => text_of(alloc, "refused: not yet"),
         }
     }
 }

@@ -1,17 +1,17 @@
 -- A job that was carried on stands for its body as before.
 use Rattle.std.proofs.lemmas.List.{append_assoc}
 use Rattle.std.proofs.lemmas.List.Sums.{fold-append}
-use Rattle.std.proofs.Common.{◌≡◌, ℕ, ◌+◌, Bool, false, true, List, [], ◌∷◌, ◌++◌, Option, Some, None, IsSome, is_some, option_map, refl, sym, ap, subst, ◌∙◌, fold}
+use Rattle.std.proofs.Common.{◌≡◌, ℕ, ◌+◌, Bool, false, true, List, [], ◌∷◌, ◌++◌, Option, Some, None, IsSome, IsTrue, ◌↔◌, is_some, option_map, refl, sym, ap, subst, ◌∙◌, fold}
 use Rattle.js_data.specs.Event.{PlainEvent}
 use Rattle.js_value.specs.Value.{PlainValue, PlainSet}
 use Rattle.js_meaning.specs.State as js
-use Rattle.js_meaning.specs.State.{Ground, Effect, State, Left, effects_of, effects_since}
+use Rattle.js_meaning.specs.State.{Ground, Effect, left_by, effects_of, effects_since}
 use Rattle.js_meaning.specs.Bodies.{Origin, evaluation, constants_left}
 use Rattle.js_frames.specs.declared.machine.Machine.{Machine}
 use Rattle.js_frames.specs.declared.machine.Pause.{Pause}
 use Rattle.js_frames.specs.declared.machine.Pause.TheVariants as pause
 use Rattle.js_frames.specs.Places.{plain_effects}
-use Rattle.js_frames.specs.Runs.{Stands, Runs, Says, Waits, untaken, asked_by, line_asked, constants_by}
+use Rattle.js_frames.specs.Runs.{Stands, Runs, Says, Waits, IsReached, untaken, asked_by, line_asked, constants_by}
 use Rattle.bp_run.specs.Bodies as run
 use Rattle.bp_meaning.specs.After.{outcome_of, stopped_with, handler_after}
 use Rattle.bp_thread.specs.declared.job.Job.{Job}
@@ -35,13 +35,22 @@ module _ (o : js.Outcome) (begun more nodes budget : ℕ) (effects : List Effect
   paused pause.Spent a = (sym (ap outcome_of a.is), ap effects_of a.is ∙ a.made)
 
   -- where there is no outcome, the machine waits for the next slice
-  pub waits : (p : Pause) → Says p o begun more nodes budget effects m → is_some (outcome_of_pause p (asked_by m) (line_asked m)) ≡ false → Waits begun more nodes budget
+  pub waits : (p : Pause) → Says p o begun more nodes budget effects m → is_some (outcome_of_pause p (asked_by m) (line_asked m)) ≡ false → Waits o begun more nodes budget
   waits pause.More a h = a
   waits pause.AtSync a h = absurd (true_false (rw (a.asked, a.at_line) at h))
   waits pause.Ended a h = absurd (true_false h)
   waits (pause.Broken fault line) a h = absurd (true_false h)
   waits (pause.Violated text) a h = absurd (true_false h)
   waits pause.Spent a h = absurd (true_false h)
+
+  -- where there is an outcome, all nodes of the body have begun
+  pub reached : (p : Pause) → IsReached p o (begun + more) budget → is_some (outcome_of_pause p (asked_by m) (line_asked m)) ≡ true → (left_by o).fuel + (begun + more) ≡ budget
+  reached pause.More a h = absurd (false_true h)
+  reached pause.AtSync a h = a
+  reached pause.Ended a h = a
+  reached (pause.Broken fault line) a h = a
+  reached (pause.Violated text) a h = a
+  reached pause.Spent a h = a
 
   stop_is_no_end : (s : Option (run.Statement PlainSet)) (line : ℕ) → is_ended (Some (stopped_with s line)) ≡ true → ⊥
   stop_is_no_end None line h = false_true h
@@ -59,6 +68,10 @@ module _ (o : js.Outcome) (begun more nodes budget : ℕ) (effects : List Effect
 pub some_outcome : (o : Option Outcome) → is_some (option_map plain_outcome o) ≡ is_some o
 some_outcome None = refl
 some_outcome (Some x) = refl
+
+-- done exactly where the outcome is there
+pub done_is_outcome : (o : Option Outcome) (done : Bool) → done ≡ is_some o → IsTrue done ↔ IsSome (option_map plain_outcome o)
+done_is_outcome o done is = (λ h. some_outcome o ∙ sym is ∙ h, λ h. is ∙ sym (some_outcome o) ∙ h)
 
 -- the second machine is the first one without its effects
 pub record Taken (m n : Machine) (fresh : List Effect) : Type 0 where
@@ -103,6 +116,7 @@ module _ (base : Ground) (budget nodes : ℕ) (old new : Job) (p : Pause) (m n :
               (t.constants ∙ constants_kept o begun runs.more nodes budget (made ++ untaken m) m p runs.says (sym (ap is_ended at_pause) ∙ ended));
         };
         waits = λ still. waits o begun runs.more nodes budget (made ++ untaken m) m p runs.says (sym (ap is_some at_pause) ∙ sym is ∙ still);
+        reached = λ ended. reached o begun runs.more nodes budget (made ++ untaken m) m p runs.reached (sym (ap is_some at_pause) ∙ sym is ∙ ended);
       }
 
 pub still_whole : (base : Ground) (budget nodes : ℕ) (old new : Job) → new.origin ≡ old.origin → new.replies ≡ old.replies → (w : IsWhole base budget old) (done : Bool) →

@@ -1,5 +1,5 @@
 -- What a job stands for, over plain variables.
-use Rattle.std.proofs.Common.{◌≡◌, ℕ, List, [], ◌∷◌, ◌++◌, Bool, true, false, Option, Some, None, IsSome, map, fold, option_map, refl, sym, ap, ◌∙◌}
+use Rattle.std.proofs.Common.{◌≡◌, ℕ, List, [], ◌∷◌, ◌++◌, Bool, true, false, Option, Some, None, IsSome, IsTrue, ◌↔◌, map, fold, option_map, refl, sym, ap, ◌∙◌}
 use Rattle.std.proofs.lemmas.List.{append_cancel_left}
 use Rattle.js_value.specs.Value.{PlainValue, PlainSet}
 use Rattle.js_meaning.specs.State as js
@@ -19,6 +19,11 @@ same_machine m a b e f = cc
 
 pub false_true : false ≡ true → ⊥
 false_true h = cc
+
+-- a slice that is not done leaves no outcome
+pub still_open : {A : Type 0} (o : Option A) → (IsTrue false ↔ IsSome o) → o ≡ None
+still_open None h = refl
+still_open (Some x) h = absurd (false_true (h.1 refl))
 
 -- an outcome that is there is that of the evaluation, and all of its effects were made
 pub outcome_there : (e : js.Outcome) (made : List Effect) (o : Option (run.Outcome PlainSet)) → IsOutcome e made o → IsSome o → (o ≡ Some (outcome_of e)) × (effects_of e ≡ made)

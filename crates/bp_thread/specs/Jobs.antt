@@ -5,7 +5,7 @@ use Rattle.js_value.specs.Value.{PlainValue, PlainSet}
 use Rattle.js_value.specs.Views.{plain_value}
 use Rattle.js_program.specs.PlainProgram.{PlainProgram}
 use Rattle.js_meaning.specs.State as js
-use Rattle.js_meaning.specs.State.{Ground, Effect, effects_of, effects_since}
+use Rattle.js_meaning.specs.State.{Ground, Effect, left_by, effects_of, effects_since}
 use Rattle.js_meaning.specs.Bodies.{Origin, evaluation, constants_left}
 use Rattle.js_frames.specs.declared.machine.Machine.{Machine}
 use Rattle.js_frames.specs.Places.{plain_effects}
@@ -94,11 +94,13 @@ pub record IsSame (old new : PlainJob) : Type 0 where
   pub origin : new.origin ≡ old.origin
   pub replies : new.replies ≡ old.replies
 
--- One slice of a job: at most so many nodes began; where the outcome is not there, exactly so many, another must begin, and there is budget.
+-- One slice of a job: at most so many nodes began. Where the outcome is not there, just so many began, another must begin, and budget is left;
+-- where it is there, the body has begun all of its nodes since its start or its last reply.
 pub record Sliced (base : Ground) (budget begun : ℕ) (made : List Effect) (nodes : ℕ) (done : Bool) (old new : Job) : Type 0 where
   pub more : ℕ
   pub few : more ≤ nodes
   pub fresh : List Effect
   pub effects : plain_effects new.effects ≡ plain_effects old.effects ++ fresh
   pub stands : StandsAt base budget (begun + more) (made ++ fresh) new
-  pub waits : done ≡ false → Waits begun more nodes budget
+  pub waits : done ≡ false → Waits (evaluation base budget (plain_origin old.origin) old.replies) begun more nodes budget
+  pub reached : done ≡ true → let o = evaluation base budget (plain_origin old.origin) old.replies in (left_by o).fuel + (begun + more) ≡ budget

@@ -1,10 +1,52 @@
--- Grounds may cross threads.
+-- Grounds, machines and effects may cross threads.
+use denote.RattleType.{RattleType}
+use denote.Struct.Tuple.{Tuple, tuple_type}
+use denote.Struct.Field.{row_field}
 use denote.Param.Send.{IsSend, IsSync, sendable}
-use Rattle.std.proofs.Crossing.{crosses}
-use Rattle.js_program.proofs.Crosses.{program_send, program_sync}
-use Rattle.js_value.proofs.Crosses.{value_send, value_sync}
+use denote.Param.SendFields.{declared_send, variants_send, as_row_send}
+use mathlib.Core.List.{[], ◌∷◌}
+use Rattle.std.proofs.Crossing.{crosses, Vec-send, send as heap_send}
+use Rattle.js_data.specs.contracts.text.Text as Text
+use Rattle.js_data.specs.contracts.event.Event as Event
+use Rattle.js_data.specs.contracts.data.Data as Data
+use Rattle.js_data.specs.contracts.whole.Whole as Whole
+use Rattle.js_data.proofs.fault.Fault.TheSendSync as fault
+use Rattle.js_data.proofs.whole.Whole.TheSendSync as whole
+use Rattle.js_data.proofs.data.Data.TheLaws.TheKnot as data_knot
+use Rattle.js_program.proofs.builtin.Mode.TheSendSync as mode
+use Rattle.js_program.proofs.node.Variable.TheSendSync as variable
+use Rattle.js_program.proofs.Crosses.{text_send, program_send, program_sync}
+use Rattle.js_value.proofs.op.Op.TheSendSync as op
+use Rattle.js_value.proofs.Crosses.{items_send, value_send, value_sync}
+use Rattle.js_frames.specs.contracts.effect.Effects as Effects
+use Rattle.js_frames.specs.contracts.engine.Engine as Engine
+use Rattle.js_frames.specs.contracts.frame.Frame as Frame
+use Rattle.js_frames.specs.contracts.frame.Part as Part
+use Rattle.js_frames.specs.contracts.frame.Turns as Turns
+use Rattle.js_frames.specs.contracts.frame.Turn as Turn
+use Rattle.js_frames.specs.contracts.frame.Sequence as Sequence
+use Rattle.js_frames.specs.contracts.frame.Walk as Walk
+use Rattle.js_frames.specs.contracts.step.Completion as Completion
 use Rattle.js_frames.specs.contracts.ground.Ground as Ground
+use Rattle.js_frames.specs.contracts.machine.Machine as Machine
+use Rattle.js_frames.specs.contracts.machine.Pending as Pending
 use Rattle.js_frames.specs.contracts.slots.Slots as Slots
+use Rattle.js_frames.specs.contracts.step.Step as Step
+use Rattle.js_frames.specs.contracts.values.Values as Values
+
+whole_send : IsSend Whole.the_row
+whole_send = search (sendable, whole.the_send)
+
+pair_send : (h : RattleType) → IsSend h → IsSend (Tuple (Text.the_row ∷ h ∷ []))
+pair_send h s = declared_send (tuple_type (Text.the_row ∷ h ∷ [])) (as_row_send (row_field Text.the_row) text_send, (as_row_send (row_field h) s, tt))
+
+data_send : IsSend (Data.the_field).row
+data_send = data_knot.send-Data (search sendable) (search (sendable, whole_send)) (search (sendable, text_send)) Vec-send (λ h s. Vec-send _ (pair_send h s))
+
+pub event_send : IsSend Event.the_row
+event_send = search (sendable, crosses, data_send, text_send) depth 18
+
+-- ---- grounds
 
 slots_send : IsSend Slots.the_row
 slots_send = search (sendable, crosses, value_send) depth 18
@@ -17,3 +59,44 @@ ground_send = search (sendable, crosses, program_send, slots_send) depth 18
 
 pub ground_sync : IsSync Ground.the_row
 ground_sync = search (sendable, crosses, program_sync, slots_sync) depth 18
+
+-- ---- machines
+
+turns_send : IsSend Turns.the_row
+turns_send = search sendable depth 18
+
+sequence_send : IsSend Sequence.the_row
+sequence_send = search sendable depth 18
+
+walk_send : IsSend Walk.the_row
+walk_send = search (sendable, crosses, items_send) depth 18
+
+turn_send : IsSend Turn.the_row
+turn_send = search (sendable, turns_send, items_send) depth 18
+
+completion_send : IsSend Completion.the_row
+completion_send = search (sendable, value_send) depth 18
+
+values_send : IsSend Values.the_row
+values_send = search (sendable, crosses, value_send) depth 18
+
+part_send : IsSend Part.the_row
+part_send = variants_send Part.enum ((search sendable, tt), ((search sendable, (search (sendable, value_send), tt)), ((search sendable, (values_send, tt)), ((search sendable, tt), ((search sendable, tt), ((search sendable, (search sendable, tt)), ((search sendable, tt), ((search sendable, (search sendable, tt)), ((search (sendable, op.the_send), (search (sendable, value_send), (search sendable, (search sendable, tt)))), ((search sendable, (search (sendable, variable.the_send), (search sendable, tt))), (tt, (tt, ((sequence_send, (search sendable, tt)), ((turns_send, tt), ((turns_send, tt), ((turns_send, tt), ((search sendable, (search sendable, (search sendable, tt))), ((walk_send, tt), tt))))))))))))))))))
+
+frame_send : IsSend Frame.the_row
+frame_send = variants_send Frame.enum ((part_send, tt), ((turn_send, tt), ((slots_send, (search sendable, tt)), tt)))
+
+pub effects_send : IsSend Effects.the_row
+effects_send = search (sendable, crosses, event_send, text_send, value_send) depth 18
+
+engine_send : IsSend Engine.the_row
+engine_send = declared_send Engine.the_type (search (sendable, heap_send), (search (sendable, mode.the_send), (Vec-send _ frame_send, (slots_send, (search (sendable, slots_send) depth 18, (search sendable, (search sendable, (search sendable, (effects_send, tt)))))))))
+
+step_send : IsSend Step.the_row
+step_send = search (sendable, completion_send, text_send, value_send, fault.the_send) depth 40 fits 20000
+
+pending_send : IsSend Pending.the_row
+pending_send = variants_send Pending.enum ((step_send, tt), ((event_send, tt), tt))
+
+pub machine_send : IsSend Machine.the_row
+machine_send = declared_send Machine.the_type (engine_send, (search (sendable, pending_send) depth 18, tt))

@@ -24,7 +24,7 @@ mod slots;
 mod step;
 mod values;
 
-pub use crossing::ground_crosses;
+pub use crossing::{ground_crosses, machine_moves};
 pub use effect::{Effect, Effects};
 pub use ground::Ground;
 pub use machine::{Machine, Pause};

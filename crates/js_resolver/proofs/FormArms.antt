@@ -3,6 +3,8 @@ use Rattle.std.proofs.Common.{◌≡◌, ℕ, ◌+◌, List, [], ◌∷◌, ◌�
 use Rattle.std.specs.Prelude.{Vec, Result, Ok, Err, IfOk}
 use Rattle.std.specs.declared.alloc.Global.{Global}
 use Rattle.std.specs.declared.boxed.Box.{Box}
+use Rattle.std.specs.declared.sync.Arc.{Arc}
+use Rattle.std.specs.Arc.{arc_value}
 use Rattle.js_tree.specs.declared.tree.Name.{Name}
 use Rattle.js_tree.specs.declared.tree.Spot.{Spot}
 use Rattle.js_tree.specs.declared.tree.Sign.{Sign}
@@ -36,10 +38,10 @@ pub number_arm : (ps : List Place) (a : Emitter) (f : Form) (k : _) → f ≡ Nu
 unfolding form_parts
 number_arm ps a f k h = forms_expr ps a a (N.Number k) [] (p.number k) (plain_form f) (sym (ap plain_form h ∙ number_is k)) (emits_none a) refl
 
-pub words_arm : (ps : List Place) (a : Emitter) (f : Form) (k : _) → f ≡ Words k
-    → FormsExpr ps a a (N.Words k) (plain_form f)
+pub words_arm : (ps : List Place) (a : Emitter) (f : Form) (k : _) (s : Arc (List ℕ) Global) → f ≡ Words k → arc_value s ≡ k
+    → FormsExpr ps a a (N.Words s) (plain_form f)
 unfolding form_parts
-words_arm ps a f k h = forms_expr ps a a (N.Words k) [] (p.words k) (plain_form f) (sym (ap plain_form h ∙ words_is k)) (emits_none a) refl
+words_arm ps a f k s h e = forms_expr ps a a (N.Words s) [] (p.words k) (plain_form f) (sym (ap plain_form h ∙ words_is k)) (emits_none a) (ap n.words e)
 
 pub truth_arm : (ps : List Place) (a : Emitter) (f : Form) (k : _) → f ≡ Truth k
     → FormsExpr ps a a (N.Truth k) (plain_form f)

@@ -2,6 +2,7 @@
 #![tactic(auto)]
 
 ghost use Rattle.std.specs.Prelude.{◌≡◌, ◌∷◌, ◌≤◌, [], IfOk, OnOk, length, map};
+ghost use Rattle.std.specs.Arc.{arc_value};
 ghost use Rattle.js_tree.specs.Plain as t;
 ghost use Rattle.js_tree.specs.Plain.{exprs_of, fields_of, stmts_of};
 ghost use Rattle.js_tree.specs.Views.{plain_expr, plain_field, plain_form, plain_start, plain_stmt, plain_item};
@@ -21,6 +22,7 @@ use js_names::{called_builtin, is_undefined, value_builtin};
 use js_program::{Builtin, Content, Declared, NodeForm};
 use js_tree::{Declarator, Expr, Field, Form, Item, Name, Operator, Spot, Start, Stmt, StmtForm};
 use std::alloc::{AllocError, Global};
+use std::sync::Arc;
 
 // The form of a name that is read.
 fn read_form(tables: &NameTables, name: &Name) -> NodeForm
@@ -31,6 +33,14 @@ fn read_form(tables: &NameTables, name: &Name) -> NodeForm
     } else {
         NodeForm::Read(tables.variable(name.spot.at))
     }
+}
+
+// The text of a literal, to be shared with its values.
+fn shared_text(alloc: Global, text: &Text) -> Result<Arc<Text>, AllocError>
+    ensures { IfOk result (λ s. arc_value s ≡ text.now) }
+{
+    let copied = text.copy()?;
+    Ok(Arc::new(alloc, copied)?)
 }
 
 // An expression, and its number.
@@ -53,7 +63,10 @@ fn emit_form(
 {
     match form {
         Form::Number(number) => Ok(NodeForm::Number(*number)),
-        Form::Words(text) => Ok(NodeForm::Words(text.copy()?)),
+        Form::Words(text) => {
+            let literal = shared_text(emitter.alloc, text)?;
+            Ok(NodeForm::Words(literal))
+        }
         Form::Truth(truth) => Ok(NodeForm::Truth(*truth)),
         Form::Null => Ok(NodeForm::Null),
         Form::Use(name) => Ok(read_form(tables, name)),

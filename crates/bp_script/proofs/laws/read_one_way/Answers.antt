@@ -1,11 +1,9 @@
-use Rattle.bp_script.proofs.Once.{never, never_script, one_program, each_is_program, one_script}
+use Rattle.bp_script.proofs.Once.{never, one_program, each_is_program}
 use Rattle.bp_script.proofs.laws.read_one_way.Goals as goal
 
 pub returns : goal.returns
 returns c = record {
   never_both = never c.args.bytes.now;
-  never_both_script = never_script c.args.bytes.now;
   one_program = one_program c.args.bytes.now;
   each_is_program = each_is_program c.args.bytes.now;
-  one_script = one_script c.args.bytes.now;
 }

@@ -28,9 +28,9 @@ pub emit_form-returns-in-Number : goal.emit_form-returns-in-Number
 emit_form-returns-in-Number t c =
     f.number_arm c.args.tables.now c.args.emitter.now c.args.form.now c.in-Number.number c.in-Number.is
 
-pub emit_form-returns-in_ok-copy-in-Words : goal.emit_form-returns-in_ok-copy-in-Words
-emit_form-returns-in_ok-copy-in-Words t c =
-    subst (λ z. FormsExpr c.args.tables.now c.args.emitter.now c.args.emitter.now (N.Words z) (plain_form c.args.form.now)) (sym c.in_ok-copy-in-Words.ensures) (f.words_arm c.args.tables.now c.args.emitter.now c.args.form.now c.in-Words.text c.in-Words.is)
+pub emit_form-returns-in_ok-literal-in-Words : goal.emit_form-returns-in_ok-literal-in-Words
+emit_form-returns-in_ok-literal-in-Words t c =
+    f.words_arm c.args.tables.now c.args.emitter.now c.args.form.now c.in-Words.text c.in_ok-literal-in-Words.literal c.in-Words.is c.in_ok-literal-in-Words.ensures
 
 pub emit_form-returns-in-Truth : goal.emit_form-returns-in-Truth
 emit_form-returns-in-Truth t c =

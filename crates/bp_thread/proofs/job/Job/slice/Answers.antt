@@ -5,8 +5,11 @@ use Rattle.bp_meaning.specs.After.{handler_after}
 use Rattle.bp_thread.specs.Views.{plain_origin}
 use Rattle.bp_thread.specs.Jobs.{plain_job}
 use Rattle.bp_thread.proofs.Standing.{same_machine}
-use Rattle.bp_thread.proofs.Slicing.{Paused, some_outcome, sliced, still_whole}
+use Rattle.bp_thread.proofs.Slicing.{Paused, some_outcome, done_is_outcome, sliced, still_whole}
 use Rattle.bp_thread.proofs.job.Job.slice.Goals as goal
+
+pub returns-clause-done : goal.returns-clause-done
+returns-clause-done c = done_is_outcome c.in_ok-outcome.outcome _ c.is_some-done.ensures
 
 pub returns-clause-stands : goal.returns-clause-stands
 returns-clause-stands c = λ budget begun made at.

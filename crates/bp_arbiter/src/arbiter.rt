@@ -1,0 +1,310 @@
+//! The arbiter.
+ghost use Rattle.std.specs.Prelude.{◌≡◌, ◌↔◌, ◌<◌, ◌≤◌, ◌+◌, ◌++◌, ◌∷◌, [], ℕ, List, nat_eq, not, length, option_map, option_to_list, OnOk, OnErr, IfOk, IfErr, IsErr, IsSome, Some, true, false};
+ghost use Rattle.std.specs.List.{list_any};
+ghost use Rattle.js_meaning.specs.Bodies.{Origin};
+ghost use Rattle.js_frames.specs.Places.{plain_ground};
+ghost use Rattle.bp_log.specs.declared.limits.TheConstants.{MOST_THREADS};
+ghost use Rattle.bp_log.specs.declared.trace.Line.{Line};
+ghost use Rattle.bp_log.specs.declared.verdict.Verdict.{Verdict as End};
+ghost use Rattle.bp_run.specs.Configuration.{Configuration};
+ghost use Rattle.bp_run.specs.Settling.{Pair, opening};
+ghost use Rattle.bp_run.specs.Story.{has_room, record_of};
+ghost use Rattle.bp_run.specs.Story as coming;
+ghost use Rattle.bp_thread.specs.declared.job.Job.{Job as Lent};
+ghost use Rattle.bp_thread.specs.Carried.{AreCarriedOut};
+ghost use Rattle.bp_floor.specs.declared.phase.Phase.TheVariants as phase;
+ghost use Rattle.bp_floor.specs.Floors.{is_idle, phase_of};
+ghost use Rattle.bp_arbiter.specs.declared.picked.Picked.TheVariants as picked;
+ghost use Rattle.bp_arbiter.specs.Arbiters.{opened, code_in, options_in, stand_in, Recounts, coming, Stands, StandsSomewhere, Tells, is_lent, verdict_of, IsGivenUp, Keeps, Shows};
+ghost use Rattle.bp_arbiter.specs.Absorbing.{is_failed, fits, ComesBack, with_item, absorbed};
+ghost use Rattle.bp_arbiter.specs.Picking.{picked_of, after_pick, phase_after};
+ghost use Rattle.bp_arbiter.specs.Lending.{AreOut, AreBack};
+ghost use Rattle.bp_arbiter.specs.Sealing.{ending, after_turn};
+
+use crate::numbers::Numbers;
+use crate::picked::Picked;
+use crate::records::RecordList;
+use crate::run::Run;
+use bp_floor::{Absorb, Floor, Phase};
+use bp_log::limits::MOST_WAITING;
+use bp_log::{Item, Lines, Memory, Options, Record, Records, Verdict};
+use bp_select::Draw;
+use bp_thread::Job;
+use js_frames::Ground;
+use js_program::Program;
+use std::alloc::{AllocError, Global};
+use std::marker::Model;
+
+/// The arbiter of a run.
+///
+/// It stands for the story of its records: at `Rest` and `Over` its floor is where the story leads, and
+/// at `Ready` and `Lent` turns are left on the way there. After want of memory from `pick`, `lend` or
+/// `seal` each later one of them answers it too; the records are a story still, and the lines taken and to
+/// be taken are the first of its lines.
+#[derive(Drop)]
+pub struct Arbiter {
+    run: Run,
+    /// After want of memory, that before the call.
+    phase: Phase,
+    /// Memory was wanting.
+    broken: bool,
+}
+
+impl Model for Arbiter {
+    ghost use Rattle.std.specs.Coded.{codes};
+    ghost use Rattle.js_data.specs.Codes.{event_code};
+    ghost use Rattle.js_value.specs.Codes.{value_code};
+    ghost use Rattle.bp_log.specs.contracts.trace.Line as e;
+    ghost use Rattle.bp_log.specs.contracts.verdict.Verdict as v;
+    ghost use Rattle.bp_log.specs.contracts.record.Record as r;
+    ghost use Rattle.bp_log.specs.contracts.options.Strategy as s;
+    ghost use Rattle.bp_floor.specs.contracts.phase.Phase as ph;
+    ghost use Rattle.bp_arbiter.specs.Arbiters.{PlainArbiter};
+    ghost use Rattle.bp_arbiter.specs.Runs.{seen};
+    ghost use Rattle.bp_arbiter.specs.Sound.{IsSound};
+
+    ghost Value = { PlainArbiter };
+
+    ghost coded = { Prim.hlevel (codes, event_code, value_code, e.the_row.coded, v.the_row.coded, r.the_row.coded, s.the_row.coded, ph.the_row.coded) };
+
+    ghost view = { λ a. seen a.run a.phase a.broken };
+
+    ghost invariant = { λ a. IsSound a.run.draw.seed (seen a.run a.phase a.broken) };
+}
+
+impl Arbiter {
+    /// The arbiter of a program before anything has run: its top level is to be run. Its only error is want
+    /// of memory.
+    pub fn open(alloc: Global, program: Program, options: Options) -> Result<Arbiter, Memory>
+        ensures opened { IfOk result (λ a. a ≡ opened program options) }
+        ensures stands { IfOk result (λ a. Stands a [] [] opening) }
+    {
+        Ok(Arbiter {
+            run: Run {
+                floor: Floor::open(alloc, program, options)?,
+                draw: Draw::new(options.seed()),
+                reading: Numbers::below(alloc, options.injectors())?,
+                bad: None,
+                records: RecordList::new(alloc),
+            },
+            phase: Phase::Ready,
+            broken: false,
+        })
+    }
+
+    /// What an arbiter keeps unless memory was wanting, as facts for its callers. Does nothing.
+    pub fn keeps(&self)
+        ensures stands { self.now.broken ≡ false → is_lent self.now.phase ≡ false → StandsSomewhere self.now }
+        ensures kept { self.now.broken ≡ false → Keeps self.now }
+        ensures few { self.now.broken ≡ false → length (stand_in self.now).threads ≤ MOST_THREADS }
+        ensures tells { (jobs : List Lent) (taken : List Line) (p : Pair Origin) → Stands self.now jobs taken p → Tells self.now taken }
+        ensures exact { (taken : List Line) (p : Pair Origin) → Stands self.now [] taken p → is_idle self.now.phase ≡ true →
+            (c : Configuration Origin) → Recounts self.now c → c.stand.lines ≡ taken ++ (stand_in self.now).lines }
+    {
+        let _run = &self.run;
+        self.run.floor.keeps();
+    }
+
+    /// What can be done: after want of memory that before the call. Takes no memory.
+    pub fn phase(&self) -> Phase
+        ensures { result ≡ self.now.phase }
+    {
+        self.phase
+    }
+
+    /// The floor: at `Rest` and `Over` its queue, transitions and live b-threads are those of the story, until
+    /// memory is wanting. Takes no memory.
+    pub fn floor(&self) -> &Floor
+        ensures floor { result.now ≡ self.now.floor }
+        ensures shows { self.now.broken ≡ false → is_idle self.now.phase ≡ true →
+            (c : Configuration Origin) → Recounts self.now c → Shows (stand_in self.now) c.stand }
+    {
+        self.run.floor.keeps();
+        &self.run.floor
+    }
+
+    /// The program, with its constants once the top level has run: the ground of the jobs that are lent.
+    /// Takes no memory.
+    pub fn ground(&self) -> &Ground
+        ensures { plain_ground result.now ≡ self.now.floor.base }
+    {
+        self.run.floor.ground()
+    }
+
+    /// What was recorded, in order. Takes no memory.
+    pub fn records(&self) -> &[Record]
+        ensures { result.now ≡ self.now.records }
+    {
+        self.run.records.as_slice()
+    }
+
+    /// The verdict, exactly at `Over`. Takes no memory.
+    pub fn verdict(&self) -> Option<&Verdict>
+        ensures recorded { option_map (λ v. v.now) result ≡ verdict_of self.now.records }
+        ensures over { IsSome result ↔ (self.now.phase ≡ phase.Over) }
+    {
+        self.run.records.verdict()
+    }
+
+    /// Whether the injector has ended. Takes no memory.
+    pub fn ended(&self, injector: u32) -> bool
+        requires { injector < (options_in self.now).injectors }
+        ensures { result ≡ not (list_any (nat_eq injector) self.now.reading) }
+    {
+        !self.run.reading.contains(injector)
+    }
+
+    /// Whether a further event may wait. Takes no memory.
+    pub fn room(&self) -> bool
+        ensures { result ≡ has_room (stand_in self.now) }
+    {
+        self.run.floor.queue().len() < MOST_WAITING as usize
+    }
+
+    /// The lines since the last taking. Takes no memory.
+    pub fn take_lines(&mut self) -> Lines
+        ensures taken { (stand_in self.old).lines ≡ result }
+        ensures none { (stand_in self.new).lines ≡ [] }
+        ensures records { self.new.records ≡ self.old.records }
+        ensures phase { self.new.phase ≡ self.old.phase }
+        ensures broken { self.new.broken ≡ self.old.broken }
+        ensures ground { self.new.floor.base ≡ self.old.floor.base }
+        ensures options { options_in self.new ≡ options_in self.old }
+        ensures stands { (jobs : List Lent) (taken : List Line) (p : Pair Origin) → Stands self.old jobs taken p → Stands self.new jobs (taken ++ result) p }
+        ensures tells { (taken : List Line) → Tells self.old taken → Tells self.new (taken ++ result) }
+    {
+        self.run.floor.take_lines()
+    }
+
+    /// The records, moved out. Takes no memory.
+    pub fn into_records(self) -> Records
+        ensures { result ≡ self.records }
+    {
+        let run = self.run;
+        run.records.into_records()
+    }
+
+    /// Whether the item needs no place of the queue, or has one.
+    fn fits(&self, item: &Item) -> bool
+        ensures { result ≡ fits (stand_in self.now) item.now }
+    {
+        match item {
+            Item::Offered(_) => self.room(),
+            _ => true,
+        }
+    }
+
+    /// The item of an injector enters: an event waits at the end of the queue, and at a bad line or at its
+    /// end the injector has ended.
+    ///
+    /// # Errors
+    ///
+    /// `Full` exactly where the item is an event and as many wait as may, and `Memory`, also after want of
+    /// memory of another call. Both hand the item back, and nothing has changed.
+    pub fn absorb(&mut self, injector: u32, item: Item) -> Result<(), Absorb>
+        requires rest { self.old.phase ≡ phase.Rest }
+        requires read { list_any (nat_eq injector) self.old.reading ≡ true }
+        requires sound { is_failed item ≡ false }
+        ensures absorbed { OnOk result (self.new ≡ absorbed injector item self.old) }
+        ensures fits { OnOk result (fits (stand_in self.old) item ≡ true) }
+        ensures stands { OnOk result ((taken : List Line) (p : Pair Origin) → Stands self.old [] taken p → Stands self.new [] taken (with_item item p)) }
+        ensures refused { IfErr result (ComesBack (stand_in self.old) item) }
+        ensures same { OnErr result (self.new ≡ self.old) }
+    {
+        if !self.fits(&item) {
+            return Err(Absorb::Full(item));
+        }
+        if self.broken || self.run.records.reserve().is_err() {
+            return Err(Absorb::Memory(item));
+        }
+        self.run.floor.keeps();
+        self.run.absorb(injector, item)
+    }
+
+    /// What comes next by the definitions of a run: an event is selected, or the run waits for an injector,
+    /// or there is a verdict. Its only error is want of memory, after which each later call answers it.
+    pub fn pick(&mut self, alloc: Global) -> Result<Picked, Memory>
+        requires rest { self.old.phase ≡ phase.Rest }
+        ensures picked { IfOk result (λ k. (c : Configuration Origin) → Recounts self.old c → k ≡ picked_of (coming self.old c)) }
+        ensures recorded { OnOk result ((c : Configuration Origin) → Recounts self.old c →
+            self.new.records ≡ self.old.records ++ option_to_list (record_of (coming self.old c))) }
+        ensures stands { OnOk result ((taken : List Line) (p : Pair Origin) (c : Configuration Origin) → Stands self.old [] taken p → Recounts self.old c →
+            Stands self.new [] taken (after_pick (code_in self.old) p (coming self.old c))) }
+        ensures phase { IfOk result (λ k. self.new.phase ≡ phase_after k self.new.floor.pair.entries) }
+        ensures counted { IfOk result (λ k. k ≡ picked.Moved → (stand_in self.new).transitions ≡ (stand_in self.old).transitions + 1) }
+        ensures tells { OnErr result ((taken : List Line) (p : Pair Origin) → Stands self.old [] taken p → Tells self.new taken) }
+        ensures ground { self.new.floor.base ≡ self.old.floor.base }
+        ensures options { options_in self.new ≡ options_in self.old }
+        ensures failed { OnErr result (IsGivenUp self.old self.new) }
+        ensures stays { self.old.broken ≡ true → IsErr result × (self.new ≡ self.old) }
+    {
+        if self.broken {
+            return Err(AllocError);
+        }
+        self.run.floor.keeps();
+        self.broken = true;
+        let picked = self.run.pick(alloc)?;
+        self.phase = self.run.floor.phase();
+        self.broken = false;
+        Ok(picked)
+    }
+
+    /// The jobs of what is to be run, in order: at `Ready`, and then it is `Lent`. Its only error is want of
+    /// memory, after which each later call answers it.
+    pub fn lend(&mut self, alloc: Global) -> Result<Vec<Job>, Memory>
+        requires ready { self.old.phase ≡ phase.Ready }
+        ensures lent { IfOk result (λ jobs. AreOut self.new jobs.items) }
+        ensures stands { IfOk result (λ jobs. (taken : List Line) (p : Pair Origin) → Stands self.old [] taken p → Stands self.new jobs.items taken p) }
+        ensures phase { OnOk result (self.new.phase ≡ phase.Lent) }
+        ensures count { OnOk result (length (stand_in self.new).threads ≡ length (stand_in self.old).threads) }
+        ensures records { self.new.records ≡ self.old.records }
+        ensures tells { OnErr result ((taken : List Line) (p : Pair Origin) → Stands self.old [] taken p → Tells self.new taken) }
+        ensures ground { self.new.floor.base ≡ self.old.floor.base }
+        ensures options { options_in self.new ≡ options_in self.old }
+        ensures failed { OnErr result (IsGivenUp self.old self.new) }
+        ensures stays { self.old.broken ≡ true → IsErr result × (self.new ≡ self.old) }
+    {
+        if self.broken {
+            return Err(AllocError);
+        }
+        self.run.floor.keeps();
+        self.broken = true;
+        let jobs = self.run.floor.lend(alloc)?;
+        self.phase = Phase::Lent;
+        self.broken = false;
+        Ok(jobs)
+    }
+
+    /// Merges what the lent jobs did, one turn: they are the lent ones in the same order, each carried to its
+    /// outcome with its effects whole. `Ready` where those that they registered are to be run, `Over` where
+    /// one of them ends the run, and else `Rest`. Its only error is want of memory, after which each later
+    /// call answers it; the jobs are let go.
+    pub fn seal(&mut self, alloc: Global, jobs: Vec<Job>) -> Result<Phase, Memory>
+        requires lent { self.old.phase ≡ phase.Lent }
+        requires back { self.old.broken ≡ false → AreBack self.old jobs.items }
+        ensures answered { IfOk result (λ f. f ≡ self.new.phase) }
+        ensures phase { OnOk result (self.new.phase ≡ phase_of self.new.floor.pair) }
+        ensures stands { OnOk result ((lent : List Lent) (taken : List Line) (p : Pair Origin) → Stands self.old lent taken p →
+            AreCarriedOut self.old.floor.base (options_in self.old).budget lent jobs.items → Stands self.new [] taken (after_turn (code_in self.old) p)) }
+        ensures recorded { OnOk result (self.new.records ≡ self.old.records ++ ending (stand_in self.new).verdict) }
+        ensures over { OnOk result ((c : Configuration Origin) → Recounts self.old c → (v : End) → (stand_in self.new).verdict ≡ Some v →
+            coming self.old c ≡ coming.Next.Ends v) }
+        ensures grows { IfOk result (λ f. f ≡ phase.Ready → length (stand_in self.old).threads < length (stand_in self.new).threads) }
+        ensures tells { OnErr result ((lent : List Lent) (taken : List Line) (p : Pair Origin) → Stands self.old lent taken p →
+            AreCarriedOut self.old.floor.base (options_in self.old).budget lent jobs.items → Tells self.new taken) }
+        ensures program { self.new.floor.base.program ≡ self.old.floor.base.program }
+        ensures options { options_in self.new ≡ options_in self.old }
+        ensures failed { OnErr result (IsGivenUp self.old self.new) }
+        ensures stays { self.old.broken ≡ true → IsErr result × (self.new ≡ self.old) }
+    {
+        if self.broken {
+            return Err(AllocError);
+        }
+        self.run.floor.keeps();
+        self.broken = true;
+        self.run.seal(alloc, jobs)?;
+        self.phase = self.run.floor.phase();
+        self.broken = false;
+        Ok(self.phase)
+    }
+}

@@ -1,0 +1,12 @@
+//! What comes of a pick.
+
+/// What comes of a pick.
+#[derive(Clone, Copy, Debug, PartialEq, Eq)]
+pub enum Picked {
+    /// An event was selected.
+    Moved,
+    /// Nothing is selectable, and an injector is still read.
+    Wait,
+    /// There is a verdict.
+    Over,
+}

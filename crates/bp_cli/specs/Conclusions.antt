@@ -1,0 +1,80 @@
+-- How a command ends: the code, the note and the cause of each conclusion.
+use Rattle.std.specs.Prelude.{◌≡◌, ℕ, List, [], Option, None, IsSome, codes}
+use Rattle.bp_base.specs.Worlds.{Holdings}
+use Rattle.bp_log.specs.declared.verdict.Verdict.{Verdict}
+use Rattle.bp_log.specs.declared.verdict.Verdict.TheVariants.{Quiet, Violated, Fault, Spent, Steps, Queue, Threads, Weight, Bad}
+use Rattle.bp_script.specs.Refusals as refusals
+use Rattle.bp_script.specs.Programs.{IsRefused}
+use Rattle.bp_script.specs.declared.reading.ScriptFault.{ScriptFault}
+use Rattle.bp_cli.specs.declared.words.Verb.{Verb}
+use Rattle.bp_cli.specs.declared.conclusion.Conclusion.{Conclusion}
+use Rattle.bp_cli.specs.declared.conclusion.Conclusion.TheVariants.{NoCommand, Refused, Accepted, Ran, NotRead, NotWritten, NoMemory}
+use Rattle.bp_cli.specs.Command.{PlainCommand}
+use Rattle.bp_cli.specs.Programs.{OfProgram, IsAccepted, RunsTo}
+
+-- what a wrong command is told
+abbrev pub usage : List ℕ
+usage = codes "usage: bp run [OPTIONS] PROGRAM [INJECTOR]... | bp replay LOG | bp accept PROGRAM | bp large N"
+
+-- the code of a run that came to this verdict
+abbrev pub verdict_code : Verdict → ℕ
+verdict_code (Quiet n) = 0
+verdict_code (Violated place text) = 3
+verdict_code (Fault place line fault) = 4
+verdict_code (Spent place) = 5
+verdict_code (Steps n) = 6
+verdict_code Queue = 6
+verdict_code Threads = 6
+verdict_code Weight = 6
+verdict_code (Bad injector line) = 7
+
+abbrev pub code_of : Conclusion → ℕ
+code_of Accepted = 0
+code_of NoCommand = 1
+code_of (Refused refusal) = 2
+code_of (Ran verdict) = verdict_code verdict
+code_of NotRead = 8
+code_of NotWritten = 9
+code_of NoMemory = 10
+
+abbrev pub note_of : Conclusion → List ℕ
+note_of Accepted = []
+note_of NoCommand = usage
+note_of (Refused refusal) = refusals.note_of refusal
+note_of (Ran verdict) = []
+note_of NotRead = codes "read fault"
+note_of NotWritten = codes "write fault"
+note_of NoMemory = []
+
+-- why what is done to these bytes ends so, where the output failed or not
+abbrev pub CausesOf : Verb → List ℕ → Type 0 → Conclusion → Type 0
+CausesOf verb bytes unwritten Accepted = (verb ≡ Verb.Accept) × IsAccepted bytes
+CausesOf verb bytes unwritten NoCommand = ⊥
+CausesOf verb bytes unwritten (Refused refusal) = IsRefused bytes refusal
+CausesOf verb bytes unwritten (Ran verdict) = (verb ≡ Verb.Run) × RunsTo bytes verdict
+CausesOf verb bytes unwritten NotRead = ⊥
+CausesOf verb bytes unwritten NotWritten = IsAccepted bytes × unwritten
+CausesOf verb bytes unwritten NoMemory = Unit {0}
+
+-- why a command ends so, where reading or the output failed or not
+abbrev pub Causes : Option PlainCommand → Option Holdings → Type 0 → Type 0 → Conclusion → Type 0
+Causes command holds unread unwritten NoCommand = command ≡ None
+Causes command holds unread unwritten NotRead = IsSome command × unread
+Causes command holds unread unwritten NoMemory = Unit {0}
+Causes command holds unread unwritten conclusion =
+    OfProgram command holds (λ verb bytes. CausesOf verb bytes unwritten conclusion)
+
+-- the code and the note are those of the conclusion
+abbrev pub IsStatusOf : ℕ → List ℕ → Conclusion → Type 0
+IsStatusOf code note conclusion = (code ≡ code_of conclusion) × (note ≡ note_of conclusion)
+
+-- the code and the note are those of a conclusion whose cause holds
+pub record Concludes (command : Option PlainCommand) (holds : Option Holdings) (unread unwritten : Type 0) (code : ℕ) (note : List ℕ) : Type 0 where
+  pub conclusion : Conclusion
+  pub status : IsStatusOf code note conclusion
+  pub cause : Causes command holds unread unwritten conclusion
+
+-- what comes of a program that is not accepted
+abbrev pub conclusion_of : ScriptFault → Conclusion
+conclusion_of (ScriptFault.Refused refusal) = Refused refusal
+conclusion_of ScriptFault.Memory = NoMemory

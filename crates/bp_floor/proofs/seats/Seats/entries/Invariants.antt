@@ -1,0 +1,7 @@
+use Rattle.std.proofs.Common.{map, drop}
+use Rattle.bp_floor.specs.Touching.{touch_seen}
+use Rattle.bp_floor.proofs.Handlers.{Entering}
+use Rattle.bp_floor.proofs.seats.Seats.entries.Given as goal
+
+abbrev pub invariant-loop-touch : goal.invariant-loop-touch
+invariant-loop-touch l = record { entering : Entering l.event (map touch_seen l.touches) (map touch_seen (drop l.touch-index l.touches)) l.self l.wave }

@@ -1,0 +1,25 @@
+use Rattle.std.proofs.Common.{◌≡◌, ◌∙◌, List, Some, None, Option, length, sym, ap, arith}
+use Rattle.bp_run.specs.Configuration.{change}
+use Rattle.bp_floor.specs.Seating.{PlainSeat}
+use Rattle.bp_floor.specs.Seated.{job_at}
+use Rattle.bp_floor.proofs.Lists.{change_length, change_twice}
+use Rattle.bp_floor.proofs.Places.{get_below}
+use Rattle.bp_floor.proofs.seats.Seats.give.Goals as goal
+
+pub put-requires : goal.put-requires
+put-requires c =
+    let len = ap (λ (ss : List PlainSeat). length ss) c.take.ensures.left ∙ change_length (λ s. record s { job = None }) c.args.number c.args.self.now in
+    let low = get_below c.args.self.now c.args.number c.requires.seat c.requires.is_seat in
+    omega (arith, len, low)
+
+pub returns-in_ok-give : goal.returns-in_ok-give
+returns-in_ok-give c = record {
+  job = c.in-Some.job;
+  given = c.give.new.self;
+  old_is = λ s w. sym (ap (λ (x : Option PlainSeat). job_at x) w) ∙ sym c.take.ensures.given ∙ c.in-Some.is;
+  seats = c.put.ensures ∙ ap (λ (ss : List PlainSeat). change (λ s. record s { job = Some c.give.new.self }) c.args.number ss) c.take.ensures.left
+      ∙ change_twice (λ s. record s { job = Some c.give.new.self }) (λ s. record s { job = None }) c.args.number c.args.self.now;
+  plain = c.in_ok-give.ensures.given;
+  of_program = c.give.ensures.program;
+  whole = c.in_ok-give.ensures.whole;
+}

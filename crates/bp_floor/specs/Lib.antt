@@ -1,0 +1,15 @@
+pub mod Programs
+pub mod Seating
+pub mod Entries
+pub mod Parts
+pub mod Seated
+pub mod Forgetting
+pub mod Boards
+pub mod Kept
+pub mod Lending
+pub mod Returning
+pub mod Lent
+pub mod Touching
+pub mod Absorbing
+pub mod Floors
+pub mod Going

@@ -1,0 +1,11 @@
+//! Why an item is not absorbed.
+use bp_log::Item;
+
+/// Why an item is not absorbed. The item comes back.
+#[derive(Debug, Drop)]
+pub enum Absorb {
+    /// As many events wait as may.
+    Full(Item),
+    /// Memory was wanting.
+    Memory(Item),
+}

@@ -1,0 +1,86 @@
+//! Lending jobs.
+ghost use Rattle.std.specs.Prelude.{◌≡◌, ◌<◌, length, option_to_list, IfOk};
+ghost use Rattle.js_frames.specs.Places.{plain_ground};
+ghost use Rattle.bp_floor.specs.Entries.{entry_seen};
+ghost use Rattle.bp_floor.specs.Kept.{IsBelow, Running};
+ghost use Rattle.bp_floor.specs.Entries.{handler_seen};
+ghost use Rattle.bp_floor.specs.Lent.{CanLend, Lends, AreOut, IsStarted};
+
+use crate::{Entry, Handler, Seats, Wave};
+use bp_log::{Memory, Options};
+use bp_thread::Job;
+use js_frames::Ground;
+use js_program::Mode;
+use js_value::copy;
+use std::alloc::Global;
+
+impl Seats {
+    /// The job of a handler.
+    fn handler_job(
+        &self,
+        alloc: Global,
+        ground: &Ground,
+        options: Options,
+        number: u32,
+        handler: &Handler,
+    ) -> Result<Job, Memory>
+        requires { number < length self.now }
+        ensures { IfOk result (λ j. IsStarted (plain_ground ground.now) options number (handler_seen handler.now).origin j) }
+    {
+        let name = self.name_of(number as usize).copy()?;
+        let function = copy(&handler.function)?;
+        let mut args = Vec::new(alloc);
+        args.push(copy(&handler.argument)?)?;
+        Job::start(
+            alloc,
+            ground,
+            number,
+            name,
+            Mode::Handler,
+            function,
+            args,
+            options.budget(),
+        )
+    }
+
+    /// The job of an entry, if it has a body. A b-thread's own is taken out.
+    fn lend_one(
+        &mut self,
+        alloc: Global,
+        ground: &Ground,
+        options: Options,
+        entry: &Entry,
+    ) -> Result<Option<Job>, Memory>
+        requires { IsBelow (length self.old) (entry_seen entry.now) }
+        ensures { IfOk result (λ j. Lends (plain_ground ground.now) options (entry_seen entry.now) self.old self.new (option_to_list j)) }
+    {
+        match entry {
+            Entry::Top => Ok(Some(Job::top(alloc, ground, options.budget())?)),
+            Entry::Runs(number) => Ok(self.take(*number as usize)),
+            Entry::Stops(_, None) => Ok(None),
+            Entry::Stops(number, Some(handler)) => {
+                Ok(Some(self.handler_job(alloc, ground, options, *number, handler)?))
+            }
+        }
+    }
+
+    /// The jobs of what is to be run, in order.
+    pub fn lend(
+        &mut self,
+        alloc: Global,
+        ground: &Ground,
+        options: Options,
+        wave: &Wave,
+    ) -> Result<Vec<Job>, Memory>
+        requires { (r : Running) × CanLend r (plain_ground ground.now) options wave.now self.old }
+        ensures { IfOk result (λ js. (r : Running) → CanLend r (plain_ground ground.now) options wave.now self.old → AreOut r wave.now js.items self.old self.new) }
+    {
+        let mut jobs = Vec::new(alloc);
+        for entry in wave.as_slice() {
+            if let Some(job) = self.lend_one(alloc, ground, options, entry)? {
+                jobs.push(job)?;
+            }
+        }
+        Ok(jobs)
+    }
+}

@@ -1,0 +1,14 @@
+//! What can be done with a floor.
+
+/// What can be done with a floor.
+#[derive(Clone, Copy, Debug, PartialEq, Eq)]
+pub enum Phase {
+    /// Jobs can be lent.
+    Ready,
+    /// Jobs are lent.
+    Lent,
+    /// Nobody is to be run.
+    Rest,
+    /// There is a verdict.
+    Over,
+}

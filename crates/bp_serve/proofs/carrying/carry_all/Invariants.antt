@@ -1,0 +1,6 @@
+use Rattle.js_frames.specs.Places.{plain_ground}
+use Rattle.bp_serve.proofs.Slices.{CarriedUpTo}
+use Rattle.bp_serve.proofs.carrying.carry_all.Given as goal
+
+abbrev pub invariant-loop-job : goal.invariant-loop-job
+invariant-loop-job l = CarriedUpTo (plain_ground l.ground) l.budget l.job-index l.fn.jobs.items l.job-items

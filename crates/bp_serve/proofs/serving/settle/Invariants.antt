@@ -1,0 +1,24 @@
+use Rattle.std.proofs.Common.{ℕ, ◌+◌, ◌-◌, ◌≤◌, length}
+use Rattle.bp_log.specs.declared.limits.TheConstants.{MOST_THREADS}
+use Rattle.bp_floor.specs.declared.phase.Phase.{Phase}
+use Rattle.bp_floor.specs.declared.phase.Phase.TheVariants.{Ready, Lent, Rest, Over}
+use Rattle.bp_arbiter.specs.Arbiters.{stand_in}
+use Rattle.bp_serve.specs.Serving.{IsUnderway, KeepsUnderway}
+use Rattle.bp_serve.proofs.serving.settle.Given as goal
+
+-- at most so many turns are left with so many b-threads
+abbrev pub turns_left : Phase → ℕ → ℕ
+turns_left Ready threads = MOST_THREADS + 1 - threads
+turns_left Lent threads = 0
+turns_left Rest threads = 0
+turns_left Over threads = 0
+
+abbrev pub invariant-loop-alloc : goal.invariant-loop-alloc
+invariant-loop-alloc l = record {
+  underway : IsUnderway l.arbiter;
+  keeps : KeepsUnderway l.fn.arbiter l.arbiter;
+  records : length l.fn.arbiter.records ≤ length l.arbiter.records;
+}
+
+abbrev pub decreases-loop-alloc : goal.decreases-loop-alloc
+decreases-loop-alloc l = turns_left l.arbiter.phase (length (stand_in l.arbiter).threads)

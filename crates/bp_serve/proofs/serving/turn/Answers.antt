@@ -1,0 +1,50 @@
+use Rattle.std.proofs.Common.{ℕ, ◌≡◌, ◌∙◌, ap, sym, arith}
+use Rattle.bp_log.specs.Options.{PlainOptions}
+use Rattle.bp_floor.specs.Floors.{PlainFloor}
+use Rattle.bp_arbiter.specs.Arbiters.{options_in}
+use Rattle.bp_serve.proofs.Way.{turn_keeps, turn_records, carried_at, can_run_here}
+use Rattle.bp_serve.proofs.serving.turn.Goals as goal
+
+budget_of : (o p : PlainOptions) (f g : PlainFloor) (n : ℕ) → n ≡ o.budget → o ≡ g.options → g ≡ f → p ≡ f.options → n ≡ p.budget
+budget_of o p f g n e h k q = e ∙ ap (λ (x : PlainOptions). x.budget) (h ∙ ap (λ (x : PlainFloor). x.options) k ∙ sym q)
+
+pub carry_all-requires-clause-some_budget : goal.carry_all-requires-clause-some_budget
+carry_all-requires-clause-some_budget c =
+    let some = (c.budget-budget.ensures.within).some_budget in
+    let same = c.budget-budget.ensures.budget in
+    omega (arith, some, same)
+
+pub carry_all-requires-clause-can_run : goal.carry_all-requires-clause-can_run
+carry_all-requires-clause-can_run c =
+    can_run_here _ _ _ c.budget-budget.result c.in_ok-jobs.jobs.items c.ground.ensures
+    (budget_of c.options.result (options_in c.lend.new.self) c.args.arbiter.now.floor c.floor.result.now c.budget-budget.result c.budget-budget.ensures.budget c.options.ensures c.floor.ensures.floor c.lend.ensures.options)
+    (c.in_ok-jobs.ensures.lent).can_run
+
+pub seal-requires-clause-back : goal.seal-requires-clause-back
+seal-requires-clause-back c = λ _.
+    let u = c.requires.underway in
+    let s = (u.underway).stands in
+    record {
+      lent = c.in_ok-jobs.jobs.items;
+      taken = u.taken;
+      pair = (u.underway).pair;
+      stands = c.in_ok-jobs.ensures.stands u.taken (u.underway).pair s;
+      out = c.in_ok-jobs.ensures.lent;
+      carried = carried_at _ _ _ c.budget-budget.result c.in_ok-jobs.jobs.items c.carry_all.new.jobs.items c.ground.ensures
+          (budget_of c.options.result (options_in c.lend.new.self) c.args.arbiter.now.floor c.floor.result.now c.budget-budget.result c.budget-budget.ensures.budget c.options.ensures c.floor.ensures.floor c.lend.ensures.options)
+          c.in_ok-carry_all.ensures;
+    }
+
+pub returns-clause-keeps : goal.returns-clause-keeps
+returns-clause-keeps c =
+    let l = c.lend.ensures in
+    let s = c.seal.ensures in
+    turn_keeps c.seal.result c.args.arbiter.now c.lend.new.self c.seal.new.self c.in_ok-jobs.jobs.items c.carry_all.new.jobs.items c.requires.ready
+    c.in_ok-jobs.ensures.stands l.records l.ground l.options
+    (carried_at _ _ _ c.budget-budget.result c.in_ok-jobs.jobs.items c.carry_all.new.jobs.items c.ground.ensures
+    (budget_of c.options.result (options_in c.lend.new.self) c.args.arbiter.now.floor c.floor.result.now c.budget-budget.result c.budget-budget.ensures.budget c.options.ensures c.floor.ensures.floor l.options)
+    c.in_ok-carry_all.ensures)
+    s.stands s.phase s.recorded s.over s.program s.options
+
+pub returns-clause-records : goal.returns-clause-records
+returns-clause-records c = turn_records c.seal.result c.args.arbiter.now c.lend.new.self c.seal.new.self c.lend.ensures.records c.seal.ensures.recorded

@@ -1,0 +1,11 @@
+//! Tests of sets, statements and jobs, as tables in which a line is a part of a program and what is told of it.
+#![tactic(auto)]
+
+#[cfg(test)]
+mod jobs;
+#[cfg(test)]
+mod programs;
+#[cfg(test)]
+mod sets;
+#[cfg(test)]
+mod statements;

@@ -1,3 +1,0 @@
-pub mod PointCodes
-pub mod ThreadCodes
-pub mod Straight
