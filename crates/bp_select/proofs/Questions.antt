@@ -65,7 +65,7 @@ blocked_first f has all e = seen_none (blocked has (map f all) e)
 pub blocked_step : {A : Type 0} (f : A → Live PlainSet) (has : Has PlainSet) (all : List A) (i : ℕ) (x : A) (e : PlainEvent) (b c d : Bool) → i < length all → x ≡ get_or all i x → d ≡ (b || c) →
     by_number (f x).number (has (f x).statement.block e) ≡ Ok c → blocked has (map f all) e ≡ seen b (blocked has (map f (drop i all)) e) →
     blocked has (map f all) e ≡ seen d (blocked has (map f (drop (i + 1) all)) e)
-blocked_step f has all i x e b c d h k m q w =
+blocked_step {A = A} f has all i x e b c d h k m q w =
     w ∙ ap (λ (xs : List A). seen b (blocked has (map f xs) e)) (drop_is all i x h k)
     ∙ ap (λ (r : Asked Bool). seen b r) (blocked_of f has x (drop (i + 1) all) e c q)
     ∙ seen_twice b c (blocked has (map f (drop (i + 1) all)) e)
@@ -73,13 +73,13 @@ blocked_step f has all i x e b c d h k m q w =
 
 pub blocked_last : {A : Type 0} (f : A → Live PlainSet) (has : Has PlainSet) (all : List A) (i : ℕ) (e : PlainEvent) (b : Bool) → length all ≤ i →
     blocked has (map f all) e ≡ seen b (blocked has (map f (drop i all)) e) → blocked has (map f all) e ≡ Ok b
-blocked_last f has all i e b h w =
+blocked_last {A = A} f has all i e b h w =
     w ∙ ap (λ (xs : List A). seen b (blocked has (map f xs) e)) (drop_end all i h) ∙ ap (λ (r : Bool). Ok r) (or_none b)
 
 pub blocked_fault : {A : Type 0} (f : A → Live PlainSet) (has : Has PlainSet) (all : List A) (i : ℕ) (x : A) (e : PlainEvent) (b : Bool) (g : SelectFault) → i < length all → x ≡ get_or all i x →
     blocked has (map f all) e ≡ seen b (blocked has (map f (drop i all)) e) →
     FaultAs (by_number (f x).number (has (f x).statement.block e)) g → FaultAs (blocked has (map f all) e) g
-blocked_fault f has all i x e b g h k w q =
+blocked_fault {A = A} f has all i x e b g h k w q =
     fault_on (by_number (f x).number (has (f x).statement.block e)) (blocked has (map f all) e) g
     (λ z m. w ∙ ap (λ (xs : List A). seen b (blocked has (map f xs) e)) (drop_is all i x h k) ∙ (rw m refl)) q
 

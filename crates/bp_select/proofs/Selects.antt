@@ -1,15 +1,22 @@
 -- What is selected and chosen, from its parts.
-use Rattle.std.proofs.Common.{◌≡◌, ℕ, arith, List, [], ◌∷◌, length, map, refl, ap, sym, ◌∙◌, subst, None, Ok}
+use Rattle.std.proofs.Common.{◌+◌, ◌%◌, ◌≤◌, get_or, slice_get, option_map, Option, Some, ◌≡◌, ℕ, arith, List, [], ◌∷◌, length, map, refl, ap, sym, ◌∙◌, subst, None, Ok}
 use Rattle.std.specs.Prelude.{ℤ}
+use Rattle.std.proofs.lemmas.List.{length-map}
+use Rattle.std.proofs.lemmas.Nat.{mod_below}
+use Rattle.std.proofs.lemmas.Option.{slice_get-map, slice_get_read}
 use Rattle.js_data.specs.Event.{PlainEvent}
 use Rattle.js_value.specs.Value.{PlainSet}
 use Rattle.bp_log.specs.declared.options.Strategy.{Strategy}
 use Rattle.bp_log.specs.declared.options.Strategy.TheVariants.{Simple, Ordered, Priority}
 use Rattle.bp_run.specs.Selecting.{Live, Has, Asked, Enabled, without_fault, unblocked, first_unblocked, candidates, or_queued, selectable}
-use Rattle.bp_run.specs.Choosing.{remaining, drawn_of, chosen, choice}
+use Rattle.bp_run.specs.Choosing.{Choice, remaining, drawn_of, chosen, choice}
 use Rattle.bp_select.specs.declared.answers.SelectFault.{SelectFault}
 use Rattle.bp_select.specs.Answers.{FaultAs}
 use Rattle.bp_select.specs.Tops.{Top, events_of, with_live, HaveTops}
+use Rattle.js_meaning.specs.State.{Ground}
+use Rattle.bp_meaning.specs.Membership.{member}
+use Rattle.bp_select.specs.Blocking.{blocking}
+use Rattle.bp_select.proofs.Blocks.{unblocked_by, first_by}
 use Rattle.bp_select.proofs.Questions.{fault_on}
 use Rattle.bp_select.proofs.Tops.{events_at, tops_events, tops_have}
 
@@ -42,6 +49,24 @@ unfolding selectable
 select_inner has ts queue es [] h k n = absurd (n refl)
 select_inner has ts queue es (e ∷ inner) h k n = ap (λ (x : Asked (List PlainEvent)). or_queued has ts queue x) (ap (λ (xs : List PlainEvent). unblocked has ts xs) (sym h) ∙ k)
 
+-- ---- asking those that block alone
+
+module _ (base : Ground) (budget : ℕ) (ts us : List (Live PlainSet)) (queue es : List PlainEvent) (found : es ≡ candidates ts) (those : us ≡ blocking ts) where
+  asks_all : unblocked (member base budget) us es ≡ unblocked (member base budget) ts es
+  asks_all = unblocked_by base budget ts us es those
+
+  pub selectable_fault : (f : SelectFault) → FaultAs (unblocked (member base budget) us es) f → FaultAs (selectable (member base budget) ts queue) f
+  selectable_fault f q = select_fault (member base budget) ts queue es f found (subst (λ (x : Asked (List PlainEvent)). FaultAs x f) asks_all q)
+
+  pub selectable_queued : (inner : List PlainEvent) (vs : List (Live PlainSet)) → vs ≡ blocking ts → unblocked (member base budget) us es ≡ Ok inner → length inner ≡ 0 →
+      selectable (member base budget) ts queue ≡ without_fault (λ place. record { inner = []; outer = place }) (first_unblocked (member base budget) vs 0 queue)
+  selectable_queued inner vs h k n =
+      select_queued (member base budget) ts queue es inner found (sym asks_all ∙ k) n
+      ∙ ap (λ (x : Asked (Option ℕ)). without_fault (λ place. let none : Enabled = record { inner = []; outer = place } in none) x) (sym (first_by base budget ts vs 0 queue h))
+
+  pub selectable_inner : (inner : List PlainEvent) → unblocked (member base budget) us es ≡ Ok inner → (length inner ≡ 0 → ⊥) → selectable (member base budget) ts queue ≡ Ok (record { inner = inner; outer = None })
+  selectable_inner inner k n = select_inner (member base budget) ts queue es inner found (sym asks_all ∙ k) n
+
 -- ---- the choice
 
 remaining_none : (s : Strategy) (ts : List (Live PlainSet)) → remaining s ts [] ≡ []
@@ -68,3 +93,19 @@ choice_fault has word s ts queue d f q = fault_on (selectable has ts queue) (cho
 pub choice_fault_at : (has : Has PlainSet) (word : ℕ → ℕ) (s : Strategy) (ts us : List (Live PlainSet)) (queue : List PlainEvent) (d : ℕ) (f : SelectFault) → ts ≡ us → FaultAs (selectable has ts queue) f →
     FaultAs (choice has word s us queue d) f
 choice_fault_at has word s ts us queue d f h q = choice_fault has word s us queue d f (subst (λ (xs : List (Live PlainSet)). FaultAs (selectable has xs queue) f) h q)
+
+-- ---- the drawn one of several
+
+pub drawn_many : {A : Type 0} (f : A → PlainEvent) (word : ℕ → ℕ) (d : ℕ) (xs : List A) (x : A) (e : PlainEvent) → 2 ≤ length xs → x ≡ get_or xs (word d % length xs) x → e ≡ f x →
+    (let one : Choice = record { event = e; place = None; drawn = d + 1 } in Some one ≡ drawn_of word d (map f xs))
+drawn_many f word d [] x e h k m = absurd (omega arith)
+drawn_many f word d (a ∷ []) x e h k m = absurd (omega arith)
+drawn_many {A} f word d (a ∷ b ∷ rest) x e h k m =
+    let xs : List A = a ∷ b ∷ rest in
+    let some = λ (y : PlainEvent). (let one : Choice = record { event = y; place = None; drawn = d + 1 } in one) in
+    let at : slice_get (map f xs) (word d % length (map f xs)) ≡ Some e =
+        ap (λ (n : ℕ). slice_get (map f xs) (word d % n)) (length-map xs f)
+        ∙ slice_get-map f xs (word d % length xs)
+        ∙ ap (λ (o : Option A). option_map f o) (slice_get_read xs (length xs) (word d % length xs) x refl (mod_below (word d) (length xs) (omega arith)) k)
+        ∙ ap (λ (y : PlainEvent). Some y) (sym m) in
+    sym (ap (λ (o : Option PlainEvent). option_map some o) at)

@@ -21,6 +21,9 @@ events_in cs = map event_of cs
 abbrev pub tops_of : List Candidate → List Top
 tops_of cs = map (λ c. (c.event.now, c.top)) cs
 
+abbrev pub candidate_of : Key × ℤ → Candidate
+candidate_of p = record { event = p.0.event; top = p.1 }
+
 abbrev pub tops_in : IndexMap Key ℤ (BuildHasherDefault FoldHasher) → List Top
 tops_in m = map (λ p. (p.0.event.now, p.1)) m.entries
 

@@ -2,7 +2,7 @@
 ghost use Rattle.std.specs.Prelude.{◌≡◌, [], IfOk, OnOk, map};
 ghost use Rattle.bp_select.specs.Lives.{live_of};
 ghost use Rattle.bp_select.specs.Tops.{raised, with_request, with_requests, with_live};
-ghost use Rattle.bp_select.specs.Candidates.{tops_in, tops_of};
+ghost use Rattle.bp_select.specs.Candidates.{tops_in, tops_of, candidate_of};
 
 use crate::bench::Stated;
 use crate::candidate::Candidate;
@@ -53,15 +53,25 @@ fn request_all<'a>(tops: &mut Tops<'a>, stated: &'a Stated) -> Result<(), Memory
     Ok(())
 }
 
+/// The entries of the map, in order. Its only error is want of memory.
+fn listed<'a>(alloc: Global, tops: Tops<'a>) -> Result<Vec<Candidate<'a>>, Memory>
+    ensures { IfOk result (λ l. l.items ≡ map candidate_of tops.entry.entries) }
+{
+    tops.into_iter()
+        .map(|(key, top)| Candidate { event: key.event, top })
+        .collect(alloc)
+}
+
 /// The events that the b-threads request. Its only error is want of memory.
-pub(crate) fn candidates<'a>(alloc: Global, live: &'a [Stated]) -> Result<Vec<Candidate<'a>>, Memory>
+pub(crate) fn candidates<'a>(
+    alloc: Global,
+    live: &'a [Stated],
+) -> Result<Vec<Candidate<'a>>, Memory>
     ensures { IfOk result (λ l. tops_of l.items ≡ with_live [] (map live_of live.now)) }
 {
     let mut tops = IndexMap::new(alloc);
     for stated in live {
         request_all(&mut tops, stated)?;
     }
-    tops.into_iter()
-        .map(|(key, top)| Candidate { event: key.event, top })
-        .collect(alloc)
+    listed(alloc, tops)
 }

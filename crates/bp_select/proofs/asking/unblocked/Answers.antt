@@ -12,10 +12,10 @@ use Rattle.bp_select.proofs.asking.unblocked.Goals as goal
 pub loop-candidate-preserved : goal.loop-candidate-preserved
 loop-candidate-preserved c = record {
   events =
-      unblocked_step event_of (member (plain_ground c.args.ground.now) c.args.budget) (map lent c.args.blocking.now) c.args.candidates.now c.loop-candidate.candidate-index c.candidate-item.result c.loop-candidate.free.items c.keep_if.new.free.items
+      unblocked_step event_of (member (plain_ground c.args.ground.now) c.args.budget) (map lent c.args.blocking.now) c.args.candidates.now c.loop-candidate.candidate-index c.candidate-item.result c.loop-candidate.free.items c.keep_if.new.kept.items
       c.in_ok-blocked.blocked c.loop-candidate-test.true c.candidate-item.is c.in_ok-blocked.ensures c.in_ok-keep_if.ensures c.loop-candidate.invariant.events;
   tops = λ ts h.
-      tops_step event_of (λ (x : Candidate). x.top) ts c.args.candidates.now c.loop-candidate.candidate-index c.candidate-item.result c.loop-candidate.free.items c.keep_if.new.free.items
+      tops_step event_of (λ (x : Candidate). x.top) ts c.args.candidates.now c.loop-candidate.candidate-index c.candidate-item.result c.loop-candidate.free.items c.keep_if.new.kept.items
       (not c.in_ok-blocked.blocked) c.loop-candidate-test.true c.candidate-item.is c.in_ok-keep_if.ensures h (c.loop-candidate.invariant.tops ts h);
 }
 

@@ -7,9 +7,9 @@ use Rattle.bp_select.proofs.choosing.keys.Goals as goal
 
 pub loop-candidate-preserved : goal.loop-candidate-preserved
 loop-candidate-preserved c = λ e.
-    keys_step event_of c.args.candidates.now c.loop-candidate.candidate-index c.candidate-item.result e (is_among c.loop-candidate.events e) (is_among c.insert.new.events e) (list_any (same_event e) (events_in c.args.candidates.now))
+    keys_step event_of c.args.candidates.now c.loop-candidate.candidate-index c.candidate-item.result e (is_among c.loop-candidate.events e) (is_among c.insert.new.self e) (list_any (same_event e) (events_in c.args.candidates.now))
     c.loop-candidate-test.true c.candidate-item.is
-    (among_more (λ (k : Key). k.event.now) c.loop-candidate.events.keys c.insert.new.events.keys _ e c.in_ok-insert.ensures.keys) (c.loop-candidate.invariant e)
+    (among_more (λ (k : Key). k.event.now) c.loop-candidate.events.keys c.insert.new.self.keys _ e c.in_ok-insert.ensures.keys) (c.loop-candidate.invariant e)
 
 pub returns : goal.returns
 returns c = λ e.
