@@ -1,9 +1,9 @@
 -- What is selected and chosen, from its parts.
-use Rattle.std.proofs.Common.{◌+◌, ◌%◌, ◌≤◌, get_or, slice_get, option_map, Option, Some, ◌≡◌, ℕ, arith, List, [], ◌∷◌, length, map, refl, ap, sym, ◌∙◌, subst, None, Ok}
+use Rattle.std.proofs.Common.{◌+◌, ◌%◌, ◌<◌, ◌≤◌, get_or, slice_get, option_map, Option, Some, ◌≡◌, ℕ, arith, List, [], ◌∷◌, length, map, refl, ap, sym, ◌∙◌, subst, None, Ok}
 use Rattle.std.specs.Prelude.{ℤ}
 use Rattle.std.proofs.lemmas.List.{length-map}
 use Rattle.std.proofs.lemmas.Nat.{mod_below}
-use Rattle.std.proofs.lemmas.Option.{slice_get-map, slice_get_read}
+use Rattle.std.proofs.lemmas.Option.{slice_get-map, slice_get-get_or}
 use Rattle.js_data.specs.Event.{PlainEvent}
 use Rattle.js_value.specs.Value.{PlainSet}
 use Rattle.bp_log.specs.declared.options.Strategy.{Strategy}
@@ -96,16 +96,18 @@ choice_fault_at has word s ts us queue d f h q = choice_fault has word s us queu
 
 -- ---- the drawn one of several
 
-pub drawn_many : {A : Type 0} (f : A → PlainEvent) (word : ℕ → ℕ) (d : ℕ) (xs : List A) (x : A) (e : PlainEvent) → 2 ≤ length xs → x ≡ get_or xs (word d % length xs) x → e ≡ f x →
+pub drawn_many : {A : Type 0} (f : A → PlainEvent) (word : ℕ → ℕ) (d : ℕ) (xs : List A) (i : ℕ) (x : A) (e : PlainEvent) → 2 ≤ length xs → i ≡ word d % length xs → e ≡ f (get_or xs i x) →
     (let one : Choice = record { event = e; place = None; drawn = d + 1 } in Some one ≡ drawn_of word d (map f xs))
-drawn_many f word d [] x e h k m = absurd (omega arith)
-drawn_many f word d (a ∷ []) x e h k m = absurd (omega arith)
-drawn_many {A} f word d (a ∷ b ∷ rest) x e h k m =
+drawn_many f word d [] i x e h k m = absurd (omega arith)
+drawn_many f word d (a ∷ []) i x e h k m = absurd (omega arith)
+drawn_many {A = A} f word d (a ∷ b ∷ rest) i x e h k m =
     let xs : List A = a ∷ b ∷ rest in
     let some = λ (y : PlainEvent). (let one : Choice = record { event = y; place = None; drawn = d + 1 } in one) in
+    let within : i < length xs = subst (λ (n : ℕ). n < length xs) (sym k) (mod_below (word d) (length xs) (omega arith)) in
     let at : slice_get (map f xs) (word d % length (map f xs)) ≡ Some e =
         ap (λ (n : ℕ). slice_get (map f xs) (word d % n)) (length-map xs f)
-        ∙ slice_get-map f xs (word d % length xs)
-        ∙ ap (λ (o : Option A). option_map f o) (slice_get_read xs (length xs) (word d % length xs) x refl (mod_below (word d) (length xs) (omega arith)) k)
+        ∙ ap (λ (n : ℕ). slice_get (map f xs) n) (sym k)
+        ∙ slice_get-map f xs i
+        ∙ ap (λ (o : Option A). option_map f o) (slice_get-get_or xs i x within)
         ∙ ap (λ (y : PlainEvent). Some y) (sym m) in
     sym (ap (λ (o : Option PlainEvent). option_map some o) at)

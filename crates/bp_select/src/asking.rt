@@ -59,7 +59,7 @@ fn is_empty(set: &EventSet) -> bool
 {
     match set.tree() {
         SetTree::Nothing => true,
-        SetTree::Any(sets) => sets.len() == 0,
+        SetTree::Any(sets) => sets.as_slice().len() == 0,
         _ => false,
     }
 }

@@ -15,7 +15,7 @@ loop-event-preserved c =
     let fits : SFits w64 c.get-priority.result = search rules in
     requests_step s.priority s.request i e old (tops_in c.request.new.tops) (with_requests s.priority (tops_in c.args.tops.now) s.request)
     (subst (λ (xs : List PlainEvent). i < length xs) q c.loop-event-test.true) (subst (λ (xs : List PlainEvent). e ≡ get_or xs i e) q c.event-item.is)
-    (c.in_ok-request.ensures ∙ ap (λ (p : ℤ). with_request p old e) (to_z-of_z w64 c.get-priority.result fits ∙ c.get-priority.ensures.number))
+    (c.in_ok-request.ensures ∙ ap (λ (p : ℤ). with_request p old e) (to_z-of_z fits ∙ c.get-priority.ensures.number))
     c.loop-event.invariant
 
 pub returns : goal.returns

@@ -17,7 +17,7 @@ loop-candidate-preserved c = λ ts h.
     let fits : SFits w64 x.top = search rules in
     kept_step event_of p c.args.inner.now i x c.loop-candidate.kept.items c.keep_if.new.kept.items (filter p events) c.at_most-reaches.result c.loop-candidate-test.true c.candidate-item.is
     (c.at_most-reaches.ensures
-    ∙ ap (λ (z : ℤ). at_most c.top_of-top.result (Some z)) (to_z-of_z w64 x.top fits)
+    ∙ ap (λ (z : ℤ). at_most c.top_of-top.result (Some z)) (to_z-of_z fits)
     ∙ ap (λ (o : Option ℤ). at_most o (Some x.top)) (c.top_of-top.ensures ts h)
     ∙ ap (λ (o : Option ℤ). at_most (top_of ts events) o) (sym (tops_get event_of (λ (y : Candidate). y.top) ts c.args.inner.now i x c.loop-candidate-test.true c.candidate-item.is h)))
     c.in_ok-keep_if.ensures (c.loop-candidate.invariant ts h)

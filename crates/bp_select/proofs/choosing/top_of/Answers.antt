@@ -13,7 +13,7 @@ loop-candidate-preserved c = λ ts h.
     let fits : SFits w64 x.top = search rules in
     top_step event_of ts c.args.candidates.now i x c.loop-candidate.top c.upper-top.result (top_of ts (events_in c.args.candidates.now)) x.top c.loop-candidate-test.true c.candidate-item.is
     (tops_get event_of (λ (y : Candidate). y.top) ts c.args.candidates.now i x c.loop-candidate-test.true c.candidate-item.is h)
-    (c.upper-top.ensures ∙ ap (λ (z : ℤ). upper c.loop-candidate.top (Some z)) (to_z-of_z w64 x.top fits)) (c.loop-candidate.invariant ts h)
+    (c.upper-top.ensures ∙ ap (λ (z : ℤ). upper c.loop-candidate.top (Some z)) (to_z-of_z fits)) (c.loop-candidate.invariant ts h)
 
 pub returns : goal.returns
 returns c = λ ts h.
