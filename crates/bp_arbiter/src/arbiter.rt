@@ -94,12 +94,16 @@ impl Arbiter {
 
     /// What an arbiter keeps unless memory was wanting, as facts for its callers. Does nothing.
     pub fn keeps(&self)
-        ensures stands { self.now.broken ≡ false → is_lent self.now.phase ≡ false → StandsSomewhere self.now }
+        ensures stands { self.now.broken ≡ false → is_lent self.now.phase ≡ false →
+            StandsSomewhere self.now }
         ensures kept { self.now.broken ≡ false → Keeps self.now }
         ensures few { self.now.broken ≡ false → length (stand_in self.now).threads ≤ MOST_THREADS }
-        ensures tells { (jobs : List Lent) (taken : List Line) (p : Pair Origin) → Stands self.now jobs taken p → Tells self.now taken }
-        ensures exact { (taken : List Line) (p : Pair Origin) → Stands self.now [] taken p → is_idle self.now.phase ≡ true →
-            (c : Configuration Origin) → Recounts self.now c → c.stand.lines ≡ taken ++ (stand_in self.now).lines }
+        ensures tells { (jobs : List Lent) (taken : List Line) (p : Pair Origin) →
+            Stands self.now jobs taken p → Tells self.now taken }
+        ensures exact { (taken : List Line) (p : Pair Origin) → Stands self.now [] taken p →
+            is_idle self.now.phase ≡ true →
+            (c : Configuration Origin) → Recounts self.now c →
+            c.stand.lines ≡ taken ++ (stand_in self.now).lines }
     {
         let _run = &self.run;
         self.run.floor.keeps();
@@ -170,8 +174,10 @@ impl Arbiter {
         ensures broken { self.new.broken ≡ self.old.broken }
         ensures ground { self.new.floor.base ≡ self.old.floor.base }
         ensures options { options_in self.new ≡ options_in self.old }
-        ensures stands { (jobs : List Lent) (taken : List Line) (p : Pair Origin) → Stands self.old jobs taken p → Stands self.new jobs (taken ++ result) p }
-        ensures tells { (taken : List Line) → Tells self.old taken → Tells self.new (taken ++ result) }
+        ensures stands { (jobs : List Lent) (taken : List Line) (p : Pair Origin) →
+            Stands self.old jobs taken p → Stands self.new jobs (taken ++ result) p }
+        ensures tells { (taken : List Line) → Tells self.old taken →
+            Tells self.new (taken ++ result) }
     {
         self.run.floor.take_lines()
     }
@@ -207,7 +213,8 @@ impl Arbiter {
         requires sound { is_failed item ≡ false }
         ensures absorbed { OnOk result (self.new ≡ absorbed injector item self.old) }
         ensures fits { OnOk result (fits (stand_in self.old) item ≡ true) }
-        ensures stands { OnOk result ((taken : List Line) (p : Pair Origin) → Stands self.old [] taken p → Stands self.new [] taken (with_item item p)) }
+        ensures stands { OnOk result ((taken : List Line) (p : Pair Origin) →
+            Stands self.old [] taken p → Stands self.new [] taken (with_item item p)) }
         ensures refused { IfErr result (ComesBack (stand_in self.old) item) }
         ensures same { OnErr result (self.new ≡ self.old) }
     {
@@ -225,14 +232,19 @@ impl Arbiter {
     /// or there is a verdict. Its only error is want of memory, after which each later call answers it.
     pub fn pick(&mut self, alloc: Global) -> Result<Picked, Memory>
         requires rest { self.old.phase ≡ phase.Rest }
-        ensures picked { IfOk result (λ k. (c : Configuration Origin) → Recounts self.old c → k ≡ picked_of (coming self.old c)) }
+        ensures picked { IfOk result (λ k. (c : Configuration Origin) → Recounts self.old c →
+            k ≡ picked_of (coming self.old c)) }
         ensures recorded { OnOk result ((c : Configuration Origin) → Recounts self.old c →
             self.new.records ≡ self.old.records ++ option_to_list (record_of (coming self.old c))) }
-        ensures stands { OnOk result ((taken : List Line) (p : Pair Origin) (c : Configuration Origin) → Stands self.old [] taken p → Recounts self.old c →
+        ensures stands { OnOk result ((taken : List Line) (p : Pair Origin) (c : Configuration Origin) →
+            Stands self.old [] taken p → Recounts self.old c →
             Stands self.new [] taken (after_pick (code_in self.old) p (coming self.old c))) }
-        ensures phase { IfOk result (λ k. self.new.phase ≡ phase_after k self.new.floor.pair.entries) }
-        ensures counted { IfOk result (λ k. k ≡ picked.Moved → (stand_in self.new).transitions ≡ (stand_in self.old).transitions + 1) }
-        ensures tells { OnErr result ((taken : List Line) (p : Pair Origin) → Stands self.old [] taken p → Tells self.new taken) }
+        ensures phase { IfOk result (λ k. self.new.phase ≡
+            phase_after k self.new.floor.pair.entries) }
+        ensures counted { IfOk result (λ k. k ≡ picked.Moved →
+            (stand_in self.new).transitions ≡ (stand_in self.old).transitions + 1) }
+        ensures tells { OnErr result ((taken : List Line) (p : Pair Origin) →
+            Stands self.old [] taken p → Tells self.new taken) }
         ensures ground { self.new.floor.base ≡ self.old.floor.base }
         ensures options { options_in self.new ≡ options_in self.old }
         ensures failed { OnErr result (IsGivenUp self.old self.new) }
@@ -254,11 +266,14 @@ impl Arbiter {
     pub fn lend(&mut self, alloc: Global) -> Result<Vec<Job>, Memory>
         requires ready { self.old.phase ≡ phase.Ready }
         ensures lent { IfOk result (λ jobs. AreOut self.new jobs.items) }
-        ensures stands { IfOk result (λ jobs. (taken : List Line) (p : Pair Origin) → Stands self.old [] taken p → Stands self.new jobs.items taken p) }
+        ensures stands { IfOk result (λ jobs. (taken : List Line) (p : Pair Origin) →
+            Stands self.old [] taken p → Stands self.new jobs.items taken p) }
         ensures phase { OnOk result (self.new.phase ≡ phase.Lent) }
-        ensures count { OnOk result (length (stand_in self.new).threads ≡ length (stand_in self.old).threads) }
+        ensures count { OnOk result (length (stand_in self.new).threads ≡
+            length (stand_in self.old).threads) }
         ensures records { self.new.records ≡ self.old.records }
-        ensures tells { OnErr result ((taken : List Line) (p : Pair Origin) → Stands self.old [] taken p → Tells self.new taken) }
+        ensures tells { OnErr result ((taken : List Line) (p : Pair Origin) →
+            Stands self.old [] taken p → Tells self.new taken) }
         ensures ground { self.new.floor.base ≡ self.old.floor.base }
         ensures options { options_in self.new ≡ options_in self.old }
         ensures failed { OnErr result (IsGivenUp self.old self.new) }
@@ -284,14 +299,21 @@ impl Arbiter {
         requires back { self.old.broken ≡ false → AreBack self.old jobs.items }
         ensures answered { IfOk result (λ f. f ≡ self.new.phase) }
         ensures phase { OnOk result (self.new.phase ≡ phase_of self.new.floor.pair) }
-        ensures stands { OnOk result ((lent : List Lent) (taken : List Line) (p : Pair Origin) → Stands self.old lent taken p →
-            AreCarriedOut self.old.floor.base (options_in self.old).budget lent jobs.items → Stands self.new [] taken (after_turn (code_in self.old) p)) }
-        ensures recorded { OnOk result (self.new.records ≡ self.old.records ++ ending (stand_in self.new).verdict) }
-        ensures over { OnOk result ((c : Configuration Origin) → Recounts self.old c → (v : End) → (stand_in self.new).verdict ≡ Some v →
+        ensures stands { OnOk result ((lent : List Lent) (taken : List Line) (p : Pair Origin) →
+            Stands self.old lent taken p →
+            AreCarriedOut self.old.floor.base (options_in self.old).budget lent jobs.items →
+            Stands self.new [] taken (after_turn (code_in self.old) p)) }
+        ensures recorded { OnOk result (self.new.records ≡
+            self.old.records ++ ending (stand_in self.new).verdict) }
+        ensures over { OnOk result ((c : Configuration Origin) → Recounts self.old c → (v : End) →
+            (stand_in self.new).verdict ≡ Some v →
             coming self.old c ≡ coming.Next.Ends v) }
-        ensures grows { IfOk result (λ f. f ≡ phase.Ready → length (stand_in self.old).threads < length (stand_in self.new).threads) }
-        ensures tells { OnErr result ((lent : List Lent) (taken : List Line) (p : Pair Origin) → Stands self.old lent taken p →
-            AreCarriedOut self.old.floor.base (options_in self.old).budget lent jobs.items → Tells self.new taken) }
+        ensures grows { IfOk result (λ f. f ≡ phase.Ready →
+            length (stand_in self.old).threads < length (stand_in self.new).threads) }
+        ensures tells { OnErr result ((lent : List Lent) (taken : List Line) (p : Pair Origin) →
+            Stands self.old lent taken p →
+            AreCarriedOut self.old.floor.base (options_in self.old).budget lent jobs.items →
+            Tells self.new taken) }
         ensures program { self.new.floor.base.program ≡ self.old.floor.base.program }
         ensures options { options_in self.new ≡ options_in self.old }
         ensures failed { OnErr result (IsGivenUp self.old self.new) }

@@ -22,7 +22,10 @@ impl Model for RecordList {
 
     ghost coded = { Prim.hlevel (codes, e.the_row.coded) };
 
-    ghost view = { λ l. record { records = l.items.items; has_place = nat_lt (vec_len l.items) (vec_capacity l.items) } };
+    ghost view = { λ l. record {
+      records = l.items.items;
+      has_place = nat_lt (vec_len l.items) (vec_capacity l.items);
+    } };
 }
 
 impl RecordList {

@@ -96,7 +96,8 @@ impl Run {
         requires can { CanGo self.old.floor event place }
         requires place { self.old.records.has_place ≡ true }
         ensures picked { IfOk result (λ k. k ≡ picked_of (next_chosen_in self.old event place)) }
-        ensures comes { OnOk result (HasCome self.old (next_chosen_in self.old event place) self.new) }
+        ensures comes { OnOk result
+            (HasCome self.old (next_chosen_in self.old event place) self.new) }
         ensures beside { IsBeside self.old self.new }
         ensures ground { self.new.floor.base ≡ self.old.floor.base }
         ensures draw { self.new.draw ≡ self.old.draw }
@@ -118,10 +119,15 @@ impl Run {
     /// Selects the event at this place of the queue, as `select`.
     fn select_queued(&mut self, alloc: Global, place: u32) -> Result<Picked, Memory>
         requires rest { self.old.floor.phase ≡ phase.Rest }
-        requires can { (e : PlainEvent) → slice_get self.old.floor.pair.stand.queue place ≡ Some e → CanGo self.old.floor e (Some place) }
+        requires can { (e : PlainEvent) → slice_get self.old.floor.pair.stand.queue place ≡ Some e →
+            CanGo self.old.floor e (Some place) }
         requires place { self.old.records.has_place ≡ true }
-        ensures picked { IfOk result (λ k. (e : PlainEvent) → slice_get self.old.floor.pair.stand.queue place ≡ Some e → k ≡ picked_of (next_chosen_in self.old e (Some place))) }
-        ensures comes { OnOk result ((e : PlainEvent) → slice_get self.old.floor.pair.stand.queue place ≡ Some e → HasCome self.old (next_chosen_in self.old e (Some place)) self.new) }
+        ensures picked { IfOk result (λ k. (e : PlainEvent) →
+            slice_get self.old.floor.pair.stand.queue place ≡ Some e →
+            k ≡ picked_of (next_chosen_in self.old e (Some place))) }
+        ensures comes { OnOk result ((e : PlainEvent) →
+            slice_get self.old.floor.pair.stand.queue place ≡ Some e →
+            HasCome self.old (next_chosen_in self.old e (Some place)) self.new) }
         ensures within { OnOk result (place < length self.old.floor.pair.stand.queue) }
         ensures beside { IsBeside self.old self.new }
         ensures ground { self.new.floor.base ≡ self.old.floor.base }
@@ -167,9 +173,11 @@ impl Run {
         requires rest { self.old.floor.phase ≡ phase.Rest }
         requires room { has_room self.old.floor.pair.stand ≡ true }
         requires place { self.old.records.has_place ≡ true }
-        ensures absorbed { OnOk result ((f : Phase) (b : Bool) → seen self.new f b ≡ absorbed injector (item.Offered event) (seen self.old f b)) }
+        ensures absorbed { OnOk result ((f : Phase) (b : Bool) →
+            seen self.new f b ≡ absorbed injector (item.Offered event) (seen self.old f b)) }
         ensures refused { IfErr result (λ a. a ≡ absorb.Memory (item.Offered event)) }
-        ensures same { OnErr result ((f : Phase) (b : Bool) → seen self.new f b ≡ seen self.old f b) }
+        ensures same { OnErr result ((f : Phase) (b : Bool) →
+            seen self.new f b ≡ seen self.old f b) }
         ensures seed { self.new.draw.seed ≡ self.old.draw.seed }
     {
         let Ok(kept) = event.copy() else {
@@ -186,9 +194,11 @@ impl Run {
         requires sound { is_failed item ≡ false }
         requires fits { fits self.old.floor.pair.stand item ≡ true }
         requires place { self.old.records.has_place ≡ true }
-        ensures absorbed { OnOk result ((f : Phase) (b : Bool) → seen self.new f b ≡ absorbed injector item (seen self.old f b)) }
+        ensures absorbed { OnOk result ((f : Phase) (b : Bool) →
+            seen self.new f b ≡ absorbed injector item (seen self.old f b)) }
         ensures refused { IfErr result (λ a. a ≡ absorb.Memory item) }
-        ensures same { OnErr result ((f : Phase) (b : Bool) → seen self.new f b ≡ seen self.old f b) }
+        ensures same { OnErr result ((f : Phase) (b : Bool) →
+            seen self.new f b ≡ seen self.old f b) }
         ensures seed { self.new.draw.seed ≡ self.old.draw.seed }
     {
         match item {

@@ -25,7 +25,8 @@ fn bytes_of<W: World>(alloc: Global, world: &mut W, name: &str) -> Result<Vec<u8
     ensures bytes { IfOk result (λ v. IsUnder (W.holds world.old) name.now v.items) }
     ensures within { IfOk result (λ v. vec_len v ≤ MOST_BYTES) }
     ensures too_long { IsErrOf result ReadError.TooLong → IsTooLong (W.holds world.old) name.now }
-    ensures cause { IsErrOf result ReadError.Fault → Rose (W.read_faults world.old) (W.read_faults world.new) }
+    ensures cause { IsErrOf result ReadError.Fault
+        → Rose (W.read_faults world.old) (W.read_faults world.new) }
     ensures asked { (IsErrOf result ReadError.Memory × (W.asked world.new ≡ W.asked world.old))
         ⊎ Asks (W.asked world.old) name.now (W.asked world.new) }
     ensures holds { W.holds world.new ≡ W.holds world.old }
@@ -49,11 +50,14 @@ fn conclude<W: World, K: Sink>(
     out: &mut K,
 ) -> Conclusion
     ensures cause { Causes (command_of (map string_bytes words.now)) (W.holds world.old)
-        (Rose (W.read_faults world.old) (W.read_faults world.new)) (Rose (K.faults out.old) (K.faults out.new)) result }
+        (Rose (W.read_faults world.old) (W.read_faults world.new))
+        (Rose (K.faults out.old) (K.faults out.new)) result }
     ensures prints { Prints (command_of (map string_bytes words.now)) (W.holds world.old)
         (K.written out.old) (K.written out.new) (extent_of (code_of result)) }
-    ensures asks { AsksAt (command_of (map string_bytes words.now)) (W.asked world.old) (W.asked world.new) (code_of result) }
-    ensures refuses { Refuses (command_of (map string_bytes words.now)) (W.holds world.old) (code_of result) }
+    ensures asks { AsksAt (command_of (map string_bytes words.now))
+        (W.asked world.old) (W.asked world.new) (code_of result) }
+    ensures refuses { Refuses (command_of (map string_bytes words.now)) (W.holds world.old)
+        (code_of result) }
     ensures holds { W.holds world.new ≡ W.holds world.old }
     ensures read_counts { W.read_faults world.old ≤ W.read_faults world.new }
     ensures write_counts { K.faults out.old ≤ K.faults out.new }
@@ -84,20 +88,23 @@ pub fn command<R: Threads + Wait + Sync, W: World, K: Sink>(
     world: &mut W,
     out: &mut K,
 ) -> Status
-    // It ends with the code and the note of a conclusion whose cause holds.
+    // It ends with the code and the note of a conclusion whose cause holds. So where neither count rose and memory was not
+    // wanting, the code is 1, 2, that of the one run's verdict, or 0 for an accepted program.
     ensures concludes { Concludes (command_of (map string_bytes words.now)) (W.holds world.old)
-        (Rose (W.read_faults world.old) (W.read_faults world.new)) (Rose (K.faults out.old) (K.faults out.new))
-        result.code result.note }
+        (Rose (W.read_faults world.old) (W.read_faults world.new))
+        (Rose (K.faults out.old) (K.faults out.new)) result.code result.note }
 
     // A refused program comes to no other end, but for a fault of reading or want of memory.
-    ensures refuses { Refuses (command_of (map string_bytes words.now)) (W.holds world.old) result.code }
+    ensures refuses { Refuses (command_of (map string_bytes words.now)) (W.holds world.old)
+        result.code }
 
     // At 0 and 3 to 7 the whole text was printed, at 9 a front of it, at 10 nothing or a front, and else nothing.
     ensures prints { Prints (command_of (map string_bytes words.now)) (W.holds world.old)
         (K.written out.old) (K.written out.new) (extent_of result.code) }
 
     // The world was asked for the program's name alone, once; at 1 for nothing, and at 10 for nothing or that.
-    ensures asks { AsksAt (command_of (map string_bytes words.now)) (W.asked world.old) (W.asked world.new) result.code }
+    ensures asks { AsksAt (command_of (map string_bytes words.now))
+        (W.asked world.old) (W.asked world.new) result.code }
     ensures holds { W.holds world.new ≡ W.holds world.old }
     ensures read_counts { W.read_faults world.old ≤ W.read_faults world.new }
     ensures write_counts { K.faults out.old ≤ K.faults out.new }

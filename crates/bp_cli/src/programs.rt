@@ -18,8 +18,10 @@ const ACCEPTED: &[u8] = b"accepted\n";
 
 /// Runs the program under the default options, and prints its run.
 pub(crate) fn run_program<K: Sink>(alloc: Global, bytes: &[u8], out: &mut K) -> Conclusion
-    ensures cause { CausesOf Verb.Run bytes.now (Rose (K.faults out.old) (K.faults out.new)) result }
-    ensures prints { PrintsOf Verb.Run bytes.now (K.written out.old) (K.written out.new) (extent_of (code_of result)) }
+    ensures cause { CausesOf Verb.Run bytes.now
+        (Rose (K.faults out.old) (K.faults out.new)) result }
+    ensures prints { PrintsOf Verb.Run bytes.now
+        (K.written out.old) (K.written out.new) (extent_of (code_of result)) }
     ensures refuses { RefusesAt bytes.now (code_of result) }
     ensures counts { K.faults out.old ≤ K.faults out.new }
 {
@@ -36,8 +38,10 @@ pub(crate) fn run_program<K: Sink>(alloc: Global, bytes: &[u8], out: &mut K) -> 
 
 /// Prints that the program is accepted, or refuses it.
 pub(crate) fn accept_program<K: Sink>(alloc: Global, bytes: &[u8], out: &mut K) -> Conclusion
-    ensures cause { CausesOf Verb.Accept bytes.now (Rose (K.faults out.old) (K.faults out.new)) result }
-    ensures prints { PrintsOf Verb.Accept bytes.now (K.written out.old) (K.written out.new) (extent_of (code_of result)) }
+    ensures cause { CausesOf Verb.Accept bytes.now
+        (Rose (K.faults out.old) (K.faults out.new)) result }
+    ensures prints { PrintsOf Verb.Accept bytes.now
+        (K.written out.old) (K.written out.new) (extent_of (code_of result)) }
     ensures refuses { RefusesAt bytes.now (code_of result) }
     ensures counts { K.faults out.old ≤ K.faults out.new }
 {

@@ -41,7 +41,8 @@ fn verb_of(word: &str) -> Option<Verb>
 
 /// The command of these two words.
 fn command_with<'a>(word: &str, name: &'a str) -> Option<Command<'a>>
-    ensures { option_map (λ c. record { verb = c.verb; name = c.name.now }) result ≡ command_of (word.now ∷ name.now ∷ []) }
+    ensures { option_map (λ c. record { verb = c.verb; name = c.name.now }) result
+        ≡ command_of (word.now ∷ name.now ∷ []) }
 {
     if !is_name(name.as_bytes()) {
         return None;
@@ -52,7 +53,8 @@ fn command_with<'a>(word: &str, name: &'a str) -> Option<Command<'a>>
 
 /// The command, where the words are `run` or `accept` and a name.
 pub fn command_of(words: &[String]) -> Option<Command<'_>>
-    ensures { option_map (λ c. record { verb = c.verb; name = c.name.now }) result ≡ command_of (map string_bytes words.now) }
+    ensures { option_map (λ c. record { verb = c.verb; name = c.name.now }) result
+        ≡ command_of (map string_bytes words.now) }
 {
     match words {
         [word, name] => command_with(word.as_str(), name.as_str()),

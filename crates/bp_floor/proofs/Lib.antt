@@ -17,3 +17,4 @@ pub mod Weaving
 pub mod Looking
 pub mod Gone
 pub mod Sealing
+pub mod Goes

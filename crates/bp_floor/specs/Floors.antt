@@ -13,7 +13,7 @@ use Rattle.bp_log.specs.declared.verdict.Verdict.TheVariants as verdict
 use Rattle.bp_run.specs.Bodies.{Code}
 use Rattle.bp_run.specs.Configuration.{Stand}
 use Rattle.bp_run.specs.Settling.{Entry, Pair, turn, before, queued}
-use Rattle.bp_run.specs.Selecting.{Asked, Enabled, live, selectable}
+use Rattle.bp_run.specs.Selecting.{Asked, Enabled, Has, Live, live, selectable}
 use Rattle.bp_run.specs.Choosing.{Touched, reach}
 use Rattle.bp_run.specs.Story.{stepped, weight_after, fault_verdict}
 use Rattle.bp_select.specs.Benches.{Fits}
@@ -42,6 +42,14 @@ pub record PlainFloor : Type 0 where
 -- the code that runs on it
 abbrev pub code_on : PlainFloor → Code Origin PlainSet
 code_on f = code_of f.base.program f.options
+
+-- what its sets have
+abbrev pub has_on : PlainFloor → Has PlainSet
+has_on f = (code_on f).has
+
+-- what its live b-threads state
+abbrev pub live_on : PlainFloor → List (Live PlainSet)
+live_on f = live (code_on f) f.pair.stand
 
 -- A floor from which these lines were taken stands for a pair: with the bodies of those that have ended forgotten, the pair is the floor's own behind the lines.
 abbrev pub StandsFor : PlainFloor → List Line → Pair Origin → Type 0
@@ -131,7 +139,7 @@ IsAmong x queue e (Some i) = (x.outer ≡ Some i) × (slice_get queue i ≡ Some
 -- the event can be selected there
 pub record CanGo (f : PlainFloor) (e : PlainEvent) (place : Option ℕ) : Type 0 where
   pub enabled : Enabled
-  pub is_enabled : selectable (code_on f).has (live (code_on f) f.pair.stand) f.pair.stand.queue ≡ Ok enabled
+  pub is_enabled : selectable (has_on f) (live_on f) f.pair.stand.queue ≡ Ok enabled
   pub among : IsAmong enabled f.pair.stand.queue e place
 
 -- the verdict with which an event stops the run, where its reach is at fault or the run would weigh too much
@@ -140,12 +148,12 @@ stop_at_reach s e (Err x) = Some (fault_verdict s x)
 stop_at_reach s e (Ok xs) = if nat_lt MOST_WEIGHT (weight_after s e xs) then Some verdict.Weight else None
 
 abbrev pub stop_of : PlainFloor → PlainEvent → Option Verdict
-stop_of f e = stop_at_reach f.pair.stand e (reach (code_on f).has e (live (code_on f) f.pair.stand))
+stop_of f e = stop_at_reach f.pair.stand e (reach (has_on f) e (live_on f))
 
 -- the floor after the event
 pub record IsMoved (f : PlainFloor) (e : PlainEvent) (place : Option ℕ) (g : PlainFloor) : Type 0 where
   pub reached : List Touched
-  pub reach_is : reach (code_on f).has e (live (code_on f) f.pair.stand) ≡ Ok reached
+  pub reach_is : reach (has_on f) e (live_on f) ≡ Ok reached
   pub stop_is : stop_of f e ≡ None
   pub pair_is : g.pair ≡ forgotten the_top (stepped (code_on f) f.pair.stand e place reached)
   pub phase_is : g.phase ≡ phase_of g.pair

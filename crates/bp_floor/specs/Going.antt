@@ -4,7 +4,6 @@ use Rattle.js_data.specs.Event.{PlainEvent}
 use Rattle.js_meaning.specs.State.{Ground}
 use Rattle.bp_log.specs.Options.{PlainOptions}
 use Rattle.bp_log.specs.declared.limits.TheConstants.{MOST_WEIGHT}
-use Rattle.bp_run.specs.Selecting.{live}
 use Rattle.bp_run.specs.Choosing.{Touched, reach}
 use Rattle.bp_run.specs.Choosing.Touched.{Moves, Interrupts}
 use Rattle.bp_run.specs.Story.{weight_after}
@@ -16,7 +15,7 @@ use Rattle.bp_floor.specs.declared.phase.Phase.TheVariants.{Rest}
 use Rattle.bp_floor.specs.declared.going.Outlook.{Outlook}
 use Rattle.bp_floor.specs.declared.going.Outlook.TheVariants.{Reaches, Stops}
 use Rattle.bp_floor.specs.Boards.{pair_of}
-use Rattle.bp_floor.specs.Floors.{PlainFloor, IsSound, phase_of, stop_of, code_on}
+use Rattle.bp_floor.specs.Floors.{PlainFloor, IsSound, phase_of, stop_of, has_on, live_on}
 
 -- the board keeps all that its floor does, in this phase
 abbrev pub IsSoundOn : Ground → PlainOptions → Board → Phase → Type 0
@@ -32,7 +31,7 @@ floor_on base o b = record { base = base; options = o; pair = pair_of b; phase =
 -- whom an event reaches, and what the run weighs afterwards
 pub record IsReached (f : PlainFloor) (e : PlainEvent) (r : Reach) (weight : ℕ) : Type 0 where
   pub reached : List Touched
-  pub reach_is : reach (code_on f).has e (live (code_on f) f.pair.stand) ≡ Ok reached
+  pub reach_is : reach (has_on f) e (live_on f) ≡ Ok reached
   pub split : IsReach reached r
   pub weight_is : weight ≡ weight_after f.pair.stand e reached
   pub light : weight ≤ MOST_WEIGHT

@@ -9,7 +9,7 @@ ghost use Rattle.bp_log.specs.declared.trace.Line.{Line};
 ghost use Rattle.bp_words.specs.Words.{draw_word};
 ghost use Rattle.bp_run.specs.Configuration.{name_in, not_ended};
 ghost use Rattle.bp_run.specs.Settling.{Pair, turn, before, opening, queued};
-ghost use Rattle.bp_run.specs.Selecting.{live, selectable, blocker, requested};
+ghost use Rattle.bp_run.specs.Selecting.{selectable, blocker, requested};
 ghost use Rattle.bp_run.specs.Bodies as run;
 ghost use Rattle.bp_run.specs.Choosing.{Touched, choice};
 ghost use Rattle.bp_run.specs.Story.{fault_verdict, over};
@@ -20,7 +20,7 @@ ghost use Rattle.bp_floor.specs.declared.phase.Phase.TheVariants as phase;
 ghost use Rattle.bp_floor.specs.declared.absorb.Absorb.TheVariants as absorb;
 ghost use Rattle.bp_floor.specs.Boards.{pair_of};
 ghost use Rattle.bp_floor.specs.Lending.{AreLent, filled_pair, standing};
-ghost use Rattle.bp_floor.specs.Floors.{StandsFor, StandsWith, AreBack, IsSealed, IsGivenUp, IsPhased, is_idle, CanGo, GoesAs, stop_of, code_on, phase_of};
+ghost use Rattle.bp_floor.specs.Floors.{StandsFor, StandsWith, AreBack, IsSealed, IsGivenUp, IsPhased, is_idle, CanGo, GoesAs, stop_of, code_on, has_on, live_on};
 ghost use Rattle.bp_floor.specs.Absorbing.{IsRefused};
 
 use crate::{Absorb, Board, Entry, EventList, LineList, Phase, Seats, Wave, Went};
@@ -72,7 +72,13 @@ impl Model for Floor {
 impl Floor {
     /// The floor of a program before anything has run: its top level is to be run.
     pub fn open(alloc: Global, program: Program, options: Options) -> Result<Floor, Memory>
-        ensures { IfOk result (λ f. f ≡ record { base = bare program; options = options; pair = opening; phase = phase.Ready; broken = false }) }
+        ensures { IfOk result (λ f. f ≡ record {
+          base = bare program;
+          options = options;
+          pair = opening;
+          phase = phase.Ready;
+          broken = false;
+        }) }
     {
         let ground = Ground::bare(alloc, program);
         let seats = Seats::new(alloc);
@@ -156,7 +162,8 @@ impl Floor {
         ensures filled { IfOk result (λ jobs. filled_pair jobs.items self.new.pair ≡ self.old.pair) }
         ensures lent { IfOk result (λ jobs. AreLent self.old.base.program self.old.options
             (standing self.old.pair.stand.threads) self.old.pair.entries jobs.items) }
-        ensures stands { IfOk result (λ jobs. (taken : List Line) (p : Pair Origin) → StandsFor self.old taken p → StandsWith self.new jobs.items taken p) }
+        ensures stands { IfOk result (λ jobs. (taken : List Line) (p : Pair Origin) →
+            StandsFor self.old taken p → StandsWith self.new jobs.items taken p) }
         ensures phase { OnOk result (self.new.phase ≡ phase.Lent) }
         ensures ground { self.new.base ≡ self.old.base }
         ensures options { self.new.options ≡ self.old.options }
@@ -184,7 +191,8 @@ impl Floor {
         requires back { self.old.broken ≡ false → AreBack self.old jobs.items }
         ensures sealed { OnOk result (IsSealed self.old jobs.items self.new) }
         ensures answered { IfOk result (λ p. p ≡ self.new.phase) }
-        ensures stands { OnOk result ((taken : List Line) (p : Pair Origin) → StandsWith self.old jobs.items taken p → StandsFor self.new taken (turn (code_on self.old) p)) }
+        ensures stands { OnOk result ((taken : List Line) (p : Pair Origin) →
+            StandsWith self.old jobs.items taken p → StandsFor self.new taken (turn (code_on self.old) p)) }
         ensures program { self.new.base.program ≡ self.old.base.program }
         ensures options { self.new.options ≡ self.old.options }
         ensures whole { OnOk result (self.old.broken ≡ false) }
@@ -252,8 +260,10 @@ impl Floor {
     /// `Full` exactly where as many events wait as may, and `Memory`; both give the event back as an offer.
     pub fn enqueue(&mut self, event: Event) -> Result<(), Absorb>
         requires rest { self.old.phase ≡ phase.Rest }
-        ensures queued { OnOk result (self.new ≡ record self.old { pair = record self.old.pair { stand = queued event self.old.pair.stand } }) }
-        ensures refused { IfErr result (λ a. IsRefused (length self.old.pair.stand.queue) (item.Offered event) a) }
+        ensures queued { OnOk result (self.new ≡ record self.old {
+          pair = record self.old.pair { stand = queued event self.old.pair.stand };
+        }) }
+        ensures refused { IfErr result (IsRefused (length self.old.pair.stand.queue) (item.Offered event)) }
         ensures same { OnErr result (self.new ≡ self.old) }
         ensures room { OnOk result (length self.old.pair.stand.queue < MOST_WAITING) }
     {
@@ -269,7 +279,8 @@ impl Floor {
     /// What can be selected.
     pub fn enabled(&mut self, alloc: Global) -> Result<Enabled, SelectFault>
         requires rest { self.old.phase ≡ phase.Rest }
-        ensures enabled { AnswersAs enabled_of (selectable (code_on self.old).has (live (code_on self.old) self.old.pair.stand) self.old.pair.stand.queue) result }
+        ensures enabled { AnswersAs enabled_of
+            (selectable (has_on self.old) (live_on self.old) self.old.pair.stand.queue) result }
         ensures broken { self.old.broken ≡ true → result ≡ Err select_fault.Memory }
         ensures same { self.new ≡ self.old }
     {
@@ -285,7 +296,8 @@ impl Floor {
     /// The first live b-thread that blocks the event.
     pub fn blocker(&mut self, alloc: Global, event: &Event) -> Result<Option<u32>, SelectFault>
         requires rest { self.old.phase ≡ phase.Rest }
-        ensures blocker { AnswersAs (λ o. o) (blocker (code_on self.old).has (live (code_on self.old) self.old.pair.stand) event.now) result }
+        ensures blocker { AnswersAs (λ o. o)
+            (blocker (has_on self.old) (live_on self.old) event.now) result }
         ensures broken { self.old.broken ≡ true → result ≡ Err select_fault.Memory }
         ensures same { self.new ≡ self.old }
     {
@@ -304,7 +316,8 @@ impl Floor {
         ensures broken { self.new.broken ≡ self.old.broken }
         ensures ground { self.new.base ≡ self.old.base }
         ensures options { self.new.options ≡ self.old.options }
-        ensures stands { (taken : List Line) (p : Pair Origin) → StandsFor self.old taken p → StandsFor self.new (taken ++ result) p }
+        ensures stands { (taken : List Line) (p : Pair Origin) →
+            StandsFor self.old taken p → StandsFor self.new (taken ++ result) p }
     {
         self.board.lines.take()
     }
@@ -314,7 +327,8 @@ impl Floor {
         requires rest { self.old.phase ≡ phase.Rest }
         requires words { draw.old.drawn + 1 < 2 ^ 64 }
         ensures chosen { AnswersAs (chosen_of self.old.pair.stand.queue draw.new.drawn)
-            (choice (code_on self.old).has (draw_word draw.old.seed) self.old.options.strategy (live (code_on self.old) self.old.pair.stand) self.old.pair.stand.queue draw.old.drawn) result }
+            (choice (has_on self.old) (draw_word draw.old.seed) self.old.options.strategy
+            (live_on self.old) self.old.pair.stand.queue draw.old.drawn) result }
         ensures seed { draw.new.seed ≡ draw.old.seed }
         ensures drawn { (draw.old.drawn ≤ draw.new.drawn) × (draw.new.drawn ≤ draw.old.drawn + 1) }
         ensures nothing { result ≡ Ok choice_made.Nothing → draw.new ≡ draw.old }
@@ -339,7 +353,7 @@ impl Floor {
     /// Whether a live b-thread requests the event. Takes no memory.
     pub fn requested(&self, event: &Event) -> bool
         requires rest { self.now.phase ≡ phase.Rest }
-        ensures { self.now.broken ≡ false → result ≡ requested (live (code_on self.now) self.now.pair.stand) event.now }
+        ensures { self.now.broken ≡ false → result ≡ requested (live_on self.now) event.now }
     {
         self.board.bench.requested(event)
     }
@@ -365,7 +379,8 @@ impl Floor {
     /// The fault of a set, as the verdict in the name of its b-thread. Its only error is want of memory.
     pub fn fault_verdict(&self, number: u32, fault: SetFault) -> Result<Verdict, Memory>
         requires { number < length self.now.pair.stand.threads }
-        ensures { IfOk result (λ v. (x : ℕ × run.SetFault) → FaultAs {A = List Touched} (Err x) (select_fault.Set number fault) →
+        ensures { IfOk result (λ v. (x : ℕ × run.SetFault) →
+            FaultAs {A = List Touched} (Err x) (select_fault.Set number fault) →
             v ≡ fault_verdict self.now.pair.stand x) }
     {
         self.board.fault_verdict(number, fault)
@@ -377,7 +392,10 @@ impl Floor {
         ensures whole { OnOk result (self.old.broken ≡ false) }
         ensures ground { self.new.base ≡ self.old.base }
         ensures options { self.new.options ≡ self.old.options }
-        ensures ended { OnOk result (self.new ≡ record self.old { pair = record self.old.pair { stand = over self.old.pair.stand verdict }; phase = phase.Over }) }
+        ensures ended { OnOk result (self.new ≡ record self.old {
+          pair = record self.old.pair { stand = over self.old.pair.stand verdict };
+          phase = phase.Over;
+        }) }
         ensures failed { OnErr result (IsGivenUp self.old self.new) }
     {
         if self.broken {

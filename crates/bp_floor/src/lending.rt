@@ -1,5 +1,6 @@
 //! Lending jobs.
-ghost use Rattle.std.specs.Prelude.{◌≡◌, ◌<◌, length, option_to_list, IfOk};
+ghost use Rattle.std.specs.Prelude.{◌≡◌, ◌<◌, ◌++◌, length, option_map, option_to_list, IfOk, OnOk};
+ghost use Rattle.bp_run.specs.Settling as settling;
 ghost use Rattle.js_frames.specs.Places.{plain_ground};
 ghost use Rattle.bp_floor.specs.Entries.{entry_seen};
 ghost use Rattle.bp_floor.specs.Kept.{IsBelow, Running};
@@ -13,6 +14,16 @@ use js_frames::Ground;
 use js_program::Mode;
 use js_value::copy;
 use std::alloc::Global;
+
+// One more job, if there is one.
+fn push_some(jobs: &mut Vec<Job>, job: Option<Job>) -> Result<(), Memory>
+    ensures { OnOk result (jobs.new.items ≡ jobs.old.items ++ option_to_list job) }
+{
+    if let Some(job) = job {
+        jobs.push(job)?;
+    }
+    Ok(())
+}
 
 impl Seats {
     /// The job of a handler.
@@ -43,6 +54,24 @@ impl Seats {
         )
     }
 
+    /// The job of the handler of a b-thread that is interrupted, if it set one.
+    fn lend_handler(
+        &self,
+        alloc: Global,
+        ground: &Ground,
+        options: Options,
+        number: u32,
+        handler: &Option<Handler>,
+    ) -> Result<Option<Job>, Memory>
+        requires { number < length self.now }
+        ensures { IfOk result (λ j. Lends (plain_ground ground.now) options (settling.Entry.Stops number (option_map handler_seen handler.now)) self.now self.now (option_to_list j)) }
+    {
+        match handler {
+            None => Ok(None),
+            Some(handler) => Ok(Some(self.handler_job(alloc, ground, options, number, handler)?)),
+        }
+    }
+
     /// The job of an entry, if it has a body. A b-thread's own is taken out.
     fn lend_one(
         &mut self,
@@ -57,9 +86,8 @@ impl Seats {
         match entry {
             Entry::Top => Ok(Some(Job::top(alloc, ground, options.budget())?)),
             Entry::Runs(number) => Ok(self.take(*number as usize)),
-            Entry::Stops(_, None) => Ok(None),
-            Entry::Stops(number, Some(handler)) => {
-                Ok(Some(self.handler_job(alloc, ground, options, *number, handler)?))
+            Entry::Stops(number, handler) => {
+                self.lend_handler(alloc, ground, options, *number, handler)
             }
         }
     }
@@ -77,9 +105,8 @@ impl Seats {
     {
         let mut jobs = Vec::new(alloc);
         for entry in wave.as_slice() {
-            if let Some(job) = self.lend_one(alloc, ground, options, entry)? {
-                jobs.push(job)?;
-            }
+            let job = self.lend_one(alloc, ground, options, entry)?;
+            push_some(&mut jobs, job)?;
         }
         Ok(jobs)
     }

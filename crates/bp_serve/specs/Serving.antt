@@ -1,5 +1,5 @@
 -- A run that is on its way to its end.
-use Rattle.std.specs.Prelude.{◌≡◌, ℕ, ◌+◌, ◌≤◌, false, List, [], ◌++◌, Some}
+use Rattle.std.specs.Prelude.{◌≡◌, ℕ, ◌+◌, ◌≤◌, false, List, [], ◌++◌, Option, Some}
 use Rattle.js_value.specs.Value.{PlainSet}
 use Rattle.js_meaning.specs.Bodies.{Origin}
 use Rattle.bp_log.specs.Options.{PlainOptions}
@@ -15,6 +15,13 @@ use Rattle.bp_run.specs.Text.{text}
 use Rattle.bp_floor.specs.declared.phase.Phase.{Phase}
 use Rattle.bp_floor.specs.declared.phase.Phase.TheVariants.{Ready, Lent, Rest, Over}
 use Rattle.bp_arbiter.specs.Arbiters.{PlainArbiter, code_in, options_in, stand_in, Stands}
+
+-- the records of its run without injectors, and their text
+abbrev pub records_in : PlainArbiter → List Record
+records_in a = alone (code_in a) (options_in a)
+
+abbrev pub text_in : PlainArbiter → Option (List ℕ)
+text_in a = text (code_in a) (options_in a) (records_in a)
 
 -- the records lead to c, and the run without injectors goes on from there
 pub record Ahead (l : Code Origin PlainSet) (o : PlainOptions) (records : List Record) (c : Configuration Origin) : Type 0 where

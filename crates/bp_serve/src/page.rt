@@ -53,7 +53,8 @@ impl Page {
     pub(crate) fn write<K: Sink>(&mut self, out: &mut K) -> Result<(), Failed>
         ensures emptied { self.new ≡ [] }
         ensures whole { OnOk result (Appends (K.written out.old) self.old (K.written out.new)) }
-        ensures front { OnErr result (AppendsFront (K.written out.old) self.old (K.written out.new)) }
+        ensures front { OnErr result
+            (AppendsFront (K.written out.old) self.old (K.written out.new)) }
         ensures cause { OnErr result (Rose (K.faults out.old) (K.faults out.new)) }
         ensures counts { K.faults out.old ≤ K.faults out.new }
     {
@@ -64,8 +65,10 @@ impl Page {
 
     /// Writes what waits if that is much. After a refusal a front of it was written.
     fn spill<K: Sink>(&mut self, out: &mut K) -> Result<(), Failed>
-        ensures shows { OnOk result (Shows (K.written out.old) self.old self.new (K.written out.new)) }
-        ensures front { OnErr result (ShowsFront (K.written out.old) self.old self.new (K.written out.new)) }
+        ensures shows { OnOk result
+            (Shows (K.written out.old) self.old self.new (K.written out.new)) }
+        ensures front { OnErr result
+            (ShowsFront (K.written out.old) self.old self.new (K.written out.new)) }
         ensures cause { OnErr result (Rose (K.faults out.old) (K.faults out.new)) }
         ensures counts { K.faults out.old ≤ K.faults out.new }
     {
@@ -83,9 +86,12 @@ impl Page {
         lines: &[Line],
         out: &mut K,
     ) -> Result<(), RunFault>
-        ensures shows { OnOk result (Shows (K.written out.old) (self.old ++ lines_text lines.now) self.new (K.written out.new)) }
-        ensures front { OnErr result (ShowsFront (K.written out.old) (self.old ++ lines_text lines.now) self.new (K.written out.new)) }
-        ensures cause { IsErrOf result RunFault.Write → Rose (K.faults out.old) (K.faults out.new) }
+        ensures shows { OnOk result
+            (Shows (K.written out.old) (self.old ++ lines_text lines.now) self.new (K.written out.new)) }
+        ensures front { let text = self.old ++ lines_text lines.now in
+            OnErr result (ShowsFront (K.written out.old) text self.new (K.written out.new)) }
+        ensures cause { IsErrOf result RunFault.Write
+            → Rose (K.faults out.old) (K.faults out.new) }
         ensures counts { K.faults out.old ≤ K.faults out.new }
     {
         for line in lines {

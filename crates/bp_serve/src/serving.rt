@@ -2,12 +2,10 @@
 ghost use Rattle.std.specs.Prelude.{◌≡◌, ◌<◌, ◌≤◌, ◌++◌, [], length, IfOk, OnOk, OnErr, IsErrOf, IsSomeAnd};
 ghost use Rattle.bp_base.specs.Counts.{Rose};
 ghost use Rattle.bp_log.specs.Texts.{lines_text};
-ghost use Rattle.bp_run.specs.Story.{alone};
-ghost use Rattle.bp_run.specs.Text.{text};
 ghost use Rattle.bp_floor.specs.declared.phase.Phase.TheVariants as phase;
 ghost use Rattle.bp_arbiter.specs.Arbiters.{code_in, options_in, stand_in};
 ghost use Rattle.bp_serve.specs.Pages.{Shows, ShowsFront};
-ghost use Rattle.bp_serve.specs.Serving.{IsUnderway, Underway, KeepsUnderway, TakesLines};
+ghost use Rattle.bp_serve.specs.Serving.{records_in, text_in, IsUnderway, Underway, KeepsUnderway, TakesLines};
 
 use crate::RunFault;
 use crate::carrying::carry_all;
@@ -26,7 +24,8 @@ fn turn(alloc: Global, arbiter: &mut Arbiter, slice: u64) -> Result<Phase, Memor
     ensures keeps { OnOk result (KeepsUnderway arbiter.old arbiter.new) }
     ensures phase { IfOk result (λ f. f ≡ arbiter.new.phase) }
     ensures records { OnOk result (length arbiter.old.records ≤ length arbiter.new.records) }
-    ensures grows { IfOk result (λ f. f ≡ phase.Ready → length (stand_in arbiter.old).threads < length (stand_in arbiter.new).threads) }
+    ensures grows { IfOk result (λ f. f ≡ phase.Ready
+        → length (stand_in arbiter.old).threads < length (stand_in arbiter.new).threads) }
 {
     let budget = arbiter.floor().options().budget();
     let mut jobs = arbiter.lend(alloc)?;
@@ -57,8 +56,10 @@ fn print_lines<K: Sink>(
     page: &mut Page,
     out: &mut K,
 ) -> Result<(), RunFault>
-    ensures shows { OnOk result (Shows (K.written out.old) (page.old ++ lines_text (stand_in arbiter.old).lines) page.new (K.written out.new)) }
-    ensures front { OnErr result (ShowsFront (K.written out.old) (page.old ++ lines_text (stand_in arbiter.old).lines) page.new (K.written out.new)) }
+    ensures shows { let text = page.old ++ lines_text (stand_in arbiter.old).lines in
+        OnOk result (Shows (K.written out.old) text page.new (K.written out.new)) }
+    ensures front { let text = page.old ++ lines_text (stand_in arbiter.old).lines in
+        OnErr result (ShowsFront (K.written out.old) text page.new (K.written out.new)) }
     ensures keeps { TakesLines arbiter.old arbiter.new }
     ensures records { arbiter.new.records ≡ arbiter.old.records }
     ensures phase { arbiter.new.phase ≡ arbiter.old.phase }
@@ -82,12 +83,12 @@ pub(crate) fn serve<K: Sink>(
     requires alone { (options_in arbiter.old).injectors ≡ 0 }
     requires underway { Underway (code_in arbiter.old) (options_in arbiter.old) arbiter.old [] }
     requires empty { page.old ≡ [] }
-    ensures shows { OnOk result (IsSomeAnd (text (code_in arbiter.old) (options_in arbiter.old) (alone (code_in arbiter.old) (options_in arbiter.old)))
+    ensures shows { OnOk result (IsSomeAnd (text_in arbiter.old)
         (λ text. Shows (K.written out.old) text page.new (K.written out.new))) }
-    ensures front { OnErr result (IsSomeAnd (text (code_in arbiter.old) (options_in arbiter.old) (alone (code_in arbiter.old) (options_in arbiter.old)))
+    ensures front { OnErr result (IsSomeAnd (text_in arbiter.old)
         (λ text. ShowsFront (K.written out.old) text page.new (K.written out.new))) }
     ensures over { OnOk result (arbiter.new.phase ≡ phase.Over) }
-    ensures records { OnOk result (arbiter.new.records ≡ alone (code_in arbiter.old) (options_in arbiter.old)) }
+    ensures records { OnOk result (arbiter.new.records ≡ records_in arbiter.old) }
     ensures cause { IsErrOf result RunFault.Write → Rose (K.faults out.old) (K.faults out.new) }
     ensures counts { K.faults out.old ≤ K.faults out.new }
 {

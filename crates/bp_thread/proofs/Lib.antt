@@ -3,3 +3,4 @@ pub mod Beginning
 pub mod Giving
 pub mod Slicing
 pub mod Carrying
+pub mod Crosses

@@ -1,6 +1,7 @@
 //! What b-threads state, and b-threads, handlers and the top level as jobs that are carried on slice by slice.
 #![tactic(auto)]
 
+mod crossing;
 mod events;
 mod job;
 mod keeping;
@@ -10,6 +11,7 @@ mod pausing;
 mod reading;
 mod statement;
 
+pub use crossing::job_moves;
 pub use events::Events;
 pub use job::Job;
 pub use outcome::Outcome;

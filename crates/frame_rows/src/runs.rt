@@ -5,8 +5,8 @@ ghost use Rattle.js_frames.specs.Runs.{IsOfProgram, asked_by};
 
 use bp_script::{ScriptFault, accept};
 use js_data::{Event, Text};
-use js_json::event_text;
 use js_frames::{Effect, Effects, Ground, Machine, Pause};
+use js_json::event_text;
 use js_program::{Mode, Program};
 use js_value::Value;
 use std::alloc::{AllocError, Global};
@@ -154,7 +154,10 @@ fn found(alloc: Global, place: Place, cell: &str, nodes: u64) -> Result<String, 
     match place {
         Place::Top => top_run(alloc, program.as_str(), nodes),
         Place::Body(mode) => {
-            let script = format!(in alloc; "bp.registerBThread('t', (e) => {{ {} }})", program.as_str())?;
+            let script = format!(in alloc;
+                "bp.registerBThread('t', (e) => {{ {} }})",
+                program.as_str()
+            )?;
             body_run(alloc, script.as_str(), mode, nodes)
         }
     }

@@ -1,0 +1,31 @@
+-- Jobs may move to other threads, with their machines, effects and statements.
+use denote.Param.Send.{IsSend, sendable}
+use denote.Param.SendFields.{declared_send, variants_send}
+use Rattle.std.proofs.Crossing.{crosses, send as heap_send}
+use Rattle.js_data.proofs.fault.Fault.TheSendSync as fault
+use Rattle.js_data.proofs.whole.Whole.TheSendSync as whole
+use Rattle.js_program.proofs.builtin.Mode.TheSendSync as mode
+use Rattle.js_program.proofs.Crosses.{text_send}
+use Rattle.js_value.proofs.Crosses.{items_send, value_send, event_set_send}
+use Rattle.js_frames.proofs.Crosses.{event_send, effects_send, machine_send}
+use Rattle.bp_thread.specs.contracts.events.Events as Events
+use Rattle.bp_thread.specs.contracts.statement.Statement as Statement
+use Rattle.bp_thread.specs.contracts.outcome.Outcome as Outcome
+use Rattle.bp_thread.specs.contracts.origin.Origin as Origin
+use Rattle.bp_thread.specs.contracts.job.Job as Job
+
+events_send : IsSend Events.the_row
+events_send = search (sendable, crosses, event_send) depth 18
+
+statement_send : IsSend Statement.the_row
+statement_send = declared_send Statement.the_type (events_send, (search (sendable, event_set_send), (search (sendable, event_set_send), (search (sendable, event_set_send), (search (sendable, whole.the_send), tt)))))
+
+outcome_send : IsSend Outcome.the_row
+outcome_send = variants_send Outcome.enum ((statement_send, tt), (tt, ((search (sendable, fault.the_send), (search sendable, tt)), ((text_send, tt), (tt, tt)))))
+
+origin_send : IsSend Origin.the_row
+origin_send = variants_send Origin.enum (tt, ((search (sendable, mode.the_send), (search (sendable, value_send), (search (sendable, items_send), tt))), tt))
+
+pub job_send : IsSend Job.the_row
+job_send = declared_send Job.the_type
+    (search (sendable, heap_send), (search sendable, (text_send, (origin_send, (events_send, (search (sendable, machine_send) depth 18, (effects_send, (search (sendable, value_send) depth 18, (search (sendable, outcome_send) depth 18, tt)))))))))
