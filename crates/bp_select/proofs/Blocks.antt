@@ -1,5 +1,5 @@
 -- B-threads that plainly block nothing need not be asked.
-use Rattle.std.proofs.Common.{◌≡◌, ℕ, ◌+◌, ◌<◌, ◌≤◌, suc, Bool, true, false, not, ◌||◌, List, [], ◌∷◌, ◌++◌, length, map, drop, get_or, filter, refl, ap, sym, ◌∙◌, subst, append_assoc, append-nil, Option, Some, None, Result, Ok, Err, if◌then◌else◌}
+use Rattle.std.proofs.Common.{◌≡◌, ℕ, ◌+◌, ◌<◌, ◌≤◌, suc, Bool, true, false, ◌||◌, List, [], ◌∷◌, ◌++◌, length, map, drop, get_or, refl, ap, sym, ◌∙◌, append_assoc, append-nil, Option, Some, Ok, Err, if◌then◌else◌}
 use Rattle.js_data.specs.Event.{PlainEvent}
 use Rattle.js_value.specs.Value as v
 use Rattle.js_value.specs.Value.{PlainSet}

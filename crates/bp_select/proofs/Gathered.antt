@@ -1,9 +1,9 @@
 -- Events that are gathered without repeats are the distinct ones.
-use Rattle.std.proofs.Common.{◌≡◌, ℕ, ◌+◌, ◌<◌, ◌≤◌, Bool, true, false, not, ◌&&◌, ◌||◌, List, [], ◌∷◌, ◌++◌, length, map, drop, get_or, refl, ap, sym, ◌∙◌, subst, append_assoc, append-nil, filter, flat_map, cond, if◌then◌else◌}
+use Rattle.std.proofs.Common.{◌≡◌, Bool, true, false, not, ◌&&◌, ◌||◌, List, [], ◌∷◌, ◌++◌, refl, ap, sym, ◌∙◌, subst, append_assoc, append-nil, filter, cond, if◌then◌else◌}
 use Rattle.std.specs.List.{list_any}
 use Rattle.std.proofs.lemmas.List.Folds.{list_any-append}
 use Rattle.js_data.specs.Event.{PlainEvent, same_event}
-use Rattle.js_data.proofs.SameEvent.{same_event-sound, same_event-self}
+use Rattle.js_data.proofs.SameEvent.{same_event-sound}
 use Rattle.bp_run.specs.Selecting.{distinct}
 use Rattle.bp_select.specs.Keys.{same_sym}
 

@@ -1,16 +1,13 @@
 -- What remains under a strategy.
-use Rattle.std.proofs.Common.{◌≡◌, ℕ, ◌+◌, ◌<◌, ◌≤◌, arith, Bool, true, false, not, ◌&&◌, List, [], ◌∷◌, ◌++◌, length, map, drop, get_or, refl, ap, sym, ◌∙◌, append_assoc, append-nil, filter, find, if◌then◌else◌, Option, Some, None}
+use Rattle.std.proofs.Common.{◌≡◌, ℕ, ◌+◌, ◌<◌, ◌≤◌, arith, Bool, true, false, ◌&&◌, List, [], ◌∷◌, length, map, drop, get_or, refl, ap, sym, ◌∙◌, filter, if◌then◌else◌, Option, Some, None}
 use Rattle.std.specs.Prelude.{ℤ, pos, negsuc, int_le, leb}
-use Rattle.std.specs.List.{list_any, list_all}
-use Rattle.js_data.specs.Event.{PlainEvent, same_event}
+use Rattle.std.specs.List.{list_all}
+use Rattle.js_data.specs.Event.{PlainEvent}
 use Rattle.js_value.specs.Value.{PlainSet}
-use Rattle.bp_log.specs.declared.options.Strategy.TheVariants.{Ordered, Priority}
-use Rattle.bp_run.specs.Selecting.{Live, requests}
-use Rattle.bp_run.specs.Choosing.{is_first_of, greater, priority_of, at_most, is_greatest, remaining}
-use Rattle.bp_select.specs.declared.bench.Stated.{Stated}
-use Rattle.bp_select.specs.Lives.{live_of}
+use Rattle.bp_log.specs.declared.options.Strategy.TheVariants.{Priority}
+use Rattle.bp_run.specs.Selecting.{Live}
+use Rattle.bp_run.specs.Choosing.{greater, priority_of, at_most, is_greatest, remaining}
 use Rattle.bp_select.specs.Priorities.{upper, top_of}
-use Rattle.bp_select.proofs.Lives.{any_of}
 use Rattle.bp_select.proofs.Questions.{drop_is, drop_end}
 
 -- ---- filters by tests that agree

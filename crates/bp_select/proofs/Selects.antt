@@ -105,9 +105,9 @@ drawn_many {A = A} f word d (a ∷ b ∷ rest) i x e h k m =
     let some = λ (y : PlainEvent). (let one : Choice = record { event = y; place = None; drawn = d + 1 } in one) in
     let within : i < length xs = subst (λ (n : ℕ). n < length xs) (sym k) (mod_below (word d) (length xs) (omega arith)) in
     let at : slice_get (map f xs) (word d % length (map f xs)) ≡ Some e =
-        ap (λ (n : ℕ). slice_get (map f xs) (word d % n)) (length-map xs f)
-        ∙ ap (λ (n : ℕ). slice_get (map f xs) n) (sym k)
-        ∙ slice_get-map f xs i
-        ∙ ap (λ (o : Option A). option_map f o) (slice_get-get_or xs i x within)
-        ∙ ap (λ (y : PlainEvent). Some y) (sym m) in
+    ap (λ (n : ℕ). slice_get (map f xs) (word d % n)) (length-map xs f)
+    ∙ ap (λ (n : ℕ). slice_get (map f xs) n) (sym k)
+    ∙ slice_get-map f xs i
+    ∙ ap (λ (o : Option A). option_map f o) (slice_get-get_or xs i x within)
+    ∙ ap (λ (y : PlainEvent). Some y) (sym m) in
     sym (ap (λ (o : Option PlainEvent). option_map some o) at)

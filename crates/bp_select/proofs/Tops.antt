@@ -1,12 +1,12 @@
 -- Requests that are gathered with the greatest priority of each event.
-use Rattle.std.proofs.Common.{◌≡◌, ℕ, zero, suc, ◌+◌, ◌<◌, ◌≤◌, arith, Bool, true, false, ◌||◌, List, [], ◌∷◌, ◌++◌, length, map, drop, get_or, refl, ap, sym, ◌∙◌, subst, flat_map, if◌then◌else◌, Option, Some, None}
+use Rattle.std.proofs.Common.{◌≡◌, ℕ, zero, suc, ◌<◌, arith, Bool, true, false, ◌||◌, List, [], ◌∷◌, ◌++◌, length, map, get_or, refl, ap, sym, ◌∙◌, subst, flat_map, if◌then◌else◌, Option, Some, None}
 use Rattle.std.specs.Prelude.{ℤ, int_le}
 use Rattle.std.specs.List.{list_any}
 use Rattle.js_data.specs.Event.{PlainEvent, same_event}
 use Rattle.js_data.proofs.SameEvent.{same_event-sound, same_event-self}
 use Rattle.js_value.specs.Value.{PlainSet}
 use Rattle.bp_run.specs.Selecting.{Live, requests, candidates}
-use Rattle.bp_run.specs.Choosing.{greater, priority_of}
+use Rattle.bp_run.specs.Choosing.{priority_of}
 use Rattle.bp_select.specs.Priorities.{upper}
 use Rattle.bp_select.specs.Tops.{Top, events_of, raised, with_request, with_requests, with_live, HaveTops}
 use Rattle.bp_select.specs.Keys.{same_sym}

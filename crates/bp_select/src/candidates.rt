@@ -21,13 +21,7 @@ fn raised(top: Option<i64>, priority: i64) -> i64
 {
     match top {
         None => priority,
-        Some(top) => {
-            if top <= priority {
-                priority
-            } else {
-                top
-            }
-        }
+        Some(top) => { if top <= priority { priority } else { top } }
     }
 }
 
@@ -58,7 +52,10 @@ fn listed<'a>(alloc: Global, tops: Tops<'a>) -> Result<Vec<Candidate<'a>>, Memor
     ensures { IfOk result (λ l. l.items ≡ map candidate_of tops.entry.entries) }
 {
     tops.into_iter()
-        .map(|(key, top)| Candidate { event: key.event, top })
+        .map(|(key, top)| Candidate {
+            event: key.event,
+            top,
+        })
         .collect(alloc)
 }
 

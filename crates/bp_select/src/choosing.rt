@@ -24,7 +24,9 @@ fn keys<'a>(alloc: Global, candidates: &[Candidate<'a>]) -> Result<IndexSet<Key<
 {
     let mut events = IndexSet::new(alloc);
     for candidate in candidates {
-        events.insert(Key { event: candidate.event })?;
+        events.insert(Key {
+            event: candidate.event,
+        })?;
     }
     Ok(events)
 }
@@ -71,7 +73,9 @@ fn ordered<'a>(
     let firsts = firsts(alloc, live, &events)?;
     let mut kept = Vec::new(alloc);
     for candidate in inner {
-        let first = firsts.contains(&Key { event: candidate.event });
+        let first = firsts.contains(&Key {
+            event: candidate.event,
+        });
         keep_if(&mut kept, first, candidate)?;
     }
     Ok(kept)

@@ -101,7 +101,13 @@ pub(crate) fn selectable<'a>(
 {
     let candidates = candidates(alloc, live)?;
     let blocking = blocking(alloc, live)?;
-    let inner = unblocked(alloc, ground, budget, blocking.as_slice(), candidates.as_slice())?;
+    let inner = unblocked(
+        alloc,
+        ground,
+        budget,
+        blocking.as_slice(),
+        candidates.as_slice(),
+    )?;
     let count = inner.as_slice().len();
     if count == 0 {
         return queued(alloc, ground, budget, blocking.as_slice(), queue);

@@ -300,7 +300,10 @@ fn sets_that_answer_no_truth(rt: HostRuntime) -> Result<(), Fail> {
     let said = choice.err().ok_or("a choice")?;
     assert_eq!(rt; fault(&said), "1 no truth on line 1");
     assert_eq!(rt; draw.drawn(), 0);
-    assert_eq!(rt; made.blocker(alloc, &ground, &event(alloc, "e")?, 1_000)?, Some(0));
+    assert_eq!(rt;
+        made.blocker(alloc, &ground, &event(alloc, "e")?, 1_000)?,
+        Some(0)
+    );
     Ok(())
 }
 

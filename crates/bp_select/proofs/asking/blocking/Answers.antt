@@ -15,15 +15,15 @@ loop-stated-preserved c =
     let old = c.loop-stated.those.items in
     elim c.if-not-empty.branch [
       | then-not-empty+in_ok-push w ↦
-        blocking_step all c.loop-stated.stated-index c.stated-item.result (map lent old) (map lent c.if-not-empty.those.items) (blocking (map live_of all)) false
-        c.loop-stated-test.true c.stated-item.is w.if-not-empty.ensures
-        (ap (λ (v : Vec (Bor Stated) Global). map lent v.items) w.those-is ∙ ap (λ (xs : List (Bor Stated)). map lent xs) w.in_ok-push.ensures.items ∙ map_push lent old _)
-        c.loop-stated.invariant
+          blocking_step all c.loop-stated.stated-index c.stated-item.result (map lent old) (map lent c.if-not-empty.those.items) (blocking (map live_of all)) false
+          c.loop-stated-test.true c.stated-item.is w.if-not-empty.ensures
+          (ap (λ (v : Vec (Bor Stated) Global). map lent v.items) w.those-is ∙ ap (λ (xs : List (Bor Stated)). map lent xs) w.in_ok-push.ensures.items ∙ map_push lent old _)
+          c.loop-stated.invariant
       | else-not-empty w ↦
-        blocking_step all c.loop-stated.stated-index c.stated-item.result (map lent old) (map lent c.if-not-empty.those.items) (blocking (map live_of all)) true
-        c.loop-stated-test.true c.stated-item.is w.if-not-empty.ensures
-        (ap (λ (v : Vec (Bor Stated) Global). map lent v.items) w.those-is)
-        c.loop-stated.invariant
+          blocking_step all c.loop-stated.stated-index c.stated-item.result (map lent old) (map lent c.if-not-empty.those.items) (blocking (map live_of all)) true
+          c.loop-stated-test.true c.stated-item.is w.if-not-empty.ensures
+          (ap (λ (v : Vec (Bor Stated) Global). map lent v.items) w.those-is)
+          c.loop-stated.invariant
     ]
 
 pub returns : goal.returns

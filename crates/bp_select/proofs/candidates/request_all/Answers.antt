@@ -1,4 +1,4 @@
-use Rattle.std.proofs.Common.{◌≡◌, ◌<◌, ◌≤◌, ◌∙◌, ℕ, ℤ, List, length, get_or, subst, ap, w64, SFits, to_z-of_z, rules}
+use Rattle.std.proofs.Common.{◌≡◌, ◌<◌, ◌≤◌, ◌∙◌, ℤ, List, length, get_or, subst, ap, w64, SFits, to_z-of_z, rules}
 use Rattle.js_data.specs.Event.{PlainEvent}
 use Rattle.bp_select.specs.Tops.{with_request, with_requests}
 use Rattle.bp_select.specs.Candidates.{tops_in}

@@ -15,14 +15,14 @@ loop-stated-preserved c =
     let test = is_among c.args.events.now in
     elim c.match-first_among.branch [
       | in-Some+in_ok-insert w ↦ λ e.
-        firsts_more (is_first test e) all i x e w.in-Some.event.now (is_among c.loop-stated.firsts e) (is_among c.match-first_among.firsts e) (list_any (is_first test e) (map live_of all))
-        c.loop-stated-test.true c.stated-item.is (first_found test e w.in-Some.event.now (live_of x) w.in-Some.ensures)
-        (ap (λ s. is_among s e) w.firsts-is ∙ among_more (λ (k : Key). k.event.now) c.loop-stated.firsts.keys w.insert.new.self.keys _ e w.in_ok-insert.ensures.keys)
-        (c.loop-stated.invariant e)
+          firsts_more (is_first test e) all i x e w.in-Some.event.now (is_among c.loop-stated.firsts e) (is_among c.match-first_among.firsts e) (list_any (is_first test e) (map live_of all))
+          c.loop-stated-test.true c.stated-item.is (first_found test e w.in-Some.event.now (live_of x) w.in-Some.ensures)
+          (ap (λ s. is_among s e) w.firsts-is ∙ among_more (λ (k : Key). k.event.now) c.loop-stated.firsts.keys w.insert.new.self.keys _ e w.in_ok-insert.ensures.keys)
+          (c.loop-stated.invariant e)
       | in_default w ↦ λ e.
-        ap (λ s. is_among s e || any_later (is_first test e) (i + 1) all) w.firsts-is
-        ∙ firsts_same (is_first test e) all i x (is_among c.loop-stated.firsts e) (list_any (is_first test e) (map live_of all))
-        c.loop-stated-test.true c.stated-item.is (first_missing test e (live_of x) w.in_default.ensures) (c.loop-stated.invariant e)
+          ap (λ s. is_among s e || any_later (is_first test e) (i + 1) all) w.firsts-is
+          ∙ firsts_same (is_first test e) all i x (is_among c.loop-stated.firsts e) (list_any (is_first test e) (map live_of all))
+          c.loop-stated-test.true c.stated-item.is (first_missing test e (live_of x) w.in_default.ensures) (c.loop-stated.invariant e)
     ]
 
 pub returns : goal.returns

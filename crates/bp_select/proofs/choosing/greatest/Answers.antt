@@ -1,4 +1,4 @@
-use Rattle.std.proofs.Common.{◌≡◌, ◌∙◌, ℤ, Option, Bool, filter, ap, sym, Some, w64, SFits, to_z-of_z, rules}
+use Rattle.std.proofs.Common.{◌∙◌, ℤ, Option, filter, ap, sym, Some, w64, SFits, to_z-of_z, rules}
 use Rattle.js_data.specs.Event.{PlainEvent}
 use Rattle.bp_run.specs.Choosing.{at_most, priority_of}
 use Rattle.bp_select.specs.Priorities.{top_of}

@@ -1,4 +1,4 @@
-use Rattle.std.proofs.Common.{◌≡◌, ◌∙◌, filter, map}
+use Rattle.std.proofs.Common.{◌∙◌, filter, map}
 use Rattle.std.specs.List.{list_any}
 use Rattle.js_data.specs.Event.{PlainEvent}
 use Rattle.bp_run.specs.Choosing.{is_first_of}

@@ -1,6 +1,5 @@
 use Rattle.std.proofs.Common.{◌∙◌, List, ap, map, sym, subst}
 use Rattle.std.proofs.lemmas.Result.{IfOk-weaker}
-use Rattle.js_data.specs.Event.{PlainEvent}
 use Rattle.bp_log.specs.declared.options.Strategy.TheVariants.{Priority}
 use Rattle.bp_run.specs.Choosing.{remaining}
 use Rattle.bp_select.specs.declared.candidate.Candidate.{Candidate}

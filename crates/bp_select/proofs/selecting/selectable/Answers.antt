@@ -19,7 +19,7 @@ returns-in_err-inner-clause-free c =
     let ts = map live_of c.args.live.now in
     let es = events_in c.as_slice-2.result.now in
     let found : es ≡ candidates ts =
-        ap (λ (cs : List Candidate). events_in cs) c.as_slice-2.ensures.value ∙ are_candidates event_of (λ (x : Candidate). x.top) c.in_ok-candidates.candidates.items ts c.in_ok-candidates.ensures in
+    ap (λ (cs : List Candidate). events_in cs) c.as_slice-2.ensures.value ∙ are_candidates event_of (λ (x : Candidate). x.top) c.in_ok-candidates.candidates.items ts c.in_ok-candidates.ensures in
     let those : map lent c.as_slice.result.now ≡ blocking ts = ap (λ xs. map lent xs) c.as_slice.ensures.value ∙ c.in_ok-blocking.ensures in
     rw (p.1, p.2) (selectable_fault (plain_ground c.args.ground.now) c.args.budget ts (map lent c.as_slice.result.now) c.args.queue.now es found those _ c.in_err-inner.ensures.events)
 
@@ -28,7 +28,7 @@ returns-then-count-eq0-clause-free c =
     let ts = map live_of c.args.live.now in
     let es = events_in c.as_slice-2.result.now in
     let found : es ≡ candidates ts =
-        ap (λ (cs : List Candidate). events_in cs) c.as_slice-2.ensures.value ∙ are_candidates event_of (λ (x : Candidate). x.top) c.in_ok-candidates.candidates.items ts c.in_ok-candidates.ensures in
+    ap (λ (cs : List Candidate). events_in cs) c.as_slice-2.ensures.value ∙ are_candidates event_of (λ (x : Candidate). x.top) c.in_ok-candidates.candidates.items ts c.in_ok-candidates.ensures in
     let those : map lent c.as_slice.result.now ≡ blocking ts = ap (λ xs. map lent xs) c.as_slice.ensures.value ∙ c.in_ok-blocking.ensures in
     let again : map lent c.as_slice-then-count-eq0.result.now ≡ blocking ts = ap (λ xs. map lent xs) c.as_slice-then-count-eq0.ensures.value ∙ c.in_ok-blocking.ensures in
     let none = length-map c.in_ok-inner.inner.items event_of ∙ sym (ap (λ (cs : List Candidate). length cs) c.as_slice-count.ensures.value) ∙ c.if-count-eq0.true in
@@ -42,7 +42,7 @@ returns-clause-free c =
     let ts = map live_of c.args.live.now in
     let es = events_in c.as_slice-2.result.now in
     let found : es ≡ candidates ts =
-        ap (λ (cs : List Candidate). events_in cs) c.as_slice-2.ensures.value ∙ are_candidates event_of (λ (x : Candidate). x.top) c.in_ok-candidates.candidates.items ts c.in_ok-candidates.ensures in
+    ap (λ (cs : List Candidate). events_in cs) c.as_slice-2.ensures.value ∙ are_candidates event_of (λ (x : Candidate). x.top) c.in_ok-candidates.candidates.items ts c.in_ok-candidates.ensures in
     let those : map lent c.as_slice.result.now ≡ blocking ts = ap (λ xs. map lent xs) c.as_slice.ensures.value ∙ c.in_ok-blocking.ensures in
     selectable_inner (plain_ground c.args.ground.now) c.args.budget ts (map lent c.as_slice.result.now) c.args.queue.now es found those (events_in c.in_ok-inner.inner.items) c.in_ok-inner.ensures.events
     (λ z. c.if-count-eq0.false (ap (λ (cs : List Candidate). length cs) c.as_slice-count.ensures.value ∙ sym (length-map c.in_ok-inner.inner.items event_of) ∙ z))
