@@ -45,7 +45,8 @@ fn blocks(
     event: &Event,
 ) -> Result<bool, SelectFault>
     ensures { let t = live_of stated.now in
-        AnswersAs (λ b. b) (by_number t.number (member (plain_ground ground.now) budget t.statement.block event.now)) result }
+        AnswersAs (λ b. b) (by_number t.number
+        (member (plain_ground ground.now) budget t.statement.block event.now)) result }
 {
     named(
         stated.number,
@@ -93,7 +94,8 @@ fn is_blocked(
     blocking: &[&Stated],
     event: &Event,
 ) -> Result<bool, SelectFault>
-    ensures { AnswersAs (λ b. b) (blocked (member (plain_ground ground.now) budget) (map lent blocking.now) event.now) result }
+    ensures { AnswersAs (λ b. b)
+        (blocked (member (plain_ground ground.now) budget) (map lent blocking.now) event.now) result }
 {
     let mut yes = false;
     for stated in blocking {
@@ -112,8 +114,10 @@ pub(crate) fn unblocked<'a>(
     candidates: &[Candidate<'a>],
 ) -> Result<Vec<Candidate<'a>>, SelectFault>
     ensures events { AnswersAs (λ l. events_in l.items)
-        (unblocked (member (plain_ground ground.now) budget) (map lent blocking.now) (events_in candidates.now)) result }
-    ensures tops { (ts : List (Live PlainSet)) → HaveTops ts (tops_of candidates.now) → IfOk result (λ l. HaveTops ts (tops_of l.items)) }
+        (unblocked (member (plain_ground ground.now) budget) (map lent blocking.now)
+        (events_in candidates.now)) result }
+    ensures tops { (ts : List (Live PlainSet)) → HaveTops ts (tops_of candidates.now) →
+        IfOk result (λ l. HaveTops ts (tops_of l.items)) }
 {
     let mut free = Vec::new(alloc);
     for candidate in candidates {
@@ -133,7 +137,8 @@ pub(crate) fn first_unblocked(
 ) -> Result<Option<u32>, SelectFault>
     requires { length queue.now < 2 ^ 32 }
     ensures { AnswersAs (λ o. o)
-        (first_unblocked (member (plain_ground ground.now) budget) (map lent blocking.now) 0 queue.now) result }
+        (first_unblocked (member (plain_ground ground.now) budget) (map lent blocking.now) 0
+        queue.now) result }
 {
     for (place, event) in queue.iter().enumerate() {
         let blocked = is_blocked(alloc, ground, budget, blocking, event)?;
@@ -152,7 +157,8 @@ pub(crate) fn blocker(
     live: &[Stated],
     event: &Event,
 ) -> Result<Option<u32>, SelectFault>
-    ensures { AnswersAs (λ o. o) (blocker (member (plain_ground ground.now) budget) (map live_of live.now) event.now) result }
+    ensures { AnswersAs (λ o. o)
+        (blocker (member (plain_ground ground.now) budget) (map live_of live.now) event.now) result }
 {
     for stated in live {
         if blocks(alloc, ground, budget, stated, event)? {

@@ -75,9 +75,11 @@ impl Bench {
     ///
     /// Want of memory alone, and then all state what they stated.
     pub fn place(&mut self, number: u32, statement: Option<Statement>) -> Result<(), Memory>
-        ensures placed { OnOk result (self.new.live ≡ placed number (option_map plain_statement statement) self.old.live) }
+        ensures placed { OnOk result
+            (self.new.live ≡ placed number (option_map plain_statement statement) self.old.live) }
         ensures failed { OnErr result (self.new.live ≡ self.old.live) }
-        ensures fits { (base : Base) (budget : ℕ) → Fits self.old base budget → Fits self.new base budget }
+        ensures fits { (base : Base) (budget : ℕ) →
+            Fits self.old base budget → Fits self.new base budget }
     {
         let at = place_of(self.live.as_slice(), number);
         match statement {
@@ -105,7 +107,8 @@ impl Bench {
     ) -> Result<Enabled, SelectFault>
         requires fits { Fits self.old (plain_ground ground.now) budget }
         requires few { length queue.now < 2 ^ 32 }
-        ensures enabled { AnswersAs enabled_of (selectable (member (plain_ground ground.now) budget) self.old.live queue.now) result }
+        ensures enabled { AnswersAs enabled_of
+            (selectable (member (plain_ground ground.now) budget) self.old.live queue.now) result }
         ensures same { self.new.live ≡ self.old.live }
         ensures fits { Fits self.new (plain_ground ground.now) budget }
     {
@@ -132,7 +135,8 @@ impl Bench {
         requires few { length queue.now < 2 ^ 32 }
         requires words { draw.old.drawn + 1 < 2 ^ 64 }
         ensures chosen { AnswersAs (chosen_of queue.now draw.new.drawn)
-            (choice (member (plain_ground ground.now) budget) (draw_word draw.old.seed) strategy self.old.live queue.now draw.old.drawn) result }
+            (choice (member (plain_ground ground.now) budget) (draw_word draw.old.seed) strategy
+            self.old.live queue.now draw.old.drawn) result }
         ensures seed { draw.new.seed ≡ draw.old.seed }
         ensures drawn { (draw.old.drawn ≤ draw.new.drawn) × (draw.new.drawn ≤ draw.old.drawn + 1) }
         ensures nothing { result ≡ Ok Choice.Nothing → draw.new ≡ draw.old }
@@ -158,7 +162,8 @@ impl Bench {
         budget: u64,
     ) -> Result<Reach, SelectFault>
         requires fits { Fits self.old (plain_ground ground.now) budget }
-        ensures reached { AnswersReach (reach (member (plain_ground ground.now) budget) event.now self.old.live) result }
+        ensures reached { AnswersReach
+            (reach (member (plain_ground ground.now) budget) event.now self.old.live) result }
         ensures same { self.new.live ≡ self.old.live }
         ensures fits { Fits self.new (plain_ground ground.now) budget }
     {
@@ -178,7 +183,8 @@ impl Bench {
         budget: u64,
     ) -> Result<Option<u32>, SelectFault>
         requires fits { Fits self.old (plain_ground ground.now) budget }
-        ensures blocker { AnswersAs (λ o. o) (blocker (member (plain_ground ground.now) budget) self.old.live event.now) result }
+        ensures blocker { AnswersAs (λ o. o)
+            (blocker (member (plain_ground ground.now) budget) self.old.live event.now) result }
         ensures same { self.new.live ≡ self.old.live }
         ensures fits { Fits self.new (plain_ground ground.now) budget }
     {

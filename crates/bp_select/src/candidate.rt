@@ -19,7 +19,8 @@ pub(crate) fn keep_if<'a>(
     keeps: bool,
     candidate: &Candidate<'a>,
 ) -> Result<(), Memory>
-    ensures { OnOk result (kept.new.items ≡ (if keeps then kept.old.items ++ candidate.now ∷ [] else kept.old.items)) }
+    ensures { OnOk result
+        (kept.new.items ≡ (if keeps then kept.old.items ++ candidate.now ∷ [] else kept.old.items)) }
 {
     if keeps {
         kept.push(*candidate)?;

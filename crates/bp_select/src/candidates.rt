@@ -38,7 +38,8 @@ fn request<'a>(tops: &mut Tops<'a>, event: &'a Event, priority: i64) -> Result<(
 /// What one b-thread requests. Its only error is want of memory.
 fn request_all<'a>(tops: &mut Tops<'a>, stated: &'a Stated) -> Result<(), Memory>
     ensures { let t = live_of stated.now in
-        OnOk result (tops_in tops.new ≡ with_requests t.statement.priority (tops_in tops.old) t.statement.request) }
+        OnOk result (tops_in tops.new ≡ with_requests t.statement.priority (tops_in tops.old)
+        t.statement.request) }
 {
     let priority = stated.statement.priority.get();
     for event in stated.statement.request.as_slice() {

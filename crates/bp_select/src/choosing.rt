@@ -20,7 +20,8 @@ use std::alloc::Global;
 
 /// The events of the candidates. Its only error is want of memory.
 fn keys<'a>(alloc: Global, candidates: &[Candidate<'a>]) -> Result<IndexSet<Key<'a>>, Memory>
-    ensures { (e : PlainEvent) → IfOk result (λ s. is_among s e ≡ list_any (same_event e) (events_in candidates.now)) }
+    ensures { (e : PlainEvent) → IfOk result
+        (λ s. is_among s e ≡ list_any (same_event e) (events_in candidates.now)) }
 {
     let mut events = IndexSet::new(alloc);
     for candidate in candidates {
@@ -33,7 +34,8 @@ fn keys<'a>(alloc: Global, candidates: &[Candidate<'a>]) -> Result<IndexSet<Key<
 
 /// The first request of the b-thread that is among these events.
 fn first_among<'a>(events: &IndexSet<Key<'a>>, stated: &'a Stated) -> Option<&'a Event>
-    ensures { option_map (λ e. e.now) result ≡ find (is_among events.now) (live_of stated.now).statement.request }
+    ensures { option_map (λ e. e.now) result ≡ find (is_among events.now)
+        (live_of stated.now).statement.request }
 {
     for request in stated.statement.request.as_slice() {
         if events.contains(&Key { event: request }) {
@@ -49,7 +51,8 @@ fn firsts<'a>(
     live: &'a [Stated],
     events: &IndexSet<Key<'a>>,
 ) -> Result<IndexSet<Key<'a>>, Memory>
-    ensures { (e : PlainEvent) → IfOk result (λ s. is_among s e ≡ list_any (is_first (is_among events.now) e) (map live_of live.now)) }
+    ensures { (e : PlainEvent) → IfOk result
+        (λ s. is_among s e ≡ list_any (is_first (is_among events.now) e) (map live_of live.now)) }
 {
     let mut firsts = IndexSet::new(alloc);
     for stated in live {
@@ -67,7 +70,8 @@ fn ordered<'a>(
     inner: &[Candidate<'a>],
 ) -> Result<Vec<Candidate<'a>>, Memory>
     ensures { let events = events_in inner.now in
-        IfOk result (λ l. events_in l.items ≡ filter (λ e. list_any (is_first_of events e) (map live_of live.now)) events) }
+        IfOk result (λ l. events_in l.items
+        ≡ filter (λ e. list_any (is_first_of events e) (map live_of live.now)) events) }
 {
     let events = keys(alloc, inner)?;
     let firsts = firsts(alloc, live, &events)?;
@@ -96,7 +100,8 @@ fn upper(left: Option<i64>, right: Option<i64>) -> Option<i64>
 
 /// The greatest priority of the candidates.
 fn top_of(candidates: &[Candidate<'_>]) -> Option<i64>
-    ensures { (ts : List (Live PlainSet)) → HaveTops ts (tops_of candidates.now) → result ≡ top_of ts (events_in candidates.now) }
+    ensures { (ts : List (Live PlainSet)) → HaveTops ts (tops_of candidates.now) →
+        result ≡ top_of ts (events_in candidates.now) }
 {
     let mut top = None;
     for candidate in candidates {
@@ -122,7 +127,8 @@ fn at_most(left: Option<i64>, right: Option<i64>) -> bool
 fn greatest<'a>(alloc: Global, inner: &[Candidate<'a>]) -> Result<Vec<Candidate<'a>>, Memory>
     ensures { let events = events_in inner.now in
         (ts : List (Live PlainSet)) → HaveTops ts (tops_of inner.now) →
-        IfOk result (λ l. events_in l.items ≡ filter (λ e. at_most (top_of ts events) (priority_of ts e)) events) }
+        IfOk result (λ l. events_in l.items
+        ≡ filter (λ e. at_most (top_of ts events) (priority_of ts e)) events) }
 {
     let top = top_of(inner);
     let mut kept = Vec::new(alloc);
@@ -141,7 +147,8 @@ pub(crate) fn remaining<'a>(
     inner: Vec<Candidate<'a>>,
 ) -> Result<Vec<Candidate<'a>>, Memory>
     requires { HaveTops (map live_of live.now) (tops_of inner.items) }
-    ensures { IfOk result (λ l. events_in l.items ≡ remaining strategy (map live_of live.now) (events_in inner.entry.items)) }
+    ensures { IfOk result
+        (λ l. events_in l.items ≡ remaining strategy (map live_of live.now) (events_in inner.entry.items)) }
 {
     match strategy {
         Strategy::Simple => Ok(inner),

@@ -29,7 +29,8 @@ fn feed_items<H: Hasher>(items: &[Data], state: &mut H)
 
 /// Feeds the leaves of fields, one after another.
 fn feed_fields<H: Hasher>(fields: &[(Text, Data)], state: &mut H)
-    ensures { state.new ≡ fold H.write state.old (flat_map (λ f. leaf_writes f.1) (map plain_field fields.now)) }
+    ensures { state.new ≡ fold H.write state.old
+        (flat_map (λ f. leaf_writes f.1) (map plain_field fields.now)) }
 {
     for field in fields {
         feed_leaf(&field.1, state);

@@ -33,7 +33,8 @@ fn is_at(live: &[Stated], at: usize, number: u32) -> bool
 /// Puts the statement at its place, for that of the same number if there is one.
 pub(crate) fn put(live: &mut Vec<Stated>, at: usize, stated: Stated) -> Result<(), Memory>
     requires { at ≡ place_in stated.number (map live_of live.old.items) }
-    ensures put { OnOk result (map live_of live.new.items ≡ placed stated.number (Some (plain_statement stated.statement)) (map live_of live.old.items)) }
+    ensures put { OnOk result
+        (map live_of live.new.items ≡ placed stated.number (Some (plain_statement stated.statement)) (map live_of live.old.items)) }
     ensures failed { OnErr result (map live_of live.new.items ≡ map live_of live.old.items) }
 {
     if is_at(live.as_slice(), at, stated.number) {

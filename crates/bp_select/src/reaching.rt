@@ -37,7 +37,8 @@ fn interrupts(
     event: &Event,
 ) -> Result<bool, SelectFault>
     ensures { let t = live_of stated.now in
-        AnswersAs (λ b. b) (by_number t.number (member (plain_ground ground.now) budget t.statement.interrupt event.now)) result }
+        AnswersAs (λ b. b) (by_number t.number
+        (member (plain_ground ground.now) budget t.statement.interrupt event.now)) result }
 {
     named(
         stated.number,
@@ -54,7 +55,8 @@ fn waits(
     event: &Event,
 ) -> Result<bool, SelectFault>
     ensures { let t = live_of stated.now in
-        AnswersAs (λ b. b) (by_number t.number (member (plain_ground ground.now) budget t.statement.wait_for event.now)) result }
+        AnswersAs (λ b. b) (by_number t.number
+        (member (plain_ground ground.now) budget t.statement.wait_for event.now)) result }
 {
     named(
         stated.number,
@@ -71,7 +73,8 @@ fn touch_of(
     stated: &Stated,
     event: &Event,
 ) -> Result<Touch, SelectFault>
-    ensures { AnswersAs (touch_as (live_of stated.now).number) (touched (member (plain_ground ground.now) budget) event.now (live_of stated.now)) result }
+    ensures { AnswersAs (touch_as (live_of stated.now).number)
+        (touched (member (plain_ground ground.now) budget) event.now (live_of stated.now)) result }
 {
     let interrupted = interrupts(alloc, ground, budget, stated, event)?;
     if interrupted {
@@ -90,8 +93,10 @@ fn touch_of(
 
 /// Notes what the event does to the b-thread of this number.
 fn note(reach: &mut Reach, number: u32, touch: Touch) -> Result<(), Memory>
-    ensures moved { OnOk result (reach.new.moved.items ≡ reach.old.moved.items ++ filter_map move_of (option_to_list (touch_as number touch))) }
-    ensures interrupted { OnOk result (reach.new.interrupted.items ≡ reach.old.interrupted.items ++ filter_map interrupt_of (option_to_list (touch_as number touch))) }
+    ensures moved { OnOk result
+        (reach.new.moved.items ≡ reach.old.moved.items ++ filter_map move_of (option_to_list (touch_as number touch))) }
+    ensures interrupted { OnOk result
+        (reach.new.interrupted.items ≡ reach.old.interrupted.items ++ filter_map interrupt_of (option_to_list (touch_as number touch))) }
 {
     match touch {
         Touch::Stays => {}
@@ -109,7 +114,8 @@ pub(crate) fn reach(
     live: &[Stated],
     event: &Event,
 ) -> Result<Reach, SelectFault>
-    ensures { AnswersReach (reach (member (plain_ground ground.now) budget) event.now (map live_of live.now)) result }
+    ensures { AnswersReach
+        (reach (member (plain_ground ground.now) budget) event.now (map live_of live.now)) result }
 {
     let mut reached = Reach {
         moved: Vec::new(alloc),

@@ -78,7 +78,8 @@ fn queued<'a>(
     requires { length queue.now < 2 ^ 32 }
     ensures free { AnswersAs free_of
         (without_fault (λ place. record { inner = []; outer = place })
-        (first_unblocked (member (plain_ground ground.now) budget) (map lent blocking.now) 0 queue.now)) result }
+        (first_unblocked (member (plain_ground ground.now) budget) (map lent blocking.now) 0
+        queue.now)) result }
     ensures tops { (ts : List (Live PlainSet)) → IfOk result (λ f. IsOf ts f) }
 {
     match first_unblocked(alloc, ground, budget, blocking, queue)? {
@@ -96,7 +97,8 @@ pub(crate) fn selectable<'a>(
     queue: &[Event],
 ) -> Result<Free<'a>, SelectFault>
     requires { length queue.now < 2 ^ 32 }
-    ensures free { AnswersAs free_of (selectable (member (plain_ground ground.now) budget) (map live_of live.now) queue.now) result }
+    ensures free { AnswersAs free_of
+        (selectable (member (plain_ground ground.now) budget) (map live_of live.now) queue.now) result }
     ensures tops { IfOk result (λ f. IsOf (map live_of live.now) f) }
 {
     let candidates = candidates(alloc, live)?;
@@ -150,7 +152,8 @@ pub(crate) fn chosen<'a>(
     requires words { draw.old.drawn + 1 < 2 ^ 64 }
     requires tops { IsOf (map live_of live.now) free }
     ensures chosen { IfOk result (λ c. (queue : List PlainEvent) → chosen_of queue draw.new.drawn c
-        ≡ chosen (draw_word draw.old.seed) strategy (map live_of live.now) queue draw.old.drawn (free_of free.entry).inner (free_of free.entry).outer) }
+        ≡ chosen (draw_word draw.old.seed) strategy (map live_of live.now) queue draw.old.drawn
+        (free_of free.entry).inner (free_of free.entry).outer) }
     ensures seed { draw.new.seed ≡ draw.old.seed }
     ensures drawn { (draw.old.drawn ≤ draw.new.drawn) × (draw.new.drawn ≤ draw.old.drawn + 1) }
     ensures nothing { result ≡ Ok Choice.Nothing → draw.new ≡ draw.old }
