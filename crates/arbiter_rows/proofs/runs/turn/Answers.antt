@@ -1,0 +1,32 @@
+use Rattle.std.proofs.Common.{◌≡◌, ℕ, ap, sym, subst, arith}
+use Rattle.bp_arbiter.specs.Arbiters.{options_in}
+use Rattle.arbiter_rows.proofs.Turns.{whole_before, ready_not_lent, budget_of, can_run_here, carried_here, of_here}
+use Rattle.arbiter_rows.proofs.runs.turn.Goals as goal
+
+pub carry_all-requires-clause-some_budget : goal.carry_all-requires-clause-some_budget
+carry_all-requires-clause-some_budget c =
+    let some = (c.budget-budget.ensures.within).some_budget in
+    let same = c.budget-budget.ensures.budget in
+    omega (arith, some, same)
+
+pub carry_all-requires-clause-can_run : goal.carry_all-requires-clause-can_run
+carry_all-requires-clause-can_run c =
+    can_run_here _ _ _ c.budget-budget.result c.in_ok-jobs.jobs.items c.ground.ensures
+    (budget_of c.options.result (options_in c.lend.new.self) c.args.arbiter.now.floor c.floor.result.now c.budget-budget.result c.budget-budget.ensures.budget c.options.ensures c.floor.ensures.floor c.lend.ensures.options)
+    (c.in_ok-jobs.ensures.lent).can_run
+
+pub seal-requires-clause-back : goal.seal-requires-clause-back
+seal-requires-clause-back c = λ _.
+    let w = whole_before c.args.arbiter.now.broken c.lend.result c.in_ok-jobs.jobs (λ b. (c.lend.ensures.stays b).0) c.in_ok-jobs.was in
+    let s = c.keeps.ensures.stands w (ready_not_lent c.args.arbiter.now.phase c.requires) in
+    record {
+      lent = c.in_ok-jobs.jobs.items;
+      taken = s.taken;
+      pair = s.pair;
+      stands = c.in_ok-jobs.ensures.stands s.taken s.pair s.stands;
+      out = c.in_ok-jobs.ensures.lent;
+      carried = carried_here _ _ _ c.budget-budget.result c.in_ok-jobs.jobs.items c.ground.ensures
+          (budget_of c.options.result (options_in c.lend.new.self) c.args.arbiter.now.floor c.floor.result.now c.budget-budget.result c.budget-budget.ensures.budget c.options.ensures c.floor.ensures.floor c.lend.ensures.options)
+          c.carry_all.new.jobs.items c.in_ok-carry_all.ensures.carried;
+      of_program = of_here _ _ c.carry_all.new.jobs.items c.ground.ensures c.in_ok-carry_all.ensures.program;
+    }
