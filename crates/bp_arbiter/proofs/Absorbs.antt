@@ -1,5 +1,5 @@
 -- An item of an injector goes on with the story.
-use Rattle.std.proofs.Common.{◌≡◌, ℕ, Bool, true, false, not, ◌&&◌, List, [], ◌∷◌, ◌++◌, length, refl, sym, ap, ◌∙◌, Option, Some, None, if◌then◌else◌, nat_eq, option_and_then}
+use Rattle.std.proofs.Common.{◌≡◌, ℕ, Bool, true, false, List, [], ◌∷◌, ◌++◌, refl, sym, ap, ◌∙◌, Option, Some, None, nat_eq}
 use Rattle.std.specs.List.{list_any}
 use Rattle.js_data.specs.Event.{PlainEvent}
 use Rattle.js_meaning.specs.Bodies.{Origin, the_top}
@@ -13,17 +13,15 @@ use Rattle.bp_log.specs.declared.trace.Line.{Line}
 use Rattle.bp_log.specs.declared.verdict.Verdict.{Verdict}
 use Rattle.bp_run.specs.Bodies.{Code}
 use Rattle.bp_run.specs.Configuration.{Configuration, Stand}
-use Rattle.bp_run.specs.Settling.{Pair, before, settle, queued, initial}
-use Rattle.bp_run.specs.Story.{story, story_from, after_record, may_come, is_over, has_room, read_out, first_bad}
+use Rattle.bp_run.specs.Settling.{Pair, before, queued, initial}
+use Rattle.bp_run.specs.Story.{story, story_from, after_record, may_come, has_room, read_out, first_bad}
 use Rattle.bp_run.proofs.Stories.{story_on}
 use Rattle.bp_run.proofs.Turns.{settle-rest}
 use Rattle.bp_floor.specs.declared.phase.Phase.TheVariants.{Rest}
 use Rattle.bp_floor.specs.Forgetting.{forgotten}
-use Rattle.bp_floor.specs.Floors.{PlainFloor, IsPhased, is_idle}
-use Rattle.bp_floor.specs.Lending.{filled_pair}
-use Rattle.bp_arbiter.specs.Arbiters as arbiters
-use Rattle.bp_arbiter.specs.Arbiters.{PlainArbiter, Stands, Recounts, IsDrawn, code_in, options_in, stand_in}
-use Rattle.bp_arbiter.specs.Absorbing.{is_failed, fits, with_event, with_item, unread, absorbed}
+use Rattle.bp_floor.specs.Floors.{IsPhased, is_idle}
+use Rattle.bp_arbiter.specs.Arbiters.{PlainArbiter, Stands, Recounts, code_in, options_in, stand_in}
+use Rattle.bp_arbiter.specs.Absorbing.{is_failed, fits, with_item, unread, absorbed}
 use Rattle.bp_arbiter.proofs.Picks.{unfilled}
 use Rattle.bp_arbiter.proofs.Told.{at_rest_idle, no_verdict, settled_idle}
 

@@ -1,31 +1,30 @@
 -- B-threads and handlers run calls, whatever happens.
 use Rattle.std.proofs.Common.{◌≡◌, ℕ, zero, suc, Bool, true, false, List, [], ◌∷◌, ◌++◌, length, map, refl, sym, ap, ◌∙◌, subst, Option, Some, None, option_map, if◌then◌else◌, ◌==◌, slice_get}
 use Rattle.js_data.specs.Event.{PlainEvent}
-use Rattle.js_value.specs.Value.{PlainValue, PlainSet}
+use Rattle.js_value.specs.Value.{PlainValue}
 use Rattle.js_program.specs.PlainProgram.{PlainProgram}
-use Rattle.js_program.specs.declared.builtin.Mode.TheVariants as mode
 use Rattle.js_meaning.specs.State as js
-use Rattle.js_meaning.specs.Bodies.{Origin, the_top, function}
+use Rattle.js_meaning.specs.Bodies.{Origin}
 use Rattle.bp_log.specs.Options.{PlainOptions}
 use Rattle.bp_log.specs.declared.limits.TheConstants.{MOST_WAITING, MOST_THREADS}
 use Rattle.bp_log.specs.declared.verdict.Verdict.{Verdict}
 use Rattle.bp_log.specs.declared.verdict.Verdict.TheVariants as verdict
 use Rattle.bp_log.specs.declared.verdict.Place.{Place}
-use Rattle.bp_run.specs.Bodies.{Code, Part, Effect, Outcome}
+use Rattle.bp_run.specs.Bodies.{Part, Effect, Outcome}
 use Rattle.bp_run.specs.Bodies.Effect.{Says, Enqueue, Register, Handler}
 use Rattle.bp_run.specs.Bodies.Outcome.{Stopped, Ended, Broken, Violated, Spent}
 use Rattle.bp_run.specs.Configuration.{Stand, Thread, change}
-use Rattle.bp_run.specs.Settling.{Body, Entry, Pair, Ran, ran, part_of, body_of, unless_at, unless_over, stopped, said, queued, registered, with_effect, with_effects, with_end, with_outcome, with_part, merged, turn, place_of, opening}
+use Rattle.bp_run.specs.Settling.{Body, Entry, Pair, Ran, ran, part_of, body_of, unless_at, unless_over, stopped, queued, registered, with_effect, with_effects, with_end, with_outcome, with_part, merged, turn, place_of, opening}
 use Rattle.bp_run.specs.Settling.Entry.{The_top, Runs, Stops}
 use Rattle.bp_run.specs.Choosing.{Touched}
 use Rattle.bp_run.specs.Choosing.Touched.{Moves, Interrupts}
 use Rattle.bp_run.specs.Numbers.{numbers_from}
 use Rattle.bp_run.specs.Story.{touch, touch_all, step, stepped, entry_of, handler_body}
 use Rattle.bp_run.proofs.Numbers.{turn_entries}
-use Rattle.bp_meaning.specs.After.{effect_of, after, handling, handler}
+use Rattle.bp_meaning.specs.After.{effect_of, handler}
 use Rattle.bp_code.specs.Code.{ground_for}
 use Rattle.bp_floor.specs.Programs.{code_of}
-use Rattle.bp_arbiter.specs.Calls.{is_call, AllCall, HandlerCalls, EntryCalls, HandlersCall, RunCalls}
+use Rattle.bp_arbiter.specs.Calls.{is_call, AllCall, HandlerCalls, HandlersCall, RunCalls}
 
 -- what is registered is a call
 EffectCalls : Effect Origin → Type 0

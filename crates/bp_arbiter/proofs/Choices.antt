@@ -1,10 +1,7 @@
 -- What is chosen can be selected, and a fault is that of a registered b-thread's set.
-use Rattle.std.proofs.Common.{◌≡◌, ℕ, zero, suc, ◌+◌, ◌<◌, ◌%◌, Bool, true, false, ◌||◌, List, [], ◌∷◌, length, map, refl, sym, ap, ◌∙◌, subst, arith, Option, Some, None, Ok, Err, if◌then◌else◌, slice_get, option_map, Result, ◌⊎◌, inl, inr}
+use Rattle.std.proofs.Common.{◌≡◌, ℕ, suc, ◌+◌, ◌<◌, ◌%◌, Bool, true, false, List, [], ◌∷◌, length, map, refl, sym, ap, ◌∙◌, subst, Option, Some, None, Ok, Err, slice_get, option_map, Result, ◌⊎◌, inl, inr}
 use Rattle.std.specs.List.{list_any}
 use Rattle.js_data.specs.Event.{PlainEvent, same_event}
-use Rattle.js_value.specs.Value.{PlainSet}
-use Rattle.js_meaning.specs.Bodies.{Origin}
-use Rattle.bp_log.specs.Options.{PlainOptions}
 use Rattle.bp_log.specs.declared.options.Strategy.{Strategy}
 use Rattle.bp_run.specs.Bodies.{Code, SetFault}
 use Rattle.bp_run.specs.Configuration.{Stand}
@@ -12,7 +9,7 @@ use Rattle.bp_run.specs.Selecting.{Live, live, Has, Asked, by_number, both, with
 use Rattle.bp_run.specs.Choosing.{Choice, drawn_of, queued_at, remaining, chosen, choice}
 use Rattle.bp_run.specs.Chosen.{Stands, IsChosen}
 use Rattle.bp_run.specs.Numbers.{IsRising}
-use Rattle.bp_run.proofs.Chosen.{among, among_candidates, Free, unblocked_free, choice_is_chosen}
+use Rattle.bp_run.proofs.Chosen.{among, among_candidates, unblocked_free, choice_is_chosen}
 use Rattle.bp_run.proofs.Numbers.{live_rising}
 use Rattle.bp_floor.specs.Floors.{PlainFloor, IsAmong, CanGo, code_on}
 

@@ -1,7 +1,6 @@
 -- What comes next in a run, once the choice is known.
 use Rattle.std.proofs.Common.{◌≡◌, ◌≤◌, ◌<◌, ℕ, zero, suc, Bool, true, false, List, [], ◌∷◌, ◌++◌, length, refl, sym, ap, ◌∙◌, subst, Option, Some, None, Result, Ok, Err, OnOk, OnErr, IfOk, if◌then◌else◌, ◌==◌, slice_get, option_map, arith, nat_lt}
 use Rattle.js_data.specs.Event.{PlainEvent}
-use Rattle.js_value.specs.Value.{PlainSet}
 use Rattle.js_program.specs.PlainProgram.{PlainProgram}
 use Rattle.js_meaning.specs.Bodies.{Origin, the_top}
 use Rattle.bp_log.specs.Options.{PlainOptions}
@@ -26,7 +25,7 @@ use Rattle.bp_floor.specs.Programs.{code_of}
 use Rattle.bp_floor.specs.Forgetting.{forgotten}
 use Rattle.bp_floor.specs.Floors.{PlainFloor, CanGo, code_on}
 use Rattle.bp_arbiter.specs.declared.run.Run.{Run}
-use Rattle.bp_arbiter.specs.Runs.{configuration_of, next_in, next_chosen_in, next_idle_in, HasCome, IsEnded, IsMoved, IsStill, ended_floor}
+use Rattle.bp_arbiter.specs.Runs.{configuration_of, next_in, next_chosen_in, next_idle_in, HasCome, IsEnded, IsMoved, ended_floor}
 use Rattle.bp_arbiter.proofs.Choices.{can_go, fault_below}
 
 -- the words are those of the options' seed

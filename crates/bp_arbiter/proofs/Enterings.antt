@@ -1,5 +1,5 @@
 -- What the entering of an item leaves.
-use Rattle.std.proofs.Common.{◌≡◌, ◌≤◌, ◌+◌, ℕ, Bool, true, false, List, [], ◌∷◌, ◌++◌, refl, sym, ap, ◌∙◌, subst, Option, Some, None, Result, Ok, Err, OnOk, OnErr, not, nat_eq}
+use Rattle.std.proofs.Common.{◌≡◌, ℕ, Bool, true, false, List, [], ◌∷◌, ◌++◌, refl, sym, ap, ◌∙◌, subst, Result, Ok, Err, OnOk, OnErr, nat_eq}
 use Rattle.std.specs.List.{list_any}
 use Rattle.js_data.specs.Event.{PlainEvent}
 use Rattle.js_meaning.specs.Bodies.{Origin}

@@ -1,5 +1,5 @@
 -- A transition doesn't read what an ended b-thread ran and received.
-use Rattle.std.proofs.Common.{◌≡◌, ℕ, zero, suc, Bool, true, false, List, [], ◌∷◌, ◌++◌, length, map, refl, sym, ap, ◌∙◌, Option, Some, None, Ok, Err, if◌then◌else◌, ◌==◌, slice_get, option_map, append_assoc, arith}
+use Rattle.std.proofs.Common.{◌≡◌, ℕ, zero, suc, Bool, true, false, List, [], ◌∷◌, ◌++◌, map, refl, sym, ap, ◌∙◌, Option, Some, None, Ok, if◌then◌else◌, ◌==◌, slice_get, option_map, append_assoc, arith}
 use Rattle.std.specs.List.{cons_option}
 use Rattle.js_data.specs.Event.{PlainEvent}
 use Rattle.bp_log.specs.declared.trace.Line.{Line}
@@ -7,7 +7,7 @@ use Rattle.bp_run.specs.Bodies.{Code}
 use Rattle.bp_run.specs.Configuration.{Stand, Thread, change}
 use Rattle.bp_run.specs.Settling.{Entry, Pair, before}
 use Rattle.bp_run.specs.Settling.Entry.{Runs, Stops}
-use Rattle.bp_run.specs.Selecting.{Live, stated, at_stop, live_from, live}
+use Rattle.bp_run.specs.Selecting.{Live, stated, live_from, live}
 use Rattle.bp_run.specs.Choosing.{Touched, reach}
 use Rattle.bp_run.specs.Choosing.Touched.{Moves, Interrupts}
 use Rattle.bp_run.specs.Numbers.{number_in, touch_at, touch_of}

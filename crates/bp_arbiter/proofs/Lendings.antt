@@ -1,7 +1,6 @@
 -- What the lending of jobs leaves.
-use Rattle.std.proofs.Common.{◌≡◌, Bool, true, false, List, [], length, refl, sym, ap, ◌∙◌, subst}
+use Rattle.std.proofs.Common.{◌≡◌, false, List, refl, ap, ◌∙◌, subst}
 use Rattle.js_meaning.specs.Bodies.{Origin}
-use Rattle.bp_log.specs.declared.trace.Line.{Line}
 use Rattle.bp_run.specs.Settling.{Pair, before}
 use Rattle.bp_thread.specs.declared.job.Job.{Job}
 use Rattle.bp_floor.specs.declared.phase.Phase.TheVariants.{Ready}

@@ -1,12 +1,11 @@
 -- Jobs are lent, and come back carried to their outcomes.
-use Rattle.std.proofs.Common.{◌≡◌, ◌<◌, ℕ, zero, suc, Bool, true, false, List, [], ◌∷◌, length, map, refl, sym, ap, ◌∙◌, subst, arith, Option, Some, None, option_map, slice_get, slice_index_or, IsSome}
+use Rattle.std.proofs.Common.{◌≡◌, ◌<◌, ℕ, zero, suc, Bool, true, false, List, [], ◌∷◌, length, map, refl, sym, ap, ◌∙◌, subst, arith, Option, Some, None, option_map, slice_get, slice_index_or}
 use Rattle.js_data.specs.Event.{PlainEvent}
 use Rattle.js_program.specs.PlainProgram.{PlainProgram}
 use Rattle.js_meaning.specs.State.{Ground, effects_since}
 use Rattle.js_meaning.specs.Bodies.{Origin, the_top, function, bare, ground_of, evaluation}
 use Rattle.bp_log.specs.Options.{PlainOptions}
 use Rattle.bp_log.specs.declared.trace.Line.{Line}
-use Rattle.bp_run.specs.Bodies.{Code}
 use Rattle.bp_run.specs.Configuration.{Stand, Thread, change}
 use Rattle.bp_run.specs.Settling.{Body, Entry, Pair, before, body_of, own_body}
 use Rattle.bp_run.specs.Settling.Entry.{The_top, Runs, Stops}
@@ -14,17 +13,17 @@ use Rattle.bp_run.specs.Numbers.{number_of}
 use Rattle.bp_meaning.specs.After.{effect_of, outcome_of}
 use Rattle.bp_thread.specs.declared.job.Job.{Job}
 use Rattle.bp_thread.specs.Jobs.{PlainJob, plain_job, IsOf, IsWhole, StandsFor}
-use Rattle.bp_thread.specs.Carried.{carried, CarriedOut, AreCarriedOut}
+use Rattle.bp_thread.specs.Carried.{CarriedOut, AreCarriedOut}
 use Rattle.bp_thread.proofs.Carrying.{carried_out, whole_stands}
 use Rattle.bp_code.specs.Code.{ground_for}
 use Rattle.bp_floor.specs.Programs.{code_of}
-use Rattle.bp_floor.specs.Forgetting.{forget, forgotten, IsGoing, AreGoing}
-use Rattle.bp_floor.specs.Lending.{IsJobOf, IsLent, IsCarried, IsDone, JobFor, AreJobs, AreLent, AreDone, fill, filled, filled_pair, standing}
+use Rattle.bp_floor.specs.Forgetting.{forget, AreGoing}
+use Rattle.bp_floor.specs.Lending.{IsLent, IsDone, JobFor, AreLent, AreDone, fill, filled, filled_pair, standing}
 use Rattle.bp_floor.specs.Returning.{ground_at, AreLater, RunsAlone}
 use Rattle.bp_floor.specs.Floors as floors
 use Rattle.bp_floor.specs.Floors.{PlainFloor, IsPhased, StandsWith, StandsFor as FloorStands}
 use Rattle.bp_arbiter.specs.Arbiters.{PlainArbiter, Stands, options_in}
-use Rattle.bp_arbiter.specs.Calls.{is_call, AllCall, HandlerCalls, EntryCalls, HandlersCall, RunCalls}
+use Rattle.bp_arbiter.specs.Calls.{is_call, AllCall, HandlerCalls, HandlersCall, RunCalls}
 use Rattle.bp_arbiter.specs.Lending.{CanRun, AllCanRun, AllOf, AreOut, AreBack}
 use Rattle.bp_arbiter.proofs.Forgets.{got}
 use Rattle.bp_arbiter.proofs.Seals.{filled_length}

@@ -1,6 +1,5 @@
 -- What comes next doesn't depend on what ended b-threads ran, nor on the lines that were taken.
-use Rattle.std.proofs.Common.{◌≡◌, ℕ, zero, suc, Bool, true, false, List, [], ◌∷◌, ◌++◌, length, map, refl, sym, ap, ◌∙◌, Option, Some, None, Ok, Err, if◌then◌else◌, ◌==◌, slice_get}
-use Rattle.js_data.specs.Event.{PlainEvent}
+use Rattle.std.proofs.Common.{◌≡◌, ℕ, zero, suc, Bool, true, false, List, [], ◌∷◌, ◌++◌, map, refl, sym, ap, ◌∙◌, Option, Some, None, Ok, Err, if◌then◌else◌, ◌==◌, slice_get}
 use Rattle.bp_log.specs.Options.{PlainOptions}
 use Rattle.bp_log.specs.declared.trace.Line.{Line}
 use Rattle.bp_log.specs.declared.verdict.Verdict.{Verdict}
@@ -11,7 +10,7 @@ use Rattle.bp_run.specs.Settling.{Pair, before}
 use Rattle.bp_run.specs.Selecting.{Live, live, Asked}
 use Rattle.bp_run.specs.Choosing.{Choice, choice, Touched, reach}
 use Rattle.bp_run.specs.Story.{Next, next, next_unless, next_choice, next_chosen, next_idle, fault_verdict, set_verdict}
-use Rattle.bp_run.specs.Story.Next.{Ends, Selects, Waits}
+use Rattle.bp_run.specs.Story.Next.{Ends}
 use Rattle.bp_run.proofs.Stories.{next_lineless}
 use Rattle.bp_floor.specs.Forgetting.{forget, forgotten_in, forgotten}
 use Rattle.bp_arbiter.proofs.Forgets.{live_forgotten}

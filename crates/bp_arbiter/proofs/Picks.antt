@@ -1,12 +1,8 @@
 -- A pick goes on with the story.
-use Rattle.std.proofs.Common.{◌≡◌, ◌≤◌, ℕ, Bool, true, false, List, [], ◌∷◌, ◌++◌, length, refl, sym, ap, ◌∙◌, subst, Option, Some, None, Ok, append_assoc, append-nil, option_to_list, is_some}
-use Rattle.js_data.specs.Event.{PlainEvent}
+use Rattle.std.proofs.Common.{◌≡◌, ◌≤◌, ℕ, false, List, [], ◌∷◌, ◌++◌, refl, sym, ap, ◌∙◌, subst, Option, Some, None, append_assoc, append-nil, option_to_list}
 use Rattle.js_value.specs.Value.{PlainSet}
 use Rattle.js_meaning.specs.Bodies.{Origin, the_top}
-use Rattle.bp_log.specs.Options.{PlainOptions}
 use Rattle.bp_log.specs.Records.{is_complete}
-use Rattle.bp_log.specs.declared.record.Record.{Record}
-use Rattle.bp_log.specs.declared.record.Record.TheVariants.{Sel, End}
 use Rattle.bp_log.specs.declared.trace.Line.{Line}
 use Rattle.bp_log.specs.declared.trace.Line.TheVariants as trace
 use Rattle.bp_log.specs.declared.verdict.Verdict.{Verdict}
@@ -15,7 +11,7 @@ use Rattle.bp_run.specs.Configuration.{Configuration, Stand, Thread}
 use Rattle.bp_run.specs.Settling.{Entry, Pair, before, settle}
 use Rattle.bp_run.specs.Settling.Entry.{The_top, Runs, Stops}
 use Rattle.bp_run.specs.Choosing.{Choice, Touched}
-use Rattle.bp_run.specs.Story.{Next, story, next, record_of, after_next, over, over_with, move, step, stepped}
+use Rattle.bp_run.specs.Story.{Next, story, record_of, after_next, over, over_with, move, step, stepped}
 use Rattle.bp_run.specs.Story.Next.{Ends, Selects, Waits}
 use Rattle.bp_run.proofs.Stories.{goes_on}
 use Rattle.bp_run.proofs.Turns.{settle_over}
@@ -23,13 +19,11 @@ use Rattle.bp_floor.specs.declared.phase.Phase.{Phase}
 use Rattle.bp_floor.specs.declared.phase.Phase.TheVariants.{Ready, Lent, Rest, Over}
 use Rattle.bp_floor.specs.Forgetting.{forgotten}
 use Rattle.bp_floor.specs.Lending.{filled, filled_pair}
-use Rattle.bp_floor.specs.Floors.{PlainFloor, IsPhased, code_on, is_idle, phase_at, phase_of}
-use Rattle.bp_arbiter.specs.declared.picked.Picked.{Picked}
-use Rattle.bp_arbiter.specs.declared.picked.Picked.TheVariants as picked
+use Rattle.bp_floor.specs.Floors.{PlainFloor, IsPhased, code_on, is_idle, phase_at}
 use Rattle.bp_arbiter.specs.declared.run.Run.{Run}
-use Rattle.bp_arbiter.specs.Arbiters.{PlainArbiter, Stands, Tells, Recounts, coming, code_in, options_in, stand_in, IsDrawn, is_over}
+use Rattle.bp_arbiter.specs.Arbiters.{PlainArbiter, Stands, Recounts, coming, code_in, options_in, IsDrawn, is_over}
 use Rattle.bp_arbiter.specs.Picking.{after_pick, picked_of, phase_after, moved_phase}
-use Rattle.bp_arbiter.specs.Runs.{seen, configuration_of, next_in, HasCome, IsBeside, IsEnded, IsMoved, IsStill, ended_floor}
+use Rattle.bp_arbiter.specs.Runs.{seen, configuration_of, next_in, HasCome, IsBeside, IsEnded, IsMoved, IsStill}
 use Rattle.bp_arbiter.proofs.Calls.{calls_stepped}
 use Rattle.bp_arbiter.proofs.Forgets.{stepped_stands}
 use Rattle.bp_arbiter.proofs.Nexts.{next_stands}

@@ -1,30 +1,28 @@
 -- What the sealing of a turn leaves.
-use Rattle.std.proofs.Common.{◌≡◌, ◌≤◌, ◌<◌, ◌+◌, ℕ, Bool, true, false, List, [], ◌∷◌, ◌++◌, length, refl, sym, ap, ◌∙◌, subst, arith, Option, Some, None, is_some, append-nil, ◌⊎◌, inl, inr}
-use Rattle.js_meaning.specs.Bodies.{Origin, the_top}
+use Rattle.std.proofs.Common.{◌≡◌, ◌≤◌, ◌<◌, ℕ, Bool, true, false, List, [], ◌++◌, length, refl, sym, ap, ◌∙◌, subst, arith, Option, Some, None, is_some, append-nil, inl, inr}
+use Rattle.js_meaning.specs.Bodies.{Origin}
 use Rattle.bp_log.specs.Options.{PlainOptions}
 use Rattle.bp_log.specs.Records.{is_complete}
 use Rattle.bp_log.specs.declared.record.Record.{Record}
-use Rattle.bp_log.specs.declared.record.Record.TheVariants.{End}
 use Rattle.bp_log.specs.declared.trace.Line.{Line}
 use Rattle.bp_log.specs.declared.verdict.Verdict.{Verdict}
-use Rattle.bp_run.specs.Configuration.{Configuration, Stand}
-use Rattle.bp_run.specs.Settling.{Pair, turn}
-use Rattle.bp_run.specs.Story.{Next}
+use Rattle.bp_run.specs.Configuration.{Configuration}
+use Rattle.bp_run.specs.Settling.{Pair}
 use Rattle.bp_run.specs.Story.Next.{Ends}
 use Rattle.bp_run.proofs.Growing.{grown_turn}
 use Rattle.bp_thread.specs.declared.job.Job.{Job}
 use Rattle.bp_thread.specs.Carried.{AreCarriedOut}
 use Rattle.bp_floor.specs.declared.phase.Phase.{Phase}
-use Rattle.bp_floor.specs.declared.phase.Phase.TheVariants.{Ready, Lent, Rest, Over}
+use Rattle.bp_floor.specs.declared.phase.Phase.TheVariants.{Ready, Lent}
 use Rattle.bp_floor.specs.Floors as floors
 use Rattle.bp_floor.specs.Floors.{PlainFloor, code_on, phase_at, phase_of}
 use Rattle.bp_floor.specs.Lending.{filled_pair}
 use Rattle.bp_arbiter.specs.declared.run.Run.{Run}
-use Rattle.bp_arbiter.specs.Arbiters.{PlainArbiter, Stands, Tells, Keeps, Recounts, coming, code_in, options_in, stand_in, is_over, is_lent}
-use Rattle.bp_arbiter.specs.Sound.{IsSound, IsStanding}
+use Rattle.bp_arbiter.specs.Arbiters.{PlainArbiter, Stands, Tells, Keeps, Recounts, coming, code_in, options_in, stand_in, is_over}
+use Rattle.bp_arbiter.specs.Sound.{IsSound}
 use Rattle.bp_arbiter.specs.Lending.{AreBack}
 use Rattle.bp_arbiter.specs.Runs.{seen, IsBeside}
-use Rattle.bp_arbiter.specs.Sealing.{ending, ended_with, after_turn, turned_in, Turns, IsTurned, HasTurned, IsCutOff}
+use Rattle.bp_arbiter.specs.Sealing.{ending, ended_with, after_turn, turned_in, IsTurned, IsCutOff}
 use Rattle.bp_arbiter.proofs.Told.{stands_tells, tells_same}
 use Rattle.bp_arbiter.proofs.Standing.{sound_of, sound_broken}
 use Rattle.bp_arbiter.proofs.Seals.{stands_sealed, tells_turned, verdict_next, verdict_kept, over_verdict, has_grown}

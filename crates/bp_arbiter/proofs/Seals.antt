@@ -1,22 +1,21 @@
 -- A turn goes on with the story.
-use Rattle.std.proofs.Common.{◌≡◌, ◌≤◌, ◌<◌, ◌+◌, ℕ, zero, suc, Bool, true, false, List, [], ◌∷◌, ◌++◌, length, map, refl, sym, ap, ◌∙◌, subst, arith, Option, Some, None, append_assoc, append-nil, length-append, is_some}
+use Rattle.std.proofs.Common.{◌≡◌, ◌≤◌, ◌<◌, ◌+◌, ℕ, zero, suc, true, false, List, [], ◌∷◌, ◌++◌, length, map, refl, sym, ap, ◌∙◌, subst, arith, Option, Some, None, append_assoc, append-nil, length-append, is_some}
 use Rattle.js_value.specs.Value.{PlainSet}
 use Rattle.js_meaning.specs.Bodies.{Origin, the_top}
-use Rattle.bp_log.specs.Options.{PlainOptions}
 use Rattle.bp_log.specs.Records.{is_complete}
 use Rattle.bp_log.specs.declared.limits.TheConstants.{MOST_THREADS}
 use Rattle.bp_log.specs.declared.record.Record.{Record}
-use Rattle.bp_log.specs.declared.record.Record.TheVariants.{Sel, End}
+use Rattle.bp_log.specs.declared.record.Record.TheVariants.{End}
 use Rattle.bp_log.specs.declared.trace.Line.{Line}
 use Rattle.bp_log.specs.declared.verdict.Verdict.{Verdict}
 use Rattle.bp_run.specs.Bodies.{Code}
 use Rattle.bp_run.specs.Configuration.{Configuration, Stand, Thread, change}
-use Rattle.bp_run.specs.Settling.{Entry, Pair, before, settle, turn, at_rest}
+use Rattle.bp_run.specs.Settling.{Entry, Pair, before, settle, turn}
 use Rattle.bp_run.specs.Settling.Entry.{The_top, Runs, Stops}
 use Rattle.bp_run.specs.Numbers.{numbers_from}
-use Rattle.bp_run.specs.Story.{Next, story, next, next_unless, record_of, over, over_with}
-use Rattle.bp_run.specs.Story.Next.{Ends, Selects, Waits}
-use Rattle.bp_run.proofs.Growing.{grown_turn, grown_settle}
+use Rattle.bp_run.specs.Story.{next, next_unless, over, over_with}
+use Rattle.bp_run.specs.Story.Next.{Ends}
+use Rattle.bp_run.proofs.Growing.{grown_settle}
 use Rattle.bp_run.proofs.Numbers.{turn_entries}
 use Rattle.bp_run.proofs.Turns.{settle-turn, settle_over, length-change}
 use Rattle.bp_thread.specs.declared.job.Job.{Job}
@@ -28,8 +27,8 @@ use Rattle.bp_floor.specs.Lending.{fill, filled, filled_pair}
 use Rattle.bp_floor.specs.Floors.{PlainFloor, IsPhased, IsSealed, StandsWith, StandsFor as FloorStands, code_on, is_idle, phase_at, phase_of}
 use Rattle.bp_arbiter.specs.declared.run.Run.{Run}
 use Rattle.bp_arbiter.specs.Arbiters.{PlainArbiter, Stands, Tells, Recounts, coming, code_in, options_in, stand_in, IsDrawn, is_over}
-use Rattle.bp_arbiter.specs.Runs.{seen, IsBeside, ended_floor, lines_in}
-use Rattle.bp_arbiter.specs.Sealing.{ending, ended_with, after_turn, turned_in, Turns, IsTurned, IsCutOff}
+use Rattle.bp_arbiter.specs.Runs.{seen, IsBeside, ended_floor}
+use Rattle.bp_arbiter.specs.Sealing.{ending, ended_with, after_turn, turned_in, Turns, IsTurned}
 use Rattle.bp_arbiter.proofs.Calls.{calls_turned}
 use Rattle.bp_arbiter.proofs.Picks.{on, unfilled, drawn_at, line_stands}
 use Rattle.bp_arbiter.proofs.Told.{same_told, same_code, same_story, at_rest_busy}

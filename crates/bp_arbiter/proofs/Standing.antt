@@ -1,5 +1,5 @@
 -- What an arbiter keeps from call to call.
-use Rattle.std.proofs.Common.{◌≡◌, ◌≤◌, ◌<◌, ◌+◌, ℕ, zero, suc, Bool, true, false, List, [], ◌∷◌, ◌++◌, length, refl, sym, ap, ◌∙◌, subst, Option, Some, None, is_some, option_map, IsSome, option_and_then, slice_get, ◌-◌, arith}
+use Rattle.std.proofs.Common.{◌≡◌, ℕ, zero, suc, true, false, List, [], ◌∷◌, length, refl, sym, ap, ◌∙◌, subst, Option, Some, None, is_some, option_map, IsSome, option_and_then, slice_get, ◌-◌, arith}
 use Rattle.js_program.specs.PlainProgram.{PlainProgram}
 use Rattle.js_meaning.specs.Bodies.{Origin}
 use Rattle.bp_log.specs.Options.{PlainOptions}
@@ -15,7 +15,7 @@ use Rattle.bp_floor.specs.declared.phase.Phase.{Phase}
 use Rattle.bp_floor.specs.declared.phase.Phase.TheVariants as phase
 use Rattle.bp_floor.specs.Floors.{PlainFloor}
 use Rattle.bp_arbiter.specs.Arbiters.{PlainArbiter, Stands, Tells, Keeps, verdict_in, verdict_of, is_over, options_in, opened, is_lent}
-use Rattle.bp_arbiter.specs.Sound.{IsSound, IsStanding}
+use Rattle.bp_arbiter.specs.Sound.{IsSound}
 use Rattle.bp_arbiter.proofs.Told.{stands_tells, stands_opened}
 
 -- ---- records

@@ -15,7 +15,7 @@ use Rattle.bp_floor.specs.declared.phase.Phase.TheVariants.{Ready, Lent, Rest, O
 use Rattle.bp_floor.specs.Forgetting.{forget, forgotten}
 use Rattle.bp_floor.specs.Lending.{filled_pair}
 use Rattle.bp_floor.specs.Floors.{PlainFloor, IsPhased, is_idle}
-use Rattle.bp_arbiter.specs.Arbiters.{PlainArbiter, Stands, StandsSomewhere, Tells, Keeps, Recounts, code_in, options_in, stand_in, is_over, Shows, is_lent}
+use Rattle.bp_arbiter.specs.Arbiters.{PlainArbiter, Stands, StandsSomewhere, Tells, Keeps, Recounts, stand_in, Shows, is_lent}
 use Rattle.bp_arbiter.specs.Sound.{IsSound, IsStanding}
 use Rattle.bp_arbiter.proofs.Picks.{unfilled}
 use Rattle.bp_arbiter.proofs.Told.{same_code, same_story, same_told, told_lines, settled_idle}

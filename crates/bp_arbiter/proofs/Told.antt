@@ -1,31 +1,25 @@
 -- What an arbiter stands for, and what it tells.
-use Rattle.std.proofs.Common.{◌≡◌, ◌≤◌, ℕ, Bool, true, false, List, [], ◌∷◌, ◌++◌, length, refl, sym, ap, ◌∙◌, subst, Option, Some, None, append_assoc, append-nil, option_to_list, is_some}
+use Rattle.std.proofs.Common.{◌≡◌, true, false, List, [], ◌∷◌, ◌++◌, refl, sym, ap, ◌∙◌, subst, Option, Some, None, append_assoc}
 use Rattle.js_value.specs.Value.{PlainSet}
 use Rattle.js_program.specs.PlainProgram.{PlainProgram}
-use Rattle.js_meaning.specs.State.{Ground}
-use Rattle.js_meaning.specs.Bodies.{Origin, the_top}
+use Rattle.js_meaning.specs.Bodies.{Origin}
 use Rattle.bp_log.specs.Options.{PlainOptions}
-use Rattle.bp_log.specs.Records.{is_complete}
 use Rattle.bp_log.specs.declared.record.Record.{Record}
-use Rattle.bp_log.specs.declared.record.Record.TheVariants.{Sel, End}
 use Rattle.bp_log.specs.declared.trace.Line.{Line}
 use Rattle.bp_log.specs.declared.verdict.Verdict.{Verdict}
 use Rattle.bp_run.specs.Bodies.{Code}
 use Rattle.bp_run.specs.Configuration.{Configuration, Stand}
-use Rattle.bp_run.specs.Settling.{Entry, Pair, before, settle, at_rest, opening, initial}
-use Rattle.bp_run.specs.Story.{Next, story, story_from, next}
+use Rattle.bp_run.specs.Settling.{Entry, Pair, settle, at_rest, opening, initial}
+use Rattle.bp_run.specs.Story.{story, story_from}
 use Rattle.bp_run.proofs.Growing.{grown_settle}
 use Rattle.bp_run.proofs.Turns.{settle-rest}
 use Rattle.bp_thread.specs.declared.job.Job.{Job}
 use Rattle.bp_floor.specs.declared.phase.Phase.{Phase}
 use Rattle.bp_floor.specs.declared.phase.Phase.TheVariants.{Ready, Lent, Rest, Over}
 use Rattle.bp_floor.specs.Programs.{code_of}
-use Rattle.bp_floor.specs.Lending.{filled_pair}
-use Rattle.bp_floor.specs.Forgetting.{forgotten}
-use Rattle.bp_floor.specs.Floors.{PlainFloor, IsPhased, StandsWith, code_on, is_idle, not_lent, phase_at, phase_of}
-use Rattle.bp_arbiter.specs.Arbiters.{PlainArbiter, Stands, Tells, Recounts, IsDrawn, IsGivenUp, code_in, options_in, stand_in, opened, is_over}
+use Rattle.bp_floor.specs.Floors.{PlainFloor, IsPhased, StandsWith, is_idle, not_lent, phase_at}
+use Rattle.bp_arbiter.specs.Arbiters.{PlainArbiter, Stands, Tells, Recounts, code_in, options_in, stand_in, opened}
 use Rattle.bp_arbiter.proofs.Calls.{calls_opening}
-use Rattle.bp_arbiter.proofs.Nexts.{next_stands}
 
 -- ---- what it tells
 

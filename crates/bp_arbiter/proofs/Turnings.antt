@@ -1,32 +1,31 @@
 -- What each call of an arbiter leaves.
-use Rattle.std.proofs.Common.{◌≡◌, ◌≤◌, ◌<◌, ◌+◌, ◌^◌, ℕ, Bool, true, false, List, [], ◌∷◌, ◌++◌, length, refl, sym, ap, ◌∙◌, subst, arith, Option, Some, None, Ok, is_some, option_to_list, append-nil, nat_eq}
+use Rattle.std.proofs.Common.{◌≡◌, ◌≤◌, ◌+◌, Bool, true, false, List, [], ◌∷◌, ◌++◌, refl, sym, ap, ◌∙◌, subst, arith, option_to_list, append-nil}
 use Rattle.js_data.specs.Event.{PlainEvent}
 use Rattle.js_meaning.specs.Bodies.{Origin, the_top}
 use Rattle.bp_log.specs.Options.{PlainOptions}
 use Rattle.bp_log.specs.Records.{is_complete}
-use Rattle.bp_log.specs.declared.limits.TheConstants.{MOST_THREADS, MOST_WEIGHT}
 use Rattle.bp_log.specs.declared.record.Record.{Record}
 use Rattle.bp_log.specs.declared.record.Record.TheVariants.{In, Bad, Eof, Sel, End}
 use Rattle.bp_log.specs.declared.trace.Line.{Line}
 use Rattle.bp_log.specs.declared.verdict.Verdict.{Verdict}
-use Rattle.bp_run.specs.Configuration.{Configuration, Stand}
-use Rattle.bp_run.specs.Settling.{Pair, before}
+use Rattle.bp_run.specs.Configuration.{Configuration}
+use Rattle.bp_run.specs.Settling.{Pair}
 use Rattle.bp_run.specs.Choosing.{Choice, Touched}
 use Rattle.bp_run.specs.Story.{Next, record_of, step, stepped}
 use Rattle.bp_run.specs.Story.Next.{Ends, Selects, Waits}
 use Rattle.bp_run.proofs.Stories.{selects_steps}
 use Rattle.bp_thread.specs.declared.job.Job.{Job}
 use Rattle.bp_floor.specs.declared.phase.Phase.{Phase}
-use Rattle.bp_floor.specs.declared.phase.Phase.TheVariants.{Ready, Lent, Rest, Over}
+use Rattle.bp_floor.specs.declared.phase.Phase.TheVariants.{Rest}
 use Rattle.bp_floor.specs.Forgetting.{forgotten}
-use Rattle.bp_floor.specs.Floors.{PlainFloor, IsPhased, code_on, phase_of}
+use Rattle.bp_floor.specs.Floors.{PlainFloor, IsPhased, code_on}
 use Rattle.bp_arbiter.specs.declared.run.Run.{Run}
 use Rattle.bp_arbiter.specs.declared.picked.Picked.TheVariants as picked
-use Rattle.bp_arbiter.specs.Arbiters.{PlainArbiter, Stands, Tells, Keeps, Recounts, coming, code_in, options_in, stand_in, is_over, is_lent}
+use Rattle.bp_arbiter.specs.Arbiters.{PlainArbiter, Stands, Tells, Keeps, Recounts, coming, code_in, stand_in, is_over}
 use Rattle.bp_arbiter.specs.Sound.{IsSound, IsStanding}
 use Rattle.bp_arbiter.specs.Picking.{after_pick, picked_of, phase_after}
-use Rattle.bp_arbiter.specs.Runs.{seen, next_in, configuration_of, HasCome, IsBeside, IsUnheard, IsEnded, IsMoved, IsStill}
-use Rattle.bp_arbiter.proofs.Told.{stands_tells, tells_same}
+use Rattle.bp_arbiter.specs.Runs.{seen, next_in, configuration_of, HasCome, IsBeside, IsUnheard}
+use Rattle.bp_arbiter.proofs.Told.{tells_same}
 use Rattle.bp_arbiter.proofs.Standing.{sound_of, sound_broken}
 use Rattle.bp_arbiter.proofs.Picks.{next_is, stands_on, phase_come, moved_not_over as not_over}
 

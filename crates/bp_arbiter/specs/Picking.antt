@@ -1,5 +1,5 @@
 -- What comes of a pick.
-use Rattle.std.specs.Prelude.{◌≡◌, List, [], ◌∷◌, Option, None}
+use Rattle.std.specs.Prelude.{List, [], ◌∷◌}
 use Rattle.js_value.specs.Value.{PlainSet}
 use Rattle.js_meaning.specs.Bodies.{Origin}
 use Rattle.bp_run.specs.Bodies.{Code}

@@ -1,19 +1,17 @@
 -- A run, and what comes next in it.
-use Rattle.std.specs.Prelude.{◌≡◌, ℕ, ◌≤◌, ◌==◌, Bool, false, List, [], ◌∷◌, ◌++◌, Option, Some, None, Ok, if◌then◌else◌}
+use Rattle.std.specs.Prelude.{◌≡◌, ℕ, ◌≤◌, Bool, false, List, [], ◌∷◌, ◌++◌, Option, Some, None, Ok}
 use Rattle.js_data.specs.Event.{PlainEvent}
 use Rattle.js_meaning.specs.Bodies.{Origin, the_top}
-use Rattle.bp_log.specs.declared.record.Record.{Record}
 use Rattle.bp_log.specs.declared.record.Record.TheVariants.{Sel, End}
 use Rattle.bp_log.specs.declared.trace.Line.{Line}
 use Rattle.bp_log.specs.declared.verdict.Verdict.{Verdict}
-use Rattle.bp_log.specs.declared.verdict.Verdict.TheVariants as verdict
-use Rattle.bp_run.specs.Configuration.{Configuration, Stand}
+use Rattle.bp_run.specs.Configuration.{Configuration}
 use Rattle.bp_run.specs.Selecting.{live}
 use Rattle.bp_run.specs.Choosing.{Choice, Touched, reach}
 use Rattle.bp_run.specs.Story.{Next, over, stepped, next, next_choice, next_idle}
 use Rattle.bp_run.specs.Story.Next.{Ends, Selects, Waits}
 use Rattle.bp_floor.specs.declared.phase.Phase.{Phase}
-use Rattle.bp_floor.specs.declared.phase.Phase.TheVariants.{Rest, Over}
+use Rattle.bp_floor.specs.declared.phase.Phase.TheVariants.{Over}
 use Rattle.bp_floor.specs.Floors.{PlainFloor, code_on, phase_of}
 use Rattle.bp_floor.specs.Forgetting.{forgotten}
 use Rattle.bp_arbiter.specs.declared.run.Run.{Run}

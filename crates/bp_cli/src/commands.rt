@@ -88,7 +88,8 @@ pub fn command<R: Threads + Wait + Sync, W: World, K: Sink>(
     world: &mut W,
     out: &mut K,
 ) -> Status
-    // It ends with the code and the note of a conclusion whose cause holds.
+    // It ends with the code and the note of a conclusion whose cause holds. So where neither count rose and memory was not
+    // wanting, the code is 1, 2, that of the one run's verdict, or 0 for an accepted program.
     ensures concludes { Concludes (command_of (map string_bytes words.now)) (W.holds world.old)
         (Rose (W.read_faults world.old) (W.read_faults world.new))
         (Rose (K.faults out.old) (K.faults out.new)) result.code result.note }

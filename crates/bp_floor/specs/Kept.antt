@@ -63,7 +63,3 @@ pub record IsKept (r : Running) (first : ℕ) (b : Board) : Type 0 where
   pub older : first ≤ length b.seats
   pub few : length b.seats ≤ MOST_THREADS
   pub room : length b.queue ≤ MOST_WAITING
-
--- what merging an entry, or all of these, keeps
-pub record Keeps (ns : List (Entry Origin)) (old new : Board) : Type 0 where
-  pub keeps : (r : Running) (first : ℕ) → AreBelow first ns → IsKept r first old → IsKept r first new

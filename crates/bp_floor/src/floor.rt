@@ -35,7 +35,8 @@ use js_program::Program;
 use std::alloc::{AllocError, Global};
 use std::marker::Model;
 
-/// Where the b-threads of a run stand. Contracts see its pair, with the lines that were not taken yet.
+/// Where the b-threads of a run stand. Contracts see its pair, with the lines that were not taken
+/// yet.
 ///
 /// After want of memory each later call that lends, seals or goes on answers it too.
 #[derive(Drop)]
@@ -159,7 +160,8 @@ impl Floor {
     /// The jobs of what is to be run, in order. Its only error is want of memory.
     pub fn lend(&mut self, alloc: Global) -> Result<Vec<Job>, Memory>
         requires ready { self.old.phase ≡ phase.Ready }
-        ensures filled { IfOk result (λ jobs. filled_pair jobs.items self.new.pair ≡ self.old.pair) }
+        ensures filled { IfOk result (λ jobs. filled_pair jobs.items self.new.pair
+            ≡ self.old.pair) }
         ensures lent { IfOk result (λ jobs. AreLent self.old.base.program self.old.options
             (standing self.old.pair.stand.threads) self.old.pair.entries jobs.items) }
         ensures stands { IfOk result (λ jobs. (taken : List Line) (p : Pair Origin) →
@@ -184,15 +186,16 @@ impl Floor {
         Ok(jobs)
     }
 
-    /// Merges what the lent jobs did: they are the lent ones in the same order, each carried to its outcome
-    /// with its effects whole. Its only error is want of memory; the jobs are let go.
+    /// Merges what the lent jobs did: they are the lent ones in the same order, each carried to its
+    /// outcome with its effects whole. Its only error is want of memory; the jobs are let go.
     pub fn seal(&mut self, alloc: Global, jobs: Vec<Job>) -> Result<Phase, Memory>
         requires lent { self.old.phase ≡ phase.Lent }
         requires back { self.old.broken ≡ false → AreBack self.old jobs.items }
         ensures sealed { OnOk result (IsSealed self.old jobs.items self.new) }
         ensures answered { IfOk result (λ p. p ≡ self.new.phase) }
         ensures stands { OnOk result ((taken : List Line) (p : Pair Origin) →
-            StandsWith self.old jobs.items taken p → StandsFor self.new taken (turn (code_on self.old) p)) }
+            StandsWith self.old jobs.items taken p →
+            StandsFor self.new taken (turn (code_on self.old) p)) }
         ensures program { self.new.base.program ≡ self.old.base.program }
         ensures options { self.new.options ≡ self.old.options }
         ensures whole { OnOk result (self.old.broken ≡ false) }
@@ -210,8 +213,8 @@ impl Floor {
         Ok(self.phase)
     }
 
-    /// Makes the transition of an event that can be selected at this place, unless it would stop the run.
-    /// Its only error is want of memory.
+    /// Makes the transition of an event that can be selected at this place, unless it would stop
+    /// the run. Its only error is want of memory.
     pub fn go(&mut self, alloc: Global, event: &Event, place: Option<u32>) -> Result<Went, Memory>
         requires rest { self.old.phase ≡ phase.Rest }
         requires can { self.old.broken ≡ false → CanGo self.old event.now place }
@@ -234,15 +237,16 @@ impl Floor {
         Ok(went)
     }
 
-    /// The verdict with which `go` would stop at the event, if there is one. Its only error is want of memory.
+    /// The verdict with which `go` would stop at the event, if there is one, wherever the event
+    /// stands. Its only error is want of memory.
     pub fn stop(
         &mut self,
         alloc: Global,
         event: &Event,
-        place: Option<u32>,
+        _place: Option<u32>,
     ) -> Result<Option<Verdict>, Memory>
         requires rest { self.old.phase ≡ phase.Rest }
-        requires can { self.old.broken ≡ false → CanGo self.old event.now place }
+        requires can { self.old.broken ≡ false → CanGo self.old event.now _place }
         ensures stop { IfOk result (λ v. v ≡ stop_of self.old event.now) }
         ensures whole { OnOk result (self.old.broken ≡ false) }
         ensures same { self.new ≡ self.old }
@@ -257,13 +261,15 @@ impl Floor {
     ///
     /// # Errors
     ///
-    /// `Full` exactly where as many events wait as may, and `Memory`; both give the event back as an offer.
+    /// `Full` exactly where as many events wait as may, and `Memory`; both give the event back as
+    /// an offer.
     pub fn enqueue(&mut self, event: Event) -> Result<(), Absorb>
         requires rest { self.old.phase ≡ phase.Rest }
         ensures queued { OnOk result (self.new ≡ record self.old {
           pair = record self.old.pair { stand = queued event self.old.pair.stand };
         }) }
-        ensures refused { IfErr result (IsRefused (length self.old.pair.stand.queue) (item.Offered event)) }
+        ensures refused { IfErr result (IsRefused (length self.old.pair.stand.queue)
+            (item.Offered event)) }
         ensures same { OnErr result (self.new ≡ self.old) }
         ensures room { OnOk result (length self.old.pair.stand.queue < MOST_WAITING) }
     {
@@ -277,6 +283,10 @@ impl Floor {
     }
 
     /// What can be selected.
+    ///
+    /// # Errors
+    ///
+    /// Those of the bench; after want of memory `Memory` alone.
     pub fn enabled(&mut self, alloc: Global) -> Result<Enabled, SelectFault>
         requires rest { self.old.phase ≡ phase.Rest }
         ensures enabled { AnswersAs enabled_of
@@ -294,6 +304,10 @@ impl Floor {
     }
 
     /// The first live b-thread that blocks the event.
+    ///
+    /// # Errors
+    ///
+    /// Those of the bench; after want of memory `Memory` alone.
     pub fn blocker(&mut self, alloc: Global, event: &Event) -> Result<Option<u32>, SelectFault>
         requires rest { self.old.phase ≡ phase.Rest }
         ensures blocker { AnswersAs (λ o. o)
@@ -322,7 +336,11 @@ impl Floor {
         self.board.lines.take()
     }
 
-    /// Which event comes next; a word is drawn where several can. Its errors are those of the bench.
+    /// Which event comes next; a word is drawn where several can.
+    ///
+    /// # Errors
+    ///
+    /// Those of the bench; after want of memory `Memory` alone.
     pub fn choose(&mut self, alloc: Global, draw: &mut Draw) -> Result<Choice, SelectFault>
         requires rest { self.old.phase ≡ phase.Rest }
         requires words { draw.old.drawn + 1 < 2 ^ 64 }
@@ -376,7 +394,8 @@ impl Floor {
         self.board.seats.name_of(number as usize)
     }
 
-    /// The fault of a set, as the verdict in the name of its b-thread. Its only error is want of memory.
+    /// The fault of a set, as the verdict in the name of its b-thread. Its only error is want of
+    /// memory.
     pub fn fault_verdict(&self, number: u32, fault: SetFault) -> Result<Verdict, Memory>
         requires { number < length self.now.pair.stand.threads }
         ensures { IfOk result (λ v. (x : ℕ × run.SetFault) →

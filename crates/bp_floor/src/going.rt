@@ -36,7 +36,9 @@ pub enum Outlook {
 
 /// The first of the next that goes on and the next that is interrupted.
 fn first_touch(moved: Option<&u32>, interrupted: Option<&u32>) -> Option<Touch>
-    ensures { option_map touch_seen result ≡ first_touch (option_map (λ n. n.now) moved.entry) (option_map (λ n. n.now) interrupted.entry) }
+    ensures { option_map touch_seen result
+        ≡ first_touch (option_map (λ n. n.now) moved.entry) (option_map
+        (λ n. n.now) interrupted.entry) }
 {
     match (moved, interrupted) {
         (Some(first), Some(other)) => {
@@ -53,7 +55,8 @@ fn first_touch(moved: Option<&u32>, interrupted: Option<&u32>) -> Option<Touch>
 
 /// Whom an event reaches, in registration order.
 fn touches_of(alloc: Global, reach: &Reach) -> Result<Vec<Touch>, Memory>
-    ensures { IfOk result (λ ts. (xs : List Touched) → IsReach xs reach.now → Rises (map number_in xs) → map touch_seen ts.items ≡ xs) }
+    ensures { IfOk result (λ ts. (xs : List Touched) → IsReach xs reach.now →
+        Rises (map number_in xs) → map touch_seen ts.items ≡ xs) }
 {
     let mut touches = Vec::new(alloc);
     let mut moved = 0;
@@ -75,10 +78,12 @@ fn touches_of(alloc: Global, reach: &Reach) -> Result<Vec<Touch>, Memory>
 }
 
 impl Board {
-    /// The fault of a set, as the verdict in the name of its b-thread. Its only error is want of memory.
+    /// The fault of a set, as the verdict in the name of its b-thread. Its only error is want of
+    /// memory.
     pub fn fault_verdict(&self, number: u32, fault: SetFault) -> Result<Verdict, Memory>
         requires { number < length self.now.seats }
-        ensures { IfOk result (λ v. (x : ℕ × run.SetFault) → FaultAs {A = List Touched} (Err x) (select_fault.Set number fault) →
+        ensures { IfOk result (λ v. (x : ℕ × run.SetFault) →
+            FaultAs {A = List Touched} (Err x) (select_fault.Set number fault) →
             v ≡ fault_verdict (stand_of self.now) x) }
     {
         let place = Place::Thread(self.seats.name_of(number as usize).copy()?);
@@ -104,7 +109,8 @@ impl Board {
     fn weighed(&self, event: &Event, reached: Reach) -> Outlook
         requires light { self.now.weight ≤ MOST_WEIGHT }
         requires few { length reached.moved.items ≤ MOST_THREADS }
-        ensures { (f : PlainFloor) (xs : List Touched) → f.pair ≡ pair_of self.now → reach (code_on f).has event.now (live (code_on f) f.pair.stand) ≡ Ok xs →
+        ensures { (f : PlainFloor) (xs : List Touched) → f.pair ≡ pair_of self.now →
+            reach (code_on f).has event.now (live (code_on f) f.pair.stand) ≡ Ok xs →
             IsReach xs reached → LooksAs f event.now result }
     {
         let weight = self.weight_after(event, reached.moved.len());
@@ -123,7 +129,8 @@ impl Board {
         event: &Event,
     ) -> Result<Outlook, Memory>
         requires { IsResting (plain_ground ground.now) options self.old }
-        ensures looks { IfOk result (LooksAs (floor_on (plain_ground ground.now) options self.old) event.now) }
+        ensures looks { IfOk result (LooksAs (floor_on
+            (plain_ground ground.now) options self.old) event.now) }
         ensures same { pair_of self.new ≡ pair_of self.old }
         ensures resting { IsResting (plain_ground ground.now) options self.new }
     {
@@ -136,7 +143,8 @@ impl Board {
         }
     }
 
-    /// The verdict with which an event stops the run, if there is one. Its only error is want of memory.
+    /// The verdict with which an event stops the run, if there is one. Its only error is want of
+    /// memory.
     pub fn stop_at(
         &mut self,
         alloc: Global,
@@ -145,7 +153,8 @@ impl Board {
         event: &Event,
     ) -> Result<Option<Verdict>, Memory>
         requires { IsResting (plain_ground ground.now) options self.old }
-        ensures stop { IfOk result (λ v. v ≡ stop_of (floor_on (plain_ground ground.now) options self.old) event.now) }
+        ensures stop { IfOk result (λ v. v
+            ≡ stop_of (floor_on (plain_ground ground.now) options self.old) event.now) }
         ensures same { pair_of self.new ≡ pair_of self.old }
         ensures resting { IsResting (plain_ground ground.now) options self.new }
     {
@@ -166,8 +175,11 @@ impl Board {
     ) -> Result<Went, Memory>
         requires resting { IsResting (plain_ground ground.now) options self.old }
         requires can { CanGo (floor_on (plain_ground ground.now) options self.old) event.now place }
-        ensures goes { IfOk result (λ w. GoesAs (floor_on (plain_ground ground.now) options self.old) event.now place w (floor_on (plain_ground ground.now) options self.new)) }
-        ensures sound { OnOk result (IsSoundOn (plain_ground ground.now) options self.new (phase_of (pair_of self.new))) }
+        ensures goes { IfOk result (λ w. GoesAs (floor_on
+            (plain_ground ground.now) options self.old) event.now place w (floor_on
+            (plain_ground ground.now) options self.new)) }
+        ensures sound { OnOk result (IsSoundOn (plain_ground ground.now) options self.new (phase_of
+            (pair_of self.new))) }
         ensures lines { OnErr result (self.new.lines ≡ self.old.lines) }
         ensures verdict { OnErr result (self.new.verdict ≡ self.old.verdict) }
     {

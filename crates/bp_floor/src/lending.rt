@@ -36,7 +36,8 @@ impl Seats {
         handler: &Handler,
     ) -> Result<Job, Memory>
         requires { number < length self.now }
-        ensures { IfOk result (λ j. IsStarted (plain_ground ground.now) options number (handler_seen handler.now).origin j) }
+        ensures { IfOk result (λ j. IsStarted (plain_ground ground.now) options number
+            (handler_seen handler.now).origin j) }
     {
         let name = self.name_of(number as usize).copy()?;
         let function = copy(&handler.function)?;
@@ -64,7 +65,9 @@ impl Seats {
         handler: &Option<Handler>,
     ) -> Result<Option<Job>, Memory>
         requires { number < length self.now }
-        ensures { IfOk result (λ j. Lends (plain_ground ground.now) options (settling.Entry.Stops number (option_map handler_seen handler.now)) self.now self.now (option_to_list j)) }
+        ensures { IfOk result (λ j. Lends (plain_ground ground.now) options
+            (settling.Entry.Stops number (option_map handler_seen handler.now)) self.now self.now
+            (option_to_list j)) }
     {
         match handler {
             None => Ok(None),
@@ -81,7 +84,8 @@ impl Seats {
         entry: &Entry,
     ) -> Result<Option<Job>, Memory>
         requires { IsBelow (length self.old) (entry_seen entry.now) }
-        ensures { IfOk result (λ j. Lends (plain_ground ground.now) options (entry_seen entry.now) self.old self.new (option_to_list j)) }
+        ensures { IfOk result (λ j. Lends (plain_ground ground.now) options
+            (entry_seen entry.now) self.old self.new (option_to_list j)) }
     {
         match entry {
             Entry::Top => Ok(Some(Job::top(alloc, ground, options.budget())?)),
@@ -101,7 +105,9 @@ impl Seats {
         wave: &Wave,
     ) -> Result<Vec<Job>, Memory>
         requires { (r : Running) × CanLend r (plain_ground ground.now) options wave.now self.old }
-        ensures { IfOk result (λ js. (r : Running) → CanLend r (plain_ground ground.now) options wave.now self.old → AreOut r wave.now js.items self.old self.new) }
+        ensures { IfOk result (λ js. (r : Running) →
+            CanLend r (plain_ground ground.now) options wave.now self.old →
+            AreOut r wave.now js.items self.old self.new) }
     {
         let mut jobs = Vec::new(alloc);
         for entry in wave.as_slice() {

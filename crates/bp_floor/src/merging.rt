@@ -26,21 +26,25 @@ use std::alloc::{AllocError, Global};
 impl Board {
     fn say(&mut self, line: Line) -> Result<(), Memory>
         ensures said { OnOk result (pair_of self.new ≡ said line (pair_of self.old)) }
-        ensures keeps { OnOk result ((r : Running) (first : ℕ) → IsKept r first self.old → IsKept r first self.new) }
+        ensures keeps { OnOk result ((r : Running) (first : ℕ) → IsKept r first self.old →
+            IsKept r first self.new) }
     {
         self.lines.push(line)
     }
 
     fn stop(&mut self, verdict: Verdict)
         ensures stopped { pair_of self.new ≡ stopped verdict (pair_of self.old) }
-        ensures keeps { (r : Running) (first : ℕ) → IsKept r first self.old → IsKept r first self.new }
+        ensures keeps { (r : Running) (first : ℕ) → IsKept r first self.old →
+            IsKept r first self.new }
     {
         self.verdict = Some(verdict);
     }
 
     fn enqueue(&mut self, at: &Place, event: Event) -> Result<(), Memory>
-        ensures merged { OnOk result (pair_of self.new ≡ with_effect at.now (run.Effect.Enqueue event) (pair_of self.old)) }
-        ensures keeps { OnOk result ((r : Running) (first : ℕ) → IsKept r first self.old → IsKept r first self.new) }
+        ensures merged { OnOk result (pair_of self.new
+            ≡ with_effect at.now (run.Effect.Enqueue event) (pair_of self.old)) }
+        ensures keeps { OnOk result ((r : Running) (first : ℕ) → IsKept r first self.old →
+            IsKept r first self.new) }
     {
         if self.queue.len() == MOST_WAITING as usize {
             self.stop(Verdict::Queue);
@@ -61,8 +65,11 @@ impl Board {
         callee: Value,
     ) -> Result<(), Memory>
         requires { number ≡ length self.old.seats }
-        ensures merged { OnOk result (pair_of self.new ≡ registered name (function mode.Thread (plain_value callee) []) (pair_of self.old)) }
-        ensures keeps { OnOk result (number < MOST_THREADS → (r : Running) (first : ℕ) → IsOn r (plain_ground ground.now) options → IsKept r first self.old → IsKept r first self.new) }
+        ensures merged { OnOk result (pair_of self.new
+            ≡ registered name (function mode.Thread (plain_value callee) []) (pair_of self.old)) }
+        ensures keeps { OnOk result (number < MOST_THREADS → (r : Running) (first : ℕ) →
+            IsOn r (plain_ground ground.now) options → IsKept r first self.old →
+            IsKept r first self.new) }
     {
         let named = name.copy()?;
         let budget = options.budget();
@@ -94,8 +101,11 @@ impl Board {
         callee: Value,
     ) -> Result<(), Memory>
         ensures merged { OnOk result (pair_of self.new
-            ≡ with_effect at.now (run.Effect.Register name (function mode.Thread (plain_value callee) [])) (pair_of self.old)) }
-        ensures keeps { OnOk result ((r : Running) (first : ℕ) → IsOn r (plain_ground ground.now) options → IsKept r first self.old → IsKept r first self.new) }
+            ≡ with_effect at.now (run.Effect.Register name (function mode.Thread
+            (plain_value callee) [])) (pair_of self.old)) }
+        ensures keeps { OnOk result ((r : Running) (first : ℕ) →
+            IsOn r (plain_ground ground.now) options → IsKept r first self.old →
+            IsKept r first self.new) }
     {
         let number = self.seats.len();
         if number == MOST_THREADS as usize {
@@ -118,8 +128,11 @@ impl Board {
         effect: Effect,
     ) -> Result<(), Memory>
         ensures merged { OnOk result (pair_of self.new
-            ≡ unless_over (with_effect at.now (effect_of (plain_effect effect))) (pair_of self.old)) }
-        ensures keeps { OnOk result ((r : Running) (first : ℕ) → IsOn r (plain_ground ground.now) options → IsKept r first self.old → IsKept r first self.new) }
+            ≡ unless_over (with_effect at.now (effect_of (plain_effect effect)))
+            (pair_of self.old)) }
+        ensures keeps { OnOk result ((r : Running) (first : ℕ) →
+            IsOn r (plain_ground ground.now) options → IsKept r first self.old →
+            IsKept r first self.new) }
     {
         if self.verdict.is_some() {
             return Ok(());
@@ -144,7 +157,9 @@ impl Board {
     ) -> Result<(), Memory>
         ensures merged { OnOk result (pair_of self.new
             ≡ with_effects at.now (map effect_of (plain_effects effects)) (pair_of self.old)) }
-        ensures keeps { OnOk result ((r : Running) (first : ℕ) → IsOn r (plain_ground ground.now) options → IsKept r first self.old → IsKept r first self.new) }
+        ensures keeps { OnOk result ((r : Running) (first : ℕ) →
+            IsOn r (plain_ground ground.now) options → IsKept r first self.old →
+            IsKept r first self.new) }
     {
         for effect in effects.items {
             self.effect(alloc, ground, options, at, effect)?;
@@ -170,7 +185,8 @@ impl Board {
     fn retire(&mut self, number: u32) -> Result<(), Memory>
         requires { number < length self.old.seats }
         ensures merged { OnOk result (pair_of self.new ≡ retired number (pair_of self.old)) }
-        ensures keeps { OnOk result ((r : Running) (first : ℕ) → number < first → IsKept r first self.old → IsKept r first self.new) }
+        ensures keeps { OnOk result ((r : Running) (first : ℕ) → number < first →
+            IsKept r first self.old → IsKept r first self.new) }
     {
         self.bench.place(number, None)?;
         self.seats.end(number as usize);
@@ -179,8 +195,11 @@ impl Board {
 
     fn finish(&mut self, entry: &Entry) -> Result<(), Memory>
         requires { IsBelow (length self.old.seats) (entry_seen entry.now) }
-        ensures merged { OnOk result (pair_of self.new ≡ with_end (entry_seen entry.now) (pair_of self.old)) }
-        ensures keeps { OnOk result ((r : Running) (first : ℕ) → IsBelow first (entry_seen entry.now) → IsKept r first self.old → IsKept r first self.new) }
+        ensures merged { OnOk result (pair_of self.new
+            ≡ with_end (entry_seen entry.now) (pair_of self.old)) }
+        ensures keeps { OnOk result ((r : Running) (first : ℕ) →
+            IsBelow first (entry_seen entry.now) → IsKept r first self.old →
+            IsKept r first self.new) }
     {
         match entry {
             Entry::Top => Ok(()),
@@ -198,8 +217,11 @@ impl Board {
 
     fn ending(&mut self, entry: &Entry, ending: Ending) -> Result<(), Memory>
         requires { IsBelow (length self.old.seats) (entry_seen entry.now) }
-        ensures merged { OnOk result (pair_of self.new ≡ with_outcome (entry_seen entry.now) (ending_seen ending) (pair_of self.old)) }
-        ensures keeps { OnOk result ((r : Running) (first : ℕ) → IsBelow first (entry_seen entry.now) → IsKept r first self.old → IsKept r first self.new) }
+        ensures merged { OnOk result (pair_of self.new
+            ≡ with_outcome (entry_seen entry.now) (ending_seen ending) (pair_of self.old)) }
+        ensures keeps { OnOk result ((r : Running) (first : ℕ) →
+            IsBelow first (entry_seen entry.now) → IsKept r first self.old →
+            IsKept r first self.new) }
     {
         match ending {
             Ending::Stopped => Ok(()),
@@ -232,8 +254,11 @@ impl Board {
         part: Part,
     ) -> Result<(), Memory>
         requires { IsBelow (length self.old.seats) (entry_seen entry.now) }
-        ensures merged { OnOk result (pair_of self.new ≡ unless_over (with_part (entry_seen entry.now) (part_seen part)) (pair_of self.old)) }
-        ensures keeps { OnOk result ((r : Running) (first : ℕ) → IsOn r (plain_ground ground.now) options → IsBelow first (entry_seen entry.now) → IsKept r first self.old → IsKept r first self.new) }
+        ensures merged { OnOk result (pair_of self.new
+            ≡ unless_over (with_part (entry_seen entry.now) (part_seen part)) (pair_of self.old)) }
+        ensures keeps { OnOk result ((r : Running) (first : ℕ) →
+            IsOn r (plain_ground ground.now) options → IsBelow first (entry_seen entry.now) →
+            IsKept r first self.old → IsKept r first self.new) }
     {
         if self.verdict.is_some() {
             return Ok(());

@@ -57,7 +57,8 @@ fn keeps_handler(job: &Job)
 
 /// The handler of a job at an event, if it set one.
 fn handler_of(alloc: Global, job: &Job, event: &Event) -> Result<Option<Handler>, Memory>
-    ensures { IfOk result (λ h. option_map handler_seen h ≡ option_map (handler_at event.now) (plain_job job.now).handler) }
+    ensures { IfOk result (λ h. option_map handler_seen h
+        ≡ option_map (handler_at event.now) (plain_job job.now).handler) }
 {
     match job.handler() {
         None => Ok(None),
@@ -101,7 +102,9 @@ impl Seats {
     ) -> Result<Option<Handler>, Memory>
         requires { IsStanding (slice_get self.now number) }
         ensures { IfOk result (λ h. (r : Running) → AreOwn r.program r.options 0 self.now →
-            option_map handler_seen h ≡ handler_body (code_of r.program r.options) event.now (slice_get (map seated self.now) number)) }
+            option_map handler_seen h
+            ≡ handler_body (code_of r.program r.options) event.now (slice_get
+            (map seated self.now) number)) }
     {
         match self.job(number) {
             None => Ok(None),
@@ -115,7 +118,8 @@ impl Seats {
     /// What runs after an event does this.
     fn entry(&self, alloc: Global, event: &Event, touch: Touch) -> Result<Entry, Memory>
         requires { IsStanding (slice_get self.now (number_in (touch_seen touch))) }
-        ensures { IfOk result (λ n. (r : Running) (s : Stand Origin) → AreOwn r.program r.options 0 self.now → s.threads ≡ map seated self.now →
+        ensures { IfOk result (λ n. (r : Running) (s : Stand Origin) →
+            AreOwn r.program r.options 0 self.now → s.threads ≡ map seated self.now →
             entry_seen n ≡ entry_of (code_of r.program r.options) s event.now (touch_seen touch)) }
     {
         match touch {
@@ -130,8 +134,10 @@ impl Seats {
     /// What runs after an event does all this.
     pub fn entries(&self, alloc: Global, event: &Event, touches: &[Touch]) -> Result<Wave, Memory>
         requires { AreStanding (map touch_seen touches.now) self.now }
-        ensures { IfOk result (λ w. (r : Running) (s : Stand Origin) → AreOwn r.program r.options 0 self.now → s.threads ≡ map seated self.now →
-            w ≡ map (entry_of (code_of r.program r.options) s event.now) (map touch_seen touches.now)) }
+        ensures { IfOk result (λ w. (r : Running) (s : Stand Origin) →
+            AreOwn r.program r.options 0 self.now → s.threads ≡ map seated self.now →
+            w ≡ map (entry_of (code_of r.program r.options) s event.now)
+            (map touch_seen touches.now)) }
     {
         let mut wave = Wave::new(alloc);
         for touch in touches {
@@ -165,7 +171,9 @@ impl Board {
     /// An event does all this.
     fn touch_all(&mut self, event: &Event, touches: &[Touch]) -> Result<(), Memory>
         requires { (r : Running) × CanTouch r (map touch_seen touches.now) self.old }
-        ensures touched { OnOk result ((r : Running) → CanTouch r (map touch_seen touches.now) self.old → IsTouchedBy r event.now (map touch_seen touches.now) self.old self.new) }
+        ensures touched { OnOk result ((r : Running) →
+            CanTouch r (map touch_seen touches.now) self.old →
+            IsTouchedBy r event.now (map touch_seen touches.now) self.old self.new) }
         ensures lines { self.new.lines ≡ self.old.lines }
         ensures verdict { self.new.verdict ≡ self.old.verdict }
     {
@@ -187,9 +195,13 @@ impl Board {
         requires there { IfSome place (λ i. i < length self.old.queue) }
         requires few { self.old.transitions + 1 < 2 ^ 32 }
         requires can { (r : Running) × CanTouch r (map touch_seen touches.now) self.old }
-        ensures stepped { OnOk result ((r : Running) → CanTouch r (map touch_seen touches.now) self.old →
-            pair_of self.new ≡ forgotten the_top (moved_pair (stand_of self.old) event.now place (map touch_seen touches.now) weight wave)) }
-        ensures kept { OnOk result ((r : Running) → CanTouch r (map touch_seen touches.now) self.old → moves_in (map touch_seen touches.now) ≡ runs_in wave → IsKept r 0 self.new) }
+        ensures stepped { OnOk result ((r : Running) →
+            CanTouch r (map touch_seen touches.now) self.old →
+            pair_of self.new ≡ forgotten the_top (moved_pair (stand_of self.old) event.now place
+            (map touch_seen touches.now) weight wave)) }
+        ensures kept { OnOk result ((r : Running) →
+            CanTouch r (map touch_seen touches.now) self.old →
+            moves_in (map touch_seen touches.now) ≡ runs_in wave → IsKept r 0 self.new) }
         ensures lines { OnErr result (self.new.lines ≡ self.old.lines) }
         ensures verdict { OnErr result (self.new.verdict ≡ self.old.verdict) }
     {

@@ -44,7 +44,8 @@ impl Entry {
 
 /// How a job came to a stop.
 fn ending_of(job: &Job) -> Result<Ending, Memory>
-    ensures { IfOk result (λ e. (x : run.Outcome PlainSet) → (plain_job job.now).outcome ≡ Some x → ending_seen e ≡ unstated x) }
+    ensures { IfOk result (λ e. (x : run.Outcome PlainSet) → (plain_job job.now).outcome ≡ Some x →
+        ending_seen e ≡ unstated x) }
 {
     match job.outcome() {
         None => Ok(Ending::Ended),
@@ -58,7 +59,8 @@ fn ending_of(job: &Job) -> Result<Ending, Memory>
 
 /// What a job states.
 fn statement_of(alloc: Global, job: &Job) -> Result<Option<Statement>, Memory>
-    ensures { IfOk result (λ s. (k : ℕ) → stop_at k (plain_job job.now).outcome ≡ live_at k (option_map plain_statement s)) }
+    ensures { IfOk result (λ s. (k : ℕ) → stop_at k (plain_job job.now).outcome
+        ≡ live_at k (option_map plain_statement s)) }
 {
     match job.outcome() {
         None => Ok(None),
@@ -109,7 +111,8 @@ impl Board {
     ) -> Result<(), Memory>
         requires { RunsBelow (length self.old.seats) (entry_seen entry.now) }
         ensures program { ground.new.program ≡ ground.old.program }
-        ensures kept { OnOk result (IsKeptBy (entry_seen entry.now) job (plain_ground ground.old) self.old (plain_ground ground.new) self.new) }
+        ensures kept { OnOk result (IsKeptBy (entry_seen entry.now) job
+            (plain_ground ground.old) self.old (plain_ground ground.new) self.new) }
     {
         match entry {
             Entry::Top => {
@@ -133,7 +136,8 @@ impl Board {
         requires body { has_body (entry_seen entry.now) ≡ true }
         ensures program { ground.new.program ≡ ground.old.program }
         ensures puts { IfOk result (λ p. (js : List Job) →
-            Puts (entry_seen entry.now) (job ∷ js) (plain_ground ground.old) self.old js (plain_ground ground.new) self.new (part_seen p)) }
+            Puts (entry_seen entry.now) (job ∷ js) (plain_ground ground.old) self.old js
+            (plain_ground ground.new) self.new (part_seen p)) }
     {
         let effects = job.take_effects();
         let ending = ending_of(&job)?;
@@ -149,9 +153,12 @@ impl Board {
         entry: &Entry,
         jobs: &mut IntoIter<Job>,
     ) -> Result<Part, Memory>
-        requires { (r : Running) × (ns : List (settling.Entry Origin)) × IsBack r (plain_ground ground.old) (entry_seen entry.now ∷ ns) (into_iter_items jobs.old) self.old }
+        requires { (r : Running) × (ns : List (settling.Entry Origin))
+            × IsBack r (plain_ground ground.old) (entry_seen entry.now ∷ ns)
+            (into_iter_items jobs.old) self.old }
         ensures program { ground.new.program ≡ ground.old.program }
-        ensures puts { IfOk result (λ p. Puts (entry_seen entry.now) (into_iter_items jobs.old) (plain_ground ground.old) self.old
+        ensures puts { IfOk result (λ p. Puts (entry_seen entry.now) (into_iter_items jobs.old)
+            (plain_ground ground.old) self.old
             (into_iter_items jobs.new) (plain_ground ground.new) self.new (part_seen p)) }
     {
         let idle = Part {
@@ -175,10 +182,13 @@ impl Board {
         wave: Wave,
         mut jobs: IntoIter<Job>,
     ) -> Result<Rans, Memory>
-        requires { (r : Running) × IsBack r (plain_ground ground.old) wave (into_iter_items jobs) self.old }
+        requires { (r : Running)
+            × IsBack r (plain_ground ground.old) wave (into_iter_items jobs) self.old }
         ensures program { ground.new.program ≡ ground.old.program }
-        ensures back { IfOk result (λ rans. (r : Running) → IsBack r (plain_ground ground.old) wave (into_iter_items jobs) self.old →
-            AreAllBack r wave (filled wave (into_iter_items jobs) (map seated self.old.seats)) (plain_ground ground.new) self.new rans) }
+        ensures back { IfOk result (λ rans. (r : Running) →
+            IsBack r (plain_ground ground.old) wave (into_iter_items jobs) self.old →
+            AreAllBack r wave (filled wave (into_iter_items jobs) (map seated self.old.seats))
+            (plain_ground ground.new) self.new rans) }
         ensures same { OnOk result (IsSameBut self.old self.new) }
     {
         let mut rans = Rans::new(alloc);
@@ -199,7 +209,9 @@ impl Board {
     ) -> Result<(), Memory>
         requires { AreBelow (length self.old.seats) (map entry_in rans) }
         ensures merged { OnOk result (pair_of self.new ≡ merged rans (pair_of self.old)) }
-        ensures keeps { OnOk result ((r : Running) (first : ℕ) → IsOn r (plain_ground ground.now) options → AreBelow first (map entry_in rans) → IsKept r first self.old → IsKept r first self.new) }
+        ensures keeps { OnOk result ((r : Running) (first : ℕ) →
+            IsOn r (plain_ground ground.now) options → AreBelow first (map entry_in rans) →
+            IsKept r first self.old → IsKept r first self.new) }
     {
         for Ran { entry, part } in rans.into_vec() {
             self.part(alloc, ground, options, &entry, part)?;
@@ -216,12 +228,16 @@ impl Board {
         wave: Wave,
         jobs: IntoIter<Job>,
     ) -> Result<(), Memory>
-        requires back { (r : Running) × (options ≡ r.options) × IsBack r (plain_ground ground.old) wave (into_iter_items jobs) self.old }
+        requires back { (r : Running) × (options ≡ r.options)
+            × IsBack r (plain_ground ground.old) wave (into_iter_items jobs) self.old }
         requires clear { self.old.wave ≡ [] }
         ensures program { ground.new.program ≡ ground.old.program }
-        ensures turned { OnOk result ((r : Running) → options ≡ r.options → IsBack r (plain_ground ground.old) wave (into_iter_items jobs) self.old →
-            pair_of self.new ≡ turned_apart r wave (filled wave (into_iter_items jobs) (map seated self.old.seats)) (stand_of self.old)) }
-        ensures kept { OnOk result ((r : Running) → options ≡ r.options → IsBack r (plain_ground ground.old) wave (into_iter_items jobs) self.old →
+        ensures turned { OnOk result ((r : Running) → options ≡ r.options →
+            IsBack r (plain_ground ground.old) wave (into_iter_items jobs) self.old →
+            pair_of self.new ≡ turned_apart r wave (filled wave (into_iter_items jobs)
+            (map seated self.old.seats)) (stand_of self.old)) }
+        ensures kept { OnOk result ((r : Running) → options ≡ r.options →
+            IsBack r (plain_ground ground.old) wave (into_iter_items jobs) self.old →
             IsKept r 0 self.new × IsOn r (plain_ground ground.new) options) }
     {
         let rans = self.put_back(alloc, ground, wave, jobs)?;
@@ -238,12 +254,16 @@ impl Board {
         options: Options,
         jobs: Vec<Job>,
     ) -> Result<(), Memory>
-        requires back { (r : Running) × (options ≡ r.options) × IsBack r (plain_ground ground.old) self.old.wave jobs.items self.old }
+        requires back { (r : Running) × (options ≡ r.options)
+            × IsBack r (plain_ground ground.old) self.old.wave jobs.items self.old }
         requires open { self.old.verdict ≡ None }
         ensures program { ground.new.program ≡ ground.old.program }
-        ensures turned { OnOk result ((r : Running) → options ≡ r.options → IsBack r (plain_ground ground.old) self.old.wave jobs.items self.old →
-            pair_of self.new ≡ forgotten the_top (turn (code_of r.program r.options) (filled_pair jobs.items (pair_of self.old)))) }
-        ensures kept { OnOk result ((r : Running) → options ≡ r.options → IsBack r (plain_ground ground.old) self.old.wave jobs.items self.old →
+        ensures turned { OnOk result ((r : Running) → options ≡ r.options →
+            IsBack r (plain_ground ground.old) self.old.wave jobs.items self.old →
+            pair_of self.new ≡ forgotten the_top (turn (code_of r.program r.options)
+            (filled_pair jobs.items (pair_of self.old)))) }
+        ensures kept { OnOk result ((r : Running) → options ≡ r.options →
+            IsBack r (plain_ground ground.old) self.old.wave jobs.items self.old →
             IsKept r 0 self.new × IsOn r (plain_ground ground.new) options) }
         ensures lines { OnErr result (self.new.lines ≡ self.old.lines) }
         ensures verdict { OnErr result (self.new.verdict ≡ None) }
@@ -262,7 +282,8 @@ impl Board {
     /// The lines of a turn come after those that were not taken yet.
     fn join_lines(&mut self, pending: LineList) -> Result<(), Memory>
         ensures joined { OnOk result (pair_of self.new ≡ before pending (pair_of self.old)) }
-        ensures keeps { OnOk result ((r : Running) (first : ℕ) → IsKept r first self.old → IsKept r first self.new) }
+        ensures keeps { OnOk result ((r : Running) (first : ℕ) → IsKept r first self.old →
+            IsKept r first self.new) }
         ensures lines { OnErr result (self.new.lines ≡ pending) }
         ensures verdict { OnErr result (self.new.verdict ≡ None) }
     {

@@ -5,3 +5,4 @@ pub mod Remains
 pub mod Touching
 pub mod Selects
 pub mod Putting
+pub mod Indexed

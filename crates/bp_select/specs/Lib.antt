@@ -7,3 +7,4 @@ pub mod Priorities
 pub mod Touches
 pub mod Free
 pub mod Places
+pub mod Indexes

@@ -5,12 +5,14 @@ ghost use Rattle.js_data.specs.Event.{same_event};
 ghost use Rattle.bp_run.specs.Selecting.{candidates};
 ghost use Rattle.bp_select.specs.Lives.{live_of};
 ghost use Rattle.bp_select.specs.Gathering.{with_new, with_all};
+ghost use Rattle.bp_select.specs.Indexes.{IsIndexed};
 
-use crate::asking::keep_unless;
 use crate::bench::Stated;
 use bp_log::Memory;
 use bp_thread::Events;
+use indexmap::IndexMap;
 use js_data::Event;
+use js_json::event_text;
 use std::alloc::Global;
 
 /// Whether an equal event is among these.
@@ -20,20 +22,38 @@ pub(crate) fn is_among(event: &Event, events: &[Event]) -> bool
     events.iter().any(|e| event.same(e))
 }
 
+/// Events without repeats, and the place of each by its text.
+#[derive(Drop)]
+pub(crate) struct Found {
+    events: Events,
+    texts: IndexMap<String, usize>,
+}
+
 /// Adds an equal event, unless one is there.
-fn add(found: &mut Events, event: &Event) -> Result<(), Memory>
-    ensures { OnOk result (found.new ≡ with_new found.old event.now) }
+fn add(alloc: Global, found: &mut Found, event: &Event) -> Result<(), Memory>
+    requires { IsIndexed found.old.events found.old.texts }
+    ensures added { OnOk result (found.new.events ≡ with_new found.old.events event.now) }
+    ensures indexed { OnOk result (IsIndexed found.new.events found.new.texts) }
 {
-    let there = is_among(event, found.as_slice());
-    keep_unless(found, there, event)
+    event.keeps();
+    let text = event_text(alloc, event)?.into_string();
+    if found.texts.contains_key(text.as_str()) {
+        return Ok(());
+    }
+    let place = found.events.as_slice().len();
+    found.events.push(event.copy()?)?;
+    found.texts.insert(text, place)?;
+    Ok(())
 }
 
 /// Adds those of the events that are not there yet.
-fn add_all(found: &mut Events, events: &[Event]) -> Result<(), Memory>
-    ensures { OnOk result (found.new ≡ with_all found.old events.now) }
+fn add_all(alloc: Global, found: &mut Found, events: &[Event]) -> Result<(), Memory>
+    requires { IsIndexed found.old.events found.old.texts }
+    ensures added { OnOk result (found.new.events ≡ with_all found.old.events events.now) }
+    ensures indexed { OnOk result (IsIndexed found.new.events found.new.texts) }
 {
     for event in events {
-        add(found, event)?;
+        add(alloc, found, event)?;
     }
     Ok(())
 }
@@ -42,9 +62,12 @@ fn add_all(found: &mut Events, events: &[Event]) -> Result<(), Memory>
 pub(crate) fn candidates(alloc: Global, live: &[Stated]) -> Result<Events, Memory>
     ensures { IfOk result (λ l. l ≡ candidates (map live_of live.now)) }
 {
-    let mut found = Events::new(alloc);
+    let mut found = Found {
+        events: Events::new(alloc),
+        texts: IndexMap::new(alloc),
+    };
     for stated in live {
-        add_all(&mut found, stated.statement.request.as_slice())?;
+        add_all(alloc, &mut found, stated.statement.request.as_slice())?;
     }
-    Ok(found)
+    Ok(found.events)
 }

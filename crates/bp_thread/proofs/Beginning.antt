@@ -1,6 +1,5 @@
 -- A job that begins stands for its body.
-use Rattle.std.proofs.Common.{◌≡◌, ℕ, false, true, List, [], ◌∷◌, ◌++◌, Option, Some, None, drop, refl, sym, ap}
-use Rattle.js_data.specs.Event.{PlainEvent}
+use Rattle.std.proofs.Common.{◌≡◌, ℕ, [], Some, None, drop, refl, sym, ap}
 use Rattle.js_meaning.specs.State.{Ground, State, Outcome, went, broken, violated, spent, stopped, left_by, effects_of, effects_since}
 use Rattle.js_meaning.specs.Bodies.{Origin, start_of, evaluation}
 use Rattle.js_meaning.specs.Later.{Follows}
@@ -10,7 +9,7 @@ use Rattle.js_frames.specs.Places.{plain_effects}
 use Rattle.js_frames.specs.Runs.{Stands, untaken}
 use Rattle.bp_thread.specs.declared.job.Job.{Job}
 use Rattle.bp_thread.specs.Views.{plain_origin}
-use Rattle.bp_thread.specs.Jobs.{plain_job, StandsAt, IsWhole}
+use Rattle.bp_thread.specs.Jobs.{plain_job, IsWhole}
 use Rattle.bp_thread.proofs.Standing.{false_true}
 
 same_delivered : (budget : ℕ) (s : State) (o : Outcome) → Follows budget s o → s.replies ≡ [] → (left_by o).delivered ≡ s.delivered

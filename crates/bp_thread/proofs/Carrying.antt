@@ -1,9 +1,8 @@
 -- A whole job that was carried out is the job carried to its outcome.
-use Rattle.std.proofs.Common.{◌≡◌, ℕ, zero, suc, ◌+◌, ◌<◌, List, [], ◌∷◌, length, map, slice_index_or, refl, sym, ap, ◌∙◌, arith}
+use Rattle.std.proofs.Common.{◌≡◌, ℕ, suc, ◌<◌, List, [], ◌∷◌, length, map, slice_index_or, refl, ap, ◌∙◌, arith}
 use Rattle.js_data.specs.Event.{PlainEvent}
-use Rattle.js_meaning.specs.State.{Ground, effects_since}
-use Rattle.js_meaning.specs.Bodies.{Origin, evaluation}
-use Rattle.bp_meaning.specs.After.{outcome_of, handler}
+use Rattle.js_meaning.specs.State.{Ground}
+use Rattle.js_meaning.specs.Bodies.{Origin}
 use Rattle.bp_thread.specs.declared.job.Job.{Job}
 use Rattle.bp_thread.specs.Jobs.{PlainJob, plain_job, IsSame, StandsFor, IsWhole}
 use Rattle.bp_thread.specs.Carried.{carried, CarriedOut, AreCarriedOut}

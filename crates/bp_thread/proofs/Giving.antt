@@ -1,18 +1,18 @@
 -- A job that was given an event stands for its body with one reply more.
-use Rattle.std.proofs.Common.{◌≡◌, ℕ, Bool, false, true, List, [], ◌∷◌, ◌++◌, append-nil, Option, Some, None, refl, sym, ap, ◌∙◌, subst, IsSome}
+use Rattle.std.proofs.Common.{◌≡◌, ℕ, true, List, [], ◌∷◌, ◌++◌, append-nil, Option, Some, None, refl, sym, ap, ◌∙◌, subst, IsSome}
 use Rattle.js_data.specs.Event.{PlainEvent}
 use Rattle.js_value.specs.Value.{PlainValue, PlainSet}
-use Rattle.js_meaning.specs.State.{Ground, Effect, State, Left, Outcome, went, broken, violated, spent, stopped, effects_of, effects_since}
+use Rattle.js_meaning.specs.State.{Ground, Effect, Left, Outcome, went, broken, violated, spent, stopped, effects_of, effects_since}
 use Rattle.js_meaning.specs.Bodies.{Origin, evaluation}
 use Rattle.js_meaning.proofs.Replies.{reply_delivers}
 use Rattle.js_frames.specs.declared.machine.Machine.{Machine}
 use Rattle.js_frames.specs.Places.{plain_effects}
 use Rattle.js_frames.specs.Runs.{Stands, untaken}
 use Rattle.bp_run.specs.Bodies as run
-use Rattle.bp_meaning.specs.After.{outcome_of, handler_after}
+use Rattle.bp_meaning.specs.After.{outcome_of}
 use Rattle.bp_thread.specs.declared.job.Job.{Job}
 use Rattle.bp_thread.specs.Views.{plain_origin}
-use Rattle.bp_thread.specs.Jobs.{plain_job, is_stopped, IsOutcome, StandsAt, StandsFor, IsWhole}
+use Rattle.bp_thread.specs.Jobs.{plain_job, is_stopped, IsOutcome, StandsFor, IsWhole}
 use Rattle.bp_thread.proofs.Standing.{false_true, outcome_there, same_machine}
 
 -- an evaluation whose outcome is a stop

@@ -1,9 +1,9 @@
 -- A job that was carried on stands for its body as before.
 use Rattle.std.proofs.lemmas.List.{append_assoc}
 use Rattle.std.proofs.lemmas.List.Sums.{fold-append}
-use Rattle.std.proofs.Common.{◌≡◌, ℕ, ◌+◌, Bool, false, true, List, [], ◌∷◌, ◌++◌, Option, Some, None, IsSome, IsTrue, ◌↔◌, is_some, option_map, refl, sym, ap, subst, ◌∙◌, fold}
+use Rattle.std.proofs.Common.{◌≡◌, ℕ, ◌+◌, Bool, false, true, List, [], ◌++◌, Option, Some, None, IsSome, IsTrue, ◌↔◌, is_some, option_map, refl, sym, ap, subst, ◌∙◌, fold}
 use Rattle.js_data.specs.Event.{PlainEvent}
-use Rattle.js_value.specs.Value.{PlainValue, PlainSet}
+use Rattle.js_value.specs.Value.{PlainSet}
 use Rattle.js_meaning.specs.State as js
 use Rattle.js_meaning.specs.State.{Ground, Effect, left_by, effects_of, effects_since}
 use Rattle.js_meaning.specs.Bodies.{Origin, evaluation, constants_left}
@@ -17,7 +17,7 @@ use Rattle.bp_meaning.specs.After.{outcome_of, stopped_with, handler_after}
 use Rattle.bp_thread.specs.declared.job.Job.{Job}
 use Rattle.bp_thread.specs.declared.outcome.Outcome.{Outcome}
 use Rattle.bp_thread.specs.Views.{plain_origin, plain_outcome}
-use Rattle.bp_thread.specs.Pauses.{asked_outcome, outcome_of_pause}
+use Rattle.bp_thread.specs.Pauses.{outcome_of_pause}
 use Rattle.bp_thread.specs.Jobs.{plain_job, is_ended, IsOutcome, StandsAt, IsWhole, Sliced}
 use Rattle.bp_thread.proofs.Standing.{false_true}
 

@@ -1,17 +1,16 @@
 -- What a job stands for, over plain variables.
-use Rattle.std.proofs.Common.{◌≡◌, ℕ, List, [], ◌∷◌, ◌++◌, Bool, true, false, Option, Some, None, IsSome, IsTrue, ◌↔◌, map, fold, option_map, refl, sym, ap, ◌∙◌}
+use Rattle.std.proofs.Common.{◌≡◌, ℕ, List, true, false, Option, Some, None, IsSome, IsTrue, ◌↔◌, fold, refl, sym, ap, ◌∙◌}
 use Rattle.std.proofs.lemmas.List.{append_cancel_left}
 use Rattle.js_value.specs.Value.{PlainValue, PlainSet}
 use Rattle.js_meaning.specs.State as js
 use Rattle.js_meaning.specs.State.{Ground, Effect, effects_of, effects_since}
 use Rattle.js_meaning.specs.Bodies.{evaluation}
 use Rattle.js_frames.specs.declared.machine.Machine.{Machine}
-use Rattle.js_frames.specs.Places.{plain_effects}
 use Rattle.bp_run.specs.Bodies as run
-use Rattle.bp_meaning.specs.After.{outcome_of, handler, handler_after}
+use Rattle.bp_meaning.specs.After.{outcome_of, handler_after}
 use Rattle.bp_thread.specs.declared.job.Job.{Job}
 use Rattle.bp_thread.specs.Views.{plain_origin}
-use Rattle.bp_thread.specs.Jobs.{PlainJob, plain_job, IsOutcome, StandsAt, StandsFor, IsWhole}
+use Rattle.bp_thread.specs.Jobs.{PlainJob, plain_job, IsOutcome, IsWhole}
 use Rattle.bp_thread.specs.Carried.{carried}
 
 pub same_machine : (m : Option Machine) (a b : Machine) → m ≡ Some a → m ≡ Some b → a ≡ b

@@ -1,5 +1,5 @@
 -- What a job is, and what it stands for.
-use Rattle.std.specs.Prelude.{◌≡◌, ℕ, ◌+◌, ◌<◌, ◌≤◌, Bool, true, false, List, [], ◌++◌, map, fold, Option, Some, None, option_map, is_some, IsSome}
+use Rattle.std.specs.Prelude.{◌≡◌, ℕ, ◌+◌, ◌≤◌, Bool, true, false, List, [], ◌++◌, fold, Option, Some, None, option_map}
 use Rattle.js_data.specs.Event.{PlainEvent}
 use Rattle.js_value.specs.Value.{PlainValue, PlainSet}
 use Rattle.js_value.specs.Views.{plain_value}
@@ -11,9 +11,7 @@ use Rattle.js_frames.specs.declared.machine.Machine.{Machine}
 use Rattle.js_frames.specs.Places.{plain_effects}
 use Rattle.js_frames.specs.Runs.{IsOfProgram, Stands, Waits, untaken, constants_by}
 use Rattle.bp_run.specs.Bodies as run
-use Rattle.bp_meaning.specs.After.{effect_of, outcome_of, handler_after}
-use Rattle.bp_thread.specs.declared.outcome.Outcome.{Outcome}
-use Rattle.bp_thread.specs.declared.outcome.Outcome.TheVariants.{Stopped}
+use Rattle.bp_meaning.specs.After.{outcome_of, handler_after}
 use Rattle.bp_thread.specs.declared.job.Job.{Job}
 use Rattle.bp_thread.specs.Views.{plain_outcome, plain_origin}
 

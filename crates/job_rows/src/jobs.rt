@@ -1,5 +1,5 @@
 //! Jobs: a line has the body of a function of one parameter `e`, and what it does with an event at each stop.
-ghost use Rattle.std.specs.Prelude.{◌≡◌, [], IfOk, OnOk, None};
+ghost use Rattle.std.specs.Prelude.{◌≡◌, [], IfOk, OnOk, None, false};
 ghost use Rattle.js_frames.specs.Places.{plain_ground};
 ghost use Rattle.bp_thread.specs.Jobs.{plain_job, IsOf};
 

@@ -1,4 +1,4 @@
-use Rattle.std.proofs.Common.{◌≡◌, ◌∙◌, ap, sym, subst, false, true, [], List, length, refl}
+use Rattle.std.proofs.Common.{◌∙◌, ap, false, true, [], length, refl}
 use Rattle.js_meaning.specs.State.{Ground}
 use Rattle.bp_floor.specs.declared.phase.Phase.TheVariants.{Ready, Lent}
 use Rattle.bp_arbiter.specs.Arbiters.{PlainArbiter, stand_in}

@@ -1,7 +1,6 @@
-use Rattle.std.proofs.Common.{◌≡◌, ◌<◌, ◌∙◌, ℕ, length, ap, sym, subst, refl, IfOk, OnOk, Ok, None, Some, false, slice_get}
-use Rattle.js_data.specs.Event.{PlainEvent}
+use Rattle.std.proofs.Common.{◌≡◌, ◌<◌, ◌∙◌, ℕ, length, ap, sym, subst, refl, IfOk, OnOk, Ok, None, Some}
 use Rattle.bp_run.specs.Story.{Next}
-use Rattle.bp_run.specs.Story.Next.{Ends, Waits}
+use Rattle.bp_run.specs.Story.Next.{Ends}
 use Rattle.bp_select.specs.declared.answers.Choice.{Choice}
 use Rattle.bp_select.specs.declared.answers.SelectFault.{SelectFault}
 use Rattle.bp_select.specs.Answers.{FaultAs, chosen_of}

@@ -1,4 +1,4 @@
-use Rattle.std.proofs.Common.{ap, ◌∙◌, sym}
+use Rattle.std.proofs.Common.{ap, ◌∙◌}
 use Rattle.js_frames.specs.Places.{plain_effects}
 use Rattle.bp_thread.specs.Jobs.{PlainJob}
 use Rattle.bp_thread.proofs.Standing.{whole_done}
