@@ -1,5 +1,5 @@
 use Rattle.std.proofs.lemmas.Result.{err_from_is_err_and}
-use Rattle.bp_serve.proofs.Way.{front_alone, front_opened, shows_opened, underway_opened, injectors_opened, verdict_opened}
+use Rattle.bp_serve.proofs.Way.{front_alone, front_opened, underway_opened, injectors_opened}
 use Rattle.bp_serve.proofs.running.run_onto.Goals as goal
 
 pub returns-in_err-arbiter-clause-front : goal.returns-in_err-arbiter-clause-front
