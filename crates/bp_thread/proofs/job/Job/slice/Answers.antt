@@ -1,6 +1,7 @@
 use Rattle.std.proofs.Common.{◌+◌, refl, sym, ap, subst, ◌∙◌, map, fold}
 use Rattle.js_frames.specs.Places.{plain_ground, plain_effect, plain_effects}
-use Rattle.js_frames.specs.Runs.{Stands}
+use Rattle.std.proofs.lemmas.Option.{same_Some}
+use Rattle.js_frames.specs.Runs.{IsOfProgram, Stands}
 use Rattle.bp_meaning.specs.After.{handler_after}
 use Rattle.bp_thread.specs.Views.{plain_origin}
 use Rattle.bp_thread.specs.Jobs.{plain_job}
@@ -38,4 +39,5 @@ returns-clause-carries c = λ budget. record {
   same = record { number = refl; name = refl; origin = refl; replies = refl };
   stands = λ h. let s = returns-clause-stands c budget h.begun h.made h.stands in record { begun = h.begun + s.more; made = _; stands = s.stands };
   whole = λ w. still_whole (plain_ground c.args.ground.now) budget c.args.nodes c.args.self.now _ refl refl w _ (returns-clause-stands c budget w.begun _ w.stands);
+  of_program = λ _ m e. subst (λ x. IsOfProgram (plain_ground c.args.ground.now).program x) (same_Some _ _ e) (c.take_effects-fresh.ensures.program _ c.run.ensures.program);
 }
