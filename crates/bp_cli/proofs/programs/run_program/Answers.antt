@@ -1,4 +1,4 @@
-use Rattle.std.proofs.Common.{inr}
+use Rattle.std.proofs.Common.{inr, refl}
 use Rattle.bp_cli.proofs.Endings.{run_front}
 use Rattle.bp_cli.proofs.programs.run_program.Goals as goal
 
