@@ -78,6 +78,10 @@ stops_at_fault s e asked n set_fault.Memory v h w = absurd h
 pub verdict_told : (s : Stand Origin) (v : Verdict) (m n : ℕ) (x y : set.SetFault) → m ≡ n → x ≡ y → VerdictFor s m x v → VerdictFor s n y v
 verdict_told s v m n x y h k w = subst (λ (i : ℕ). VerdictFor s i y v) h (subst (λ (u : set.SetFault). VerdictFor s m u v) k w)
 
+-- want of memory is no fault of a set
+pub fault_told : (asked : Asked (List Touched)) (n : ℕ) (f g : set.SetFault) → f ≡ g → FaultAs asked (select_fault.Set n g) → f ≡ set_fault.Memory → ⊥
+fault_told asked n f g e h k = subst (λ (x : set.SetFault). FaultAs asked (select_fault.Set n x)) (sym e ∙ k) h
+
 -- ---- going
 
 module _ (base : Ground) (o : PlainOptions) (b mid : Board) (e : PlainEvent) (ts : List Touched) (k : Reach) (weight : ℕ) (resting : IsResting base o mid) (same : pair_of mid ≡ pair_of b)

@@ -18,3 +18,5 @@ pub mod Looking
 pub mod Gone
 pub mod Sealing
 pub mod Goes
+pub mod Stepping
+pub mod Shown

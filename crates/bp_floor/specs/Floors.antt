@@ -11,7 +11,7 @@ use Rattle.bp_log.specs.declared.trace.Line.{Line}
 use Rattle.bp_log.specs.declared.verdict.Verdict.{Verdict}
 use Rattle.bp_log.specs.declared.verdict.Verdict.TheVariants as verdict
 use Rattle.bp_run.specs.Bodies.{Code}
-use Rattle.bp_run.specs.Configuration.{Stand}
+use Rattle.bp_run.specs.Configuration.{Stand, not_ended}
 use Rattle.bp_run.specs.Settling.{Entry, Pair, turn, before}
 use Rattle.bp_run.specs.Selecting.{Asked, Enabled, Has, Live, live, selectable}
 use Rattle.bp_run.specs.Choosing.{Touched, reach}
@@ -26,7 +26,7 @@ use Rattle.bp_floor.specs.declared.went.Went.TheVariants.{Moved, Stopped}
 use Rattle.bp_floor.specs.Programs.{code_of}
 use Rattle.bp_floor.specs.Seating.{is_waiting, is_ready, where_from, stated_from, AreOwn}
 use Rattle.bp_floor.specs.Boards.{pair_of}
-use Rattle.bp_floor.specs.Forgetting.{forgotten, AreGoing}
+use Rattle.bp_floor.specs.Forgetting.{forget, forgotten, AreGoing}
 use Rattle.bp_floor.specs.Kept.{Running, AreBelow, runs_in}
 use Rattle.bp_floor.specs.Lending.{AreDone, filled_pair, standing}
 use Rattle.bp_floor.specs.Returning.{RunsAlone, ground_at}
@@ -128,6 +128,7 @@ pub record IsSealed (f : PlainFloor) (jobs : List Job) (g : PlainFloor) : Type 0
 -- what stays after want of memory
 pub record IsGivenUp (old new : PlainFloor) : Type 0 where
   pub broken : new.broken ≡ true
+  pub phase : new.phase ≡ old.phase
   pub lines : new.pair.stand.lines ≡ old.pair.stand.lines
   pub verdict : new.pair.stand.verdict ≡ old.pair.stand.verdict
 
@@ -162,3 +163,20 @@ pub record IsMoved (f : PlainFloor) (e : PlainEvent) (place : Option ℕ) (g : P
 abbrev pub GoesAs : PlainFloor → PlainEvent → Option ℕ → Went → PlainFloor → Type 0
 GoesAs f e place Moved g = IsMoved f e place g
 GoesAs f e place (Stopped v) g = (stop_of f e ≡ Some v) × (g ≡ f)
+
+-- What a pair shows on a floor that stands for it: all but the bodies and the replies of those that have ended, and the lines that were taken.
+pub record ShowsOf (f : PlainFloor) (p : Pair Origin) : Type 0 where
+  pub live : live_on f ≡ live (code_on f) p.stand
+  pub threads : f.pair.stand.threads ≡ map (forget the_top) p.stand.threads
+  pub going : not_ended f.pair.stand ≡ not_ended p.stand
+  pub queue : f.pair.stand.queue ≡ p.stand.queue
+  pub transitions : f.pair.stand.transitions ≡ p.stand.transitions
+  pub weight : f.pair.stand.weight ≡ p.stand.weight
+  pub verdict : f.pair.stand.verdict ≡ p.stand.verdict
+  pub entries : f.pair.entries ≡ p.entries
+
+-- A floor that stood for this pair goes on: it stands for the transition, or the event stops the run and it stands for what it stood for.
+abbrev pub GoesFrom : Code Origin PlainSet → List Line → Pair Origin → PlainEvent → Option ℕ → Went → PlainFloor → Type 0
+GoesFrom l taken p e place Moved g =
+    (reached : List Touched) × (reach l.has e (live l p.stand) ≡ Ok reached) × StandsFor g taken (stepped l p.stand e place reached)
+GoesFrom l taken p e place (Stopped v) g = (stop_at_reach p.stand e (reach l.has e (live l p.stand)) ≡ Some v) × StandsFor g taken p

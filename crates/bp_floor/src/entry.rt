@@ -69,7 +69,7 @@ impl Wave {
         }
     }
 
-    /// Puts an entry at the end.
+    /// Puts an entry at the end. Its only error is want of memory.
     pub fn push(&mut self, entry: Entry) -> Result<(), Memory>
         ensures { OnOk result (self.new ≡ self.old ++ entry_seen entry ∷ []) }
     {

@@ -1,5 +1,5 @@
 //! A floor: where the b-threads of a run stand.
-ghost use Rattle.std.specs.Prelude.{◌≡◌, ◌<◌, ◌≤◌, ◌+◌, ◌^◌, ◌++◌, ◌∷◌, [], ℕ, List, length, option_map, slice_get, None, OnOk, OnErr, IfOk, IfErr, Ok, Err, true, false};
+ghost use Rattle.std.specs.Prelude.{◌≡◌, ◌≢◌, ◌<◌, ◌≤◌, ◌+◌, ◌^◌, ◌++◌, ◌∷◌, [], ℕ, List, length, option_map, slice_get, None, OnOk, OnErr, IfOk, IfErr, Ok, Err, true, false};
 ghost use Rattle.js_value.specs.Value.{PlainSet};
 ghost use Rattle.js_meaning.specs.Bodies.{Origin, bare};
 ghost use Rattle.js_frames.specs.Places.{plain_ground};
@@ -13,6 +13,7 @@ ghost use Rattle.bp_run.specs.Selecting.{selectable, blocker, requested};
 ghost use Rattle.bp_run.specs.Bodies as run;
 ghost use Rattle.bp_run.specs.Choosing.{Touched, choice};
 ghost use Rattle.bp_run.specs.Story.{fault_verdict, over};
+ghost use Rattle.bp_sets.specs.declared.fault.SetFault.TheVariants as set_fault;
 ghost use Rattle.bp_select.specs.declared.answers.Choice.TheVariants as choice_made;
 ghost use Rattle.bp_select.specs.declared.answers.SelectFault.TheVariants as select_fault;
 ghost use Rattle.bp_select.specs.Answers.{AnswersAs, FaultAs, chosen_of, enabled_of};
@@ -20,7 +21,7 @@ ghost use Rattle.bp_floor.specs.declared.phase.Phase.TheVariants as phase;
 ghost use Rattle.bp_floor.specs.declared.absorb.Absorb.TheVariants as absorb;
 ghost use Rattle.bp_floor.specs.Boards.{pair_of};
 ghost use Rattle.bp_floor.specs.Lending.{AreLent, filled_pair, standing};
-ghost use Rattle.bp_floor.specs.Floors.{StandsFor, StandsWith, AreBack, IsSealed, IsGivenUp, IsPhased, is_idle, CanGo, GoesAs, stop_of, code_on, has_on, live_on};
+ghost use Rattle.bp_floor.specs.Floors.{StandsFor, StandsWith, AreBack, IsSealed, IsGivenUp, IsPhased, is_idle, CanGo, GoesAs, GoesFrom, ShowsOf, stop_of, code_on, has_on, live_on};
 ghost use Rattle.bp_floor.specs.Absorbing.{IsRefused};
 
 use crate::{Absorb, Board, Entry, EventList, LineList, Phase, Seats, Wave, Went};
@@ -71,7 +72,8 @@ impl Model for Floor {
 }
 
 impl Floor {
-    /// The floor of a program before anything has run: its top level is to be run.
+    /// The floor of a program before anything has run: its top level is to be run. Its only error
+    /// is want of memory.
     pub fn open(alloc: Global, program: Program, options: Options) -> Result<Floor, Memory>
         ensures { IfOk result (λ f. f ≡ record {
           base = bare program;
@@ -114,6 +116,12 @@ impl Floor {
         // Reads a field for the proof alone: so what the type keeps is known.
         let _ground = &self.ground;
     }
+
+    /// What each pair shows that a floor stands for, as a fact for its callers. Does nothing.
+    pub fn shows(&self)
+        ensures { (taken : List Line) (p : Pair Origin) →
+            StandsFor self.now taken p → ShowsOf self.now p }
+    {}
 
     /// What can be done. Takes no memory.
     pub fn phase(&self) -> Phase
@@ -219,6 +227,9 @@ impl Floor {
         requires rest { self.old.phase ≡ phase.Rest }
         requires can { self.old.broken ≡ false → CanGo self.old event.now place }
         ensures goes { IfOk result (λ w. GoesAs self.old event.now place w self.new) }
+        ensures stands { IfOk result (λ w. (taken : List Line) (p : Pair Origin) →
+            StandsFor self.old taken p →
+            GoesFrom (code_on self.old) taken p event.now place w self.new) }
         ensures ground { self.new.base ≡ self.old.base }
         ensures options { self.new.options ≡ self.old.options }
         ensures whole { OnOk result (self.old.broken ≡ false) }
@@ -268,6 +279,9 @@ impl Floor {
         ensures queued { OnOk result (self.new ≡ record self.old {
           pair = record self.old.pair { stand = queued event self.old.pair.stand };
         }) }
+        ensures stands { OnOk result ((taken : List Line) (p : Pair Origin) →
+            StandsFor self.old taken p →
+            StandsFor self.new taken (record p { stand = queued event p.stand })) }
         ensures refused { IfErr result (IsRefused (length self.old.pair.stand.queue)
             (item.Offered event)) }
         ensures same { OnErr result (self.new ≡ self.old) }
@@ -376,7 +390,7 @@ impl Floor {
         self.board.bench.requested(event)
     }
 
-    /// How many b-threads have not ended; 0 after want of memory. Takes no memory.
+    /// How many b-threads have not ended. Takes no memory.
     pub fn live(&self) -> u32
         ensures { self.now.broken ≡ false → result ≡ not_ended self.now.pair.stand }
     {
@@ -397,7 +411,8 @@ impl Floor {
     /// The fault of a set, as the verdict in the name of its b-thread. Its only error is want of
     /// memory.
     pub fn fault_verdict(&self, number: u32, fault: SetFault) -> Result<Verdict, Memory>
-        requires { number < length self.now.pair.stand.threads }
+        requires below { number < length self.now.pair.stand.threads }
+        requires told { fault ≢ set_fault.Memory }
         ensures { IfOk result (λ v. (x : ℕ × run.SetFault) →
             FaultAs {A = List Touched} (Err x) (select_fault.Set number fault) →
             v ≡ fault_verdict self.now.pair.stand x) }
@@ -405,7 +420,8 @@ impl Floor {
         self.board.fault_verdict(number, fault)
     }
 
-    /// Writes the verdict down. What ends a run ends its floor.
+    /// The verdict is that of the floor, with its line; the phase is `Over`. Its only error is want
+    /// of memory.
     pub fn end(&mut self, verdict: Verdict) -> Result<(), Memory>
         requires idle { is_idle self.old.phase ≡ true }
         ensures whole { OnOk result (self.old.broken ≡ false) }

@@ -1,5 +1,5 @@
 //! An event is selected: whom it reaches, and what it weighs.
-ghost use Rattle.std.specs.Prelude.{◌≡◌, ◌<◌, ◌≤◌, ◌+◌, ◌*◌, ℕ, List, Some, Ok, Err, length, map, option_map, IfOk, OnOk, OnErr};
+ghost use Rattle.std.specs.Prelude.{◌≡◌, ◌≢◌, ◌<◌, ◌≤◌, ◌+◌, ◌*◌, ℕ, List, Some, Ok, Err, length, map, option_map, IfOk, OnOk, OnErr};
 ghost use Rattle.js_data.specs.Event.{PlainEvent, event_weight};
 ghost use Rattle.js_frames.specs.Places.{plain_ground};
 ghost use Rattle.bp_log.specs.declared.limits.TheConstants.{MOST_THREADS, MOST_WEIGHT};
@@ -8,6 +8,7 @@ ghost use Rattle.bp_run.specs.Choosing.{Touched, reach};
 ghost use Rattle.bp_run.specs.Numbers.{number_in};
 ghost use Rattle.bp_run.specs.Selecting.{live};
 ghost use Rattle.bp_run.specs.Story.{fault_verdict};
+ghost use Rattle.bp_sets.specs.declared.fault.SetFault.TheVariants as set_fault;
 ghost use Rattle.bp_select.specs.declared.answers.SelectFault.TheVariants as select_fault;
 ghost use Rattle.bp_select.specs.Answers.{FaultAs, IsReach};
 ghost use Rattle.bp_floor.specs.Boards.{pair_of, stand_of};
@@ -81,7 +82,8 @@ impl Board {
     /// The fault of a set, as the verdict in the name of its b-thread. Its only error is want of
     /// memory.
     pub fn fault_verdict(&self, number: u32, fault: SetFault) -> Result<Verdict, Memory>
-        requires { number < length self.now.seats }
+        requires below { number < length self.now.seats }
+        requires told { fault ≢ set_fault.Memory }
         ensures { IfOk result (λ v. (x : ℕ × run.SetFault) →
             FaultAs {A = List Touched} (Err x) (select_fault.Set number fault) →
             v ≡ fault_verdict (stand_of self.now) x) }
@@ -91,7 +93,7 @@ impl Board {
             SetFault::Broken(fault, line) => Ok(Verdict::Fault(place, line, fault)),
             SetFault::Spent => Ok(Verdict::Spent(place)),
             SetFault::NotTruth(line) => Ok(Verdict::Fault(place, line, Fault::Truth)),
-            SetFault::Memory => Err(AllocError),
+            SetFault::Memory => unreachable!(),
         }
     }
 

@@ -7,7 +7,7 @@ use Rattle.js_frames.specs.Places.{plain_ground}
 use Rattle.bp_floor.specs.Boards.{stand_of}
 use Rattle.bp_floor.specs.Going.{floor_on}
 use Rattle.bp_floor.specs.Programs.{code_of}
-use Rattle.bp_floor.proofs.Goes.{reach_at_rest, few_at_rest, faulty_at_rest, stops_at_fault, verdict_told}
+use Rattle.bp_floor.proofs.Goes.{reach_at_rest, few_at_rest, faulty_at_rest, stops_at_fault, verdict_told, fault_told}
 use Rattle.bp_floor.proofs.board.Board.look.Goals as goal
 
 pub weighed-requires-clause-few : goal.weighed-requires-clause-few
@@ -16,8 +16,8 @@ weighed-requires-clause-few c =
     few_at_rest base c.args.options c.args.self.now c.args.event.now c.in-Ok.reach c.requires
     (reach_at_rest base c.args.options c.args.self.now c.budget.result c.args.event.now (Ok c.in-Ok.reach) c.requires c.budget.ensures.budget c.in-Ok.ensures.reached)
 
-pub fault_verdict-requires : goal.fault_verdict-requires
-fault_verdict-requires c =
+pub fault_verdict-requires-clause-below : goal.fault_verdict-requires-clause-below
+fault_verdict-requires-clause-below c =
     let base = plain_ground c.args.ground.now in
     let o = c.args.options in
     let b = c.args.self.now in
@@ -43,3 +43,13 @@ returns-in_ok-fault_verdict-in-Err-Set-clause-looks c =
     (subst (λ (x : SelectFault). FaultAs asked x) c.in-Err-Set.field-0-is
     (reach_at_rest base o b c.budget.result c.args.event.now (Err c.in-Err-Set.field-0) c.requires c.budget.ensures.budget c.in-Err-Set.ensures.reached))
     (verdict_told (stand_of b) c.in_ok-fault_verdict-in-Err-Set.field-0 _ c.in-Err-Set.number _ c.in-Err-Set.fault c.in-Err-Set.number-is c.in-Err-Set.fault-is c.in_ok-fault_verdict-in-Err-Set.ensures)
+
+pub fault_verdict-requires-clause-told : goal.fault_verdict-requires-clause-told
+fault_verdict-requires-clause-told c =
+    let base = plain_ground c.args.ground.now in
+    let o = c.args.options in
+    let b = c.args.self.now in
+    let asked = reach (code_of base.program o).has c.args.event.now (live (code_of base.program o) (stand_of b)) in
+    fault_told asked c.in-Err-Set.number _ _ c.in-Err-Set.fault-is
+    (subst (λ (x : SelectFault). FaultAs asked x) c.in-Err-Set.field-0-is
+    (reach_at_rest base o b c.budget.result c.args.event.now (Err c.in-Err-Set.field-0) c.requires c.budget.ensures.budget c.in-Err-Set.ensures.reached))
