@@ -58,7 +58,7 @@ fn place_of(alloc: Global, place: &Place) -> Result<Text, Memory>
 }
 
 /// The rest behind the start.
-fn joined(alloc: Global, start: &str, rest: &Text) -> Result<Text, Memory>
+pub(crate) fn joined(alloc: Global, start: &str, rest: &Text) -> Result<Text, Memory>
     ensures { IfOk result (λ t. t ≡ start.now ++ rest.now) }
 {
     let rest = rest.as_str();
@@ -66,7 +66,7 @@ fn joined(alloc: Global, start: &str, rest: &Text) -> Result<Text, Memory>
 }
 
 /// The number behind the start and the word.
-fn numbered(alloc: Global, start: &str, word: &str, number: u64) -> Result<Text, Memory>
+pub(crate) fn numbered(alloc: Global, start: &str, word: &str, number: u64) -> Result<Text, Memory>
     ensures { IfOk result (λ t. t ≡ start.now ++ (word.now ++ decimal number)) }
 {
     Ok(Text::new(format!(in alloc; "{start}{word}{number}")?))
@@ -121,14 +121,14 @@ fn spent(alloc: Global, start: &str, place: &Place) -> Result<Text, Memory>
 }
 
 /// The first bad line of an injector behind the start.
-fn bad(alloc: Global, start: &str, injector: u32, line: u32) -> Result<Text, Memory>
+pub(crate) fn bad(alloc: Global, start: &str, injector: u32, line: u32) -> Result<Text, Memory>
     ensures { IfOk result (λ t. t ≡ start.now ++ (codes "bad " ++ (decimal injector ++ (codes " " ++ decimal line)))) }
 {
     Ok(Text::new(format!(in alloc; "{start}bad {injector} {line}")?))
 }
 
 /// The text of a verdict behind the start.
-fn verdict_after(alloc: Global, start: &str, verdict: &Verdict) -> Result<Text, Memory>
+pub(crate) fn verdict_after(alloc: Global, start: &str, verdict: &Verdict) -> Result<Text, Memory>
     ensures { IfOk result (λ t. t ≡ start.now ++ verdict_text verdict.now) }
 {
     match verdict {
