@@ -10,6 +10,10 @@ use Rattle.bp_cli.specs.Conclusions.{IsStatusOf, Concludes, Causes, code_of}
 use Rattle.bp_cli.specs.Printing.{Prints, extent_of}
 use Rattle.bp_cli.specs.Refusing.{IsTooLong}
 use Rattle.bp_cli.proofs.Extents.{prints_some}
+use Rattle.js_program.specs.PlainProgram.{PlainProgram}
+use Rattle.bp_script.specs.Programs.{IsProgram, IsRefused}
+use Rattle.bp_script.specs.declared.refusal.Refusal.{Refusal}
+use Rattle.bp_script.proofs.Once.{never}
 
 -- the status is that of the conclusion, or says that memory was wanting
 pub concluded : (command : Option PlainCommand) (holds : Option Holdings) (unread unwritten : Type 0) (c : Conclusion) (code : ℕ) (note : List ℕ) →
@@ -35,3 +39,7 @@ too_long None name left limit o e h = let l = longer MOST_BYTES in (l.0, tt, l.1
 too_long (Some held) name (Some bytes) limit o e h = (bytes, sym o.1, subst (λ (n : ℕ). n < length bytes) e h)
 too_long (Some held) name None limit o e h =
     let f : IsSome {T = List ℕ} None = subst (λ (x : Option (List ℕ)). IsSome x) (sym o.1) o.0 in cc
+
+-- an accepted program is not refused
+pub not_refused : {P : Type 0} (bytes : List ℕ) (program : PlainProgram) → IsProgram bytes program → (refusal : Refusal) → IsRefused bytes refusal → P
+not_refused bytes program p refusal h = absurd (never bytes p.tree refusal p.accepted h)

@@ -1,4 +1,5 @@
 use Rattle.std.proofs.Common.{inr}
+use Rattle.bp_cli.proofs.Endings.{not_refused}
 use Rattle.bp_cli.proofs.Extents.{run_front}
 use Rattle.bp_cli.proofs.programs.run_program.Goals as goal
 
@@ -9,3 +10,9 @@ returns-in-Err-Write-clause-prints g c =
 pub returns-in-Err-Memory-clause-prints : goal.returns-in-Err-Memory-clause-prints
 returns-in-Err-Memory-clause-prints g c =
     inr (run_front c.args.bytes.now c.in-Ok.program c.defaults.result _ _ c.in-Ok.ensures.program c.defaults.ensures c.in-Err-Memory.ensures.front)
+
+pub returns-in-Ok-run-clause-refuses : goal.returns-in-Ok-run-clause-refuses
+returns-in-Ok-run-clause-refuses g c = not_refused c.args.bytes.now c.in-Ok.program c.in-Ok.ensures.program
+
+pub returns-in-Err-Write-clause-refuses : goal.returns-in-Err-Write-clause-refuses
+returns-in-Err-Write-clause-refuses g c = not_refused c.args.bytes.now c.in-Ok.program c.in-Ok.ensures.program
