@@ -10,6 +10,8 @@ use std::{fs, io};
 
 const NAME: &str = "bp_base_test";
 
+const WRITTEN: &str = "bp_base_written";
+
 // Five bytes, read to their end within a limit, where a call fails; and how often the source failed.
 fn read_is(
     rt: &impl Abort,
@@ -72,6 +74,44 @@ fn a_world_opens_what_it_holds(rt: HostRuntime) -> Result<(), Fail> {
     world.close_input(input);
     assert_eq!(rt; world.open("b").err(), Some(WorldError::Failed));
     assert_eq!(rt; world.open("a").err(), Some(WorldError::Failed));
+    Ok(())
+}
+
+// An output is held under its name once it is closed, with all that was written, also where a call failed.
+#[test]
+fn a_world_holds_what_was_written(rt: HostRuntime) -> Result<(), Fail> {
+    let alloc = rt.alloc();
+    let mut world = MemoryWorld::new(alloc, 5, [3].to_vec(alloc)?);
+    world.hold("log".to_string(alloc)?, b"old".to_vec(alloc)?)?;
+    world.fail("log".to_string(alloc)?, [2].to_vec(alloc)?)?;
+    let mut output = world.create("log")?;
+    assert_eq!(rt; write_all(&mut output, b"abc"), Ok(()));
+    assert_eq!(rt; write_all(&mut output, b"d"), Err(Failed));
+    assert_eq!(rt; write_all(&mut output, b"de"), Ok(()));
+    assert_eq!(rt; world.held("log"), Some(b"old".as_slice()));
+    world.close_output("log", output);
+    assert_eq!(rt; world.held("log"), Some(b"abcde".as_slice()));
+    let empty = world.create("other")?;
+    world.close_output("other", empty);
+    assert_eq!(rt; world.held("other"), Some(b"".as_slice()));
+    assert_eq!(rt; world.create("log").err(), Some(WorldError::Failed));
+    Ok(())
+}
+
+#[test]
+fn a_file_of_the_system_is_written(rt: HostRuntime) -> Result<(), Fail> {
+    let alloc = rt.alloc();
+    let mut world = FileWorld::new(rt.clone()?);
+    let mut output = world.create(WRITTEN)?;
+    assert_eq!(rt; write_all(&mut output, b"written"), Ok(()));
+    world.close_output(WRITTEN, output);
+    let mut input = world.open(WRITTEN)?;
+    assert_eq!(rt;
+        read_all(alloc, &mut input, 9)?.as_slice(),
+        b"written".as_slice()
+    );
+    world.close_input(input);
+    fs::remove_file(&rt, WRITTEN)?;
     Ok(())
 }
 

@@ -34,8 +34,13 @@ abbrev pub under : {T : Type 0} → List (List ℕ × List T) → List ℕ → O
 under [] name = None
 under (entry ∷ rest) name = if bytes_eq entry.0 name then Some entry.1 else under rest name
 
+-- an output of a world: the name that it was created with, and its sink
+pub record Made : Type 0 where
+  pub name : List ℕ
+  pub store : Store
+
 -- a world: the room of each of its outputs, the bytes under names, the calls that are to fail under names,
--- the names that were asked for, its own calls, and how often reading failed
+-- the names that were asked for, its own calls, and how often reading and writing failed
 pub record Files : Type 0 where
   pub room : ℕ
   pub held : List (List ℕ × List ℕ)
@@ -43,20 +48,26 @@ pub record Files : Type 0 where
   pub asked : List (List ℕ)
   pub calls : Plan
   pub read_faults : ℕ
+  pub write_faults : ℕ
 
 -- a world that holds nothing yet
 abbrev pub empty_files : ℕ → List ℕ → Files
 empty_files room fails =
-    record { room = room; held = []; failing = []; asked = []; calls = planned fails; read_faults = 0 }
+    record { room = room; held = []; failing = []; asked = []; calls = planned fails; read_faults = 0; write_faults = 0 }
 
 -- whether a name can be opened now: this call is not to fail, and something is held under the name
 abbrev pub can_open : Files → List ℕ → Bool
 can_open files name = not (is_to_fail files.calls) && is_some (under files.held name)
 
--- the calls that are to fail of an input of that name
+-- the calls that are to fail of an input or an output of that name
 abbrev pub failing_under : Files → List ℕ → List ℕ
 failing_under files name = unwrap_or (under files.failing name) []
 
 -- after a call with that name
 abbrev pub asked_for : Files → List ℕ → Files
 asked_for files name = record files { asked = files.asked ++ name ∷ []; calls = called files.calls }
+
+-- an output of that name to which nothing is written yet
+abbrev pub output : Files → List ℕ → Made
+output files name =
+    record { name = name; store = record { written = []; room = files.room; calls = planned (failing_under files name); faults = 0 } }

@@ -15,5 +15,5 @@ mod world;
 pub use memory::{MemorySink, MemorySource};
 pub use moving::{ReadError, read_all, write_all};
 pub use outside::{Failed, Memory, Sink, Source, World, WorldError};
-pub use system::{FileSource, FileWorld, StreamSink};
-pub use world::MemoryWorld;
+pub use system::{FileSink, FileSource, FileWorld, StreamSink};
+pub use world::{MemoryOutput, MemoryWorld};

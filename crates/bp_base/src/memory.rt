@@ -150,6 +150,20 @@ impl MemorySink {
         self.faults
     }
 
+    /// All that was written, and how often it has failed. Takes no memory.
+    pub fn into_parts(self) -> (Vec<u8>, u64)
+        ensures written { result.0.items ≡ self.written }
+        ensures faults { result.1 ≡ self.faults }
+    {
+        let MemorySink {
+            bytes,
+            room: _,
+            calls: _,
+            faults,
+        } = self;
+        (bytes, faults)
+    }
+
     /// All that was written.
     pub fn written(&self) -> &[u8]
         ensures { result.now ≡ self.now.written }
@@ -159,11 +173,13 @@ impl MemorySink {
 }
 
 impl Sink for MemorySink {
-    ghost use Rattle.std.specs.Prelude.{Some};
+    ghost use Rattle.std.specs.Prelude.{Some, None};
 
     ghost written = { λ s. Some s.written };
 
     ghost faults = { λ s. s.faults };
+
+    ghost made_as = { λ _. None };
 
     fn write(&mut self, bytes: &[u8]) -> Result<usize, Failed>
         ensures within { IfOk result (λ n. n ≤ length bytes.now) }

@@ -73,6 +73,7 @@ pub fn write_all<K: Sink>(sink: &mut K, bytes: &[u8]) -> Result<(), Failed>
     ensures front { OnErr result (AppendsFront (K.written sink.old) bytes.now (K.written sink.new)) }
     ensures cause { OnErr result (Rose (K.faults sink.old) (K.faults sink.new)) }
     ensures counts { K.faults sink.old ≤ K.faults sink.new }
+    ensures named { K.made_as sink.new ≡ K.made_as sink.old }
 {
     let mut done = 0;
     while done < bytes.len() {

@@ -1,8 +1,8 @@
 //! What a source, a sink and a world are.
-ghost use Rattle.std.specs.Prelude.{◌≡◌, ℕ, ◌<◌, ◌≤◌, List, [], length, take, Option, IfOk, OnOk, OnErr, IsErrOf, IfSome};
+ghost use Rattle.std.specs.Prelude.{◌≡◌, ℕ, ◌<◌, ◌≤◌, List, [], length, take, Option, Some, IfOk, OnOk, OnErr, IsErrOf, IfSome};
 ghost use Rattle.bp_base.specs.Counts.{Rose};
 ghost use Rattle.bp_base.specs.Pieces.{Gives, Appends};
-ghost use Rattle.bp_base.specs.Worlds.{Holdings, Opens, Asks};
+ghost use Rattle.bp_base.specs.Worlds.{Holdings, Opens, Asks, Keeps, IsMadeAs};
 
 use std::alloc::{AllocError, AllocFailed};
 use thiserror::Error;
@@ -36,6 +36,17 @@ pub trait Source {
         ensures counts { faults self.old ≤ faults self.new };
 }
 
+/// A source that is lent.
+impl<S: Source> Source for &mut S {
+    ghost left = { λ s. S.left s.now };
+
+    ghost faults = { λ s. S.faults s.now };
+
+    fn read(&mut self, into: &mut [u8]) -> Result<usize, Failed> {
+        Source::read(&mut **self, into)
+    }
+}
+
 /// A place for bytes.
 pub trait Sink {
     /// All that was written, where the sink tells it.
@@ -43,6 +54,9 @@ pub trait Sink {
 
     /// How often it has failed.
     ghost faults: { Self → ℕ };
+
+    /// The name under which a world made it, where it tells it. No write changes it.
+    ghost made_as: { Self → Option (List ℕ) };
 
     /// Appends bytes from the front of the piece, and says how many: at least one, unless the piece is empty.
     fn write(&mut self, bytes: &[u8]) -> Result<usize, Failed>
@@ -53,7 +67,8 @@ pub trait Sink {
 
         ensures failed { OnErr result (written self.new ≡ written self.old) }
         ensures cause { OnErr result (Rose (faults self.old) (faults self.new)) }
-        ensures counts { faults self.old ≤ faults self.new };
+        ensures counts { faults self.old ≤ faults self.new }
+        ensures named { made_as self.new ≡ made_as self.old };
 }
 
 /// Why nothing was opened.
@@ -94,6 +109,9 @@ pub trait World {
     /// What `open` answers. It may move to another thread, which may let it go.
     type Input: Source + Send + Drop;
 
+    /// What `create` answers.
+    type Output: Sink + Drop;
+
     /// The bytes under each name, where the world tells it.
     ghost holds: { Self → Option Holdings };
 
@@ -102,6 +120,9 @@ pub trait World {
 
     /// How often reading has failed.
     ghost read_faults: { Self → ℕ };
+
+    /// How often writing has failed.
+    ghost write_faults: { Self → ℕ };
 
     /// Opens what is held under the name. `Failed` is answered where nothing is, and where the world fails.
     fn open(&mut self, name: &str) -> Result<Self::Input, WorldError>
@@ -115,7 +136,24 @@ pub trait World {
         ensures asks_failed { IsErrOf result WorldError.Failed
             → Asks (asked self.old) name.now (asked self.new) }
         ensures asks_nothing { IsErrOf result WorldError.Memory → asked self.new ≡ asked self.old }
-        ensures keeps { holds self.new ≡ holds self.old };
+        ensures keeps { holds self.new ≡ holds self.old }
+        ensures writes { write_faults self.new ≡ write_faults self.old };
+
+    /// Makes an output of this name, to which nothing is written. It is held under the name once it is closed.
+    fn create(&mut self, name: &str) -> Result<Self::Output, WorldError>
+        ensures empty { IfOk result (λ output. IfSome (holds self.old) (λ _. Self.Output.written output ≡ Some [])) }
+        ensures fresh { IfOk result (λ output. Self.Output.faults output ≡ 0) }
+        ensures made { IfOk result (λ output. IsMadeAs (Self.Output.made_as output) name.now) }
+
+        ensures cause { IsErrOf result WorldError.Failed → Rose (write_faults self.old) (write_faults self.new) }
+        ensures counts { write_faults self.old ≤ write_faults self.new }
+
+        ensures asks { OnOk result (Asks (asked self.old) name.now (asked self.new)) }
+        ensures asks_failed { IsErrOf result WorldError.Failed
+            → Asks (asked self.old) name.now (asked self.new) }
+        ensures asks_nothing { IsErrOf result WorldError.Memory → asked self.new ≡ asked self.old }
+        ensures keeps { holds self.new ≡ holds self.old }
+        ensures reads { read_faults self.new ≡ read_faults self.old };
 
     /// Closes an input. Where it has failed, the world's count rises.
     fn close_input(&mut self, input: Self::Input)
@@ -123,5 +161,17 @@ pub trait World {
         ensures clean { Self.Input.faults input ≡ 0 → read_faults self.new ≡ read_faults self.old }
         ensures counts { read_faults self.old ≤ read_faults self.new }
         ensures asked { asked self.new ≡ asked self.old }
-        ensures keeps { holds self.new ≡ holds self.old };
+        ensures keeps { holds self.new ≡ holds self.old }
+        ensures writes { write_faults self.new ≡ write_faults self.old };
+
+    /// Closes an output under the name that it was created with: from now on all that was written is held under
+    /// it. Where the output has failed, the world's count rises. Takes no memory.
+    fn close_output(&mut self, name: &str, output: Self::Output)
+        requires { IsMadeAs (Self.Output.made_as output) name.now }
+        ensures sets { Keeps (holds self.old) name.now (Self.Output.written output) (holds self.new) }
+        ensures risen { 0 < Self.Output.faults output → Rose (write_faults self.old) (write_faults self.new) }
+        ensures clean { Self.Output.faults output ≡ 0 → write_faults self.new ≡ write_faults self.old }
+        ensures counts { write_faults self.old ≤ write_faults self.new }
+        ensures asked { asked self.new ≡ asked self.old }
+        ensures reads { read_faults self.new ≡ read_faults self.old };
 }

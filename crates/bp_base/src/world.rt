@@ -1,14 +1,72 @@
 //! A world in memory. It tells all, and fails at the calls that its lists name.
-ghost use Rattle.std.specs.Prelude.{◌≡◌, ◌<◌, ◌≤◌, true, false, OnOk, OnErr, IfOk, IsErrOf, IsSomeAnd, string_bytes, option_copied, option_map};
+ghost use Rattle.std.specs.Prelude.{◌≡◌, ◌<◌, ◌≤◌, true, false, [], OnOk, OnErr, IfOk, IsErrOf, IsSomeAnd, string_bytes, option_copied, option_map};
 ghost use Rattle.bp_base.specs.Counts.{Rose, raised};
-ghost use Rattle.bp_base.specs.Worlds.{Opens, Asks, Sets};
-ghost use Rattle.bp_base.specs.Memory.{supply, under, empty_files, can_open, failing_under, asked_for};
+ghost use Rattle.bp_base.specs.Worlds.{Opens, Asks, Sets, Keeps};
+ghost use Rattle.bp_base.specs.Memory.{supply, under, empty_files, can_open, failing_under, asked_for, output};
+ghost use Rattle.bp_base.specs.Calls.{is_to_fail};
 
 use crate::calls::Calls;
 use crate::shelf::{Entry, Shelf, find, put};
-use crate::{Memory, MemorySource, World, WorldError};
+use crate::{Failed, Memory, MemorySink, MemorySource, Sink, World, WorldError};
 use std::alloc::Global;
 use std::marker::Model;
+
+/// An output of a world in memory, with the place that it will have there.
+#[derive(Debug)]
+pub struct MemoryOutput {
+    entry: Box<Entry<u8>>,
+    sink: MemorySink,
+}
+
+impl Drop for MemoryOutput {
+    fn drop(self) {
+        let MemoryOutput { entry: _, sink: _ } = self;
+    }
+}
+
+impl Model for MemoryOutput {
+    ghost use Rattle.std.specs.Prelude.{string_bytes};
+    ghost use Rattle.bp_base.specs.Memory.{Made};
+
+    ghost Value = { Made };
+
+    ghost view = { λ o. record { name = string_bytes o.entry.value.name; store = o.sink } };
+}
+
+impl MemoryOutput {
+    /// All that was written.
+    pub fn written(&self) -> &[u8]
+        ensures { result.now ≡ self.now.store.written }
+    {
+        self.sink.written()
+    }
+
+    /// The entry with all that was written, and how often writing failed. Takes no memory.
+    fn into_entry(self) -> (Box<Entry<u8>>, u64)
+        ensures name { string_bytes result.0.value.name ≡ self.name }
+        ensures list { result.0.value.list.items ≡ self.store.written }
+        ensures faults { result.1 ≡ self.store.faults }
+    {
+        let MemoryOutput { mut entry, sink } = self;
+        let (bytes, faults) = sink.into_parts();
+        entry.list = bytes;
+        (entry, faults)
+    }
+}
+
+impl Sink for MemoryOutput {
+    ghost use Rattle.std.specs.Prelude.{Some};
+
+    ghost written = { λ o. Some o.store.written };
+
+    ghost faults = { λ o. o.store.faults };
+
+    ghost made_as = { λ o. Some o.name };
+
+    fn write(&mut self, bytes: &[u8]) -> Result<usize, Failed> {
+        self.sink.write(bytes)
+    }
+}
 
 /// Bytes under names, in memory.
 #[derive(Debug)]
@@ -20,6 +78,7 @@ pub struct MemoryWorld {
     asked: Vec<String>,
     calls: Calls,
     read_faults: u64,
+    write_faults: u64,
 }
 
 impl Drop for MemoryWorld {
@@ -32,6 +91,7 @@ impl Drop for MemoryWorld {
             asked: _,
             calls: _,
             read_faults: _,
+            write_faults: _,
         } = self;
     }
 }
@@ -51,6 +111,7 @@ impl Model for MemoryWorld {
       asked = map string_bytes w.asked.items;
       calls = w.calls;
       read_faults = w.read_faults;
+      write_faults = w.write_faults;
     } };
 }
 
@@ -68,6 +129,7 @@ impl MemoryWorld {
             asked: Vec::new(alloc),
             calls: Calls::new(fails),
             read_faults: 0,
+            write_faults: 0,
         }
     }
 
@@ -83,7 +145,8 @@ impl MemoryWorld {
         Ok(())
     }
 
-    /// Lets the calls with these numbers fail, of each input of that name that is opened from now on.
+    /// Lets the calls with these numbers fail, of each input and each output of that name that is made from now
+    /// on.
     pub fn fail(&mut self, name: String, calls: Vec<u64>) -> Result<(), Memory>
         ensures sets { OnOk result
             (Sets (under self.old.failing) (string_bytes name) calls.items (under self.new.failing)) }
@@ -102,6 +165,40 @@ impl MemoryWorld {
         find(&self.held, name)
     }
 
+    /// Counts one more call with that name, and says whether it is to fail.
+    fn ask(&mut self, name: &str) -> Result<bool, Memory>
+        ensures fails { IfOk result (λ fails. fails ≡ is_to_fail self.old.calls) }
+        ensures asked { OnOk result (self.new ≡ asked_for self.old name.now) }
+        ensures err { OnErr result (self.new ≡ self.old) }
+    {
+        let asked = name.to_string(self.alloc)?;
+        self.asked.push(asked)?;
+        Ok(self.calls.count())
+    }
+
+    /// The calls that are to fail under the name.
+    fn failing(&self, name: &str) -> Result<Vec<u64>, Memory>
+        ensures { IfOk result (λ calls. calls.items ≡ failing_under self.now name.now) }
+    {
+        match find(&self.failing, name) {
+            Some(fails) => fails.to_vec(self.alloc),
+            None => Ok(Vec::new(self.alloc)),
+        }
+    }
+
+    fn output(&self, name: &str) -> Result<MemoryOutput, Memory>
+        ensures { IfOk result (λ made. made ≡ output self.now name.now) }
+    {
+        let fails = self.failing(name)?;
+        let sink = MemorySink::new(self.alloc, self.room, fails)?;
+        let entry = Entry::new(
+            self.alloc,
+            name.to_string(self.alloc)?,
+            Vec::new(self.alloc),
+        )?;
+        Ok(MemoryOutput { entry, sink })
+    }
+
     fn input(&self, name: &str) -> Result<Option<MemorySource>, Memory>
         ensures { IfOk result (λ input. input
             ≡ option_map (λ bytes. supply bytes (failing_under self.now name.now)) (under self.now.held name.now)) }
@@ -109,16 +206,15 @@ impl MemoryWorld {
         let Some(bytes) = find(&self.held, name) else {
             return Ok(None);
         };
-        let fails = match find(&self.failing, name) {
-            Some(fails) => fails.to_vec(self.alloc)?,
-            None => Vec::new(self.alloc),
-        };
+        let fails = self.failing(name)?;
         Ok(Some(MemorySource::new(bytes.to_vec(self.alloc)?, fails)))
     }
 }
 
 impl World for MemoryWorld {
     type Input = MemorySource;
+
+    type Output = MemoryOutput;
 
     ghost use Rattle.std.specs.Prelude.{Some};
     ghost use Rattle.bp_base.specs.Memory.{under};
@@ -128,6 +224,8 @@ impl World for MemoryWorld {
     ghost asked = { λ w. Some w.asked };
 
     ghost read_faults = { λ w. w.read_faults };
+
+    ghost write_faults = { λ w. w.write_faults };
 
     fn open(&mut self, name: &str) -> Result<MemorySource, WorldError>
         ensures content { IfOk result (λ input. Opens (Some (under self.old.held)) name.now (Some input.left)) }
@@ -139,6 +237,7 @@ impl World for MemoryWorld {
             → Asks (Some self.old.asked) name.now (Some self.new.asked) }
         ensures asks_nothing { IsErrOf result WorldError.Memory → Some self.new.asked ≡ Some self.old.asked }
         ensures keeps { Some (under self.new.held) ≡ Some (under self.old.held) }
+        ensures writes { self.new.write_faults ≡ self.old.write_faults }
 
         // It fails exactly where this call is to fail or nothing is held under the name.
         ensures opens { OnOk result (can_open self.old name.now ≡ true) }
@@ -151,9 +250,7 @@ impl World for MemoryWorld {
         ensures after_memory { IsErrOf result WorldError.Memory → self.new ≡ self.old }
     {
         let input = self.input(name)?;
-        let asked = name.to_string(self.alloc)?;
-        self.asked.push(asked)?;
-        let fails = self.calls.count();
+        let fails = self.ask(name)?;
         match input {
             Some(input) if !fails => Ok(input),
             _ => {
@@ -163,18 +260,68 @@ impl World for MemoryWorld {
         }
     }
 
+    fn create(&mut self, name: &str) -> Result<MemoryOutput, WorldError>
+        ensures empty { IfOk result (λ made. Some made.store.written ≡ Some []) }
+        ensures fresh { IfOk result (λ made. made.store.faults ≡ 0) }
+        ensures made { IfOk result (λ made. made.name ≡ name.now) }
+        ensures cause { IsErrOf result WorldError.Failed → Rose self.old.write_faults self.new.write_faults }
+        ensures counts { self.old.write_faults ≤ self.new.write_faults }
+        ensures asks { OnOk result (Asks (Some self.old.asked) name.now (Some self.new.asked)) }
+        ensures asks_failed { IsErrOf result WorldError.Failed
+            → Asks (Some self.old.asked) name.now (Some self.new.asked) }
+        ensures asks_nothing { IsErrOf result WorldError.Memory → Some self.new.asked ≡ Some self.old.asked }
+        ensures keeps { Some (under self.new.held) ≡ Some (under self.old.held) }
+        ensures reads { self.new.read_faults ≡ self.old.read_faults }
+
+        // It fails exactly where this call is to fail.
+        ensures creates { OnOk result (is_to_fail self.old.calls ≡ false) }
+        ensures refuses { IsErrOf result WorldError.Failed → is_to_fail self.old.calls ≡ true }
+        ensures output { IfOk result (λ made. made ≡ output self.old name.now) }
+        ensures after { OnOk result (self.new ≡ asked_for self.old name.now) }
+        ensures after_failed { IsErrOf result WorldError.Failed → self.new
+            ≡ record (asked_for self.old name.now) { write_faults = raised self.old.write_faults } }
+        ensures after_memory { IsErrOf result WorldError.Memory → self.new ≡ self.old }
+    {
+        let made = self.output(name)?;
+        if self.ask(name)? {
+            self.write_faults = self.write_faults.saturating_add(1);
+            return Err(WorldError::Failed);
+        }
+        Ok(made)
+    }
+
     fn close_input(&mut self, input: MemorySource)
         ensures risen { 0 < input.faults → Rose self.old.read_faults self.new.read_faults }
         ensures clean { input.faults ≡ 0 → self.new.read_faults ≡ self.old.read_faults }
         ensures counts { self.old.read_faults ≤ self.new.read_faults }
         ensures asked { Some self.new.asked ≡ Some self.old.asked }
         ensures keeps { Some (under self.new.held) ≡ Some (under self.old.held) }
+        ensures writes { self.new.write_faults ≡ self.old.write_faults }
 
         ensures raised { 0 < input.faults → self.new.read_faults ≡ raised self.old.read_faults }
         ensures rest { self.new ≡ record self.old { read_faults = self.new.read_faults } }
     {
         if input.faults() > 0 {
             self.read_faults = self.read_faults.saturating_add(1);
+        }
+    }
+
+    fn close_output(&mut self, name: &str, output: MemoryOutput)
+        requires { output.name ≡ name.now }
+        ensures sets { Keeps (Some (under self.old.held)) name.now (Some output.store.written) (Some (under self.new.held)) }
+        ensures risen { 0 < output.store.faults → Rose self.old.write_faults self.new.write_faults }
+        ensures clean { output.store.faults ≡ 0 → self.new.write_faults ≡ self.old.write_faults }
+        ensures counts { self.old.write_faults ≤ self.new.write_faults }
+        ensures asked { Some self.new.asked ≡ Some self.old.asked }
+        ensures reads { self.new.read_faults ≡ self.old.read_faults }
+
+        ensures raised { 0 < output.store.faults → self.new.write_faults ≡ raised self.old.write_faults }
+        ensures rest { self.new ≡ record self.old { held = self.new.held; write_faults = self.new.write_faults } }
+    {
+        let (entry, faults) = output.into_entry();
+        put(&mut self.held, entry);
+        if faults > 0 {
+            self.write_faults = self.write_faults.saturating_add(1);
         }
     }
 }

@@ -1,4 +1,4 @@
-use Rattle.std.proofs.Common.{ℕ, ◌≤◌, ◌-◌, length, arith, length-drop, length-take}
+use Rattle.std.proofs.Common.{ℕ, ◌≤◌, ◌-◌, ◌∙◌, length, arith, length-drop, length-take}
 use Rattle.std.proofs.lemmas.Result.{err_from_is_err_and}
 use Rattle.bp_base.proofs.Appending.{take-part, appends-on, appends_front}
 use Rattle.bp_base.proofs.moving.write_all.Goals as goal
@@ -16,4 +16,5 @@ loop-done-preserved g c =
           (appends-on _ _ _ _ _ c.loop-done.invariant.so_far c.in_ok-done.ensures.appended);
       counts = omega (arith, c.write.ensures.counts);
       within = omega (arith, part);
+      named = c.write.ensures.named ∙ c.loop-done.invariant.named;
     }
