@@ -1,12 +1,19 @@
--- The entries of a map from keys to values, as plain fields.
-use Rattle.std.specs.Prelude.{List, ℕ, map, string_bytes}
-use Rattle.std.proofs.Common.{String, Global}
-use Rattle.js_value.specs.Value.{PlainValue, ValueFields}
-use Rattle.js_value.specs.Views.{plain_value, value_fields_of}
+-- The entries of a map from keys to fields, as plain fields.
+use Rattle.std.specs.Prelude.{◌≡◌, List, [], ◌∷◌, ℕ, map}
+use Rattle.std.proofs.Common.{Bor, Global}
+use Rattle.std.specs.declared.sync.Arc.{Arc}
+use Rattle.js_value.specs.Value.{ValueFields}
+use Rattle.js_value.specs.Views.{value_fields_view}
 use Rattle.js_value.specs.declared.value.Value.{Value}
 
-abbrev pub plain_entry : String Global × Value → List ℕ × PlainValue
-plain_entry e = (string_bytes e.0, plain_value e.1)
+-- a key, and the field under it
+abbrev pub Entry : Type 0
+Entry = Bor (List ℕ) × (Arc (List ℕ) Global × Value)
 
-abbrev pub entries_view : List (String Global × Value) → ValueFields
-entries_view es = value_fields_of (map plain_entry es)
+-- each entry stands under the key of its field
+abbrev pub AreUnderTheirKeys : List Entry → Type 0
+AreUnderTheirKeys [] = Unit {0}
+AreUnderTheirKeys (e ∷ es) = (e.1.0.value ≡ e.0.now) × AreUnderTheirKeys es
+
+abbrev pub entries_view : List Entry → ValueFields
+entries_view es = value_fields_view (map (λ (e : Entry). e.1) es)

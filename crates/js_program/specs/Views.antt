@@ -1,5 +1,6 @@
 -- The plain form of each node.
 use Rattle.std.specs.Prelude.{List, map}
+use Rattle.std.specs.Arc.{arc_value}
 use Rattle.js_program.specs.declared.node.NodeForm.{NodeForm}
 use Rattle.js_program.specs.declared.node.NodeForm.TheVariants as f
 use Rattle.js_program.specs.declared.node.Declared.{Declared}
@@ -23,7 +24,7 @@ plain_node_form f.Null = p.null
 plain_node_form f.Undefined = p.undefined
 plain_node_form (f.Read variable) = p.read variable
 plain_node_form (f.List parts) = p.list parts.items
-plain_node_form (f.Fields keys values) = p.fields keys.items values.items
+plain_node_form (f.Fields keys values) = p.fields (map arc_value keys.items) values.items
 plain_node_form (f.Member x word) = p.member x word
 plain_node_form (f.Index x i) = p.index x i
 plain_node_form (f.Call function arguments) = p.call function arguments.items

@@ -32,8 +32,8 @@ pub enum NodeForm {
     Undefined,
     Read(Variable),
     List(Vec<u32>),
-    /// The keys and the values, in one order.
-    Fields(Vec<Text>, Vec<u32>),
+    /// The keys and the values, in one order. Keys are shared, as texts are.
+    Fields(Vec<Arc<Text>>, Vec<u32>),
     /// `x.word`
     Member(u32, Text),
     /// `x[i]`

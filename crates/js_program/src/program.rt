@@ -38,8 +38,11 @@ impl Program {
         constants: Vec<ConstantStart>,
         top: Body,
     ) -> Program
-        requires { IsSound (program_with (map plain_node nodes.items) (map plain_body functions.items) (map plain_constant constants.items) (plain_body top)) }
-        ensures { result ≡ program_with (map plain_node nodes.items) (map plain_body functions.items) (map plain_constant constants.items) (plain_body top) }
+        requires { IsSound (program_with (map plain_node nodes.items)
+            (map plain_body functions.items) (map plain_constant constants.items)
+            (plain_body top)) }
+        ensures { result ≡ program_with (map plain_node nodes.items)
+            (map plain_body functions.items) (map plain_constant constants.items) (plain_body top) }
     {
         Program {
             nodes,
@@ -97,7 +100,8 @@ impl Program {
     /// The line of the first token of a function. Takes no memory.
     pub fn line(&self, code: u32) -> u32
         requires { code < length self.now.functions }
-        ensures { option_map (λ (b : PlainBody). b.line) (slice_get self.now.functions code) ≡ Some result }
+        ensures { option_map (λ (b : PlainBody). b.line) (slice_get self.now.functions code)
+            ≡ Some result }
     {
         self.functions[code as usize].line
     }

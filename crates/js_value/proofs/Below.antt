@@ -1,6 +1,7 @@
 -- A value of a list, or of fields, is smaller than the list or the fields; data in a list, or in fields, weighs
 -- no more than the list or the fields.
-use Rattle.std.proofs.Common.{◌≡◌, ℕ, zero, suc, ◌<◌, ◌≤◌, List, [], ◌∷◌, length, get_or, arith}
+use Rattle.std.proofs.Common.{◌≡◌, ℕ, zero, suc, ◌<◌, ◌≤◌, List, [], ◌∷◌, length, get_or, arith, Global}
+use Rattle.std.specs.declared.sync.Arc.{Arc}
 use Rattle.js_data.specs.Data.{data_weight, data_list_weight, data_fields_weight}
 use Rattle.js_data.specs.Views.{plain_data, data_list_view, data_fields_view}
 use Rattle.js_data.specs.declared.data.Data.{Data}
@@ -13,7 +14,7 @@ value_below [] i w h e = absurd (omega arith)
 value_below (v ∷ vs) zero w h e = rw e (omega arith)
 value_below (v ∷ vs) (suc i) w h e = omega (arith, value_below vs i w (omega arith) e)
 
-pub field_below : (fs : List (List ℕ × Value)) (i : ℕ) (f : List ℕ × Value) → i < length fs → f ≡ get_or fs i f → value_size (plain_value f.1) < fields_size (value_fields_view fs)
+pub field_below : (fs : List (Arc (List ℕ) Global × Value)) (i : ℕ) (f : Arc (List ℕ) Global × Value) → i < length fs → f ≡ get_or fs i f → value_size (plain_value f.1) < fields_size (value_fields_view fs)
 field_below [] i f h e = absurd (omega arith)
 field_below (g ∷ fs) zero f h e = rw e (omega arith)
 field_below (g ∷ fs) (suc i) f h e = omega (arith, field_below fs i f (omega arith) e)

@@ -1,5 +1,6 @@
 -- Lists that are converted item by item: what is done so far, and what is left, is the whole.
-use Rattle.std.proofs.Common.{◌≡◌, ◌≤◌, ◌<◌, ◌+◌, ℕ, suc, length, drop, take, map, get_or, List, [], ◌∷◌, ◌++◌, Option, Some, None, option_map, refl, sym, ap, ◌∙◌, add-one, drop-cons}
+use Rattle.std.proofs.Common.{◌≡◌, ◌≤◌, ◌<◌, ◌+◌, ℕ, suc, length, drop, take, map, get_or, List, [], ◌∷◌, ◌++◌, Option, Some, None, option_map, refl, sym, ap, ◌∙◌, add-one, drop-cons, Global}
+use Rattle.std.specs.declared.sync.Arc.{Arc}
 use Rattle.std.proofs.lemmas.List.{drop_all, take_all}
 use Rattle.js_data.specs.Data as d
 use Rattle.js_data.specs.Data.{PlainData, DataList, DataFields}
@@ -32,7 +33,7 @@ fields_are (f ∷ fs) = ap (v.field f.0 (value_of_item f.1)) (fields_are fs)
 pub values_done : (vs : List Value) (ds : List Data) (i : ℕ) → length ds ≤ i → map plain_value vs ≡ map value_of_item (take i ds) → value_list_view vs ≡ data_values (data_list_view ds)
 values_done vs ds i h e = ap value_list_of (e ∙ ap (map value_of_item) (take_all i ds h)) ∙ values_are ds
 
-pub value_fields_done : (vs : List (List ℕ × Value)) (fs : List (List ℕ × Data)) (i : ℕ) → length fs ≤ i → map plain_value_field vs ≡ map value_of_field (take i fs) → value_fields_view vs ≡ data_value_fields (data_fields_view fs)
+pub value_fields_done : (vs : List (Arc (List ℕ) Global × Value)) (fs : List (List ℕ × Data)) (i : ℕ) → length fs ≤ i → map plain_value_field vs ≡ map value_of_field (take i fs) → value_fields_view vs ≡ data_value_fields (data_fields_view fs)
 value_fields_done vs fs i h e = ap value_fields_of (e ∙ ap (map value_of_field) (take_all i fs h)) ∙ fields_are fs
 
 -- ---- the item at the front of what is left
@@ -85,14 +86,14 @@ one_more_field : (xs : List (List ℕ × Data)) (x : List ℕ × Data) (r : Opti
 one_more_field xs x None = refl
 one_more_field xs x (Some fs) = ap Some (sym (after_fields_push xs x fs))
 
-pub fields_step : (made made' : List (List ℕ × Data)) (k : List ℕ) (x : Data) (u : List ℕ × Value) (us : List (List ℕ × Value)) (i : ℕ) (all : Option DataFields) → i < length us → u ≡ get_or us i u → made' ≡ made ++ (k, x) ∷ [] → k ≡ u.0 → value_data (plain_value u.1) ≡ Some (plain_data x)
+pub fields_step : (made made' : List (List ℕ × Data)) (k : List ℕ) (x : Data) (u : Arc (List ℕ) Global × Value) (us : List (Arc (List ℕ) Global × Value)) (i : ℕ) (all : Option DataFields) → i < length us → u ≡ get_or us i u → made' ≡ made ++ (k, x) ∷ [] → k ≡ u.0.value → value_data (plain_value u.1) ≡ Some (plain_data x)
     → option_map (after_fields made) (fields_data (value_fields_view (drop i us))) ≡ all → option_map (after_fields made') (fields_data (value_fields_view (drop (i + 1) us))) ≡ all
 fields_step made made' k x u us i all lt here more same reads so_far =
     let now = rw (front us i u lt here) at so_far in
     let later = rw (reads, ← same) at now in
     rw (more, ← one_more_field made (k, x) (fields_data (value_fields_view (drop (i + 1) us)))) later
 
-pub fields_end : (made : List (List ℕ × Data)) (us : List (List ℕ × Value)) (i : ℕ) → length us ≤ i → option_map (after_fields made) (fields_data (value_fields_view (drop i us))) ≡ fields_data (value_fields_view us) → Some (data_fields_view made) ≡ fields_data (value_fields_view us)
+pub fields_end : (made : List (List ℕ × Data)) (us : List (Arc (List ℕ) Global × Value)) (i : ℕ) → length us ≤ i → option_map (after_fields made) (fields_data (value_fields_view (drop i us))) ≡ fields_data (value_fields_view us) → Some (data_fields_view made) ≡ fields_data (value_fields_view us)
 fields_end made us i h e = ap Some (sym (after_fields_none made)) ∙ rw (drop_all i us h) at e
 
 -- ---- values as sets

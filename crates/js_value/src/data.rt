@@ -11,6 +11,7 @@ use crate::reading::words;
 use crate::value::{Items, Pairs, Value};
 use js_data::{Data, Memory, Text};
 use std::alloc::Global;
+use std::sync::Arc;
 
 /// The data as a value. Its only error is want of memory.
 #[cycle(value_of)]
@@ -34,7 +35,8 @@ pub fn value_of_data(alloc: Global, tree: &Data) -> Result<Value, Memory>
 #[cycle(value_of)]
 fn values_of_data(alloc: Global, items: &Vec<Data>) -> Result<Vec<Value>, Memory>
     requires { AreSortedData (data_list_view items.now.items) }
-    ensures { IfOk result (λ v. value_list_view v.items ≡ data_values (data_list_view items.now.items)) }
+    ensures { IfOk result (λ v. value_list_view v.items
+        ≡ data_values (data_list_view items.now.items)) }
 {
     let mut values = Vec::with_capacity(alloc, items.len())?;
     for item in items {
@@ -44,7 +46,10 @@ fn values_of_data(alloc: Global, items: &Vec<Data>) -> Result<Vec<Value>, Memory
 }
 
 #[cycle(value_of)]
-fn fields_of_data(alloc: Global, fields: &Vec<(Text, Data)>) -> Result<Vec<(Text, Value)>, Memory>
+fn fields_of_data(
+    alloc: Global,
+    fields: &Vec<(Text, Data)>,
+) -> Result<Vec<(Arc<Text>, Value)>, Memory>
     requires { AreSortedDataFields (data_fields_view fields.now.items) }
     ensures fields { IfOk result (λ v. value_fields_view v.items
         ≡ data_value_fields (data_fields_view fields.now.items)) }
@@ -52,7 +57,7 @@ fn fields_of_data(alloc: Global, fields: &Vec<(Text, Data)>) -> Result<Vec<(Text
 {
     let mut values = Vec::with_capacity(alloc, fields.len())?;
     for field in fields {
-        let key = field.0.copy()?;
+        let key = Arc::new(alloc, field.0.copy()?)?;
         values.push((key, value_of_data(alloc, &field.1)?))?;
     }
     Ok(values)

@@ -9,6 +9,7 @@ ghost use Rattle.js_value.specs.Views.{plain_value, plain_set, value_list_view, 
 
 use crate::value::{EventSet, SetTree, Value};
 use js_data::{Text, text_weight};
+use std::sync::Arc;
 
 /// The weight of the value, or the greatest u64 where it is more. Reads numbers that are kept, but for the
 /// data of an event; takes no memory.
@@ -63,7 +64,7 @@ pub(crate) fn items_nesting(items: &[Value]) -> u64
     most
 }
 
-pub(crate) fn fields_weight(fields: &[(Text, Value)]) -> u64
+pub(crate) fn fields_weight(fields: &[(Arc<Text>, Value)]) -> u64
     ensures sorted { HaveSortedKeys (value_fields_view fields.now)
         → AreSortedFields (value_fields_view fields.now) }
     ensures weight { result ≡ capped (value_fields_weight (value_fields_view fields.now)) }
@@ -77,7 +78,7 @@ pub(crate) fn fields_weight(fields: &[(Text, Value)]) -> u64
     sum
 }
 
-pub(crate) fn fields_nesting(fields: &[(Text, Value)]) -> u64
+pub(crate) fn fields_nesting(fields: &[(Arc<Text>, Value)]) -> u64
     ensures { result ≡ capped (value_fields_nesting (value_fields_view fields.now)) }
 {
     let mut most = 0u64;

@@ -1,9 +1,10 @@
 //! Calls by their names, on values by their words.
 
-use crate::words::{shown, text, value_of};
+use crate::words::{key, shown, text, value_of};
 use js_ops::{OpFault, apply, index, make, member, method, method_named, unary};
 use js_value::{Fault, Make, Method, Op, Text, Unary, Value};
 use std::alloc::Global;
+use std::sync::Arc;
 use std::test::Fail;
 
 fn operator(name: &str) -> Option<Op> {
@@ -121,13 +122,13 @@ fn made(alloc: Global, kind: Make, words: &str) -> Result<String, Fail> {
 // The fields of one key.
 fn field(alloc: Global, words: &str) -> Result<String, Fail> {
     let (name, word) = words.split_once(" | ").ok_or("no value")?;
-    let key = text(alloc, name)?;
+    let key = key(alloc, name)?;
     let part = value_of(alloc, word)?;
     shown(alloc, make(alloc, Make::Fields, &[part], &[key]))
 }
 
 // The fields of the two keys, with one value.
-fn fields_of_two(alloc: Global, keys: &[Text; 2], word: &str) -> Result<String, Fail> {
+fn fields_of_two(alloc: Global, keys: &[Arc<Text>; 2], word: &str) -> Result<String, Fail> {
     let first = value_of(alloc, word)?;
     let second = value_of(alloc, word)?;
     shown(alloc, make(alloc, Make::Fields, &[first, second], keys))
@@ -136,12 +137,12 @@ fn fields_of_two(alloc: Global, keys: &[Text; 2], word: &str) -> Result<String, 
 // The fields of one key that stands twice, with one value.
 fn field_twice(alloc: Global, words: &str) -> Result<String, Fail> {
     let (name, word) = words.split_once(" | ").ok_or("no value")?;
-    let keys = [text(alloc, name)?, text(alloc, name)?];
+    let keys = [key(alloc, name)?, key(alloc, name)?];
     fields_of_two(alloc, &keys, word)
 }
 
 // The fields of the three keys with the values 1, 2 and 3.
-fn fields_of_three(alloc: Global, keys: &[Text; 3]) -> Result<String, Fail> {
+fn fields_of_three(alloc: Global, keys: &[Arc<Text>; 3]) -> Result<String, Fail> {
     let first = value_of(alloc, "1")?;
     let second = value_of(alloc, "2")?;
     let third = value_of(alloc, "3")?;
@@ -156,9 +157,9 @@ fn three_fields(alloc: Global, words: &str) -> Result<String, Fail> {
     let (first, rest) = words.split_once(" | ").ok_or("one key")?;
     let (second, third) = rest.split_once(" | ").ok_or("two keys")?;
     let keys = [
-        text(alloc, first)?,
-        text(alloc, second)?,
-        text(alloc, third)?,
+        key(alloc, first)?,
+        key(alloc, second)?,
+        key(alloc, third)?,
     ];
     fields_of_three(alloc, &keys)
 }

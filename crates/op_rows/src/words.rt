@@ -6,10 +6,15 @@ use js_value::{
     words,
 };
 use std::alloc::Global;
+use std::sync::Arc;
 use std::test::Fail;
 
 pub fn text(alloc: Global, word: &str) -> Result<Text, Fail> {
     Ok(Text::new(String::from_str(alloc, word)?))
+}
+
+pub fn key(alloc: Global, word: &str) -> Result<Arc<Text>, Fail> {
+    Ok(Arc::new(alloc, text(alloc, word)?)?)
 }
 
 fn event(alloc: Global, word: &str) -> Result<Value, Fail> {
@@ -31,7 +36,7 @@ fn list(alloc: Global, item: Value) -> Result<Value, Fail> {
 
 // The fields with the key `a` alone.
 fn fields(alloc: Global, item: Value) -> Result<Value, Fail> {
-    let key = text(alloc, "a")?;
+    let key = key(alloc, "a")?;
     Ok(make(alloc, Make::Fields, &[item], &[key])?)
 }
 

@@ -1,6 +1,8 @@
 //! Texts of events, both ways; copies of events, and texts in quotes.
 use crate::lines::{Lines, agree};
-use js_value::{Data, Event, EventError, Text, Whole, copy_data, event_of, event_text, quoted};
+use js_value::{
+    Data, Event, EventError, Text, Whole, copy_data, data_text, event_of, event_text, quoted,
+};
 use percent_encoding::percent_decode;
 use std::alloc::Global;
 use std::test::Fail;
@@ -202,6 +204,35 @@ fn copies_are_the_same(rt: HostRuntime) -> Result<(), Fail> {
     assert!(rt; !copies(rt.alloc(), -7, "go")?);
     assert!(rt; copies_number(rt.alloc(), -7)?);
     Ok(())
+}
+
+// The name and the text of the data, one behind the other.
+fn parts_shown(alloc: Global, event: Event) -> Result<String, Fail> {
+    let (name, extra) = event.into_parts();
+    let mut shown = name.into_string();
+    if let Some(data) = &extra {
+        shown.push_str(" ")?;
+        shown.push_str(data_text(alloc, data)?.as_str())?;
+    }
+    Ok(shown)
+}
+
+/// Whether the event of this text gives up the name and the data that are wanted.
+pub fn gives_up(alloc: Global, cell: &str, want: &str) -> Result<bool, Fail> {
+    let event = event_of(alloc, cell.as_bytes())?;
+    Ok(parts_shown(alloc, event)?.as_str() == want)
+}
+
+// The name and the data of an event, given up.
+const PARTS: &str = r#"
+["x"] --> x
+["x",null] --> x null
+["é",{"b":[1,"\u000b"],"a":{}}] --> é {"a":{},"b":[1,"\u000b"]}
+"#;
+
+#[test]
+fn events_give_up_their_parts(rt: HostRuntime) -> Result<(), Fail> {
+    agree(&rt, rt.alloc(), Lines::Parts, PARTS)
 }
 
 fn is_quoted(alloc: Global, name: &str, want: &str) -> Result<bool, Fail> {

@@ -11,6 +11,8 @@ pub enum Lines {
     Events,
     /// Sizes of texts, and whether they are the texts of events.
     Limits,
+    /// Texts of events, and the name and the data that each gives up.
+    Parts,
     /// Values.
     Values,
     /// Sets.
@@ -23,6 +25,7 @@ fn holds(alloc: Global, lines: Lines, line: &str) -> Result<bool, Fail> {
     match lines {
         Lines::Events => events::agrees(alloc, cell, want),
         Lines::Limits => events::has_outcome(alloc, cell, want),
+        Lines::Parts => events::gives_up(alloc, cell, want),
         Lines::Values => values::value_agrees(alloc, cell, want),
         Lines::Sets => values::set_agrees(alloc, cell, want),
     }

@@ -36,7 +36,8 @@ fn list(alloc: Global, items: Vec<Value>) -> Result<Value, Fail> {
 
 // `{"key":go}`
 fn fields(alloc: Global) -> Result<Value, Fail> {
-    let fields = vec![in alloc; (text(alloc, "key")?, event(alloc)?)]?;
+    let key = Arc::new(alloc, text(alloc, "key")?)?;
+    let fields = vec![in alloc; (key, event(alloc)?)]?;
     Ok(Value::Fields(Pairs::new(alloc, fields)?))
 }
 

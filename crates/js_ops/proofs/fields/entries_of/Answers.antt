@@ -7,5 +7,5 @@ use Rattle.js_ops.proofs.fields.entries_of.Goals as goal
 
 pub returns-clause-keys : goal.returns-clause-keys
 returns-clause-keys c =
-    let same : value_fields_view c.loop-key.entries.items ≡ entries_view c.args.fields.entries = search rules in
-    subst HaveSortedKeys (sym same) (sorted_entries c.args.fields.entries c.len.ensures.ordered)
+    let same : value_fields_view c.loop-field.entries.items ≡ entries_view c.args.fields.entries = search rules in
+    subst HaveSortedKeys (sym same) (sorted_entries c.args.fields.entries c.requires c.len.ensures.ordered)

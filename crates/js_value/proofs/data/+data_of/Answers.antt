@@ -1,4 +1,4 @@
-use Rattle.std.proofs.Common.{arith, sym}
+use Rattle.std.proofs.Common.{arith, sym, ◌∙◌}
 use Rattle.js_value.proofs.Converted.{data_step, data_end, fields_step, fields_end}
 use Rattle.js_value.proofs.Below.{value_below, field_below}
 use Rattle.js_value.proofs.data.+data_of.Goals as goal
@@ -15,7 +15,7 @@ data_of_values-returns t c =
 pub data_of_fields-loop-field-preserved : goal.data_of_fields-loop-field-preserved
 data_of_fields-loop-field-preserved t c =
     fields_step c.loop-field.made.items c.push.new.self.items c.in_ok-key-in-Some.key c.in-Some.tree c.field-item.result c.as_slice-field-items.result.now c.loop-field.field-index _ (omega arith) c.field-item.is c.in_ok-push-in-Some.ensures.items
-    c.in_ok-key-in-Some.ensures (sym (rw c.in-Some.is at c.in_ok-data_of.ensures)) c.loop-field.invariant
+    (c.in_ok-key-in-Some.ensures ∙ c.deref.ensures) (sym (rw c.in-Some.is at c.in_ok-data_of.ensures)) c.loop-field.invariant
 
 pub data_of_fields-returns : goal.data_of_fields-returns
 data_of_fields-returns t c =
