@@ -1,11 +1,13 @@
-//! What is asked of a run, what is recorded of it and what it prints: the types, and the text of lines.
+//! What is asked of a run, what is recorded of it and what it prints: the types and their texts.
 #![tactic(auto)]
 
+mod behind;
 pub mod beside;
 pub mod header;
 pub mod item;
 pub mod limits;
 pub mod lines;
+pub mod logs;
 pub mod options;
 pub mod record;
 pub mod trace;
@@ -15,6 +17,7 @@ pub use beside::Beside;
 pub use header::Header;
 pub use item::Item;
 pub use lines::{PrintError, line_of, print};
+pub use logs::{write_header, write_record};
 pub use options::{Options, Strategy};
 pub use record::{Record, Records};
 use std::alloc::AllocError;
