@@ -4,10 +4,11 @@ ghost use Rattle.js_data.specs.JsonText.{quoted_text, event_text};
 ghost use Rattle.bp_log.specs.Texts.{place_text, verdict_text};
 ghost use Rattle.bp_log.specs.Plain.{StandsAsItIs};
 
+use crate::data::push_data;
 use crate::limits::{MOST_THREADS, MOST_WAITING, MOST_WEIGHT};
 use crate::{Memory, Place, Verdict};
 use js_data::{Event, Text};
-use js_json::{data_text, quoted};
+use js_json::quoted;
 use std::alloc::Global;
 
 /// Whether each byte stands in a JSON text as it is.
@@ -57,12 +58,11 @@ pub(crate) fn push_named(
 pub(crate) fn push_event(alloc: Global, event: &Event, out: &mut String) -> Result<(), Memory>
     ensures { OnOk result (string_bytes out.new ≡ string_bytes out.old ++ event_text event.now) }
 {
-    event.keeps();
     out.push_str("[")?;
     push_quoted(alloc, event.name(), out)?;
     if let Some(data) = event.data() {
         out.push_str(",")?;
-        out.push_str(data_text(alloc, data)?.as_str())?;
+        push_data(alloc, data, out)?;
     }
     out.push_str("]")
 }

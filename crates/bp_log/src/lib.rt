@@ -3,6 +3,7 @@
 
 mod behind;
 pub mod beside;
+mod data;
 pub mod header;
 pub mod item;
 pub mod limits;
@@ -16,7 +17,7 @@ pub mod verdict;
 pub use beside::Beside;
 pub use header::Header;
 pub use item::Item;
-pub use lines::{PrintError, line_of, print};
+pub use lines::{PrintError, line_of, print, whole_line_of};
 pub use logs::{write_header, write_record};
 pub use options::{Options, Strategy};
 pub use record::{Record, Records};

@@ -80,8 +80,8 @@ pub fn line_of(alloc: Global, line: &Line) -> Result<Text, Memory>
     Ok(Text::new(text))
 }
 
-/// The text of a line with its line end.
-fn whole_line_of(alloc: Global, line: &Line) -> Result<Text, Memory>
+/// The text of a line of the trace with its line end. Its only error is want of memory.
+pub fn whole_line_of(alloc: Global, line: &Line) -> Result<Text, Memory>
     ensures { IfOk result (λ t. t ≡ whole_line line.now) }
 {
     let mut text = String::new(alloc);
