@@ -1,2 +1,3 @@
 pub mod Equality
+mod Plain
 pub mod Rows

@@ -1,4 +1,5 @@
 pub mod Options
+pub mod Plain
 pub mod Beside
 pub mod Header
 pub mod Verdicts

@@ -1,5 +1,6 @@
 -- The text of a log: the options and the program of a run, and what was recorded of it.
-use Rattle.std.specs.Prelude.{ℕ, List, [], ◌∷◌, ◌++◌, length, flat_map, decimal, codes}
+use Rattle.std.specs.Prelude.{ℕ, List, [], ◌∷◌, ◌++◌, length, flat_map, decimal, codes, Option, Some, None, if◌then◌else◌}
+use Rattle.std.specs.Str.{bytes_eq}
 use Rattle.js_data.specs.JsonText.{event_text}
 use Rattle.bp_log.specs.Options.{PlainOptions}
 use Rattle.bp_log.specs.Header.{PlainHeader}
@@ -27,6 +28,13 @@ abbrev pub strategy_name : Strategy → List ℕ
 strategy_name Simple = codes "simple"
 strategy_name Ordered = codes "ordered"
 strategy_name Priority = codes "priority"
+
+-- the strategy of a name
+abbrev pub strategy_at : List ℕ → Option Strategy
+strategy_at name =
+    if bytes_eq name (codes "simple") then Some Simple else
+    (if bytes_eq name (codes "ordered") then Some Ordered else
+    (if bytes_eq name (codes "priority") then Some Priority else None))
 
 abbrev pub options_text : PlainOptions → List ℕ
 options_text o =

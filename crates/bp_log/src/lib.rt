@@ -1,11 +1,14 @@
-//! What is asked of a run, what is recorded of it and what it prints: the types, and the text of lines.
+//! What is asked of a run, what is recorded of it and what it prints: the types and their texts.
 #![tactic(auto)]
 
+mod behind;
 pub mod beside;
+mod data;
 pub mod header;
 pub mod item;
 pub mod limits;
 pub mod lines;
+pub mod logs;
 pub mod options;
 pub mod record;
 pub mod trace;
@@ -14,7 +17,8 @@ pub mod verdict;
 pub use beside::Beside;
 pub use header::Header;
 pub use item::Item;
-pub use lines::{PrintError, line_of, print};
+pub use lines::{PrintError, line_of, print, whole_line_of};
+pub use logs::{write_header, write_record};
 pub use options::{Options, Strategy};
 pub use record::{Record, Records};
 use std::alloc::AllocError;

@@ -1,5 +1,6 @@
 //! What is asked of a run.
 ghost use Rattle.std.specs.Prelude.{◌≡◌, SomeIff};
+ghost use Rattle.bp_log.specs.Logs.{strategy_name, strategy_at};
 ghost use Rattle.bp_log.specs.Options.{PlainOptions, AreOptions, default_options};
 
 use crate::limits::{MOST_BUDGET, MOST_INJECTORS, MOST_STEPS};
@@ -15,6 +16,35 @@ pub enum Strategy {
     Ordered,
     /// Among those that are requested with the greatest priority.
     Priority,
+}
+
+impl Strategy {
+    /// The name of the strategy.
+    pub fn name(self) -> &'static str
+        ensures { result.now ≡ strategy_name self }
+    {
+        match self {
+            Strategy::Simple => "simple",
+            Strategy::Ordered => "ordered",
+            Strategy::Priority => "priority",
+        }
+    }
+
+    /// The strategy of this name, or `None` exactly where none has it. Takes no memory.
+    pub fn of_name(name: &[u8]) -> Option<Strategy>
+        ensures { result ≡ strategy_at name.now }
+    {
+        if name == b"simple".as_slice() {
+            return Some(Strategy::Simple);
+        }
+        if name == b"ordered".as_slice() {
+            return Some(Strategy::Ordered);
+        }
+        if name == b"priority".as_slice() {
+            return Some(Strategy::Priority);
+        }
+        None
+    }
 }
 
 /// What is asked of a run. Contracts see it as the record of its five parts.

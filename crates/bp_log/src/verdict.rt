@@ -1,5 +1,6 @@
 //! What a run ends in.
-ghost use Rattle.std.specs.Prelude.{◌≡◌, IfOk};
+ghost use Rattle.std.specs.Prelude.{◌≡◌, ◌↔◌, IsTrue, IfOk};
+ghost use Rattle.bp_log.specs.Verdicts.{same_place as place_is_same, same_fault as fault_is_same, same_verdict as verdict_is_same};
 
 use crate::Memory;
 use js_data::{Fault, Text};
@@ -62,6 +63,44 @@ impl Place {
             Place::Thread(name) => Ok(Place::Thread(name.copy()?)),
         }
     }
+
+    /// Whether the two are the same place. Takes no memory.
+    fn same(&self, other: &Place) -> bool
+        ensures { result ≡ place_is_same self.now other.now }
+    {
+        match (self, other) {
+            (Place::Top, Place::Top) => true,
+            (Place::Thread(a), Place::Thread(b)) => a.same(b),
+            _ => false,
+        }
+    }
+}
+
+/// Whether the two are the same fault: no two faults have one name.
+fn same_fault(left: Fault, right: Fault) -> bool
+    ensures { result ≡ fault_is_same left right }
+{
+    left.name() == right.name()
+}
+
+/// Whether the two are the same verdict.
+fn same_verdict(left: &Verdict, right: &Verdict) -> bool
+    ensures { result ≡ verdict_is_same left.now right.now }
+{
+    match (left, right) {
+        (Verdict::Quiet(a), Verdict::Quiet(b)) => *a == *b,
+        (Verdict::Violated(a, s), Verdict::Violated(b, t)) => a.same(b) && s.same(t),
+        (Verdict::Fault(a, m, f), Verdict::Fault(b, n, g)) => {
+            a.same(b) && *m == *n && same_fault(*f, *g)
+        }
+        (Verdict::Spent(a), Verdict::Spent(b)) => a.same(b),
+        (Verdict::Steps(a), Verdict::Steps(b)) => *a == *b,
+        (Verdict::Queue, Verdict::Queue) => true,
+        (Verdict::Threads, Verdict::Threads) => true,
+        (Verdict::Weight, Verdict::Weight) => true,
+        (Verdict::Bad(a, m), Verdict::Bad(b, n)) => *a == *b && *m == *n,
+        _ => false,
+    }
 }
 
 impl Verdict {
@@ -80,5 +119,13 @@ impl Verdict {
             Verdict::Weight => Ok(Verdict::Weight),
             Verdict::Bad(injector, line) => Ok(Verdict::Bad(*injector, *line)),
         }
+    }
+
+    /// Whether the two are equal. Takes no memory.
+    pub fn same(&self, other: &Verdict) -> bool
+        ensures same { result ≡ verdict_is_same self.now other.now }
+        ensures equal { IsTrue result ↔ (self.now ≡ other.now) }
+    {
+        same_verdict(self, other)
     }
 }
