@@ -1,0 +1,103 @@
+-- No two logs have one text.
+use Rattle.std.proofs.Common.{◌≡◌, ℕ, ◌<◌, ◌^◌, true, List, [], ◌∷◌, ◌++◌, length, take, Some, refl, sym, ap, ◌∙◌, arith, append_assoc}
+use Rattle.std.specs.Prelude.{decimal, codes}
+use Rattle.std.proofs.Math.Seq.{take-append_seam}
+use Rattle.std.proofs.lemmas.List.{append_cancel_left}
+use Rattle.std.proofs.lemmas.Fmt.{decimal_injective}
+use Rattle.bp_log.specs.Options.{PlainOptions, AreOptions}
+use Rattle.bp_log.specs.Header.{PlainHeader}
+use Rattle.bp_log.specs.Logs.{record_text, records_text, log_text, header_text, options_text, strategy_name, strategy_at}
+use Rattle.bp_log.specs.declared.options.Strategy.{Strategy}
+use Rattle.bp_log.specs.declared.options.Strategy.TheVariants.{Simple, Ordered, Priority}
+use Rattle.bp_log.specs.declared.record.Record.{Record}
+use Rattle.bp_reading.specs.Lines.{record_at}
+use Rattle.bp_reading.specs.Laws.{IsHeader, IsRecord, AreRecords, OneReading}
+use Rattle.bp_reading.proofs.Lines.{lacks, cut_same, Same, some_is}
+use Rattle.bp_reading.proofs.Numbers.{lacks-decimal}
+use Rattle.bp_reading.proofs.Spelled.{six, options_then, options_regrouped}
+use Rattle.bp_reading.proofs.Texts.{lacks-record}
+use Rattle.bp_reading.proofs.Back.{record_back}
+
+record_same : (r s : Record) → IsRecord r → IsRecord s → record_text r ≡ record_text s → r ≡ s
+record_same r s h k t = some_is r s (sym (record_back r h) ∙ ap record_at t ∙ record_back s k)
+
+-- a number that ends at a byte below the digits
+number_cut : (c m n : ℕ) (x y : List ℕ) → c < 48 → m < 2 ^ 64 → n < 2 ^ 64 → decimal m ++ c ∷ x ≡ decimal n ++ c ∷ y → (m ≡ n) × (x ≡ y)
+number_cut c m n x y b h k e =
+    let s = cut_same c (decimal m) (decimal n) x y (lacks-decimal c b m h) (lacks-decimal c b n k) e in
+    (decimal_injective m n h k s.front, s.rest)
+
+-- the text of a record, its LF, and what follows
+pub regrouped : (r : Record) (rs : List Record) → records_text (r ∷ rs) ≡ record_text r ++ 10 ∷ records_text rs
+unfolding records_text
+regrouped r rs = append_assoc (record_text r) (10 ∷ []) (records_text rs)
+
+some_bytes : (xs ys : List ℕ) (c : ℕ) → [] ≡ xs ++ c ∷ ys → ⊥
+some_bytes [] ys c e = omega (arith, ap (length {A = ℕ}) e)
+some_bytes (x ∷ xs) ys c e = omega (arith, ap (length {A = ℕ}) e)
+
+pub records_same : (rs ss : List Record) → AreRecords rs → AreRecords ss → records_text rs ≡ records_text ss → rs ≡ ss
+unfolding records_text
+records_same [] [] h k e = refl
+records_same [] (s ∷ ss) h k e = absurd (some_bytes _ _ _ (e ∙ regrouped s ss))
+records_same (r ∷ rs) [] h k e = absurd (some_bytes _ _ _ (sym e ∙ regrouped r rs))
+records_same (r ∷ rs) (s ∷ ss) h k e =
+    let p = cut_same 10 (record_text r) (record_text s) _ _ (lacks-record r h.0) (lacks-record s k.0) (sym (regrouped r rs) ∙ e ∙ regrouped s ss) in
+    rw (record_same r s h.0 k.0 p.front, records_same rs ss h.1 k.1 p.rest) refl
+
+front_same : (n : ℕ) (a b x y : List ℕ) → length a ≡ n → length b ≡ n → a ++ x ≡ b ++ y → Same a b x y
+front_same n a b x y h k e =
+    let f : a ≡ b = sym (take-append_seam a x) ∙ ap (λ (m : ℕ). take m (a ++ x)) (h ∙ sym k) ∙ ap (take (length b)) e ∙ take-append_seam b y in
+    record { front = f; rest = append_cancel_left b _ _ (ap (λ l. l ++ x) (sym f) ∙ e) }
+
+strategy_back : (s : Strategy) → strategy_at (strategy_name s) ≡ Some s
+strategy_back Simple = refl
+strategy_back Ordered = refl
+strategy_back Priority = refl
+
+lacks-strategy : (s : Strategy) → lacks 10 (strategy_name s) ≡ true
+lacks-strategy Simple = refl
+lacks-strategy Ordered = refl
+lacks-strategy Priority = refl
+
+strategy_cut : (s t : Strategy) (x y : List ℕ) → strategy_name s ++ 10 ∷ x ≡ strategy_name t ++ 10 ∷ y → (s ≡ t) × (x ≡ y)
+strategy_cut s t x y e =
+    let c = cut_same 10 (strategy_name s) (strategy_name t) x y (lacks-strategy s) (lacks-strategy t) e in
+    (some_is s t (sym (strategy_back s) ∙ ap strategy_at c.front ∙ strategy_back t), c.rest)
+
+-- a header's text, and what follows
+unfoldable pub header_then : PlainHeader → List ℕ → List ℕ
+header_then h more =
+    codes "bp-log 1" ++ 10 ∷ options_then h.options (10 ∷ (codes "program " ++ (decimal (length h.program) ++ 10 ∷ (h.program ++ 10 ∷ more))))
+
+pub header_regrouped : (h : PlainHeader) (more : List ℕ) → header_text h ++ more ≡ header_then h more
+unfolding header_then
+header_regrouped h more =
+    ap (λ l. codes "bp-log 1" ++ (10 ∷ l))
+    (six (options_text h.options) (codes "\nprogram ") (decimal (length h.program)) (codes "\n") h.program (codes "\n") more
+    ∙ options_regrouped h.options (10 ∷ (codes "program " ++ (decimal (length h.program) ++ (10 ∷ (h.program ++ (10 ∷ more)))))))
+
+options_cut : (o p : PlainOptions) (x y : List ℕ) → o.seed < 2 ^ 64 → p.seed < 2 ^ 64 → AreOptions o → AreOptions p → options_then o (10 ∷ x) ≡ options_then p (10 ∷ y) → (o ≡ p) × (x ≡ y)
+unfolding options_then
+options_cut o p x y small low ok fine e =
+    let a = strategy_cut o.strategy p.strategy _ _ (append_cancel_left (codes "strategy ") _ _ e) in
+    let b = number_cut 10 o.seed p.seed _ _ (omega arith) small low (append_cancel_left (codes "seed ") _ _ a.1) in
+    let c = number_cut 10 o.budget p.budget _ _ (omega arith) (omega (arith, ok.budget)) (omega (arith, fine.budget)) (append_cancel_left (codes "budget ") _ _ b.1) in
+    let d = number_cut 10 o.steps p.steps _ _ (omega arith) (omega (arith, ok.steps)) (omega (arith, fine.steps)) (append_cancel_left (codes "steps ") _ _ c.1) in
+    let f = number_cut 10 o.injectors p.injectors x y (omega arith) (omega (arith, ok.injectors)) (omega (arith, fine.injectors)) (append_cancel_left (codes "injectors ") _ _ d.1) in
+    (rw (a.0, b.0, c.0, d.0, f.0) refl, f.1)
+
+header_cut : (h g : PlainHeader) (x y : List ℕ) → IsHeader h → IsHeader g → header_then h x ≡ header_then g y → (h ≡ g) × (x ≡ y)
+unfolding header_then
+header_cut h g x y ok fine e =
+    let a = options_cut h.options g.options _ _ ok.seed fine.seed ok.options fine.options (append_cancel_left (codes "bp-log 1" ++ 10 ∷ []) _ _ e) in
+    let b = append_cancel_left (codes "program ") _ _ a.1 in
+    let c = number_cut 10 (length h.program) (length g.program) _ _ (omega arith) (omega (arith, ok.program)) (omega (arith, fine.program)) b in
+    let p = front_same (length g.program) h.program g.program (10 ∷ x) (10 ∷ y) c.0 refl c.1 in
+    (rw (a.0, p.front) refl, append_cancel_left (10 ∷ []) _ _ p.rest)
+
+pub one_reading : OneReading
+unfolding log_text
+one_reading h g rs ss ok fine k l e =
+    let p = header_cut h g (records_text rs) (records_text ss) ok fine (sym (header_regrouped h (records_text rs)) ∙ e ∙ header_regrouped g (records_text ss)) in
+    (p.0, records_same rs ss k l p.1)

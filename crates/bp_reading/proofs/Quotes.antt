@@ -1,0 +1,123 @@
+-- Texts in quotation marks.
+use Rattle.std.proofs.Common.{◌≡◌, ℕ, zero, suc, ◌<◌, Bool, true, false, cond, List, [], ◌∷◌, ◌++◌, Option, Some, refl, sym, ap, ◌∙◌, inl, inr, arith, append_assoc, append-nil, subst}
+use Rattle.std.proofs.lemmas.Bool.Decides.{eqb_tells}
+use Rattle.std.proofs.lemmas.Bool.{false≢true, cases_lt, cases_eq, and_parts}
+use Rattle.std.specs.Prelude.{◌==◌, ◌&&◌, not, flat_map}
+use Rattle.json.specs.Token.{Token, string}
+use Rattle.json.specs.Print.{print_from, escape_byte, quoted, ArePrintable}
+use Rattle.json.specs.Lex.{tokens}
+use Rattle.json.proofs.Printed.Tokens.{tokens-print}
+use Rattle.json.proofs.Printed.Strings.{escape_byte_plain}
+use Rattle.js_data.specs.JsonText.{quoted_text, escaped_byte}
+use Rattle.js_json.proofs.Escapes.{quoted_is, escape_byte_is}
+use Rattle.bp_reading.specs.Words.{to_quote, onto_front}
+use Rattle.bp_reading.proofs.Lines.{lacks, lacks-append, some_is, Same}
+
+-- ---- each escape: no LF, no quotation mark that ends the text, no backslash left open
+
+abbrev passes : Bool → List ℕ → Bool
+passes escaped [] = not escaped
+passes escaped (b ∷ bytes) = cond (not escaped && (b == 34)) false (passes (not escaped && (b == 92)) bytes)
+
+abbrev good : List ℕ → Bool
+good bytes = lacks 10 bytes && passes false bytes
+
+abbrev good_below : ℕ → Bool
+good_below zero = true
+good_below (suc n) = good (escape_byte n) && good_below n
+
+below : (n : ℕ) → good_below n ≡ true → (x : ℕ) → x < n → good (escape_byte x) ≡ true
+below zero e x h = absurd (omega arith)
+below (suc n) e x h =
+    let p = and_parts _ _ e in
+    elim (cases_eq x n) [ inl same ↦ rw same p.0 | inr other ↦ below n p.1 x (omega arith) ]
+
+all_good : good_below 128 ≡ true
+unfolding escape_byte
+all_good = refl
+
+not_that : (x n : ℕ) → (x ≡ n → ⊥) → (x == n) ≡ false
+not_that x n h = elim (eqb_tells x n) [ inl same ↦ absurd (h same.1) | inr other ↦ other.0 ]
+
+good_escape : (x : ℕ) → good (escaped_byte x) ≡ true
+good_escape x = elim (cases_lt x 128) [
+  | inl small ↦ subst (λ bs. good bs ≡ true) (escape_byte_is x) (below 128 all_good x small)
+  | inr big ↦ subst (λ bs. good bs ≡ true) (sym (escape_byte_plain x (λ e. omega arith) (λ e. omega arith) (omega arith)) ∙ escape_byte_is x)
+      (rw (not_that x 10 (λ e. omega arith), not_that x 34 (λ e. omega arith), not_that x 92 (λ e. omega arith)) refl)
+]
+
+lacks_body : (s : List ℕ) → lacks 10 (flat_map escaped_byte s) ≡ true
+lacks_body [] = refl
+lacks_body (x ∷ s) = lacks-append 10 (escaped_byte x) _ (and_parts _ _ (good_escape x)).0 (lacks_body s)
+
+pub lacks-quoted : (s : List ℕ) → lacks 10 (quoted_text s) ≡ true
+lacks-quoted s = lacks-append 10 (flat_map escaped_byte s) (34 ∷ []) (lacks_body s) refl
+
+-- ---- a quoted text ends where it ends
+
+abbrev onto_all : List ℕ → Option (List ℕ × List ℕ) → Option (List ℕ × List ℕ)
+onto_all [] o = o
+onto_all (b ∷ bs) o = onto_front b (onto_all bs o)
+
+on_pass : (t : Bool) (x : Bool) → cond t false x ≡ true → (t ≡ false) × (x ≡ true)
+on_pass true x h = absurd (false≢true h)
+on_pass false x h = (refl, h)
+
+passed : (e : Bool) (bs r : List ℕ) → passes e bs ≡ true → to_quote e (bs ++ r) ≡ onto_all bs (to_quote false r)
+passed true [] r h = absurd (false≢true h)
+passed false [] r h = refl
+passed e (b ∷ bs) r h =
+    let p = on_pass (not e && (b == 34)) (passes (not e && (b == 92)) bs) h in
+    rw (p.0) (ap (onto_front b) (passed (not e && (b == 92)) bs r p.1))
+
+onto_all_is : (bs x y : List ℕ) → onto_all bs (Some (x, y)) ≡ Some (bs ++ x, y)
+onto_all_is [] x y = refl
+onto_all_is (b ∷ bs) x y = ap (onto_front b) (onto_all_is bs x y)
+
+onto_all-append : (bs cs : List ℕ) (o : Option (List ℕ × List ℕ)) → onto_all (bs ++ cs) o ≡ onto_all bs (onto_all cs o)
+onto_all-append [] cs o = refl
+onto_all-append (b ∷ bs) cs o = ap (onto_front b) (onto_all-append bs cs o)
+
+body : (s r : List ℕ) → to_quote false (flat_map escaped_byte s ++ r) ≡ onto_all (flat_map escaped_byte s) (to_quote false r)
+body [] r = refl
+body (x ∷ s) r =
+    ap (to_quote false) (append_assoc (escaped_byte x) (flat_map escaped_byte s) r)
+    ∙ passed false (escaped_byte x) (flat_map escaped_byte s ++ r) (and_parts _ _ (good_escape x)).1
+    ∙ ap (onto_all (escaped_byte x)) (body s r)
+    ∙ sym (onto_all-append (escaped_byte x) (flat_map escaped_byte s) (to_quote false r))
+
+-- what stands behind the opening mark: the rest of the quoted text, and what follows it
+pub to_quote_is : (s r : List ℕ) → to_quote false ((flat_map escaped_byte s ++ 34 ∷ []) ++ r) ≡ Some (flat_map escaped_byte s ++ 34 ∷ [], r)
+to_quote_is s r =
+    ap (to_quote false) (append_assoc (flat_map escaped_byte s) (34 ∷ []) r)
+    ∙ body s (34 ∷ r)
+    ∙ onto_all_is (flat_map escaped_byte s) (34 ∷ []) r
+
+tail : List ℕ → List ℕ
+tail [] = []
+tail (x ∷ xs) = xs
+
+tail_same : (x y : ℕ) (xs ys : List ℕ) → x ∷ xs ≡ y ∷ ys → xs ≡ ys
+unfolding tail
+tail_same x y xs ys e = ap tail e
+
+first_string : List Token → List ℕ
+first_string (string s ∷ ts) = s
+first_string _ = []
+
+tokens_quoted : (s : List ℕ) → tokens (quoted_text s) ≡ string s ∷ []
+unfolding ArePrintable print_from
+tokens_quoted s = ap tokens (sym (append-nil (quoted s) ∙ quoted_is s)) ∙ tokens-print (string s ∷ []) (tt, tt)
+
+quoted_injective : (s t : List ℕ) → quoted_text s ≡ quoted_text t → s ≡ t
+unfolding first_string
+quoted_injective s t e = ap first_string (sym (tokens_quoted s) ∙ ap tokens e ∙ tokens_quoted t)
+
+-- no quoted text is the front of another
+pub quoted_same : (s t x y : List ℕ) → quoted_text s ++ x ≡ quoted_text t ++ y → Same s t x y
+quoted_same s t x y e =
+    let o = some_is _ _ (sym (to_quote_is s x) ∙ ap (to_quote false) (tail_same _ _ _ _ e) ∙ to_quote_is t y) in
+    record {
+      front = quoted_injective s t (ap (λ (p : List ℕ × List ℕ). 34 ∷ p.0) o);
+      rest = ap (λ (p : List ℕ × List ℕ). p.1) o;
+    }

@@ -1,0 +1,324 @@
+-- What is read as a header and a complete list is their text.
+use Rattle.std.proofs.Common.{◌≡◌, ◌∙◌, ◌<◌, ◌-◌, ◌^◌, ℕ, zero, suc, sym, ap, ap₂, List, [], ◌++◌, ◌∷◌, length, Option, Some, None, Result, Ok, Err, refl, inl, inr, arith, append_assoc}
+use Rattle.std.specs.Prelude.{◌==◌, decimal, codes, nat_le, is_ok}
+use Rattle.std.specs.Str.{bytes_eq}
+use Rattle.std.proofs.lemmas.Bool.Decides.{eqb_tells}
+use Rattle.std.proofs.lemmas.Bool.{false≢true}
+use Rattle.bp_log.specs.Options.{PlainOptions}
+use Rattle.bp_log.specs.Header.{PlainHeader}
+use Rattle.bp_log.specs.Logs.{record_text, records_text, log_text, strategy_name, strategy_at}
+use Rattle.bp_log.specs.declared.limits.TheConstants.{MOST_BYTES, MOST_BUDGET, MOST_STEPS, MOST_INJECTORS}
+use Rattle.bp_log.specs.declared.options.Strategy.{Strategy}
+use Rattle.bp_log.specs.declared.record.Record.{Record}
+use Rattle.bp_reading.specs.declared.limits.TheConstants.{MOST_LINE_BYTES, MOST_RECORDS}
+use Rattle.bp_reading.specs.Words.{behind, number_behind}
+use Rattle.bp_reading.specs.Lines.{record_at}
+use Rattle.bp_reading.specs.Heads.{Front, nothing, partial, excess, whole, onto, line_at, Refusal, version, header, cut, ◌>>=◌, or_else, said, is_version, version_at, strategy_behind, strategy_line_at, from_least, field, field_at, program_at, choice_at, limits_at, options_at, header_at, most_seed}
+use Rattle.bp_reading.specs.Reading.{Stage, first_stage, after, Says, if_stands, next_record, behind_end, too_many, front_at, Next, found, finished, refused, next_found, next_of, next_at}
+use Rattle.bp_reading.specs.Laws.{ReadLogsAreTexts}
+use Rattle.bp_reading.proofs.Spelled.{options_then}
+use Rattle.bp_reading.proofs.Law.{regrouped, header_then, header_regrouped}
+use Rattle.bp_reading.proofs.Again.{chained, chosen, tested, same_bytes, behind_spelled, word_spelled, strategy_spelled, record_again}
+
+-- ---- answers taken apart
+
+value : {A : Type 0} → A → Result A Refusal → A
+value x (Ok y) = y
+value x (Err e) = x
+
+ok_is : {A : Type 0} (r : Result A Refusal) (x y : A) → r ≡ Ok x → r ≡ Ok y → x ≡ y
+unfolding value
+ok_is r x y h k = ap (value x) (sym h ∙ k)
+
+err_ok : {A : Type 0} (e : Refusal) (x : A) → Err e ≡ Ok x → ⊥
+err_ok e x h = false≢true (ap is_ok h)
+
+bound : {A B : Type 0} (r : Result A Refusal) (f : A → Result B Refusal) (y : B) → (r >>= f) ≡ Ok y → (x : A) × (r ≡ Ok x) × (f x ≡ Ok y)
+bound (Ok x) f y h = (x, refl, h)
+bound (Err e) f y h = absurd (err_ok e y h)
+
+or_parts : {A : Type 0} (f : Refusal) (r rest : List ℕ) (o : Option A) (x : A) → or_else f r o ≡ Ok (x, rest) → (o ≡ Some x) × (r ≡ rest)
+or_parts f r rest None x h = absurd (err_ok f (x, rest) h)
+or_parts {A} f r rest (Some y) x h =
+    let e = ok_is _ (y, r) (x, rest) refl h in
+    (ap (λ (p : A × List ℕ). Some p.0) e, ap (λ (p : A × List ℕ). p.1) e)
+
+said_parts : {A : Type 0} (f : Refusal) (says : List ℕ → Option A) (front : Front) (x : A) (rest : List ℕ) → said f says front ≡ Ok (x, rest) → (line : List ℕ) × (front ≡ whole line rest) × (says line ≡ Some x)
+said_parts f says nothing x rest h = absurd (err_ok cut (x, rest) h)
+said_parts f says partial x rest h = absurd (err_ok cut (x, rest) h)
+said_parts f says excess x rest h = absurd (err_ok f (x, rest) h)
+said_parts f says (whole line r) x rest h =
+    let p = or_parts f r rest (says line) x h in
+    (line, ap (λ (t : List ℕ). whole line t) p.1, p.0)
+
+-- ---- lines
+
+kind : Front → ℕ
+kind nothing = 0
+kind partial = 1
+kind excess = 2
+kind (whole line rest) = 3
+
+apart : (a b : Front) (m n : ℕ) → kind a ≡ m → kind b ≡ n → (m ≡ n → ⊥) → a ≡ b → ⊥
+apart a b m n h k d e = d (sym h ∙ ap kind e ∙ k)
+
+line_of : Front → List ℕ
+line_of (whole line rest) = line
+line_of _ = []
+
+rest_of : Front → List ℕ
+rest_of (whole line rest) = rest
+rest_of _ = []
+
+whole_is : (a b c d : List ℕ) → whole a b ≡ whole c d → (a ≡ c) × (b ≡ d)
+unfolding line_of rest_of
+whole_is a b c d h = (ap line_of h, ap rest_of h)
+
+onto_parts : (b : ℕ) (front : Front) (line rest : List ℕ) → onto b front ≡ whole line rest → (l : List ℕ) × (line ≡ b ∷ l) × (front ≡ whole l rest)
+unfolding kind
+onto_parts b nothing line rest h = absurd (apart nothing (whole line rest) 0 3 refl refl (λ d. omega arith) h)
+onto_parts b partial line rest h = absurd (apart partial (whole line rest) 1 3 refl refl (λ d. omega arith) h)
+onto_parts b excess line rest h = absurd (apart excess (whole line rest) 2 3 refl refl (λ d. omega arith) h)
+onto_parts b (whole l r) line rest h =
+    let e = whole_is (b ∷ l) r line rest h in
+    (l, sym e.0, ap (λ (t : List ℕ). whole l t) e.1)
+
+line_spelled : (bytes : List ℕ) (room : ℕ) (line rest : List ℕ) → line_at room bytes ≡ whole line rest → bytes ≡ line ++ (10 ∷ rest)
+unfolding kind
+line_spelled [] room line rest h = absurd (apart partial (whole line rest) 1 3 refl refl (λ d. omega arith) h)
+line_spelled (b ∷ bytes) room line rest h = elim (eqb_tells b 10) [
+  | inl same ↦
+      let e = whole_is [] bytes line rest (rw same.0 at h) in
+      ap₂ (λ (x : ℕ) (t : List ℕ). x ∷ t) same.1 e.1 ∙ ap (λ (l : List ℕ). l ++ (10 ∷ rest)) e.0
+  | inr other ↦ elim (chosen (room == 0) _ _ _ (rw other.0 at h)) [
+    | inl none ↦ absurd (apart excess (whole line rest) 2 3 refl refl (λ d. omega arith) none.1)
+    | inr some ↦
+        let p = onto_parts b (line_at (room - 1) bytes) line rest some.1 in
+        ap (λ (t : List ℕ). b ∷ t) (line_spelled bytes (room - 1) p.0 rest p.2) ∙ ap (λ (l : List ℕ). l ++ (10 ∷ rest)) (sym p.1)
+  ]
+]
+
+-- a line is never nothing
+onto_some : (b : ℕ) (front : Front) → onto b front ≡ nothing → front ≡ nothing
+unfolding kind
+onto_some b nothing h = refl
+onto_some b partial h = absurd (apart partial nothing 1 0 refl refl (λ d. omega arith) h)
+onto_some b excess h = absurd (apart excess nothing 2 0 refl refl (λ d. omega arith) h)
+onto_some b (whole l r) h = absurd (apart (whole (b ∷ l) r) nothing 3 0 refl refl (λ d. omega arith) h)
+
+line_some : (bytes : List ℕ) (room : ℕ) → line_at room bytes ≡ nothing → ⊥
+unfolding kind
+line_some [] room h = apart partial nothing 1 0 refl refl (λ d. omega arith) h
+line_some (b ∷ bytes) room h = elim (chosen (b == 10) _ _ _ h) [
+  | inl same ↦ apart (whole [] bytes) nothing 3 0 refl refl (λ d. omega arith) same.1
+  | inr other ↦ elim (chosen (room == 0) _ _ _ other.1) [
+    | inl none ↦ apart excess nothing 2 0 refl refl (λ d. omega arith) none.1
+    | inr some ↦ line_some bytes (room - 1) (onto_some b (line_at (room - 1) bytes) some.1)
+  ]
+]
+
+-- ---- the header
+
+version_again : (bytes rest : List ℕ) (v : Unit {0}) → version_at bytes ≡ Ok (v, rest) → bytes ≡ codes "bp-log 1" ++ (10 ∷ rest)
+unfolding version_at
+version_again bytes rest v h =
+    let p = said_parts version is_version (line_at MOST_LINE_BYTES bytes) v rest h in
+    let q = tested (bytes_eq p.0 (codes "bp-log 1")) tt v p.2 in
+    line_spelled bytes MOST_LINE_BYTES p.0 rest p.1 ∙ ap (λ (l : List ℕ). l ++ (10 ∷ rest)) (same_bytes p.0 (codes "bp-log 1") q.0)
+
+strategy_again : (bytes rest : List ℕ) (s : Strategy) → strategy_line_at bytes ≡ Ok (s, rest) → bytes ≡ codes "strategy " ++ (strategy_name s ++ (10 ∷ rest))
+unfolding strategy_line_at
+strategy_again bytes rest s h =
+    let p = said_parts header strategy_behind (line_at MOST_LINE_BYTES bytes) s rest h in
+    let q = chained strategy_at (behind (codes "strategy ") p.0) s p.2 in
+    line_spelled bytes MOST_LINE_BYTES p.0 rest p.1
+    ∙ ap (λ (l : List ℕ). l ++ (10 ∷ rest)) (behind_spelled (codes "strategy ") p.0 q.0 q.1 ∙ ap (λ (t : List ℕ). codes "strategy " ++ t) (strategy_spelled q.0 s q.2))
+
+field_again : (w bytes rest : List ℕ) (least most n : ℕ) → most < 2 ^ 64 → field_at w least most bytes ≡ Ok (n, rest) → bytes ≡ w ++ (decimal n ++ (10 ∷ rest))
+unfolding field_at
+field_again w bytes rest least most n small h =
+    let p = said_parts header (field w least most) (line_at MOST_LINE_BYTES bytes) n rest h in
+    let q = chained (from_least least) (number_behind w most p.0) n p.2 in
+    let r = tested (nat_le least q.0) q.0 n q.2 in
+    line_spelled bytes MOST_LINE_BYTES p.0 rest p.1
+    ∙ ap (λ (l : List ℕ). l ++ (10 ∷ rest)) (word_spelled w p.0 most q.0 small q.1 ∙ ap (λ (m : ℕ). w ++ decimal m) r.1)
+    ∙ append_assoc w (decimal n) (10 ∷ rest)
+
+program_again : (n : ℕ) (bytes p rest : List ℕ) → program_at n bytes ≡ Ok (p, rest) → (length p ≡ n) × (bytes ≡ p ++ (10 ∷ rest))
+unfolding program_at
+program_again zero [] p rest h = absurd (err_ok cut (p, rest) h)
+program_again zero (b ∷ bytes) p rest h = elim (eqb_tells b 10) [
+  | inl same ↦
+      let e = ok_is _ ([], bytes) (p, rest) refl (rw same.0 at h) in
+      let front : [] ≡ p = ap (λ (q : List ℕ × List ℕ). q.0) e in
+      (sym (ap (λ (l : List ℕ). length l) front), ap₂ (λ (x : ℕ) (t : List ℕ). x ∷ t) same.1 (ap (λ (q : List ℕ × List ℕ). q.1) e) ∙ ap (λ (l : List ℕ). l ++ (10 ∷ rest)) front)
+  | inr other ↦ absurd (err_ok header (p, rest) (rw other.0 at h))
+]
+program_again (suc n) [] p rest h = absurd (err_ok cut (p, rest) h)
+program_again (suc n) (b ∷ bytes) p rest h =
+    let x = bound (program_at n bytes) (λ (q : List ℕ × List ℕ). Ok (b ∷ q.0, q.1)) (p, rest) h in
+    let y = program_again n bytes x.0.0 x.0.1 x.1 in
+    let e = ok_is _ (b ∷ x.0.0, x.0.1) (p, rest) refl x.2 in
+    let front : b ∷ x.0.0 ≡ p = ap (λ (q : List ℕ × List ℕ). q.0) e in (
+      sym (ap (λ (l : List ℕ). length l) front) ∙ ap (λ (m : ℕ). suc m) y.0,
+      ap (λ (t : List ℕ). b ∷ t) y.1 ∙ ap₂ (λ (l t : List ℕ). l ++ (10 ∷ t)) front (ap (λ (q : List ℕ × List ℕ). q.1) e),
+    )
+
+choice_again : (bytes rest : List ℕ) (c : Strategy × ℕ) → choice_at bytes ≡ Ok (c, rest)
+    → bytes ≡ codes "bp-log 1" ++ (10 ∷ (codes "strategy " ++ (strategy_name c.0 ++ (10 ∷ (codes "seed " ++ (decimal c.1 ++ (10 ∷ rest)))))))
+unfolding choice_at
+choice_again bytes rest c h =
+    let v = bound (version_at bytes) _ (c, rest) h in
+    let s = bound (strategy_line_at v.0.1) _ (c, rest) v.2 in
+    let n = bound (field_at (codes "seed ") 0 most_seed s.0.1) _ (c, rest) s.2 in
+    let e = ok_is _ _ _ refl n.2 in
+    version_again bytes v.0.1 v.0.0 v.1
+    ∙ ap (λ (t : List ℕ). codes "bp-log 1" ++ (10 ∷ t)) (strategy_again v.0.1 s.0.1 s.0.0 s.1
+    ∙ ap (λ (t : List ℕ). codes "strategy " ++ (strategy_name s.0.0 ++ (10 ∷ t))) (field_again (codes "seed ") s.0.1 n.0.1 0 most_seed n.0.0 (omega arith) n.1))
+    ∙ ap (λ (q : (Strategy × ℕ) × List ℕ). codes "bp-log 1" ++ (10 ∷ (codes "strategy " ++ (strategy_name q.0.0 ++ (10 ∷ (codes "seed " ++ (decimal q.0.1 ++ (10 ∷ q.1)))))))) e
+
+limits_again : (bytes rest : List ℕ) (l : ℕ × ℕ) → limits_at bytes ≡ Ok (l, rest)
+    → bytes ≡ codes "budget " ++ (decimal l.0 ++ (10 ∷ (codes "steps " ++ (decimal l.1 ++ (10 ∷ rest)))))
+unfolding limits_at
+limits_again bytes rest l h =
+    let b = bound (field_at (codes "budget ") 1 MOST_BUDGET bytes) _ (l, rest) h in
+    let s = bound (field_at (codes "steps ") 1 MOST_STEPS b.0.1) _ (l, rest) b.2 in
+    let e = ok_is _ _ _ refl s.2 in
+    field_again (codes "budget ") bytes b.0.1 1 MOST_BUDGET b.0.0 (omega arith) b.1
+    ∙ ap (λ (t : List ℕ). codes "budget " ++ (decimal b.0.0 ++ (10 ∷ t))) (field_again (codes "steps ") b.0.1 s.0.1 1 MOST_STEPS s.0.0 (omega arith) s.1)
+    ∙ ap (λ (q : (ℕ × ℕ) × List ℕ). codes "budget " ++ (decimal q.0.0 ++ (10 ∷ (codes "steps " ++ (decimal q.0.1 ++ (10 ∷ q.1)))))) e
+
+options_again : (bytes rest : List ℕ) (o : PlainOptions) → options_at bytes ≡ Ok (o, rest) → bytes ≡ codes "bp-log 1" ++ (10 ∷ options_then o (10 ∷ rest))
+unfolding options_at options_then
+options_again bytes rest o h =
+    let c = bound (choice_at bytes) _ (o, rest) h in
+    let l = bound (limits_at c.0.1) _ (o, rest) c.2 in
+    let i = bound (field_at (codes "injectors ") 0 MOST_INJECTORS l.0.1) _ (o, rest) l.2 in
+    let e = ok_is _ _ _ refl i.2 in
+    let last = field_again (codes "injectors ") l.0.1 i.0.1 0 MOST_INJECTORS i.0.0 (omega arith) i.1 in
+    let limits = limits_again c.0.1 l.0.1 l.0.0 l.1 ∙ ap (λ (t : List ℕ). codes "budget " ++ (decimal l.0.0.0 ++ (10 ∷ (codes "steps " ++ (decimal l.0.0.1 ++ (10 ∷ t)))))) last in
+    choice_again bytes c.0.1 c.0.0 c.1
+    ∙ ap (λ (t : List ℕ). codes "bp-log 1" ++ (10 ∷ (codes "strategy " ++ (strategy_name c.0.0.0 ++ (10 ∷ (codes "seed " ++ (decimal c.0.0.1 ++ (10 ∷ t)))))))) limits
+    ∙ ap (λ (q : PlainOptions × List ℕ). codes "bp-log 1" ++ (10 ∷ options_then q.0 (10 ∷ q.1))) e
+
+header_again : (bytes rest : List ℕ) (h : PlainHeader) → header_at bytes ≡ Ok (h, rest) → bytes ≡ header_then h rest
+unfolding header_at header_then
+header_again bytes rest h k =
+    let o = bound (options_at bytes) _ (h, rest) k in
+    let n = bound (field_at (codes "program ") 0 MOST_BYTES o.0.1) _ (h, rest) o.2 in
+    let p = bound (program_at n.0.0 n.0.1) _ (h, rest) n.2 in
+    let e = ok_is _ _ _ refl p.2 in
+    let program = program_again n.0.0 n.0.1 p.0.0 p.0.1 p.1 in
+    let size = field_again (codes "program ") o.0.1 n.0.1 0 MOST_BYTES n.0.0 (omega arith) n.1 in
+    let tail = size ∙ ap₂ (λ (m : ℕ) (t : List ℕ). codes "program " ++ (decimal m ++ (10 ∷ t))) (sym program.0) program.1 in
+    options_again bytes o.0.1 o.0.0 o.1
+    ∙ ap (λ (t : List ℕ). codes "bp-log 1" ++ (10 ∷ options_then o.0.0 (10 ∷ t))) tail
+    ∙ ap (λ (q : PlainHeader × List ℕ). codes "bp-log 1" ++ (10 ∷ options_then q.0.options (10 ∷ (codes "program " ++ (decimal (length q.0.program) ++ (10 ∷ (q.0.program ++ (10 ∷ q.1)))))))) e
+
+-- ---- the records
+
+sort : Next → ℕ
+sort (found r rest) = 0
+sort finished = 1
+sort (refused f) = 2
+
+unlike : (a b : Next) (m n : ℕ) → sort a ≡ m → sort b ≡ n → (m ≡ n → ⊥) → a ≡ b → ⊥
+unlike a b m n h k d e = d (sym h ∙ ap sort e ∙ k)
+
+of_found : Record → Next → Record
+of_found r (found s rest) = s
+of_found r _ = r
+
+rest_found : Next → List ℕ
+rest_found (found s rest) = rest
+rest_found _ = []
+
+found_is : (r s : Record) (a b : List ℕ) → found r a ≡ found s b → (r ≡ s) × (a ≡ b)
+unfolding of_found rest_found
+found_is r s a b h = (ap (of_found r) h, ap rest_found h)
+
+never_ends : (s : Stage) (rest : List ℕ) (o : Option Record) → next_found s rest o ≡ finished → ⊥
+unfolding sort
+never_ends s rest None h = unlike _ finished 2 1 refl refl (λ d. omega arith) h
+never_ends s rest (Some r) h = unlike (found r rest) finished 0 1 refl refl (λ d. omega arith) h
+
+front_finished : (s : Stage) (front : Front) → next_of s front ≡ finished → front ≡ nothing
+unfolding sort
+front_finished s nothing h = refl
+front_finished s partial h = absurd (unlike (refused cut) finished 2 1 refl refl (λ d. omega arith) h)
+front_finished s excess h = absurd (unlike _ finished 2 1 refl refl (λ d. omega arith) h)
+front_finished s (whole line rest) h = absurd (never_ends s rest (next_record s line) h)
+
+ends_nothing : (bytes : List ℕ) → behind_end bytes ≡ nothing → bytes ≡ []
+unfolding kind
+ends_nothing [] h = refl
+ends_nothing (b ∷ bytes) h = absurd (apart excess nothing 2 0 refl refl (λ d. omega arith) h)
+
+many_something : (bytes : List ℕ) → too_many bytes ≡ nothing → ⊥
+unfolding kind
+many_something [] h = apart partial nothing 1 0 refl refl (λ d. omega arith) h
+many_something (b ∷ bytes) h = apart excess nothing 2 0 refl refl (λ d. omega arith) h
+
+finished_again : (s : Stage) (bytes : List ℕ) → next_at s bytes ≡ finished → bytes ≡ []
+unfolding next_at
+finished_again s bytes h = elim (chosen s.ended _ _ _ (front_finished s (front_at s bytes) h)) [
+  | inl over ↦ ends_nothing bytes over.1
+  | inr going ↦ elim (chosen (nat_le MOST_RECORDS s.lines) _ _ _ going.1) [
+    | inl full ↦ absurd (many_something bytes full.1)
+    | inr more ↦ absurd (line_some bytes MOST_LINE_BYTES more.1)
+  ]
+]
+
+found_parts : (s : Stage) (rest other : List ℕ) (o : Option Record) (r : Record) → next_found s rest o ≡ found r other → (o ≡ Some r) × (rest ≡ other)
+unfolding sort
+found_parts s rest other None r h = absurd (unlike _ (found r other) 2 0 refl refl (λ d. omega arith) h)
+found_parts s rest other (Some q) r h =
+    let e = found_is q r rest other h in
+    (ap (λ (x : Record). Some x) e.0, e.1)
+
+front_found : (s : Stage) (front : Front) (r : Record) (rest : List ℕ) → next_of s front ≡ found r rest → (line : List ℕ) × (front ≡ whole line rest) × (next_record s line ≡ Some r)
+unfolding sort
+front_found s nothing r rest h = absurd (unlike finished (found r rest) 1 0 refl refl (λ d. omega arith) h)
+front_found s partial r rest h = absurd (unlike (refused cut) (found r rest) 2 0 refl refl (λ d. omega arith) h)
+front_found s excess r rest h = absurd (unlike _ (found r rest) 2 0 refl refl (λ d. omega arith) h)
+front_found s (whole line other) r rest h =
+    let p = found_parts s other rest (next_record s line) r h in
+    (line, ap (λ (t : List ℕ). whole line t) p.1, p.0)
+
+ends_no_line : (bytes line rest : List ℕ) → behind_end bytes ≡ whole line rest → ⊥
+unfolding kind
+ends_no_line [] line rest h = apart nothing (whole line rest) 0 3 refl refl (λ d. omega arith) h
+ends_no_line (b ∷ bytes) line rest h = apart excess (whole line rest) 2 3 refl refl (λ d. omega arith) h
+
+many_no_line : (bytes line rest : List ℕ) → too_many bytes ≡ whole line rest → ⊥
+unfolding kind
+many_no_line [] line rest h = apart partial (whole line rest) 1 3 refl refl (λ d. omega arith) h
+many_no_line (b ∷ bytes) line rest h = apart excess (whole line rest) 2 3 refl refl (λ d. omega arith) h
+
+front_line : (s : Stage) (bytes line rest : List ℕ) → front_at s bytes ≡ whole line rest → bytes ≡ line ++ (10 ∷ rest)
+front_line s bytes line rest h = elim (chosen s.ended _ _ _ h) [
+  | inl over ↦ absurd (ends_no_line bytes line rest over.1)
+  | inr going ↦ elim (chosen (nat_le MOST_RECORDS s.lines) _ _ _ going.1) [
+    | inl full ↦ absurd (many_no_line bytes line rest full.1)
+    | inr more ↦ line_spelled bytes MOST_LINE_BYTES line rest more.1
+  ]
+]
+
+found_again : (s : Stage) (bytes rest : List ℕ) (r : Record) → next_at s bytes ≡ found r rest → bytes ≡ record_text r ++ (10 ∷ rest)
+unfolding next_at
+found_again s bytes rest r h =
+    let p = front_found s (front_at s bytes) r rest h in
+    let q = chained (if_stands s) (record_at p.0) r p.2 in
+    let t = tested _ q.0 r q.2 in
+    front_line s bytes p.0 rest p.1 ∙ ap (λ (l : List ℕ). l ++ (10 ∷ rest)) (record_again p.0 q.0 q.1 ∙ ap (λ (x : Record). record_text x) t.1)
+
+records_again : (rs : List Record) (s : Stage) (bytes : List ℕ) → Says s bytes rs None → bytes ≡ records_text rs
+unfolding records_text
+records_again [] s bytes h = finished_again s bytes h
+records_again (r ∷ rs) s bytes h =
+    found_again s bytes h.0 r h.1 ∙ ap (λ (t : List ℕ). record_text r ++ (10 ∷ t)) (records_again rs (after s r) h.0 h.2) ∙ sym (regrouped r rs)
+
+pub read_logs_are_texts : ReadLogsAreTexts
+unfolding log_text
+read_logs_are_texts bytes rest h rs k l =
+    header_again bytes rest h k ∙ ap (header_then h) (records_again rs (first_stage h.options.injectors) rest l) ∙ sym (header_regrouped h (records_text rs))

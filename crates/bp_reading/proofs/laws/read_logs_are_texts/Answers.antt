@@ -1,0 +1,5 @@
+use Rattle.bp_reading.proofs.Told.{read_logs_are_texts}
+use Rattle.bp_reading.proofs.laws.read_logs_are_texts.Goals as goal
+
+pub returns : goal.returns
+returns c = read_logs_are_texts

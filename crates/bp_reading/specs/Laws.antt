@@ -1,0 +1,74 @@
+-- What is true of the texts of logs.
+use Rattle.std.specs.Prelude.{◌≡◌, ℕ, ◌<◌, ◌≤◌, ◌^◌, true, false, List, [], ◌∷◌, length, Ok, None}
+use Rattle.std.specs.Str.{is_utf8}
+use Rattle.js_data.specs.Event.{IsEvent}
+use Rattle.bp_log.specs.Options.{AreOptions}
+use Rattle.bp_log.specs.Header.{PlainHeader}
+use Rattle.bp_log.specs.Logs.{record_text, records_text, log_text}
+use Rattle.bp_log.specs.declared.limits.TheConstants.{MOST_BYTES}
+use Rattle.bp_log.specs.declared.record.Record.{Record}
+use Rattle.bp_log.specs.declared.record.Record.TheVariants.{In, Bad, Eof, Sel, End}
+use Rattle.bp_log.specs.declared.verdict.Place.{Place}
+use Rattle.bp_log.specs.declared.verdict.Place.TheVariants.{Top, Thread}
+use Rattle.bp_log.specs.declared.verdict.Verdict.{Verdict}
+use Rattle.bp_log.specs.declared.verdict.Verdict.TheVariants as verdict
+use Rattle.bp_reading.specs.declared.limits.TheConstants.{MOST_LINE_BYTES, MOST_RECORDS}
+use Rattle.bp_reading.specs.Heads.{header_at}
+use Rattle.bp_reading.specs.Reading.{Stage, first_stage, after, can_stand, Says}
+
+-- ---- what headers and records meet by their types
+
+pub record IsHeader (h : PlainHeader) : Type 0 where
+  pub seed : h.options.seed < 2 ^ 64
+  pub options : AreOptions h.options
+  pub program : length h.program ≤ MOST_BYTES
+
+abbrev pub IsPlace : Place → Type 0
+IsPlace Top = Unit {0}
+IsPlace (Thread name) = is_utf8 name ≡ true
+
+abbrev pub IsVerdict : Verdict → Type 0
+IsVerdict (verdict.Quiet n) = n < 2 ^ 32
+IsVerdict (verdict.Violated place t) = IsPlace place × (is_utf8 t ≡ true)
+IsVerdict (verdict.Fault place line f) = IsPlace place × (line < 2 ^ 32)
+IsVerdict (verdict.Spent place) = IsPlace place
+IsVerdict (verdict.Steps n) = n < 2 ^ 32
+IsVerdict (verdict.Bad j line) = (j < 2 ^ 32) × (line < 2 ^ 32)
+IsVerdict _ = Unit {0}
+
+abbrev pub IsRecord : Record → Type 0
+IsRecord (In j e) = (j < 2 ^ 32) × IsEvent e
+IsRecord (Bad j line) = (j < 2 ^ 32) × (line < 2 ^ 32)
+IsRecord (Eof j) = j < 2 ^ 32
+IsRecord (Sel e) = IsEvent e
+IsRecord (End v) = IsVerdict v
+
+abbrev pub AreRecords : List Record → Type 0
+AreRecords [] = Unit {0}
+AreRecords (r ∷ rs) = IsRecord r × AreRecords rs
+
+-- ---- the laws
+
+-- no two pairs of a header and a list of records have one text
+abbrev pub OneReading : Type 0
+OneReading =
+    (h g : PlainHeader) (rs ss : List Record) → IsHeader h → IsHeader g → AreRecords rs → AreRecords ss →
+    log_text h rs ≡ log_text g ss → (h ≡ g) × (rs ≡ ss)
+
+-- the records can stand, one after another, each on a line that isn't too long, and the last is `end`
+abbrev pub Stands : Stage → List Record → Type 0
+Stands s [] = s.ended ≡ true
+Stands s (r ∷ rs) =
+    (s.ended ≡ false) × (s.lines < MOST_RECORDS) × (can_stand s r ≡ true) × (length (record_text r) ≤ MOST_LINE_BYTES) × Stands (after s r) rs
+
+-- the text of a header and a complete list says that header and that list
+abbrev pub LogsAreRead : Type 0
+LogsAreRead =
+    (h : PlainHeader) (rs : List Record) → IsHeader h → AreRecords rs → Stands (first_stage h.options.injectors) rs →
+    (header_at (log_text h rs) ≡ Ok (h, records_text rs)) × Says (first_stage h.options.injectors) (records_text rs) rs None
+
+-- bytes that say a header and a complete list are the text of these
+abbrev pub ReadLogsAreTexts : Type 0
+ReadLogsAreTexts =
+    (bytes rest : List ℕ) (h : PlainHeader) (rs : List Record) → header_at bytes ≡ Ok (h, rest) →
+    Says (first_stage h.options.injectors) rest rs None → bytes ≡ log_text h rs

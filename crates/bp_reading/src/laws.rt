@@ -1,0 +1,18 @@
+//! The laws of logs, each as the contract of a function that does nothing.
+ghost use Rattle.bp_reading.specs.Laws.{OneReading, LogsAreRead, ReadLogsAreTexts};
+
+/// No two pairs of a header and a list of records have one text.
+pub fn one_reading()
+    ensures { OneReading }
+{}
+
+/// The text of a header and a complete list of records, none of which breaks a rule of lines, is read
+/// as that header and that list.
+pub fn logs_are_read()
+    ensures { LogsAreRead }
+{}
+
+/// Bytes that are read as a header and a complete list of records are the text of these.
+pub fn read_logs_are_texts()
+    ensures { ReadLogsAreTexts }
+{}

@@ -1,0 +1,7 @@
+//! What the bytes of a log say: the definition, and the laws that hold of it.
+#![tactic(auto)]
+
+mod laws;
+pub mod limits;
+
+pub use laws::{logs_are_read, one_reading, read_logs_are_texts};
