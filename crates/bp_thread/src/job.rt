@@ -26,7 +26,6 @@ use std::mem;
 /// A body that is carried on slice by slice, with the events that it was given and what it did.
 ///
 /// A job is a plain value: it moves between threads, and no call of it needs anything but its ground.
-#[derive(Drop)]
 pub struct Job {
     alloc: Global,
     number: u32,
@@ -40,6 +39,22 @@ pub struct Job {
     outcome: Option<Outcome>,
     /// Where the outcome is there, so is the machine; and where it is a stop, the machine asks.
     ghost kept: { fits_outcome machine outcome ≡ true },
+}
+
+impl Drop for Job {
+    fn drop(self) {
+        let Job {
+            alloc: _,
+            number: _,
+            name: _,
+            origin: _,
+            replies: _,
+            machine: _,
+            effects: _,
+            handler: _,
+            outcome: _,
+        } = self;
+    }
 }
 
 impl Job {
@@ -178,7 +193,17 @@ impl Job {
         ensures { (base : js.Ground) → (budget : ℕ) → StandsFor base budget self → (plain_job self).origin ≡ the_top →
             result ≡ constants_left (evaluation base budget the_top (plain_job self).replies) }
     {
-        let machine = self.machine;
+        let Job {
+            alloc: _,
+            number: _,
+            name: _,
+            origin: _,
+            replies: _,
+            machine,
+            effects: _,
+            handler: _,
+            outcome: _,
+        } = self;
         match machine {
             Some(machine) => machine.constants(),
             None => unreachable!(),
@@ -208,6 +233,33 @@ impl Job {
         Ok(())
     }
 
+    // Carries the body on by at most so many nodes. After want of memory the machine may stand anywhere.
+    fn step(&mut self, ground: &Ground, nodes: u64) -> Result<bool, Memory>
+        requires program { IsOf (plain_ground ground.now).program self.old }
+        requires open { (plain_job self.old).outcome ≡ None }
+        ensures same { IsSame (plain_job self.old) (plain_job self.new) }
+        ensures program { OnOk result (IsOf (plain_ground ground.now).program self.new) }
+        ensures done { IfOk result (λ done. IsTrue done ↔ IsSome (plain_job self.new).outcome) }
+        ensures stands { (budget begun : ℕ) → (made : List js.Effect) →
+            StandsAt (plain_ground ground.now) budget begun made self.old →
+            IfOk result (λ done. Sliced (plain_ground ground.now) budget begun made nodes done
+            self.old self.new) }
+        ensures open { OnErr result ((plain_job self.new).outcome ≡ None) }
+        ensures stays_lost { IsLost self.old → IsErr result }
+    {
+        let Some(machine) = &mut self.machine else {
+            return Err(AllocError);
+        };
+        let pause = machine.run(ground, nodes)?;
+        let fresh = machine.take_effects();
+        set_handler(&mut self.handler, fresh.items.as_slice())?;
+        append(&mut self.effects, fresh)?;
+        let outcome = outcome_at(self.alloc, machine, pause)?;
+        let done = outcome.is_some();
+        self.outcome = outcome;
+        Ok(done)
+    }
+
     /// Carries the body on by at most so many nodes: true where the outcome is there now, and false where so
     /// many nodes began, another must begin and budget is left. After want of memory it answers nothing else.
     pub fn slice(&mut self, ground: &Ground, nodes: u64) -> Result<bool, Memory>
@@ -216,23 +268,19 @@ impl Job {
         ensures program { IsOf (plain_ground ground.now).program self.new }
         ensures same { IsSame (plain_job self.old) (plain_job self.new) }
         ensures done { IfOk result (λ done. IsTrue done ↔ IsSome (plain_job self.new).outcome) }
-        ensures stands { (budget begun : ℕ) → (made : List js.Effect) → StandsAt (plain_ground ground.now) budget begun made self.old →
-            IfOk result (λ done. Sliced (plain_ground ground.now) budget begun made nodes done self.old self.new) }
-        ensures carries { (budget : ℕ) → OnOk result (Carries (plain_ground ground.now) budget self.old self.new) }
+        ensures stands { (budget begun : ℕ) → (made : List js.Effect) →
+            StandsAt (plain_ground ground.now) budget begun made self.old →
+            IfOk result (λ done. Sliced (plain_ground ground.now) budget begun made nodes done
+            self.old self.new) }
+        ensures carries { (budget : ℕ) →
+            OnOk result (Carries (plain_ground ground.now) budget self.old self.new) }
         ensures lost { OnErr result (IsLost self.new) }
         ensures stays_lost { IsLost self.old → IsErr result }
     {
-        let Some(mut machine) = self.machine.take() else {
+        let Ok(done) = self.step(ground, nodes) else {
+            self.machine = None;
             return Err(AllocError);
         };
-        let pause = machine.run(ground, nodes)?;
-        let fresh = machine.take_effects();
-        set_handler(&mut self.handler, fresh.items.as_slice())?;
-        append(&mut self.effects, fresh)?;
-        let outcome = outcome_at(self.alloc, &machine, pause)?;
-        let done = outcome.is_some();
-        self.machine = Some(machine);
-        self.outcome = outcome;
         Ok(done)
     }
 
