@@ -11,12 +11,13 @@ use js_frames::Ground;
 use js_value::{EventSet, SetTree};
 use std::alloc::Global;
 
-/// Whether the set has the event. Each predicate of it that is asked may begin as many nodes as the budget says.
+/// Whether the set has the event. Each predicate of it that is asked may begin as many nodes as the
+/// budget says.
 ///
 /// # Errors
 ///
-/// `Broken`, `Spent` and `NotTruth` exactly where a predicate that is asked is at fault, spends its budget or
-/// answers no truth value before the answer is there; and `Memory`.
+/// `Broken`, `Spent` and `NotTruth` exactly where a predicate that is asked is at fault, spends its
+/// budget or answers no truth value before the answer is there; and `Memory`.
 #[cycle(contains)]
 pub fn contains(
     alloc: Global,
@@ -65,7 +66,8 @@ fn any_contains(
     event: &Event,
     budget: u64,
 ) -> Result<bool, SetFault>
-    ensures { TellsAs (member_of_any (plain_ground ground.now) budget (set_list_of sets.now) event.now) result }
+    ensures { TellsAs
+        (member_of_any (plain_ground ground.now) budget (set_list_of sets.now) event.now) result }
 {
     for set in sets {
         if contains(alloc, ground, set, event, budget)? {
