@@ -1,11 +1,9 @@
 //! The answers of predicates.
-ghost use Rattle.std.specs.Prelude.{◌≡◌, []};
+ghost use Rattle.std.specs.Prelude.{◌≡◌};
 ghost use Rattle.js_value.specs.Views.{plain_value};
 ghost use Rattle.js_meaning.specs.State.{State, normal, went};
 ghost use Rattle.js_meaning.specs.Calls.{body_of};
-ghost use Rattle.js_meaning.specs.Bodies.{Origin, evaluation};
 ghost use Rattle.js_frames.specs.Places.{plain_ground};
-ghost use Rattle.js_frames.specs.Runs.{IsOfProgram, Stands};
 ghost use Rattle.bp_meaning.specs.Membership.{truth_answered, asks_predicate};
 ghost use Rattle.bp_sets.specs.Answers.{TellsAs};
 
@@ -37,25 +35,6 @@ fn truth_in(answer: &Value, line: u32) -> Result<bool, SetFault>
     }
 }
 
-// What the machine of a predicate answers, whose function begins on this line.
-fn answer_of(
-    machine: &mut Machine,
-    ground: &Ground,
-    line: u32,
-    budget: u64,
-) -> Result<bool, SetFault>
-    requires { IsOfProgram (plain_ground ground.now).program machine.old }
-    ensures { (o : Origin) → Stands (plain_ground ground.now) budget o [] 0 [] machine.old →
-        TellsAs (truth_answered line (evaluation (plain_ground ground.now) budget o [])) result }
-{
-    match machine.run(ground, budget)? {
-        Pause::Ended => truth_in(machine.answer(), line),
-        Pause::Broken(fault, at) => Err(SetFault::Broken(fault, at)),
-        Pause::Spent => Err(SetFault::Spent),
-        Pause::More | Pause::AtSync | Pause::Violated(_) => Err(SetFault::NotTruth(line)),
-    }
-}
-
 /// What a predicate answers of an event: it is called with the event, and with the whole budget.
 pub fn ask(
     alloc: Global,
@@ -75,5 +54,10 @@ pub fn ask(
     };
     let args = [event_value(alloc, event.copy()?)?];
     let mut machine = Machine::start(alloc, ground, &callee, &args, Mode::Predicate, budget)?;
-    answer_of(&mut machine, ground, line, budget)
+    match machine.run(ground, budget)? {
+        Pause::Ended => truth_in(machine.answer(), line),
+        Pause::Broken(fault, at) => Err(SetFault::Broken(fault, at)),
+        Pause::Spent => Err(SetFault::Spent),
+        Pause::More | Pause::AtSync | Pause::Violated(_) => Err(SetFault::NotTruth(line)),
+    }
 }
