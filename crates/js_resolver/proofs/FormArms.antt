@@ -63,8 +63,8 @@ pub list_arm : (ps : List Place) (a b : Emitter) (f : Form) (v : Vec Expr Global
 unfolding form_parts
 list_arm ps a b f v xs w h d k = forms_expr ps a b (N.List w) w.items (p.list (exprs_of (map plain_expr xs))) (plain_form f) (ap (λ z. p.list (exprs_of (map plain_expr z))) d ∙ sym (ap plain_form h ∙ list_is v)) k refl
 
-pub fields_arm : (ps : List Place) (a b : Emitter) (f : Form) (v : Vec Field Global) (xs ys : List Field) (w : Vec ℕ Global) (ks : Vec (List ℕ) Global) → f ≡ Fields v → xs ≡ v.items → ys ≡ v.items
-    → Emits a b w.items (fields_piece ps (count a) (fields_of (map plain_field xs))) → ks.items ≡ keys_of (fields_of (map plain_field ys))
+pub fields_arm : (ps : List Place) (a b : Emitter) (f : Form) (v : Vec Field Global) (xs ys : List Field) (w : Vec ℕ Global) (ks : Vec (Arc (List ℕ) Global) Global) → f ≡ Fields v → xs ≡ v.items → ys ≡ v.items
+    → Emits a b w.items (fields_piece ps (count a) (fields_of (map plain_field xs))) → map arc_value ks.items ≡ keys_of (fields_of (map plain_field ys))
     → FormsExpr ps a b (N.Fields ks w) (plain_form f)
 unfolding form_parts
 fields_arm ps a b f v xs ys w ks h d e k q = forms_expr ps a b (N.Fields ks w) w.items (p.fields (fields_of (map plain_field xs))) (plain_form f) (ap (λ z. p.fields (fields_of (map plain_field z))) d ∙ sym (ap plain_form h ∙ fields_is v)) k

@@ -22,7 +22,8 @@ fn note_start(
     constant: u32,
     start: ConstantStart,
 ) -> Result<(), AllocError>
-    ensures { OnOk result (NotesStart starts.old starts.new (λ q. if nat_eq constant q then Some (plain_constant start) else None)) }
+    ensures { OnOk result (NotesStart starts.old starts.new
+        (λ q. if nat_eq constant q then Some (plain_constant start) else None)) }
 {
     if !starts.contains_key(&constant) {
         starts.insert(constant, start)?;
@@ -42,7 +43,8 @@ fn before(role: Role) -> ConstantStart
 
 // Notes what a place says of the variable that it names.
 fn note_place(starts: &mut IndexMap<u32, ConstantStart>, place: &Seen) -> Result<(), AllocError>
-    ensures { OnOk result (NotesStart starts.old starts.new (λ q. constant_there q (place_of place.now).declared)) }
+    ensures { OnOk result (NotesStart starts.old starts.new
+        (λ q. constant_there q (place_of place.now).declared)) }
 {
     match place.declared {
         Some(declared) => note_start(starts, declared.place, before(declared.role)),
@@ -52,7 +54,8 @@ fn note_place(starts: &mut IndexMap<u32, ConstantStart>, place: &Seen) -> Result
 
 // Notes what all places say.
 fn note_places(starts: &mut IndexMap<u32, ConstantStart>, places: &[Seen]) -> Result<(), AllocError>
-    ensures { OnOk result (NotesStart starts.old starts.new (λ q. first_of (map (λ p. constant_there q (place_of p).declared) places.now))) }
+    ensures { OnOk result (NotesStart starts.old starts.new
+        (λ q. first_of (map (λ p. constant_there q (place_of p).declared) places.now))) }
 {
     for place in places {
         note_place(starts, place)?;
@@ -66,7 +69,8 @@ fn note_item(
     starts: &mut IndexMap<u32, ConstantStart>,
     item: &Item,
 ) -> Result<(), AllocError>
-    ensures { OnOk result (NotesStart starts.old starts.new (λ q. function_named tables.now q (plain_item item.now))) }
+    ensures { OnOk result (NotesStart starts.old starts.new
+        (λ q. function_named tables.now q (plain_item item.now))) }
 {
     match item {
         Item::Statement(_) => Ok(()),
@@ -83,7 +87,8 @@ fn note_items(
     starts: &mut IndexMap<u32, ConstantStart>,
     items: &[Item],
 ) -> Result<(), AllocError>
-    ensures { OnOk result (NotesStart starts.old starts.new (λ q. first_of (map (λ i. function_named tables.now q (plain_item i)) items.now))) }
+    ensures { OnOk result (NotesStart starts.old starts.new
+        (λ q. first_of (map (λ i. function_named tables.now q (plain_item i)) items.now))) }
 {
     for item in items {
         note_item(tables, starts, item)?;
@@ -107,7 +112,8 @@ fn starts_of(
     starts: &IndexMap<u32, ConstantStart>,
     constants: &[u32],
 ) -> Result<Vec<ConstantStart>, AllocError>
-    ensures { IfOk result (λ v. map plain_constant v.items ≡ map (λ q. unwrap_or (start_in starts.now q) undeclared) constants.now) }
+    ensures { IfOk result (λ v. map plain_constant v.items
+        ≡ map (λ q. unwrap_or (start_in starts.now q) undeclared) constants.now) }
 {
     let mut found = Vec::new(alloc);
     for constant in constants {
@@ -122,7 +128,9 @@ pub fn constant_starts(
     tables: &NameTables,
     items: &[Item],
 ) -> Result<Vec<ConstantStart>, AllocError>
-    ensures { IfOk result (λ v. map plain_constant v.items ≡ map (constant_of (map plain_item items.now) tables.now) (constants_of (assigned_in tables.now) tables.now)) }
+    ensures { IfOk result (λ v. map plain_constant v.items
+        ≡ map (constant_of (map plain_item items.now) tables.now)
+        (constants_of (assigned_in tables.now) tables.now)) }
 {
     let mut starts = IndexMap::new(alloc);
     note_items(tables, &mut starts, items)?;

@@ -35,7 +35,7 @@ fn read_form(tables: &NameTables, name: &Name) -> NodeForm
     }
 }
 
-// The text of a literal, to be shared with its values.
+// The text of a literal or of a key, to be shared with values.
 fn shared_text(alloc: Global, text: &Text) -> Result<Arc<Text>, AllocError>
     ensures { IfOk result (λ s. arc_value s ≡ text.now) }
 {
@@ -46,7 +46,8 @@ fn shared_text(alloc: Global, text: &Text) -> Result<Arc<Text>, AllocError>
 // An expression, and its number.
 #[cycle(emit)]
 fn emit_expr(tables: &NameTables, emitter: &mut Emitter, e: &Expr) -> Result<u32, AllocError>
-    ensures { IfOk result (λ x. Emits emitter.old emitter.new (x ∷ []) (expr_piece tables.now (count emitter.old) (plain_expr e.now))) }
+    ensures { IfOk result (λ x. Emits emitter.old emitter.new (x ∷ [])
+        (expr_piece tables.now (count emitter.old) (plain_expr e.now))) }
 {
     let form = emit_form(tables, emitter, &e.form)?;
     put_node(emitter, e.line, form)
@@ -59,7 +60,8 @@ fn emit_form(
     emitter: &mut Emitter,
     form: &Form,
 ) -> Result<NodeForm, AllocError>
-    ensures { IfOk result (λ x. FormsExpr tables.now emitter.old emitter.new x (plain_form form.now)) }
+    ensures { IfOk result (λ x. FormsExpr tables.now emitter.old emitter.new x
+        (plain_form form.now)) }
 {
     match form {
         Form::Number(number) => Ok(NodeForm::Number(*number)),
@@ -127,7 +129,8 @@ fn emit_member(
     object: &Expr,
     word: &Text,
 ) -> Result<NodeForm, AllocError>
-    ensures { IfOk result (λ x. FormsExpr tables.now emitter.old emitter.new x (t.member (plain_expr object.now) word.now)) }
+    ensures { IfOk result (λ x. FormsExpr tables.now emitter.old emitter.new x
+        (t.member (plain_expr object.now) word.now)) }
 {
     match value_builtin(object, word.as_str()) {
         Some(builtin) => Ok(NodeForm::Builtin(builtin, Vec::new(emitter.alloc))),
@@ -153,7 +156,8 @@ fn emit_callee(
     emitter: &mut Emitter,
     callee: &Expr,
 ) -> Result<Called, AllocError>
-    ensures { IfOk result (λ x. EmitsCallee tables.now emitter.old emitter.new x (plain_expr callee.now)) }
+    ensures { IfOk result (λ x. EmitsCallee tables.now emitter.old emitter.new x
+        (plain_expr callee.now)) }
 {
     match called_builtin(callee) {
         Some(builtin) => Ok(Called::Builtin(builtin)),
@@ -168,7 +172,8 @@ fn emit_called(
     emitter: &mut Emitter,
     callee: &Expr,
 ) -> Result<Called, AllocError>
-    ensures { IfOk result (λ x. EmitsCalled tables.now emitter.old emitter.new x (plain_expr callee.now)) }
+    ensures { IfOk result (λ x. EmitsCalled tables.now emitter.old emitter.new x
+        (plain_expr callee.now)) }
 {
     match &callee.form {
         Form::Member(object, word) if value_builtin(object, word.as_str()).is_none() => {
@@ -190,7 +195,8 @@ fn emit_arguments(
     called: Called,
     arguments: &[Expr],
 ) -> Result<NodeForm, AllocError>
-    ensures { IfOk result (λ x. FormsCall tables.now emitter.old emitter.new x called (exprs_of (map plain_expr arguments.now))) }
+    ensures { IfOk result (λ x. FormsCall tables.now emitter.old emitter.new x called
+        (exprs_of (map plain_expr arguments.now))) }
 {
     match called {
         Called::Builtin(builtin) => emit_builtin(tables, emitter, builtin, arguments),
@@ -213,7 +219,8 @@ fn emit_builtin(
     builtin: Builtin,
     arguments: &[Expr],
 ) -> Result<NodeForm, AllocError>
-    ensures { IfOk result (λ x. FormsBuiltin tables.now emitter.old emitter.new x builtin (exprs_of (map plain_expr arguments.now))) }
+    ensures { IfOk result (λ x. FormsBuiltin tables.now emitter.old emitter.new x builtin
+        (exprs_of (map plain_expr arguments.now))) }
 {
     match builtin {
         Builtin::Floor => emit_floor(tables, emitter, arguments),
@@ -238,7 +245,8 @@ fn emit_floor(
     emitter: &mut Emitter,
     arguments: &[Expr],
 ) -> Result<NodeForm, AllocError>
-    ensures { IfOk result (λ x. FormsBuiltin tables.now emitter.old emitter.new x Floor (exprs_of (map plain_expr arguments.now))) }
+    ensures { IfOk result (λ x. FormsBuiltin tables.now emitter.old emitter.new x Floor
+        (exprs_of (map plain_expr arguments.now))) }
 {
     match arguments {
         [] => Ok(NodeForm::Builtin(Builtin::Floor, Vec::new(emitter.alloc))),
@@ -266,7 +274,8 @@ fn emit_arrow(
     names: &[Name],
     value: &Expr,
 ) -> Result<NodeForm, AllocError>
-    ensures { IfOk result (λ x. FormsExpr tables.now emitter.old emitter.new x (t.arrow_value spot names.now (plain_expr value.now))) }
+    ensures { IfOk result (λ x. FormsExpr tables.now emitter.old emitter.new x
+        (t.arrow_value spot names.now (plain_expr value.now))) }
 {
     let place = emitter.functions.len();
     let number = emit_expr(tables, emitter, value)?;
@@ -291,7 +300,8 @@ fn emit_function(
     names: &[Name],
     body: &[Stmt],
 ) -> Result<NodeForm, AllocError>
-    ensures { IfOk result (λ x. FormsExpr tables.now emitter.old emitter.new x (t.function spot names.now (stmts_of (map plain_stmt body.now)))) }
+    ensures { IfOk result (λ x. FormsExpr tables.now emitter.old emitter.new x
+        (t.function spot names.now (stmts_of (map plain_stmt body.now)))) }
 {
     emit_body(tables, emitter, spot, names, body)?;
     let code = tables.code(spot.at)?;
@@ -307,7 +317,9 @@ fn emit_body(
     names: &[Name],
     body: &[Stmt],
 ) -> Result<(), AllocError>
-    ensures { OnOk result (Adds emitter.old emitter.new (function_piece tables.now spot names.now n.statements (stmts_piece tables.now (count emitter.old) (stmts_of (map plain_stmt body.now))))) }
+    ensures { OnOk result (Adds emitter.old emitter.new (function_piece tables.now spot names.now
+        n.statements (stmts_piece tables.now (count emitter.old)
+        (stmts_of (map plain_stmt body.now))))) }
 {
     let place = emitter.functions.len();
     let numbers = emit_stmts(tables, emitter, body)?;
@@ -328,7 +340,8 @@ fn emit_exprs(
     emitter: &mut Emitter,
     es: &[Expr],
 ) -> Result<Vec<u32>, AllocError>
-    ensures { IfOk result (λ v. Emits emitter.old emitter.new v.items (exprs_piece tables.now (count emitter.old) (exprs_of (map plain_expr es.now)))) }
+    ensures { IfOk result (λ v. Emits emitter.old emitter.new v.items
+        (exprs_piece tables.now (count emitter.old) (exprs_of (map plain_expr es.now)))) }
 {
     let mut numbers = Vec::new(emitter.alloc);
     for e in es {
@@ -345,7 +358,8 @@ fn emit_fields(
     emitter: &mut Emitter,
     fields: &[Field],
 ) -> Result<Vec<u32>, AllocError>
-    ensures { IfOk result (λ v. Emits emitter.old emitter.new v.items (fields_piece tables.now (count emitter.old) (fields_of (map plain_field fields.now)))) }
+    ensures { IfOk result (λ v. Emits emitter.old emitter.new v.items
+        (fields_piece tables.now (count emitter.old) (fields_of (map plain_field fields.now)))) }
 {
     let mut numbers = Vec::new(emitter.alloc);
     for field in fields {
@@ -355,13 +369,15 @@ fn emit_fields(
     Ok(numbers)
 }
 
-// The keys of fields.
-fn keys_of(alloc: Global, fields: &[Field]) -> Result<Vec<Text>, AllocError>
-    ensures { IfOk result (λ v. v.items ≡ keys_of (fields_of (map plain_field fields.now))) }
+// The keys of fields, to be shared with values.
+fn keys_of(alloc: Global, fields: &[Field]) -> Result<Vec<Arc<Text>>, AllocError>
+    ensures { IfOk result (λ v. map arc_value v.items
+        ≡ keys_of (fields_of (map plain_field fields.now))) }
 {
     let mut keys = Vec::new(alloc);
     for field in fields {
-        keys.push(field.key.copy()?)?;
+        let key = shared_text(alloc, &field.key)?;
+        keys.push(key)?;
     }
     Ok(keys)
 }
@@ -373,7 +389,9 @@ fn emit_perhaps(
     emitter: &mut Emitter,
     e: &Option<Expr>,
 ) -> Result<Option<u32>, AllocError>
-    ensures { IfOk result (λ x. EmitsPerhaps emitter.old emitter.new x (is_present (tree_perhaps e.now)) (perhaps_piece tables.now (count emitter.old) (tree_perhaps e.now))) }
+    ensures { IfOk result (λ x. EmitsPerhaps emitter.old emitter.new x
+        (is_present (tree_perhaps e.now))
+        (perhaps_piece tables.now (count emitter.old) (tree_perhaps e.now))) }
 {
     match e {
         Some(e) => {
@@ -391,7 +409,8 @@ fn emit_declarators(
     emitter: &mut Emitter,
     declarators: &[Declarator],
 ) -> Result<Vec<Declared>, AllocError>
-    ensures { IfOk result (λ v. EmitsDeclarators tables.now emitter.old emitter.new v.items declarators.now) }
+    ensures { IfOk result (λ v. EmitsDeclarators tables.now emitter.old emitter.new v.items
+        declarators.now) }
 {
     let mut declared = Vec::new(emitter.alloc);
     for declarator in declarators {
@@ -409,7 +428,9 @@ fn emit_start(
     emitter: &mut Emitter,
     start: &Start,
 ) -> Result<Option<u32>, AllocError>
-    ensures { IfOk result (λ x. EmitsPerhaps emitter.old emitter.new x (has_start (plain_start start.now)) (start_piece tables.now (count emitter.old) (plain_start start.now))) }
+    ensures { IfOk result (λ x. EmitsPerhaps emitter.old emitter.new x
+        (has_start (plain_start start.now))
+        (start_piece tables.now (count emitter.old) (plain_start start.now))) }
 {
     match start {
         Start::Nothing => Ok(None),
@@ -428,7 +449,8 @@ fn emit_start(
 // A statement, and its number.
 #[cycle(emit)]
 fn emit_stmt(tables: &NameTables, emitter: &mut Emitter, stmt: &Stmt) -> Result<u32, AllocError>
-    ensures { IfOk result (λ x. Emits emitter.old emitter.new (x ∷ []) (stmt_piece tables.now (count emitter.old) (plain_stmt stmt.now))) }
+    ensures { IfOk result (λ x. Emits emitter.old emitter.new (x ∷ [])
+        (stmt_piece tables.now (count emitter.old) (plain_stmt stmt.now))) }
 {
     let form = emit_stmt_form(tables, emitter, &stmt.form)?;
     put_node(emitter, stmt.line, form)
@@ -441,7 +463,8 @@ fn emit_stmt_form(
     emitter: &mut Emitter,
     form: &StmtForm,
 ) -> Result<NodeForm, AllocError>
-    ensures { IfOk result (λ x. FormsStmt tables.now emitter.old emitter.new x (plain_stmt_form form.now)) }
+    ensures { IfOk result (λ x. FormsStmt tables.now emitter.old emitter.new x
+        (plain_stmt_form form.now)) }
 {
     match form {
         StmtForm::Empty => Ok(NodeForm::Empty),
@@ -505,7 +528,8 @@ fn emit_stmts(
     emitter: &mut Emitter,
     body: &[Stmt],
 ) -> Result<Vec<u32>, AllocError>
-    ensures { IfOk result (λ v. Emits emitter.old emitter.new v.items (stmts_piece tables.now (count emitter.old) (stmts_of (map plain_stmt body.now)))) }
+    ensures { IfOk result (λ v. Emits emitter.old emitter.new v.items
+        (stmts_piece tables.now (count emitter.old) (stmts_of (map plain_stmt body.now)))) }
 {
     let mut numbers = Vec::new(emitter.alloc);
     for stmt in body {
@@ -526,7 +550,8 @@ fn put_body(
     content: Content,
 ) -> Result<(), AllocError>
     requires { place ≤ length emitter.old.functions.items }
-    ensures { OnOk result (PutsBody emitter.old emitter.new place (body_of tables.now spot.at (length names.now) (plain_content content) spot.line)) }
+    ensures { OnOk result (PutsBody emitter.old emitter.new place
+        (body_of tables.now spot.at (length names.now) (plain_content content) spot.line)) }
 {
     let body = tables.body(emitter.alloc, spot.at, names.len(), content, spot.line)?;
     put_function(emitter, place, body)
@@ -539,7 +564,8 @@ fn emit_item(
     numbers: &mut Vec<u32>,
     item: &Item,
 ) -> Result<(), AllocError>
-    ensures { OnOk result (EmitsMore emitter.old emitter.new numbers.old.items numbers.new.items (item_piece tables.now (count emitter.old) (plain_item item.now))) }
+    ensures { OnOk result (EmitsMore emitter.old emitter.new numbers.old.items numbers.new.items
+        (item_piece tables.now (count emitter.old) (plain_item item.now))) }
 {
     match item {
         Item::Statement(stmt) => {
@@ -557,7 +583,8 @@ pub fn emit_items(
     emitter: &mut Emitter,
     items: &[Item],
 ) -> Result<Vec<u32>, AllocError>
-    ensures { IfOk result (λ v. Emits emitter.old emitter.new v.items (items_piece tables.now (count emitter.old) (map plain_item items.now))) }
+    ensures { IfOk result (λ v. Emits emitter.old emitter.new v.items
+        (items_piece tables.now (count emitter.old) (map plain_item items.now))) }
 {
     let mut numbers = Vec::new(emitter.alloc);
     for item in items {

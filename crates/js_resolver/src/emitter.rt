@@ -31,7 +31,8 @@ pub fn put_node(emitter: &mut Emitter, line: u32, form: NodeForm) -> Result<u32,
 pub fn put_function(emitter: &mut Emitter, place: usize, body: Body) -> Result<(), AllocError>
     requires { place ≤ length emitter.old.functions.items }
     ensures nodes { OnOk result (emitter.new.nodes.items ≡ emitter.old.nodes.items) }
-    ensures functions { OnOk result (emitter.new.functions.items ≡ insert emitter.old.functions.items place body) }
+    ensures functions { OnOk result (emitter.new.functions.items
+        ≡ insert emitter.old.functions.items place body) }
 {
     emitter.functions.insert(place, body)?;
     Ok(())

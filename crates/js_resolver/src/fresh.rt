@@ -17,7 +17,8 @@ fn push_declarator(
     kind: DeclareKind,
     declarator: &Declarator,
 ) -> Result<(), AllocError>
-    ensures { OnOk result (slots.new.items ≡ slots.old.items ++ fresh tables.now (own_of_declarator 0 false kind declarator.now)) }
+    ensures { OnOk result (slots.new.items ≡ slots.old.items
+        ++ fresh tables.now (own_of_declarator 0 false kind declarator.now)) }
 {
     match kind {
         DeclareKind::Const | DeclareKind::Let => {
@@ -35,7 +36,9 @@ fn push_declarators(
     kind: DeclareKind,
     declarators: &[Declarator],
 ) -> Result<(), AllocError>
-    ensures { OnOk result (slots.new.items ≡ slots.old.items ++ fresh tables.now (own_declarators 0 false kind (declarators_of (map plain_declarator declarators.now)))) }
+    ensures { OnOk result (slots.new.items ≡ slots.old.items
+        ++ fresh tables.now (own_declarators 0 false kind
+        (declarators_of (map plain_declarator declarators.now)))) }
 {
     for declarator in declarators {
         push_declarator(tables, slots, kind, declarator)?;
@@ -45,7 +48,8 @@ fn push_declarators(
 
 // The slots of what a statement declares for its block.
 fn push_stmt(tables: &NameTables, slots: &mut Vec<u32>, stmt: &Stmt) -> Result<(), AllocError>
-    ensures { OnOk result (slots.new.items ≡ slots.old.items ++ fresh tables.now (own_of 0 false (plain_stmt stmt.now))) }
+    ensures { OnOk result (slots.new.items ≡ slots.old.items
+        ++ fresh tables.now (own_of 0 false (plain_stmt stmt.now))) }
 {
     match &stmt.form {
         StmtForm::Declaration(kind, declarators) => {
@@ -61,7 +65,8 @@ pub fn block_slots(
     tables: &NameTables,
     body: &[Stmt],
 ) -> Result<Vec<u32>, AllocError>
-    ensures { IfOk result (λ v. v.items ≡ fresh tables.now (own_of_all 0 false (stmts_of (map plain_stmt body.now)))) }
+    ensures { IfOk result (λ v. v.items ≡ fresh tables.now
+        (own_of_all 0 false (stmts_of (map plain_stmt body.now)))) }
 {
     let mut slots = Vec::new(alloc);
     for stmt in body {
@@ -76,7 +81,8 @@ pub fn start_slots(
     tables: &NameTables,
     start: &Start,
 ) -> Result<Vec<u32>, AllocError>
-    ensures { IfOk result (λ v. v.items ≡ fresh tables.now (own_of_start 0 (plain_start start.now))) }
+    ensures { IfOk result (λ v. v.items ≡ fresh tables.now
+        (own_of_start 0 (plain_start start.now))) }
 {
     let mut slots = Vec::new(alloc);
     push_start(tables, &mut slots, start)?;
@@ -85,7 +91,8 @@ pub fn start_slots(
 
 // The slots of what the head of a `for` declares.
 fn push_start(tables: &NameTables, slots: &mut Vec<u32>, start: &Start) -> Result<(), AllocError>
-    ensures { OnOk result (slots.new.items ≡ slots.old.items ++ fresh tables.now (own_of_start 0 (plain_start start.now))) }
+    ensures { OnOk result (slots.new.items ≡ slots.old.items
+        ++ fresh tables.now (own_of_start 0 (plain_start start.now))) }
 {
     match start {
         Start::Declares(_, kind, declarators) => {

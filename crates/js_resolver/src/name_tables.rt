@@ -121,8 +121,11 @@ fn meanings_of(
     slots: &IndexMap<u32, IndexSet<u32>>,
     places: &[Seen],
 ) -> Result<Meanings, AllocError>
-    ensures constants { IfOk result (λ t. t.constants.keys ≡ constants_of assigned.now.keys (map place_of places.now)) }
-    ensures variables { IfOk result (λ t. (q : _) → get nat_eq t.variables q ≡ known_in name_key (named_there assigned.now.keys t.constants.keys (λ f. held_in slots.now f)) q (map place_of places.now)) }
+    ensures constants { IfOk result (λ t. t.constants.keys
+        ≡ constants_of assigned.now.keys (map place_of places.now)) }
+    ensures variables { IfOk result (λ t. (q : _) → get nat_eq t.variables q ≡ known_in name_key
+        (named_there assigned.now.keys t.constants.keys (λ f. held_in slots.now f)) q
+        (map place_of places.now)) }
 {
     let constants = constants_of(alloc, assigned, places)?;
     let variables = named_places(alloc, assigned, &constants, slots, places)?;
@@ -135,7 +138,8 @@ fn meanings_of(
 // The functions, and the function around each of them.
 fn functions_of(alloc: Global, places: &[Seen]) -> Result<Functions, AllocError>
     ensures codes { IfOk result (λ t. t.codes.keys ≡ functions_in (map place_of places.now)) }
-    ensures around { IfOk result (λ t. (q : _) → get nat_eq t.around q ≡ known_in owner_key around_there q (map place_of places.now)) }
+    ensures around { IfOk result (λ t. (q : _) → get nat_eq t.around q
+        ≡ known_in owner_key around_there q (map place_of places.now)) }
 {
     let codes = functions_in(alloc, places)?;
     let around = functions_around(alloc, places)?;
@@ -148,8 +152,10 @@ fn holdings_of(
     assigned: &IndexSet<u32>,
     places: &[Seen],
 ) -> Result<Holdings, AllocError>
-    ensures captured { IfOk result (λ t. (f : _) → held_in t.captured f ≡ captures assigned.now.keys f (map place_of places.now)) }
-    ensures vars { IfOk result (λ t. (f : _) → held_in t.vars f ≡ vars_of assigned.now.keys f (map place_of places.now)) }
+    ensures captured { IfOk result (λ t. (f : _) → held_in t.captured f
+        ≡ captures assigned.now.keys f (map place_of places.now)) }
+    ensures vars { IfOk result (λ t. (f : _) → held_in t.vars f
+        ≡ vars_of assigned.now.keys f (map place_of places.now)) }
 {
     let captured = captured(alloc, assigned, places)?;
     let vars = vars(alloc, assigned, places)?;
@@ -160,7 +166,9 @@ impl NameTables {
     /// The tables of the places that the check of names answers.
     pub fn new(alloc: Global, names: Names) -> Result<NameTables, AllocError>
         requires assigned { names.assigned.keys ≡ assigned_in (map place_of names.places.items) }
-        requires slots { (f : _) → held_in names.slots f ≡ slots_of (assigned_in (map place_of names.places.items)) f (map place_of names.places.items) }
+        requires slots { (f : _) → held_in names.slots f
+            ≡ slots_of (assigned_in (map place_of names.places.items)) f
+            (map place_of names.places.items) }
         ensures { IfOk result (λ t. t ≡ map place_of names.places.items) }
     {
         let meanings = meanings_of(alloc, &names.assigned, &names.slots, &names.places)?;
@@ -272,7 +280,8 @@ impl NameTables {
     // What a call of a function has room for.
     fn room(&self, alloc: Global, function: u32, parameters: usize) -> Result<Room, AllocError>
         ensures parameters { IfOk result (λ r. r.parameters ≡ parameters) }
-        ensures slots { IfOk result (λ r. r.slots ≡ length (slots_of (assigned_in self.now) function self.now)) }
+        ensures slots { IfOk result (λ r. r.slots
+            ≡ length (slots_of (assigned_in self.now) function self.now)) }
         ensures captures { IfOk result (λ r. r.captures.items ≡ capture_slots self.now function) }
         ensures vars { IfOk result (λ r. r.vars.items ≡ var_slots self.now function) }
     {
@@ -297,7 +306,8 @@ impl NameTables {
         content: Content,
         line: u32,
     ) -> Result<Body, AllocError>
-        ensures { IfOk result (λ b. plain_body b ≡ body_of self.now function parameters (plain_content content) line) }
+        ensures { IfOk result (λ b. plain_body b
+            ≡ body_of self.now function parameters (plain_content content) line) }
     {
         let room = self.room(alloc, function, parameters)?;
         Ok(Body {

@@ -36,8 +36,11 @@ struct Parts {
 
 // The nodes and functions of these items, and what the top level runs.
 fn emit_top(tables: &NameTables, emitter: &mut Emitter, items: &[Item]) -> Result<Body, AllocError>
-    ensures emitted { OnOk result (Adds emitter.old emitter.new (items_piece tables.now (count emitter.old) (map plain_item items.now))) }
-    ensures body { IfOk result (λ b. plain_body b ≡ body_of tables.now top 0 (statements (items_piece tables.now (count emitter.old) (map plain_item items.now)).parts) (first_line tables.now)) }
+    ensures emitted { OnOk result (Adds emitter.old emitter.new
+        (items_piece tables.now (count emitter.old) (map plain_item items.now))) }
+    ensures body { IfOk result (λ b. plain_body b ≡ body_of tables.now top 0
+        (statements (items_piece tables.now (count emitter.old) (map plain_item items.now)).parts)
+        (first_line tables.now)) }
 {
     let numbers = emit_items(tables, emitter, items)?;
     let alloc = emitter.alloc;
@@ -80,9 +83,13 @@ fn program_of(parts: Parts) -> Program
 // The program of these items, from what the check of names answers of their places.
 fn program_of_names(alloc: Global, names: Names, items: &[Item]) -> Result<Program, AllocError>
     requires assigned { names.assigned.keys ≡ assigned_in (map place_of names.places.items) }
-    requires slots { (f : _) → held_in names.slots f ≡ slots_of (assigned_in (map place_of names.places.items)) f (map place_of names.places.items) }
-    requires sound { IsSound (parts_from (map plain_item items.now) (map place_of names.places.items)) }
-    ensures { IfOk result (λ p. p ≡ parts_from (map plain_item items.now) (map place_of names.places.items)) }
+    requires slots { (f : _) → held_in names.slots f
+        ≡ slots_of (assigned_in (map place_of names.places.items)) f
+        (map place_of names.places.items) }
+    requires sound { IsSound (parts_from (map plain_item items.now)
+        (map place_of names.places.items)) }
+    ensures { IfOk result (λ p. p ≡ parts_from (map plain_item items.now)
+        (map place_of names.places.items)) }
 {
     let tables = NameTables::new(alloc, names)?;
     let parts = parts_of(alloc, &tables, items)?;
@@ -98,7 +105,8 @@ fn program_of_names(alloc: Global, names: Names, items: &[Item]) -> Result<Progr
 pub fn resolve(alloc: Global, tree: &Tree) -> Result<Program, NameFault>
     requires spelled { IsSpelled (plain_tree tree.now) }
     ensures resolved { IfOk result (λ p. resolved (plain_tree tree.now) ≡ Some p) }
-    ensures refused { IfErr result (λ f. f ≢ NameFault.Memory → name_fault (plain_tree tree.now) ≡ Some f) }
+    ensures refused { IfErr result (λ f. f ≢ NameFault.Memory → name_fault (plain_tree tree.now)
+        ≡ Some f) }
 {
     let names = check_names(alloc, tree)?;
     let program = program_of_names(alloc, names, &tree.items)?;

@@ -45,7 +45,8 @@ fn variable_with(
     function: u32,
     declared: Declared,
 ) -> Result<Variable, AllocError>
-    ensures { IfOk result (λ v. v ≡ variable_with assigned.now.keys constants.now.keys (held_in held.now function) declared) }
+    ensures { IfOk result (λ v. v ≡ variable_with assigned.now.keys constants.now.keys
+        (held_in held.now function) declared) }
 {
     if is_constant(assigned, declared) {
         let number = index_in(constants, declared.place)?;
@@ -63,7 +64,8 @@ fn named_there(
     held: &IndexMap<u32, IndexSet<u32>>,
     place: &Seen,
 ) -> Result<Option<Variable>, AllocError>
-    ensures { IfOk result (λ v. v ≡ named_there assigned.now.keys constants.now.keys (λ f. held_in held.now f) (place_of place.now)) }
+    ensures { IfOk result (λ v. v ≡ named_there assigned.now.keys constants.now.keys
+        (λ f. held_in held.now f) (place_of place.now)) }
 {
     match place.declared {
         None => Ok(None),
@@ -98,7 +100,9 @@ pub fn named_places(
     held: &IndexMap<u32, IndexSet<u32>>,
     places: &[Seen],
 ) -> Result<IndexMap<u32, Variable>, AllocError>
-    ensures { IfOk result (λ m. (q : _) → get nat_eq m q ≡ known_in name_key (named_there assigned.now.keys constants.now.keys (λ f. held_in held.now f)) q (map place_of places.now)) }
+    ensures { IfOk result (λ m. (q : _) → get nat_eq m q ≡ known_in name_key
+        (named_there assigned.now.keys constants.now.keys (λ f. held_in held.now f)) q
+        (map place_of places.now)) }
 {
     let mut named = IndexMap::new(alloc);
     for place in places {
@@ -206,7 +210,8 @@ fn note_around(
 
 /// The function around each function.
 pub fn functions_around(alloc: Global, places: &[Seen]) -> Result<IndexMap<u32, u32>, AllocError>
-    ensures { IfOk result (λ m. (q : _) → get nat_eq m q ≡ known_in owner_key around_there q (map place_of places.now)) }
+    ensures { IfOk result (λ m. (q : _) → get nat_eq m q
+        ≡ known_in owner_key around_there q (map place_of places.now)) }
 {
     let mut around = IndexMap::new(alloc);
     for place in places {
@@ -223,7 +228,8 @@ fn push_slot(
     function: u32,
     variable: u32,
 ) -> Result<(), AllocError>
-    ensures { OnOk result (slots.new.items ≡ slots.old.items ++ index_in (held_in held.now function) variable ∷ []) }
+    ensures { OnOk result (slots.new.items ≡ slots.old.items
+        ++ index_in (held_in held.now function) variable ∷ []) }
 {
     let slot = slot_in(held, function, variable)?;
     slots.push(slot)?;

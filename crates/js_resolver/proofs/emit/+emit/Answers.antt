@@ -3,7 +3,7 @@ use Rattle.std.proofs.lemmas.List.{drop_all, nil_from_length}
 use Rattle.std.specs.Prelude.{IfOk, is_some}
 use Rattle.js_tree.specs.Plain as p
 use Rattle.js_tree.specs.Plain.{exprs_of, fields_of, stmts_of}
-use Rattle.js_tree.specs.Views.{plain_expr, plain_field, plain_form, plain_stmt}
+use Rattle.js_tree.specs.Views.{plain_expr, plain_field, plain_stmt}
 use Rattle.js_program.specs.declared.builtin.Builtin.TheVariants.{Floor}
 use Rattle.js_program.specs.PlainProgram as n
 use Rattle.js_names.specs.Sites.{value_builtin}
