@@ -18,7 +18,10 @@ pub struct Handler {
 
 impl Drop for Handler {
     fn drop(self) {
-        let Handler { function: _, argument: _ } = self;
+        let Handler {
+            function: _,
+            argument: _,
+        } = self;
     }
 }
 

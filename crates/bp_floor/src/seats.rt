@@ -22,7 +22,11 @@ pub struct Seat {
 
 impl Drop for Seat {
     fn drop(self) {
-        let Seat { name: _, job: _, ended: _ } = self;
+        let Seat {
+            name: _,
+            job: _,
+            ended: _,
+        } = self;
     }
 }
 

@@ -1,4 +1,5 @@
 use Rattle.std.proofs.Common.{◌∙◌, sym, ap, arith}
+use Rattle.std.proofs.lemmas.Result.{on_ok_weaker}
 use Rattle.bp_run.specs.Settling.{before}
 use Rattle.bp_floor.specs.Boards.{pair_of}
 use Rattle.bp_floor.specs.Floors.{PlainFloor}
@@ -12,6 +13,9 @@ invariant_of-self c = λ ok.
     let len = c.len.ensures in
     sound_pushed _ _ c.self.inside.board c.self.inside.phase c.push.new.self c.args.event c.push.result (c.self.invariant ok) (omega (arith, low, len)) c.push.ensures.pushed c.push.ensures.failed
 
-pub returns-in-Ok-clause-stands : goal.returns-in-Ok-clause-stands
-returns-in-Ok-clause-stands c = λ taken p s.
-    queued_stands taken p (pair_of c.self.inside.board) c.args.event c.push.new.self (s ∙ ap (λ (f : PlainFloor). before taken f.pair) (sym c.self.view_is)) c.in-Ok.ensures.pushed
+pub returns-clause-stands : goal.returns-clause-stands
+returns-clause-stands c =
+    on_ok_weaker c.push.result
+    (λ h taken p s.
+    queued_stands taken p (pair_of c.self.inside.board) c.args.event c.push.new.self (s ∙ ap (λ (f : PlainFloor). before taken f.pair) (sym c.self.view_is)) h)
+    c.push.ensures.pushed
