@@ -13,7 +13,7 @@ use Rattle.bp_log.specs.declared.record.Record.TheVariants.{In, Bad, Eof, Sel, E
 use Rattle.bp_log.specs.declared.trace.Line.{Line}
 use Rattle.bp_log.specs.declared.verdict.Verdict.{Verdict}
 use Rattle.bp_run.specs.Bodies.{Code}
-use Rattle.bp_run.specs.Configuration.{Configuration, Stand}
+use Rattle.bp_run.specs.Configuration.{Configuration}
 use Rattle.bp_run.specs.Settling.{Entry, Pair, initial, opening}
 use Rattle.bp_run.specs.Choosing.{Choice, Touched}
 use Rattle.bp_run.specs.Story.{Next, next, move, record_of, after_next, story, story_from, alone_from, alone}
@@ -27,7 +27,6 @@ use Rattle.bp_floor.specs.declared.phase.Phase.TheVariants.{Ready, Lent, Rest, O
 use Rattle.bp_floor.specs.Programs.{code_of}
 use Rattle.bp_floor.specs.Floors.{phase_at, phase_of, is_idle}
 use Rattle.bp_arbiter.specs.declared.picked.Picked.{Picked}
-use Rattle.bp_arbiter.specs.declared.picked.Picked.TheVariants as picked
 use Rattle.bp_code.specs.Code as bp_code
 use Rattle.bp_code.specs.Code.{text_alone, records_alone}
 use Rattle.js_program.specs.PlainProgram.{PlainProgram}
@@ -38,7 +37,7 @@ use Rattle.bp_arbiter.specs.Sealing.{ending, after_turn}
 use Rattle.bp_base.specs.Pieces.{Appends, AppendsFront}
 use Rattle.bp_serve.specs.Ends.{verdict_alone}
 use Rattle.bp_serve.specs.Pages.{Shows, ShowsFront}
-use Rattle.bp_serve.specs.Serving.{Ahead, OnTheWay, Underway, IsUnderway, KeepsUnderway, Begins, TakesLines}
+use Rattle.bp_serve.specs.Serving.{Ahead, OnTheWay, Underway, KeepsUnderway, Begins, TakesLines}
 use Rattle.bp_serve.proofs.Pieces.{lines_text-append, lines_none, shows_page, shows_on, front_on, written_all, written_front, written_part, written_front_part}
 
 -- ---- the records

@@ -1,4 +1,4 @@
-use Rattle.std.proofs.Common.{◌≡◌, ◌∙◌, ℕ, List, length, ap, sym, subst, arith}
+use Rattle.std.proofs.Common.{◌∙◌, List, length, ap, sym, subst, arith}
 use Rattle.js_frames.specs.Places.{plain_ground}
 use Rattle.bp_thread.specs.declared.job.Job.{Job}
 use Rattle.bp_arbiter.specs.Lending.{AllOf}
