@@ -138,6 +138,7 @@ shows_now a s k w i c r =
       queue = ap (λ (x : Pair Origin). x.stand.queue) e ∙ ap (λ (x : Stand Origin). x.queue) (sym stand);
       transitions = ap (λ (x : Pair Origin). x.stand.transitions) e ∙ ap (λ (x : Stand Origin). x.transitions) (sym stand);
       verdict = ap (λ (x : Pair Origin). x.stand.verdict) e ∙ ap (λ (x : Stand Origin). x.verdict) (sym stand);
+      threads = ap (λ (x : Pair Origin). x.stand.threads) e ∙ ap (λ (x : Stand Origin). map (forget the_top) x.threads) (sym stand);
       live = ap (λ (x : Pair Origin). not_ended x.stand) e ∙ live_count the_top p.stand.threads ∙ ap not_ended (sym stand);
     }
 

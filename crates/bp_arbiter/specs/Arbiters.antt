@@ -1,8 +1,8 @@
 -- What contracts see of an arbiter, and what it stands for.
-use Rattle.std.specs.Prelude.{◌≡◌, ℕ, ◌≤◌, Bool, true, false, List, [], ◌∷◌, ◌++◌, Option, Some, None}
+use Rattle.std.specs.Prelude.{◌≡◌, ℕ, ◌≤◌, Bool, true, false, List, [], ◌∷◌, ◌++◌, map, Option, Some, None}
 use Rattle.js_value.specs.Value.{PlainSet}
 use Rattle.js_program.specs.PlainProgram.{PlainProgram}
-use Rattle.js_meaning.specs.Bodies.{Origin, bare}
+use Rattle.js_meaning.specs.Bodies.{Origin, bare, the_top}
 use Rattle.bp_log.specs.Options.{PlainOptions}
 use Rattle.bp_log.specs.declared.record.Record.{Record}
 use Rattle.bp_log.specs.declared.record.Record.TheVariants.{In, Bad, Eof, Sel, End}
@@ -15,6 +15,7 @@ use Rattle.bp_run.specs.Story.{Next, story, next}
 use Rattle.bp_thread.specs.declared.job.Job.{Job}
 use Rattle.bp_floor.specs.declared.phase.Phase.{Phase}
 use Rattle.bp_floor.specs.declared.phase.Phase.TheVariants.{Ready, Lent, Rest, Over}
+use Rattle.bp_floor.specs.Forgetting.{forget}
 use Rattle.bp_floor.specs.Floors.{PlainFloor, StandsWith, code_on}
 use Rattle.bp_arbiter.specs.Calls.{RunCalls}
 
@@ -132,9 +133,10 @@ pub record Keeps (a : PlainArbiter) : Type 0 where
   pub floor_phase : a.floor.phase ≡ a.phase
   pub floor_whole : a.floor.broken ≡ false
 
--- a floor shows where its b-threads stand
+-- a floor shows where its b-threads stand; of one that has ended, that it has
 pub record Shows (shown told : Stand Origin) : Type 0 where
   pub queue : shown.queue ≡ told.queue
   pub transitions : shown.transitions ≡ told.transitions
   pub verdict : shown.verdict ≡ told.verdict
+  pub threads : shown.threads ≡ map (forget the_top) told.threads
   pub live : not_ended shown ≡ not_ended told

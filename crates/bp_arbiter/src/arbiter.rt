@@ -9,7 +9,7 @@ ghost use Rattle.bp_log.specs.declared.verdict.Verdict.{Verdict as End};
 ghost use Rattle.bp_run.specs.Configuration.{Configuration};
 ghost use Rattle.bp_run.specs.Settling.{Pair, opening};
 ghost use Rattle.bp_run.specs.Story.{has_room, record_of};
-ghost use Rattle.bp_run.specs.Story as coming;
+ghost use Rattle.bp_run.specs.Story as story;
 ghost use Rattle.bp_thread.specs.declared.job.Job.{Job as Lent};
 ghost use Rattle.bp_thread.specs.Carried.{AreCarriedOut};
 ghost use Rattle.bp_floor.specs.declared.phase.Phase.TheVariants as phase;
@@ -217,6 +217,7 @@ impl Arbiter {
             Stands self.old [] taken p → Stands self.new [] taken (with_item item p)) }
         ensures refused { IfErr result (ComesBack (stand_in self.old) item) }
         ensures same { OnErr result (self.new ≡ self.old) }
+        ensures stays { self.old.broken ≡ true → IsErr result }
     {
         if !self.fits(&item) {
             return Err(Absorb::Full(item));
@@ -307,7 +308,7 @@ impl Arbiter {
             self.old.records ++ ending (stand_in self.new).verdict) }
         ensures over { OnOk result ((c : Configuration Origin) → Recounts self.old c → (v : End) →
             (stand_in self.new).verdict ≡ Some v →
-            coming self.old c ≡ coming.Next.Ends v) }
+            coming self.old c ≡ story.Next.Ends v) }
         ensures grows { IfOk result (λ f. f ≡ phase.Ready →
             length (stand_in self.old).threads < length (stand_in self.new).threads) }
         ensures tells { OnErr result ((lent : List Lent) (taken : List Line) (p : Pair Origin) →
