@@ -12,7 +12,7 @@ use Rattle.bp_run.specs.Settling.Entry.{The_top, Runs, Stops}
 use Rattle.bp_run.specs.Numbers.{number_of}
 use Rattle.bp_meaning.specs.After.{effect_of, outcome_of}
 use Rattle.bp_thread.specs.declared.job.Job.{Job}
-use Rattle.bp_thread.specs.Jobs.{PlainJob, plain_job, IsOf, IsWhole, StandsFor}
+use Rattle.bp_thread.specs.Jobs.{PlainJob, plain_job, IsOf, IsWhole, StandsFor as JobStands}
 use Rattle.bp_thread.specs.Carried.{CarriedOut, AreCarriedOut}
 use Rattle.bp_thread.proofs.Carrying.{carried_out, whole_stands}
 use Rattle.bp_code.specs.Code.{ground_for}
@@ -22,7 +22,7 @@ use Rattle.bp_floor.specs.Lending.{IsLent, IsDone, JobFor, AreLent, AreDone, fil
 use Rattle.bp_floor.specs.Returning.{ground_at, AreLater, RunsAlone}
 use Rattle.bp_floor.specs.Floors as floors
 use Rattle.bp_floor.specs.Floors.{PlainFloor, IsPhased, StandsWith, StandsFor as FloorStands}
-use Rattle.bp_arbiter.specs.Arbiters.{PlainArbiter, Stands, options_in}
+use Rattle.bp_arbiter.specs.Arbiters.{PlainArbiter, StandsFor, options_in}
 use Rattle.bp_arbiter.specs.Calls.{is_call, AllCall, HandlerCalls, HandlersCall, RunCalls}
 use Rattle.bp_arbiter.specs.Lending.{CanRun, AllCanRun, AllOf, AreOut, AreBack}
 use Rattle.bp_arbiter.proofs.Forgets.{got}
@@ -185,7 +185,7 @@ filled_same base budget p es xs c =
     ap (λ (ts : List (Thread Origin)). record p { stand = record p.stand { threads = ts } }) (filled_carried base budget p.entries es xs p.stand.threads (all_carried base budget es xs c))
 
 -- a slice leaves the pair that the arbiter stands for
-pub carried_stands : (a : PlainArbiter) (es xs : List Job) (taken : List Line) (p : Pair Origin) → AreCarriedOut a.floor.base (options_in a).budget es xs → Stands a es taken p → Stands a xs taken p
+pub carried_stands : (a : PlainArbiter) (es xs : List Job) (taken : List Line) (p : Pair Origin) → AreCarriedOut a.floor.base (options_in a).budget es xs → StandsFor a es taken p → StandsFor a xs taken p
 carried_stands a es xs taken p c s =
     record {
       whole = s.whole;
@@ -219,7 +219,7 @@ module _ (base : Ground) (o : PlainOptions) where
             of_program = i;
           };
           outcome = ap (λ (y : PlainJob). y.outcome) done ∙ ap (λ y. Some (outcome_of y)) body;
-          stands = subst (λ (y : Ground). StandsFor y o.budget x) (sym g) ((c.carries).stands (whole_stands base o.budget e r.whole));
+          stands = subst (λ (y : Ground). JobStands y o.budget x) (sym g) ((c.carries).stands (whole_stands base o.budget e r.whole));
         };
         effects = ap (λ (y : PlainJob). map effect_of y.effects) done ∙ ap (λ y. map effect_of (effects_since y)) body;
       }

@@ -70,7 +70,7 @@ IsDrawn Rest drawn told = drawn ≡ told
 IsDrawn Over drawn told = told ≤ drawn
 
 -- The arbiter, after these lines were taken and together with the jobs that are lent, stands for a pair: the pair settles to the story of the records.
-pub record Stands (a : PlainArbiter) (jobs : List Job) (taken : List Line) (p : Pair Origin) : Type 0 where
+pub record StandsFor (a : PlainArbiter) (jobs : List Job) (taken : List Line) (p : Pair Origin) : Type 0 where
   pub whole : a.broken ≡ false
   pub told : Configuration Origin
   pub story : Recounts a told
@@ -85,7 +85,7 @@ pub record Stands (a : PlainArbiter) (jobs : List Job) (taken : List Line) (p : 
 pub record StandsSomewhere (a : PlainArbiter) : Type 0 where
   pub taken : List Line
   pub pair : Pair Origin
-  pub stands : Stands a [] taken pair
+  pub stands : StandsFor a [] taken pair
 
 -- The records are a story, also after want of memory: the lines taken, then those to be taken, then the rest are its lines.
 pub record Tells (a : PlainArbiter) (taken : List Line) : Type 0 where

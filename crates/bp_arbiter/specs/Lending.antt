@@ -10,7 +10,7 @@ use Rattle.bp_thread.specs.Jobs.{plain_job, IsOf, IsWhole}
 use Rattle.bp_thread.specs.Carried.{AreCarriedOut}
 use Rattle.bp_code.specs.Code.{ground_for}
 use Rattle.bp_floor.specs.Lending.{AreLent, filled_pair, standing}
-use Rattle.bp_arbiter.specs.Arbiters.{PlainArbiter, Stands, options_in}
+use Rattle.bp_arbiter.specs.Arbiters.{PlainArbiter, StandsFor, options_in}
 
 -- a job of the ground's program that is to be carried on, with its effects whole; the ground is that of its body
 pub record CanRun (base : Ground) (budget : ℕ) (j : Job) : Type 0 where
@@ -38,7 +38,7 @@ pub record AreBack (a : PlainArbiter) (jobs : List Job) : Type 0 where
   pub lent : List Job
   pub taken : List Line
   pub pair : Pair Origin
-  pub stands : Stands a lent taken pair
+  pub stands : StandsFor a lent taken pair
   pub out : AreOut a lent
   pub carried : AreCarriedOut a.floor.base (options_in a).budget lent jobs
   pub of_program : AllOf a.floor.base.program jobs

@@ -15,7 +15,7 @@ ghost use Rattle.bp_thread.specs.Carried.{AreCarriedOut};
 ghost use Rattle.bp_floor.specs.declared.phase.Phase.TheVariants as phase;
 ghost use Rattle.bp_floor.specs.Floors.{is_idle, phase_of};
 ghost use Rattle.bp_arbiter.specs.declared.picked.Picked.TheVariants as picked;
-ghost use Rattle.bp_arbiter.specs.Arbiters.{opened, code_in, options_in, stand_in, Recounts, coming, Stands, StandsSomewhere, Tells, is_lent, verdict_of, IsGivenUp, Keeps, Shows};
+ghost use Rattle.bp_arbiter.specs.Arbiters.{opened, code_in, options_in, stand_in, Recounts, coming, StandsFor, StandsSomewhere, Tells, is_lent, verdict_of, IsGivenUp, Keeps, Shows};
 ghost use Rattle.bp_arbiter.specs.Absorbing.{is_failed, fits, ComesBack, with_item, absorbed};
 ghost use Rattle.bp_arbiter.specs.Picking.{picked_of, after_pick, phase_after};
 ghost use Rattle.bp_arbiter.specs.Lending.{AreOut, AreBack};
@@ -77,7 +77,7 @@ impl Arbiter {
     /// of memory.
     pub fn open(alloc: Global, program: Program, options: Options) -> Result<Arbiter, Memory>
         ensures opened { IfOk result (λ a. a ≡ opened program options) }
-        ensures stands { IfOk result (λ a. Stands a [] [] opening) }
+        ensures stands { IfOk result (λ a. StandsFor a [] [] opening) }
     {
         Ok(Arbiter {
             run: Run {
@@ -99,8 +99,8 @@ impl Arbiter {
         ensures kept { self.now.broken ≡ false → Keeps self.now }
         ensures few { self.now.broken ≡ false → length (stand_in self.now).threads ≤ MOST_THREADS }
         ensures tells { (jobs : List Lent) (taken : List Line) (p : Pair Origin) →
-            Stands self.now jobs taken p → Tells self.now taken }
-        ensures exact { (taken : List Line) (p : Pair Origin) → Stands self.now [] taken p →
+            StandsFor self.now jobs taken p → Tells self.now taken }
+        ensures exact { (taken : List Line) (p : Pair Origin) → StandsFor self.now [] taken p →
             is_idle self.now.phase ≡ true →
             (c : Configuration Origin) → Recounts self.now c →
             c.stand.lines ≡ taken ++ (stand_in self.now).lines }
@@ -175,7 +175,7 @@ impl Arbiter {
         ensures ground { self.new.floor.base ≡ self.old.floor.base }
         ensures options { options_in self.new ≡ options_in self.old }
         ensures stands { (jobs : List Lent) (taken : List Line) (p : Pair Origin) →
-            Stands self.old jobs taken p → Stands self.new jobs (taken ++ result) p }
+            StandsFor self.old jobs taken p → StandsFor self.new jobs (taken ++ result) p }
         ensures tells { (taken : List Line) → Tells self.old taken →
             Tells self.new (taken ++ result) }
     {
@@ -214,7 +214,7 @@ impl Arbiter {
         ensures absorbed { OnOk result (self.new ≡ absorbed injector item self.old) }
         ensures fits { OnOk result (fits (stand_in self.old) item ≡ true) }
         ensures stands { OnOk result ((taken : List Line) (p : Pair Origin) →
-            Stands self.old [] taken p → Stands self.new [] taken (with_item item p)) }
+            StandsFor self.old [] taken p → StandsFor self.new [] taken (with_item item p)) }
         ensures refused { IfErr result (ComesBack (stand_in self.old) item) }
         ensures same { OnErr result (self.new ≡ self.old) }
         ensures stays { self.old.broken ≡ true → IsErr result }
@@ -238,14 +238,14 @@ impl Arbiter {
         ensures recorded { OnOk result ((c : Configuration Origin) → Recounts self.old c →
             self.new.records ≡ self.old.records ++ option_to_list (record_of (coming self.old c))) }
         ensures stands { OnOk result ((taken : List Line) (p : Pair Origin) (c : Configuration Origin) →
-            Stands self.old [] taken p → Recounts self.old c →
-            Stands self.new [] taken (after_pick (code_in self.old) p (coming self.old c))) }
+            StandsFor self.old [] taken p → Recounts self.old c →
+            StandsFor self.new [] taken (after_pick (code_in self.old) p (coming self.old c))) }
         ensures phase { IfOk result (λ k. self.new.phase ≡
             phase_after k self.new.floor.pair.entries) }
         ensures counted { IfOk result (λ k. k ≡ picked.Moved →
             (stand_in self.new).transitions ≡ (stand_in self.old).transitions + 1) }
         ensures tells { OnErr result ((taken : List Line) (p : Pair Origin) →
-            Stands self.old [] taken p → Tells self.new taken) }
+            StandsFor self.old [] taken p → Tells self.new taken) }
         ensures ground { self.new.floor.base ≡ self.old.floor.base }
         ensures options { options_in self.new ≡ options_in self.old }
         ensures failed { OnErr result (IsGivenUp self.old self.new) }
@@ -268,13 +268,13 @@ impl Arbiter {
         requires ready { self.old.phase ≡ phase.Ready }
         ensures lent { IfOk result (λ jobs. AreOut self.new jobs.items) }
         ensures stands { IfOk result (λ jobs. (taken : List Line) (p : Pair Origin) →
-            Stands self.old [] taken p → Stands self.new jobs.items taken p) }
+            StandsFor self.old [] taken p → StandsFor self.new jobs.items taken p) }
         ensures phase { OnOk result (self.new.phase ≡ phase.Lent) }
         ensures count { OnOk result (length (stand_in self.new).threads ≡
             length (stand_in self.old).threads) }
         ensures records { self.new.records ≡ self.old.records }
         ensures tells { OnErr result ((taken : List Line) (p : Pair Origin) →
-            Stands self.old [] taken p → Tells self.new taken) }
+            StandsFor self.old [] taken p → Tells self.new taken) }
         ensures ground { self.new.floor.base ≡ self.old.floor.base }
         ensures options { options_in self.new ≡ options_in self.old }
         ensures failed { OnErr result (IsGivenUp self.old self.new) }
@@ -301,9 +301,9 @@ impl Arbiter {
         ensures answered { IfOk result (λ f. f ≡ self.new.phase) }
         ensures phase { OnOk result (self.new.phase ≡ phase_of self.new.floor.pair) }
         ensures stands { OnOk result ((lent : List Lent) (taken : List Line) (p : Pair Origin) →
-            Stands self.old lent taken p →
+            StandsFor self.old lent taken p →
             AreCarriedOut self.old.floor.base (options_in self.old).budget lent jobs.items →
-            Stands self.new [] taken (after_turn (code_in self.old) p)) }
+            StandsFor self.new [] taken (after_turn (code_in self.old) p)) }
         ensures recorded { OnOk result (self.new.records ≡
             self.old.records ++ ending (stand_in self.new).verdict) }
         ensures over { OnOk result ((c : Configuration Origin) → Recounts self.old c → (v : End) →
@@ -312,7 +312,7 @@ impl Arbiter {
         ensures grows { IfOk result (λ f. f ≡ phase.Ready →
             length (stand_in self.old).threads < length (stand_in self.new).threads) }
         ensures tells { OnErr result ((lent : List Lent) (taken : List Line) (p : Pair Origin) →
-            Stands self.old lent taken p →
+            StandsFor self.old lent taken p →
             AreCarriedOut self.old.floor.base (options_in self.old).budget lent jobs.items →
             Tells self.new taken) }
         ensures program { self.new.floor.base.program ≡ self.old.floor.base.program }

@@ -6,7 +6,7 @@ use Rattle.bp_run.specs.Settling.{Pair}
 use Rattle.bp_floor.specs.declared.phase.Phase.{Phase}
 use Rattle.bp_floor.specs.declared.phase.Phase.TheVariants.{Rest}
 use Rattle.bp_arbiter.specs.declared.picked.Picked.{Picked}
-use Rattle.bp_arbiter.specs.Arbiters.{PlainArbiter, Stands, Tells, Recounts, code_in, coming}
+use Rattle.bp_arbiter.specs.Arbiters.{PlainArbiter, StandsFor, Tells, Recounts, code_in, coming}
 use Rattle.bp_arbiter.specs.Picking.{after_pick, picked_of, phase_after}
 use Rattle.bp_arbiter.specs.Runs.{seen}
 use Rattle.bp_arbiter.specs.Sound.{IsSound}
@@ -42,8 +42,8 @@ pub returns-clause-stands : goal.returns-clause-stands
 returns-clause-stands c =
     let i = at_phase Rest c.args.self.now c.self.inside.run c.self.inside.phase c.self.inside.broken c.self.view_is c.requires.rest c.if-self.false c.self.invariant c.keeps.ensures in
     subst
-    (λ (f : Phase). (taken : List Line) (p : Pair Origin) (d : Configuration Origin) → Stands c.args.self.now [] taken p → Recounts c.args.self.now d →
-    Stands (seen c.pick.new.self f false) [] taken (after_pick (code_in c.args.self.now) p (coming c.args.self.now d)))
+    (λ (f : Phase). (taken : List Line) (p : Pair Origin) (d : Configuration Origin) → StandsFor c.args.self.now [] taken p → Recounts c.args.self.now d →
+    StandsFor (seen c.pick.new.self f false) [] taken (after_pick (code_in c.args.self.now) p (coming c.args.self.now d)))
     (sym c.phase-self-inside.ensures)
     (pick_stands c.args.self.now c.self.inside.run c.pick.new.self i c.pick.ensures.beside c.in_ok-picked.ensures.comes)
 

@@ -6,7 +6,7 @@ use Rattle.bp_thread.specs.declared.job.Job.{Job}
 use Rattle.bp_thread.specs.Carried.{AreCarriedOut}
 use Rattle.bp_floor.specs.declared.phase.Phase.{Phase}
 use Rattle.bp_floor.specs.declared.phase.Phase.TheVariants.{Lent}
-use Rattle.bp_arbiter.specs.Arbiters.{PlainArbiter, Stands, code_in, options_in}
+use Rattle.bp_arbiter.specs.Arbiters.{PlainArbiter, StandsFor, code_in, options_in}
 use Rattle.bp_arbiter.specs.Runs.{seen}
 use Rattle.bp_arbiter.specs.Sealing.{after_turn}
 use Rattle.bp_arbiter.specs.Sound.{IsSound}
@@ -41,8 +41,8 @@ pub returns-clause-stands : goal.returns-clause-stands
 returns-clause-stands c =
     let i = at_phase Lent c.args.self.now c.self.inside.run c.self.inside.phase c.self.inside.broken c.self.view_is c.requires.lent c.if-self.false c.self.invariant c.keeps.ensures in
     subst
-    (λ (f : Phase). (lent : List Job) (taken : List Line) (p : Pair Origin) → Stands c.args.self.now lent taken p → AreCarriedOut c.args.self.now.floor.base (options_in c.args.self.now).budget lent c.args.jobs.items →
-    Stands (seen c.seal.new.self f false) [] taken (after_turn (code_in c.args.self.now) p))
+    (λ (f : Phase). (lent : List Job) (taken : List Line) (p : Pair Origin) → StandsFor c.args.self.now lent taken p → AreCarriedOut c.args.self.now.floor.base (options_in c.args.self.now).budget lent c.args.jobs.items →
+    StandsFor (seen c.seal.new.self f false) [] taken (after_turn (code_in c.args.self.now) p))
     (sym c.phase-self-inside.ensures)
     (seal_stands c.args.self.now c.self.inside.run i c.args.jobs.items c.seal.new.self c.seal.ensures.beside c.in_ok-seal.ensures.turned)
 
