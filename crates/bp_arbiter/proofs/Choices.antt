@@ -7,7 +7,7 @@ use Rattle.bp_run.specs.Bodies.{Code, SetFault}
 use Rattle.bp_run.specs.Configuration.{Stand}
 use Rattle.bp_run.specs.Selecting.{Live, live, Has, Asked, by_number, both, without_fault, blocked, unblocked, first_unblocked, candidates, Enabled, or_queued, selectable, requested}
 use Rattle.bp_run.specs.Choosing.{Choice, drawn_of, queued_at, remaining, chosen, choice}
-use Rattle.bp_run.specs.Chosen.{StandsFor, IsChosen}
+use Rattle.bp_run.specs.Chosen.{Stands, IsChosen}
 use Rattle.bp_run.specs.Numbers.{IsRising}
 use Rattle.bp_run.proofs.Chosen.{among, among_candidates, unblocked_free, choice_is_chosen}
 use Rattle.bp_run.proofs.Numbers.{live_rising}
@@ -50,7 +50,7 @@ kept_if_free : {S : Type 0} (has : Has S) (ts : List (Live S)) (e : PlainEvent) 
 kept_if_free has ts e xs (inl h) k = absurd (let f : Ok true ≡ blocked has ts e = sym h in cc)
 kept_if_free has ts e xs (inr h) k = h
 
-inner_stands : {S : Type 0} (ts : List (Live S)) (queue : List PlainEvent) (e : PlainEvent) (place : Option ℕ) → place ≡ None → StandsFor ts queue e place → requested ts e ≡ true
+inner_stands : {S : Type 0} (ts : List (Live S)) (queue : List PlainEvent) (e : PlainEvent) (place : Option ℕ) → place ≡ None → Stands ts queue e place → requested ts e ≡ true
 inner_stands ts queue e None h s = s
 inner_stands ts queue e (Some i) h s = absurd (cc)
 

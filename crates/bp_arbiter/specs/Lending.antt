@@ -1,6 +1,5 @@
 -- The jobs that an arbiter lends, and that come back.
 use Rattle.std.specs.Prelude.{◌≡◌, ℕ, List, [], ◌∷◌, None}
-use Rattle.js_program.specs.PlainProgram.{PlainProgram}
 use Rattle.js_meaning.specs.State.{Ground}
 use Rattle.js_meaning.specs.Bodies.{Origin}
 use Rattle.bp_log.specs.declared.trace.Line.{Line}
@@ -24,10 +23,6 @@ abbrev pub AllCanRun : Ground → ℕ → List Job → Type 0
 AllCanRun base budget [] = Unit {0}
 AllCanRun base budget (j ∷ js) = CanRun base budget j × AllCanRun base budget js
 
-abbrev pub AllOf : PlainProgram → List Job → Type 0
-AllOf program [] = Unit {0}
-AllOf program (j ∷ js) = IsOf program j × AllOf program js
-
 -- the jobs are those of what is to be run, in order, and each stands at the start of its slices on the arbiter's ground
 pub record AreOut (a : PlainArbiter) (jobs : List Job) : Type 0 where
   pub can_run : AllCanRun a.floor.base (options_in a).budget jobs
@@ -41,4 +36,3 @@ pub record AreBack (a : PlainArbiter) (jobs : List Job) : Type 0 where
   pub stands : StandsFor a lent taken pair
   pub out : AreOut a lent
   pub carried : AreCarriedOut a.floor.base (options_in a).budget lent jobs
-  pub of_program : AllOf a.floor.base.program jobs

@@ -1,9 +1,7 @@
-use Rattle.std.proofs.Common.{ℕ, ◌≡◌, ◌∙◌, ap, subst, sym, arith}
-use Rattle.js_meaning.specs.State.{Ground}
+use Rattle.std.proofs.Common.{ℕ, ◌≡◌, ◌∙◌, ap, sym, arith}
 use Rattle.bp_log.specs.Options.{PlainOptions}
 use Rattle.bp_floor.specs.Floors.{PlainFloor}
 use Rattle.bp_arbiter.specs.Arbiters.{options_in}
-use Rattle.bp_arbiter.specs.Lending.{AllOf}
 use Rattle.bp_serve.proofs.Way.{turn_keeps, turn_records, carried_at, can_run_here}
 use Rattle.bp_serve.proofs.serving.turn.Goals as goal
 
@@ -34,8 +32,7 @@ seal-requires-clause-back c = λ _.
       out = c.in_ok-jobs.ensures.lent;
       carried = carried_at _ _ _ c.budget-budget.result c.in_ok-jobs.jobs.items c.carry_all.new.jobs.items c.ground.ensures
           (budget_of c.options.result (options_in c.lend.new.self) c.args.arbiter.now.floor c.floor.result.now c.budget-budget.result c.budget-budget.ensures.budget c.options.ensures c.floor.ensures.floor c.lend.ensures.options)
-          c.in_ok-carry_all.ensures.carried;
-      of_program = subst (λ (g : Ground). AllOf g.program c.carry_all.new.jobs.items) c.ground.ensures c.in_ok-carry_all.ensures.program;
+          c.in_ok-carry_all.ensures;
     }
 
 pub returns-clause-keeps : goal.returns-clause-keeps
@@ -46,7 +43,7 @@ returns-clause-keeps c =
     c.in_ok-jobs.ensures.stands l.records l.ground l.options
     (carried_at _ _ _ c.budget-budget.result c.in_ok-jobs.jobs.items c.carry_all.new.jobs.items c.ground.ensures
     (budget_of c.options.result (options_in c.lend.new.self) c.args.arbiter.now.floor c.floor.result.now c.budget-budget.result c.budget-budget.ensures.budget c.options.ensures c.floor.ensures.floor l.options)
-    c.in_ok-carry_all.ensures.carried)
+    c.in_ok-carry_all.ensures)
     s.stands s.phase s.recorded s.over s.program s.options
 
 pub returns-clause-records : goal.returns-clause-records
