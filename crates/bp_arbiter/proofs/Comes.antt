@@ -184,17 +184,9 @@ pub ok_map : {T E A B : Type 0} (r : Result T E) → (A → B) → OnOk r A → 
 ok_map (Ok t) f a = f a
 ok_map (Err e) f a = tt
 
-pub on_err : {T E A : Type 0} (r : Result T E) → A → OnErr r A
-on_err (Ok t) a = tt
-on_err (Err e) a = a
-
-pub if_both : {T E A : Type 0} {P Q : T → Type 0} (r : Result T E) → ((t : T) → A → P t → Q t) → OnOk r A → IfOk r P → IfOk r Q
-if_both (Ok t) f a h = f t a h
-if_both (Err e) f a h = tt
-
-pub ok_both : {T E A B C : Type 0} (r : Result T E) → (A → B → C) → OnOk r A → OnOk r B → OnOk r C
-ok_both (Ok t) f a b = f a b
-ok_both (Err e) f a b = tt
+pub if_map : {T E : Type 0} {P Q : T → Type 0} (r : Result T E) → ((t : T) → P t → Q t) → IfOk r P → IfOk r Q
+if_map (Ok t) f h = f t h
+if_map (Err e) f h = tt
 
 pub queued_some : (xs : List PlainEvent) (n : ℕ) → n < length xs → (e : PlainEvent) × (slice_get xs n ≡ Some e)
 queued_some [] n h = absurd (omega (arith, h))

@@ -25,7 +25,7 @@ use Rattle.bp_arbiter.specs.Arbiters.{PlainArbiter, StandsFor, Recounts, coming,
 use Rattle.bp_arbiter.specs.Picking.{after_pick, picked_of, phase_after, moved_phase}
 use Rattle.bp_arbiter.specs.Runs.{seen, configuration_of, next_in, HasCome, IsBeside, IsEnded, IsMoved, IsStill}
 use Rattle.bp_arbiter.proofs.Calls.{calls_stepped}
-use Rattle.bp_arbiter.proofs.Forgets.{stepped_stands}
+use Rattle.bp_floor.proofs.Stepping.{stepped_stands}
 use Rattle.bp_arbiter.proofs.Nexts.{next_stands}
 use Rattle.bp_arbiter.proofs.Told.{same_told, same_code, same_story, settled_idle, no_verdict}
 

@@ -18,7 +18,7 @@ use Rattle.bp_floor.specs.declared.phase.Phase.{Phase}
 use Rattle.bp_floor.specs.declared.phase.Phase.TheVariants.{Ready, Lent, Rest, Over}
 use Rattle.bp_floor.specs.Programs.{code_of}
 use Rattle.bp_floor.specs.Floors.{PlainFloor, IsPhased, StandsWith, is_idle, not_lent, phase_at}
-use Rattle.bp_arbiter.specs.Arbiters.{PlainArbiter, StandsFor, Tells, Recounts, code_in, options_in, stand_in, opened}
+use Rattle.bp_arbiter.specs.Arbiters.{PlainArbiter, StandsFor, Tells, IsGivenUp, Recounts, code_in, options_in, stand_in, opened}
 use Rattle.bp_arbiter.proofs.Calls.{calls_opening}
 
 -- ---- what it tells
@@ -133,3 +133,23 @@ tells_same a b taken h k r l t =
 pub leaves : (a v b : PlainArbiter) → v ≡ a → b.floor.base.program ≡ v.floor.base.program → options_in b ≡ options_in v → b.records ≡ v.records → (stand_in b).lines ≡ (stand_in v).lines →
     (jobs : List Job) (taken : List Line) (p : Pair Origin) → StandsFor a jobs taken p → Tells b taken
 leaves a v b e h k r l jobs taken p s = tells_same v b taken h k r l (subst (λ (x : PlainArbiter). Tells x taken) (sym e) (stands_tells a jobs taken p s))
+
+-- ---- want of memory
+
+-- where memory had been wanting, nothing changes
+pub given_up_before : (IsLent : List Job → Type 0) (a b : PlainArbiter) → b ≡ a → a.broken ≡ true → IsGivenUp IsLent a b
+given_up_before IsLent a b e w =
+    subst (λ (x : PlainArbiter). IsGivenUp IsLent a x) (sym e)
+    (record { broken = w; records = refl; phase = refl; tells = λ jobs taken p l s. stands_tells a jobs taken p s; stays = λ h. refl })
+
+-- where memory was there before the call
+pub given_up_now : (IsLent : List Job → Type 0) (a v b : PlainArbiter) → v ≡ a → v.broken ≡ false → b.broken ≡ true → b.records ≡ v.records → b.phase ≡ v.phase →
+    ((jobs : List Job) (taken : List Line) (p : Pair Origin) → IsLent jobs → StandsFor a jobs taken p → Tells b taken) → IsGivenUp IsLent a b
+given_up_now IsLent a v b e w g r f t =
+    record {
+      broken = g;
+      records = r ∙ ap (λ (x : PlainArbiter). x.records) e;
+      phase = f ∙ ap (λ (x : PlainArbiter). x.phase) e;
+      tells = t;
+      stays = λ h. absurd (let x : true ≡ false = sym h ∙ ap (λ (y : PlainArbiter). y.broken) (sym e) ∙ w in cc);
+    }

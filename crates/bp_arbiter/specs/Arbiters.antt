@@ -5,9 +5,7 @@ use Rattle.js_program.specs.PlainProgram.{PlainProgram}
 use Rattle.js_meaning.specs.Bodies.{Origin, bare, the_top}
 use Rattle.bp_log.specs.Options.{PlainOptions}
 use Rattle.bp_log.specs.declared.record.Record.{Record}
-use Rattle.bp_log.specs.declared.record.Record.TheVariants.{In, Bad, Eof, Sel, End}
 use Rattle.bp_log.specs.declared.trace.Line.{Line}
-use Rattle.bp_log.specs.declared.verdict.Verdict.{Verdict}
 use Rattle.bp_run.specs.Bodies.{Code}
 use Rattle.bp_run.specs.Configuration.{Configuration, Stand, below, not_ended}
 use Rattle.bp_run.specs.Settling.{Pair, settle, opening}
@@ -94,20 +92,6 @@ pub record Tells (a : PlainArbiter) (taken : List Line) : Type 0 where
   pub rest : List Line
   pub lines : told.stand.lines ≡ taken ++ ((stand_in a).lines ++ rest)
 
--- the verdict of the record of an end
-abbrev pub verdict_in : Record → Option Verdict
-verdict_in (In j e) = None
-verdict_in (Bad j n) = None
-verdict_in (Eof j) = None
-verdict_in (Sel e) = None
-verdict_in (End v) = Some v
-
--- the verdict with which the records end
-abbrev pub verdict_of : List Record → Option Verdict
-verdict_of [] = None
-verdict_of (End v ∷ []) = Some v
-verdict_of (r ∷ rs) = verdict_of rs
-
 abbrev pub is_lent : Phase → Bool
 is_lent Ready = false
 is_lent Lent = true
@@ -120,11 +104,18 @@ is_over Lent = false
 is_over Rest = false
 is_over Over = true
 
--- after want of memory, what was recorded and what can be done are as before
-pub record IsGivenUp (old new : PlainArbiter) : Type 0 where
+-- memory was not wanting before, and is not now
+pub record HadMemory (old new : PlainArbiter) : Type 0 where
+  pub before : old.broken ≡ false
+  pub after : new.broken ≡ false
+
+-- After want of memory nothing was recorded, and what can be done is as before. Of each pair that the arbiter stood for with such jobs, the lines taken and to be taken are the first of the story's. Where memory had been wanting before, nothing has changed.
+pub record IsGivenUp (IsLent : List Job → Type 0) (old new : PlainArbiter) : Type 0 where
   pub broken : new.broken ≡ true
   pub records : new.records ≡ old.records
   pub phase : new.phase ≡ old.phase
+  pub tells : (jobs : List Job) (taken : List Line) (p : Pair Origin) → IsLent jobs → StandsFor old jobs taken p → Tells new taken
+  pub stays : old.broken ≡ true → new ≡ old
 
 -- what an arbiter keeps unless memory was wanting
 pub record Keeps (a : PlainArbiter) : Type 0 where

@@ -29,10 +29,14 @@ pub record AreOut (a : PlainArbiter) (jobs : List Job) : Type 0 where
   pub lent : AreLent a.floor.base.program (options_in a) (standing (filled_pair jobs a.floor.pair).stand.threads) a.floor.pair.entries jobs
 
 -- the jobs are the lent ones, in the same order, each carried to its outcome with its effects whole
+abbrev pub AreReturned : PlainArbiter → List Job → List Job → Type 0
+AreReturned a jobs lent = AreCarriedOut a.floor.base (options_in a).budget lent jobs
+
+-- such jobs were lent, for some pair that the arbiter stands for
 pub record AreBack (a : PlainArbiter) (jobs : List Job) : Type 0 where
   pub lent : List Job
   pub taken : List Line
   pub pair : Pair Origin
   pub stands : StandsFor a lent taken pair
   pub out : AreOut a lent
-  pub carried : AreCarriedOut a.floor.base (options_in a).budget lent jobs
+  pub carried : AreReturned a jobs lent

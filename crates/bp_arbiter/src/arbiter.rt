@@ -1,8 +1,9 @@
 //! The arbiter.
-ghost use Rattle.std.specs.Prelude.{◌≡◌, ◌↔◌, ◌<◌, ◌≤◌, ◌+◌, ◌++◌, ◌∷◌, [], ℕ, List, nat_eq, not, length, option_map, option_to_list, OnOk, OnErr, IfOk, IfErr, IsErr, IsSome, Some, true, false};
+ghost use Rattle.std.specs.Prelude.{◌≡◌, ◌↔◌, ◌<◌, ◌≤◌, ◌+◌, ◌++◌, ◌∷◌, [], ℕ, List, nat_eq, not, length, option_map, option_to_list, OnOk, OnErr, IfOk, IfErr, IsErr, IsSome, MatchResult, Some, true, false};
 ghost use Rattle.std.specs.List.{list_any};
 ghost use Rattle.js_meaning.specs.Bodies.{Origin};
 ghost use Rattle.js_frames.specs.Places.{plain_ground};
+ghost use Rattle.bp_log.specs.Records.{verdict_of};
 ghost use Rattle.bp_log.specs.declared.limits.TheConstants.{MOST_THREADS};
 ghost use Rattle.bp_log.specs.declared.trace.Line.{Line};
 ghost use Rattle.bp_log.specs.declared.verdict.Verdict.{Verdict as End};
@@ -11,14 +12,13 @@ ghost use Rattle.bp_run.specs.Settling.{Pair, opening};
 ghost use Rattle.bp_run.specs.Story.{has_room, record_of};
 ghost use Rattle.bp_run.specs.Story as story;
 ghost use Rattle.bp_thread.specs.declared.job.Job.{Job as Lent};
-ghost use Rattle.bp_thread.specs.Carried.{AreCarriedOut};
 ghost use Rattle.bp_floor.specs.declared.phase.Phase.TheVariants as phase;
 ghost use Rattle.bp_floor.specs.Floors.{is_idle, phase_of};
 ghost use Rattle.bp_arbiter.specs.declared.picked.Picked.TheVariants as picked;
-ghost use Rattle.bp_arbiter.specs.Arbiters.{opened, code_in, options_in, stand_in, Recounts, coming, StandsFor, StandsSomewhere, Tells, is_lent, verdict_of, IsGivenUp, Keeps, Shows};
+ghost use Rattle.bp_arbiter.specs.Arbiters.{opened, code_in, options_in, stand_in, Recounts, coming, StandsFor, StandsSomewhere, Tells, is_lent, HadMemory, IsGivenUp, Keeps, Shows};
 ghost use Rattle.bp_arbiter.specs.Absorbing.{is_failed, fits, ComesBack, with_item, absorbed};
 ghost use Rattle.bp_arbiter.specs.Picking.{picked_of, after_pick, phase_after};
-ghost use Rattle.bp_arbiter.specs.Lending.{AreOut, AreBack};
+ghost use Rattle.bp_arbiter.specs.Lending.{AreOut, AreBack, AreReturned};
 ghost use Rattle.bp_arbiter.specs.Sealing.{ending, after_turn};
 
 use crate::numbers::Numbers;
@@ -41,13 +41,22 @@ use std::marker::Model;
 /// at `Ready` and `Lent` turns are left on the way there. After want of memory from `pick`, `lend` or
 /// `seal` each later one of them answers it too; the records are a story still, and the lines taken and to
 /// be taken are the first of its lines.
-#[derive(Drop)]
 pub struct Arbiter {
     run: Run,
     /// After want of memory, that before the call.
     phase: Phase,
     /// Memory was wanting.
     broken: bool,
+}
+
+impl Drop for Arbiter {
+    fn drop(self) {
+        let Arbiter {
+            run: _,
+            phase: _,
+            broken: _,
+        } = self;
+    }
 }
 
 impl Model for Arbiter {
@@ -244,12 +253,10 @@ impl Arbiter {
             phase_after k self.new.floor.pair.entries) }
         ensures counted { IfOk result (λ k. k ≡ picked.Moved →
             (stand_in self.new).transitions ≡ (stand_in self.old).transitions + 1) }
-        ensures tells { OnErr result ((taken : List Line) (p : Pair Origin) →
-            StandsFor self.old [] taken p → Tells self.new taken) }
         ensures ground { self.new.floor.base ≡ self.old.floor.base }
         ensures options { options_in self.new ≡ options_in self.old }
-        ensures failed { OnErr result (IsGivenUp self.old self.new) }
-        ensures stays { self.old.broken ≡ true → IsErr result × (self.new ≡ self.old) }
+        ensures memory { MatchResult result (λ _. HadMemory self.old self.new)
+            (λ _. IsGivenUp (λ lent. lent ≡ []) self.old self.new) }
     {
         if self.broken {
             return Err(AllocError);
@@ -273,12 +280,10 @@ impl Arbiter {
         ensures count { OnOk result (length (stand_in self.new).threads ≡
             length (stand_in self.old).threads) }
         ensures records { self.new.records ≡ self.old.records }
-        ensures tells { OnErr result ((taken : List Line) (p : Pair Origin) →
-            StandsFor self.old [] taken p → Tells self.new taken) }
         ensures ground { self.new.floor.base ≡ self.old.floor.base }
         ensures options { options_in self.new ≡ options_in self.old }
-        ensures failed { OnErr result (IsGivenUp self.old self.new) }
-        ensures stays { self.old.broken ≡ true → IsErr result × (self.new ≡ self.old) }
+        ensures memory { MatchResult result (λ _. HadMemory self.old self.new)
+            (λ _. IsGivenUp (λ lent. lent ≡ []) self.old self.new) }
     {
         if self.broken {
             return Err(AllocError);
@@ -301,8 +306,7 @@ impl Arbiter {
         ensures answered { IfOk result (λ f. f ≡ self.new.phase) }
         ensures phase { OnOk result (self.new.phase ≡ phase_of self.new.floor.pair) }
         ensures stands { OnOk result ((lent : List Lent) (taken : List Line) (p : Pair Origin) →
-            StandsFor self.old lent taken p →
-            AreCarriedOut self.old.floor.base (options_in self.old).budget lent jobs.items →
+            StandsFor self.old lent taken p → AreReturned self.old jobs.items lent →
             StandsFor self.new [] taken (after_turn (code_in self.old) p)) }
         ensures recorded { OnOk result (self.new.records ≡
             self.old.records ++ ending (stand_in self.new).verdict) }
@@ -311,14 +315,10 @@ impl Arbiter {
             coming self.old c ≡ story.Next.Ends v) }
         ensures grows { IfOk result (λ f. f ≡ phase.Ready →
             length (stand_in self.old).threads < length (stand_in self.new).threads) }
-        ensures tells { OnErr result ((lent : List Lent) (taken : List Line) (p : Pair Origin) →
-            StandsFor self.old lent taken p →
-            AreCarriedOut self.old.floor.base (options_in self.old).budget lent jobs.items →
-            Tells self.new taken) }
         ensures program { self.new.floor.base.program ≡ self.old.floor.base.program }
         ensures options { options_in self.new ≡ options_in self.old }
-        ensures failed { OnErr result (IsGivenUp self.old self.new) }
-        ensures stays { self.old.broken ≡ true → IsErr result × (self.new ≡ self.old) }
+        ensures memory { MatchResult result (λ _. HadMemory self.old self.new)
+            (λ _. IsGivenUp (AreReturned self.old jobs.items) self.old self.new) }
     {
         if self.broken {
             return Err(AllocError);
