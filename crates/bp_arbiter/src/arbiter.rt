@@ -195,8 +195,12 @@ impl Arbiter {
     pub fn into_records(self) -> Records
         ensures { result ≡ self.records }
     {
-        let run = self.run;
-        run.records.into_records()
+        let Arbiter {
+            run,
+            phase: _,
+            broken: _,
+        } = self;
+        run.into_records()
     }
 
     /// Whether the item needs no place of the queue, or has one.

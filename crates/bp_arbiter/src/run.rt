@@ -17,7 +17,7 @@ use crate::picked::Picked;
 use crate::records::RecordList;
 use bp_floor::{Absorb, Floor, Phase, Went};
 use bp_log::limits::MOST_WAITING;
-use bp_log::{Item, Memory, Record, Verdict};
+use bp_log::{Item, Memory, Record, Records, Verdict};
 use bp_select::{Choice, Draw, SelectFault};
 use bp_thread::Job;
 use js_data::Event;
@@ -243,6 +243,20 @@ impl Run {
             self.end(verdict)?;
         }
         Ok(phase)
+    }
+
+    /// The records, moved out. Takes no memory.
+    pub fn into_records(self) -> Records
+        ensures { result ≡ self.records.records }
+    {
+        let Run {
+            floor: _,
+            draw: _,
+            reading: _,
+            bad: _,
+            records,
+        } = self;
+        records.into_records()
     }
 }
 
