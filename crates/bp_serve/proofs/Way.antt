@@ -25,7 +25,7 @@ use Rattle.bp_thread.specs.Carried.{AreCarriedOut}
 use Rattle.bp_floor.specs.declared.phase.Phase.{Phase}
 use Rattle.bp_floor.specs.declared.phase.Phase.TheVariants.{Ready, Lent, Rest, Over}
 use Rattle.bp_floor.specs.Programs.{code_of}
-use Rattle.bp_floor.specs.Floors.{phase_at, phase_of, is_idle}
+use Rattle.bp_floor.specs.Floors.{PlainFloor, phase_at, phase_of, is_idle}
 use Rattle.bp_arbiter.specs.declared.picked.Picked.{Picked}
 use Rattle.bp_code.specs.Code as bp_code
 use Rattle.bp_code.specs.Code.{text_alone, records_alone}
@@ -343,6 +343,10 @@ turn_records (Ok f) old mid new e h =
     ap (λ (es : List Record). length es) (h ∙ ap (λ (es : List Record). es ++ ending (stand_in new).verdict) e) ∙ length-append old.records (ending (stand_in new).verdict) in
     omega (arith, n)
 turn_records (Err x) old mid new e h = tt
+
+-- a budget that was read of the floor is that of the options
+pub budget_of : (o p : PlainOptions) (f g : PlainFloor) (n : ℕ) → n ≡ o.budget → o ≡ g.options → g ≡ f → p ≡ f.options → n ≡ p.budget
+budget_of o p f g n e h k q = e ∙ ap (λ (x : PlainOptions). x.budget) (h ∙ ap (λ (x : PlainFloor). x.options) k ∙ sym q)
 
 -- the lent jobs are those that are to be carried out
 pub carried_at : (base ground : Ground) (budget n : ℕ) (jobs after : List Job) → ground ≡ base → n ≡ budget → AreCarriedOut ground n jobs after → AreCarriedOut base budget jobs after

@@ -1,12 +1,7 @@
-use Rattle.std.proofs.Common.{ℕ, ◌≡◌, ◌∙◌, ap, sym, arith}
-use Rattle.bp_log.specs.Options.{PlainOptions}
-use Rattle.bp_floor.specs.Floors.{PlainFloor}
+use Rattle.std.proofs.Common.{◌≡◌, ap, arith}
 use Rattle.bp_arbiter.specs.Arbiters.{options_in}
-use Rattle.bp_serve.proofs.Way.{turn_keeps, turn_records, carried_at, can_run_here}
+use Rattle.bp_serve.proofs.Way.{turn_keeps, turn_records, budget_of, carried_at, can_run_here}
 use Rattle.bp_serve.proofs.serving.turn.Goals as goal
-
-budget_of : (o p : PlainOptions) (f g : PlainFloor) (n : ℕ) → n ≡ o.budget → o ≡ g.options → g ≡ f → p ≡ f.options → n ≡ p.budget
-budget_of o p f g n e h k q = e ∙ ap (λ (x : PlainOptions). x.budget) (h ∙ ap (λ (x : PlainFloor). x.options) k ∙ sym q)
 
 pub carry_all-requires-clause-some_budget : goal.carry_all-requires-clause-some_budget
 carry_all-requires-clause-some_budget c =
