@@ -137,10 +137,8 @@ leaves a v b e h k r l jobs taken p s = tells_same v b taken h k r l (subst (λ 
 -- ---- want of memory
 
 -- where memory had been wanting, nothing changes
-pub given_up_before : (IsLent : List Job → Type 0) (a b : PlainArbiter) → b ≡ a → a.broken ≡ true → IsGivenUp IsLent a b
-given_up_before IsLent a b e w =
-    subst (λ (x : PlainArbiter). IsGivenUp IsLent a x) (sym e)
-    (record { broken = w; records = refl; phase = refl; tells = λ jobs taken p l s. stands_tells a jobs taken p s; stays = λ h. refl })
+pub given_up_before : (IsLent : List Job → Type 0) (a : PlainArbiter) → a.broken ≡ true → IsGivenUp IsLent a a
+given_up_before IsLent a w = record { broken = w; records = refl; phase = refl; tells = λ jobs taken p l s. stands_tells a jobs taken p s; stays = λ h. refl }
 
 -- where memory was there before the call
 pub given_up_now : (IsLent : List Job → Type 0) (a v b : PlainArbiter) → v ≡ a → v.broken ≡ false → b.broken ≡ true → b.records ≡ v.records → b.phase ≡ v.phase →

@@ -17,8 +17,7 @@ use Rattle.bp_arbiter.proofs.arbiter.Arbiter.pick.Goals as goal
 
 pub returns-then-self-clause-memory : goal.returns-then-self-clause-memory
 returns-then-self-clause-memory c =
-    given_up_before (λ lent. lent ≡ []) c.args.self.now (seen c.self.inside.run c.self.inside.phase c.self.inside.broken) c.self.view_is
-    (sym (ap (λ (x : PlainArbiter). x.broken) c.self.view_is) ∙ c.if-self.true)
+    given_up_before (λ lent. lent ≡ []) c.args.self.now (sym (ap (λ (x : PlainArbiter). x.broken) c.self.view_is) ∙ c.if-self.true)
 
 pub returns-in_err-picked-clause-memory : goal.returns-in_err-picked-clause-memory
 returns-in_err-picked-clause-memory c =

@@ -30,8 +30,7 @@ invariant_of-self c =
 
 pub returns-then-self-clause-memory : goal.returns-then-self-clause-memory
 returns-then-self-clause-memory c =
-    given_up_before (AreReturned c.args.self.now c.args.jobs.items) c.args.self.now (seen c.self.inside.run c.self.inside.phase c.self.inside.broken) c.self.view_is
-    (sym (ap (λ (x : PlainArbiter). x.broken) c.self.view_is) ∙ c.if-self.true)
+    given_up_before (AreReturned c.args.self.now c.args.jobs.items) c.args.self.now (sym (ap (λ (x : PlainArbiter). x.broken) c.self.view_is) ∙ c.if-self.true)
 
 pub returns-in_err-seal-clause-memory : goal.returns-in_err-seal-clause-memory
 returns-in_err-seal-clause-memory c =
