@@ -1,5 +1,5 @@
 -- What comes next in a run, once the choice is known.
-use Rattle.std.proofs.Common.{◌≡◌, ◌≤◌, ◌<◌, ℕ, zero, suc, Bool, true, false, List, [], ◌∷◌, ◌++◌, length, refl, sym, ap, ◌∙◌, subst, Option, Some, None, Result, Ok, Err, OnOk, OnErr, IfOk, if◌then◌else◌, ◌==◌, slice_get, option_map, arith, nat_lt}
+use Rattle.std.proofs.Common.{◌≡◌, ◌≤◌, ◌<◌, ℕ, zero, suc, Bool, true, false, List, [], ◌∷◌, ◌++◌, length, refl, sym, ap, ◌∙◌, subst, Option, Some, None, Result, Ok, Err, OnOk, IfOk, if◌then◌else◌, ◌==◌, slice_get, option_map, arith, nat_lt}
 use Rattle.js_data.specs.Event.{PlainEvent}
 use Rattle.js_program.specs.PlainProgram.{PlainProgram}
 use Rattle.js_meaning.specs.Bodies.{Origin, the_top}
@@ -11,7 +11,7 @@ use Rattle.bp_log.specs.declared.verdict.Verdict.{Verdict}
 use Rattle.bp_log.specs.declared.verdict.Verdict.TheVariants as verdict
 use Rattle.bp_words.specs.Words.{draw_word}
 use Rattle.bp_run.specs.Bodies as bodies
-use Rattle.bp_run.specs.Bodies.{Code, SetFault}
+use Rattle.bp_run.specs.Bodies.{SetFault}
 use Rattle.bp_run.specs.Configuration.{Stand}
 use Rattle.bp_run.specs.Selecting.{live, Asked}
 use Rattle.bp_run.specs.Choosing.{Choice, choice, Touched, reach}

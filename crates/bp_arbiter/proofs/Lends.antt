@@ -12,7 +12,7 @@ use Rattle.bp_run.specs.Settling.Entry.{The_top, Runs, Stops}
 use Rattle.bp_run.specs.Numbers.{number_of}
 use Rattle.bp_meaning.specs.After.{effect_of, outcome_of}
 use Rattle.bp_thread.specs.declared.job.Job.{Job}
-use Rattle.bp_thread.specs.Jobs.{PlainJob, plain_job, IsOf, IsWhole, StandsFor as JobStands}
+use Rattle.bp_thread.specs.Jobs.{PlainJob, plain_job, IsWhole, StandsFor as JobStands}
 use Rattle.bp_thread.specs.Carried.{CarriedOut, AreCarriedOut}
 use Rattle.bp_thread.proofs.Carrying.{carried_out, whole_stands}
 use Rattle.bp_code.specs.Code.{ground_for}
@@ -21,7 +21,7 @@ use Rattle.bp_floor.specs.Forgetting.{forget, AreGoing}
 use Rattle.bp_floor.specs.Lending.{IsLent, IsDone, JobFor, AreLent, AreDone, fill, filled, filled_pair, standing}
 use Rattle.bp_floor.specs.Returning.{ground_at, AreLater, RunsAlone}
 use Rattle.bp_floor.specs.Floors as floors
-use Rattle.bp_floor.specs.Floors.{PlainFloor, IsPhased, StandsWith, StandsFor as FloorStands}
+use Rattle.bp_floor.specs.Floors.{PlainFloor, IsPhased, StandsFor as FloorStands}
 use Rattle.bp_arbiter.specs.Arbiters.{PlainArbiter, StandsFor, options_in}
 use Rattle.bp_arbiter.specs.Calls.{is_call, AllCall, HandlerCalls, HandlersCall, RunCalls}
 use Rattle.bp_arbiter.specs.Lending.{CanRun, AllCanRun, AreOut, AreBack}

@@ -15,7 +15,7 @@ use Rattle.bp_thread.specs.Carried.{AreCarriedOut}
 use Rattle.bp_floor.specs.declared.phase.Phase.{Phase}
 use Rattle.bp_floor.specs.declared.phase.Phase.TheVariants.{Ready, Lent}
 use Rattle.bp_floor.specs.Floors as floors
-use Rattle.bp_floor.specs.Floors.{PlainFloor, code_on, phase_at, phase_of}
+use Rattle.bp_floor.specs.Floors.{code_on}
 use Rattle.bp_floor.specs.Lending.{filled_pair}
 use Rattle.bp_arbiter.specs.declared.run.Run.{Run}
 use Rattle.bp_arbiter.specs.Arbiters.{PlainArbiter, StandsFor, Tells, Keeps, Recounts, coming, code_in, options_in, stand_in, is_over}

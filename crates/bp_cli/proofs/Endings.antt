@@ -1,5 +1,5 @@
 -- How a command ends: from the bytes of its program, and with its note or without the memory for it.
-use Rattle.std.proofs.Common.{◌≡◌, ℕ, zero, suc, ◌<◌, List, [], ◌∷◌, ◌++◌, length, refl, sym, subst, append-nil, arith, inl, inr}
+use Rattle.std.proofs.Common.{◌≡◌, ℕ, zero, suc, ◌<◌, List, [], ◌∷◌, length, refl, sym, subst, append-nil, arith, inl, inr}
 use Rattle.std.specs.Prelude.{◌⊎◌, Option, Some, None, IsSome, IfSome, IsSomeAnd}
 use Rattle.bp_base.specs.Worlds.{Holdings, Opens}
 use Rattle.bp_base.specs.Pieces.{Appends, AppendsFront}
@@ -14,7 +14,7 @@ use Rattle.bp_cli.specs.declared.words.Verb.{Verb}
 use Rattle.bp_cli.specs.declared.conclusion.Conclusion.{Conclusion}
 use Rattle.bp_cli.specs.declared.conclusion.Conclusion.TheVariants.{NoCommand, Refused, Accepted, Ran, NotRead, NotWritten, NoMemory}
 use Rattle.bp_cli.specs.Command.{PlainCommand}
-use Rattle.bp_cli.specs.Programs.{IsUnder, OfProgram, IsText, IsAccepted, accepted_line, PrintsFront, RunsTo}
+use Rattle.bp_cli.specs.Programs.{IsUnder, accepted_line, PrintsFront, RunsTo}
 use Rattle.bp_cli.specs.Conclusions.{IsStatusOf}
 use Rattle.bp_cli.specs.Endings.{EndsOn, EndsIn, Ends}
 use Rattle.bp_cli.specs.Refusing.{IsTooLong}

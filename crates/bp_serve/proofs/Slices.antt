@@ -1,9 +1,9 @@
 -- Jobs that are carried on by slices.
-use Rattle.std.proofs.Common.{◌≡◌, ℕ, zero, suc, ◌+◌, ◌<◌, ◌≤◌, Bool, true, false, List, [], ◌∷◌, length, slice_index_or, set, length-set, get_or-set_same, get_or-set_other, inl, inr, ◌⊎◌, ◌≢◌, refl, sym, ap, ◌∙◌, subst, arith, Option, Some, None, IsSome, IsTrue, ◌↔◌}
+use Rattle.std.proofs.Common.{◌≡◌, ℕ, zero, suc, ◌+◌, ◌<◌, ◌≤◌, Bool, false, List, [], ◌∷◌, length, slice_index_or, set, length-set, get_or-set_same, get_or-set_other, inl, inr, ◌⊎◌, ◌≢◌, refl, sym, ap, ◌∙◌, subst, arith, Option, Some, None, IsSome, IsTrue, ◌↔◌}
 use Rattle.std.proofs.lemmas.Bool.{cases_eq}
 use Rattle.js_meaning.specs.State.{Ground, Effect}
 use Rattle.bp_thread.specs.declared.job.Job.{Job}
-use Rattle.bp_thread.specs.Jobs.{plain_job, IsOf, StandsAt, IsWhole, IsSame, Sliced}
+use Rattle.bp_thread.specs.Jobs.{StandsAt, IsWhole, Sliced}
 use Rattle.bp_thread.specs.Carried.{Carries, CarriedOut, AreCarriedOut}
 use Rattle.bp_arbiter.specs.Lending.{CanRun, AllCanRun}
 

@@ -1,4 +1,4 @@
-use Rattle.std.proofs.Common.{◌≡◌, ap, arith}
+use Rattle.std.proofs.Common.{arith}
 use Rattle.bp_arbiter.specs.Arbiters.{options_in}
 use Rattle.bp_serve.proofs.Way.{turn_keeps, turn_records, budget_of, carried_at, can_run_here}
 use Rattle.bp_serve.proofs.serving.turn.Goals as goal

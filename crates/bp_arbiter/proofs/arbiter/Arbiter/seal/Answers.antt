@@ -1,4 +1,4 @@
-use Rattle.std.proofs.Common.{◌≡◌, ◌∙◌, refl, ap, sym, subst, false, true, [], List}
+use Rattle.std.proofs.Common.{◌∙◌, refl, ap, sym, subst, false, true, [], List}
 use Rattle.std.proofs.lemmas.Result.{err_from_is_err_and}
 use Rattle.js_meaning.specs.Bodies.{Origin}
 use Rattle.bp_log.specs.declared.trace.Line.{Line}
