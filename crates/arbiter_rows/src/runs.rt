@@ -21,8 +21,7 @@ const TURNS: u32 = 10;
 /// The arbiter of the program with one injector.
 fn open(alloc: Global, script: &str) -> Result<Arbiter, Fail> {
     let program = accept(alloc, script.as_bytes())?;
-    let options =
-        Options::new(Strategy::Simple, 0, 1_000_000, 100_000, 1).ok_or("no options")?;
+    let options = Options::new(Strategy::Simple, 0, 1_000_000, 100_000, 1).ok_or("no options")?;
     Ok(Arbiter::open(alloc, program, options)?)
 }
 

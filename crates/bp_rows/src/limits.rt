@@ -60,7 +60,14 @@ fn at_most_16384_events_wait(rt: HostRuntime) -> Result<(), Fail> {
     let passes = often(alloc, "", 16385, ENQUEUES)?;
     let blocked = often(alloc, BLOCKS_ALL, 16384, ENQUEUES)?;
     let events = (16384, "external [\"x\"]\n");
-    ends(&rt, alloc, fits.as_str(), 0, events, "verdict quiet 16384\n")?;
+    ends(
+        &rt,
+        alloc,
+        fits.as_str(),
+        0,
+        events,
+        "verdict quiet 16384\n",
+    )?;
     let limit = "verdict limit queue 16384\n";
     ends(&rt, alloc, passes.as_str(), 6, (0, ""), limit)?;
     ends(&rt, alloc, blocked.as_str(), 6, (0, ""), limit)
@@ -88,14 +95,7 @@ fn a_run_weighs_at_most_16777216(rt: HostRuntime) -> Result<(), Fail> {
     let script = often(alloc, asks.as_str(), 1022, waits)?;
     let line = format!(in alloc; "event [\"{name}\"]\n")?;
     let limit = "verdict limit weight 16777216\n";
-    ends(
-        &rt,
-        alloc,
-        script.as_str(),
-        6,
-        (128, line.as_str()),
-        limit,
-    )
+    ends(&rt, alloc, script.as_str(), 6, (128, line.as_str()), limit)
 }
 
 #[test]
