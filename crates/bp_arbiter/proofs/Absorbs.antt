@@ -20,7 +20,7 @@ use Rattle.bp_run.proofs.Turns.{settle-rest}
 use Rattle.bp_floor.specs.declared.phase.Phase.TheVariants.{Rest}
 use Rattle.bp_floor.specs.Forgetting.{forgotten}
 use Rattle.bp_floor.specs.Floors.{IsPhased, is_idle}
-use Rattle.bp_arbiter.specs.Arbiters.{PlainArbiter, Stands, Recounts, code_in, options_in, stand_in}
+use Rattle.bp_arbiter.specs.Arbiters.{PlainArbiter, StandsFor, Recounts, code_in, options_in, stand_in}
 use Rattle.bp_arbiter.specs.Absorbing.{is_failed, fits, with_item, unread, absorbed}
 use Rattle.bp_arbiter.proofs.Picks.{unfilled}
 use Rattle.bp_arbiter.proofs.Told.{at_rest_idle, no_verdict, settled_idle}
@@ -49,7 +49,7 @@ end_comes : {O S : Type 0} (l : Code O S) (o : PlainOptions) (c : Configuration 
 unfolding story_from after_record
 end_comes l o c j h = rw h refl
 
-module _ (a : PlainArbiter) (taken : List Line) (p : Pair Origin) (s : Stands a [] taken p) (k : IsPhased a.floor) (i : a.floor.phase ≡ Rest) (f : a.phase ≡ Rest) (going : is_complete a.records ≡ false) (j : ℕ)
+module _ (a : PlainArbiter) (taken : List Line) (p : Pair Origin) (s : StandsFor a [] taken p) (k : IsPhased a.floor) (i : a.floor.phase ≡ Rest) (f : a.phase ≡ Rest) (going : is_complete a.records ≡ false) (j : ℕ)
     (read : list_any (nat_eq j) a.reading ≡ true) where
   told_stand : s.told.stand ≡ p.stand
   told_stand = s.settles ∙ settled_idle a [] taken p s k (ap is_idle i)
@@ -67,7 +67,7 @@ module _ (a : PlainArbiter) (taken : List Line) (p : Pair Origin) (s : Stands a 
   room e h = ap has_room told_stand ∙ ap (λ (x : Pair Origin). has_room x.stand) bare ∙ h
 
   -- where the arbiter stands, once the item has entered
-  pub stands_absorbed : (x : Item) → is_failed x ≡ false → fits (stand_in a) x ≡ true → Stands (absorbed j x a) [] taken (with_item x p)
+  pub stands_absorbed : (x : Item) → is_failed x ≡ false → fits (stand_in a) x ≡ true → StandsFor (absorbed j x a) [] taken (with_item x p)
   stands_absorbed (item.Offered e) n h =
       let c : Configuration Origin = record s.told { stand = queued e s.told.stand } in
       record {

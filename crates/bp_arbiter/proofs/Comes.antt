@@ -1,5 +1,5 @@
 -- What comes next in a run, once the choice is known.
-use Rattle.std.proofs.Common.{◌≡◌, ◌≤◌, ◌<◌, ℕ, zero, suc, Bool, true, false, List, [], ◌∷◌, ◌++◌, length, refl, sym, ap, ◌∙◌, subst, Option, Some, None, Result, Ok, Err, OnOk, OnErr, IfOk, if◌then◌else◌, ◌==◌, slice_get, option_map, arith, nat_lt}
+use Rattle.std.proofs.Common.{◌≡◌, ◌≤◌, ◌<◌, ℕ, zero, suc, Bool, true, false, List, [], ◌∷◌, ◌++◌, length, refl, sym, ap, ◌∙◌, subst, Option, Some, None, Result, Ok, Err, OnOk, IfOk, if◌then◌else◌, ◌==◌, slice_get, option_map, arith, nat_lt}
 use Rattle.js_data.specs.Event.{PlainEvent}
 use Rattle.js_program.specs.PlainProgram.{PlainProgram}
 use Rattle.js_meaning.specs.Bodies.{Origin, the_top}
@@ -11,7 +11,7 @@ use Rattle.bp_log.specs.declared.verdict.Verdict.{Verdict}
 use Rattle.bp_log.specs.declared.verdict.Verdict.TheVariants as verdict
 use Rattle.bp_words.specs.Words.{draw_word}
 use Rattle.bp_run.specs.Bodies as bodies
-use Rattle.bp_run.specs.Bodies.{Code, SetFault}
+use Rattle.bp_run.specs.Bodies.{SetFault}
 use Rattle.bp_run.specs.Configuration.{Stand}
 use Rattle.bp_run.specs.Selecting.{live, Asked}
 use Rattle.bp_run.specs.Choosing.{Choice, choice, Touched, reach}
@@ -184,17 +184,9 @@ pub ok_map : {T E A B : Type 0} (r : Result T E) → (A → B) → OnOk r A → 
 ok_map (Ok t) f a = f a
 ok_map (Err e) f a = tt
 
-pub on_err : {T E A : Type 0} (r : Result T E) → A → OnErr r A
-on_err (Ok t) a = tt
-on_err (Err e) a = a
-
-pub if_both : {T E A : Type 0} {P Q : T → Type 0} (r : Result T E) → ((t : T) → A → P t → Q t) → OnOk r A → IfOk r P → IfOk r Q
-if_both (Ok t) f a h = f t a h
-if_both (Err e) f a h = tt
-
-pub ok_both : {T E A B C : Type 0} (r : Result T E) → (A → B → C) → OnOk r A → OnOk r B → OnOk r C
-ok_both (Ok t) f a b = f a b
-ok_both (Err e) f a b = tt
+pub if_map : {T E : Type 0} {P Q : T → Type 0} (r : Result T E) → ((t : T) → P t → Q t) → IfOk r P → IfOk r Q
+if_map (Ok t) f h = f t h
+if_map (Err e) f h = tt
 
 pub queued_some : (xs : List PlainEvent) (n : ℕ) → n < length xs → (e : PlainEvent) × (slice_get xs n ≡ Some e)
 queued_some [] n h = absurd (omega (arith, h))

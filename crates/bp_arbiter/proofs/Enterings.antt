@@ -16,7 +16,7 @@ use Rattle.bp_floor.specs.declared.phase.Phase.{Phase}
 use Rattle.bp_floor.specs.declared.phase.Phase.TheVariants.{Rest}
 use Rattle.bp_floor.specs.Floors.{IsPhased}
 use Rattle.bp_arbiter.specs.declared.run.Run.{Run}
-use Rattle.bp_arbiter.specs.Arbiters.{PlainArbiter, Stands, Keeps, is_over, options_in, stand_in}
+use Rattle.bp_arbiter.specs.Arbiters.{PlainArbiter, StandsFor, Keeps, is_over, options_in, stand_in}
 use Rattle.bp_arbiter.specs.Sound.{IsSound, IsStanding}
 use Rattle.bp_arbiter.specs.Absorbing.{is_failed, fits, with_item, absorbed}
 use Rattle.bp_arbiter.specs.Recording.{PlainRecordList}
@@ -80,21 +80,21 @@ module _ (a : PlainArbiter) (r : Run) (i : IsAt Rest a r) (j : ℕ) (x : Item) (
   standing : IsStanding (seen r Rest false)
   standing = (i.sound).standing refl
 
-  here : (taken : List Line) (p : Pair Origin) → Stands (seen r Rest false) [] taken p → Stands (absorbed j x (seen r Rest false)) [] taken (with_item x p)
+  here : (taken : List Line) (p : Pair Origin) → StandsFor (seen r Rest false) [] taken p → StandsFor (absorbed j x (seen r Rest false)) [] taken (with_item x p)
   here taken p s =
       stands_absorbed (seen r Rest false) taken p s i.phased (standing.keeps).floor_phase refl (i.sound).over j
       (ap (λ (y : PlainArbiter). list_any (nat_eq j) y.reading) (sym i.is) ∙ read) x sound (ap (λ (y : PlainArbiter). fits (stand_in y) x) (sym i.is) ∙ room)
 
   module _ (r' : Run) (e : (f : Phase) (b : Bool) → seen r' f b ≡ absorbed j x (seen r f b)) (seed : r'.draw.seed ≡ r.draw.seed) where
-    pub absorb_stands : (taken : List Line) (p : Pair Origin) → Stands a [] taken p → Stands (seen r' Rest false) [] taken (with_item x p)
+    pub absorb_stands : (taken : List Line) (p : Pair Origin) → StandsFor a [] taken p → StandsFor (seen r' Rest false) [] taken (with_item x p)
     absorb_stands taken p s =
-        subst (λ (y : PlainArbiter). Stands y [] taken (with_item x p)) (sym (e Rest false)) (here taken p (subst (λ (y : PlainArbiter). Stands y [] taken p) i.is s))
+        subst (λ (y : PlainArbiter). StandsFor y [] taken (with_item x p)) (sym (e Rest false)) (here taken p (subst (λ (y : PlainArbiter). StandsFor y [] taken p) i.is s))
 
     -- the arbiter after the item
     pub absorb_sound : IsSound r'.draw.seed (seen r' Rest false)
     absorb_sound =
         let v = seen r Rest false in
-        let s = subst (λ (js : List Job). Stands v js standing.taken standing.pair) (standing.unlent refl) standing.stands in
+        let s = subst (λ (js : List Job). StandsFor v js standing.taken standing.pair) (standing.unlent refl) standing.stands in
         subst (λ (y : PlainArbiter). IsSound r'.draw.seed y) (sym (e Rest false))
         (sound_of r'.draw.seed (absorbed j x v) [] standing.taken (with_item x standing.pair)
         (seed ∙ (i.sound).seed_is ∙ ap (λ (o : PlainOptions). o.seed) (sym (same_options j x v)))
@@ -123,9 +123,9 @@ module _ {T E : Type 0} (a : PlainArbiter) (r : Run) (i : IsAt Rest a r) (j : �
       (subst (λ (n : ℕ). IsSound n (seen r' Rest false)) (sym seed) (subst (λ (y : PlainArbiter). IsSound r.draw.seed y) (sym (err Rest false)) i.sound))
 
   pub entered_stands : (res : Result T E) → OnOk res ((f : Phase) (w : Bool) → seen r' f w ≡ absorbed j x (seen r f w)) →
-      OnOk res ((taken : List Line) (p : Pair Origin) → Stands a [] taken p → Stands (seen r' g b) [] taken (with_item x p))
+      OnOk res ((taken : List Line) (p : Pair Origin) → StandsFor a [] taken p → StandsFor (seen r' g b) [] taken (with_item x p))
   entered_stands (Ok t) ok =
-      at_last g b rest whole (λ f w. (taken : List Line) (p : Pair Origin) → Stands a [] taken p → Stands (seen r' f w) [] taken (with_item x p)) (absorb_stands a r i j x read sound room r' ok seed)
+      at_last g b rest whole (λ f w. (taken : List Line) (p : Pair Origin) → StandsFor a [] taken p → StandsFor (seen r' f w) [] taken (with_item x p)) (absorb_stands a r i j x read sound room r' ok seed)
   entered_stands (Err t) ok = tt
 
   pub entered_same : (res : Result T E) → OnErr res ((f : Phase) (w : Bool) → seen r' f w ≡ seen r f w) → OnErr res (seen r' g b ≡ a)

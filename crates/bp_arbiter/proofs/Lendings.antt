@@ -7,7 +7,7 @@ use Rattle.bp_floor.specs.declared.phase.Phase.TheVariants.{Ready}
 use Rattle.bp_floor.specs.Lending.{AreLent, filled_pair, standing}
 use Rattle.bp_floor.specs.Floors.{PlainFloor}
 use Rattle.bp_arbiter.specs.declared.run.Run.{Run}
-use Rattle.bp_arbiter.specs.Arbiters.{PlainArbiter, Stands}
+use Rattle.bp_arbiter.specs.Arbiters.{PlainArbiter, StandsFor}
 use Rattle.bp_arbiter.specs.Lending.{AreOut}
 use Rattle.bp_arbiter.specs.Runs.{seen}
 use Rattle.bp_arbiter.specs.Sound.{IsStanding}
@@ -21,5 +21,5 @@ pub lends : (a : PlainArbiter) (r : Run) (i : IsAt Ready a r) (g : PlainFloor) (
 lends a r i g jobs l e base options b same =
     let v = seen r Ready false in
     let k : IsStanding v = (i.sound).standing refl in
-    let s = subst (λ (js : List Job). Stands v js k.taken k.pair) (k.unlent refl) k.stands in
+    let s = subst (λ (js : List Job). StandsFor v js k.taken k.pair) (k.unlent refl) k.stands in
     lent_out v g jobs k.taken k.pair i.phased (s.floor ∙ ap (λ (q : Pair Origin). before k.taken q) (unfilled r.floor.pair)) s.calls l e base options b same

@@ -12,7 +12,7 @@ use Rattle.bp_run.specs.Settling.Entry.{The_top, Runs, Stops}
 use Rattle.bp_run.specs.Numbers.{number_of}
 use Rattle.bp_meaning.specs.After.{effect_of, outcome_of}
 use Rattle.bp_thread.specs.declared.job.Job.{Job}
-use Rattle.bp_thread.specs.Jobs.{PlainJob, plain_job, IsOf, IsWhole, StandsFor}
+use Rattle.bp_thread.specs.Jobs.{PlainJob, plain_job, IsWhole, StandsFor as JobStands}
 use Rattle.bp_thread.specs.Carried.{CarriedOut, AreCarriedOut}
 use Rattle.bp_thread.proofs.Carrying.{carried_out, whole_stands}
 use Rattle.bp_code.specs.Code.{ground_for}
@@ -21,11 +21,11 @@ use Rattle.bp_floor.specs.Forgetting.{forget, AreGoing}
 use Rattle.bp_floor.specs.Lending.{IsLent, IsDone, JobFor, AreLent, AreDone, fill, filled, filled_pair, standing}
 use Rattle.bp_floor.specs.Returning.{ground_at, AreLater, RunsAlone}
 use Rattle.bp_floor.specs.Floors as floors
-use Rattle.bp_floor.specs.Floors.{PlainFloor, IsPhased, StandsWith, StandsFor as FloorStands}
-use Rattle.bp_arbiter.specs.Arbiters.{PlainArbiter, Stands, options_in}
+use Rattle.bp_floor.specs.Floors.{PlainFloor, IsPhased, StandsFor as FloorStands}
+use Rattle.bp_arbiter.specs.Arbiters.{PlainArbiter, StandsFor, options_in}
 use Rattle.bp_arbiter.specs.Calls.{is_call, AllCall, HandlerCalls, HandlersCall, RunCalls}
-use Rattle.bp_arbiter.specs.Lending.{CanRun, AllCanRun, AllOf, AreOut, AreBack}
-use Rattle.bp_arbiter.proofs.Forgets.{got}
+use Rattle.bp_arbiter.specs.Lending.{CanRun, AllCanRun, AreOut, AreBack}
+use Rattle.bp_floor.proofs.Stepping.{got}
 use Rattle.bp_arbiter.proofs.Seals.{filled_length}
 
 -- ---- the ground of what is to be run
@@ -185,7 +185,7 @@ filled_same base budget p es xs c =
     ap (λ (ts : List (Thread Origin)). record p { stand = record p.stand { threads = ts } }) (filled_carried base budget p.entries es xs p.stand.threads (all_carried base budget es xs c))
 
 -- a slice leaves the pair that the arbiter stands for
-pub carried_stands : (a : PlainArbiter) (es xs : List Job) (taken : List Line) (p : Pair Origin) → AreCarriedOut a.floor.base (options_in a).budget es xs → Stands a es taken p → Stands a xs taken p
+pub carried_stands : (a : PlainArbiter) (es xs : List Job) (taken : List Line) (p : Pair Origin) → AreCarriedOut a.floor.base (options_in a).budget es xs → StandsFor a es taken p → StandsFor a xs taken p
 carried_stands a es xs taken p c s =
     record {
       whole = s.whole;
@@ -200,9 +200,9 @@ carried_stands a es xs taken p c s =
     }
 
 module _ (base : Ground) (o : PlainOptions) where
-  is_done : (n : ℕ) (b : Body Origin) (e x : Job) → IsLent base.program o n b e → CanRun base o.budget e → CarriedOut base o.budget e x → IsOf base.program x → IsDone base.program o n b x
+  is_done : (n : ℕ) (b : Body Origin) (e x : Job) → IsLent base.program o n b e → CanRun base o.budget e → CarriedOut base o.budget e x → IsDone base.program o n b x
   unfolding code_of
-  is_done n b e x l r c i =
+  is_done n b e x l r c =
       let same = (c.carries).same in
       let done = carried_out base o.budget e x r.whole c in
       let g : ground_for base.program o.budget b.origin ≡ base = ap (λ (y : Origin). ground_for base.program o.budget y) (sym (l.job).origin_is) ∙ sym r.ground in
@@ -216,21 +216,21 @@ module _ (base : Ground) (o : PlainOptions) where
             number_is = same.number ∙ (l.job).number_is;
             origin_is = same.origin ∙ (l.job).origin_is;
             replies_are = same.replies ∙ (l.job).replies_are;
-            of_program = i;
+            of_program = (c.carries).of_program (l.job).of_program;
           };
           outcome = ap (λ (y : PlainJob). y.outcome) done ∙ ap (λ y. Some (outcome_of y)) body;
-          stands = subst (λ (y : Ground). StandsFor y o.budget x) (sym g) ((c.carries).stands (whole_stands base o.budget e r.whole));
+          stands = subst (λ (y : Ground). JobStands y o.budget x) (sym g) ((c.carries).stands (whole_stands base o.budget e r.whole));
         };
         effects = ap (λ (y : PlainJob). map effect_of y.effects) done ∙ ap (λ y. map effect_of (effects_since y)) body;
       }
 
-  done_at : (n : ℕ) (b : Option (Body Origin)) (es xs : List Job) (lent done : List Job → Type 0) → JobFor (IsLent base.program o) n b es lent → AllCanRun base o.budget es → AllCarried base o.budget es xs → AllOf base.program xs →
-      ((fs ys : List Job) → lent fs → AllCanRun base o.budget fs → AllCarried base o.budget fs ys → AllOf base.program ys → done ys) → JobFor (IsDone base.program o) n b xs done
+  done_at : (n : ℕ) (b : Option (Body Origin)) (es xs : List Job) (lent done : List Job → Type 0) → JobFor (IsLent base.program o) n b es lent → AllCanRun base o.budget es → AllCarried base o.budget es xs →
+      ((fs ys : List Job) → lent fs → AllCanRun base o.budget fs → AllCarried base o.budget fs ys → done ys) → JobFor (IsDone base.program o) n b xs done
   unfolding AllCarried
-  done_at n None es xs lent done h r c i k = k es xs h r c i
-  done_at n (Some b) [] xs lent done h r c i k = absurd h
-  done_at n (Some b) (e ∷ es) [] lent done h r c i k = absurd c
-  done_at n (Some b) (e ∷ es) (x ∷ xs) lent done h r c i k = (is_done n b e x h.0 r.0 c.0 i.0, k es xs h.1 r.1 c.1 i.1)
+  done_at n None es xs lent done h r c k = k es xs h r c
+  done_at n (Some b) [] xs lent done h r c k = absurd h
+  done_at n (Some b) (e ∷ es) [] lent done h r c k = absurd c
+  done_at n (Some b) (e ∷ es) (x ∷ xs) lent done h r c k = (is_done n b e x h.0 r.0 c.0, k es xs h.1 r.1 c.1)
 
   none_carried : (es xs : List Job) → es ≡ [] → AllCarried base o.budget es xs → xs ≡ []
   unfolding AllCarried
@@ -238,10 +238,10 @@ module _ (base : Ground) (o : PlainOptions) where
   none_carried [] (x ∷ xs) h c = absurd c
   none_carried (e ∷ es) xs h c = absurd (cc)
 
-  all_done : (s : Stand Origin) (ns : List (Entry Origin)) (es xs : List Job) → AreLent base.program o s ns es → AllCanRun base o.budget es → AllCarried base o.budget es xs → AllOf base.program xs → AreDone base.program o s ns xs
-  all_done s [] es xs h r c i = none_carried es xs h c
-  all_done s (n ∷ ns) es xs h r c i =
-      done_at (number_of n) (body_of (code_of base.program o) s n) es xs (AreLent base.program o s ns) (AreDone base.program o s ns) h r c i (λ fs ys l q d j. all_done s ns fs ys l q d j)
+  all_done : (s : Stand Origin) (ns : List (Entry Origin)) (es xs : List Job) → AreLent base.program o s ns es → AllCanRun base o.budget es → AllCarried base o.budget es xs → AreDone base.program o s ns xs
+  all_done s [] es xs h r c = none_carried es xs h c
+  all_done s (n ∷ ns) es xs h r c =
+      done_at (number_of n) (body_of (code_of base.program o) s n) es xs (AreLent base.program o s ns) (AreDone base.program o s ns) h r c (λ fs ys l q d. all_done s ns fs ys l q d)
 
 -- what comes back to the arbiter is what its floor asks back
 pub back_done : (a : PlainArbiter) (jobs : List Job) → AreBack a jobs → floors.AreBack a.floor jobs
@@ -250,7 +250,7 @@ back_done a jobs b =
     let lent = (b.out).lent in
     let c = all_carried f.base f.options.budget b.lent jobs b.carried in
     subst (λ (ts : List (Thread Origin)). AreDone f.base.program f.options (standing ts) f.pair.entries jobs) (sym (filled_carried f.base f.options.budget f.pair.entries b.lent jobs f.pair.stand.threads c))
-    (all_done f.base f.options (standing (filled_pair b.lent f.pair).stand.threads) f.pair.entries b.lent jobs lent (b.out).can_run c b.of_program)
+    (all_done f.base f.options (standing (filled_pair b.lent f.pair).stand.threads) f.pair.entries b.lent jobs lent (b.out).can_run c)
 
 -- what a floor lends is out
 pub lent_out : (a : PlainArbiter) (g : PlainFloor) (jobs : List Job) (taken : List Line) (p : Pair Origin) → IsPhased a.floor → FloorStands a.floor taken p → RunCalls p →

@@ -1,5 +1,4 @@
 pub mod Calls
-pub mod Forgets
 pub mod Nexts
 pub mod Told
 pub mod Standing

@@ -13,7 +13,7 @@ use Rattle.bp_run.specs.Story.{Next, next, next_unless, next_choice, next_chosen
 use Rattle.bp_run.specs.Story.Next.{Ends}
 use Rattle.bp_run.proofs.Stories.{next_lineless}
 use Rattle.bp_floor.specs.Forgetting.{forget, forgotten_in, forgotten}
-use Rattle.bp_arbiter.proofs.Forgets.{live_forgotten}
+use Rattle.bp_floor.proofs.Stepping.{live_forgotten}
 
 name_at : {O : Type 0} (o : O) (b : Bool) (t : Thread O) → t.ended ≡ b → (forget o t).name ≡ t.name
 name_at o true t h = rw h refl

@@ -21,11 +21,11 @@ use Rattle.bp_floor.specs.Forgetting.{forgotten}
 use Rattle.bp_floor.specs.Lending.{filled, filled_pair}
 use Rattle.bp_floor.specs.Floors.{PlainFloor, IsPhased, code_on, is_idle, phase_at}
 use Rattle.bp_arbiter.specs.declared.run.Run.{Run}
-use Rattle.bp_arbiter.specs.Arbiters.{PlainArbiter, Stands, Recounts, coming, code_in, options_in, IsDrawn, is_over}
+use Rattle.bp_arbiter.specs.Arbiters.{PlainArbiter, StandsFor, Recounts, coming, code_in, options_in, IsDrawn, is_over}
 use Rattle.bp_arbiter.specs.Picking.{after_pick, picked_of, phase_after, moved_phase}
 use Rattle.bp_arbiter.specs.Runs.{seen, configuration_of, next_in, HasCome, IsBeside, IsEnded, IsMoved, IsStill}
 use Rattle.bp_arbiter.proofs.Calls.{calls_stepped}
-use Rattle.bp_arbiter.proofs.Forgets.{stepped_stands}
+use Rattle.bp_floor.proofs.Stepping.{stepped_stands}
 use Rattle.bp_arbiter.proofs.Nexts.{next_stands}
 use Rattle.bp_arbiter.proofs.Told.{same_told, same_code, same_story, settled_idle, no_verdict}
 
@@ -96,7 +96,7 @@ on a c n h k e =
     subst (λ (x : Next). story (code_in a) (options_in a) (a.records ++ option_to_list (record_of x)) ≡ Some (after_next (code_in a) c x)) e
     (goes_on (code_in a) (options_in a) a.records c h k)
 
-module _ (r : Run) (taken : List Line) (p : Pair Origin) (s : Stands (seen r Rest false) [] taken p) (k : IsPhased r.floor) (i : r.floor.phase ≡ Rest) where
+module _ (r : Run) (taken : List Line) (p : Pair Origin) (s : StandsFor (seen r Rest false) [] taken p) (k : IsPhased r.floor) (i : r.floor.phase ≡ Rest) where
   abbrev a : PlainArbiter
   a = seen r Rest false
 
@@ -123,7 +123,7 @@ module _ (r : Run) (taken : List Line) (p : Pair Origin) (s : Stands (seen r Res
         same_story (record a { records = r.records.records ++ option_to_list (record_of n) }) (seen r' f false) (after_next (code_on r.floor) s.told n) b.program b.options h
         (on a s.told n s.story going (next_is s.told s.story ∙ e))
 
-    ends : (v : Verdict) (f : Phase) → next_in r ≡ Ends v → IsEnded r v r' → f ≡ Over → Stands (seen r' f false) [] taken (record p { stand = over p.stand v })
+    ends : (v : Verdict) (f : Phase) → next_in r ≡ Ends v → IsEnded r v r' → f ≡ Over → StandsFor (seen r' f false) [] taken (record p { stand = over p.stand v })
     ends v f e h o =
         record {
           whole = refl;
@@ -140,7 +140,7 @@ module _ (r : Run) (taken : List Line) (p : Pair Origin) (s : Stands (seen r Res
         }
 
     moves : (ch : Choice) (reached : List Touched) (f : Phase) → next_in r ≡ Selects ch reached → IsMoved r ch reached r' → is_over f ≡ false →
-        Stands (seen r' f false) [] taken (stepped (code_on r.floor) p.stand ch.event ch.place reached)
+        StandsFor (seen r' f false) [] taken (stepped (code_on r.floor) p.stand ch.event ch.place reached)
     moves ch reached f e h o =
         record {
           whole = refl;
@@ -157,7 +157,7 @@ module _ (r : Run) (taken : List Line) (p : Pair Origin) (s : Stands (seen r Res
           calls = calls_stepped r.floor.base.program r.floor.options p ch.event ch.place reached s.calls;
         }
 
-    waits : (f : Phase) → next_in r ≡ Waits → IsStill r r' → is_over f ≡ false → Stands (seen r' f false) [] taken p
+    waits : (f : Phase) → next_in r ≡ Waits → IsStill r r' → is_over f ≡ false → StandsFor (seen r' f false) [] taken p
     waits f e h o =
         record {
           whole = refl;
@@ -172,7 +172,7 @@ module _ (r : Run) (taken : List Line) (p : Pair Origin) (s : Stands (seen r Res
         }
 
     -- where the arbiter stands after what comes next
-    pub stands_on : (n : Next) → next_in r ≡ n → HasCome r n r' → Stands (seen r' r'.floor.phase false) [] taken (after_pick (code_on r.floor) p n)
+    pub stands_on : (n : Next) → next_in r ≡ n → HasCome r n r' → StandsFor (seen r' r'.floor.phase false) [] taken (after_pick (code_on r.floor) p n)
     stands_on (Ends v) e h = ends v r'.floor.phase e h (ap (λ (g : PlainFloor). g.phase) h.floor)
     stands_on (Selects ch reached) e h =
         moves ch reached r'.floor.phase e h (ap is_over (phase_come r r' (Selects ch reached) k i h) ∙ moved_not_over r'.floor.pair.entries)

@@ -15,10 +15,10 @@ use Rattle.bp_thread.specs.Carried.{AreCarriedOut}
 use Rattle.bp_floor.specs.declared.phase.Phase.{Phase}
 use Rattle.bp_floor.specs.declared.phase.Phase.TheVariants.{Ready, Lent}
 use Rattle.bp_floor.specs.Floors as floors
-use Rattle.bp_floor.specs.Floors.{PlainFloor, code_on, phase_at, phase_of}
+use Rattle.bp_floor.specs.Floors.{code_on}
 use Rattle.bp_floor.specs.Lending.{filled_pair}
 use Rattle.bp_arbiter.specs.declared.run.Run.{Run}
-use Rattle.bp_arbiter.specs.Arbiters.{PlainArbiter, Stands, Tells, Keeps, Recounts, coming, code_in, options_in, stand_in, is_over}
+use Rattle.bp_arbiter.specs.Arbiters.{PlainArbiter, StandsFor, Tells, Keeps, Recounts, coming, code_in, options_in, stand_in, is_over}
 use Rattle.bp_arbiter.specs.Sound.{IsSound}
 use Rattle.bp_arbiter.specs.Lending.{AreBack}
 use Rattle.bp_arbiter.specs.Runs.{seen, IsBeside}
@@ -53,17 +53,17 @@ module _ (a : PlainArbiter) (r : Run) (i : IsAt Lent a r) (jobs : List Job) wher
   going : is_complete r.records.records ≡ false
   going = (i.sound).over
 
-  carried : (lent : List Job) (taken : List Line) (p : Pair Origin) → Stands a lent taken p → AreCarriedOut a.floor.base (options_in a).budget lent jobs → Stands (seen r Lent false) jobs taken p
-  carried lent taken p s c = subst (λ (x : PlainArbiter). Stands x jobs taken p) i.is (carried_stands a lent jobs taken p c s)
+  carried : (lent : List Job) (taken : List Line) (p : Pair Origin) → StandsFor a lent taken p → AreCarriedOut a.floor.base (options_in a).budget lent jobs → StandsFor (seen r Lent false) jobs taken p
+  carried lent taken p s c = subst (λ (x : PlainArbiter). StandsFor x jobs taken p) i.is (carried_stands a lent jobs taken p c s)
 
-  back_stands : (h : AreBack a jobs) → Stands (seen r Lent false) jobs h.taken h.pair
+  back_stands : (h : AreBack a jobs) → StandsFor (seen r Lent false) jobs h.taken h.pair
   back_stands h = carried h.lent h.taken h.pair h.stands h.carried
 
   module _ (r' : Run) (b : IsBeside r r') where
     seed_same : r'.draw.seed ≡ r'.floor.options.seed
     seed_same = b.seed ∙ (i.sound).seed_is ∙ ap (λ (o : PlainOptions). o.seed) (sym b.options)
 
-    cut_tells : (f : Phase) (w : Bool) → IsCutOff r jobs r' → (taken : List Line) (p : Pair Origin) → Stands (seen r Lent false) jobs taken p → Tells (seen r' f w) taken
+    cut_tells : (f : Phase) (w : Bool) → IsCutOff r jobs r' → (taken : List Line) (p : Pair Origin) → StandsFor (seen r Lent false) jobs taken p → Tells (seen r' f w) taken
     cut_tells f w u taken p s =
         elim u.lines [
           | inl e ↦ tells_same (seen r Lent false) (seen r' f w) taken b.program b.options u.records e (stands_tells (seen r Lent false) jobs taken p s)
@@ -71,7 +71,7 @@ module _ (a : PlainArbiter) (r : Run) (i : IsAt Lent a r) (jobs : List Job) wher
         ]
 
     -- after want of memory
-    pub cut_off : (f : Phase) (w : Bool) → IsCutOff r jobs r' → (lent : List Job) (taken : List Line) (p : Pair Origin) → Stands a lent taken p → AreCarriedOut a.floor.base (options_in a).budget lent jobs →
+    pub cut_off : (f : Phase) (w : Bool) → IsCutOff r jobs r' → (lent : List Job) (taken : List Line) (p : Pair Origin) → StandsFor a lent taken p → AreCarriedOut a.floor.base (options_in a).budget lent jobs →
         Tells (seen r' f w) taken
     cut_off f w u lent taken p s c = cut_tells f w u taken p (carried lent taken p s c)
 
@@ -80,13 +80,13 @@ module _ (a : PlainArbiter) (r : Run) (i : IsAt Lent a r) (jobs : List Job) wher
         sound_broken r'.draw.seed (seen r' Lent true) h.taken seed_same (ap is_complete u.records ∙ going) (cut_tells Lent true u h.taken h.pair (back_stands h)) refl
 
     module _ (t : IsTurned r jobs r') where
-      pub seal_stands : (lent : List Job) (taken : List Line) (p : Pair Origin) → Stands a lent taken p → AreCarriedOut a.floor.base (options_in a).budget lent jobs →
-          Stands (seen r' r'.floor.phase false) [] taken (after_turn (code_in a) p)
+      pub seal_stands : (lent : List Job) (taken : List Line) (p : Pair Origin) → StandsFor a lent taken p → AreCarriedOut a.floor.base (options_in a).budget lent jobs →
+          StandsFor (seen r' r'.floor.phase false) [] taken (after_turn (code_in a) p)
       seal_stands lent taken p s c =
-          subst (λ (x : PlainArbiter). Stands (seen r' r'.floor.phase false) [] taken (after_turn (code_in x) p)) (sym i.is)
+          subst (λ (x : PlainArbiter). StandsFor (seen r' r'.floor.phase false) [] taken (after_turn (code_in x) p)) (sym i.is)
           (stands_sealed r jobs taken p (carried lent taken p s c) i.phased lent_phase t.turns r' b t going)
 
-      pub seal_over : (lent : List Job) (taken : List Line) (p : Pair Origin) → Stands (seen r Lent false) jobs taken p → (c : Configuration Origin) → Recounts a c → (v : Verdict) → r'.floor.pair.stand.verdict ≡ Some v → coming a c ≡ Ends v
+      pub seal_over : (lent : List Job) (taken : List Line) (p : Pair Origin) → StandsFor (seen r Lent false) jobs taken p → (c : Configuration Origin) → Recounts a c → (v : Verdict) → r'.floor.pair.stand.verdict ≡ Some v → coming a c ≡ Ends v
       seal_over lent taken p s c h v e =
           ap (λ (x : PlainArbiter). coming x c) i.is
           ∙ verdict_next r jobs taken p s i.phased lent_phase t.turns v c (subst (λ (x : PlainArbiter). Recounts x c) i.is h) (sym (verdict_kept r r' jobs t) ∙ e)

@@ -26,7 +26,7 @@ use Rattle.bp_floor.specs.Forgetting.{forget, forgotten}
 use Rattle.bp_floor.specs.Lending.{fill, filled, filled_pair}
 use Rattle.bp_floor.specs.Floors.{PlainFloor, IsPhased, IsSealed, StandsWith, StandsFor as FloorStands, code_on, is_idle, phase_at, phase_of}
 use Rattle.bp_arbiter.specs.declared.run.Run.{Run}
-use Rattle.bp_arbiter.specs.Arbiters.{PlainArbiter, Stands, Tells, Recounts, coming, code_in, options_in, stand_in, IsDrawn, is_over}
+use Rattle.bp_arbiter.specs.Arbiters.{PlainArbiter, StandsFor, Tells, Recounts, coming, code_in, options_in, stand_in, IsDrawn, is_over}
 use Rattle.bp_arbiter.specs.Runs.{seen, IsBeside, ended_floor}
 use Rattle.bp_arbiter.specs.Sealing.{ending, ended_with, after_turn, turned_in, Turns, IsTurned}
 use Rattle.bp_arbiter.proofs.Calls.{calls_turned}
@@ -142,7 +142,7 @@ has_grown r r' jobs t h =
     let old = filled_length r.floor.pair.entries jobs r.floor.pair.stand.threads in
     omega (arith, some, count, new, old)
 
-module _ (r : Run) (jobs : List Job) (taken : List Line) (p : Pair Origin) (s : Stands (seen r Lent false) jobs taken p) (k : IsPhased r.floor) (i : r.floor.phase ≡ Lent) where
+module _ (r : Run) (jobs : List Job) (taken : List Line) (p : Pair Origin) (s : StandsFor (seen r Lent false) jobs taken p) (k : IsPhased r.floor) (i : r.floor.phase ≡ Lent) where
   abbrev a : PlainArbiter
   a = seen r Lent false
 
@@ -197,7 +197,7 @@ module _ (r : Run) (jobs : List Job) (taken : List Line) (p : Pair Origin) (s : 
       abbrev code_same : code_on r'.floor ≡ l
       code_same = same_code r.floor.base.program r'.floor.base.program r.floor.options r'.floor.options b.program b.options
 
-      stands_at : (v : Option Verdict) (f : Phase) → (turn l p).stand.verdict ≡ v → is_over f ≡ is_some v → Stands (seen r' f false) [] taken (ended_with v (turn l p))
+      stands_at : (v : Option Verdict) (f : Phase) → (turn l p).stand.verdict ≡ v → is_over f ≡ is_some v → StandsFor (seen r' f false) [] taken (ended_with v (turn l p))
       stands_at None f e o =
           record {
             whole = refl;
@@ -229,7 +229,7 @@ module _ (r : Run) (jobs : List Job) (taken : List Line) (p : Pair Origin) (s : 
           }
 
       -- where the arbiter stands after the turn
-      pub stands_sealed : Stands (seen r' r'.floor.phase false) [] taken (after_turn l p)
+      pub stands_sealed : StandsFor (seen r' r'.floor.phase false) [] taken (after_turn l p)
       stands_sealed =
           stands_at (turn l p).stand.verdict r'.floor.phase refl
           (ap is_over t.phase_is ∙ over_verdict r'.floor.pair.stand.verdict r'.floor.pair.entries ∙ ap is_some (verdict_kept r r' jobs t ∙ sym same_verdict))

@@ -14,7 +14,7 @@ use Rattle.bp_thread.specs.declared.job.Job.{Job}
 use Rattle.bp_floor.specs.declared.phase.Phase.{Phase}
 use Rattle.bp_floor.specs.declared.phase.Phase.TheVariants as phase
 use Rattle.bp_floor.specs.Floors.{PlainFloor}
-use Rattle.bp_arbiter.specs.Arbiters.{PlainArbiter, Stands, Tells, Keeps, verdict_in, verdict_of, is_over, options_in, opened, is_lent}
+use Rattle.bp_arbiter.specs.Arbiters.{PlainArbiter, StandsFor, Tells, Keeps, verdict_in, verdict_of, is_over, options_in, opened, is_lent}
 use Rattle.bp_arbiter.specs.Sound.{IsSound}
 use Rattle.bp_arbiter.proofs.Told.{stands_tells, stands_opened}
 
@@ -38,7 +38,7 @@ over_is phase.Over h = refl
 
 -- ---- what is kept
 
-pub sound_of : (seed : ℕ) (a : PlainArbiter) (jobs : List Job) (taken : List Line) (p : Pair Origin) → seed ≡ (options_in a).seed → is_complete a.records ≡ is_over a.phase → Stands a jobs taken p →
+pub sound_of : (seed : ℕ) (a : PlainArbiter) (jobs : List Job) (taken : List Line) (p : Pair Origin) → seed ≡ (options_in a).seed → is_complete a.records ≡ is_over a.phase → StandsFor a jobs taken p →
     (is_lent a.phase ≡ false → jobs ≡ []) → Keeps a → IsSound seed a
 sound_of seed a jobs taken p h o s u k =
     record {
@@ -118,5 +118,5 @@ opened_sound program o seed a h k =
     (sound_of seed (opened program o) [] [] opening k refl (stands_opened program o) (λ u. refl)
     (record { steps = omega arith; drawn = λ n. omega arith; floor_phase = refl; floor_whole = refl }))
 
-pub opened_stands : (program : PlainProgram) (o : PlainOptions) (a : PlainArbiter) → a ≡ opened program o → Stands a [] [] opening
-opened_stands program o a h = subst (λ (x : PlainArbiter). Stands x [] [] opening) (sym h) (stands_opened program o)
+pub opened_stands : (program : PlainProgram) (o : PlainOptions) (a : PlainArbiter) → a ≡ opened program o → StandsFor a [] [] opening
+opened_stands program o a h = subst (λ (x : PlainArbiter). StandsFor x [] [] opening) (sym h) (stands_opened program o)

@@ -15,7 +15,7 @@ use Rattle.bp_floor.specs.declared.phase.Phase.TheVariants.{Ready, Lent, Rest, O
 use Rattle.bp_floor.specs.Forgetting.{forget, forgotten}
 use Rattle.bp_floor.specs.Lending.{filled_pair}
 use Rattle.bp_floor.specs.Floors.{PlainFloor, IsPhased, is_idle}
-use Rattle.bp_arbiter.specs.Arbiters.{PlainArbiter, Stands, StandsSomewhere, Tells, Keeps, Recounts, stand_in, Shows, is_lent}
+use Rattle.bp_arbiter.specs.Arbiters.{PlainArbiter, StandsFor, StandsSomewhere, Tells, Keeps, Recounts, stand_in, Shows, is_lent}
 use Rattle.bp_arbiter.specs.Sound.{IsSound, IsStanding}
 use Rattle.bp_arbiter.proofs.Picks.{unfilled}
 use Rattle.bp_arbiter.proofs.Told.{same_code, same_story, same_told, told_lines, settled_idle}
@@ -35,7 +35,7 @@ module _ (a : PlainArbiter) (g : PlainFloor) (ls : List Line) (t : IsTaken a.flo
   story_kept : (c : Configuration Origin) → Recounts a c → Recounts b c
   story_kept c h = same_story a b c (ap (λ (x : Ground). x.program) t.base) t.options refl h
 
-  taken_stands : (jobs : List Job) (taken : List Line) (p : Pair Origin) → Stands a jobs taken p → Stands b jobs (taken ++ ls) p
+  taken_stands : (jobs : List Job) (taken : List Line) (p : Pair Origin) → StandsFor a jobs taken p → StandsFor b jobs (taken ++ ls) p
   taken_stands jobs taken p s =
       record {
         whole = s.whole;
@@ -87,7 +87,7 @@ taken_sound seed a g ls h1 h2 h3 h4 h5 s =
     }
 
 pub stands_taken : (a : PlainArbiter) (g : PlainFloor) (ls : List Line) → a.floor.pair ≡ before ls g.pair → g.phase ≡ a.floor.phase → g.broken ≡ a.floor.broken → g.base ≡ a.floor.base → g.options ≡ a.floor.options →
-    (jobs : List Job) (taken : List Line) (p : Pair Origin) → Stands a jobs taken p → Stands (record a { floor = g }) jobs (taken ++ ls) p
+    (jobs : List Job) (taken : List Line) (p : Pair Origin) → StandsFor a jobs taken p → StandsFor (record a { floor = g }) jobs (taken ++ ls) p
 stands_taken a g ls h1 h2 h3 h4 h5 = taken_stands a g ls (record { pair = h1; phase = h2; broken = h3; base = h4; options = h5 })
 
 pub tells_taken : (a : PlainArbiter) (g : PlainFloor) (ls : List Line) → a.floor.pair ≡ before ls g.pair → g.phase ≡ a.floor.phase → g.broken ≡ a.floor.broken → g.base ≡ a.floor.base → g.options ≡ a.floor.options →
@@ -95,7 +95,7 @@ pub tells_taken : (a : PlainArbiter) (g : PlainFloor) (ls : List Line) → a.flo
 tells_taken a g ls h1 h2 h3 h4 h5 = taken_tells a g ls (record { pair = h1; phase = h2; broken = h3; base = h4; options = h5 })
 
 -- where it is idle, its lines are all that the story has
-pub exact_now : (a : PlainArbiter) → (a.broken ≡ false → IsStanding a) → (a.floor.broken ≡ false → IsPhased a.floor) → (taken : List Line) (p : Pair Origin) → Stands a [] taken p → is_idle a.phase ≡ true →
+pub exact_now : (a : PlainArbiter) → (a.broken ≡ false → IsStanding a) → (a.floor.broken ≡ false → IsPhased a.floor) → (taken : List Line) (p : Pair Origin) → StandsFor a [] taken p → is_idle a.phase ≡ true →
     (c : Configuration Origin) → Recounts a c → c.stand.lines ≡ taken ++ (stand_in a).lines
 exact_now a s k taken p h i c r =
     let q = (s h.whole).keeps in
@@ -130,7 +130,7 @@ shows_now a s k w i c r =
     let q = s w in
     let kept = q.keeps in
     let p = q.pair in
-    let h = subst (λ (js : List Job). Stands a js q.taken p) (q.unlent (idle_unlent a.phase i)) q.stands in
+    let h = subst (λ (js : List Job). StandsFor a js q.taken p) (q.unlent (idle_unlent a.phase i)) q.stands in
     let stand : c.stand ≡ p.stand = ap (λ (x : Configuration Origin). x.stand) (same_told a c h.told r h.story) ∙ h.settles
     ∙ settled_idle a [] q.taken p h (k kept.floor_whole) (ap is_idle kept.floor_phase ∙ i) in
     let e : before q.taken a.floor.pair ≡ forgotten the_top p = ap (λ (x : Pair Origin). before q.taken x) (sym (unfilled a.floor.pair)) ∙ sym h.floor in
@@ -138,10 +138,11 @@ shows_now a s k w i c r =
       queue = ap (λ (x : Pair Origin). x.stand.queue) e ∙ ap (λ (x : Stand Origin). x.queue) (sym stand);
       transitions = ap (λ (x : Pair Origin). x.stand.transitions) e ∙ ap (λ (x : Stand Origin). x.transitions) (sym stand);
       verdict = ap (λ (x : Pair Origin). x.stand.verdict) e ∙ ap (λ (x : Stand Origin). x.verdict) (sym stand);
+      threads = ap (λ (x : Pair Origin). x.stand.threads) e ∙ ap (λ (x : Stand Origin). map (forget the_top) x.threads) (sym stand);
       live = ap (λ (x : Pair Origin). not_ended x.stand) e ∙ live_count the_top p.stand.threads ∙ ap not_ended (sym stand);
     }
 
 pub somewhere : (a : PlainArbiter) → (a.broken ≡ false → IsStanding a) → a.broken ≡ false → is_lent a.phase ≡ false → StandsSomewhere a
 somewhere a s w u =
     let q = s w in
-    record { taken = q.taken; pair = q.pair; stands = subst (λ (js : List Job). Stands a js q.taken q.pair) (q.unlent u) q.stands }
+    record { taken = q.taken; pair = q.pair; stands = subst (λ (js : List Job). StandsFor a js q.taken q.pair) (q.unlent u) q.stands }

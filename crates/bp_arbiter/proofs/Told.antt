@@ -18,7 +18,7 @@ use Rattle.bp_floor.specs.declared.phase.Phase.{Phase}
 use Rattle.bp_floor.specs.declared.phase.Phase.TheVariants.{Ready, Lent, Rest, Over}
 use Rattle.bp_floor.specs.Programs.{code_of}
 use Rattle.bp_floor.specs.Floors.{PlainFloor, IsPhased, StandsWith, is_idle, not_lent, phase_at}
-use Rattle.bp_arbiter.specs.Arbiters.{PlainArbiter, Stands, Tells, Recounts, code_in, options_in, stand_in, opened}
+use Rattle.bp_arbiter.specs.Arbiters.{PlainArbiter, StandsFor, Tells, IsGivenUp, Recounts, code_in, options_in, stand_in, opened}
 use Rattle.bp_arbiter.proofs.Calls.{calls_opening}
 
 -- ---- what it tells
@@ -27,7 +27,7 @@ use Rattle.bp_arbiter.proofs.Calls.{calls_opening}
 pub pair_lines : (f : PlainFloor) (jobs : List Job) (taken : List Line) (p : Pair Origin) → StandsWith f jobs taken p → p.stand.lines ≡ taken ++ f.pair.stand.lines
 pair_lines f jobs taken p h = ap (λ (x : Pair Origin). x.stand.lines) h
 
-pub stands_tells : (a : PlainArbiter) (jobs : List Job) (taken : List Line) (p : Pair Origin) → Stands a jobs taken p → Tells a taken
+pub stands_tells : (a : PlainArbiter) (jobs : List Job) (taken : List Line) (p : Pair Origin) → StandsFor a jobs taken p → Tells a taken
 stands_tells a jobs taken p s =
     let g = grown_settle (code_in a) p in
     record {
@@ -79,10 +79,10 @@ pub same_told : (a : PlainArbiter) (c d : Configuration Origin) → Recounts a c
 same_told a c d h k = let e : Some c ≡ Some d = sym h ∙ k in cc
 
 -- where the arbiter is idle, the story leads to where its pair stands
-pub settled_idle : (a : PlainArbiter) (jobs : List Job) (taken : List Line) (p : Pair Origin) → Stands a jobs taken p → IsPhased a.floor → is_idle a.floor.phase ≡ true → settle (code_in a) p ≡ p.stand
+pub settled_idle : (a : PlainArbiter) (jobs : List Job) (taken : List Line) (p : Pair Origin) → StandsFor a jobs taken p → IsPhased a.floor → is_idle a.floor.phase ≡ true → settle (code_in a) p ≡ p.stand
 settled_idle a jobs taken p s k i = settle-rest (code_in a) p (at_rest_idle a.floor jobs taken p k s.floor i)
 
-pub told_lines : (a : PlainArbiter) (jobs : List Job) (taken : List Line) (p : Pair Origin) (c : Configuration Origin) → Stands a jobs taken p → IsPhased a.floor → is_idle a.floor.phase ≡ true → Recounts a c →
+pub told_lines : (a : PlainArbiter) (jobs : List Job) (taken : List Line) (p : Pair Origin) (c : Configuration Origin) → StandsFor a jobs taken p → IsPhased a.floor → is_idle a.floor.phase ≡ true → Recounts a c →
     c.stand.lines ≡ taken ++ (stand_in a).lines
 told_lines a jobs taken p c s k i r =
     ap (λ (x : Configuration Origin). x.stand.lines) (same_told a c s.told r s.story)
@@ -91,7 +91,7 @@ told_lines a jobs taken p c s k i r =
 
 -- ---- before anything has run
 
-pub stands_opened : (program : PlainProgram) (o : PlainOptions) → Stands (opened program o) [] [] opening
+pub stands_opened : (program : PlainProgram) (o : PlainOptions) → StandsFor (opened program o) [] [] opening
 unfolding story story_from initial
 stands_opened program o =
     record {
@@ -131,5 +131,23 @@ tells_same a b taken h k r l t =
 
 -- where nothing but the floor's jobs and queue has changed, it tells what it told
 pub leaves : (a v b : PlainArbiter) → v ≡ a → b.floor.base.program ≡ v.floor.base.program → options_in b ≡ options_in v → b.records ≡ v.records → (stand_in b).lines ≡ (stand_in v).lines →
-    (jobs : List Job) (taken : List Line) (p : Pair Origin) → Stands a jobs taken p → Tells b taken
+    (jobs : List Job) (taken : List Line) (p : Pair Origin) → StandsFor a jobs taken p → Tells b taken
 leaves a v b e h k r l jobs taken p s = tells_same v b taken h k r l (subst (λ (x : PlainArbiter). Tells x taken) (sym e) (stands_tells a jobs taken p s))
+
+-- ---- want of memory
+
+-- where memory had been wanting, nothing changes
+pub given_up_before : (IsLent : List Job → Type 0) (a : PlainArbiter) → a.broken ≡ true → IsGivenUp IsLent a a
+given_up_before IsLent a w = record { broken = w; records = refl; phase = refl; tells = λ jobs taken p l s. stands_tells a jobs taken p s; stays = λ h. refl }
+
+-- where memory was there before the call
+pub given_up_now : (IsLent : List Job → Type 0) (a v b : PlainArbiter) → v ≡ a → v.broken ≡ false → b.broken ≡ true → b.records ≡ v.records → b.phase ≡ v.phase →
+    ((jobs : List Job) (taken : List Line) (p : Pair Origin) → IsLent jobs → StandsFor a jobs taken p → Tells b taken) → IsGivenUp IsLent a b
+given_up_now IsLent a v b e w g r f t =
+    record {
+      broken = g;
+      records = r ∙ ap (λ (x : PlainArbiter). x.records) e;
+      phase = f ∙ ap (λ (x : PlainArbiter). x.phase) e;
+      tells = t;
+      stays = λ h. absurd (let x : true ≡ false = sym h ∙ ap (λ (y : PlainArbiter). y.broken) (sym e) ∙ w in cc);
+    }

@@ -21,7 +21,7 @@ use Rattle.bp_floor.specs.Forgetting.{forgotten}
 use Rattle.bp_floor.specs.Floors.{PlainFloor, IsPhased, code_on}
 use Rattle.bp_arbiter.specs.declared.run.Run.{Run}
 use Rattle.bp_arbiter.specs.declared.picked.Picked.TheVariants as picked
-use Rattle.bp_arbiter.specs.Arbiters.{PlainArbiter, Stands, Tells, Keeps, Recounts, coming, code_in, stand_in, is_over}
+use Rattle.bp_arbiter.specs.Arbiters.{PlainArbiter, StandsFor, Tells, Keeps, Recounts, coming, code_in, stand_in, is_over}
 use Rattle.bp_arbiter.specs.Sound.{IsSound, IsStanding}
 use Rattle.bp_arbiter.specs.Picking.{after_pick, picked_of, phase_after}
 use Rattle.bp_arbiter.specs.Runs.{seen, next_in, configuration_of, HasCome, IsBeside, IsUnheard}
@@ -80,20 +80,20 @@ module _ (a : PlainArbiter) (r r' : Run) (i : IsAt Rest a r) (b : IsBeside r r')
   going : is_complete r.records.records ≡ false
   going = (i.sound).over
 
-  stands_alone : Stands (seen r Rest false) [] standing.taken standing.pair
-  stands_alone = subst (λ (js : List Job). Stands (seen r Rest false) js standing.taken standing.pair) (standing.unlent refl) standing.stands
+  stands_alone : StandsFor (seen r Rest false) [] standing.taken standing.pair
+  stands_alone = subst (λ (js : List Job). StandsFor (seen r Rest false) js standing.taken standing.pair) (standing.unlent refl) standing.stands
 
   pub pick_next : (c : Configuration Origin) → Recounts a c → coming a c ≡ next_in r
   pick_next c h =
       ap (λ (x : PlainArbiter). coming x c) i.is
       ∙ next_is r standing.taken standing.pair stands_alone i.phased rests c (subst (λ (x : PlainArbiter). Recounts x c) i.is h)
 
-  pub pick_stands : HasCome r (next_in r) r' → (taken : List Line) (p : Pair Origin) (c : Configuration Origin) → Stands a [] taken p → Recounts a c →
-      Stands (seen r' r'.floor.phase false) [] taken (after_pick (code_in a) p (coming a c))
+  pub pick_stands : HasCome r (next_in r) r' → (taken : List Line) (p : Pair Origin) (c : Configuration Origin) → StandsFor a [] taken p → Recounts a c →
+      StandsFor (seen r' r'.floor.phase false) [] taken (after_pick (code_in a) p (coming a c))
   pick_stands h taken p c s k =
-      let l = subst (λ (x : PlainArbiter). Stands x [] taken p) i.is s in
-      subst (λ (n : Next). Stands (seen r' r'.floor.phase false) [] taken (after_pick (code_in a) p n)) (sym (pick_next c k))
-      (subst (λ (x : PlainArbiter). Stands (seen r' r'.floor.phase false) [] taken (after_pick (code_in x) p (next_in r))) (sym i.is)
+      let l = subst (λ (x : PlainArbiter). StandsFor x [] taken p) i.is s in
+      subst (λ (n : Next). StandsFor (seen r' r'.floor.phase false) [] taken (after_pick (code_in a) p n)) (sym (pick_next c k))
+      (subst (λ (x : PlainArbiter). StandsFor (seen r' r'.floor.phase false) [] taken (after_pick (code_in x) p (next_in r))) (sym i.is)
       (stands_on r taken p l i.phased rests r' b going (next_in r) refl h))
 
   pub pick_phase : HasCome r (next_in r) r' → r'.floor.phase ≡ phase_after (picked_of (next_in r)) r'.floor.pair.entries

@@ -1,8 +1,8 @@
 -- What contracts see of an arbiter, and what it stands for.
-use Rattle.std.specs.Prelude.{◌≡◌, ℕ, ◌≤◌, Bool, true, false, List, [], ◌∷◌, ◌++◌, Option, Some, None}
+use Rattle.std.specs.Prelude.{◌≡◌, ℕ, ◌≤◌, Bool, true, false, List, [], ◌∷◌, ◌++◌, map, Option, Some, None}
 use Rattle.js_value.specs.Value.{PlainSet}
 use Rattle.js_program.specs.PlainProgram.{PlainProgram}
-use Rattle.js_meaning.specs.Bodies.{Origin, bare}
+use Rattle.js_meaning.specs.Bodies.{Origin, bare, the_top}
 use Rattle.bp_log.specs.Options.{PlainOptions}
 use Rattle.bp_log.specs.declared.record.Record.{Record}
 use Rattle.bp_log.specs.declared.record.Record.TheVariants.{In, Bad, Eof, Sel, End}
@@ -15,6 +15,7 @@ use Rattle.bp_run.specs.Story.{Next, story, next}
 use Rattle.bp_thread.specs.declared.job.Job.{Job}
 use Rattle.bp_floor.specs.declared.phase.Phase.{Phase}
 use Rattle.bp_floor.specs.declared.phase.Phase.TheVariants.{Ready, Lent, Rest, Over}
+use Rattle.bp_floor.specs.Forgetting.{forget}
 use Rattle.bp_floor.specs.Floors.{PlainFloor, StandsWith, code_on}
 use Rattle.bp_arbiter.specs.Calls.{RunCalls}
 
@@ -69,7 +70,7 @@ IsDrawn Rest drawn told = drawn ≡ told
 IsDrawn Over drawn told = told ≤ drawn
 
 -- The arbiter, after these lines were taken and together with the jobs that are lent, stands for a pair: the pair settles to the story of the records.
-pub record Stands (a : PlainArbiter) (jobs : List Job) (taken : List Line) (p : Pair Origin) : Type 0 where
+pub record StandsFor (a : PlainArbiter) (jobs : List Job) (taken : List Line) (p : Pair Origin) : Type 0 where
   pub whole : a.broken ≡ false
   pub told : Configuration Origin
   pub story : Recounts a told
@@ -84,7 +85,7 @@ pub record Stands (a : PlainArbiter) (jobs : List Job) (taken : List Line) (p : 
 pub record StandsSomewhere (a : PlainArbiter) : Type 0 where
   pub taken : List Line
   pub pair : Pair Origin
-  pub stands : Stands a [] taken pair
+  pub stands : StandsFor a [] taken pair
 
 -- The records are a story, also after want of memory: the lines taken, then those to be taken, then the rest are its lines.
 pub record Tells (a : PlainArbiter) (taken : List Line) : Type 0 where
@@ -119,11 +120,18 @@ is_over Lent = false
 is_over Rest = false
 is_over Over = true
 
--- after want of memory, what was recorded and what can be done are as before
-pub record IsGivenUp (old new : PlainArbiter) : Type 0 where
+-- memory was not wanting before, and is not now
+pub record HadMemory (old new : PlainArbiter) : Type 0 where
+  pub before : old.broken ≡ false
+  pub after : new.broken ≡ false
+
+-- After want of memory nothing was recorded, and what can be done is as before. Of each pair that the arbiter stood for with such jobs, the lines taken and to be taken are the first of the story's. Where memory had been wanting before, nothing has changed.
+pub record IsGivenUp (IsLent : List Job → Type 0) (old new : PlainArbiter) : Type 0 where
   pub broken : new.broken ≡ true
   pub records : new.records ≡ old.records
   pub phase : new.phase ≡ old.phase
+  pub tells : (jobs : List Job) (taken : List Line) (p : Pair Origin) → IsLent jobs → StandsFor old jobs taken p → Tells new taken
+  pub stays : old.broken ≡ true → new ≡ old
 
 -- what an arbiter keeps unless memory was wanting
 pub record Keeps (a : PlainArbiter) : Type 0 where
@@ -132,9 +140,10 @@ pub record Keeps (a : PlainArbiter) : Type 0 where
   pub floor_phase : a.floor.phase ≡ a.phase
   pub floor_whole : a.floor.broken ≡ false
 
--- a floor shows where its b-threads stand
+-- a floor shows where its b-threads stand; of one that has ended, that it has
 pub record Shows (shown told : Stand Origin) : Type 0 where
   pub queue : shown.queue ≡ told.queue
   pub transitions : shown.transitions ≡ told.transitions
   pub verdict : shown.verdict ≡ told.verdict
+  pub threads : shown.threads ≡ map (forget the_top) told.threads
   pub live : not_ended shown ≡ not_ended told

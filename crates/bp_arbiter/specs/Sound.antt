@@ -5,14 +5,14 @@ use Rattle.bp_log.specs.Records.{is_complete}
 use Rattle.bp_log.specs.declared.trace.Line.{Line}
 use Rattle.bp_run.specs.Settling.{Pair}
 use Rattle.bp_thread.specs.declared.job.Job.{Job}
-use Rattle.bp_arbiter.specs.Arbiters.{PlainArbiter, Stands, Tells, Keeps, is_lent, is_over, options_in}
+use Rattle.bp_arbiter.specs.Arbiters.{PlainArbiter, StandsFor, Tells, Keeps, is_lent, is_over, options_in}
 
 -- it stands for some pair; jobs are lent at `Lent` alone
 pub record IsStanding (a : PlainArbiter) : Type 0 where
   pub jobs : List Job
   pub taken : List Line
   pub pair : Pair Origin
-  pub stands : Stands a jobs taken pair
+  pub stands : StandsFor a jobs taken pair
   pub unlent : is_lent a.phase ≡ false → jobs ≡ []
   pub keeps : Keeps a
 

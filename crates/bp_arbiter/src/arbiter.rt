@@ -1,5 +1,5 @@
 //! The arbiter.
-ghost use Rattle.std.specs.Prelude.{◌≡◌, ◌↔◌, ◌<◌, ◌≤◌, ◌+◌, ◌++◌, ◌∷◌, [], ℕ, List, nat_eq, not, length, option_map, option_to_list, OnOk, OnErr, IfOk, IfErr, IsErr, IsSome, Some, true, false};
+ghost use Rattle.std.specs.Prelude.{◌≡◌, ◌↔◌, ◌<◌, ◌≤◌, ◌+◌, ◌++◌, ◌∷◌, [], ℕ, List, nat_eq, not, length, option_map, option_to_list, OnOk, OnErr, IfOk, IfErr, IsErr, IsSome, MatchResult, Some, true, false};
 ghost use Rattle.std.specs.List.{list_any};
 ghost use Rattle.js_meaning.specs.Bodies.{Origin};
 ghost use Rattle.js_frames.specs.Places.{plain_ground};
@@ -9,16 +9,15 @@ ghost use Rattle.bp_log.specs.declared.verdict.Verdict.{Verdict as End};
 ghost use Rattle.bp_run.specs.Configuration.{Configuration};
 ghost use Rattle.bp_run.specs.Settling.{Pair, opening};
 ghost use Rattle.bp_run.specs.Story.{has_room, record_of};
-ghost use Rattle.bp_run.specs.Story as coming;
+ghost use Rattle.bp_run.specs.Story as story;
 ghost use Rattle.bp_thread.specs.declared.job.Job.{Job as Lent};
-ghost use Rattle.bp_thread.specs.Carried.{AreCarriedOut};
 ghost use Rattle.bp_floor.specs.declared.phase.Phase.TheVariants as phase;
 ghost use Rattle.bp_floor.specs.Floors.{is_idle, phase_of};
 ghost use Rattle.bp_arbiter.specs.declared.picked.Picked.TheVariants as picked;
-ghost use Rattle.bp_arbiter.specs.Arbiters.{opened, code_in, options_in, stand_in, Recounts, coming, Stands, StandsSomewhere, Tells, is_lent, verdict_of, IsGivenUp, Keeps, Shows};
+ghost use Rattle.bp_arbiter.specs.Arbiters.{opened, code_in, options_in, stand_in, Recounts, coming, StandsFor, StandsSomewhere, Tells, is_lent, verdict_of, HadMemory, IsGivenUp, Keeps, Shows};
 ghost use Rattle.bp_arbiter.specs.Absorbing.{is_failed, fits, ComesBack, with_item, absorbed};
 ghost use Rattle.bp_arbiter.specs.Picking.{picked_of, after_pick, phase_after};
-ghost use Rattle.bp_arbiter.specs.Lending.{AreOut, AreBack};
+ghost use Rattle.bp_arbiter.specs.Lending.{AreOut, AreBack, AreReturned};
 ghost use Rattle.bp_arbiter.specs.Sealing.{ending, after_turn};
 
 use crate::numbers::Numbers;
@@ -41,13 +40,22 @@ use std::marker::Model;
 /// at `Ready` and `Lent` turns are left on the way there. After want of memory from `pick`, `lend` or
 /// `seal` each later one of them answers it too; the records are a story still, and the lines taken and to
 /// be taken are the first of its lines.
-#[derive(Drop)]
 pub struct Arbiter {
     run: Run,
     /// After want of memory, that before the call.
     phase: Phase,
     /// Memory was wanting.
     broken: bool,
+}
+
+impl Drop for Arbiter {
+    fn drop(self) {
+        let Arbiter {
+            run: _,
+            phase: _,
+            broken: _,
+        } = self;
+    }
 }
 
 impl Model for Arbiter {
@@ -77,7 +85,7 @@ impl Arbiter {
     /// of memory.
     pub fn open(alloc: Global, program: Program, options: Options) -> Result<Arbiter, Memory>
         ensures opened { IfOk result (λ a. a ≡ opened program options) }
-        ensures stands { IfOk result (λ a. Stands a [] [] opening) }
+        ensures stands { IfOk result (λ a. StandsFor a [] [] opening) }
     {
         Ok(Arbiter {
             run: Run {
@@ -99,8 +107,8 @@ impl Arbiter {
         ensures kept { self.now.broken ≡ false → Keeps self.now }
         ensures few { self.now.broken ≡ false → length (stand_in self.now).threads ≤ MOST_THREADS }
         ensures tells { (jobs : List Lent) (taken : List Line) (p : Pair Origin) →
-            Stands self.now jobs taken p → Tells self.now taken }
-        ensures exact { (taken : List Line) (p : Pair Origin) → Stands self.now [] taken p →
+            StandsFor self.now jobs taken p → Tells self.now taken }
+        ensures exact { (taken : List Line) (p : Pair Origin) → StandsFor self.now [] taken p →
             is_idle self.now.phase ≡ true →
             (c : Configuration Origin) → Recounts self.now c →
             c.stand.lines ≡ taken ++ (stand_in self.now).lines }
@@ -175,7 +183,7 @@ impl Arbiter {
         ensures ground { self.new.floor.base ≡ self.old.floor.base }
         ensures options { options_in self.new ≡ options_in self.old }
         ensures stands { (jobs : List Lent) (taken : List Line) (p : Pair Origin) →
-            Stands self.old jobs taken p → Stands self.new jobs (taken ++ result) p }
+            StandsFor self.old jobs taken p → StandsFor self.new jobs (taken ++ result) p }
         ensures tells { (taken : List Line) → Tells self.old taken →
             Tells self.new (taken ++ result) }
     {
@@ -186,8 +194,12 @@ impl Arbiter {
     pub fn into_records(self) -> Records
         ensures { result ≡ self.records }
     {
-        let run = self.run;
-        run.records.into_records()
+        let Arbiter {
+            run,
+            phase: _,
+            broken: _,
+        } = self;
+        run.into_records()
     }
 
     /// Whether the item needs no place of the queue, or has one.
@@ -214,9 +226,10 @@ impl Arbiter {
         ensures absorbed { OnOk result (self.new ≡ absorbed injector item self.old) }
         ensures fits { OnOk result (fits (stand_in self.old) item ≡ true) }
         ensures stands { OnOk result ((taken : List Line) (p : Pair Origin) →
-            Stands self.old [] taken p → Stands self.new [] taken (with_item item p)) }
+            StandsFor self.old [] taken p → StandsFor self.new [] taken (with_item item p)) }
         ensures refused { IfErr result (ComesBack (stand_in self.old) item) }
         ensures same { OnErr result (self.new ≡ self.old) }
+        ensures stays { self.old.broken ≡ true → IsErr result }
     {
         if !self.fits(&item) {
             return Err(Absorb::Full(item));
@@ -237,18 +250,16 @@ impl Arbiter {
         ensures recorded { OnOk result ((c : Configuration Origin) → Recounts self.old c →
             self.new.records ≡ self.old.records ++ option_to_list (record_of (coming self.old c))) }
         ensures stands { OnOk result ((taken : List Line) (p : Pair Origin) (c : Configuration Origin) →
-            Stands self.old [] taken p → Recounts self.old c →
-            Stands self.new [] taken (after_pick (code_in self.old) p (coming self.old c))) }
+            StandsFor self.old [] taken p → Recounts self.old c →
+            StandsFor self.new [] taken (after_pick (code_in self.old) p (coming self.old c))) }
         ensures phase { IfOk result (λ k. self.new.phase ≡
             phase_after k self.new.floor.pair.entries) }
         ensures counted { IfOk result (λ k. k ≡ picked.Moved →
             (stand_in self.new).transitions ≡ (stand_in self.old).transitions + 1) }
-        ensures tells { OnErr result ((taken : List Line) (p : Pair Origin) →
-            Stands self.old [] taken p → Tells self.new taken) }
         ensures ground { self.new.floor.base ≡ self.old.floor.base }
         ensures options { options_in self.new ≡ options_in self.old }
-        ensures failed { OnErr result (IsGivenUp self.old self.new) }
-        ensures stays { self.old.broken ≡ true → IsErr result × (self.new ≡ self.old) }
+        ensures memory { MatchResult result (λ _. HadMemory self.old self.new)
+            (λ _. IsGivenUp (λ lent. lent ≡ []) self.old self.new) }
     {
         if self.broken {
             return Err(AllocError);
@@ -267,17 +278,15 @@ impl Arbiter {
         requires ready { self.old.phase ≡ phase.Ready }
         ensures lent { IfOk result (λ jobs. AreOut self.new jobs.items) }
         ensures stands { IfOk result (λ jobs. (taken : List Line) (p : Pair Origin) →
-            Stands self.old [] taken p → Stands self.new jobs.items taken p) }
+            StandsFor self.old [] taken p → StandsFor self.new jobs.items taken p) }
         ensures phase { OnOk result (self.new.phase ≡ phase.Lent) }
         ensures count { OnOk result (length (stand_in self.new).threads ≡
             length (stand_in self.old).threads) }
         ensures records { self.new.records ≡ self.old.records }
-        ensures tells { OnErr result ((taken : List Line) (p : Pair Origin) →
-            Stands self.old [] taken p → Tells self.new taken) }
         ensures ground { self.new.floor.base ≡ self.old.floor.base }
         ensures options { options_in self.new ≡ options_in self.old }
-        ensures failed { OnErr result (IsGivenUp self.old self.new) }
-        ensures stays { self.old.broken ≡ true → IsErr result × (self.new ≡ self.old) }
+        ensures memory { MatchResult result (λ _. HadMemory self.old self.new)
+            (λ _. IsGivenUp (λ lent. lent ≡ []) self.old self.new) }
     {
         if self.broken {
             return Err(AllocError);
@@ -300,24 +309,19 @@ impl Arbiter {
         ensures answered { IfOk result (λ f. f ≡ self.new.phase) }
         ensures phase { OnOk result (self.new.phase ≡ phase_of self.new.floor.pair) }
         ensures stands { OnOk result ((lent : List Lent) (taken : List Line) (p : Pair Origin) →
-            Stands self.old lent taken p →
-            AreCarriedOut self.old.floor.base (options_in self.old).budget lent jobs.items →
-            Stands self.new [] taken (after_turn (code_in self.old) p)) }
+            StandsFor self.old lent taken p → AreReturned self.old jobs.items lent →
+            StandsFor self.new [] taken (after_turn (code_in self.old) p)) }
         ensures recorded { OnOk result (self.new.records ≡
             self.old.records ++ ending (stand_in self.new).verdict) }
         ensures over { OnOk result ((c : Configuration Origin) → Recounts self.old c → (v : End) →
             (stand_in self.new).verdict ≡ Some v →
-            coming self.old c ≡ coming.Next.Ends v) }
+            coming self.old c ≡ story.Next.Ends v) }
         ensures grows { IfOk result (λ f. f ≡ phase.Ready →
             length (stand_in self.old).threads < length (stand_in self.new).threads) }
-        ensures tells { OnErr result ((lent : List Lent) (taken : List Line) (p : Pair Origin) →
-            Stands self.old lent taken p →
-            AreCarriedOut self.old.floor.base (options_in self.old).budget lent jobs.items →
-            Tells self.new taken) }
         ensures program { self.new.floor.base.program ≡ self.old.floor.base.program }
         ensures options { options_in self.new ≡ options_in self.old }
-        ensures failed { OnErr result (IsGivenUp self.old self.new) }
-        ensures stays { self.old.broken ≡ true → IsErr result × (self.new ≡ self.old) }
+        ensures memory { MatchResult result (λ _. HadMemory self.old self.new)
+            (λ _. IsGivenUp (AreReturned self.old jobs.items) self.old self.new) }
     {
         if self.broken {
             return Err(AllocError);

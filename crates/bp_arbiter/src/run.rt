@@ -17,14 +17,13 @@ use crate::picked::Picked;
 use crate::records::RecordList;
 use bp_floor::{Absorb, Floor, Phase, Went};
 use bp_log::limits::MOST_WAITING;
-use bp_log::{Item, Memory, Record, Verdict};
+use bp_log::{Item, Memory, Record, Records, Verdict};
 use bp_select::{Choice, Draw, SelectFault};
 use bp_thread::Job;
 use js_data::Event;
 use std::alloc::{AllocError, Global};
 
 /// A run.
-#[derive(Drop)]
 pub struct Run {
     /// Where its b-threads stand.
     pub floor: Floor,
@@ -36,6 +35,18 @@ pub struct Run {
     pub bad: Option<(u32, u32)>,
     /// What was recorded.
     pub records: RecordList,
+}
+
+impl Drop for Run {
+    fn drop(self) {
+        let Run {
+            floor: _,
+            draw: _,
+            reading: _,
+            bad: _,
+            records: _,
+        } = self;
+    }
 }
 
 impl Run {
@@ -119,6 +130,7 @@ impl Run {
     /// Selects the event at this place of the queue, as `select`.
     fn select_queued(&mut self, alloc: Global, place: u32) -> Result<Picked, Memory>
         requires rest { self.old.floor.phase ≡ phase.Rest }
+        requires within { place < length self.old.floor.pair.stand.queue }
         requires can { (e : PlainEvent) → slice_get self.old.floor.pair.stand.queue place ≡ Some e →
             CanGo self.old.floor e (Some place) }
         requires place { self.old.records.has_place ≡ true }
@@ -128,16 +140,12 @@ impl Run {
         ensures comes { OnOk result ((e : PlainEvent) →
             slice_get self.old.floor.pair.stand.queue place ≡ Some e →
             HasCome self.old (next_chosen_in self.old e (Some place)) self.new) }
-        ensures within { OnOk result (place < length self.old.floor.pair.stand.queue) }
         ensures beside { IsBeside self.old self.new }
         ensures ground { self.new.floor.base ≡ self.old.floor.base }
         ensures draw { self.new.draw ≡ self.old.draw }
         ensures failed { OnErr result (IsUnheard self.old self.new) }
     {
-        let Some(event) = self.floor.queue().get(place as usize) else {
-            return Err(AllocError);
-        };
-        let event = event.copy()?;
+        let event = self.floor.queue()[place as usize].copy()?;
         self.select(alloc, event, Some(place))
     }
 
@@ -235,6 +243,20 @@ impl Run {
             self.end(verdict)?;
         }
         Ok(phase)
+    }
+
+    /// The records, moved out. Takes no memory.
+    pub fn into_records(self) -> Records
+        ensures { result ≡ self.records.records }
+    {
+        let Run {
+            floor: _,
+            draw: _,
+            reading: _,
+            bad: _,
+            records,
+        } = self;
+        records.into_records()
     }
 }
 

@@ -1,32 +1,109 @@
--- How a command ends, with its note or without the memory for it.
-use Rattle.std.proofs.Common.{◌≡◌, ℕ, zero, suc, ◌<◌, List, [], ◌∷◌, length, sym, subst, arith, inl, inr}
-use Rattle.std.specs.Prelude.{◌⊎◌, Option, Some, None, IsSome, IfSome}
+-- How a command ends: from the bytes of its program, and with its note or without the memory for it.
+use Rattle.std.proofs.Common.{◌≡◌, ℕ, zero, suc, ◌<◌, List, [], ◌∷◌, length, refl, sym, subst, append-nil, arith, inl, inr}
+use Rattle.std.specs.Prelude.{◌⊎◌, Option, Some, None, IsSome, IfSome, IsSomeAnd}
 use Rattle.bp_base.specs.Worlds.{Holdings, Opens}
-use Rattle.bp_log.specs.declared.limits.TheConstants.{MOST_BYTES}
-use Rattle.bp_cli.specs.declared.conclusion.Conclusion.{Conclusion}
-use Rattle.bp_cli.specs.declared.conclusion.Conclusion.TheVariants.{NoMemory}
-use Rattle.bp_cli.specs.Command.{PlainCommand}
-use Rattle.bp_cli.specs.Conclusions.{IsStatusOf, Concludes, Causes, code_of}
-use Rattle.bp_cli.specs.Printing.{Prints, extent_of}
-use Rattle.bp_cli.specs.Refusing.{IsTooLong}
-use Rattle.bp_cli.proofs.Extents.{prints_some}
+use Rattle.bp_base.specs.Pieces.{Appends, AppendsFront}
 use Rattle.js_program.specs.PlainProgram.{PlainProgram}
+use Rattle.bp_log.specs.Options.{PlainOptions, default_options}
+use Rattle.bp_log.specs.declared.limits.TheConstants.{MOST_BYTES}
+use Rattle.bp_log.specs.declared.verdict.Verdict.{Verdict}
 use Rattle.bp_script.specs.Programs.{IsProgram, IsRefused}
+use Rattle.bp_code.specs.Code.{text_alone}
+use Rattle.bp_serve.specs.Ends.{verdict_alone}
+use Rattle.bp_cli.specs.declared.words.Verb.{Verb}
+use Rattle.bp_cli.specs.declared.conclusion.Conclusion.{Conclusion}
+use Rattle.bp_cli.specs.declared.conclusion.Conclusion.TheVariants.{NoCommand, Refused, Accepted, Ran, NotRead, NotWritten, NoMemory}
+use Rattle.bp_cli.specs.Command.{PlainCommand}
+use Rattle.bp_cli.specs.Programs.{IsUnder, accepted_line, PrintsFront, RunsTo}
+use Rattle.bp_cli.specs.Conclusions.{IsStatusOf}
+use Rattle.bp_cli.specs.Endings.{EndsOn, EndsIn, Ends}
+use Rattle.bp_cli.specs.Refusing.{IsTooLong}
 use Rattle.bp_script.specs.declared.refusal.Refusal.{Refusal}
 use Rattle.bp_script.proofs.Once.{never}
 
--- the status is that of the conclusion, or says that memory was wanting
-pub concluded : (command : Option PlainCommand) (holds : Option Holdings) (unread unwritten : Type 0) (c : Conclusion) (code : ℕ) (note : List ℕ) →
-    Causes command holds unread unwritten c → (IsStatusOf code note c ⊎ IsStatusOf code note NoMemory) → Concludes command holds unread unwritten code note
-concluded command holds unread unwritten c code note k (inl s) = record { conclusion = c; status = s; cause = k }
-concluded command holds unread unwritten c code note k (inr s) = record { conclusion = NoMemory; status = s; cause = tt }
+there_is : {A : Type 0} (o : Option A) (P : A → Type 0) → IsSomeAnd o P → (a : A) × (o ≡ Some a) × P a
+there_is None P h = absurd h
+there_is (Some a) P h = (a, refl, h)
 
--- and as much was printed as its code says
-pub printed : (command : Option PlainCommand) (holds : Option Holdings) (before after : Option (List ℕ)) (c : Conclusion) (code : ℕ) (note : List ℕ) →
-    Prints command holds before after (extent_of (code_of c)) → (IsStatusOf code note c ⊎ IsStatusOf code note NoMemory) → Prints command holds before after (extent_of code)
-printed command holds before after c code note p (inl s) = subst (λ (n : ℕ). Prints command holds before after (extent_of n)) (sym s.0) p
-printed command holds before after c code note p (inr s) =
-    subst (λ (n : ℕ). Prints command holds before after (extent_of n)) (sym s.0) (prints_some command holds before after (extent_of (code_of c)) p)
+-- the whole is a front
+front_of : (before after : Option (List ℕ)) (text : List ℕ) → Appends before text after → AppendsFront before text after
+front_of before after text h = (text, [], sym (append-nil text), h)
+
+-- ---- on the bytes of a program
+
+-- a run came to its end
+pub run_whole : (bytes : List ℕ) (program : PlainProgram) (o : PlainOptions) (before after : Option (List ℕ)) (v : Verdict) → IsProgram bytes program → o ≡ default_options →
+    IsSomeAnd (text_alone program o) (λ text. Appends before text after) → verdict_alone program o ≡ Some v → RunsTo before after bytes v
+run_whole bytes program o before after v p e h k =
+    record {
+      program = program;
+      is_program = p;
+      verdict = subst (λ (x : PlainOptions). verdict_alone program x ≡ Some v) e k;
+      prints = subst (λ (x : PlainOptions). IsSomeAnd (text_alone program x) (λ text. Appends before text after)) e h;
+    }
+
+-- a front of the text of a run was printed
+pub run_front : (bytes : List ℕ) (program : PlainProgram) (o : PlainOptions) (before after : Option (List ℕ)) → IsProgram bytes program → o ≡ default_options →
+    IsSomeAnd (text_alone program o) (λ text. AppendsFront before text after) → PrintsFront before after Verb.Run bytes
+run_front bytes program o before after p e h =
+    let there : IsSomeAnd (text_alone program default_options) (λ text. AppendsFront before text after) =
+    subst (λ (x : PlainOptions). IsSomeAnd (text_alone program x) (λ text. AppendsFront before text after)) e h in
+    let some = there_is (text_alone program default_options) (λ text. AppendsFront before text after) there in
+    (some.0, (program, p, some.1), some.2)
+
+-- ---- of a command
+
+ends_of : (verb : Verb) (name bytes : List ℕ) (holds : Option Holdings) (unread unwritten : Type 0) (before after : Option (List ℕ)) (c : Conclusion) →
+    IsUnder holds name bytes → EndsOn verb bytes unwritten before after c → EndsIn (Some (record { verb = verb; name = name })) holds unread unwritten before after c
+ends_of verb name bytes holds unread unwritten before after NoCommand u e = absurd e
+ends_of verb name bytes holds unread unwritten before after (Refused refusal) u e = (bytes, u, e)
+ends_of verb name bytes holds unread unwritten before after Accepted u e = (bytes, u, e)
+ends_of verb name bytes holds unread unwritten before after (Ran v) u e = (bytes, u, e)
+ends_of verb name bytes holds unread unwritten before after NotRead u e = absurd e
+ends_of verb name bytes holds unread unwritten before after NotWritten u e = (bytes, u, e)
+ends_of verb name bytes holds unread unwritten before after NoMemory u (inl same) = inl same
+ends_of verb name bytes holds unread unwritten before after NoMemory u (inr p) = inr (bytes, u, p)
+
+-- what is done to the bytes of its program ends the command
+pub ends_at : (command : Option PlainCommand) (verb v : Verb) (name bytes read : List ℕ) (holds : Option Holdings) (unread unwritten : Type 0) (before after : Option (List ℕ)) (c : Conclusion) →
+    Some (record { verb = verb; name = name }) ≡ command → verb ≡ v → read ≡ bytes → IsUnder holds name bytes →
+    EndsOn v read unwritten before after c → EndsIn command holds unread unwritten before after c
+ends_at command verb v name bytes read holds unread unwritten before after c e d r u p =
+    let there : EndsOn verb bytes unwritten before after c =
+    subst (λ (w : Verb). EndsOn w bytes unwritten before after c) (sym d) (subst (λ (bs : List ℕ). EndsOn v bs unwritten before after c) r p) in
+    subst (λ (x : Option PlainCommand). EndsIn x holds unread unwritten before after c) e (ends_of verb name bytes holds unread unwritten before after c u there)
+
+-- the text of a run that came to its end
+run_text : (before after : Option (List ℕ)) (bytes : List ℕ) (v : Verdict) → RunsTo before after bytes v → PrintsFront before after Verb.Run bytes
+run_text before after bytes v r =
+    let some = there_is (text_alone r.program default_options) (λ text. Appends before text after) r.prints in
+    (some.0, (r.program, r.is_program, some.1), front_of before after some.0 some.2)
+
+-- whatever a command ends in, nothing or a front of its text was printed
+printed_some : (command : Option PlainCommand) (holds : Option Holdings) (unread unwritten : Type 0) (before after : Option (List ℕ)) (c : Conclusion) →
+    EndsIn command holds unread unwritten before after c → EndsIn command holds unread unwritten before after NoMemory
+printed_some command holds unread unwritten before after NoCommand e = inl e.1
+printed_some command holds unread unwritten before after NotRead e = inl e.2
+printed_some command holds unread unwritten before after NoMemory e = e
+printed_some None holds unread unwritten before after (Refused refusal) e = absurd e
+printed_some (Some c) holds unread unwritten before after (Refused refusal) e = inl (e.2).1
+printed_some None holds unread unwritten before after Accepted e = absurd e
+printed_some (Some c) holds unread unwritten before after Accepted e =
+    inr (e.0, e.1, subst (λ (w : Verb). PrintsFront before after w e.0) (sym (e.2).0) (accepted_line, ((e.2).1, refl), front_of before after accepted_line (e.2).2))
+printed_some None holds unread unwritten before after (Ran v) e = absurd e
+printed_some (Some c) holds unread unwritten before after (Ran v) e =
+    inr (e.0, e.1, subst (λ (w : Verb). PrintsFront before after w e.0) (sym (e.2).0) (run_text before after e.0 v (e.2).1))
+printed_some None holds unread unwritten before after NotWritten e = absurd e
+printed_some (Some c) holds unread unwritten before after NotWritten e = inr (e.0, e.1, (e.2).1)
+
+-- the status is that of the conclusion, or says that memory was wanting
+pub concluded : (command : Option PlainCommand) (holds : Option Holdings) (unread unwritten : Type 0) (before after : Option (List ℕ)) (c : Conclusion) (code : ℕ) (note : List ℕ) →
+    EndsIn command holds unread unwritten before after c → (IsStatusOf code note c ⊎ IsStatusOf code note NoMemory) → Ends command holds unread unwritten before after code note
+concluded command holds unread unwritten before after c code note k (inl s) = record { conclusion = c; status = s; ends = k }
+concluded command holds unread unwritten before after c code note k (inr s) =
+    record { conclusion = NoMemory; status = s; ends = printed_some command holds unread unwritten before after c k }
+
+-- ---- too long
 
 longer : (n : ℕ) → (bytes : List ℕ) × (n < length bytes)
 longer zero = (0 ∷ [], omega arith)

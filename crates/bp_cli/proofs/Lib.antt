@@ -1,2 +1,1 @@
-pub mod Extents
 pub mod Endings

@@ -1,16 +1,11 @@
--- How a command ends: the code, the note and the cause of each conclusion.
-use Rattle.std.specs.Prelude.{◌≡◌, ℕ, List, [], Option, None, IsSome, codes}
-use Rattle.bp_base.specs.Worlds.{Holdings}
+-- How a command ends: the code and the note of each conclusion.
+use Rattle.std.specs.Prelude.{◌≡◌, ℕ, List, [], codes}
 use Rattle.bp_log.specs.declared.verdict.Verdict.{Verdict}
 use Rattle.bp_log.specs.declared.verdict.Verdict.TheVariants.{Quiet, Violated, Fault, Spent, Steps, Queue, Threads, Weight, Bad}
 use Rattle.bp_script.specs.Refusals as refusals
-use Rattle.bp_script.specs.Programs.{IsRefused}
 use Rattle.bp_script.specs.declared.reading.ScriptFault.{ScriptFault}
-use Rattle.bp_cli.specs.declared.words.Verb.{Verb}
 use Rattle.bp_cli.specs.declared.conclusion.Conclusion.{Conclusion}
 use Rattle.bp_cli.specs.declared.conclusion.Conclusion.TheVariants.{NoCommand, Refused, Accepted, Ran, NotRead, NotWritten, NoMemory}
-use Rattle.bp_cli.specs.Command.{PlainCommand}
-use Rattle.bp_cli.specs.Programs.{OfProgram, IsAccepted, RunsTo}
 
 -- what a wrong command is told
 abbrev pub usage : List ℕ
@@ -46,33 +41,9 @@ note_of NotRead = codes "read fault"
 note_of NotWritten = codes "write fault"
 note_of NoMemory = []
 
--- why what is done to these bytes ends so, where the output failed or not
-abbrev pub CausesOf : Verb → List ℕ → Type 0 → Conclusion → Type 0
-CausesOf verb bytes unwritten Accepted = (verb ≡ Verb.Accept) × IsAccepted bytes
-CausesOf verb bytes unwritten NoCommand = ⊥
-CausesOf verb bytes unwritten (Refused refusal) = IsRefused bytes refusal
-CausesOf verb bytes unwritten (Ran verdict) = (verb ≡ Verb.Run) × RunsTo bytes verdict
-CausesOf verb bytes unwritten NotRead = ⊥
-CausesOf verb bytes unwritten NotWritten = IsAccepted bytes × unwritten
-CausesOf verb bytes unwritten NoMemory = Unit {0}
-
--- why a command ends so, where reading or the output failed or not
-abbrev pub Causes : Option PlainCommand → Option Holdings → Type 0 → Type 0 → Conclusion → Type 0
-Causes command holds unread unwritten NoCommand = command ≡ None
-Causes command holds unread unwritten NotRead = IsSome command × unread
-Causes command holds unread unwritten NoMemory = Unit {0}
-Causes command holds unread unwritten conclusion =
-    OfProgram command holds (λ verb bytes. CausesOf verb bytes unwritten conclusion)
-
 -- the code and the note are those of the conclusion
 abbrev pub IsStatusOf : ℕ → List ℕ → Conclusion → Type 0
 IsStatusOf code note conclusion = (code ≡ code_of conclusion) × (note ≡ note_of conclusion)
-
--- the code and the note are those of a conclusion whose cause holds
-pub record Concludes (command : Option PlainCommand) (holds : Option Holdings) (unread unwritten : Type 0) (code : ℕ) (note : List ℕ) : Type 0 where
-  pub conclusion : Conclusion
-  pub status : IsStatusOf code note conclusion
-  pub cause : Causes command holds unread unwritten conclusion
 
 -- what comes of a program that is not accepted
 abbrev pub conclusion_of : ScriptFault → Conclusion

@@ -1,6 +1,6 @@
 pub mod Command
 pub mod Programs
 pub mod Conclusions
-pub mod Printing
+pub mod Endings
 pub mod Asking
 pub mod Refusing

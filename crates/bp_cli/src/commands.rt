@@ -3,9 +3,9 @@ ghost use Rattle.std.specs.Prelude.{◌≡◌, ◌⊎◌, ◌≤◌, map, Some, 
 ghost use Rattle.bp_base.specs.Counts.{Rose};
 ghost use Rattle.bp_base.specs.Worlds.{Asks};
 ghost use Rattle.bp_cli.specs.Command.{command_of};
-ghost use Rattle.bp_cli.specs.Conclusions.{Concludes, Causes, code_of};
+ghost use Rattle.bp_cli.specs.Conclusions.{code_of};
+ghost use Rattle.bp_cli.specs.Endings.{EndsIn, Ends};
 ghost use Rattle.bp_cli.specs.Programs.{IsUnder};
-ghost use Rattle.bp_cli.specs.Printing.{Prints, extent_of};
 ghost use Rattle.bp_cli.specs.Asking.{AsksAt};
 ghost use Rattle.bp_cli.specs.Refusing.{IsTooLong, Refuses};
 
@@ -49,11 +49,10 @@ fn conclude<W: World, K: Sink>(
     world: &mut W,
     out: &mut K,
 ) -> Conclusion
-    ensures cause { Causes (command_of (map string_bytes words.now)) (W.holds world.old)
+    ensures ends { EndsIn (command_of (map string_bytes words.now)) (W.holds world.old)
         (Rose (W.read_faults world.old) (W.read_faults world.new))
-        (Rose (K.faults out.old) (K.faults out.new)) result }
-    ensures prints { Prints (command_of (map string_bytes words.now)) (W.holds world.old)
-        (K.written out.old) (K.written out.new) (extent_of (code_of result)) }
+        (Rose (K.faults out.old) (K.faults out.new))
+        (K.written out.old) (K.written out.new) result }
     ensures asks { AsksAt (command_of (map string_bytes words.now))
         (W.asked world.old) (W.asked world.new) (code_of result) }
     ensures refuses { Refuses (command_of (map string_bytes words.now)) (W.holds world.old)
@@ -79,8 +78,7 @@ fn conclude<W: World, K: Sink>(
 
 /// Carries out what the words ask for.
 ///
-/// The words are those after the program's name: `run PROGRAM` or `accept PROGRAM` so far. A program runs under the default
-/// options.
+/// The words are those after the program's name: `run PROGRAM` or `accept PROGRAM`. A program runs under the default options.
 pub fn command<R: Threads + Wait + Sync, W: World, K: Sink>(
     _rt: &R,
     alloc: Global,
@@ -88,19 +86,17 @@ pub fn command<R: Threads + Wait + Sync, W: World, K: Sink>(
     world: &mut W,
     out: &mut K,
 ) -> Status
-    // It ends with the code and the note of a conclusion whose cause holds. So where neither count rose and memory was not
-    // wanting, the code is 1, 2, that of the one run's verdict, or 0 for an accepted program.
-    ensures concludes { Concludes (command_of (map string_bytes words.now)) (W.holds world.old)
+    // It ends with the code and the note of a conclusion whose cause holds, and printed what that conclusion says: at 0 and 3
+    // to 7 the whole text, at 9 a front of it, at 10 nothing or a front, and else nothing. So where neither count rose and
+    // memory was not wanting, the code is 1, 2, that of the one run's verdict, or 0 for an accepted program.
+    ensures ends { Ends (command_of (map string_bytes words.now)) (W.holds world.old)
         (Rose (W.read_faults world.old) (W.read_faults world.new))
-        (Rose (K.faults out.old) (K.faults out.new)) result.code result.note }
+        (Rose (K.faults out.old) (K.faults out.new))
+        (K.written out.old) (K.written out.new) result.code result.note }
 
     // A refused program comes to no other end, but for a fault of reading or want of memory.
     ensures refuses { Refuses (command_of (map string_bytes words.now)) (W.holds world.old)
         result.code }
-
-    // At 0 and 3 to 7 the whole text was printed, at 9 a front of it, at 10 nothing or a front, and else nothing.
-    ensures prints { Prints (command_of (map string_bytes words.now)) (W.holds world.old)
-        (K.written out.old) (K.written out.new) (extent_of result.code) }
 
     // The world was asked for the program's name alone, once; at 1 for nothing, and at 10 for nothing or that.
     ensures asks { AsksAt (command_of (map string_bytes words.now))

@@ -1,8 +1,8 @@
 //! What is done to a program whose bytes were read.
 ghost use Rattle.std.specs.Prelude.{◌≡◌, ◌≤◌};
 ghost use Rattle.bp_base.specs.Counts.{Rose};
-ghost use Rattle.bp_cli.specs.Conclusions.{code_of, CausesOf};
-ghost use Rattle.bp_cli.specs.Printing.{extent_of, PrintsOf};
+ghost use Rattle.bp_cli.specs.Conclusions.{code_of};
+ghost use Rattle.bp_cli.specs.Endings.{EndsOn};
 ghost use Rattle.bp_cli.specs.Refusing.{RefusesAt};
 ghost use Rattle.bp_cli.specs.declared.words.Verb.{Verb};
 
@@ -18,10 +18,8 @@ const ACCEPTED: &[u8] = b"accepted\n";
 
 /// Runs the program under the default options, and prints its run.
 pub(crate) fn run_program<K: Sink>(alloc: Global, bytes: &[u8], out: &mut K) -> Conclusion
-    ensures cause { CausesOf Verb.Run bytes.now
-        (Rose (K.faults out.old) (K.faults out.new)) result }
-    ensures prints { PrintsOf Verb.Run bytes.now
-        (K.written out.old) (K.written out.new) (extent_of (code_of result)) }
+    ensures ends { EndsOn Verb.Run bytes.now (Rose (K.faults out.old) (K.faults out.new))
+        (K.written out.old) (K.written out.new) result }
     ensures refuses { RefusesAt bytes.now (code_of result) }
     ensures counts { K.faults out.old ≤ K.faults out.new }
 {
@@ -38,10 +36,8 @@ pub(crate) fn run_program<K: Sink>(alloc: Global, bytes: &[u8], out: &mut K) -> 
 
 /// Prints that the program is accepted, or refuses it.
 pub(crate) fn accept_program<K: Sink>(alloc: Global, bytes: &[u8], out: &mut K) -> Conclusion
-    ensures cause { CausesOf Verb.Accept bytes.now
-        (Rose (K.faults out.old) (K.faults out.new)) result }
-    ensures prints { PrintsOf Verb.Accept bytes.now
-        (K.written out.old) (K.written out.new) (extent_of (code_of result)) }
+    ensures ends { EndsOn Verb.Accept bytes.now (Rose (K.faults out.old) (K.faults out.new))
+        (K.written out.old) (K.written out.new) result }
     ensures refuses { RefusesAt bytes.now (code_of result) }
     ensures counts { K.faults out.old ≤ K.faults out.new }
 {

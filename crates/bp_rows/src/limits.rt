@@ -2,85 +2,83 @@
 
 use crate::world::{fails_with, tells};
 use std::alloc::Global;
+use std::process::Abort;
+use std::sync::Wait;
 use std::test::Fail;
+use std::thread::Threads;
 
-/// So many equal lines.
-fn lines(alloc: Global, line: &str, count: usize) -> Result<String, Fail> {
-    let mut text = String::new(alloc);
-    for _ in 0..count {
-        text.push_str(line)?;
-    }
-    Ok(text)
+/// The script runs to this status without a note, and prints so many equal lines and a last one.
+fn ends<R: Threads + Wait + Sync + Abort>(
+    rt: &R,
+    alloc: Global,
+    script: &str,
+    code: u8,
+    lines: (usize, &str),
+    last: &str,
+) -> Result<(), Fail> {
+    let (count, line) = lines;
+    let mut trace = line.repeat(alloc, count)?;
+    trace.push_str(last)?;
+    tells(
+        rt,
+        alloc,
+        "run|script.js",
+        script.as_bytes(),
+        (code, "", trace.as_str()),
+    )
 }
 
-/// So many equal lines, and a last one.
-fn ended(alloc: Global, line: &str, count: usize, last: &str) -> Result<String, Fail> {
-    let mut text = lines(alloc, line, count)?;
-    text.push_str(last)?;
-    Ok(text)
+/// A script that does this so many times, behind its first lines.
+fn often(alloc: Global, first: &str, count: u32, what: &str) -> Result<String, Fail> {
+    Ok(format!(in alloc; "{first}for (let i = 0; i < {count}; i++) {what};\n")?)
 }
+
+const REGISTERS: &str = r#"bp.registerBThread("t", () => {})"#;
+
+const ENQUEUES: &str = r#"bp.enqueueExternalEvent(bp.Event("x"))"#;
+
+const BLOCKS_ALL: &str = "bp.registerBThread(\"A\", () => bp.sync({block: bp.all}));\n";
+
+const ENDLESS: &str =
+    r#"bp.registerBThread("A", () => { while (true) bp.sync({request: bp.Event("t")}) })"#;
 
 #[test]
 fn a_run_has_at_most_4096_b_threads(rt: HostRuntime) -> Result<(), Fail> {
     let alloc = rt.alloc();
-    let fits = r#"for (let i = 0; i < 4096; i++) bp.registerBThread("t", () => {})"#;
-    let quiet = ended(alloc, "done \"t\"\n", 4096, "verdict quiet 0\n")?;
-    tells(
-        &rt,
-        alloc,
-        "run|script.js",
-        fits.as_bytes(),
-        (0, "", quiet.as_str()),
-    )?;
-    let passes = r#"for (let i = 0; i < 4097; i++) bp.registerBThread("t", () => {})"#;
+    let fits = often(alloc, "", 4096, REGISTERS)?;
+    let passes = often(alloc, "", 4097, REGISTERS)?;
+    let done = (4096, "done \"t\"\n");
+    ends(&rt, alloc, fits.as_str(), 0, done, "verdict quiet 0\n")?;
     let limit = "verdict limit bthreads 4096\n";
-    tells(
-        &rt,
-        alloc,
-        "run|script.js",
-        passes.as_bytes(),
-        (6, "", limit),
-    )
+    ends(&rt, alloc, passes.as_str(), 6, (0, ""), limit)
 }
 
 #[test]
 fn at_most_16384_events_wait(rt: HostRuntime) -> Result<(), Fail> {
     let alloc = rt.alloc();
-    let fits = r#"for (let i = 0; i < 16384; i++) bp.enqueueExternalEvent(bp.Event("x"))"#;
-    let quiet = ended(alloc, "external [\"x\"]\n", 16384, "verdict quiet 16384\n")?;
-    tells(
+    let fits = often(alloc, "", 16384, ENQUEUES)?;
+    let passes = often(alloc, "", 16385, ENQUEUES)?;
+    let blocked = often(alloc, BLOCKS_ALL, 16384, ENQUEUES)?;
+    let events = (16384, "external [\"x\"]\n");
+    ends(
         &rt,
         alloc,
-        "run|script.js",
-        fits.as_bytes(),
-        (0, "", quiet.as_str()),
+        fits.as_str(),
+        0,
+        events,
+        "verdict quiet 16384\n",
     )?;
-    let limit = (6, "", "verdict limit queue 16384\n");
-    let passes = r#"for (let i = 0; i < 16385; i++) bp.enqueueExternalEvent(bp.Event("x"))"#;
-    tells(&rt, alloc, "run|script.js", passes.as_bytes(), limit)?;
-    let blocked = r#"bp.registerBThread("A", () => bp.sync({block: bp.all}));
-for (let i = 0; i < 16384; i++) bp.enqueueExternalEvent(bp.Event("x"))"#;
-    tells(&rt, alloc, "run|script.js", blocked.as_bytes(), limit)
+    let limit = "verdict limit queue 16384\n";
+    ends(&rt, alloc, passes.as_str(), 6, (0, ""), limit)?;
+    ends(&rt, alloc, blocked.as_str(), 6, (0, ""), limit)
 }
 
 #[test]
 fn a_run_makes_at_most_100000_transitions(rt: HostRuntime) -> Result<(), Fail> {
     let alloc = rt.alloc();
-    let endless =
-        r#"bp.registerBThread("A", () => { while (true) bp.sync({request: bp.Event("t")}) })"#;
-    let steps = ended(
-        alloc,
-        "event [\"t\"]\n",
-        100_000,
-        "verdict limit steps 100000\n",
-    )?;
-    tells(
-        &rt,
-        alloc,
-        "run|script.js",
-        endless.as_bytes(),
-        (6, "", steps.as_str()),
-    )
+    let events = (100_000, "event [\"t\"]\n");
+    let limit = "verdict limit steps 100000\n";
+    ends(&rt, alloc, ENDLESS, 6, events, limit)
 }
 
 // An event of weight 128 that 1,023 b-threads receive: 1,024 times 128 a transition, so that 128 transitions weigh
@@ -88,43 +86,26 @@ fn a_run_makes_at_most_100000_transitions(rt: HostRuntime) -> Result<(), Fail> {
 #[test]
 fn a_run_weighs_at_most_16777216(rt: HostRuntime) -> Result<(), Fail> {
     let alloc = rt.alloc();
-    let name = lines(alloc, "n", 126)?;
-    let script = format!(in alloc;
-        r#"
-for (let i = 0; i < 1022; i++) bp.registerBThread("w", () => {{ while (true) bp.sync({{waitFor: bp.all}}) }});
-bp.registerBThread("A", () => {{ while (true) bp.sync({{request: bp.Event("{name}")}}) }});
+    let name = "n".repeat(alloc, 126)?;
+    let asks = format!(in alloc;
+        r#"bp.registerBThread("A", () => {{ while (true) bp.sync({{request: bp.Event("{name}")}}) }});
 "#
     )?;
+    let waits = r#"bp.registerBThread("w", () => { while (true) bp.sync({waitFor: bp.all}) })"#;
+    let script = often(alloc, asks.as_str(), 1022, waits)?;
     let line = format!(in alloc; "event [\"{name}\"]\n")?;
-    let weight = ended(alloc, line.as_str(), 128, "verdict limit weight 16777216\n")?;
-    tells(
-        &rt,
-        alloc,
-        "run|script.js",
-        script.as_bytes(),
-        (6, "", weight.as_str()),
-    )
+    let limit = "verdict limit weight 16777216\n";
+    ends(&rt, alloc, script.as_str(), 6, (128, line.as_str()), limit)
 }
 
 #[test]
 fn a_program_has_at_most_1048576_bytes(rt: HostRuntime) -> Result<(), Fail> {
     let alloc = rt.alloc();
-    let most = vec![in alloc; b' '; 1_048_576]?;
-    tells(
-        &rt,
-        alloc,
-        "run|script.js",
-        &most,
-        (0, "", "verdict quiet 0\n"),
-    )?;
-    let more = vec![in alloc; b' '; 1_048_577]?;
-    fails_with(&rt, alloc, "run|script.js", &more, 2, "refused: too long")?;
-    fails_with(
-        &rt,
-        alloc,
-        "accept|script.js",
-        &more,
-        2,
-        "refused: too long",
-    )
+    let most = " ".repeat(alloc, 1_048_576)?;
+    ends(&rt, alloc, most.as_str(), 0, (0, ""), "verdict quiet 0\n")?;
+    let more = " ".repeat(alloc, 1_048_577)?;
+    for words in ["run|script.js", "accept|script.js"] {
+        fails_with(&rt, alloc, words, more.as_bytes(), 2, "refused: too long")?;
+    }
+    Ok(())
 }

@@ -1,12 +1,11 @@
 -- Jobs that are carried on by slices.
-use Rattle.std.proofs.Common.{◌≡◌, ℕ, zero, suc, ◌+◌, ◌<◌, ◌≤◌, Bool, true, false, List, [], ◌∷◌, ◌++◌, length, take, slice_index_or, set, length-set, get_or-set_same, get_or-set_other, inl, inr, ◌⊎◌, ◌≢◌, refl, sym, ap, ◌∙◌, subst, arith, Option, Some, None, IsSome, IsTrue, ◌↔◌}
+use Rattle.std.proofs.Common.{◌≡◌, ℕ, zero, suc, ◌+◌, ◌<◌, ◌≤◌, Bool, false, List, [], ◌∷◌, length, slice_index_or, set, length-set, get_or-set_same, get_or-set_other, inl, inr, ◌⊎◌, ◌≢◌, refl, sym, ap, ◌∙◌, subst, arith, Option, Some, None, IsSome, IsTrue, ◌↔◌}
 use Rattle.std.proofs.lemmas.Bool.{cases_eq}
 use Rattle.js_meaning.specs.State.{Ground, Effect}
 use Rattle.bp_thread.specs.declared.job.Job.{Job}
-use Rattle.bp_thread.specs.Jobs.{plain_job, IsOf, StandsAt, IsWhole, IsSame, Sliced}
+use Rattle.bp_thread.specs.Jobs.{StandsAt, IsWhole, Sliced}
 use Rattle.bp_thread.specs.Carried.{Carries, CarriedOut, AreCarriedOut}
-use Rattle.js_program.specs.PlainProgram.{PlainProgram}
-use Rattle.bp_arbiter.specs.Lending.{CanRun, AllCanRun, AllOf}
+use Rattle.bp_arbiter.specs.Lending.{CanRun, AllCanRun}
 
 -- so many slices were made of the job, and each began a node of the budget
 pub record Begun (base : Ground) (budget slices : ℕ) (j : Job) : Type 0 where
@@ -40,7 +39,7 @@ module _ (base : Ground) (budget : ℕ) where
   begun_all j h b = let each = b.each in let within = b.within h in omega (arith, each, within)
 
   pub carries_first : (j : Job) → Carries base budget j j
-  carries_first j = record { same = record { number = refl; name = refl; origin = refl; replies = refl }; stands = λ s. s; whole = λ w. w }
+  carries_first j = record { same = record { number = refl; name = refl; origin = refl; replies = refl }; stands = λ s. s; whole = λ w. w; of_program = λ i. i }
 
   pub carries_on : (a b c : Job) → Carries base budget a b → Carries base budget b c → Carries base budget a c
   carries_on a b c h k =
@@ -50,6 +49,7 @@ module _ (base : Ground) (budget : ℕ) where
         same = record { number = t.number ∙ s.number; name = t.name ∙ s.name; origin = t.origin ∙ s.origin; replies = t.replies ∙ s.replies };
         stands = λ x. k.stands (h.stands x);
         whole = λ w. k.whole (h.whole w);
+        of_program = λ i. k.of_program (h.of_program i);
       }
 
 pub still_open : {A : Type 0} (done : Bool) (o : Option A) → done ≡ false → (IsTrue done ↔ IsSome o) → o ≡ None
@@ -74,24 +74,11 @@ same_at [] i d e h = absurd (omega arith)
 same_at (x ∷ xs) zero d e h = refl
 same_at (x ∷ xs) (suc i) d e h = same_at xs i d e (omega arith)
 
--- all that a loop over a list wrote is the list
-taken_front : {A : Type 0} (xs ys : List A) → take (length xs) (xs ++ ys) ≡ xs
-taken_front [] ys = refl
-taken_front {A = A} (x ∷ xs) ys = ap (λ (l : List A). x ∷ l) (taken_front xs ys)
-
-pub taken_back : {A : Type 0} (n : ℕ) (xs ys : List A) → n ≡ length xs → take n (xs ++ ys) ≡ xs
-taken_back n xs ys e = ap (λ (m : ℕ). take m (xs ++ ys)) e ∙ taken_front xs ys
-
 -- the first ones were carried out, and the others are as they were
 pub record CarriedUpTo (base : Ground) (budget i : ℕ) (jobs items : List Job) : Type 0 where
   pub as_many : length items ≡ length jobs
   pub done : (k : ℕ) (d e : Job) → k < i → CarriedOut base budget (slice_index_or jobs k d) (slice_index_or items k e)
   pub rest : (k : ℕ) (e : Job) → i ≤ k → slice_index_or items k e ≡ slice_index_or jobs k e
-  pub program : (k : ℕ) (e : Job) → k < i → IsOf base.program (slice_index_or items k e)
-
-pub all_of : (program : PlainProgram) (jobs : List Job) → ((k : ℕ) (e : Job) → k < length jobs → IsOf program (slice_index_or jobs k e)) → AllOf program jobs
-all_of program [] h = tt
-all_of program (j ∷ js) h = (h 0 j (omega arith), all_of program js (λ k e b. h (suc k) e (omega (arith, b))))
 
 module _ (base : Ground) (budget : ℕ) where
   done_at : (jobs items : List Job) (i : ℕ) (new : Job) → CarriedUpTo base budget i jobs items → i < length items →
@@ -104,25 +91,15 @@ module _ (base : Ground) (budget : ℕ) where
       let there : slice_index_or (set items i new) k e ≡ slice_index_or items k e = get_or-set_other items i k new e q in
       rw there (c.done k d e (omega (arith, b, q)))
 
-  of_at : (items : List Job) (i : ℕ) (new : Job) → ((k : ℕ) (e : Job) → k < i → IsOf base.program (slice_index_or items k e)) → i < length items → IsOf base.program new →
-      (k : ℕ) (e : Job) → k < i + 1 → (k ≡ i) ⊎ (k ≢ i) → IsOf base.program (slice_index_or (set items i new) k e)
-  of_at items i new c l h k e b (inl q) =
-      let here : slice_index_or (set items i new) k e ≡ new = ap (λ (n : ℕ). slice_index_or (set items i new) n e) q ∙ get_or-set_same items i new e l in
-      rw here h
-  of_at items i new c l h k e b (inr q) =
-      let there : slice_index_or (set items i new) k e ≡ slice_index_or items k e = get_or-set_other items i k new e q in
-      rw there (c k e (omega (arith, b, q)))
-
   pub carried_next : (jobs items given : List Job) (i : ℕ) (a new : Job) → given ≡ jobs → i < length given → CarriedUpTo base budget i jobs items →
-      CarriedOut base budget (slice_index_or items i a) new → IsOf base.program new → CarriedUpTo base budget (i + 1) jobs (set items i new)
-  carried_next jobs items given i a new e h c x p =
+      CarriedOut base budget (slice_index_or items i a) new → CarriedUpTo base budget (i + 1) jobs (set items i new)
+  carried_next jobs items given i a new e h c x =
       let many = c.as_many in
       let l : i < length items = omega (arith, h, many, ap (λ (js : List Job). length js) e) in
       record {
         as_many = length-set items i new ∙ many;
         done = λ k d f b. done_at jobs items i new c l (λ g. subst (λ (y : Job). CarriedOut base budget y new) (same_at items i a g l ∙ c.rest i g (omega arith)) x) k d f b (cases_eq k i);
         rest = λ k f b. get_or-set_other items i k new f (λ q. omega (arith, b, q)) ∙ c.rest k f (omega (arith, b));
-        program = λ k f b. of_at items i new c.program l p k f b (cases_eq k i);
       }
 
   pub carried_all : (jobs items : List Job) (i : ℕ) → length jobs ≤ i → CarriedUpTo base budget i jobs items → AreCarriedOut base budget jobs items

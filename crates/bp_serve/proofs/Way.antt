@@ -13,7 +13,7 @@ use Rattle.bp_log.specs.declared.record.Record.TheVariants.{In, Bad, Eof, Sel, E
 use Rattle.bp_log.specs.declared.trace.Line.{Line}
 use Rattle.bp_log.specs.declared.verdict.Verdict.{Verdict}
 use Rattle.bp_run.specs.Bodies.{Code}
-use Rattle.bp_run.specs.Configuration.{Configuration, Stand}
+use Rattle.bp_run.specs.Configuration.{Configuration}
 use Rattle.bp_run.specs.Settling.{Entry, Pair, initial, opening}
 use Rattle.bp_run.specs.Choosing.{Choice, Touched}
 use Rattle.bp_run.specs.Story.{Next, next, move, record_of, after_next, story, story_from, alone_from, alone}
@@ -25,20 +25,19 @@ use Rattle.bp_thread.specs.Carried.{AreCarriedOut}
 use Rattle.bp_floor.specs.declared.phase.Phase.{Phase}
 use Rattle.bp_floor.specs.declared.phase.Phase.TheVariants.{Ready, Lent, Rest, Over}
 use Rattle.bp_floor.specs.Programs.{code_of}
-use Rattle.bp_floor.specs.Floors.{phase_at, phase_of, is_idle}
+use Rattle.bp_floor.specs.Floors.{PlainFloor, phase_at, phase_of, is_idle}
 use Rattle.bp_arbiter.specs.declared.picked.Picked.{Picked}
-use Rattle.bp_arbiter.specs.declared.picked.Picked.TheVariants as picked
 use Rattle.bp_code.specs.Code as bp_code
 use Rattle.bp_code.specs.Code.{text_alone, records_alone}
 use Rattle.js_program.specs.PlainProgram.{PlainProgram}
-use Rattle.bp_arbiter.specs.Arbiters.{PlainArbiter, opened, code_in, options_in, stand_in, Recounts, coming, Stands, Tells, verdict_of}
+use Rattle.bp_arbiter.specs.Arbiters.{PlainArbiter, opened, code_in, options_in, stand_in, Recounts, coming, StandsFor, Tells, verdict_of}
 use Rattle.bp_arbiter.specs.Lending.{AllCanRun}
 use Rattle.bp_arbiter.specs.Picking.{picked_of, after_pick, moved_phase, phase_after}
 use Rattle.bp_arbiter.specs.Sealing.{ending, after_turn}
 use Rattle.bp_base.specs.Pieces.{Appends, AppendsFront}
 use Rattle.bp_serve.specs.Ends.{verdict_alone}
 use Rattle.bp_serve.specs.Pages.{Shows, ShowsFront}
-use Rattle.bp_serve.specs.Serving.{Ahead, OnTheWay, Underway, IsUnderway, KeepsUnderway, Begins, TakesLines}
+use Rattle.bp_serve.specs.Serving.{Ahead, OnTheWay, Underway, KeepsUnderway, Begins, TakesLines}
 use Rattle.bp_serve.proofs.Pieces.{lines_text-append, lines_none, shows_page, shows_on, front_on, written_all, written_front, written_part, written_front_part}
 
 -- ---- the records
@@ -204,7 +203,7 @@ recorded_all l o a taken u e = let w : OnTheWay l o Over a.records = subst (λ (
 -- ---- each call
 
 -- before anything has run
-pub underway_first : (a : PlainArbiter) (p : Pair Origin) → a.records ≡ [] → a.phase ≡ Ready → (options_in a).injectors ≡ 0 → Stands a [] [] p → Underway (code_in a) (options_in a) a []
+pub underway_first : (a : PlainArbiter) (p : Pair Origin) → a.records ≡ [] → a.phase ≡ Ready → (options_in a).injectors ≡ 0 → StandsFor a [] [] p → Underway (code_in a) (options_in a) a []
 underway_first a p r f i s =
     record {
       code = refl;
@@ -218,7 +217,7 @@ underway_first a p r f i s =
 -- lines are taken
 pub underway_taken : (l : Code Origin PlainSet) (o : PlainOptions) (old new : PlainArbiter) (taken lines : List Line) → Underway l o old taken →
     new.floor.base ≡ old.floor.base → options_in new ≡ options_in old → new.records ≡ old.records → new.phase ≡ old.phase →
-    ((jobs : List Job) (t : List Line) (p : Pair Origin) → Stands old jobs t p → Stands new jobs (t ++ lines) p) → Underway l o new (taken ++ lines)
+    ((jobs : List Job) (t : List Line) (p : Pair Origin) → StandsFor old jobs t p → StandsFor new jobs (t ++ lines) p) → Underway l o new (taken ++ lines)
 underway_taken l o old new taken lines u b q r f s =
     record {
       code = same_code old new (ap (λ x. x.program) b) q ∙ u.code;
@@ -252,7 +251,7 @@ pub record Picks (l : Code Origin PlainSet) (o : PlainOptions) (old new : PlainA
 pub underway_picked : (l : Code Origin PlainSet) (o : PlainOptions) (old new : PlainArbiter) (taken : List Line) (k : Picked) → Underway l o old taken → old.phase ≡ Rest →
     ((c : Configuration Origin) → Recounts old c → k ≡ picked_of (coming old c)) →
     ((c : Configuration Origin) → Recounts old c → new.records ≡ old.records ++ option_to_list (record_of (coming old c))) →
-    ((t : List Line) (p : Pair Origin) (c : Configuration Origin) → Stands old [] t p → Recounts old c → Stands new [] t (after_pick (code_in old) p (coming old c))) →
+    ((t : List Line) (p : Pair Origin) (c : Configuration Origin) → StandsFor old [] t p → Recounts old c → StandsFor new [] t (after_pick (code_in old) p (coming old c))) →
     new.phase ≡ phase_after k new.floor.pair.entries → new.floor.base ≡ old.floor.base → options_in new ≡ options_in old → Picks l o old new taken
 underway_picked l o old new taken k u e kp rec st ph b q =
     let a = ahead_at_rest l o old taken u e in
@@ -276,9 +275,9 @@ underway_picked l o old new taken k u e kp rec st ph b q =
 
 -- the lent jobs are sealed
 pub underway_sealed : (l : Code Origin PlainSet) (o : PlainOptions) (old mid new : PlainArbiter) (taken : List Line) (jobs after : List Job) → Underway l o old taken → old.phase ≡ Ready →
-    ((t : List Line) (p : Pair Origin) → Stands old [] t p → Stands mid jobs t p) → mid.records ≡ old.records → mid.floor.base ≡ old.floor.base → options_in mid ≡ options_in old →
+    ((t : List Line) (p : Pair Origin) → StandsFor old [] t p → StandsFor mid jobs t p) → mid.records ≡ old.records → mid.floor.base ≡ old.floor.base → options_in mid ≡ options_in old →
     AreCarriedOut mid.floor.base (options_in mid).budget jobs after →
-    ((lent : List Job) (t : List Line) (p : Pair Origin) → Stands mid lent t p → AreCarriedOut mid.floor.base (options_in mid).budget lent after → Stands new [] t (after_turn (code_in mid) p)) →
+    ((lent : List Job) (t : List Line) (p : Pair Origin) → StandsFor mid lent t p → AreCarriedOut mid.floor.base (options_in mid).budget lent after → StandsFor new [] t (after_turn (code_in mid) p)) →
     new.phase ≡ phase_of new.floor.pair → new.records ≡ mid.records ++ ending (stand_in new).verdict →
     ((c : Configuration Origin) → Recounts mid c → (v : Verdict) → (stand_in new).verdict ≡ Some v → coming mid c ≡ Ends v) →
     new.floor.base.program ≡ mid.floor.base.program → options_in new ≡ options_in mid → Underway l o new taken
@@ -303,9 +302,9 @@ underway_sealed l o old mid new taken jobs after u e lend rec b q carried seal p
 -- lines are taken from the arbiter, which keeps that what it was is a story
 pub takes_lines : (old new : PlainArbiter) (lines : List Line) → (stand_in old).lines ≡ lines → (stand_in new).lines ≡ [] →
     new.floor.base ≡ old.floor.base → options_in new ≡ options_in old → new.records ≡ old.records → new.phase ≡ old.phase →
-    ((jobs : List Job) (t : List Line) (p : Pair Origin) → Stands old jobs t p → Stands new jobs (t ++ lines) p) →
-    ((jobs : List Job) (t : List Line) (p : Pair Origin) → Stands new jobs t p → Tells new t) →
-    ((t : List Line) (p : Pair Origin) → Stands new [] t p → is_idle new.phase ≡ true → (c : Configuration Origin) → Recounts new c → c.stand.lines ≡ t ++ (stand_in new).lines) →
+    ((jobs : List Job) (t : List Line) (p : Pair Origin) → StandsFor old jobs t p → StandsFor new jobs (t ++ lines) p) →
+    ((jobs : List Job) (t : List Line) (p : Pair Origin) → StandsFor new jobs t p → Tells new t) →
+    ((t : List Line) (p : Pair Origin) → StandsFor new [] t p → is_idle new.phase ≡ true → (c : Configuration Origin) → Recounts new c → c.stand.lines ≡ t ++ (stand_in new).lines) →
     TakesLines old new
 takes_lines old new lines e n b q r f s tells exact =
     let on : (l : Code Origin PlainSet) (o : PlainOptions) (taken : List Line) → Underway l o old taken → Underway l o new (taken ++ (stand_in old).lines) =
@@ -326,9 +325,9 @@ takes_lines old new lines e n b q r f s tells exact =
 
 -- where the jobs were sealed, the run is underway
 pub turn_keeps : {E : Type 0} (r : Result Phase E) (old mid new : PlainArbiter) (jobs after : List Job) → old.phase ≡ Ready →
-    ((t : List Line) (p : Pair Origin) → Stands old [] t p → Stands mid jobs t p) → mid.records ≡ old.records → mid.floor.base ≡ old.floor.base → options_in mid ≡ options_in old →
+    ((t : List Line) (p : Pair Origin) → StandsFor old [] t p → StandsFor mid jobs t p) → mid.records ≡ old.records → mid.floor.base ≡ old.floor.base → options_in mid ≡ options_in old →
     AreCarriedOut mid.floor.base (options_in mid).budget jobs after →
-    OnOk r ((lent : List Job) (t : List Line) (p : Pair Origin) → Stands mid lent t p → AreCarriedOut mid.floor.base (options_in mid).budget lent after → Stands new [] t (after_turn (code_in mid) p)) →
+    OnOk r ((lent : List Job) (t : List Line) (p : Pair Origin) → StandsFor mid lent t p → AreCarriedOut mid.floor.base (options_in mid).budget lent after → StandsFor new [] t (after_turn (code_in mid) p)) →
     OnOk r (new.phase ≡ phase_of new.floor.pair) → OnOk r (new.records ≡ mid.records ++ ending (stand_in new).verdict) →
     OnOk r ((c : Configuration Origin) → Recounts mid c → (v : Verdict) → (stand_in new).verdict ≡ Some v → coming mid c ≡ Ends v) →
     new.floor.base.program ≡ mid.floor.base.program → options_in new ≡ options_in mid → OnOk r (KeepsUnderway old new)
@@ -344,6 +343,10 @@ turn_records (Ok f) old mid new e h =
     ap (λ (es : List Record). length es) (h ∙ ap (λ (es : List Record). es ++ ending (stand_in new).verdict) e) ∙ length-append old.records (ending (stand_in new).verdict) in
     omega (arith, n)
 turn_records (Err x) old mid new e h = tt
+
+-- a budget that was read of the floor is that of the options
+pub budget_of : (o p : PlainOptions) (f g : PlainFloor) (n : ℕ) → n ≡ o.budget → o ≡ g.options → g ≡ f → p ≡ f.options → n ≡ p.budget
+budget_of o p f g n e h k q = e ∙ ap (λ (x : PlainOptions). x.budget) (h ∙ ap (λ (x : PlainFloor). x.options) k ∙ sym q)
 
 -- the lent jobs are those that are to be carried out
 pub carried_at : (base ground : Ground) (budget n : ℕ) (jobs after : List Job) → ground ≡ base → n ≡ budget → AreCarriedOut ground n jobs after → AreCarriedOut base budget jobs after
@@ -422,7 +425,7 @@ verdict_opened program options a rs v e h k = sym (k ∙ ap (λ (es : List Recor
 pub injectors_opened : (program : PlainProgram) (options : PlainOptions) (a : PlainArbiter) → a ≡ opened program options → options.injectors ≡ 0 → (options_in a).injectors ≡ 0
 injectors_opened program options a e i = ap (λ (x : PlainArbiter). (options_in x).injectors) e ∙ i
 
-pub underway_opened : (program : PlainProgram) (options : PlainOptions) (a : PlainArbiter) → a ≡ opened program options → options.injectors ≡ 0 → Stands a [] [] opening → Underway (code_in a) (options_in a) a []
+pub underway_opened : (program : PlainProgram) (options : PlainOptions) (a : PlainArbiter) → a ≡ opened program options → options.injectors ≡ 0 → StandsFor a [] [] opening → Underway (code_in a) (options_in a) a []
 underway_opened program options a e i s =
     underway_first a opening (ap (λ (x : PlainArbiter). x.records) e) (ap (λ (x : PlainArbiter). x.phase) e) (injectors_opened program options a e i) s
 

@@ -14,7 +14,7 @@ use Rattle.bp_run.specs.Story.{story, alone_from, alone}
 use Rattle.bp_run.specs.Text.{text}
 use Rattle.bp_floor.specs.declared.phase.Phase.{Phase}
 use Rattle.bp_floor.specs.declared.phase.Phase.TheVariants.{Ready, Lent, Rest, Over}
-use Rattle.bp_arbiter.specs.Arbiters.{PlainArbiter, code_in, options_in, stand_in, Stands}
+use Rattle.bp_arbiter.specs.Arbiters.{PlainArbiter, code_in, options_in, stand_in, StandsFor}
 
 -- the records of its run without injectors, and their text
 abbrev pub records_in : PlainArbiter → List Record
@@ -45,7 +45,7 @@ pub record Underway (l : Code Origin PlainSet) (o : PlainOptions) (a : PlainArbi
   pub code : code_in a ≡ l
   pub options : options_in a ≡ o
   pub pair : Pair Origin
-  pub stands : Stands a [] taken pair
+  pub stands : StandsFor a [] taken pair
   pub way : OnTheWay l o a.phase a.records
 
 -- the arbiter serves some run

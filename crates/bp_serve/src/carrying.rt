@@ -1,9 +1,8 @@
 //! Jobs that are carried on, slice by slice, to their outcomes.
 ghost use Rattle.std.specs.Prelude.{◌≡◌, ◌<◌, OnOk};
 ghost use Rattle.js_frames.specs.Places.{plain_ground};
-ghost use Rattle.bp_thread.specs.Jobs.{IsOf};
 ghost use Rattle.bp_thread.specs.Carried.{CarriedOut, AreCarriedOut};
-ghost use Rattle.bp_arbiter.specs.Lending.{CanRun, AllCanRun, AllOf};
+ghost use Rattle.bp_arbiter.specs.Lending.{CanRun, AllCanRun};
 
 use bp_log::Memory;
 use bp_thread::Job;
@@ -14,9 +13,7 @@ fn carry(ground: &Ground, budget: u64, slice: u64, job: &mut Job) -> Result<(), 
     requires some_budget { 0 < budget }
     requires some_slice { 0 < slice }
     requires can_run { CanRun (plain_ground ground.now) budget job.old }
-    ensures carried { OnOk result
-        (CarriedOut (plain_ground ground.now) budget job.old job.new) }
-    ensures program { OnOk result (IsOf (plain_ground ground.now).program job.new) }
+    ensures { OnOk result (CarriedOut (plain_ground ground.now) budget job.old job.new) }
 {
     // Each slice but the last begins a node of the budget, or more.
     for _slices in 0..budget {
@@ -37,9 +34,8 @@ pub fn carry_all(
     requires some_budget { 0 < budget }
     requires some_slice { 0 < slice }
     requires can_run { AllCanRun (plain_ground ground.now) budget jobs.old.items }
-    ensures carried { OnOk result
+    ensures { OnOk result
         (AreCarriedOut (plain_ground ground.now) budget jobs.old.items jobs.new.items) }
-    ensures program { OnOk result (AllOf (plain_ground ground.now).program jobs.new.items) }
 {
     for job in jobs.iter_mut() {
         carry(ground, budget, slice, job)?;

@@ -86,8 +86,8 @@ impl Page {
         lines: &[Line],
         out: &mut K,
     ) -> Result<(), RunFault>
-        ensures shows { OnOk result
-            (Shows (K.written out.old) (self.old ++ lines_text lines.now) self.new (K.written out.new)) }
+        ensures shows { let text = self.old ++ lines_text lines.now in
+            OnOk result (Shows (K.written out.old) text self.new (K.written out.new)) }
         ensures front { let text = self.old ++ lines_text lines.now in
             OnErr result (ShowsFront (K.written out.old) text self.new (K.written out.new)) }
         ensures cause { IsErrOf result RunFault.Write

@@ -1,14 +1,13 @@
-use Rattle.std.proofs.Common.{inr}
-use Rattle.bp_cli.proofs.Endings.{not_refused}
-use Rattle.bp_cli.proofs.Extents.{run_front}
+use Rattle.std.proofs.Common.{inr, refl}
+use Rattle.bp_cli.proofs.Endings.{not_refused, run_front}
 use Rattle.bp_cli.proofs.programs.run_program.Goals as goal
 
-pub returns-in-Err-Write-clause-prints : goal.returns-in-Err-Write-clause-prints
-returns-in-Err-Write-clause-prints g c =
-    run_front c.args.bytes.now c.in-Ok.program c.defaults.result _ _ c.in-Ok.ensures.program c.defaults.ensures c.in-Err-Write.ensures.front
+pub returns-in-Err-Write-clause-ends : goal.returns-in-Err-Write-clause-ends
+returns-in-Err-Write-clause-ends g c =
+    (c.in-Err-Write.ensures.cause refl, run_front c.args.bytes.now c.in-Ok.program c.defaults.result _ _ c.in-Ok.ensures.program c.defaults.ensures c.in-Err-Write.ensures.front)
 
-pub returns-in-Err-Memory-clause-prints : goal.returns-in-Err-Memory-clause-prints
-returns-in-Err-Memory-clause-prints g c =
+pub returns-in-Err-Memory-clause-ends : goal.returns-in-Err-Memory-clause-ends
+returns-in-Err-Memory-clause-ends g c =
     inr (run_front c.args.bytes.now c.in-Ok.program c.defaults.result _ _ c.in-Ok.ensures.program c.defaults.ensures c.in-Err-Memory.ensures.front)
 
 pub returns-in-Ok-run-clause-refuses : goal.returns-in-Ok-run-clause-refuses

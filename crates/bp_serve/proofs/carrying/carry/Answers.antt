@@ -1,4 +1,3 @@
-use Rattle.std.proofs.Common.{◌≡◌, false}
 use Rattle.bp_serve.proofs.Slices.{begun_next, carries_on, still_open}
 use Rattle.bp_serve.proofs.carrying.carry.Goals as goal
 

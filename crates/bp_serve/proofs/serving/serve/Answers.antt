@@ -1,7 +1,7 @@
 use Rattle.std.proofs.Common.{◌≡◌, ◌++◌, arith, rules, length, [], sym, ap, ◌∙◌}
 use Rattle.std.proofs.lemmas.Result.{err_from_is_err_and}
 use Rattle.bp_arbiter.specs.Arbiters.{code_in, options_in, stand_in}
-use Rattle.bp_floor.specs.declared.phase.Phase.TheVariants.{Ready, Rest, Over}
+use Rattle.bp_floor.specs.declared.phase.Phase.TheVariants.{Over}
 use Rattle.bp_serve.proofs.Way.{begins_none, shows_start, shows_lines, front_so_far, front_lines, shows_all, fewer, at_rest, Picks, underway_picked, recorded_all}
 use Rattle.bp_serve.proofs.serving.serve.Goals as goal
 

@@ -1,14 +1,7 @@
-use Rattle.std.proofs.Common.{ℕ, ◌≡◌, ◌∙◌, ap, subst, sym, arith}
-use Rattle.js_meaning.specs.State.{Ground}
-use Rattle.bp_log.specs.Options.{PlainOptions}
-use Rattle.bp_floor.specs.Floors.{PlainFloor}
+use Rattle.std.proofs.Common.{arith}
 use Rattle.bp_arbiter.specs.Arbiters.{options_in}
-use Rattle.bp_arbiter.specs.Lending.{AllOf}
-use Rattle.bp_serve.proofs.Way.{turn_keeps, turn_records, carried_at, can_run_here}
+use Rattle.bp_serve.proofs.Way.{turn_keeps, turn_records, budget_of, carried_at, can_run_here}
 use Rattle.bp_serve.proofs.serving.turn.Goals as goal
-
-budget_of : (o p : PlainOptions) (f g : PlainFloor) (n : ℕ) → n ≡ o.budget → o ≡ g.options → g ≡ f → p ≡ f.options → n ≡ p.budget
-budget_of o p f g n e h k q = e ∙ ap (λ (x : PlainOptions). x.budget) (h ∙ ap (λ (x : PlainFloor). x.options) k ∙ sym q)
 
 pub carry_all-requires-clause-some_budget : goal.carry_all-requires-clause-some_budget
 carry_all-requires-clause-some_budget c =
@@ -34,8 +27,7 @@ seal-requires-clause-back c = λ _.
       out = c.in_ok-jobs.ensures.lent;
       carried = carried_at _ _ _ c.budget-budget.result c.in_ok-jobs.jobs.items c.carry_all.new.jobs.items c.ground.ensures
           (budget_of c.options.result (options_in c.lend.new.self) c.args.arbiter.now.floor c.floor.result.now c.budget-budget.result c.budget-budget.ensures.budget c.options.ensures c.floor.ensures.floor c.lend.ensures.options)
-          c.in_ok-carry_all.ensures.carried;
-      of_program = subst (λ (g : Ground). AllOf g.program c.carry_all.new.jobs.items) c.ground.ensures c.in_ok-carry_all.ensures.program;
+          c.in_ok-carry_all.ensures;
     }
 
 pub returns-clause-keeps : goal.returns-clause-keeps
@@ -46,7 +38,7 @@ returns-clause-keeps c =
     c.in_ok-jobs.ensures.stands l.records l.ground l.options
     (carried_at _ _ _ c.budget-budget.result c.in_ok-jobs.jobs.items c.carry_all.new.jobs.items c.ground.ensures
     (budget_of c.options.result (options_in c.lend.new.self) c.args.arbiter.now.floor c.floor.result.now c.budget-budget.result c.budget-budget.ensures.budget c.options.ensures c.floor.ensures.floor l.options)
-    c.in_ok-carry_all.ensures.carried)
+    c.in_ok-carry_all.ensures)
     s.stands s.phase s.recorded s.over s.program s.options
 
 pub returns-clause-records : goal.returns-clause-records

@@ -4,7 +4,7 @@ use Rattle.bp_log.specs.declared.trace.Line.{Line}
 use Rattle.bp_run.specs.Configuration.{Configuration}
 use Rattle.bp_run.specs.Settling.{Pair}
 use Rattle.bp_floor.specs.Floors.{is_idle}
-use Rattle.bp_arbiter.specs.Arbiters.{PlainArbiter, Stands, StandsSomewhere, Recounts, is_lent, stand_in}
+use Rattle.bp_arbiter.specs.Arbiters.{PlainArbiter, StandsFor, StandsSomewhere, Recounts, is_lent, stand_in}
 use Rattle.bp_arbiter.specs.Runs.{seen}
 use Rattle.bp_arbiter.proofs.Told.{stands_tells}
 use Rattle.bp_arbiter.proofs.Takes.{exact_now, somewhere}
@@ -21,6 +21,6 @@ returns-clause-tells c = stands_tells c.args.self.now
 pub returns-clause-exact : goal.returns-clause-exact
 returns-clause-exact c =
     subst
-    (λ (a : PlainArbiter). (taken : List Line) (p : Pair Origin) → Stands a [] taken p → is_idle a.phase ≡ true → (d : Configuration Origin) → Recounts a d → d.stand.lines ≡ taken ++ (stand_in a).lines)
+    (λ (a : PlainArbiter). (taken : List Line) (p : Pair Origin) → StandsFor a [] taken p → is_idle a.phase ≡ true → (d : Configuration Origin) → Recounts a d → d.stand.lines ≡ taken ++ (stand_in a).lines)
     c.self.view_is
     (exact_now (seen c.self.inside.run c.self.inside.phase c.self.inside.broken) (c.self.invariant).standing c.keeps.ensures)

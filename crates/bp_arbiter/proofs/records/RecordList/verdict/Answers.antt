@@ -1,6 +1,6 @@
 use Rattle.std.proofs.Common.{◌∙◌, ◌-◌, ap, sym, List, Some, None, length, slice_get}
-use Rattle.bp_arbiter.specs.Arbiters.{verdict_of}
 use Rattle.bp_arbiter.specs.Recording.{PlainRecordList}
+use Rattle.bp_arbiter.specs.Arbiters.{verdict_of}
 use Rattle.bp_log.specs.declared.record.Record.{Record}
 use Rattle.bp_arbiter.proofs.Standing.{verdict_last}
 use Rattle.bp_arbiter.proofs.records.RecordList.verdict.Goals as goal

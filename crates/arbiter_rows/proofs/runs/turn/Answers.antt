@@ -1,0 +1,30 @@
+use Rattle.std.proofs.Common.{ap, arith}
+use Rattle.bp_arbiter.specs.Arbiters.{is_lent, options_in}
+use Rattle.bp_serve.proofs.Way.{budget_of, can_run_here, carried_at}
+use Rattle.arbiter_rows.proofs.runs.turn.Goals as goal
+
+pub carry_all-requires-clause-some_budget : goal.carry_all-requires-clause-some_budget
+carry_all-requires-clause-some_budget c =
+    let some = (c.budget-budget.ensures.within).some_budget in
+    let same = c.budget-budget.ensures.budget in
+    omega (arith, some, same)
+
+pub carry_all-requires-clause-can_run : goal.carry_all-requires-clause-can_run
+carry_all-requires-clause-can_run c =
+    can_run_here _ _ _ c.budget-budget.result c.in_ok-jobs.jobs.items c.ground.ensures
+    (budget_of c.options.result (options_in c.lend.new.self) c.args.arbiter.now.floor c.floor.result.now c.budget-budget.result c.budget-budget.ensures.budget c.options.ensures c.floor.ensures.floor c.lend.ensures.options)
+    (c.in_ok-jobs.ensures.lent).can_run
+
+pub seal-requires-clause-back : goal.seal-requires-clause-back
+seal-requires-clause-back c = λ _.
+    let s = c.keeps.ensures.stands (c.in_ok-jobs.ensures.memory).before (ap is_lent c.requires) in
+    record {
+      lent = c.in_ok-jobs.jobs.items;
+      taken = s.taken;
+      pair = s.pair;
+      stands = c.in_ok-jobs.ensures.stands s.taken s.pair s.stands;
+      out = c.in_ok-jobs.ensures.lent;
+      carried = carried_at _ _ _ c.budget-budget.result c.in_ok-jobs.jobs.items c.carry_all.new.jobs.items c.ground.ensures
+          (budget_of c.options.result (options_in c.lend.new.self) c.args.arbiter.now.floor c.floor.result.now c.budget-budget.result c.budget-budget.ensures.budget c.options.ensures c.floor.ensures.floor c.lend.ensures.options)
+          c.in_ok-carry_all.ensures;
+    }

@@ -1,0 +1,123 @@
+//! An arbiter that is moved on by hand.
+ghost use Rattle.std.specs.Prelude.{◌≡◌};
+ghost use Rattle.bp_floor.specs.declared.phase.Phase.TheVariants as phase;
+ghost use Rattle.bp_arbiter.specs.Absorbing.{is_failed};
+
+use bp_arbiter::{Arbiter, Phase, Picked};
+use bp_log::{Item, Options, Record, Strategy, line_of};
+use bp_script::accept;
+use bp_serve::carry_all;
+use js_data::{Event, Text};
+use std::alloc::Global;
+use std::process::Abort;
+use std::test::Fail;
+
+/// How many nodes a slice has.
+const SLICE: u64 = 10;
+
+/// The most turns of a wave.
+const TURNS: u32 = 10;
+
+/// The arbiter of the program with one injector.
+fn open(alloc: Global, script: &str) -> Result<Arbiter, Fail> {
+    let program = accept(alloc, script.as_bytes())?;
+    let options = Options::new(Strategy::Simple, 0, 1_000_000, 100_000, 1).ok_or("no options")?;
+    Ok(Arbiter::open(alloc, program, options)?)
+}
+
+/// One turn of what is to be run.
+fn turn(alloc: Global, arbiter: &mut Arbiter) -> Result<(), Fail>
+    requires { arbiter.old.phase ≡ phase.Ready }
+{
+    arbiter.keeps();
+    let budget = arbiter.floor().options().budget();
+    let mut jobs = arbiter.lend(alloc)?;
+    carry_all(arbiter.ground(), budget, SLICE, &mut jobs)?;
+    arbiter.seal(alloc, jobs)?;
+    Ok(())
+}
+
+/// Turns until nobody is to be run, and then tells its lines.
+fn settle(out: &mut String, alloc: Global, arbiter: &mut Arbiter) -> Result<(), Fail> {
+    for _ in 0..TURNS {
+        if arbiter.phase() == Phase::Ready {
+            turn(alloc, arbiter)?;
+        }
+    }
+    for line in arbiter.take_lines().as_slice() {
+        write!(out, "{}; ", line_of(alloc, line)?.as_str())?;
+    }
+    Ok(())
+}
+
+/// An item of the injector enters, while it is read.
+fn absorb(arbiter: &mut Arbiter, item: Item) -> Result<(), Fail>
+    requires rest { arbiter.old.phase ≡ phase.Rest }
+    requires sound { is_failed item ≡ false }
+{
+    if arbiter.floor().options().injectors() == 0 || arbiter.ended(0) {
+        return Err("no item may come")?;
+    }
+    arbiter.absorb(0, item)?;
+    Ok(())
+}
+
+/// One step: `pick`, the injector's `end`, its `bad` line 2, or the name of an event that it offers.
+fn step(out: &mut String, alloc: Global, arbiter: &mut Arbiter, word: &str) -> Result<(), Fail> {
+    if arbiter.phase() != Phase::Rest {
+        return Err("nothing can be done")?;
+    }
+    match word {
+        "pick" => {
+            if arbiter.pick(alloc)? == Picked::Wait {
+                out.push_str("waits; ")?;
+            }
+            Ok(())
+        }
+        "end" => absorb(arbiter, Item::End),
+        "bad" => absorb(arbiter, Item::Bad(2)),
+        name => {
+            let event = Event::new(Text::new(name.to_string(alloc)?), None)?;
+            absorb(arbiter, Item::Offered(event))
+        }
+    }
+}
+
+fn kind(record: &Record) -> &'static str {
+    match record {
+        Record::In(_, _) => "in",
+        Record::Bad(_, _) => "bad",
+        Record::Eof(_) => "eof",
+        Record::Sel(_) => "sel",
+        Record::End(_) => "end",
+    }
+}
+
+/// What is told of the run: its lines, and the kinds of its records.
+fn told(alloc: Global, script: &str, steps: &str) -> Result<String, Fail> {
+    let mut arbiter = open(alloc, script)?;
+    let mut out = String::new(alloc);
+    settle(&mut out, alloc, &mut arbiter)?;
+    for word in steps.split_whitespace() {
+        step(&mut out, alloc, &mut arbiter, word)?;
+        settle(&mut out, alloc, &mut arbiter)?;
+    }
+    out.push_str("-->")?;
+    for record in arbiter.into_records().as_slice() {
+        write!(out, " {}", kind(record))?;
+    }
+    Ok(out)
+}
+
+/// Each line has a program, in which `\n` stands for a line end, the mark `-->`, the steps, the mark, and
+/// what is told.
+pub fn agree(rt: &impl Abort, alloc: Global, table: &str) -> Result<(), Fail> {
+    for line in table.trim().lines() {
+        let (cell, rest) = line.split_once(" --> ").ok_or("no steps")?;
+        let (steps, want) = rest.split_once(" --> ").ok_or("no answer")?;
+        let script = cell.replace(alloc, "\\n", "\n")?;
+        let found = told(alloc, script.as_str(), steps)?;
+        assert_eq!(rt; found.as_str(), want, "{line}");
+    }
+    Ok(())
+}
