@@ -1,0 +1,292 @@
+//! What the run of a program does, as words.
+ghost use Rattle.std.specs.Prelude.{◌≡◌, IfOk, IsSome};
+ghost use Rattle.js_frames.specs.Places.{plain_ground};
+ghost use Rattle.js_frames.specs.Runs.{IsOfProgram, asked_by};
+ghost use Rattle.frame_rows.specs.Started.{IsStarted};
+
+use bp_script::{ScriptFault, accept};
+use js_data::{Event, Text};
+use js_frames::{Effect, Effects, Ground, Machine, Pause};
+use js_json::event_text;
+use js_program::{Mode, Program};
+use js_value::Value;
+use std::alloc::{AllocError, Global};
+use std::process::Abort;
+use std::test::Fail;
+
+/// The budget of every run.
+const BUDGET: u64 = 10_000;
+
+/// How many events a b-thread gets.
+const REPLIES: u32 = 3;
+
+fn program_of(alloc: Global, script: &str) -> Result<Program, Fail> {
+    match accept(alloc, script.as_bytes()) {
+        Ok(program) => Ok(program),
+        Err(ScriptFault::Refused(_)) => Err("no program")?,
+        Err(ScriptFault::Memory) => Err("no memory was left")?,
+    }
+}
+
+/// The words of an effect.
+fn push_effect(out: &mut String, alloc: Global, effect: &Effect) -> Result<(), AllocError> {
+    match effect {
+        Effect::Line(text) => write!(out, "{}; ", text.as_str()),
+        Effect::Enqueue(event) => {
+            let text = event_text(alloc, event)?;
+            write!(out, "enqueue {}; ", text.as_str())
+        }
+        Effect::Register(name, _) => write!(out, "register {}; ", name.as_str()),
+        Effect::Handler(_) => write!(out, "handler; "),
+    }
+}
+
+fn push_effects(out: &mut String, alloc: Global, effects: &Effects) -> Result<(), AllocError> {
+    for effect in &effects.items {
+        push_effect(out, alloc, effect)?;
+    }
+    Ok(())
+}
+
+/// The events of a list, or the event.
+fn push_events(out: &mut String, alloc: Global, value: &Value) -> Result<(), AllocError> {
+    match value {
+        Value::Event(event) => write!(out, " {}", event_text(alloc, event)?.as_str()),
+        Value::List(items) => {
+            for item in items.as_slice() {
+                if let Value::Event(event) = item {
+                    write!(out, " {}", event_text(alloc, event)?.as_str())?;
+                }
+            }
+            Ok(())
+        }
+        _ => Ok(()),
+    }
+}
+
+/// What `bp.sync` asks: its line, the keys of the statement with their events, and a whole priority.
+fn push_asked(out: &mut String, alloc: Global, machine: &Machine) -> Result<(), AllocError>
+    requires { IsSome (asked_by machine.now) }
+{
+    write!(out, "sync {}", machine.line())?;
+    let (statement, priority) = machine.asked();
+    if let Value::Fields(fields) = statement {
+        for (key, value) in fields.as_slice() {
+            write!(out, " {}", key.as_str())?;
+            push_events(out, alloc, value)?;
+        }
+    }
+    if let Value::Whole(number) = priority {
+        write!(out, " at {}", number.get())?;
+    }
+    write!(out, "; ")
+}
+
+fn push_pause(
+    out: &mut String,
+    alloc: Global,
+    machine: &Machine,
+    pause: &Pause,
+) -> Result<(), AllocError>
+    requires { pause.now ≡ Pause.AtSync → IsSome (asked_by machine.now) }
+{
+    match pause {
+        Pause::More => write!(out, "more"),
+        Pause::AtSync => push_asked(out, alloc, machine),
+        Pause::Ended => write!(out, "ended"),
+        Pause::Broken(fault, line) => write!(out, "{} {}", fault.name(), *line),
+        Pause::Violated(text) => write!(out, "violated {}", text.as_str()),
+        Pause::Spent => write!(out, "spent"),
+    }
+}
+
+/// Slices of so many nodes, up to a pause that is not `More`; the effects of each are taken behind it.
+fn run_slices(
+    out: &mut String,
+    alloc: Global,
+    machine: &mut Machine,
+    ground: &Ground,
+    nodes: u64,
+) -> Result<Pause, AllocError>
+    requires { IsOfProgram (plain_ground ground.now).program machine.old }
+    ensures program { IsOfProgram (plain_ground ground.now).program machine.new }
+    ensures asks { IfOk result (λ pause. pause ≡ Pause.AtSync → IsSome (asked_by machine.new)) }
+{
+    for _ in 0..BUDGET {
+        let pause = machine.run(ground, nodes)?;
+        let effects = machine.take_effects();
+        push_effects(out, alloc, &effects)?;
+        match pause {
+            Pause::More => {}
+            other => return Ok(other),
+        }
+    }
+    Ok(Pause::More)
+}
+
+fn event(alloc: Global) -> Result<Event, Fail> {
+    let name = Text::new(String::from_str(alloc, "e")?);
+    match Event::new(name, None) {
+        Ok(event) => Ok(event),
+        Err(_) => Err("no event")?,
+    }
+}
+
+/// The function that was registered first.
+fn registered(effects: Effects) -> Option<Value> {
+    for effect in effects.items {
+        if let Effect::Register(_, function) = effect {
+            return Some(function);
+        }
+    }
+    None
+}
+
+/// The run of a program's top level, in slices of so many nodes.
+fn top_run(alloc: Global, script: &str, nodes: u64) -> Result<String, Fail> {
+    let ground = Ground::bare(alloc, program_of(alloc, script)?);
+    let mut machine = Machine::top(alloc, &ground, BUDGET)?;
+    let mut out = String::new(alloc);
+    let pause = run_slices(&mut out, alloc, &mut machine, &ground, nodes)?;
+    push_pause(&mut out, alloc, &machine, &pause)?;
+    Ok(out)
+}
+
+/// The run of the function that a program registers first, in this mode, with the event as its argument.
+fn body_run(alloc: Global, script: &str, mode: Mode, nodes: u64) -> Result<String, Fail> {
+    let mut ground = Ground::bare(alloc, program_of(alloc, script)?);
+    let mut top = Machine::top(alloc, &ground, BUDGET)?;
+    let Pause::Ended = top.run(&ground, BUDGET)? else {
+        return Err("the top level did not end")?;
+    };
+    let function = registered(top.take_effects()).ok_or("no b-thread")?;
+    ground.fill(top.constants());
+    let mut args = Vec::new(alloc);
+    args.push(js_value::event_value(alloc, event(alloc)?)?)?;
+    let mut machine = Machine::start(alloc, &ground, &function, &args, mode, BUDGET)?;
+    let mut out = String::new(alloc);
+    for _ in 0..REPLIES {
+        let pause = run_slices(&mut out, alloc, &mut machine, &ground, nodes)?;
+        push_pause(&mut out, alloc, &machine, &pause)?;
+        let Pause::AtSync = pause else {
+            return Ok(out);
+        };
+        machine.resume(event(alloc)?);
+    }
+    Ok(out)
+}
+
+/// A machine at the start of the function that a program registers first, in a b-thread, and its ground.
+fn body_of(alloc: Global, script: &str, budget: u64) -> Result<(Ground, Machine), Fail>
+    ensures program { IfOk result (λ r. IsOfProgram (plain_ground r.0).program r.1) }
+    ensures stands { IfOk result (λ r. IsStarted (plain_ground r.0) r.1) }
+{
+    let mut ground = Ground::bare(alloc, program_of(alloc, script)?);
+    let mut top = Machine::top(alloc, &ground, BUDGET)?;
+    let Pause::Ended = top.run(&ground, BUDGET)? else {
+        return Err("the top level did not end")?;
+    };
+    let function = registered(top.take_effects()).ok_or("no b-thread")?;
+    ground.fill(top.constants());
+    let machine = Machine::start(alloc, &ground, &function, &[], Mode::Thread, budget)?;
+    Ok((ground, machine))
+}
+
+/// The pauses of a machine, in slices of so many nodes, of which it begins at most so many.
+fn pauses_of(
+    alloc: Global,
+    ground: &Ground,
+    machine: &mut Machine,
+    budget: u64,
+    nodes: u64,
+) -> Result<String, Fail>
+    requires { IsOfProgram (plain_ground ground.now).program machine.old }
+{
+    let mut out = String::new(alloc);
+    for _ in 0..budget {
+        match machine.run(ground, nodes)? {
+            Pause::More => write!(out, "more ")?,
+            Pause::Ended => return ended(out, "ended"),
+            Pause::Spent => return ended(out, "spent"),
+            _ => return Err("another pause")?,
+        }
+    }
+    Ok(out)
+}
+
+fn ended(mut out: String, word: &str) -> Result<String, Fail> {
+    out.push_str(word)?;
+    Ok(out)
+}
+
+/// The pauses of the function that a program registers first, in slices of so many nodes.
+pub fn pauses(alloc: Global, script: &str, budget: u64, nodes: u64) -> Result<String, Fail> {
+    let (ground, mut machine) = body_of(alloc, script, budget)?;
+    pauses_of(alloc, &ground, &mut machine, budget, nodes)
+}
+
+/// The event that a machine answers which stops once and gets an event.
+fn event_answered(alloc: Global, ground: &Ground, machine: &mut Machine) -> Result<String, Fail>
+    requires program { IsOfProgram (plain_ground ground.now).program machine.old }
+    requires stands { IsStarted (plain_ground ground.now) machine.old }
+{
+    let stop = machine.run(ground, BUDGET)?;
+    let Pause::AtSync = stop else {
+        return Err("no stop")?;
+    };
+    let reply = event(alloc)?;
+    machine.resume(reply);
+    let end = machine.run(ground, BUDGET)?;
+    let Pause::Ended = end else {
+        return Err("no end")?;
+    };
+    match machine.answer() {
+        Value::Event(found) => Ok(String::from_str(alloc, event_text(alloc, found)?.as_str())?),
+        _ => Err("no event")?,
+    }
+}
+
+/// The event that the function answers that a program registers first.
+pub fn answer(alloc: Global, script: &str) -> Result<String, Fail> {
+    let (ground, mut machine) = body_of(alloc, script, BUDGET)?;
+    event_answered(alloc, &ground, &mut machine)
+}
+
+/// Where a table's programs run.
+#[derive(Clone, Copy)]
+pub enum Place {
+    /// At the top level.
+    Top,
+    /// As the body of a function of one parameter `e`, in this mode.
+    Body(Mode),
+}
+
+fn found(alloc: Global, place: Place, cell: &str, nodes: u64) -> Result<String, Fail> {
+    let mut program = String::new(alloc);
+    for part in cell.split("\\n") {
+        program.push_str(part)?;
+        program.push('\n')?;
+    }
+    match place {
+        Place::Top => top_run(alloc, program.as_str(), nodes),
+        Place::Body(mode) => {
+            let script = format!(in alloc;
+                "bp.registerBThread('t', (e) => {{ {} }})",
+                program.as_str()
+            )?;
+            body_run(alloc, script.as_str(), mode, nodes)
+        }
+    }
+}
+
+/// Each line has a program, in which `\n` stands for a line end, the mark `-->`, and what it does.
+pub fn agree(rt: &impl Abort, alloc: Global, place: Place, table: &str) -> Result<(), Fail> {
+    for line in table.trim().lines() {
+        let (cell, want) = line.split_once(" --> ").ok_or("no answer")?;
+        for nodes in [1, 3, 7, BUDGET] {
+            let found = found(alloc, place, cell, nodes)?;
+            assert_eq!(rt; found.as_str(), want, "{nodes} {line}");
+        }
+    }
+    Ok(())
+}
