@@ -3,7 +3,7 @@ use Rattle.std.proofs.Common.{◌≡◌, ℕ, zero, suc, true, false, List, [], 
 use Rattle.js_program.specs.PlainProgram.{PlainProgram}
 use Rattle.js_meaning.specs.Bodies.{Origin}
 use Rattle.bp_log.specs.Options.{PlainOptions}
-use Rattle.bp_log.specs.Records.{is_complete}
+use Rattle.bp_log.specs.Records.{is_complete, verdict_in, verdict_of}
 use Rattle.bp_log.specs.declared.record.Record.{Record}
 use Rattle.bp_log.specs.declared.record.Record.TheVariants.{In, Bad, Eof, Sel, End}
 use Rattle.bp_log.specs.declared.trace.Line.{Line}
@@ -14,7 +14,7 @@ use Rattle.bp_thread.specs.declared.job.Job.{Job}
 use Rattle.bp_floor.specs.declared.phase.Phase.{Phase}
 use Rattle.bp_floor.specs.declared.phase.Phase.TheVariants as phase
 use Rattle.bp_floor.specs.Floors.{PlainFloor}
-use Rattle.bp_arbiter.specs.Arbiters.{PlainArbiter, StandsFor, Tells, Keeps, verdict_in, verdict_of, is_over, options_in, opened, is_lent}
+use Rattle.bp_arbiter.specs.Arbiters.{PlainArbiter, StandsFor, Tells, Keeps, is_over, options_in, opened, is_lent}
 use Rattle.bp_arbiter.specs.Sound.{IsSound}
 use Rattle.bp_arbiter.proofs.Told.{stands_tells, stands_opened}
 

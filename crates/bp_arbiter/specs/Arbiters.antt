@@ -5,9 +5,7 @@ use Rattle.js_program.specs.PlainProgram.{PlainProgram}
 use Rattle.js_meaning.specs.Bodies.{Origin, bare, the_top}
 use Rattle.bp_log.specs.Options.{PlainOptions}
 use Rattle.bp_log.specs.declared.record.Record.{Record}
-use Rattle.bp_log.specs.declared.record.Record.TheVariants.{In, Bad, Eof, Sel, End}
 use Rattle.bp_log.specs.declared.trace.Line.{Line}
-use Rattle.bp_log.specs.declared.verdict.Verdict.{Verdict}
 use Rattle.bp_run.specs.Bodies.{Code}
 use Rattle.bp_run.specs.Configuration.{Configuration, Stand, below, not_ended}
 use Rattle.bp_run.specs.Settling.{Pair, settle, opening}
@@ -93,20 +91,6 @@ pub record Tells (a : PlainArbiter) (taken : List Line) : Type 0 where
   pub story : Recounts a told
   pub rest : List Line
   pub lines : told.stand.lines ≡ taken ++ ((stand_in a).lines ++ rest)
-
--- the verdict of the record of an end
-abbrev pub verdict_in : Record → Option Verdict
-verdict_in (In j e) = None
-verdict_in (Bad j n) = None
-verdict_in (Eof j) = None
-verdict_in (Sel e) = None
-verdict_in (End v) = Some v
-
--- the verdict with which the records end
-abbrev pub verdict_of : List Record → Option Verdict
-verdict_of [] = None
-verdict_of (End v ∷ []) = Some v
-verdict_of (r ∷ rs) = verdict_of rs
 
 abbrev pub is_lent : Phase → Bool
 is_lent Ready = false

@@ -3,6 +3,7 @@ ghost use Rattle.std.specs.Prelude.{◌≡◌, ◌↔◌, ◌<◌, ◌≤◌, �
 ghost use Rattle.std.specs.List.{list_any};
 ghost use Rattle.js_meaning.specs.Bodies.{Origin};
 ghost use Rattle.js_frames.specs.Places.{plain_ground};
+ghost use Rattle.bp_log.specs.Records.{verdict_of};
 ghost use Rattle.bp_log.specs.declared.limits.TheConstants.{MOST_THREADS};
 ghost use Rattle.bp_log.specs.declared.trace.Line.{Line};
 ghost use Rattle.bp_log.specs.declared.verdict.Verdict.{Verdict as End};
@@ -14,7 +15,7 @@ ghost use Rattle.bp_thread.specs.declared.job.Job.{Job as Lent};
 ghost use Rattle.bp_floor.specs.declared.phase.Phase.TheVariants as phase;
 ghost use Rattle.bp_floor.specs.Floors.{is_idle, phase_of};
 ghost use Rattle.bp_arbiter.specs.declared.picked.Picked.TheVariants as picked;
-ghost use Rattle.bp_arbiter.specs.Arbiters.{opened, code_in, options_in, stand_in, Recounts, coming, StandsFor, StandsSomewhere, Tells, is_lent, verdict_of, HadMemory, IsGivenUp, Keeps, Shows};
+ghost use Rattle.bp_arbiter.specs.Arbiters.{opened, code_in, options_in, stand_in, Recounts, coming, StandsFor, StandsSomewhere, Tells, is_lent, HadMemory, IsGivenUp, Keeps, Shows};
 ghost use Rattle.bp_arbiter.specs.Absorbing.{is_failed, fits, ComesBack, with_item, absorbed};
 ghost use Rattle.bp_arbiter.specs.Picking.{picked_of, after_pick, phase_after};
 ghost use Rattle.bp_arbiter.specs.Lending.{AreOut, AreBack, AreReturned};

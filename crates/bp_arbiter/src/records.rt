@@ -1,6 +1,6 @@
 //! What was recorded of a run so far.
 ghost use Rattle.std.specs.Prelude.{◌≡◌, ◌++◌, ◌∷◌, [], OnOk, option_map, true, false};
-ghost use Rattle.bp_arbiter.specs.Arbiters.{verdict_in, verdict_of};
+ghost use Rattle.bp_log.specs.Records.{verdict_of};
 
 use bp_log::{Memory, Record, Records, Verdict};
 use std::alloc::Global;
@@ -66,7 +66,7 @@ impl RecordList {
         ensures { option_map (λ v. v.now) result ≡ verdict_of self.now.records }
     {
         match self.items.last() {
-            Some(entry) => verdict_in(entry),
+            Some(entry) => entry.verdict(),
             None => None,
         }
     }
@@ -76,15 +76,5 @@ impl RecordList {
         ensures { result ≡ self.records }
     {
         Records::new(self.items)
-    }
-}
-
-/// The verdict of the record of an end.
-fn verdict_in(entry: &Record) -> Option<&Verdict>
-    ensures { option_map (λ v. v.now) result ≡ verdict_in entry.now }
-{
-    match entry {
-        Record::End(verdict) => Some(verdict),
-        _ => None,
     }
 }

@@ -6,7 +6,7 @@ use Rattle.js_value.specs.Value.{PlainSet}
 use Rattle.js_meaning.specs.State.{Ground}
 use Rattle.js_meaning.specs.Bodies.{Origin}
 use Rattle.bp_log.specs.Options.{PlainOptions}
-use Rattle.bp_log.specs.Records.{is_complete}
+use Rattle.bp_log.specs.Records.{is_complete, verdict_of}
 use Rattle.bp_log.specs.Texts.{lines_text}
 use Rattle.bp_log.specs.declared.record.Record.{Record}
 use Rattle.bp_log.specs.declared.record.Record.TheVariants.{In, Bad, Eof, Sel, End}
@@ -30,7 +30,7 @@ use Rattle.bp_arbiter.specs.declared.picked.Picked.{Picked}
 use Rattle.bp_code.specs.Code as bp_code
 use Rattle.bp_code.specs.Code.{text_alone, records_alone}
 use Rattle.js_program.specs.PlainProgram.{PlainProgram}
-use Rattle.bp_arbiter.specs.Arbiters.{PlainArbiter, opened, code_in, options_in, stand_in, Recounts, coming, StandsFor, Tells, verdict_of}
+use Rattle.bp_arbiter.specs.Arbiters.{PlainArbiter, opened, code_in, options_in, stand_in, Recounts, coming, StandsFor, Tells}
 use Rattle.bp_arbiter.specs.Lending.{AllCanRun}
 use Rattle.bp_arbiter.specs.Picking.{picked_of, after_pick, moved_phase, phase_after}
 use Rattle.bp_arbiter.specs.Sealing.{ending, after_turn}

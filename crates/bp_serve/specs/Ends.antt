@@ -2,9 +2,9 @@
 use Rattle.std.specs.Prelude.{Option}
 use Rattle.js_program.specs.PlainProgram.{PlainProgram}
 use Rattle.bp_log.specs.Options.{PlainOptions}
+use Rattle.bp_log.specs.Records.{verdict_of}
 use Rattle.bp_log.specs.declared.verdict.Verdict.{Verdict}
 use Rattle.bp_code.specs.Code.{records_alone}
-use Rattle.bp_arbiter.specs.Arbiters.{verdict_of}
 
 -- the verdict of the run without injectors
 abbrev pub verdict_alone : PlainProgram → PlainOptions → Option Verdict

@@ -7,7 +7,7 @@ ghost use Rattle.bp_serve.specs.Pages.{Shows, ShowsFront};
 
 use crate::RunFault;
 use bp_base::{Failed, Sink, write_all};
-use bp_log::{Line, Memory, line_of};
+use bp_log::{Line, Memory, whole_line_of};
 use std::alloc::Global;
 use std::marker::Model;
 
@@ -43,8 +43,7 @@ impl Page {
         ensures added { OnOk result (self.new ≡ self.old ++ whole_line line.now) }
         ensures failed { OnErr result (self.new ≡ self.old) }
     {
-        let mut text = line_of(alloc, line)?.into_string();
-        text.push_str("\n")?;
+        let text = whole_line_of(alloc, line)?;
         self.text.push_str(text.as_str())?;
         Ok(())
     }
