@@ -156,11 +156,7 @@ fn fields_of_three(alloc: Global, keys: &[Arc<Text>; 3]) -> Result<String, Fail>
 fn three_fields(alloc: Global, words: &str) -> Result<String, Fail> {
     let (first, rest) = words.split_once(" | ").ok_or("one key")?;
     let (second, third) = rest.split_once(" | ").ok_or("two keys")?;
-    let keys = [
-        key(alloc, first)?,
-        key(alloc, second)?,
-        key(alloc, third)?,
-    ];
+    let keys = [key(alloc, first)?, key(alloc, second)?, key(alloc, third)?];
     fields_of_three(alloc, &keys)
 }
 
