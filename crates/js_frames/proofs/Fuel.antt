@@ -1,7 +1,6 @@
 -- What waits adds no fuel where no reply is left.
-use Rattle.std.proofs.Common.{◌≡◌, ℕ, suc, ◌≤◌, ◌<◌, List, [], ◌∷◌, ◌++◌, drop, length, Option, Some, None, refl, sym, ap, ◌∙◌, subst, arith}
+use Rattle.std.proofs.Common.{◌≡◌, ℕ, ◌≤◌, List, [], ◌∷◌, ◌++◌, drop, length, Option, Some, None, arith}
 use Rattle.std.specs.Prelude.{slice_get, Ok}
-use Rattle.js_data.specs.Event.{PlainEvent}
 use Rattle.js_value.specs.Value as v
 use Rattle.js_value.specs.Value.{PlainValue, is_truthy}
 use Rattle.js_value.specs.Lists.{values_in}
@@ -9,23 +8,18 @@ use Rattle.js_value.specs.Views.{plain_value}
 use Rattle.js_ops.specs.Operators.{value_of}
 use Rattle.js_program.specs.PlainProgram as p
 use Rattle.js_program.specs.PlainProgram.{PlainNodeForm, PlainNode, parts_of}
-use Rattle.js_meaning.specs.State.{Setting, State, normal, broke, continued, returned, Left, left_by, Outcome, went, broken, violated, spent, stopped, leaves}
-use Rattle.js_meaning.specs.Variables.{set_variable}
-use Rattle.js_meaning.specs.Expressions.{writes, combines}
-use Rattle.js_meaning.specs.Meaning.{does_node, eval, turns_of, allowed}
+use Rattle.js_meaning.specs.State.{Setting, State, normal, broke, continued, returned, left_by, Outcome, went, broken, violated, spent, stopped}
+use Rattle.js_meaning.specs.Meaning.{eval, turns_of, allowed}
 use Rattle.js_meaning.proofs.Later.{none_later}
 use Rattle.js_meaning.proofs.Walk.{bind, either, leaves_walk, gives_walk, slot_walk, writes_walk, sequence_walk, in_order_walk, for_each_from_walk, combines_walk, declaration_walk, each_walk, each_of_walk, perhaps_walk, node_walk}
 use Rattle.js_meaning.proofs.Following.{Well, Sure, sure_ways, turns_sure, eval_sure, left_follows, later_of}
-use Rattle.js_frames.specs.declared.frame.Turns.{Turns}
-use Rattle.js_frames.specs.declared.frame.Walk.{Walk}
-use Rattle.js_frames.specs.declared.frame.Sequence.{Sequence}
 use Rattle.js_frames.specs.declared.frame.Part.{Part}
 use Rattle.js_frames.specs.declared.frame.Part.TheVariants.{First, Second, Further, Or, And, Choice, When, Assigned, AssignedWith, Declared, Dropped, Returned, Statements, Started, Tested, Between, Listed, Walked}
 use Rattle.js_frames.specs.declared.frame.Turn.{Turn}
 use Rattle.js_frames.specs.declared.frame.Turn.TheVariants.{OfLoop, OfItems}
 use Rattle.js_frames.specs.declared.frame.Frame.{Frame}
 use Rattle.js_frames.specs.declared.frame.Frame.TheVariants.{Waiting, Turning, Called}
-use Rattle.js_frames.specs.Frames.{statements_of, parts_from, declares_from, declaring_from, loop, rest, again, resume, plug}
+use Rattle.js_frames.specs.Frames.{statements_of, parts_from, declares_from, declaring_from, rest, again, resume, plug}
 use Rattle.js_frames.specs.Leads.{node_does}
 
 module _ (g : Setting) where

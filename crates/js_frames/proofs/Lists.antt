@@ -1,6 +1,8 @@
 -- Lists that are read from a place on.
-use Rattle.std.proofs.Common.{◌≡◌, ℕ, zero, suc, ◌+◌, ◌≤◌, List, [], ◌∷◌, length, drop, take, map, Some, None, refl, ap, ◌∙◌, arith}
+use Rattle.std.proofs.Common.{◌≡◌, ℕ, zero, suc, ◌+◌, ◌≤◌, List, [], ◌∷◌, length, drop, take, map, Some, None, refl, ap, ◌∙◌, arith, Global}
 use Rattle.std.specs.Prelude.{slice_get, slice_set, fold}
+use Rattle.std.specs.declared.sync.Arc.{Arc}
+use Rattle.std.specs.Arc.{arc_value}
 use Rattle.js_value.specs.Value.{PlainValue, ValueFields}
 use Rattle.js_ops.specs.Making.{put, put_all}
 use Rattle.js_meaning.specs.State.{State}
@@ -31,11 +33,11 @@ pub argument_taken : (vs : List PlainValue) → argument 0 (take 1 vs) ≡ argum
 argument_taken [] = refl
 argument_taken (v ∷ vs) = refl
 
--- what is more of keys or of values is dropped
-pub put_all_cut : (ks : List (List ℕ)) (vs : List PlainValue) (fs : ValueFields) → put_all (take (length (take (length ks) vs)) ks) (take (length ks) vs) fs ≡ put_all ks vs fs
+-- what is more of shared keys or of values is dropped
+pub put_all_cut : (ks : List (Arc (List ℕ) Global)) (vs : List PlainValue) (fs : ValueFields) → put_all (map arc_value (take (length (take (length ks) vs)) ks)) (take (length ks) vs) fs ≡ put_all (map arc_value ks) vs fs
 put_all_cut [] vs fs = refl
 put_all_cut (k ∷ ks) [] fs = refl
-put_all_cut (k ∷ ks) (x ∷ vs) fs = put_all_cut ks vs (put k x fs)
+put_all_cut (k ∷ ks) (x ∷ vs) fs = put_all_cut ks vs (put k.value x fs)
 
 -- no more arguments are read than there are parameters
 pub padded_one : (n : ℕ) (x i l : PlainValue) → n ≤ 1 → padded n (x ∷ []) ≡ padded n (x ∷ i ∷ l ∷ [])
@@ -50,12 +52,12 @@ padded_two (suc (suc zero)) x i l h = refl
 padded_two (suc (suc (suc n))) x i l h = absurd (omega arith)
 
 -- of the keys as many are taken as there are values, at most all
-pub taken_keys : (ks : List (List ℕ)) (vs : List PlainValue) → length (take (length (take (length ks) vs)) ks) ≡ length (take (length ks) vs)
+pub taken_keys : (ks : List (Arc (List ℕ) Global)) (vs : List PlainValue) → length (map arc_value (take (length (take (length ks) vs)) ks)) ≡ length (take (length ks) vs)
 taken_keys [] vs = refl
 taken_keys (k ∷ ks) [] = refl
 taken_keys (k ∷ ks) (x ∷ vs) = ap suc (taken_keys ks vs)
 
-pub taken_few : (ks : List (List ℕ)) (vs : List PlainValue) → length (take (length ks) vs) ≤ length ks
+pub taken_few : (ks : List (Arc (List ℕ) Global)) (vs : List PlainValue) → length (take (length ks) vs) ≤ length ks
 taken_few [] vs = omega arith
 taken_few (k ∷ ks) [] = omega arith
 taken_few (k ∷ ks) (x ∷ vs) = let h = taken_few ks vs in omega arith

@@ -32,7 +32,8 @@ use std::alloc::Global;
 
 /// A function with these captured values.
 fn made_function(alloc: Global, code: u32, values: Vec<Value>, line: u32) -> Result<Step, Memory>
-    ensures { IfOk result (Becomes (λ g. answered line (made (function code (value_list_of (map plain_value values.items)))))) }
+    ensures { IfOk result (Becomes (λ g. answered line
+        (made (function code (value_list_of (map plain_value values.items)))))) }
 {
     let captured = Items::new(alloc, values)?;
     answered(made(Value::Function { code, captured }), line)
@@ -40,8 +41,10 @@ fn made_function(alloc: Global, code: u32, values: Vec<Value>, line: u32) -> Res
 
 impl Engine {
     /// The value of a variable, if it is declared. Takes no memory.
+    #[inline(always)]
     fn held<'a>(&'a self, base: &'a Ground, variable: Variable) -> Option<&'a Value>
-        ensures { option_map (λ v. plain_value v.now) result ≡ held_at (plain_ground base.now) variable (place_of self.now) }
+        ensures { option_map (λ v. plain_value v.now) result
+            ≡ held_at (plain_ground base.now) variable (place_of self.now) }
     {
         match variable {
             Variable::Slot(slot) => self.slots.get(slot),
@@ -50,6 +53,7 @@ impl Engine {
     }
 
     /// The constants: at the top level those so far. Takes no memory.
+    #[inline(always)]
     fn constants<'a>(&'a self, base: &'a Ground) -> &'a Slots
         ensures { result.now ≡ unwrap_or self.now.constants base.now.constants }
     {
@@ -60,10 +64,12 @@ impl Engine {
     }
 
     /// A variable is read.
+    #[inline(always)]
     pub fn read(&mut self, base: &Ground, variable: Variable, line: u32) -> Result<Step, Memory>
         requires { StackFits base.now.program self.old.stack.items }
         ensures { Goes base.now self.old
-            (λ s. if_declared line (held (plain_ground base.now) variable s) gives s) self.new result }
+            (λ s. if_declared line (held (plain_ground base.now) variable s) gives s)
+            self.new result }
     {
         match self.held(base, variable) {
             None => Ok(Step::Fail(Fault::Early, line)),
@@ -75,6 +81,7 @@ impl Engine {
     }
 
     /// `x++` and its kind.
+    #[inline(never)]
     pub fn update(
         &mut self,
         base: &Ground,
@@ -95,6 +102,7 @@ impl Engine {
     }
 
     /// The slot has the new value; what is given is the new one or the old one.
+    #[inline(always)]
     fn change(
         &mut self,
         base: &Ground,
@@ -115,6 +123,7 @@ impl Engine {
     }
 
     /// The value is put into the slot, and given.
+    #[inline(always)]
     fn write(
         &mut self,
         base: &Ground,
@@ -123,7 +132,8 @@ impl Engine {
         line: u32,
     ) -> Result<Step, Memory>
         requires { StackFits base.now.program self.old.stack.items }
-        ensures { (a : Answer) → AnswersAs a answer → Goes base.now self.old (writes line slot a) self.new result }
+        ensures { (a : Answer) → AnswersAs a answer → Goes base.now self.old (writes line slot a)
+            self.new result }
     {
         match answer {
             Ok(value) => {
@@ -136,6 +146,7 @@ impl Engine {
     }
 
     /// The new value is put into the slot, and the old one given.
+    #[inline(always)]
     fn write_behind(
         &mut self,
         base: &Ground,
@@ -158,6 +169,7 @@ impl Engine {
     }
 
     /// The value of an assignment begins; with an operator the variable is read before.
+    #[inline(always)]
     pub fn assign(
         &mut self,
         base: &Ground,
@@ -169,7 +181,8 @@ impl Engine {
         requires part { IsNode base.now.program part }
         requires fits { StackFits base.now.program self.old.stack.items }
         ensures { Goes base.now self.old
-            (assigns (eval (here base.now self.old)) line (op_before operator) slot part) self.new result }
+            (assigns (eval (here base.now self.old)) line (op_before operator) slot part)
+            self.new result }
     {
         match op_before(operator) {
             None => self.wait(part, Frame::Waiting(Part::Assigned(slot, line))),
@@ -177,6 +190,7 @@ impl Engine {
         }
     }
 
+    #[inline(never)]
     fn assign_with(
         &mut self,
         base: &Ground,
@@ -201,6 +215,7 @@ impl Engine {
     }
 
     /// `x = e` has its value, and looks whether x is declared.
+    #[inline(always)]
     pub fn assigned(
         &mut self,
         base: &Ground,
@@ -210,7 +225,8 @@ impl Engine {
     ) -> Result<Step, Memory>
         requires { StackFits base.now.program self.old.stack.items }
         ensures { Goes base.now self.old
-            (λ s. if_declared line (in_slot slot s.slots) (λ _. writes line slot (Ok (plain_value value))) s) self.new result }
+            (λ s. if_declared line (in_slot slot s.slots)
+            (λ _. writes line slot (Ok (plain_value value))) s) self.new result }
     {
         let Some(_held) = self.slots.get(slot) else {
             return Ok(Step::Fail(Fault::Early, line));
@@ -219,6 +235,7 @@ impl Engine {
     }
 
     /// `x op= e` has its value.
+    #[inline(never)]
     pub fn assigned_with(
         &mut self,
         base: &Ground,
@@ -237,10 +254,12 @@ impl Engine {
     }
 
     /// A function is made, with the values that it captures.
+    #[inline(never)]
     pub fn function(&mut self, base: &Ground, code: u32, line: u32) -> Result<Step, Memory>
         requires { StackFits base.now.program self.old.stack.items }
         ensures { Goes base.now self.old
-            (λ s. answered line (made (function code (value_list_of (captured (body_of base.now.program code).captures s.slots)))) s)
+            (λ s. answered line (made (function code (value_list_of
+            (captured (body_of base.now.program code).captures s.slots)))) s)
             self.new result }
     {
         match function_of(base, code) {

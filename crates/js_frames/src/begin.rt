@@ -20,6 +20,7 @@ use js_value::Value;
 use std::sync::Arc;
 
 /// What waits for a test, and begins one of two.
+#[inline(always)]
 fn choice(yes: u32, no: u32) -> Frame
     ensures { result ≡ Frame.Waiting (Part.Choice yes no) }
 {
@@ -27,6 +28,7 @@ fn choice(yes: u32, no: u32) -> Frame
 }
 
 /// The turns of a loop.
+#[inline(always)]
 fn turns(test: Option<u32>, body: u32, next: Option<u32>) -> Turns
     ensures { result ≡ record { test = test; body = body; next = next } }
 {
@@ -34,6 +36,7 @@ fn turns(test: Option<u32>, body: u32, next: Option<u32>) -> Turns
 }
 
 /// A text literal: one more owner of its text. Its only error is a full count of owners.
+#[inline(never)]
 fn literal(text: &Arc<Text>, line: u32) -> Result<Step, Memory>
     ensures { IfOk result (Becomes (λ g. answered line (made (words text.now.value)))) }
 {
@@ -42,6 +45,7 @@ fn literal(text: &Arc<Text>, line: u32) -> Result<Step, Memory>
 }
 
 /// What waits for the left side of an operator.
+#[inline(always)]
 fn operand(operator: Operator, right: u32, number: u32) -> Frame
     ensures { result ≡ operand_frame operator right number }
 {
@@ -53,11 +57,40 @@ fn operand(operator: Operator, right: u32, number: u32) -> Frame
 }
 
 impl Engine {
-    /// What a node does that has begun.
+    /// What a node does that has begun. A function clears the room of all that it holds when it is entered, so the nodes
+    /// that loops are made of stand here, and all others in a function of their own.
+    #[inline(always)]
     pub fn begin(&mut self, base: &Ground, number: u32) -> Result<Step, Memory>
         requires number { IsNode base.now.program number }
         requires fits { StackFits base.now.program self.old.stack.items }
-        ensures { Goes base.now self.old (node_does (here base.now self.old) number) self.new result }
+        ensures { Goes base.now self.old (node_does (here base.now self.old) number)
+            self.new result }
+    {
+        let node = node_of(base, number);
+        match &node.form {
+            NodeForm::Number(n) => Ok(give(Value::Whole(*n))),
+            NodeForm::Read(variable) => self.read(base, *variable, node.line),
+            NodeForm::Binary(operator, left, right) => {
+                self.wait(*left, operand(*operator, *right, number))
+            }
+            NodeForm::Expression(part) => self.wait(*part, Frame::Waiting(Part::Dropped)),
+            NodeForm::Assign(operator, slot, part) => {
+                self.assign(base, *operator, *slot, *part, node.line)
+            }
+            _ => {
+                let step = self.begin_any(base, number)?;
+                Ok(step)
+            }
+        }
+    }
+
+    /// What any node does that has begun.
+    #[inline(never)]
+    fn begin_any(&mut self, base: &Ground, number: u32) -> Result<Step, Memory>
+        requires number { IsNode base.now.program number }
+        requires fits { StackFits base.now.program self.old.stack.items }
+        ensures { Goes base.now self.old (node_does (here base.now self.old) number)
+            self.new result }
     {
         let node = node_of(base, number);
         match &node.form {
@@ -67,8 +100,8 @@ impl Engine {
             NodeForm::Null => Ok(give(Value::Null)),
             NodeForm::Undefined => Ok(give(Value::Undefined)),
             NodeForm::Read(variable) => self.read(base, *variable, node.line),
-            NodeForm::List(_) => self.begin_parts(base, number),
-            NodeForm::Fields(_, _) => self.begin_parts(base, number),
+            NodeForm::List(parts) => self.begin_making(base, number, parts.len()),
+            NodeForm::Fields(_, parts) => self.begin_making(base, number, parts.len()),
             NodeForm::Member(part, _) => self.wait(*part, Frame::Waiting(Part::First(number))),
             NodeForm::Index(part, _) => self.wait(*part, Frame::Waiting(Part::First(number))),
             NodeForm::Call(_, _) => self.begin_parts(base, number),

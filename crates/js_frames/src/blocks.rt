@@ -20,6 +20,7 @@ use js_tree::DeclareKind;
 use js_value::Value;
 
 /// The statements of a body; of one value there are none. Takes no memory.
+#[inline(always)]
 fn statements_in(content: &Content) -> &[u32]
     ensures { result.now ≡ statements_in (plain_content content.now) }
 {
@@ -30,6 +31,7 @@ fn statements_in(content: &Content) -> &[u32]
 }
 
 /// The statements of a block. Takes no memory.
+#[inline(always)]
 fn block_in(form: &NodeForm) -> &[u32]
     ensures { result.now ≡ block_in (plain_node_form form.now) }
 {
@@ -40,6 +42,7 @@ fn block_in(form: &NodeForm) -> &[u32]
 }
 
 /// The statements that are done in order. Takes no memory.
+#[inline(always)]
 fn statements_of(base: &Ground, sequence: Sequence) -> &[u32]
     requires { SequenceFits base.now.program sequence }
     ensures statements { result.now ≡ statements_of base.now.program sequence }
@@ -55,7 +58,8 @@ fn statements_of(base: &Ground, sequence: Sequence) -> &[u32]
 
 /// The declarator at a place. Takes no memory.
 fn declarator_at(declared: &[Declared], place: usize) -> Option<Declared>
-    ensures value { option_map plain_declared result ≡ slice_get (map plain_declared declared.now) place }
+    ensures value { option_map plain_declared result
+        ≡ slice_get (map plain_declared declared.now) place }
     ensures room { IfSome result (λ _. place < length declared.now) }
     ensures fits { IfSome result (λ _. place + 1 < 2 ^ 64) }
 {
@@ -64,21 +68,25 @@ fn declarator_at(declared: &[Declared], place: usize) -> Option<Declared>
 
 impl Engine {
     /// A block: its variables are not declared yet, and its first statement begins.
+    #[inline(never)]
     pub fn block(&mut self, base: &Ground, slots: &[u32], number: u32) -> Result<Step, Memory>
         requires number { IsNode base.now.program number }
         requires fits { StackFits base.now.program self.old.stack.items }
         ensures { Goes base.now self.old
-            (λ s. sequence_from (here base.now self.old) (Sequence.Block number) 0 (undeclare slots.now s)) self.new result }
+            (λ s. sequence_from (here base.now self.old) (Sequence.Block number) 0
+            (undeclare slots.now s)) self.new result }
     {
         self.slots.undeclare(slots);
         self.go_on(base, Sequence::Block(number), 0)
     }
 
     /// The statement at this place begins, if there is one.
+    #[inline(always)]
     pub fn go_on(&mut self, base: &Ground, sequence: Sequence, place: usize) -> Result<Step, Memory>
         requires sequence { SequenceFits base.now.program sequence }
         requires fits { StackFits base.now.program self.old.stack.items }
-        ensures { Goes base.now self.old (sequence_from (here base.now self.old) sequence place) self.new result }
+        ensures { Goes base.now self.old (sequence_from (here base.now self.old) sequence place)
+            self.new result }
     {
         match number_at(statements_of(base, sequence), place) {
             None => Ok(leave()),
@@ -90,6 +98,7 @@ impl Engine {
     }
 
     /// The declarators from this place on: the value of the first that has one begins.
+    #[inline(never)]
     pub fn go_on_declaring(
         &mut self,
         base: &Ground,
@@ -100,7 +109,8 @@ impl Engine {
         requires form { HasForm IsDeclaration base.now.program number }
         requires fits { StackFits base.now.program self.old.stack.items }
         ensures { Goes base.now self.old
-            (declaring_from (here base.now self.old) (slice_get base.now.program.nodes number) place) self.new result }
+            (declaring_from (here base.now self.old) (slice_get base.now.program.nodes number)
+            place) self.new result }
     {
         let NodeForm::Declaration(kind, declared) = &node_of(base, number).form else {
             unreachable!()
@@ -144,7 +154,8 @@ impl Engine {
 
     /// The constant has this value, at the top level. Takes no memory.
     fn put_constant(&mut self, number: u32, value: Value)
-        ensures { place_of self.new ≡ put_at (Variable.Constant number) (plain_value value) (place_of self.old) }
+        ensures { place_of self.new
+            ≡ put_at (Variable.Constant number) (plain_value value) (place_of self.old) }
     {
         if let Some(constants) = &mut self.constants {
             constants.set(number, Some(value));
@@ -152,6 +163,7 @@ impl Engine {
     }
 
     /// A variable has its value, and the declarators from this place on follow.
+    #[inline(never)]
     pub fn declared(
         &mut self,
         base: &Ground,
@@ -164,7 +176,8 @@ impl Engine {
         requires form { HasForm IsDeclaration base.now.program number }
         requires fits { StackFits base.now.program self.old.stack.items }
         ensures { Goes base.now self.old
-            (λ s. declaring_from (here base.now self.old) (slice_get base.now.program.nodes number) place
+            (λ s. declaring_from (here base.now self.old)
+            (slice_get base.now.program.nodes number) place
             (set_variable variable (plain_value value) s)) self.new result }
     {
         self.put(variable, value);

@@ -12,9 +12,11 @@ use crate::step::{Step, give, leave};
 use js_value::{Value, truthy};
 
 /// The right side, where the left one is not true. Takes no memory.
+#[inline(always)]
 pub fn or(right: u32, left: Value) -> Step
     ensures { (program : PlainProgram) → IsNode program right →
-        Picks program (λ g. cond (is_truthy (plain_value left)) (gives (plain_value left)) (eval g right)) result }
+        Picks program (λ g. cond (is_truthy (plain_value left))
+        (gives (plain_value left)) (eval g right)) result }
 {
     if truthy(&left) {
         give(left)
@@ -24,9 +26,11 @@ pub fn or(right: u32, left: Value) -> Step
 }
 
 /// The right side, where the left one is true. Takes no memory.
+#[inline(always)]
 pub fn and(right: u32, left: Value) -> Step
     ensures { (program : PlainProgram) → IsNode program right →
-        Picks program (λ g. cond (is_truthy (plain_value left)) (eval g right) (gives (plain_value left))) result }
+        Picks program (λ g. cond (is_truthy (plain_value left))
+        (eval g right) (gives (plain_value left))) result }
 {
     if truthy(&left) {
         Step::Begin(right)
@@ -36,9 +40,11 @@ pub fn and(right: u32, left: Value) -> Step
 }
 
 /// One of two. Takes no memory.
+#[inline(always)]
 pub fn choose(yes: u32, no: u32, test: &Value) -> Step
     ensures { (program : PlainProgram) → IsNode program yes → IsNode program no →
-        Picks program (λ g. cond (is_truthy (plain_value test.now)) (eval g yes) (eval g no)) result }
+        Picks program (λ g. cond (is_truthy (plain_value test.now)) (eval g yes) (eval g no))
+        result }
 {
     if truthy(test) {
         Step::Begin(yes)
@@ -48,6 +54,7 @@ pub fn choose(yes: u32, no: u32, test: &Value) -> Step
 }
 
 /// The body, where the test is true. Takes no memory.
+#[inline(always)]
 pub fn when(body: u32, test: &Value) -> Step
     ensures { (program : PlainProgram) → IsNode program body →
         Picks program (λ g. cond (is_truthy (plain_value test.now)) (eval g body) leaves) result }

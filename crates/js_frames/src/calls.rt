@@ -36,7 +36,8 @@ fn answer(completion: Completion) -> Value
 
 /// The function of this number, if there is one. Takes no memory.
 pub fn function_of(base: &Ground, code: u32) -> Option<&Body>
-    ensures { option_map (λ b. plain_body b.now) result ≡ slice_get base.now.program.functions code }
+    ensures { option_map (λ b. plain_body b.now) result
+        ≡ slice_get base.now.program.functions code }
 {
     if code < base.program().functions() {
         Some(base.program().function(code))
@@ -67,7 +68,8 @@ impl Engine {
         requires { StackFits base.now.program self.old.stack.items }
         ensures goes { let g = here base.now self.old in Goes base.now self.old
             (calls g (eval g) line (plain_value function) args) self.new result }
-        ensures effects { OnOk result (plain_effects self.new.effects ≡ plain_effects self.old.effects) }
+        ensures effects { OnOk result
+            (plain_effects self.new.effects ≡ plain_effects self.old.effects) }
     {
         match function {
             Value::Function { code, captured } => {
@@ -88,7 +90,8 @@ impl Engine {
         requires { StackFits base.now.program self.old.stack.items }
         ensures goes { let g = here base.now self.old in Goes base.now self.old
             (calls g (eval g) line (function code captured.now) args) self.new result }
-        ensures effects { OnOk result (plain_effects self.new.effects ≡ plain_effects self.old.effects) }
+        ensures effects { OnOk result
+            (plain_effects self.new.effects ≡ plain_effects self.old.effects) }
     {
         if self.calls >= MOST_CALLS {
             return Ok(Step::Fail(Fault::Depth, line));
@@ -111,20 +114,26 @@ impl Engine {
         captured: &Items,
         args: Values,
     ) -> Result<Step, Memory>
-        requires parts { AreNodes base.now.program (content_parts (plain_content body.now.content)) }
-        requires statements { statements_of base.now.program sequence ≡ statements_in (plain_content body.now.content) }
+        requires parts { AreNodes base.now.program
+            (content_parts (plain_content body.now.content)) }
+        requires statements { statements_of base.now.program sequence
+            ≡ statements_in (plain_content body.now.content) }
         requires sequence { SequenceFits base.now.program sequence }
         requires fits { StackFits base.now.program self.old.stack.items }
         ensures goes { Goes base.now self.old
-            (enters (eval (here base.now self.old)) active (plain_body body.now) (values_in captured.now) args)
+            (enters (eval (here base.now self.old)) active (plain_body body.now)
+            (values_in captured.now) args)
             self.new result }
         ensures begins { IsSome (first_of (plain_content body.now.content)) → IfOk result IsBegin }
-        ensures effects { OnOk result (plain_effects self.new.effects ≡ plain_effects self.old.effects) }
+        ensures effects { OnOk result
+            (plain_effects self.new.effects ≡ plain_effects self.old.effects) }
     {
         let Some(first) = first_in(&body.content) else {
             return Ok(leave());
         };
-        let slots = Slots::of_call(self.alloc, body, captured, args)?;
+        let mut values = args;
+        let slots = Slots::of_call(self.alloc, body, captured, &mut values)?;
+        self.done_with(values);
         self.push_call(slots, active)?;
         match &body.content {
             Content::Statements(_) => {
@@ -145,9 +154,11 @@ impl Engine {
     }
 
     /// The caller's slots again, and what the call answers. Takes no memory.
+    #[inline(never)]
     pub fn return_to(&mut self, slots: Slots, calls: u32, completion: Completion) -> Step
         ensures step { Gives (answer_of (plain_completion completion)) result }
-        ensures place { place_of self.new ≡ record (place_of self.old) { slots = slots; calls = calls } }
+        ensures place { place_of self.new
+            ≡ record (place_of self.old) { slots = slots; calls = calls } }
     {
         self.slots = slots;
         self.calls = calls;
@@ -160,7 +171,8 @@ impl Engine {
         ensures goes { Goes base.now self.old
             (enters (eval (here base.now self.old)) 0 base.now.program.top [] [])
             self.new result }
-        ensures effects { OnOk result (plain_effects self.new.effects ≡ plain_effects self.old.effects) }
+        ensures effects { OnOk result
+            (plain_effects self.new.effects ≡ plain_effects self.old.effects) }
     {
         base.keeps();
         let captured = Items::new(self.alloc, Vec::new(self.alloc))?;

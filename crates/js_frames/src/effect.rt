@@ -37,7 +37,8 @@ impl Effects {
 
     /// One more effect.
     pub fn push(&mut self, effect: Effect) -> Result<(), Memory>
-        ensures { OnOk result (plain_effects self.new ≡ plain_effects self.old ++ plain_effect effect ∷ []) }
+        ensures { OnOk result
+            (plain_effects self.new ≡ plain_effects self.old ++ plain_effect effect ∷ []) }
     {
         self.items.push(effect)?;
         Ok(())

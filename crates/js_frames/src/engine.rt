@@ -7,6 +7,7 @@ use crate::effect::Effects;
 use crate::frame::Frame;
 use crate::slots::{Constants, Slots};
 use crate::step::Step;
+use crate::values::Values;
 use js_data::Memory;
 use js_program::Mode;
 use std::alloc::Global;
@@ -25,6 +26,8 @@ pub struct Engine {
     pub fuel: u64,
     pub budget: u64,
     pub effects: Effects,
+    /// Lists of values that are done with: their room serves the nodes that come.
+    pub spare: Vec<Values>,
 }
 
 impl Engine {
@@ -42,7 +45,31 @@ impl Engine {
             fuel: budget,
             budget,
             effects: Effects::new(alloc),
+            spare: Vec::new(alloc),
         }
+    }
+
+    /// No values, in a room that is spare where there is one. Takes no memory.
+    pub fn no_values(&mut self) -> Values
+        ensures none { result ≡ [] }
+        ensures same { place_of self.new ≡ place_of self.old }
+    {
+        match self.spare.pop() {
+            Some(mut values) => {
+                values.cut(0);
+                values
+            }
+            None => Values::new(self.alloc),
+        }
+    }
+
+    /// Values that are done with: their room is spare, if memory for that is not wanting.
+    pub fn done_with(&mut self, values: Values)
+        ensures { place_of self.new ≡ place_of self.old }
+    {
+        let mut emptied = values;
+        emptied.cut(0);
+        let _kept = self.spare.push(emptied);
     }
 
     /// The budget is whole again. Takes no memory.
@@ -61,10 +88,13 @@ impl Engine {
     }
 
     /// Begins a part, and has a frame wait for it.
+    #[inline(always)]
     pub fn wait(&mut self, part: u32, frame: Frame) -> Result<Step, Memory>
-        ensures { IfOk result (λ step. (step ≡ Step.Begin part) × (place_of self.new ≡ pushed (place_of self.old) frame)) }
+        ensures { IfOk result (λ step. (step ≡ Step.Begin part)
+            × (place_of self.new ≡ pushed (place_of self.old) frame)) }
     {
-        self.stack.push(frame)?;
+        self.stack.reserve(1)?;
+        self.stack.push_reserved(frame);
         Ok(Step::Begin(part))
     }
 }

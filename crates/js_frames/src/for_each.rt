@@ -38,18 +38,20 @@ fn index_value(index: usize) -> Result<Value, Memory>
     }
 }
 
-/// The arguments of the function: the element, its index and the list, but no more than it has parameters.
+/// The arguments of the function: the element, its index and the list, but no more than it has
+/// parameters.
 fn element_args(
-    alloc: Global,
+    none: Values,
     wanted: u32,
     item: &Value,
     index: usize,
     items: &Items,
 ) -> Result<Values, Memory>
+    requires { none ≡ [] }
     ensures { IfOk result (λ args. padded wanted args
         ≡ padded wanted (plain_value item.now ∷ whole (pos index) ∷ list items.now ∷ [])) }
 {
-    let mut args = Values::new(alloc);
+    let mut args = none;
     let element = copy(item)?;
     args.push(element)?;
     if wanted <= 1 {
@@ -94,6 +96,7 @@ impl Engine {
     }
 
     /// The function is called with the element at the index, if there is one.
+    #[inline(never)]
     pub fn walk(&mut self, base: &Ground, walk: Walk) -> Result<Step, Memory>
         requires { StackFits base.now.program self.old.stack.items }
         ensures { Goes base.now self.old (walk_from (here base.now self.old) walk) self.new result }
@@ -111,7 +114,8 @@ impl Engine {
         let Some(_first) = first_in(&body.content) else {
             return Ok(leave());
         };
-        let args = element_args(self.alloc, body.parameters, item, walk.index, &walk.items)?;
+        let none = self.no_values();
+        let args = element_args(none, body.parameters, item, walk.index, &walk.items)?;
         base.keeps();
         self.walk_on(base, body, walk, args)
     }
@@ -126,8 +130,10 @@ impl Engine {
     ) -> Result<Step, Memory>
         requires room { self.old.calls < 200 }
         requires places { walk.index + 1 < 2 ^ 64 }
-        requires found { slice_get base.now.program.functions walk.code ≡ Some (plain_body body.now) }
-        requires parts { AreNodes base.now.program (content_parts (plain_content body.now.content)) }
+        requires found { slice_get base.now.program.functions walk.code
+            ≡ Some (plain_body body.now) }
+        requires parts { AreNodes base.now.program
+            (content_parts (plain_content body.now.content)) }
         requires starts { IsSome (first_of (plain_content body.now.content)) }
         requires args { AreElementArgs walk body.now.parameters args }
         requires fits { StackFits base.now.program self.old.stack.items }

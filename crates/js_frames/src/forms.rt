@@ -6,9 +6,9 @@ ghost use Rattle.js_value.specs.Views.{plain_value, plain_set};
 ghost use Rattle.js_value.specs.DataValues.{value_data};
 ghost use Rattle.js_meaning.specs.State.{gives};
 ghost use Rattle.js_meaning.specs.Forms.{argument, does_to_run, registers_thread, asks, asserted, enqueues_event, sets_handler, log_text, logs, floors, takes_effect, applies_form};
-ghost use Rattle.js_frames.specs.Places.{here, plain_effect};
+ghost use Rattle.js_frames.specs.Places.{here, place_of, plain_ground, plain_effect};
 ghost use Rattle.js_frames.specs.Fits.{StackFits};
-ghost use Rattle.js_frames.specs.Leads.{Goes, Becomes};
+ghost use Rattle.js_frames.specs.Leads.{Leads, Goes, Becomes};
 
 use crate::effect::Effect;
 use crate::engine::Engine;
@@ -32,7 +32,8 @@ fn set(alloc: Global, tree: SetTree) -> Result<Step, Memory>
 
 /// A statement asks. Takes no memory.
 fn ask(line: u32, mut args: Values) -> Step
-    ensures { Becomes (λ g s. asks g.budget line (argument 0 args) (argument 1 args) s.replies s) result }
+    ensures { Becomes (λ g s. asks g.budget line (argument 0 args) (argument 1 args) s.replies s)
+        result }
 {
     let priority = args.take(1);
     Step::Ask(args.take(0), priority, line)
@@ -47,7 +48,8 @@ fn asserted(line: u32, mut args: Values) -> Result<Step, Memory>
 }
 
 fn assert_with(line: u32, condition: &Value, text: &Value) -> Result<Step, Memory>
-    ensures { IfOk result (Becomes (λ g. asserted line (plain_value condition.now) (plain_value text.now))) }
+    ensures { IfOk result
+        (Becomes (λ g. asserted line (plain_value condition.now) (plain_value text.now))) }
 {
     let Value::Words(words) = text else {
         return Ok(mistyped(line));
@@ -61,13 +63,13 @@ fn assert_with(line: u32, condition: &Value, text: &Value) -> Result<Step, Memor
 }
 
 /// `Math.floor` of anything but a division. Takes no memory.
-fn floor(line: u32, mut args: Values) -> Step
-    ensures { Becomes (λ g. floors line (argument 0 args)) result }
+fn floored(line: u32, args: &mut Values) -> Step
+    ensures { Becomes (λ g. floors line (argument 0 args.old)) result }
 {
-    match args.take(0) {
-        Value::Whole(n) => give(Value::Whole(n)),
-        _ => mistyped(line),
-    }
+    let Value::Whole(n) = args.take(0) else {
+        return mistyped(line);
+    };
+    give(Value::Whole(n))
 }
 
 /// The text of a value in the log; none where it has no such text.
@@ -103,7 +105,8 @@ impl Engine {
         args: Values,
     ) -> Result<Step, Memory>
         requires { StackFits base.now.program self.old.stack.items }
-        ensures { Goes base.now self.old (applies_form (here base.now self.old) line form args) self.new result }
+        ensures { Goes base.now self.old (applies_form (here base.now self.old) line form args)
+            self.new result }
     {
         if has_effect_in(self.mode, form) {
             self.take_effect(base, line, form, args)
@@ -120,7 +123,8 @@ impl Engine {
         args: Values,
     ) -> Result<Step, Memory>
         requires { StackFits base.now.program self.old.stack.items }
-        ensures { Goes base.now self.old (takes_effect self.old.budget line form args) self.new result }
+        ensures { Goes base.now self.old (takes_effect self.old.budget line form args)
+            self.new result }
     {
         match form {
             Builtin::RegisterBThread => self.register(base, line, args),
@@ -133,7 +137,7 @@ impl Engine {
             Builtin::EnqueueExternalEvent => self.enqueue(base, line, args),
             Builtin::SetInterruptHandler => self.handle(base, line, args),
             Builtin::LogInfo => self.log(base, line, args),
-            Builtin::Floor => Ok(floor(line, args)),
+            Builtin::Floor => Ok(self.floor(base, line, args)),
         }
     }
 
@@ -146,9 +150,21 @@ impl Engine {
         Ok(leave())
     }
 
+    fn floor(&mut self, base: &Ground, line: u32, args: Values) -> Step
+        requires { StackFits base.now.program self.old.stack.items }
+        ensures { Leads (plain_ground base.now) (place_of self.old) (floors line (argument 0 args))
+            (place_of self.new) result }
+    {
+        let mut values = args;
+        let step = floored(line, &mut values);
+        self.done_with(values);
+        step
+    }
+
     fn register(&mut self, base: &Ground, line: u32, mut args: Values) -> Result<Step, Memory>
         requires { StackFits base.now.program self.old.stack.items }
-        ensures { Goes base.now self.old (registers_thread line (argument 0 args) (argument 1 args)) self.new result }
+        ensures { Goes base.now self.old (registers_thread line (argument 0 args) (argument 1 args))
+            self.new result }
     {
         let function = args.take(1);
         let name = args.take(0);
@@ -163,7 +179,8 @@ impl Engine {
         function: Value,
     ) -> Result<Step, Memory>
         requires { StackFits base.now.program self.old.stack.items }
-        ensures { Goes base.now self.old (registers_thread line (plain_value name.now) (plain_value function)) self.new result }
+        ensures { Goes base.now self.old
+            (registers_thread line (plain_value name.now) (plain_value function)) self.new result }
     {
         match name {
             Value::Words(text) => self.register_named(base, line, text, function),
@@ -179,7 +196,8 @@ impl Engine {
         function: Value,
     ) -> Result<Step, Memory>
         requires { StackFits base.now.program self.old.stack.items }
-        ensures { Goes base.now self.old (registers_thread line (words name.now) (plain_value function)) self.new result }
+        ensures { Goes base.now self.old
+            (registers_thread line (words name.now) (plain_value function)) self.new result }
     {
         match function {
             Value::Function { code, captured } => {

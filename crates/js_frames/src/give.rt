@@ -16,6 +16,7 @@ use js_value::Value;
 
 impl Engine {
     /// What a frame does once what it waits for completes.
+    #[inline(always)]
     pub fn give(
         &mut self,
         base: &Ground,
@@ -33,13 +34,41 @@ impl Engine {
                 Completion::Normal(value) => self.give_value(base, part, value),
                 other => Ok(Step::Give(other)),
             },
-            Frame::Turning(turn) => self.give_turn(base, turn, completion),
+            Frame::Turning(turn) => {
+                let step = self.give_turn(base, turn, completion)?;
+                Ok(step)
+            }
             Frame::Called(slots, calls) => Ok(self.return_to(slots, calls, completion)),
         }
     }
 
-    /// What a node does that has the value of its part.
+    /// What a node does that has the value of its part: the parts that loops are made of stand here.
+    #[inline(always)]
     fn give_value(&mut self, base: &Ground, part: Part, value: Value) -> Result<Step, Memory>
+        requires part { PartFits base.now.program part }
+        requires fits { StackFits base.now.program self.old.stack.items }
+        ensures { Goes base.now self.old
+            (rest (here base.now self.old) part (plain_value value))
+            self.new result }
+    {
+        match part {
+            Part::First(number) => self.first(base, number, value),
+            Part::Second(number, first) => self.second(base, number, first, value),
+            Part::Assigned(slot, line) => self.assigned(base, slot, line, value),
+            Part::Dropped => Ok(leave()),
+            Part::Statements(sequence, place) => self.go_on(base, sequence, place),
+            Part::Tested(turns) => self.tested(base, turns, value),
+            Part::Between(turns) => self.test(base, turns),
+            other => {
+                let step = self.give_any(base, other, value)?;
+                Ok(step)
+            }
+        }
+    }
+
+    /// What any node does that has the value of its part.
+    #[inline(never)]
+    fn give_any(&mut self, base: &Ground, part: Part, value: Value) -> Result<Step, Memory>
         requires part { PartFits base.now.program part }
         requires fits { StackFits base.now.program self.old.stack.items }
         ensures { Goes base.now self.old

@@ -1,4 +1,5 @@
-//! The frame machine: it runs the top level or a function of a program in slices, and stops at `bp.sync`.
+//! The frame machine: it runs the top level or a function of a program in slices, and stops at
+//! `bp.sync`.
 #![tactic(auto)]
 
 mod assigning;

@@ -21,6 +21,7 @@ use js_value::{Items, Value, copy, truthy};
 
 impl Engine {
     /// A `for`: its variables are not declared yet, and its first part begins, if it has one.
+    #[inline(never)]
     pub fn start_loop(
         &mut self,
         base: &Ground,
@@ -31,7 +32,8 @@ impl Engine {
         requires turns { TurnsFit base.now.program turns }
         requires first { IsPerhapsNode base.now.program first }
         requires fits { StackFits base.now.program self.old.stack.items }
-        ensures { Goes base.now self.old (starts_loop (here base.now self.old) slots.now first turns)
+        ensures { Goes base.now self.old
+            (starts_loop (here base.now self.old) slots.now first turns)
             self.new result }
     {
         self.slots.undeclare(slots);
@@ -42,6 +44,7 @@ impl Engine {
     }
 
     /// The test of a loop begins; an absent one is true.
+    #[inline(always)]
     pub fn test(&mut self, base: &Ground, turns: Turns) -> Result<Step, Memory>
         requires turns { TurnsFit base.now.program turns }
         requires fits { StackFits base.now.program self.old.stack.items }
@@ -56,6 +59,7 @@ impl Engine {
     }
 
     /// The body of a loop begins.
+    #[inline(always)]
     fn turn(&mut self, base: &Ground, turns: Turns) -> Result<Step, Memory>
         requires turns { TurnsFit base.now.program turns }
         requires fits { StackFits base.now.program self.old.stack.items }
@@ -67,6 +71,7 @@ impl Engine {
     }
 
     /// The test of a loop has its value.
+    #[inline(always)]
     pub fn tested(&mut self, base: &Ground, turns: Turns, value: Value) -> Result<Step, Memory>
         requires turns { TurnsFit base.now.program turns }
         requires fits { StackFits base.now.program self.old.stack.items }
@@ -82,6 +87,7 @@ impl Engine {
     }
 
     /// What comes between two turns begins; where it is absent, the test.
+    #[inline(always)]
     fn turned(&mut self, base: &Ground, turns: Turns) -> Result<Step, Memory>
         requires turns { TurnsFit base.now.program turns }
         requires fits { StackFits base.now.program self.old.stack.items }
@@ -96,6 +102,7 @@ impl Engine {
     }
 
     /// A `for of`: its variable is not declared yet, and its list begins.
+    #[inline(never)]
     pub fn for_of(
         &mut self,
         base: &Ground,
@@ -116,6 +123,7 @@ impl Engine {
     }
 
     /// The list of a `for of` has its value.
+    #[inline(never)]
     pub fn listed(
         &mut self,
         base: &Ground,
@@ -137,6 +145,7 @@ impl Engine {
     }
 
     /// The body for the element at this place begins, if there is one.
+    #[inline(never)]
     fn each(
         &mut self,
         base: &Ground,
@@ -163,6 +172,7 @@ impl Engine {
     }
 
     /// The next turn of a loop.
+    #[inline(always)]
     fn turn_again(&mut self, base: &Ground, turn: Turn) -> Result<Step, Memory>
         requires turn { TurnFits base.now.program turn }
         requires fits { StackFits base.now.program self.old.stack.items }
@@ -177,6 +187,7 @@ impl Engine {
     }
 
     /// The body of a loop has completed.
+    #[inline(never)]
     pub fn give_turn(
         &mut self,
         base: &Ground,
@@ -186,7 +197,8 @@ impl Engine {
         requires turn { TurnFits base.now.program turn }
         requires fits { StackFits base.now.program self.old.stack.items }
         ensures { Goes base.now self.old
-            (λ s. resume (here base.now self.old) (Frame.Turning turn) (went (plain_completion completion) s))
+            (λ s. resume (here base.now self.old) (Frame.Turning turn)
+            (went (plain_completion completion) s))
             self.new result }
     {
         match completion {

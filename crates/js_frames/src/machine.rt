@@ -68,8 +68,10 @@ fn copies(alloc: Global, values: &[Value]) -> Result<Values, Memory>
 
 /// The step by which a machine goes on.
 fn step_of(alloc: Global, next: Pending) -> Result<Step, Memory>
-    ensures same { (g : js.Setting) (s : js.State) → IfOk result (λ step. step_outcome g step s ≡ pending_outcome g next s) }
-    ensures fits { (program : PlainProgram) → PendingFits program next → IfOk result (StepFits program) }
+    ensures same { (g : js.Setting) (s : js.State) →
+        IfOk result (λ step. step_outcome g step s ≡ pending_outcome g next s) }
+    ensures fits { (program : PlainProgram) →
+        PendingFits program next → IfOk result (StepFits program) }
 {
     match next {
         Pending::Next(step) => Ok(step),
@@ -85,7 +87,8 @@ impl Machine {
     pub fn top(alloc: Global, base: &Ground, budget: u64) -> Result<Machine, Memory>
         ensures program { IfOk result (λ m. IsOfProgram (plain_ground base.now).program m) }
         ensures effects { IfOk result (λ m. untaken m ≡ []) }
-        ensures stands { IfOk result (λ m. Stands (plain_ground base.now) budget the_top [] 0 [] m) }
+        ensures stands { IfOk result (λ m.
+            Stands (plain_ground base.now) budget the_top [] 0 [] m) }
     {
         let constants = constants_start(alloc, base.program())?;
         let mut engine = Engine::new(alloc, Mode::Top, budget, Some(constants));
@@ -120,13 +123,16 @@ impl Machine {
         })
     }
 
-    /// Begins at most so many nodes, and says why it stops. After want of memory it answers nothing else.
+    /// Begins at most so many nodes, and says why it stops. After want of memory it answers nothing
+    /// else.
     pub fn run(&mut self, base: &Ground, nodes: u64) -> Result<Pause, Memory>
         requires { IsOfProgram (plain_ground base.now).program self.old }
         ensures program { IsOfProgram (plain_ground base.now).program self.new }
-        ensures stands { (budget : ℕ) → (o : Origin) → (replies : List PlainEvent) → (begun : ℕ) → (taken : List js.Effect) →
+        ensures stands { (budget : ℕ) → (o : Origin) → (replies : List PlainEvent) →
+            (begun : ℕ) → (taken : List js.Effect) →
             Stands (plain_ground base.now) budget o replies begun taken self.old →
-            IfOk result (λ pause. Runs (plain_ground base.now) budget o replies begun taken nodes pause self.new) }
+            IfOk result (λ pause.
+            Runs (plain_ground base.now) budget o replies begun taken nodes pause self.new) }
         ensures at_sync { IfOk result (λ pause. pause ≡ Pause.AtSync → IsSome (asked_by self.new)) }
         ensures lost { OnErr result (IsLost self.new) }
         ensures stays_lost { IsLost self.old → IsErr result }
@@ -198,10 +204,13 @@ impl Machine {
     /// The event is the value of the `bp.sync`, and the budget is whole again. Takes no memory.
     pub fn resume(&mut self, event: Event)
         requires { IsSome (asked_by self.old) }
-        ensures program { (program : PlainProgram) → IsOfProgram program self.old → IsOfProgram program self.new }
+        ensures program { (program : PlainProgram) →
+            IsOfProgram program self.old → IsOfProgram program self.new }
         ensures effects { untaken self.new ≡ untaken self.old }
-        ensures stands { (base : js.Ground) → (budget : ℕ) → (o : Origin) → (replies : List PlainEvent) → (begun : ℕ) → (taken : List js.Effect) →
-            Stands base budget o replies begun taken self.old → Stands base budget o (replies ++ event ∷ []) 0 taken self.new }
+        ensures stands { (base : js.Ground) → (budget : ℕ) → (o : Origin) →
+            (replies : List PlainEvent) → (begun : ℕ) → (taken : List js.Effect) →
+            Stands base budget o replies begun taken self.old →
+            Stands base budget o (replies ++ event ∷ []) 0 taken self.new }
     {
         self.engine.refill();
         self.pending = Some(Pending::Resumed(event));
@@ -209,15 +218,18 @@ impl Machine {
 
     /// The effects since the last taking, in order. Takes no memory.
     pub fn take_effects(&mut self) -> Effects
-        ensures program { (program : PlainProgram) → IsOfProgram program self.old → IsOfProgram program self.new }
+        ensures program { (program : PlainProgram) →
+            IsOfProgram program self.old → IsOfProgram program self.new }
         ensures given { plain_effects result ≡ untaken self.old }
         ensures left { untaken self.new ≡ [] }
         ensures asked { asked_by self.new ≡ asked_by self.old }
         ensures line { line_asked self.new ≡ line_asked self.old }
         ensures answer { answer_by self.new ≡ answer_by self.old }
         ensures constants { constants_by self.new ≡ constants_by self.old }
-        ensures stands { (base : js.Ground) → (budget : ℕ) → (o : Origin) → (replies : List PlainEvent) → (begun : ℕ) → (taken : List js.Effect) →
-            Stands base budget o replies begun taken self.old → Stands base budget o replies begun (taken ++ plain_effects result) self.new }
+        ensures stands { (base : js.Ground) → (budget : ℕ) → (o : Origin) →
+            (replies : List PlainEvent) → (begun : ℕ) → (taken : List js.Effect) →
+            Stands base budget o replies begun taken self.old →
+            Stands base budget o replies begun (taken ++ plain_effects result) self.new }
     {
         self.engine.take_effects()
     }

@@ -8,6 +8,7 @@ use crate::ground::Ground;
 use js_program::Node;
 
 /// The node of this number. Takes no memory.
+#[inline(always)]
 pub fn node_of(base: &Ground, number: u32) -> &Node
     requires { IsNode base.now.program number }
     ensures node { slice_get base.now.program.nodes number ≡ Some (plain_node result.now) }

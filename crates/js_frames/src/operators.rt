@@ -6,6 +6,7 @@ use js_tree::{AssignOp, Operator, Sign, Step};
 use js_value::{Op, Unary};
 
 /// The unary operator of a sign.
+#[inline(always)]
 pub fn unary_for(sign: Sign) -> Unary
     ensures { result ≡ unary_for sign }
 {
@@ -27,6 +28,7 @@ pub fn step_for(step: Step) -> Unary
 }
 
 /// The operator; none for `||` and `&&`.
+#[inline(always)]
 pub fn op_for(operator: Operator) -> Option<Op>
     ensures { result ≡ op_for operator }
 {

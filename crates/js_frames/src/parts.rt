@@ -1,5 +1,6 @@
 //! Nodes that evaluate all their parts, and then make one value.
-ghost use Rattle.std.specs.Prelude.{◌≡◌, ◌++◌, ◌∷◌, [], drop, slice_get, IfOk, codes};
+ghost use Rattle.std.specs.Prelude.{◌≡◌, ◌++◌, ◌∷◌, [], drop, map, slice_get, IfOk, codes};
+ghost use Rattle.std.specs.Arc.{arc_value};
 ghost use Rattle.std.specs.Str.{bytes_eq};
 ghost use Rattle.js_value.specs.Value.{PlainValue, list};
 ghost use Rattle.js_value.specs.Views.{plain_value};
@@ -32,6 +33,7 @@ use js_ops::{OpFault, apply, index, make_from, member, method, method_named, una
 use js_program::{Node, NodeForm};
 use js_value::{Items, Make, Op, Value};
 use std::alloc::Global;
+use std::sync::Arc;
 
 /// The part at a place of a node with any number of parts. Takes no memory.
 fn part_at(form: &NodeForm, place: usize) -> Option<u32>
@@ -69,7 +71,9 @@ fn behind_two(first: u32, second: u32, parts: &[u32], place: usize) -> Option<u3
     }
 }
 
-/// What an operator of two sides answers; `||` and `&&` have no rule. Takes memory for a text that is joined.
+/// What an operator of two sides answers; `||` and `&&` have no rule. Takes memory for a text that
+/// is joined.
+#[inline(always)]
 fn by_rule(alloc: Global, op: Option<Op>, left: &Value, right: &Value) -> Result<Value, OpFault>
     ensures { AnswersAs (by_rule op (plain_value left.now) (plain_value right.now)) result }
 {
@@ -94,8 +98,8 @@ fn made_list(alloc: Global, done: Values) -> Result<Value, OpFault>
 }
 
 /// The fields of the keys and the values; what is more of either is dropped.
-fn made_fields(alloc: Global, keys: &[Text], mut done: Values) -> Result<Value, OpFault>
-    ensures { AnswersAs (make_of Make.Fields done keys.now) result }
+fn made_fields(alloc: Global, keys: &[Arc<Text>], mut done: Values) -> Result<Value, OpFault>
+    ensures { AnswersAs (make_of Make.Fields done (map arc_value keys.now)) result }
 {
     done.cut(keys.len());
     let count = done.len();
@@ -110,7 +114,8 @@ fn apply_method(
     word: &Text,
     args: &Values,
 ) -> Result<Step, Memory>
-    ensures { IfOk result (Becomes (λ g. applies line (method_named word.now) (plain_value on.now) args.now)) }
+    ensures { IfOk result
+        (Becomes (λ g. applies line (method_named word.now) (plain_value on.now) args.now)) }
 {
     match method_named(word.as_str()) {
         None => Ok(mistyped(line)),
@@ -118,25 +123,31 @@ fn apply_method(
     }
 }
 
-/// The quotient of the first two, rounded down; the others are dropped.
-fn floor_divide(alloc: Global, line: u32, mut done: Values) -> Result<Step, Memory>
-    ensures { IfOk result (Becomes (λ g. answered line (value_of Op.FloorDivide (argument 0 done) (argument 1 done)))) }
-{
-    let divisor = done.take(1);
-    let dividend = done.take(0);
-    answered(apply(alloc, Op::FloorDivide, &dividend, &divisor), line)
-}
-
 impl Engine {
     /// The first part begins, if there is one.
+    #[inline(never)]
     pub fn begin_parts(&mut self, base: &Ground, number: u32) -> Result<Step, Memory>
         requires number { IsNode base.now.program number }
         requires form { HasForm IsLong base.now.program number }
         requires fits { StackFits base.now.program self.old.stack.items }
         ensures { Goes base.now self.old
-            (parts_from (here base.now self.old) (slice_get base.now.program.nodes number) []) self.new result }
+            (parts_from (here base.now self.old) (slice_get base.now.program.nodes number) [])
+            self.new result }
     {
-        let none = Values::new(self.alloc);
+        let none = self.no_values();
+        self.go_on_parts(base, number, none)
+    }
+
+    /// The same, of a node whose value holds those of its parts: so many have room in it.
+    pub fn begin_making(&mut self, base: &Ground, number: u32, count: usize) -> Result<Step, Memory>
+        requires number { IsNode base.now.program number }
+        requires form { HasForm IsLong base.now.program number }
+        requires fits { StackFits base.now.program self.old.stack.items }
+        ensures { Goes base.now self.old
+            (parts_from (here base.now self.old) (slice_get base.now.program.nodes number) [])
+            self.new result }
+    {
+        let none = Values::with_capacity(self.alloc, count)?;
         self.go_on_parts(base, number, none)
     }
 
@@ -146,7 +157,8 @@ impl Engine {
         requires form { HasForm IsLong base.now.program number }
         requires fits { StackFits base.now.program self.old.stack.items }
         ensures { Goes base.now self.old
-            (parts_from (here base.now self.old) (slice_get base.now.program.nodes number) done) self.new result }
+            (parts_from (here base.now self.old) (slice_get base.now.program.nodes number) done)
+            self.new result }
     {
         let node = node_of(base, number);
         match part_at(&node.form, done.len()) {
@@ -156,6 +168,7 @@ impl Engine {
     }
 
     /// One more part has its value.
+    #[inline(never)]
     pub fn further(
         &mut self,
         base: &Ground,
@@ -167,19 +180,22 @@ impl Engine {
         requires form { HasForm IsLong base.now.program number }
         requires fits { StackFits base.now.program self.old.stack.items }
         ensures { Goes base.now self.old
-            (parts_from (here base.now self.old) (slice_get base.now.program.nodes number) (done ++ plain_value value ∷ [])) self.new result }
+            (parts_from (here base.now self.old) (slice_get base.now.program.nodes number)
+            (done ++ plain_value value ∷ [])) self.new result }
     {
         done.push(value)?;
         self.go_on_parts(base, number, done)
     }
 
     /// The first part of a node with one or two has its value.
+    #[inline(always)]
     pub fn first(&mut self, base: &Ground, number: u32, value: Value) -> Result<Step, Memory>
         requires number { IsNode base.now.program number }
         requires form { HasForm IsShort base.now.program number }
         requires fits { StackFits base.now.program self.old.stack.items }
         ensures { Goes base.now self.old
-            (parts_from (here base.now self.old) (slice_get base.now.program.nodes number) (plain_value value ∷ [])) self.new result }
+            (parts_from (here base.now self.old) (slice_get base.now.program.nodes number)
+            (plain_value value ∷ [])) self.new result }
     {
         let node = node_of(base, number);
         match &node.form {
@@ -196,6 +212,7 @@ impl Engine {
     }
 
     /// The second part of a node with two has its value.
+    #[inline(always)]
     pub fn second(
         &mut self,
         base: &Ground,
@@ -207,7 +224,8 @@ impl Engine {
         requires form { HasForm IsDouble base.now.program number }
         requires fits { StackFits base.now.program self.old.stack.items }
         ensures { Goes base.now self.old
-            (parts_from (here base.now self.old) (slice_get base.now.program.nodes number) (plain_value first ∷ plain_value value ∷ [])) self.new result }
+            (parts_from (here base.now self.old) (slice_get base.now.program.nodes number)
+            (plain_value first ∷ plain_value value ∷ [])) self.new result }
     {
         let node = node_of(base, number);
         match &node.form {
@@ -225,7 +243,8 @@ impl Engine {
         requires form { IsLong (plain_node_form node.now.form) }
         requires fits { StackFits base.now.program self.old.stack.items }
         ensures { let g = here base.now self.old in Goes base.now self.old
-            (combines g (eval g) node.now.line (plain_node_form node.now.form) done) self.new result }
+            (combines g (eval g) node.now.line (plain_node_form node.now.form) done)
+            self.new result }
     {
         match &node.form {
             NodeForm::List(_) => answered(made_list(self.alloc, done), node.line),
@@ -233,9 +252,25 @@ impl Engine {
             NodeForm::Call(_, _) => self.combine_call(base, node.line, done),
             NodeForm::Method(_, word, _) => self.combine_method(base, node.line, word, done),
             NodeForm::Builtin(form, _) => self.apply_form(base, node.line, *form, done),
-            NodeForm::FloorDivide(_, _, _) => floor_divide(self.alloc, node.line, done),
+            NodeForm::FloorDivide(_, _, _) => self.floor_divide(base, node.line, done),
             _ => unreachable!(),
         }
+    }
+
+    /// The quotient of the first two values, rounded down; the others are dropped.
+    fn floor_divide(&mut self, base: &Ground, line: u32, mut done: Values) -> Result<Step, Memory>
+        requires { StackFits base.now.program self.old.stack.items }
+        ensures { Goes base.now self.old
+            (answered line (value_of Op.FloorDivide (argument 0 done) (argument 1 done)))
+            self.new result }
+    {
+        let divisor = done.take(1);
+        let dividend = done.take(0);
+        self.done_with(done);
+        answered(
+            apply(self.alloc, Op::FloorDivide, &dividend, &divisor),
+            line,
+        )
     }
 
     /// The first value is called with the others.
@@ -258,7 +293,8 @@ impl Engine {
     ) -> Result<Step, Memory>
         requires { StackFits base.now.program self.old.stack.items }
         ensures { let g = here base.now self.old in Goes base.now self.old
-            (calls_method g (eval g) line word.now (argument 0 done) (drop 1 done)) self.new result }
+            (calls_method g (eval g) line word.now (argument 0 done) (drop 1 done))
+            self.new result }
     {
         let on = done.take_first();
         self.call_method(base, line, word, on, done)

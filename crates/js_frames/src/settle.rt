@@ -11,10 +11,12 @@ use js_data::Memory;
 
 impl Engine {
     /// Goes on until a node must begin, or something else must come from outside.
+    #[inline(always)]
     fn settle(&mut self, base: &Ground, step: Step) -> Result<Step, Memory>
         requires step { StepFits base.now.program step }
         requires fits { StackFits base.now.program self.old.stack.items }
-        ensures keeps { IfOk result (λ last. Keeps (plain_ground base.now) (place_of self.old) step (place_of self.new) last) }
+        ensures keeps { IfOk result (λ last.
+            Keeps (plain_ground base.now) (place_of self.old) step (place_of self.new) last) }
         ensures settled { IfOk result (λ last. IsSettled last self.new.stack.items) }
     {
         match step {
@@ -23,10 +25,24 @@ impl Engine {
         }
     }
 
+    /// The same, in a function of its own: `advance` holds `settle` in its loop alone.
+    #[inline(never)]
+    fn settle_once(&mut self, base: &Ground, step: Step) -> Result<Step, Memory>
+        requires step { StepFits base.now.program step }
+        requires fits { StackFits base.now.program self.old.stack.items }
+        ensures keeps { IfOk result (λ last.
+            Keeps (plain_ground base.now) (place_of self.old) step (place_of self.new) last) }
+        ensures settled { IfOk result (λ last. IsSettled last self.new.stack.items) }
+    {
+        self.settle(base, step)
+    }
+
     /// Gives a completion to the last frame, what comes of it to the one before, and so on.
+    #[inline(always)]
     fn unwind(&mut self, base: &Ground, completion: Completion) -> Result<Step, Memory>
         requires fits { StackFits base.now.program self.old.stack.items }
-        ensures keeps { IfOk result (λ last. Keeps (plain_ground base.now) (place_of self.old) (Step.Give completion) (place_of self.new) last) }
+        ensures keeps { IfOk result (λ last. Keeps (plain_ground base.now)
+            (place_of self.old) (Step.Give completion) (place_of self.new) last) }
         ensures settled { IfOk result (λ last. IsSettled last self.new.stack.items) }
     {
         let mut current = completion;
@@ -43,20 +59,26 @@ impl Engine {
     pub fn advance(&mut self, base: &Ground, step: Step, nodes: u64) -> Result<Step, Memory>
         requires step { StepFits base.now.program step }
         requires fits { StackFits base.now.program self.old.stack.items }
-        ensures { IfOk result (λ last. (begun : ℕ) × Advanced (plain_ground base.now) (place_of self.old) step (place_of self.new) last nodes begun) }
+        ensures { IfOk result (λ last. (begun : ℕ) × Advanced (plain_ground base.now)
+            (place_of self.old) step (place_of self.new) last nodes begun) }
     {
-        let mut current = self.settle(base, step)?;
+        let settled = self.settle_once(base, step)?;
+        let mut current = match settled {
+            Step::Begin(number) => number,
+            other => return Ok(other),
+        };
         for _ in 0..nodes {
-            let Step::Begin(number) = current else {
-                return Ok(current);
-            };
             if self.fuel == 0 {
-                return Ok(Step::Begin(number));
+                return Ok(Step::Begin(current));
             }
             self.fuel -= 1;
-            let next = self.begin(base, number)?;
-            current = self.settle(base, next)?;
+            let next = self.begin(base, current)?;
+            let last = self.settle(base, next)?;
+            match last {
+                Step::Begin(number) => current = number,
+                other => return Ok(other),
+            }
         }
-        Ok(current)
+        Ok(Step::Begin(current))
     }
 }

@@ -13,7 +13,8 @@ use std::alloc::Global;
 use std::marker::Model;
 use std::mem;
 
-/// Variables by their numbers: none where one is not declared yet. Contracts see the list of their plain forms.
+/// Variables by their numbers: none where one is not declared yet. Contracts see the list of their
+/// plain forms.
 #[derive(Drop)]
 pub struct Slots {
     items: Vec<Option<Value>>,
@@ -63,6 +64,7 @@ impl Slots {
     }
 
     /// The value of a variable, if it is declared. Takes no memory.
+    #[inline(always)]
     pub fn get(&self, number: u32) -> Option<&Value>
         ensures { option_map (λ v. plain_value v.now) result ≡ in_slot number self.now }
     {
@@ -84,6 +86,7 @@ impl Slots {
     }
 
     /// Sets a variable, if there is one of this number. Takes no memory.
+    #[inline(always)]
     pub fn set(&mut self, number: u32, value: Option<Value>)
         ensures { self.new ≡ slice_set self.old number (option_map plain_value value) }
     {
@@ -94,6 +97,7 @@ impl Slots {
     }
 
     /// Sets a variable, and gives what it was. Takes no memory.
+    #[inline(always)]
     fn put_in(&mut self, place: usize, value: Option<Value>) -> Option<Value>
         requires { place < length self.old }
         ensures { self.new ≡ slice_set self.old place (option_map plain_value value) }
@@ -120,7 +124,8 @@ impl Slots {
 
     /// The variables with these numbers are undefined. Takes no memory.
     fn unset(&mut self, numbers: &[u32])
-        ensures { self.new ≡ fold (λ slots k. slice_set slots k (Some undefined)) self.old numbers.now }
+        ensures { self.new
+            ≡ fold (λ slots k. slice_set slots k (Some undefined)) self.old numbers.now }
     {
         for number in numbers {
             self.set(*number, Some(Value::Undefined));
@@ -159,19 +164,20 @@ impl Slots {
         Ok(())
     }
 
-    /// The variables of a call: the parameters, the captured values, and the other variables.
+    /// The variables of a call: the parameters, to which the arguments move, the captured values,
+    /// and the other variables.
     pub fn of_call(
         alloc: Global,
         body: &Body,
         captured: &Items,
-        args: Values,
+        args: &mut Values,
     ) -> Result<Slots, Memory>
-        ensures { IfOk result (λ slots. slots ≡ slots_of_call (plain_body body.now) (values_in captured.now) args) }
+        ensures { IfOk result (λ slots. slots
+            ≡ slots_of_call (plain_body body.now) (values_in captured.now) args.old) }
     {
-        let mut values = args;
-        values.pad(body.parameters as usize)?;
+        args.pad(body.parameters as usize)?;
         let mut slots = Slots::with_capacity(alloc, body.slots as usize)?;
-        slots.push_all(&mut values)?;
+        slots.push_all(args)?;
         slots.push_copies(captured.as_slice())?;
         slots.fill(body.slots as usize)?;
         slots.unset(&body.vars);

@@ -37,6 +37,7 @@ pub enum Step {
 }
 
 /// A value is given. Takes no memory.
+#[inline(always)]
 pub fn give(value: Value) -> Step
     ensures { result ≡ Step.Give (Completion.Normal value) }
 {
@@ -44,6 +45,7 @@ pub fn give(value: Value) -> Step
 }
 
 /// A statement completes. Takes no memory.
+#[inline(always)]
 pub fn leave() -> Step
     ensures { result ≡ Step.Give (Completion.Normal Value.Undefined) }
 {
@@ -51,6 +53,7 @@ pub fn leave() -> Step
 }
 
 /// A value of the wrong kind. Takes no memory.
+#[inline(never)]
 pub fn mistyped(line: u32) -> Step
     ensures { result ≡ Step.Fail fault.Mistyped line }
 {
@@ -58,6 +61,7 @@ pub fn mistyped(line: u32) -> Step
 }
 
 /// What an operator answers.
+#[inline(always)]
 pub fn answered(answer: Result<Value, OpFault>, line: u32) -> Result<Step, Memory>
     ensures { (a : Answer) → AnswersAs a answer → IfOk result (Becomes (λ g. answered line a)) }
 {
@@ -68,6 +72,7 @@ pub fn answered(answer: Result<Value, OpFault>, line: u32) -> Result<Step, Memor
 }
 
 /// What a fault of an operator becomes.
+#[inline(never)]
 pub fn failed(fault: OpFault, line: u32) -> Result<Step, Memory>
     ensures { FailsAs fault line result }
 {

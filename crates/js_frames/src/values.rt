@@ -42,6 +42,14 @@ impl Values {
         }
     }
 
+    /// No values, with room for so many.
+    pub fn with_capacity(alloc: Global, count: usize) -> Result<Values, Memory>
+        ensures { IfOk result (λ values. values ≡ []) }
+    {
+        let items = Vec::with_capacity(alloc, count)?;
+        Ok(Values { items })
+    }
+
     /// How many there are. Takes no memory.
     pub fn len(&self) -> usize
         ensures { result ≡ length self.now }
@@ -124,6 +132,7 @@ impl Values {
 }
 
 /// The number at a place of a list. Takes no memory.
+#[inline(always)]
 pub fn number_at(numbers: &[u32], place: usize) -> Option<u32>
     ensures value { result ≡ slice_get numbers.now place }
     ensures room { IfSome result (λ _. place + 1 < 2 ^ 64) }
@@ -133,7 +142,8 @@ pub fn number_at(numbers: &[u32], place: usize) -> Option<u32>
 
 /// The value at a place of a list. Takes no memory.
 pub fn item_at(items: &Items, place: usize) -> Option<&Value>
-    ensures value { option_map (λ v. plain_value v.now) result ≡ slice_get (values_in items.now) place }
+    ensures value { option_map (λ v. plain_value v.now) result
+        ≡ slice_get (values_in items.now) place }
     ensures room { IfSome result (λ _. place + 1 < 2 ^ 64) }
 {
     if place < items.len() {

@@ -13,12 +13,6 @@ returns-in-Normal c =
     means_ok (plain_ground c.args.base.now) _ _ _ _ c.give_value.result c.give_value.ensures
     (λ s. ap (λ q. resume g (Waiting c.in-Waiting.part) (went (plain_completion q) s)) (sym c.in-Normal.is) ∙ ap (λ f. resume g f (went (plain_completion c.args.completion) s)) (sym c.in-Waiting.is))
 
-pub returns-in-Turning : goal.returns-in-Turning
-returns-in-Turning c =
-    let g = here c.args.base.now c.args.self.now in
-    means_ok (plain_ground c.args.base.now) _ _ _ _ c.give_turn.result c.give_turn.ensures
-    (λ s. ap (λ f. resume g f (went (plain_completion c.args.completion) s)) (sym c.in-Turning.is))
-
 pub returns-in_default : goal.returns-in_default
 unfolding resume
 returns-in_default c =

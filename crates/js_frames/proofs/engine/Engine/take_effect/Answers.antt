@@ -4,7 +4,7 @@ use Rattle.js_ops.specs.Making.{make_of}
 use Rattle.js_meaning.specs.State.{answered}
 use Rattle.js_meaning.specs.Forms.{takes_effect}
 use Rattle.js_frames.specs.Places.{plain_ground, place_of}
-use Rattle.js_frames.proofs.Steps.{means_ok, becomes_ok, becomes}
+use Rattle.js_frames.proofs.Steps.{means, means_ok, becomes_ok, becomes}
 use Rattle.js_frames.proofs.engine.Engine.take_effect.Goals as goal
 
 pub returns-in-RegisterBThread : goal.returns-in-RegisterBThread
@@ -50,4 +50,7 @@ pub returns-in-Sync : goal.returns-in-Sync
 returns-in-Sync c = becomes (plain_ground c.args.base.now) (place_of c.args.self.now) _ _ _ c.requires c.ask.ensures (λ s. ap (λ f. takes_effect (let m = c.args.self.now in m.budget) c.args.line f c.args.args s) (sym c.in-Sync.is))
 
 pub returns-in-Floor : goal.returns-in-Floor
-returns-in-Floor c = becomes (plain_ground c.args.base.now) (place_of c.args.self.now) _ _ _ c.requires c.floor.ensures (λ s. ap (λ f. takes_effect (let m = c.args.self.now in m.budget) c.args.line f c.args.args s) (sym c.in-Floor.is))
+returns-in-Floor c = means (plain_ground c.args.base.now) _ _ _ _ _ (λ s. ap (λ f. takes_effect (let m = c.args.self.now in m.budget) c.args.line f c.args.args s) (sym c.in-Floor.is)) c.floor.ensures
+
+pub floor-requires : goal.floor-requires
+floor-requires c = c.requires

@@ -7,7 +7,7 @@ use Rattle.js_frames.proofs.Filling.{slots_made}
 use Rattle.js_frames.proofs.slots.Slots.of_call.Goals as goal
 
 pub returns : goal.returns
-returns c = slots_made (plain_body c.args.body.now) (values_in c.args.captured.now) c.args.args _ _ _ _ _ c.in_ok-slots.ensures
+returns c = slots_made (plain_body c.args.body.now) (values_in c.args.captured.now) c.args.args.now _ _ _ _ _ c.in_ok-slots.ensures
     (c.in_ok-push_all.ensures ∙ ap (λ vs. c.in_ok-slots.slots ++ map Some vs) c.in_ok-pad.ensures)
     (c.in_ok-push_copies.ensures ∙ ap (λ vs. c.push_all.new.self ++ map Some vs) c.as_slice.ensures.values)
     c.in_ok-fill.ensures (c.unset.ensures ∙ ap (fold (λ slots k. slice_set slots k (Some undefined)) c.fill.new.self) c.deref.ensures.value)
