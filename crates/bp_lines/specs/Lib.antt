@@ -1,0 +1,2 @@
+pub use Rattle.bp_reading.specs.Words
+pub use Rattle.bp_reading.specs.Lines
