@@ -1,22 +1,21 @@
 -- What holds of a floor holds of each pair that it stands for.
-use Rattle.std.proofs.Common.{◌≡◌, ℕ, zero, suc, ◌+◌, Bool, true, false, not, cond, List, [], ◌∷◌, ◌++◌, map, refl, sym, ap, ◌∙◌, arith, Option, Some, None, Ok, Err, count_by, slice_get}
+use Rattle.std.proofs.Common.{◌≡◌, ℕ, ◌+◌, Bool, true, false, not, cond, List, [], ◌∷◌, ◌++◌, map, refl, sym, ap, ◌∙◌, arith, Option, Some, Ok, Err, count_by, slice_get}
 use Rattle.std.proofs.lemmas.List.Recursion.{is_count_by}
 use Rattle.std.proofs.lemmas.List.Sums.{sum_by-cons}
 use Rattle.js_data.specs.Event.{PlainEvent}
 use Rattle.js_value.specs.Value.{PlainSet}
 use Rattle.js_meaning.specs.Bodies.{Origin, the_top}
 use Rattle.bp_log.specs.declared.trace.Line.{Line}
-use Rattle.bp_log.specs.declared.verdict.Verdict.{Verdict}
-use Rattle.bp_run.specs.Bodies.{Code, SetFault}
+use Rattle.bp_run.specs.Bodies.{Code}
 use Rattle.bp_run.specs.Configuration.{Stand, Thread, name_in, not_ended}
-use Rattle.bp_run.specs.Settling.{Entry, Pair, before, queued}
+use Rattle.bp_run.specs.Settling.{Pair, before, queued}
 use Rattle.bp_run.specs.Selecting.{Live, Asked, live}
 use Rattle.bp_run.specs.Choosing.{Touched, reach}
-use Rattle.bp_run.specs.Story.{stepped, fault_verdict, set_verdict}
+use Rattle.bp_run.specs.Story.{set_verdict}
 use Rattle.bp_floor.specs.declared.went.Went.{Went}
 use Rattle.bp_floor.specs.declared.went.Went.TheVariants.{Moved, Stopped}
 use Rattle.bp_floor.specs.Forgetting.{forget, forgotten_in, forgotten}
-use Rattle.bp_floor.specs.Floors.{PlainFloor, StandsFor, GoesAs, IsMoved, ShowsOf, GoesFrom, code_on, live_on, has_on, stop_of, stop_at_reach}
+use Rattle.bp_floor.specs.Floors.{PlainFloor, StandsFor, GoesAs, ShowsOf, GoesFrom, code_on, has_on, stop_of, stop_at_reach}
 use Rattle.bp_floor.proofs.Forgetting.{name_forgotten}
 use Rattle.bp_floor.proofs.Stepping.{live_stands, stepped_stands}
 
