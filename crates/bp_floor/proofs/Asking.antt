@@ -51,6 +51,7 @@ rests_after base o b bench budget s h l f =
       room = s.room;
       alone = s.alone;
       below = s.below;
+      rises = s.rises;
       program_is = s.program_is;
       ground_is = s.ground_is;
       at_phase = s.at_phase;

@@ -18,7 +18,7 @@ use Rattle.bp_floor.specs.Forgetting.{forget, forgotten_in, forgotten, IsGoing, 
 
 -- ---- one b-thread
 
-forget_twice_at : {O : Type 0} (o : O) (b : Bool) (t : Thread O) → t.ended ≡ b → forget o (forget o t) ≡ forget o t
+pub forget_twice_at : {O : Type 0} (o : O) (b : Bool) (t : Thread O) → t.ended ≡ b → forget o (forget o t) ≡ forget o t
 forget_twice_at o true t h = rw h refl
 forget_twice_at o false t h = rw h refl
 
@@ -29,7 +29,7 @@ forget_name_at o false t h = rw h refl
 forget_name : {O : Type 0} (o : O) (t : Thread O) → (forget o t).name ≡ t.name
 forget_name o t = forget_name_at o t.ended t refl
 
-forget_end_at : {O : Type 0} (o : O) (b : Bool) (t : Thread O) → t.ended ≡ b → forget o (record (forget o t) { ended = true }) ≡ forget o (record t { ended = true })
+pub forget_end_at : {O : Type 0} (o : O) (b : Bool) (t : Thread O) → t.ended ≡ b → forget o (record (forget o t) { ended = true }) ≡ forget o (record t { ended = true })
 forget_end_at o true t h = rw h refl
 forget_end_at o false t h = rw h refl
 
@@ -41,7 +41,7 @@ forgets_twice o (t ∷ ts) =
 pub forgotten_twice : {O : Type 0} (o : O) (p : Pair O) → forgotten o (forgotten o p) ≡ forgotten o p
 forgotten_twice o p = ap (λ (ts : List (Thread _)). record p { stand = record p.stand { threads = ts } }) (forgets_twice o p.stand.threads)
 
-name_forgotten : {O : Type 0} (o : O) (ts : List (Thread O)) (i : ℕ) → name_in (slice_get (map (forget o) ts) i) ≡ name_in (slice_get ts i)
+pub name_forgotten : {O : Type 0} (o : O) (ts : List (Thread O)) (i : ℕ) → name_in (slice_get (map (forget o) ts) i) ≡ name_in (slice_get ts i)
 name_forgotten o [] i = refl
 name_forgotten o (t ∷ ts) zero = forget_name o t
 name_forgotten o (t ∷ ts) (suc i) = name_forgotten o ts i

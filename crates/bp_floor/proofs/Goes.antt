@@ -31,7 +31,7 @@ use Rattle.bp_floor.specs.Boards.{stand_of, pair_of}
 use Rattle.bp_floor.specs.Forgetting.{forgotten}
 use Rattle.bp_floor.specs.Kept.{Running, IsKept, Rises, runs_in}
 use Rattle.bp_floor.specs.Touching.{CanTouch, moves_in, moved_pair, touch_seen}
-use Rattle.bp_floor.specs.Floors.{PlainFloor, IsMoved, phase_of, stop_at_reach}
+use Rattle.bp_floor.specs.Floors.{PlainFloor, IsMoved, phase_of, stop_at_reach, told_verdict}
 use Rattle.bp_floor.specs.Going.{IsSoundOn, IsResting, IsReached, floor_on, first_touch}
 use Rattle.bp_floor.proofs.Asking.{has_at_rest, live_at_rest}
 use Rattle.bp_floor.proofs.Gone.{can_touch, moves_run, gone}
@@ -63,20 +63,29 @@ faulty_at_rest base o b e n f h =
     let len = map_length seated b.seats in
     omega (arith, low, len)
 
--- a verdict that is the fault's
-abbrev pub VerdictFor : Stand Origin → ℕ → set.SetFault → Verdict → Type 0
-VerdictFor s n f v = (x : ℕ × SetFault) → FaultAs {A = List Touched} (Err x) (select_fault.Set n f) → v ≡ fault_verdict s x
-
-pub stops_at_fault : (s : Stand Origin) (e : PlainEvent) (asked : Asked (List Touched)) (n : ℕ) (f : set.SetFault) (v : Verdict) → FaultAs asked (select_fault.Set n f) → VerdictFor s n f v → stop_at_reach s e asked ≡ Some v
-stops_at_fault s e asked n (set_fault.Broken fault line) v h w =
-    ap (stop_at_reach s e) h ∙ ap (λ (u : Verdict). Some u) (sym (w (n, SetFault.Broken fault line) refl))
-stops_at_fault s e asked n set_fault.Spent v h w = ap (stop_at_reach s e) h ∙ ap (λ (u : Verdict). Some u) (sym (w (n, SetFault.Spent) refl))
-stops_at_fault s e asked n (set_fault.NotTruth line) v h w = ap (stop_at_reach s e) h ∙ ap (λ (u : Verdict). Some u) (sym (w (n, SetFault.NotTruth line) refl))
+-- an event stops the run at a fault with the verdict that is told
+pub stops_at_fault : (s : Stand Origin) (e : PlainEvent) (asked : Asked (List Touched)) (n : ℕ) (f : set.SetFault) (v : Verdict) → FaultAs asked (select_fault.Set n f) → told_verdict s n f ≡ Some v → stop_at_reach s e asked ≡ Some v
+stops_at_fault s e asked n (set_fault.Broken fault line) v h w = ap (stop_at_reach s e) h ∙ w
+stops_at_fault s e asked n set_fault.Spent v h w = ap (stop_at_reach s e) h ∙ w
+stops_at_fault s e asked n (set_fault.NotTruth line) v h w = ap (stop_at_reach s e) h ∙ w
 stops_at_fault s e asked n set_fault.Memory v h w = absurd h
 
 -- the same fault, in the parts of an answer
-pub verdict_told : (s : Stand Origin) (v : Verdict) (m n : ℕ) (x y : set.SetFault) → m ≡ n → x ≡ y → VerdictFor s m x v → VerdictFor s n y v
-verdict_told s v m n x y h k w = subst (λ (i : ℕ). VerdictFor s i y v) h (subst (λ (u : set.SetFault). VerdictFor s m u v) k w)
+pub verdict_told : (s : Stand Origin) (v : Verdict) (m n : ℕ) (x y : set.SetFault) → m ≡ n → x ≡ y → told_verdict s m x ≡ Some v → told_verdict s n y ≡ Some v
+verdict_told s v m n x y h k w = subst (λ (i : ℕ). told_verdict s i y ≡ Some v) h (subst (λ (u : set.SetFault). told_verdict s m u ≡ Some v) k w)
+
+-- it is that of the fault
+pub verdict_for : (s : Stand Origin) (n : ℕ) (f : set.SetFault) (v : Verdict) → told_verdict s n f ≡ Some v → (y : ℕ × SetFault) → FaultAs {A = List Touched} (Err y) (select_fault.Set n f) → v ≡ fault_verdict s y
+verdict_for s n (set_fault.Broken fault line) v w y h =
+    let e : y ≡ (n, SetFault.Broken fault line) = cc in
+    let k : fault_verdict s (n, SetFault.Broken fault line) ≡ v = cc in sym k ∙ ap (fault_verdict s) (sym e)
+verdict_for s n set_fault.Spent v w y h =
+    let e : y ≡ (n, SetFault.Spent) = cc in
+    let k : fault_verdict s (n, SetFault.Spent) ≡ v = cc in sym k ∙ ap (fault_verdict s) (sym e)
+verdict_for s n (set_fault.NotTruth line) v w y h =
+    let e : y ≡ (n, SetFault.NotTruth line) = cc in
+    let k : fault_verdict s (n, SetFault.NotTruth line) ≡ v = cc in sym k ∙ ap (fault_verdict s) (sym e)
+verdict_for s n set_fault.Memory v w y h = absurd h
 
 -- ---- going
 

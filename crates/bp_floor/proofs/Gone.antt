@@ -14,7 +14,7 @@ use Rattle.bp_run.specs.Selecting.{live}
 use Rattle.bp_run.specs.Choosing.{Touched, reach}
 use Rattle.bp_run.specs.Choosing.Touched.{Moves, Interrupts}
 use Rattle.bp_run.specs.Story.{step, stepped, entry_of, touch_all}
-use Rattle.bp_run.specs.Numbers.{number_in, IsRising}
+use Rattle.bp_run.specs.Numbers.{number_in, number_of, IsRising}
 use Rattle.bp_run.proofs.Numbers.{reach_rising, live_rising, length-touch_all}
 use Rattle.bp_select.specs.declared.answers.Reach.{Reach}
 use Rattle.bp_floor.specs.declared.board.Board.{Board}
@@ -22,14 +22,14 @@ use Rattle.bp_floor.specs.Programs.{code_of}
 use Rattle.bp_floor.specs.Seating.{seated}
 use Rattle.bp_floor.specs.Boards.{stand_of, pair_of}
 use Rattle.bp_floor.specs.Forgetting.{forgotten}
-use Rattle.bp_floor.specs.Kept.{Running, IsKept, AreBelow, runs_in}
+use Rattle.bp_floor.specs.Kept.{Running, IsKept, AreBelow, Rises, runs_in}
 use Rattle.bp_floor.specs.Returning.{AreLater, ground_at}
 use Rattle.bp_floor.specs.Touching.{CanTouch, moves_in, moved_pair}
 use Rattle.bp_floor.specs.Floors.{PlainFloor, IsMoved, CanGo, phase_at, phase_of, not_lent, ready_in}
 use Rattle.bp_floor.specs.Going.{IsSoundOn, IsResting, IsReached, floor_on}
 use Rattle.bp_floor.proofs.Forgetting.{length_forgotten}
 use Rattle.bp_floor.proofs.Places.{map_length}
-use Rattle.bp_floor.proofs.Rests.{reached_stand}
+use Rattle.bp_floor.proofs.Rests.{reached_stand, rising_rises}
 use Rattle.bp_floor.proofs.Returns.{later_alone, later_ground}
 use Rattle.bp_floor.proofs.Sound.{rest_nobody}
 use Rattle.bp_floor.proofs.Looking.{looks_open}
@@ -84,6 +84,11 @@ below_touched l s e low high [] h = tt
 below_touched l s e low high (Moves i ∷ xs) h = (h.1, below_touched l s e (i + 1) high xs h.2)
 below_touched l s e low high (Interrupts i ∷ xs) h = (h.1, below_touched l s e (i + 1) high xs h.2)
 
+numbers_touched : {S : Type 0} (l : Code Origin S) (s : Stand Origin) (e : PlainEvent) (xs : List Touched) → map number_of (map (entry_of l s e) xs) ≡ map number_in xs
+numbers_touched l s e [] = refl
+numbers_touched l s e (Moves i ∷ xs) = ap (λ (ns : List ℕ). i ∷ ns) (numbers_touched l s e xs)
+numbers_touched l s e (Interrupts i ∷ xs) = ap (λ (ns : List ℕ). i ∷ ns) (numbers_touched l s e xs)
+
 -- nothing is lent in a phase that a pair asks for
 pub ready_phase : (v : Option Verdict) (ns : List (Entry Origin)) → ready_in (phase_at v ns) ns ≡ runs_in ns
 ready_phase None [] = refl
@@ -121,6 +126,7 @@ gone base o b new e place k weight wave s q w p kept =
     let below : AreBelow (length new.seats) new.wave =
     subst (λ (ns : List (Entry Origin)). AreBelow (length new.seats) ns) (sym (ap (λ (x : Pair Origin). x.entries) p ∙ w))
     (subst (λ (n : ℕ). AreBelow n (map (entry_of l (stand_of b) e) xs)) (sym len) (below_touched l (stand_of b) e 0 (length (map seated b.seats)) xs rising)) in
+    let numbered : map number_of new.wave ≡ map number_in xs = ap (λ (ns : List (Entry Origin)). map number_of ns) (ap (λ (x : Pair Origin). x.entries) p ∙ w) ∙ numbers_touched l (stand_of b) e xs in
     let light : new.weight ≡ weight = ap (λ (x : Pair Origin). x.stand.weight) p in
     let more : new.transitions ≡ b.transitions + 1 = ap (λ (x : Pair Origin). x.stand.transitions) p in
     let counted = heavier b.transitions b.weight (event_weight e) _ weight s.counted q.weight_is (event_weighs e) in
@@ -142,6 +148,7 @@ gone base o b new e place k weight wave s q w p kept =
         room = kept.room;
         alone = later_alone new.wave later;
         below = below;
+        rises = subst (λ (ns : List ℕ). Rises ns) (sym numbered) (rising_rises 0 (length (map seated b.seats)) (map number_in xs) rising);
         program_is = refl;
         ground_is = s.ground_is ∙ ap (λ (ns : List (Entry Origin)). ground_at base.program o.budget ns) (rest_nobody _ base b s) ∙ sym (later_ground base.program o.budget new.wave later);
         at_phase = lent_phase new.verdict new.wave;

@@ -1,4 +1,5 @@
 pub mod Lists
+pub mod Queue
 pub mod Places
 pub mod Forgetting
 pub mod Widening
@@ -15,6 +16,9 @@ pub mod Sound
 pub mod Asking
 pub mod Weaving
 pub mod Looking
+pub mod Numbered
 pub mod Gone
 pub mod Sealing
 pub mod Goes
+pub mod Stepping
+pub mod Shown

@@ -19,7 +19,7 @@ use Rattle.bp_floor.specs.Programs.{code_of}
 use Rattle.bp_floor.specs.Seating.{PlainSeat, seated}
 use Rattle.bp_floor.specs.Boards.{stand_of, pair_of}
 use Rattle.bp_floor.specs.Forgetting.{forgotten, AreGoing}
-use Rattle.bp_floor.specs.Kept.{Running, IsKept, IsOn, AreBelow}
+use Rattle.bp_floor.specs.Kept.{Running, IsKept, IsOn, AreBelow, Rises}
 use Rattle.bp_floor.specs.Lending.{AreDone, filled, filled_pair, standing}
 use Rattle.bp_floor.specs.Returning.{AreLater, IsBack, ground_at}
 use Rattle.bp_floor.specs.Lent.{CanLend, AreOut, IsGroundOf}
@@ -29,6 +29,7 @@ use Rattle.bp_floor.proofs.Forgetting.{length_forgotten}
 use Rattle.bp_floor.proofs.Unended.{seats_going, filled_going, turn_of_standing}
 use Rattle.bp_floor.proofs.Gone.{ready_phase, lent_phase}
 use Rattle.bp_floor.proofs.Places.{map_length}
+use Rattle.bp_floor.proofs.Rests.{rising_rises}
 use Rattle.bp_floor.proofs.Returns.{later_alone, later_ground}
 
 -- ---- lending
@@ -62,6 +63,7 @@ lent_sound r base b ss js s a =
       room = s.room;
       alone = s.alone;
       below = subst (λ (n : ℕ). AreBelow n b.wave) (sym count) s.below;
+      rises = s.rises;
       program_is = s.program_is;
       ground_is = s.ground_is;
       at_phase = s.at_phase;
@@ -137,6 +139,7 @@ sealed_sound r left base b new js s p kept on =
       alone = later_alone new.wave later;
       below = subst (λ (ns : List (Entry Origin)). AreBelow (length new.seats) ns) (sym wave)
           (subst (λ (n : ℕ). AreBelow n t.entries) (sym len) (below_numbered (length q.stand.threads) (length t.stand.threads) t.entries (turn_rising l q)));
+      rises = subst (λ (ns : List (Entry Origin)). Rises (map number_of ns)) (sym wave) (rising_rises (length q.stand.threads) (length t.stand.threads) (map number_of t.entries) (turn_rising l q));
       program_is = on.program_is;
       ground_is = on.ground_is ∙ sym (later_ground r.program r.options.budget new.wave later);
       at_phase = lent_phase new.verdict new.wave;

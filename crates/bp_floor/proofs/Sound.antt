@@ -10,6 +10,7 @@ use Rattle.bp_log.specs.declared.verdict.Verdict.{Verdict}
 use Rattle.bp_run.specs.Settling.{Entry, Pair}
 use Rattle.bp_run.specs.Settling.Entry.{The_top}
 use Rattle.bp_run.specs.Selecting.{live}
+use Rattle.bp_run.specs.Numbers.{number_of}
 use Rattle.bp_meaning.specs.Membership.{member}
 use Rattle.bp_select.specs.Benches.{PlainBench, empty_bench, Fits}
 use Rattle.bp_floor.specs.declared.board.Board.{Board}
@@ -18,7 +19,7 @@ use Rattle.bp_floor.specs.declared.phase.Phase.TheVariants.{Ready, Rest}
 use Rattle.bp_floor.specs.Programs.{code_of}
 use Rattle.bp_floor.specs.Seating.{PlainSeat, seated, stated_from, AreOwn}
 use Rattle.bp_floor.specs.Boards.{stand_of, pair_of}
-use Rattle.bp_floor.specs.Kept.{Running, AreBelow, runs_in}
+use Rattle.bp_floor.specs.Kept.{Running, AreBelow, Rises, runs_in}
 use Rattle.bp_floor.specs.Returning.{RunsAlone, ground_at}
 use Rattle.bp_floor.specs.Floors.{PlainFloor, IsSound, IsPhased, phase_at}
 use Rattle.bp_floor.proofs.Unended.{seats_going}
@@ -39,6 +40,7 @@ sound_queued r base b phase queue e s low h =
       room = subst (λ (q : List PlainEvent). length q ≤ MOST_WAITING) (sym h) (omega (arith, low, len));
       alone = s.alone;
       below = s.below;
+      rises = s.rises;
       program_is = s.program_is;
       ground_is = s.ground_is;
       at_phase = s.at_phase;
@@ -87,6 +89,7 @@ sound_opened r base b p g s n q t w v a f =
       room = rw q (omega arith);
       alone = subst (λ (ns : List (Entry Origin)). RunsAlone ns) (sym a) refl;
       below = subst (λ (ns : List (Entry Origin)). AreBelow (length b.seats) ns) (sym a) (tt, tt);
+      rises = subst (λ (ns : List (Entry Origin)). Rises (map number_of ns)) (sym a) (tt, tt);
       program_is = p;
       ground_is = g ∙ ap (λ (ns : List (Entry Origin)). ground_at r.program r.options.budget ns) (sym a);
       at_phase = ap (λ (ns : List (Entry Origin)). phase_at None ns) (sym a) ∙ ap (λ (x : Option Verdict). phase_at x b.wave) (sym v);

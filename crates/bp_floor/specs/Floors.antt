@@ -1,5 +1,5 @@
 -- What contracts see of a floor, and what it stands for.
-use Rattle.std.specs.Prelude.{◌≡◌, ℕ, ◌≤◌, nat_lt, Bool, true, false, List, [], ◌∷◌, Option, Some, None, Ok, Err, length, slice_get, if◌then◌else◌}
+use Rattle.std.specs.Prelude.{◌≡◌, ℕ, ◌≤◌, nat_lt, Bool, true, false, List, [], ◌∷◌, Option, Some, None, Ok, Err, length, map, slice_get, if◌then◌else◌}
 use Rattle.std.specs.List.{list_any}
 use Rattle.js_data.specs.Event.{PlainEvent, same_event}
 use Rattle.js_value.specs.Value.{PlainSet}
@@ -10,11 +10,14 @@ use Rattle.bp_log.specs.declared.limits.TheConstants.{MOST_WAITING, MOST_THREADS
 use Rattle.bp_log.specs.declared.trace.Line.{Line}
 use Rattle.bp_log.specs.declared.verdict.Verdict.{Verdict}
 use Rattle.bp_log.specs.declared.verdict.Verdict.TheVariants as verdict
-use Rattle.bp_run.specs.Bodies.{Code}
-use Rattle.bp_run.specs.Configuration.{Stand}
+use Rattle.bp_sets.specs.declared.fault.SetFault as set
+use Rattle.bp_sets.specs.declared.fault.SetFault.TheVariants as set_fault
+use Rattle.bp_run.specs.Bodies.{Code, SetFault}
+use Rattle.bp_run.specs.Configuration.{Stand, name_in, not_ended}
 use Rattle.bp_run.specs.Settling.{Entry, Pair, turn, before}
 use Rattle.bp_run.specs.Selecting.{Asked, Enabled, Has, Live, live, selectable}
 use Rattle.bp_run.specs.Choosing.{Touched, reach}
+use Rattle.bp_run.specs.Numbers.{number_of}
 use Rattle.bp_run.specs.Story.{stepped, weight_after, fault_verdict}
 use Rattle.bp_select.specs.Benches.{Fits}
 use Rattle.bp_thread.specs.declared.job.Job.{Job}
@@ -26,8 +29,8 @@ use Rattle.bp_floor.specs.declared.went.Went.TheVariants.{Moved, Stopped}
 use Rattle.bp_floor.specs.Programs.{code_of}
 use Rattle.bp_floor.specs.Seating.{is_waiting, is_ready, where_from, stated_from, AreOwn}
 use Rattle.bp_floor.specs.Boards.{pair_of}
-use Rattle.bp_floor.specs.Forgetting.{forgotten, AreGoing}
-use Rattle.bp_floor.specs.Kept.{Running, AreBelow, runs_in}
+use Rattle.bp_floor.specs.Forgetting.{forget, forgotten, AreGoing}
+use Rattle.bp_floor.specs.Kept.{Running, AreBelow, Rises, runs_in}
 use Rattle.bp_floor.specs.Lending.{AreDone, filled_pair, standing}
 use Rattle.bp_floor.specs.Returning.{RunsAlone, ground_at}
 
@@ -96,6 +99,7 @@ pub record IsSound (r : Running) (base : Ground) (b : Board) (phase : Phase) : T
   pub room : length b.queue ≤ MOST_WAITING
   pub alone : RunsAlone b.wave
   pub below : AreBelow (length b.seats) b.wave
+  pub rises : Rises (map number_of b.wave)
   pub program_is : base.program ≡ r.program
   pub ground_is : base ≡ ground_at r.program r.options.budget b.wave
   pub at_phase : not_lent phase ≡ phase_of (pair_of b)
@@ -125,9 +129,15 @@ pub record IsSealed (f : PlainFloor) (jobs : List Job) (g : PlainFloor) : Type 0
   pub pair_is : g.pair ≡ forgotten the_top (turn (code_on f) (filled_pair jobs f.pair))
   pub phase_is : g.phase ≡ phase_of g.pair
 
+-- memory was not wanting before, and is not now
+pub record HadMemory (old new : PlainFloor) : Type 0 where
+  pub before : old.broken ≡ false
+  pub after : new.broken ≡ false
+
 -- what stays after want of memory
 pub record IsGivenUp (old new : PlainFloor) : Type 0 where
   pub broken : new.broken ≡ true
+  pub phase : new.phase ≡ old.phase
   pub lines : new.pair.stand.lines ≡ old.pair.stand.lines
   pub verdict : new.pair.stand.verdict ≡ old.pair.stand.verdict
 
@@ -147,6 +157,13 @@ abbrev pub stop_at_reach : Stand Origin → PlainEvent → Asked (List Touched) 
 stop_at_reach s e (Err x) = Some (fault_verdict s x)
 stop_at_reach s e (Ok xs) = if nat_lt MOST_WEIGHT (weight_after s e xs) then Some verdict.Weight else None
 
+-- the verdict of a fault of a set, in the name of the b-thread of this number; want of memory is no fault of a set
+abbrev pub told_verdict : Stand Origin → ℕ → set.SetFault → Option Verdict
+told_verdict s n (set_fault.Broken f line) = Some (fault_verdict s (n, SetFault.Broken f line))
+told_verdict s n set_fault.Spent = Some (fault_verdict s (n, SetFault.Spent))
+told_verdict s n (set_fault.NotTruth line) = Some (fault_verdict s (n, SetFault.NotTruth line))
+told_verdict s n set_fault.Memory = None
+
 abbrev pub stop_of : PlainFloor → PlainEvent → Option Verdict
 stop_of f e = stop_at_reach f.pair.stand e (reach (has_on f) e (live_on f))
 
@@ -162,3 +179,22 @@ pub record IsMoved (f : PlainFloor) (e : PlainEvent) (place : Option ℕ) (g : P
 abbrev pub GoesAs : PlainFloor → PlainEvent → Option ℕ → Went → PlainFloor → Type 0
 GoesAs f e place Moved g = IsMoved f e place g
 GoesAs f e place (Stopped v) g = (stop_of f e ≡ Some v) × (g ≡ f)
+
+-- What a pair shows on a floor that stands for it: all but the bodies and the replies of those that have ended, and the lines that were taken.
+pub record ShowsOf (f : PlainFloor) (p : Pair Origin) : Type 0 where
+  pub stops : (e : PlainEvent) → stop_of f e ≡ stop_at_reach p.stand e (reach (has_on f) e (live (code_on f) p.stand))
+  pub live : live_on f ≡ live (code_on f) p.stand
+  pub threads : f.pair.stand.threads ≡ map (forget the_top) p.stand.threads
+  pub names : (i : ℕ) → name_in (slice_get f.pair.stand.threads i) ≡ name_in (slice_get p.stand.threads i)
+  pub going : not_ended f.pair.stand ≡ not_ended p.stand
+  pub queue : f.pair.stand.queue ≡ p.stand.queue
+  pub transitions : f.pair.stand.transitions ≡ p.stand.transitions
+  pub weight : f.pair.stand.weight ≡ p.stand.weight
+  pub verdict : f.pair.stand.verdict ≡ p.stand.verdict
+  pub entries : f.pair.entries ≡ p.entries
+
+-- A floor that stood for this pair goes on: it stands for the transition, or the event stops the run and it stands for what it stood for.
+abbrev pub GoesFrom : Code Origin PlainSet → List Line → Pair Origin → PlainEvent → Option ℕ → Went → PlainFloor → Type 0
+GoesFrom l taken p e place Moved g =
+    (reached : List Touched) × (reach l.has e (live l p.stand) ≡ Ok reached) × StandsFor g taken (stepped l p.stand e place reached)
+GoesFrom l taken p e place (Stopped v) g = (stop_at_reach p.stand e (reach l.has e (live l p.stand)) ≡ Some v) × StandsFor g taken p

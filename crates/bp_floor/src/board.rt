@@ -5,7 +5,6 @@ use bp_log::Verdict;
 use bp_select::Bench;
 
 /// Where a run stands, and what is to be run there.
-#[derive(Drop)]
 pub struct Board {
     /// The b-threads.
     pub seats: Seats,
@@ -23,4 +22,19 @@ pub struct Board {
     pub verdict: Option<Verdict>,
     /// What is to be run.
     pub wave: Wave,
+}
+
+impl Drop for Board {
+    fn drop(self) {
+        let Board {
+            seats: _,
+            bench: _,
+            queue: _,
+            transitions: _,
+            weight: _,
+            lines: _,
+            verdict: _,
+            wave: _,
+        } = self;
+    }
 }

@@ -9,12 +9,20 @@ use std::alloc::Global;
 use std::marker::Model;
 
 /// A handler's function, and the event at which it runs, as its argument.
-#[derive(Drop)]
 pub struct Handler {
     /// The function.
     pub function: Value,
     /// The event.
     pub argument: Value,
+}
+
+impl Drop for Handler {
+    fn drop(self) {
+        let Handler {
+            function: _,
+            argument: _,
+        } = self;
+    }
 }
 
 /// What is to be run.
@@ -38,9 +46,14 @@ impl Drop for Entry {
 }
 
 /// What is to be run, in order. Contracts see the list, as the definitions do.
-#[derive(Drop)]
 pub struct Wave {
     items: Vec<Entry>,
+}
+
+impl Drop for Wave {
+    fn drop(self) {
+        let Wave { items: _ } = self;
+    }
 }
 
 impl Model for Wave {
@@ -69,7 +82,7 @@ impl Wave {
         }
     }
 
-    /// Puts an entry at the end.
+    /// Puts an entry at the end. Its only error is want of memory.
     pub fn push(&mut self, entry: Entry) -> Result<(), Memory>
         ensures { OnOk result (self.new ≡ self.old ++ entry_seen entry ∷ []) }
     {
@@ -95,6 +108,7 @@ impl Wave {
     pub fn into_vec(self) -> Vec<Entry>
         ensures { map entry_seen result.items ≡ self }
     {
-        self.items
+        let Wave { items } = self;
+        items
     }
 }

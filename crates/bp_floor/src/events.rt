@@ -1,18 +1,27 @@
 //! Events that wait.
-ghost use Rattle.std.specs.Prelude.{◌≡◌, ◌<◌, ◌∷◌, ◌++◌, [], length, remove, OnOk, OnErr, IfErr};
+ghost use Rattle.std.specs.Prelude.{◌≡◌, ◌<◌, ◌∷◌, ◌++◌, [], length, remove, OnOk, OnErr, IfErr, IfSome};
+ghost use Rattle.bp_run.specs.Story.{without};
 
 use js_data::Event;
 use std::alloc::{AllocFailed, Global};
 use std::marker::Model;
 
 /// Events, in the order in which they came. Contracts see the list.
-#[derive(Debug, Drop)]
 pub struct EventList {
+    /// Those that wait, behind those that were let go and not cleared away yet.
     items: Vec<Event>,
+    /// How many were let go and not cleared away yet.
+    gone: usize,
+}
+
+impl Drop for EventList {
+    fn drop(self) {
+        let EventList { items: _, gone: _ } = self;
+    }
 }
 
 impl Model for EventList {
-    ghost use Rattle.std.specs.Prelude.{List};
+    ghost use Rattle.std.specs.Prelude.{List, ◌≤◌, drop, length};
     ghost use Rattle.std.specs.Coded.{coded_list};
     ghost use Rattle.js_data.specs.Event.{PlainEvent};
     ghost use Rattle.js_data.specs.Codes.{event_code};
@@ -21,7 +30,9 @@ impl Model for EventList {
 
     ghost coded = { coded_list event_code };
 
-    ghost view = { λ l. l.items.items };
+    ghost view = { λ l. drop l.gone l.items.items };
+
+    ghost invariant = { λ l. l.gone ≤ length l.items.items };
 }
 
 impl EventList {
@@ -31,6 +42,7 @@ impl EventList {
     {
         EventList {
             items: Vec::new(alloc),
+            gone: 0,
         }
     }
 
@@ -38,7 +50,7 @@ impl EventList {
     pub fn len(&self) -> usize
         ensures { result ≡ length self.now }
     {
-        self.items.len()
+        self.items.len() - self.gone
     }
 
     /// Puts an event at the end, or gives it back.
@@ -50,18 +62,45 @@ impl EventList {
         self.items.push(event)
     }
 
-    /// Takes the event at this place out. Takes no memory.
-    pub fn remove(&mut self, place: usize) -> Event
-        requires { place < length self.old }
-        ensures { self.new ≡ remove self.old place }
+    /// Lets the event at this place go, if one is named. Takes no memory.
+    pub fn without(&mut self, place: Option<u32>)
+        requires { IfSome place (λ i. i < length self.old) }
+        ensures { self.new ≡ without self.old place }
     {
-        self.items.remove(place)
+        if let Some(place) = place {
+            if place == 0 {
+                self.pass();
+            } else {
+                let _event = self.items.remove(self.gone + place as usize);
+            }
+        }
+    }
+
+    /// Lets the first event go. Takes no memory, and a constant for each event that was put in.
+    fn pass(&mut self)
+        requires { 0 < length self.old }
+        ensures { self.new ≡ remove self.old 0 }
+    {
+        self.gone += 1;
+        if self.gone > self.items.len() / 2 {
+            self.clear();
+        }
+    }
+
+    /// Clears away those that were let go.
+    fn clear(&mut self)
+        ensures { self.new ≡ self.old }
+    {
+        let left = self.items.len() - self.gone;
+        self.items.rotate_left(self.gone);
+        self.items.truncate(left);
+        self.gone = 0;
     }
 
     /// The events, in order. Takes no memory.
     pub fn as_slice(&self) -> &[Event]
         ensures { result.now ≡ self.now }
     {
-        self.items.as_slice()
+        &self.items[self.gone..]
     }
 }

@@ -1,5 +1,5 @@
 //! A floor: where the b-threads of a run stand.
-ghost use Rattle.std.specs.Prelude.{◌≡◌, ◌<◌, ◌≤◌, ◌+◌, ◌^◌, ◌++◌, ◌∷◌, [], ℕ, List, length, option_map, slice_get, None, OnOk, OnErr, IfOk, IfErr, Ok, Err, true, false};
+ghost use Rattle.std.specs.Prelude.{◌≡◌, ◌<◌, ◌≤◌, ◌+◌, ◌^◌, ◌++◌, ◌∷◌, [], ℕ, List, length, option_map, slice_get, None, Some, OnOk, OnErr, IfOk, IfErr, MatchResult, Ok, Err, true, false};
 ghost use Rattle.js_value.specs.Value.{PlainSet};
 ghost use Rattle.js_meaning.specs.Bodies.{Origin, bare};
 ghost use Rattle.js_frames.specs.Places.{plain_ground};
@@ -10,17 +10,17 @@ ghost use Rattle.bp_words.specs.Words.{draw_word};
 ghost use Rattle.bp_run.specs.Configuration.{name_in, not_ended};
 ghost use Rattle.bp_run.specs.Settling.{Pair, turn, before, opening, queued};
 ghost use Rattle.bp_run.specs.Selecting.{selectable, blocker, requested};
-ghost use Rattle.bp_run.specs.Bodies as run;
-ghost use Rattle.bp_run.specs.Choosing.{Touched, choice};
-ghost use Rattle.bp_run.specs.Story.{fault_verdict, over};
+ghost use Rattle.bp_run.specs.Choosing.{choice};
+ghost use Rattle.bp_run.specs.Story.{over};
 ghost use Rattle.bp_select.specs.declared.answers.Choice.TheVariants as choice_made;
 ghost use Rattle.bp_select.specs.declared.answers.SelectFault.TheVariants as select_fault;
-ghost use Rattle.bp_select.specs.Answers.{AnswersAs, FaultAs, chosen_of, enabled_of};
+ghost use Rattle.bp_select.specs.Answers.{AnswersAs, IsWithin, chosen_of, enabled_of};
+ghost use Rattle.bp_thread.specs.Carried.{HaveDistinctNumbers};
 ghost use Rattle.bp_floor.specs.declared.phase.Phase.TheVariants as phase;
 ghost use Rattle.bp_floor.specs.declared.absorb.Absorb.TheVariants as absorb;
 ghost use Rattle.bp_floor.specs.Boards.{pair_of};
 ghost use Rattle.bp_floor.specs.Lending.{AreLent, filled_pair, standing};
-ghost use Rattle.bp_floor.specs.Floors.{StandsFor, StandsWith, AreBack, IsSealed, IsGivenUp, IsPhased, is_idle, CanGo, GoesAs, stop_of, code_on, has_on, live_on};
+ghost use Rattle.bp_floor.specs.Floors.{StandsFor, StandsWith, AreBack, IsSealed, HadMemory, IsGivenUp, IsPhased, is_idle, CanGo, GoesAs, GoesFrom, ShowsOf, stop_of, told_verdict, code_on, has_on, live_on};
 ghost use Rattle.bp_floor.specs.Absorbing.{IsRefused};
 
 use crate::{Absorb, Board, Entry, EventList, LineList, Phase, Seats, Wave, Went};
@@ -39,13 +39,24 @@ use std::marker::Model;
 /// yet.
 ///
 /// After want of memory each later call that lends, seals or goes on answers it too.
-#[derive(Drop)]
 pub struct Floor {
     ground: Ground,
     options: Options,
     board: Board,
     phase: Phase,
     broken: bool,
+}
+
+impl Drop for Floor {
+    fn drop(self) {
+        let Floor {
+            ground: _,
+            options: _,
+            board: _,
+            phase: _,
+            broken: _,
+        } = self;
+    }
 }
 
 impl Model for Floor {
@@ -71,7 +82,8 @@ impl Model for Floor {
 }
 
 impl Floor {
-    /// The floor of a program before anything has run: its top level is to be run.
+    /// The floor of a program before anything has run: its top level is to be run. Its only error
+    /// is want of memory.
     pub fn open(alloc: Global, program: Program, options: Options) -> Result<Floor, Memory>
         ensures { IfOk result (λ f. f ≡ record {
           base = bare program;
@@ -81,13 +93,13 @@ impl Floor {
           broken = false;
         }) }
     {
+        let mut wave = Wave::new(alloc);
+        wave.push(Entry::Top)?;
         let ground = Ground::bare(alloc, program);
         let seats = Seats::new(alloc);
         let bench = Bench::new(alloc);
         let queue = EventList::new(alloc);
         let lines = LineList::new(alloc);
-        let mut wave = Wave::new(alloc);
-        wave.push(Entry::Top)?;
         let board = Board {
             seats,
             bench,
@@ -114,6 +126,12 @@ impl Floor {
         // Reads a field for the proof alone: so what the type keeps is known.
         let _ground = &self.ground;
     }
+
+    /// What each pair shows that a floor stands for, as a fact for its callers. Does nothing.
+    pub fn shows(&self)
+        ensures { (taken : List Line) (p : Pair Origin) →
+            StandsFor self.now taken p → ShowsOf self.now p }
+    {}
 
     /// What can be done. Takes no memory.
     pub fn phase(&self) -> Phase
@@ -166,12 +184,12 @@ impl Floor {
             (standing self.old.pair.stand.threads) self.old.pair.entries jobs.items) }
         ensures stands { IfOk result (λ jobs. (taken : List Line) (p : Pair Origin) →
             StandsFor self.old taken p → StandsWith self.new jobs.items taken p) }
+        ensures distinct { IfOk result (λ jobs. HaveDistinctNumbers jobs.items) }
         ensures phase { OnOk result (self.new.phase ≡ phase.Lent) }
         ensures ground { self.new.base ≡ self.old.base }
         ensures options { self.new.options ≡ self.old.options }
-        ensures whole { OnOk result (self.old.broken ≡ false) }
-        ensures stays { OnOk result (self.new.broken ≡ false) }
-        ensures failed { OnErr result (IsGivenUp self.old self.new) }
+        ensures memory { MatchResult result (λ _. HadMemory self.old self.new) (λ _.
+            IsGivenUp self.old self.new) }
     {
         if self.broken {
             return Err(AllocError);
@@ -198,9 +216,8 @@ impl Floor {
             StandsFor self.new taken (turn (code_on self.old) p)) }
         ensures program { self.new.base.program ≡ self.old.base.program }
         ensures options { self.new.options ≡ self.old.options }
-        ensures whole { OnOk result (self.old.broken ≡ false) }
-        ensures stays { OnOk result (self.new.broken ≡ false) }
-        ensures failed { OnErr result (IsGivenUp self.old self.new) }
+        ensures memory { MatchResult result (λ _. HadMemory self.old self.new) (λ _.
+            IsGivenUp self.old self.new) }
     {
         if self.broken {
             return Err(AllocError);
@@ -219,11 +236,13 @@ impl Floor {
         requires rest { self.old.phase ≡ phase.Rest }
         requires can { self.old.broken ≡ false → CanGo self.old event.now place }
         ensures goes { IfOk result (λ w. GoesAs self.old event.now place w self.new) }
+        ensures stands { IfOk result (λ w. (taken : List Line) (p : Pair Origin) →
+            StandsFor self.old taken p →
+            GoesFrom (code_on self.old) taken p event.now place w self.new) }
         ensures ground { self.new.base ≡ self.old.base }
         ensures options { self.new.options ≡ self.old.options }
-        ensures whole { OnOk result (self.old.broken ≡ false) }
-        ensures stays { OnOk result (self.new.broken ≡ false) }
-        ensures failed { OnErr result (IsGivenUp self.old self.new) }
+        ensures memory { MatchResult result (λ _. HadMemory self.old self.new) (λ _.
+            IsGivenUp self.old self.new) }
     {
         if self.broken {
             return Err(AllocError);
@@ -268,6 +287,9 @@ impl Floor {
         ensures queued { OnOk result (self.new ≡ record self.old {
           pair = record self.old.pair { stand = queued event self.old.pair.stand };
         }) }
+        ensures stands { OnOk result ((taken : List Line) (p : Pair Origin) →
+            StandsFor self.old taken p →
+            StandsFor self.new taken (record p { stand = queued event p.stand })) }
         ensures refused { IfErr result (IsRefused (length self.old.pair.stand.queue)
             (item.Offered event)) }
         ensures same { OnErr result (self.new ≡ self.old) }
@@ -347,6 +369,7 @@ impl Floor {
         ensures chosen { AnswersAs (chosen_of self.old.pair.stand.queue draw.new.drawn)
             (choice (has_on self.old) (draw_word draw.old.seed) self.old.options.strategy
             (live_on self.old) self.old.pair.stand.queue draw.old.drawn) result }
+        ensures within { IfOk result (IsWithin (length self.old.pair.stand.queue)) }
         ensures seed { draw.new.seed ≡ draw.old.seed }
         ensures drawn { (draw.old.drawn ≤ draw.new.drawn) × (draw.new.drawn ≤ draw.old.drawn + 1) }
         ensures nothing { result ≡ Ok choice_made.Nothing → draw.new ≡ draw.old }
@@ -378,7 +401,8 @@ impl Floor {
 
     /// How many b-threads have not ended; 0 after want of memory. Takes no memory.
     pub fn live(&self) -> u32
-        ensures { self.now.broken ≡ false → result ≡ not_ended self.now.pair.stand }
+        ensures live { self.now.broken ≡ false → result ≡ not_ended self.now.pair.stand }
+        ensures broken { self.now.broken ≡ true → result ≡ 0 }
     {
         if self.broken {
             return 0;
@@ -398,24 +422,23 @@ impl Floor {
     /// memory.
     pub fn fault_verdict(&self, number: u32, fault: SetFault) -> Result<Verdict, Memory>
         requires { number < length self.now.pair.stand.threads }
-        ensures { IfOk result (λ v. (x : ℕ × run.SetFault) →
-            FaultAs {A = List Touched} (Err x) (select_fault.Set number fault) →
-            v ≡ fault_verdict self.now.pair.stand x) }
+        ensures { IfOk result (λ v. told_verdict self.now.pair.stand number fault ≡ Some v) }
     {
         self.board.fault_verdict(number, fault)
     }
 
-    /// Writes the verdict down. What ends a run ends its floor.
+    /// The verdict is that of the floor, with its line; the phase is `Over`. Its only error is want
+    /// of memory.
     pub fn end(&mut self, verdict: Verdict) -> Result<(), Memory>
         requires idle { is_idle self.old.phase ≡ true }
-        ensures whole { OnOk result (self.old.broken ≡ false) }
         ensures ground { self.new.base ≡ self.old.base }
         ensures options { self.new.options ≡ self.old.options }
         ensures ended { OnOk result (self.new ≡ record self.old {
           pair = record self.old.pair { stand = over self.old.pair.stand verdict };
           phase = phase.Over;
         }) }
-        ensures failed { OnErr result (IsGivenUp self.old self.new) }
+        ensures memory { MatchResult result (λ _. HadMemory self.old self.new) (λ _.
+            IsGivenUp self.old self.new) }
     {
         if self.broken {
             return Err(AllocError);

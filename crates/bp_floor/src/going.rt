@@ -1,19 +1,16 @@
 //! An event is selected: whom it reaches, and what it weighs.
-ghost use Rattle.std.specs.Prelude.{◌≡◌, ◌<◌, ◌≤◌, ◌+◌, ◌*◌, ℕ, List, Some, Ok, Err, length, map, option_map, IfOk, OnOk, OnErr};
+ghost use Rattle.std.specs.Prelude.{◌≡◌, ◌<◌, ◌≤◌, ◌+◌, ◌*◌, List, Some, Ok, length, map, option_map, IfOk, OnOk, OnErr};
 ghost use Rattle.js_data.specs.Event.{PlainEvent, event_weight};
 ghost use Rattle.js_frames.specs.Places.{plain_ground};
 ghost use Rattle.bp_log.specs.declared.limits.TheConstants.{MOST_THREADS, MOST_WEIGHT};
-ghost use Rattle.bp_run.specs.Bodies as run;
 ghost use Rattle.bp_run.specs.Choosing.{Touched, reach};
 ghost use Rattle.bp_run.specs.Numbers.{number_in};
 ghost use Rattle.bp_run.specs.Selecting.{live};
-ghost use Rattle.bp_run.specs.Story.{fault_verdict};
-ghost use Rattle.bp_select.specs.declared.answers.SelectFault.TheVariants as select_fault;
-ghost use Rattle.bp_select.specs.Answers.{FaultAs, IsReach};
+ghost use Rattle.bp_select.specs.Answers.{IsReach};
 ghost use Rattle.bp_floor.specs.Boards.{pair_of, stand_of};
 ghost use Rattle.bp_floor.specs.Kept.{Rises};
 ghost use Rattle.bp_floor.specs.Touching.{touch_seen};
-ghost use Rattle.bp_floor.specs.Floors.{PlainFloor, CanGo, GoesAs, code_on, phase_of, stop_of};
+ghost use Rattle.bp_floor.specs.Floors.{PlainFloor, CanGo, GoesAs, code_on, phase_of, stop_of, told_verdict};
 ghost use Rattle.bp_floor.specs.Going.{IsResting, IsSoundOn, IsReached, LooksAs, floor_on, first_touch};
 
 use crate::{Board, Phase, Touch, Went};
@@ -82,9 +79,7 @@ impl Board {
     /// memory.
     pub fn fault_verdict(&self, number: u32, fault: SetFault) -> Result<Verdict, Memory>
         requires { number < length self.now.seats }
-        ensures { IfOk result (λ v. (x : ℕ × run.SetFault) →
-            FaultAs {A = List Touched} (Err x) (select_fault.Set number fault) →
-            v ≡ fault_verdict (stand_of self.now) x) }
+        ensures { IfOk result (λ v. told_verdict (stand_of self.now) number fault ≡ Some v) }
     {
         let place = Place::Thread(self.seats.name_of(number as usize).copy()?);
         match fault {

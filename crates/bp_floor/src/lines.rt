@@ -7,9 +7,14 @@ use std::marker::Model;
 use std::mem;
 
 /// Lines that are added to. Contracts see the list.
-#[derive(Debug, Drop)]
 pub struct LineList {
     items: Vec<Line>,
+}
+
+impl Drop for LineList {
+    fn drop(self) {
+        let LineList { items: _ } = self;
+    }
 }
 
 impl Model for LineList {

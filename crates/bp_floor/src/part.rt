@@ -43,9 +43,14 @@ pub struct Ran {
 }
 
 /// Entries with what they did, in order. Contracts see the list, as the definitions do.
-#[derive(Drop)]
 pub struct Rans {
     items: Vec<Ran>,
+}
+
+impl Drop for Rans {
+    fn drop(self) {
+        let Rans { items: _ } = self;
+    }
 }
 
 impl Model for Rans {
@@ -86,6 +91,7 @@ impl Rans {
     pub fn into_vec(self) -> Vec<Ran>
         ensures { map ran_seen result.items ≡ self }
     {
-        self.items
+        let Rans { items } = self;
+        items
     }
 }

@@ -3,7 +3,7 @@
 /// What can be done with a floor.
 #[derive(Clone, Copy, Debug, PartialEq, Eq)]
 pub enum Phase {
-    /// Jobs can be lent.
+    /// Something is to be run; its jobs, if it has any, can be lent.
     Ready,
     /// Jobs are lent.
     Lent,

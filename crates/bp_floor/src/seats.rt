@@ -11,7 +11,6 @@ use std::alloc::Global;
 use std::marker::Model;
 
 /// A b-thread that was registered.
-#[derive(Drop)]
 pub struct Seat {
     /// Its name.
     pub name: Text,
@@ -21,10 +20,25 @@ pub struct Seat {
     pub ended: bool,
 }
 
+impl Drop for Seat {
+    fn drop(self) {
+        let Seat {
+            name: _,
+            job: _,
+            ended: _,
+        } = self;
+    }
+}
+
 /// The b-threads, in the order in which they registered. Contracts see the list.
-#[derive(Drop)]
 pub struct Seats {
     items: Vec<Seat>,
+}
+
+impl Drop for Seats {
+    fn drop(self) {
+        let Seats { items: _ } = self;
+    }
 }
 
 impl Model for Seats {

@@ -2,7 +2,7 @@
 ghost use Rattle.std.specs.Prelude.{◌≡◌, ◌<◌, ◌+◌, ◌^◌, length, map, option_map, slice_get, IfOk, OnOk, OnErr, IfSome};
 ghost use Rattle.js_value.specs.Value as value;
 ghost use Rattle.js_value.specs.Views.{plain_value};
-ghost use Rattle.bp_run.specs.Story.{line_of_choice, without, handler_body, entry_of};
+ghost use Rattle.bp_run.specs.Story.{line_of_choice, handler_body, entry_of};
 ghost use Rattle.bp_thread.specs.Jobs.{plain_job};
 ghost use Rattle.bp_floor.specs.Programs.{code_of};
 ghost use Rattle.bp_floor.specs.Seating.{seated, AreOwn};
@@ -15,7 +15,7 @@ ghost use Rattle.js_meaning.specs.Bodies.{Origin, the_top};
 ghost use Rattle.bp_run.specs.Configuration.{Stand};
 ghost use Rattle.bp_run.specs.Numbers.{number_in};
 
-use crate::{Board, Entry, EventList, Handler, Seats, Wave};
+use crate::{Board, Entry, Handler, Seats, Wave};
 use bp_log::{Line, Memory};
 use bp_thread::Job;
 use js_data::Event;
@@ -23,7 +23,7 @@ use js_value::{Value, copy, event_value};
 use std::alloc::Global;
 
 /// What an event does to a b-thread, by its number.
-#[derive(Debug, Clone, Copy, PartialEq, Eq)]
+#[derive(Clone, Copy)]
 pub enum Touch {
     /// It goes on.
     Moves(u32),
@@ -66,17 +66,6 @@ fn handler_of(alloc: Global, job: &Job, event: &Event) -> Result<Option<Handler>
             function: copy(function)?,
             argument: argument_of(alloc, event)?,
         })),
-    }
-}
-
-impl EventList {
-    fn without(&mut self, place: Option<u32>)
-        requires { IfSome place (λ i. i < length self.old) }
-        ensures { self.new ≡ without self.old place }
-    {
-        if let Some(place) = place {
-            let _event = self.remove(place as usize);
-        }
     }
 }
 

@@ -2,7 +2,7 @@
 use bp_log::Verdict;
 
 /// What comes of an event that is to be selected.
-#[derive(Debug, Drop)]
+#[derive(Drop)]
 pub enum Went {
     /// The transition is made.
     Moved,

@@ -219,13 +219,13 @@ leb_total a b h = grind arith
 leb_trans : (a b c : ℕ) → leb a b ≡ true → leb b c ≡ true → leb a c ≡ true
 leb_trans a b c h k = grind arith
 
-int_total : (a b : ℤ) → int_le a b ≡ false → int_le b a ≡ true
+pub int_total : (a b : ℤ) → int_le a b ≡ false → int_le b a ≡ true
 int_total (pos a) (pos b) h = leb_total a b h
 int_total (pos a) (negsuc b) h = refl
 int_total (negsuc a) (pos b) h = absurd (cc)
 int_total (negsuc a) (negsuc b) h = leb_total b a h
 
-int_trans : (a b c : ℤ) → int_le a b ≡ true → int_le b c ≡ true → int_le a c ≡ true
+pub int_trans : (a b c : ℤ) → int_le a b ≡ true → int_le b c ≡ true → int_le a c ≡ true
 int_trans (pos a) (pos b) (pos c) h k = leb_trans a b c h k
 int_trans (pos a) (pos b) (negsuc c) h k = absurd (cc)
 int_trans (pos a) (negsuc b) c h k = absurd (cc)

@@ -1,12 +1,13 @@
 -- What remains under a strategy.
-use Rattle.std.proofs.Common.{◌≡◌, ℕ, ◌+◌, ◌<◌, ◌≤◌, arith, Bool, true, false, ◌&&◌, List, [], ◌∷◌, length, map, drop, get_or, refl, ap, sym, ◌∙◌, filter, if◌then◌else◌, Option, Some, None}
-use Rattle.std.specs.Prelude.{ℤ, pos, negsuc, int_le, leb}
+use Rattle.std.proofs.Common.{◌≡◌, ℕ, ◌+◌, ◌<◌, ◌≤◌, Bool, true, false, ◌&&◌, List, [], ◌∷◌, length, map, drop, get_or, refl, ap, sym, ◌∙◌, filter, if◌then◌else◌, Option, Some, None}
+use Rattle.std.specs.Prelude.{ℤ, int_le}
 use Rattle.std.specs.List.{list_all}
 use Rattle.js_data.specs.Event.{PlainEvent}
 use Rattle.js_value.specs.Value.{PlainSet}
 use Rattle.bp_log.specs.declared.options.Strategy.TheVariants.{Priority}
 use Rattle.bp_run.specs.Selecting.{Live}
 use Rattle.bp_run.specs.Choosing.{greater, priority_of, at_most, is_greatest, remaining}
+use Rattle.bp_run.proofs.Chosen.{int_total, int_trans}
 use Rattle.bp_select.specs.Priorities.{upper, top_of}
 use Rattle.bp_select.proofs.Questions.{drop_is, drop_end}
 
@@ -20,26 +21,6 @@ filter_same p q [] h = refl
 filter_same p q (x ∷ xs) h = filter_same_at p q x xs (h x) (filter_same p q xs h)
 
 -- ---- the order of priorities
-
-leb_total : (a b : ℕ) → leb a b ≡ false → leb b a ≡ true
-leb_total a b h = grind arith
-
-leb_trans : (a b c : ℕ) → leb a b ≡ true → leb b c ≡ true → leb a c ≡ true
-leb_trans a b c h k = grind arith
-
-int_total : (a b : ℤ) → int_le a b ≡ false → int_le b a ≡ true
-int_total (pos a) (pos b) h = leb_total a b h
-int_total (pos a) (negsuc b) h = refl
-int_total (negsuc a) (pos b) h = absurd (cc)
-int_total (negsuc a) (negsuc b) h = leb_total b a h
-
-int_trans : (a b c : ℤ) → int_le a b ≡ true → int_le b c ≡ true → int_le a c ≡ true
-int_trans (pos a) (pos b) (pos c) h k = leb_trans a b c h k
-int_trans (pos a) (pos b) (negsuc c) h k = absurd (cc)
-int_trans (pos a) (negsuc b) c h k = absurd (cc)
-int_trans (negsuc a) b (pos c) h k = refl
-int_trans (negsuc a) (pos b) (negsuc c) h k = absurd (cc)
-int_trans (negsuc a) (negsuc b) (negsuc c) h k = leb_trans c b a k h
 
 -- what fails below a smaller one fails
 int_falls : (a b c : ℤ) (x : Bool) → int_le a b ≡ true → int_le a c ≡ false → int_le b c ≡ x → x ≡ false

@@ -1,9 +1,9 @@
 -- What is selected and chosen, from its parts.
-use Rattle.std.proofs.Common.{◌+◌, ◌%◌, ◌<◌, ◌≤◌, get_or, slice_get, option_map, Option, Some, ◌≡◌, ℕ, arith, List, [], ◌∷◌, length, map, refl, ap, sym, ◌∙◌, subst, None, Ok}
+use Rattle.std.proofs.Common.{◌+◌, ◌%◌, ◌<◌, ◌≤◌, get_or, slice_get, option_map, Option, Some, ◌≡◌, ℕ, arith, List, [], ◌∷◌, length, map, refl, ap, sym, ◌∙◌, subst, None, Ok, Err}
 use Rattle.std.specs.Prelude.{ℤ}
 use Rattle.std.proofs.lemmas.List.{length-map}
 use Rattle.std.proofs.lemmas.Nat.{mod_below}
-use Rattle.std.proofs.lemmas.Option.{slice_get-map, slice_get-get_or}
+use Rattle.std.proofs.lemmas.Option.{slice_get-map, slice_get-get_or, slice_get_within}
 use Rattle.js_data.specs.Event.{PlainEvent}
 use Rattle.js_value.specs.Value.{PlainSet}
 use Rattle.bp_log.specs.declared.options.Strategy.{Strategy}
@@ -11,12 +11,15 @@ use Rattle.bp_log.specs.declared.options.Strategy.TheVariants.{Simple, Ordered, 
 use Rattle.bp_run.specs.Selecting.{Live, Has, Asked, Enabled, without_fault, unblocked, first_unblocked, candidates, or_queued, selectable}
 use Rattle.bp_run.specs.Choosing.{Choice, remaining, drawn_of, chosen, choice}
 use Rattle.bp_select.specs.declared.answers.SelectFault.{SelectFault}
-use Rattle.bp_select.specs.Answers.{FaultAs}
+use Rattle.bp_select.specs.declared.answers.Choice as answer
+use Rattle.bp_select.specs.declared.answers.Choice.TheVariants as answers
+use Rattle.bp_select.specs.Answers.{FaultAs, IsFrom, IsWithin}
 use Rattle.bp_select.specs.Tops.{Top, events_of, with_live, HaveTops}
 use Rattle.js_meaning.specs.State.{Ground}
 use Rattle.bp_meaning.specs.Membership.{member}
 use Rattle.bp_select.specs.Blocking.{blocking}
 use Rattle.bp_select.proofs.Blocks.{unblocked_by, first_by}
+use Rattle.bp_run.proofs.Chosen.{first_is}
 use Rattle.bp_select.proofs.Questions.{fault_on}
 use Rattle.bp_select.proofs.Tops.{events_at, tops_events, tops_have}
 
@@ -66,6 +69,42 @@ module _ (base : Ground) (budget : ℕ) (ts us : List (Live PlainSet)) (queue es
 
   pub selectable_inner : (inner : List PlainEvent) → unblocked (member base budget) us es ≡ Ok inner → (length inner ≡ 0 → ⊥) → selectable (member base budget) ts queue ≡ Ok (record { inner = inner; outer = None })
   selectable_inner inner k n = select_inner (member base budget) ts queue es inner found (sym asks_all ∙ k) n
+
+-- ---- the place of the queue
+
+place_within : (has : Has PlainSet) (ts : List (Live PlainSet)) (queue : List PlainEvent) (i : ℕ) → first_unblocked has ts 0 queue ≡ Ok (Some i) → i < length queue
+place_within has ts queue i h =
+    let first = first_is has ts 0 queue (Some i) h in
+    let e = first.2 in
+    let within = slice_get_within queue first.0 first.1 first.3 in
+    omega (arith, e, within)
+
+queued_within : (has : Has PlainSet) (ts : List (Live PlainSet)) (queue : List PlainEvent) (x : Enabled) (i : ℕ) (f : Asked (Option ℕ)) → first_unblocked has ts 0 queue ≡ f →
+    without_fault (λ place. record { inner = []; outer = place }) f ≡ Ok x → x.outer ≡ Some i → i < length queue
+queued_within has ts queue x i (Err z) q h k = absurd (cc)
+queued_within has ts queue x i (Ok o) q h k = place_within has ts queue i (q ∙ ap (λ (p : Option ℕ). Ok p) (outer_is o x h ∙ k))
+  where
+    outer_is : (o : Option ℕ) (x : Enabled) → (let one : Asked Enabled = Ok (record { inner = []; outer = o }) in one ≡ Ok x) → o ≡ x.outer
+    outer_is o x h = let e : (let one : Enabled = record { inner = []; outer = o } in one ≡ x) = cc in ap (λ (y : Enabled). y.outer) e
+
+selected_within : (has : Has PlainSet) (ts : List (Live PlainSet)) (queue : List PlainEvent) (x : Enabled) (i : ℕ) (u : Asked (List PlainEvent)) →
+    or_queued has ts queue u ≡ Ok x → x.outer ≡ Some i → i < length queue
+selected_within has ts queue x i (Err z) h k = absurd (cc)
+selected_within has ts queue x i (Ok []) h k = queued_within has ts queue x i (first_unblocked has ts 0 queue) refl h k
+selected_within has ts queue x i (Ok (e ∷ es)) h k =
+    let q : (let one : Enabled = record { inner = e ∷ es; outer = None } in one ≡ x) = cc in
+    let n : None ≡ x.outer = ap (λ (y : Enabled). y.outer) q in
+    absurd (cc)
+
+-- an event that is selectable of the queue stands there
+pub selectable_within : (has : Has PlainSet) (ts : List (Live PlainSet)) (queue : List PlainEvent) (x : Enabled) (i : ℕ) → selectable has ts queue ≡ Ok x → x.outer ≡ Some i → i < length queue
+unfolding selectable
+selectable_within has ts queue x i h k = selected_within has ts queue x i (unblocked has ts (candidates ts)) h k
+
+pub from_within : (n : ℕ) (place : Option ℕ) (c : answer.Choice) → IsFrom place c → ((i : ℕ) → place ≡ Some i → i < n) → IsWithin n c
+from_within n place (answers.Internal e) h f = tt
+from_within n place (answers.External i) h f = f i h
+from_within n place answers.Nothing h f = tt
 
 -- ---- the choice
 

@@ -1,5 +1,5 @@
 -- What a bench answers, as the definitions say it.
-use Rattle.std.specs.Prelude.{◌≡◌, ℕ, List, Option, Some, None, Result, Ok, Err, slice_get, option_map, filter_map}
+use Rattle.std.specs.Prelude.{◌≡◌, ◌<◌, ℕ, List, Option, Some, None, Result, Ok, Err, slice_get, option_map, filter_map}
 use Rattle.js_data.specs.Event.{PlainEvent}
 use Rattle.bp_sets.specs.declared.fault.SetFault.TheVariants as set_fault
 use Rattle.bp_run.specs.Bodies as run
@@ -36,6 +36,18 @@ abbrev pub chosen_of : List PlainEvent → ℕ → Choice → Option choosing.Ch
 chosen_of queue drawn (Internal e) = Some (record { event = e; place = None; drawn = drawn })
 chosen_of queue drawn (External place) = option_map (λ e. record { event = e; place = Some place; drawn = drawn }) (slice_get queue place)
 chosen_of queue drawn Nothing = None
+
+-- an event of the queue is the one at this place
+abbrev pub IsFrom : Option ℕ → Choice → Type 0
+IsFrom place (Internal e) = Unit {0}
+IsFrom place (External i) = place ≡ Some i
+IsFrom place Nothing = Unit {0}
+
+-- an event of the queue is one of so many
+abbrev pub IsWithin : ℕ → Choice → Type 0
+IsWithin n (Internal e) = Unit {0}
+IsWithin n (External i) = i < n
+IsWithin n Nothing = Unit {0}
 
 abbrev pub move_of : Touched → Option ℕ
 move_of (Moves i) = Some i

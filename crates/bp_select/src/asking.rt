@@ -21,8 +21,8 @@ use js_frames::Ground;
 use js_value::{EventSet, SetTree};
 use std::alloc::Global;
 
-/// The answer of a set of the b-thread of this number.
-pub(crate) fn named(number: u32, answer: Result<bool, SetFault>) -> Result<bool, SelectFault>
+/// An answer of a set of the b-thread of this number.
+fn named(number: u32, answer: Result<bool, SetFault>) -> Result<bool, SelectFault>
     ensures { (m : Membership) → TellsAs m answer → AnswersAs (λ b. b) (by_number number m) result }
 {
     match answer {
@@ -36,22 +36,19 @@ pub(crate) fn named(number: u32, answer: Result<bool, SetFault>) -> Result<bool,
     }
 }
 
-/// Whether the b-thread blocks the event.
-fn blocks(
+/// Whether the set of the b-thread of this number has the event.
+pub(crate) fn ask(
     alloc: Global,
     ground: &Ground,
     budget: u64,
-    stated: &Stated,
+    number: u32,
+    set: &EventSet,
     event: &Event,
 ) -> Result<bool, SelectFault>
-    ensures { let t = live_of stated.now in
-        AnswersAs (λ b. b) (by_number t.number
-        (member (plain_ground ground.now) budget t.statement.block event.now)) result }
+    ensures { AnswersAs (λ b. b)
+        (by_number number (member (plain_ground ground.now) budget set.now event.now)) result }
 {
-    named(
-        stated.number,
-        contains(alloc, ground, &stated.statement.block, event, budget),
-    )
+    named(number, contains(alloc, ground, set, event, budget))
 }
 
 /// Whether no event is in the set, without a look at an event.
@@ -94,12 +91,13 @@ fn is_blocked(
     blocking: &[&Stated],
     event: &Event,
 ) -> Result<bool, SelectFault>
-    ensures { AnswersAs (λ b. b)
-        (blocked (member (plain_ground ground.now) budget) (map lent blocking.now) event.now) result }
+    ensures { let has = member (plain_ground ground.now) budget in
+        AnswersAs (λ b. b) (blocked has (map lent blocking.now) event.now) result }
 {
     let mut yes = false;
     for stated in blocking {
-        let here = blocks(alloc, ground, budget, stated, event)?;
+        let block = &stated.statement.block;
+        let here = ask(alloc, ground, budget, stated.number, block, event)?;
         yes = either(yes, here);
     }
     Ok(yes)
@@ -157,11 +155,13 @@ pub(crate) fn blocker(
     live: &[Stated],
     event: &Event,
 ) -> Result<Option<u32>, SelectFault>
-    ensures { AnswersAs (λ o. o)
-        (blocker (member (plain_ground ground.now) budget) (map live_of live.now) event.now) result }
+    ensures { let has = member (plain_ground ground.now) budget in
+        AnswersAs (λ o. o) (blocker has (map live_of live.now) event.now) result }
 {
     for stated in live {
-        if blocks(alloc, ground, budget, stated, event)? {
+        let block = &stated.statement.block;
+        let here = ask(alloc, ground, budget, stated.number, block, event)?;
+        if here {
             return Ok(Some(stated.number));
         }
     }

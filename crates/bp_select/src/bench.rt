@@ -1,5 +1,5 @@
 //! The bench: what the live b-threads state, and the questions that are asked of it.
-ghost use Rattle.std.specs.Prelude.{◌≡◌, ◌<◌, ◌≤◌, ◌+◌, ◌^◌, ℕ, Ok, length, option_map, OnOk, OnErr};
+ghost use Rattle.std.specs.Prelude.{◌≡◌, ◌<◌, ◌≤◌, ◌+◌, ◌^◌, ℕ, Ok, length, option_map, IfOk, OnOk, OnErr};
 ghost use Rattle.std.specs.List.{list_any};
 ghost use Rattle.js_meaning.specs.State.{Ground as Base};
 ghost use Rattle.js_frames.specs.Places.{plain_ground};
@@ -10,7 +10,7 @@ ghost use Rattle.bp_meaning.specs.Membership.{member};
 ghost use Rattle.bp_thread.specs.Views.{plain_statement};
 ghost use Rattle.bp_select.specs.Benches.{empty_bench, Fits, placed};
 ghost use Rattle.bp_select.specs.Lives.{live_of};
-ghost use Rattle.bp_select.specs.Answers.{AnswersAs, AnswersReach, chosen_of, enabled_of};
+ghost use Rattle.bp_select.specs.Answers.{AnswersAs, AnswersReach, IsWithin, chosen_of, enabled_of};
 
 use crate::asking::blocker;
 use crate::placing::{place_of, put, take_away};
@@ -50,12 +50,15 @@ impl Model for Bench {
     ghost use Rattle.js_value.specs.Codes.{set_code};
     ghost use Rattle.bp_select.specs.Benches.{PlainBench};
     ghost use Rattle.bp_select.specs.Lives.{live_of};
+    ghost use Rattle.bp_select.specs.Places.{AreInOrder};
 
     ghost Value = { PlainBench };
 
     ghost coded = { Prim.hlevel (codes, event_code, set_code) };
 
     ghost view = { λ b. record { live = map live_of b.live.items; kept = [] } };
+
+    ghost invariant = { λ b. AreInOrder (map live_of b.live.items) };
 }
 
 impl Bench {
@@ -91,13 +94,13 @@ impl Bench {
         }
     }
 
-    /// What can be selected: the requested events that nobody blocks, or else the first event of the
-    /// queue that nobody blocks.
+    /// What can be selected: the requested events that nobody blocks, or else the first event of
+    /// the queue that nobody blocks.
     ///
     /// # Errors
     ///
-    /// `Set` exactly where a set is at fault: the first one, of candidate after candidate and then of
-    /// the queue, and for each event of b-thread after b-thread; and `Memory`.
+    /// `Set` exactly where a set is at fault: the first one, of candidate after candidate and then
+    /// of the queue, and for each event of b-thread after b-thread; and `Memory`.
     pub fn enabled(
         &mut self,
         alloc: Global,
@@ -116,8 +119,8 @@ impl Bench {
         Ok(free.into_enabled(alloc)?)
     }
 
-    /// Which event comes next, under this strategy. Of several candidates that remain, the next word
-    /// draws one. One candidate, an event of the queue and nothing draw no word.
+    /// Which event comes next, under this strategy. Of several candidates that remain, the next
+    /// word draws one. One candidate, an event of the queue and nothing draw no word.
     ///
     /// # Errors
     ///
@@ -139,6 +142,7 @@ impl Bench {
             self.old.live queue.now draw.old.drawn) result }
         ensures seed { draw.new.seed ≡ draw.old.seed }
         ensures drawn { (draw.old.drawn ≤ draw.new.drawn) × (draw.new.drawn ≤ draw.old.drawn + 1) }
+        ensures within { IfOk result (IsWithin (length queue.now)) }
         ensures nothing { result ≡ Ok Choice.Nothing → draw.new ≡ draw.old }
         ensures failed { OnErr result (draw.new ≡ draw.old) }
         ensures same { self.new.live ≡ self.old.live }

@@ -19,8 +19,8 @@ pub(crate) fn keep_if<'a>(
     keeps: bool,
     candidate: &Candidate<'a>,
 ) -> Result<(), Memory>
-    ensures { OnOk result
-        (kept.new.items ≡ (if keeps then kept.old.items ++ candidate.now ∷ [] else kept.old.items)) }
+    ensures { let more = kept.old.items ++ candidate.now ∷ [] in
+        OnOk result (kept.new.items ≡ (if keeps then more else kept.old.items)) }
 {
     if keeps {
         kept.push(*candidate)?;

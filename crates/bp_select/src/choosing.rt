@@ -147,8 +147,8 @@ pub(crate) fn remaining<'a>(
     inner: Vec<Candidate<'a>>,
 ) -> Result<Vec<Candidate<'a>>, Memory>
     requires { HaveTops (map live_of live.now) (tops_of inner.items) }
-    ensures { IfOk result
-        (λ l. events_in l.items ≡ remaining strategy (map live_of live.now) (events_in inner.entry.items)) }
+    ensures { let events = events_in inner.entry.items in
+        IfOk result (λ l. events_in l.items ≡ remaining strategy (map live_of live.now) events) }
 {
     match strategy {
         Strategy::Simple => Ok(inner),

@@ -3,21 +3,17 @@ ghost use Rattle.std.specs.Prelude.{◌≡◌, Some, None, map, slice_get, OnOk,
 ghost use Rattle.bp_thread.specs.Views.{plain_statement};
 ghost use Rattle.bp_select.specs.Lives.{live_of};
 ghost use Rattle.bp_select.specs.Benches.{placed};
-ghost use Rattle.bp_select.specs.Places.{place_in, is_number};
+ghost use Rattle.bp_select.specs.Places.{AreInOrder, place_in, is_number};
 
 use crate::bench::Stated;
 use bp_log::Memory;
 
-/// How many of them have a smaller number, from the front on.
+/// How many of them have a smaller number, by a search by halves.
 pub(crate) fn place_of(live: &[Stated], number: u32) -> usize
+    requires { AreInOrder (map live_of live.now) }
     ensures { result ≡ place_in number (map live_of live.now) }
 {
-    for (at, stated) in live.iter().enumerate() {
-        if stated.number >= number {
-            return at;
-        }
-    }
-    live.len()
+    live.partition_point(|stated| stated.number < number)
 }
 
 /// Whether the one at this place has this number.
@@ -33,8 +29,9 @@ fn is_at(live: &[Stated], at: usize, number: u32) -> bool
 /// Puts the statement at its place, for that of the same number if there is one.
 pub(crate) fn put(live: &mut Vec<Stated>, at: usize, stated: Stated) -> Result<(), Memory>
     requires { at ≡ place_in stated.number (map live_of live.old.items) }
-    ensures put { OnOk result
-        (map live_of live.new.items ≡ placed stated.number (Some (plain_statement stated.statement)) (map live_of live.old.items)) }
+    ensures put { let o = Some (plain_statement stated.statement) in
+        OnOk result
+        (map live_of live.new.items ≡ placed stated.number o (map live_of live.old.items)) }
     ensures failed { OnErr result (map live_of live.new.items ≡ map live_of live.old.items) }
 {
     if is_at(live.as_slice(), at, stated.number) {

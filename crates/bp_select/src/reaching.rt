@@ -2,17 +2,15 @@
 ghost use Rattle.std.specs.Prelude.{◌≡◌, ◌++◌, map, filter_map, option_to_list, OnOk};
 ghost use Rattle.js_frames.specs.Places.{plain_ground};
 ghost use Rattle.bp_meaning.specs.Membership.{member};
-ghost use Rattle.bp_run.specs.Selecting.{by_number};
 ghost use Rattle.bp_run.specs.Choosing.{touched, reach};
 ghost use Rattle.bp_select.specs.Lives.{live_of};
 ghost use Rattle.bp_select.specs.Answers.{AnswersAs, AnswersReach, move_of, interrupt_of};
 ghost use Rattle.bp_select.specs.Touches.{touch_as};
 
-use crate::asking::named;
+use crate::asking::ask;
 use crate::bench::{Stated, requests};
 use crate::{Reach, SelectFault};
 use bp_log::Memory;
-use bp_sets::contains;
 use js_data::Event;
 use js_frames::Ground;
 use std::alloc::Global;
@@ -28,42 +26,6 @@ pub(crate) enum Touch {
     Interrupts,
 }
 
-/// Whether the event interrupts the b-thread.
-fn interrupts(
-    alloc: Global,
-    ground: &Ground,
-    budget: u64,
-    stated: &Stated,
-    event: &Event,
-) -> Result<bool, SelectFault>
-    ensures { let t = live_of stated.now in
-        AnswersAs (λ b. b) (by_number t.number
-        (member (plain_ground ground.now) budget t.statement.interrupt event.now)) result }
-{
-    named(
-        stated.number,
-        contains(alloc, ground, &stated.statement.interrupt, event, budget),
-    )
-}
-
-/// Whether the b-thread waits for the event.
-fn waits(
-    alloc: Global,
-    ground: &Ground,
-    budget: u64,
-    stated: &Stated,
-    event: &Event,
-) -> Result<bool, SelectFault>
-    ensures { let t = live_of stated.now in
-        AnswersAs (λ b. b) (by_number t.number
-        (member (plain_ground ground.now) budget t.statement.wait_for event.now)) result }
-{
-    named(
-        stated.number,
-        contains(alloc, ground, &stated.statement.wait_for, event, budget),
-    )
-}
-
 /// What the event does to the b-thread. Its interrupt set is asked first, and its waitFor set only
 /// where it didn't request the event.
 fn touch_of(
@@ -76,14 +38,16 @@ fn touch_of(
     ensures { AnswersAs (touch_as (live_of stated.now).number)
         (touched (member (plain_ground ground.now) budget) event.now (live_of stated.now)) result }
 {
-    let interrupted = interrupts(alloc, ground, budget, stated, event)?;
+    let number = stated.number;
+    let states = &stated.statement;
+    let interrupted = ask(alloc, ground, budget, number, &states.interrupt, event)?;
     if interrupted {
         return Ok(Touch::Interrupts);
     }
     if requests(event, stated) {
         return Ok(Touch::Moves);
     }
-    let waited = waits(alloc, ground, budget, stated, event)?;
+    let waited = ask(alloc, ground, budget, number, &states.wait_for, event)?;
     if waited {
         Ok(Touch::Moves)
     } else {
@@ -93,10 +57,10 @@ fn touch_of(
 
 /// Notes what the event does to the b-thread of this number.
 fn note(reach: &mut Reach, number: u32, touch: Touch) -> Result<(), Memory>
-    ensures moved { OnOk result
-        (reach.new.moved.items ≡ reach.old.moved.items ++ filter_map move_of (option_to_list (touch_as number touch))) }
-    ensures interrupted { OnOk result
-        (reach.new.interrupted.items ≡ reach.old.interrupted.items ++ filter_map interrupt_of (option_to_list (touch_as number touch))) }
+    ensures moved { let more = filter_map move_of (option_to_list (touch_as number touch)) in
+        OnOk result (reach.new.moved.items ≡ reach.old.moved.items ++ more) }
+    ensures interrupted { let more = filter_map interrupt_of (option_to_list (touch_as number touch)) in
+        OnOk result (reach.new.interrupted.items ≡ reach.old.interrupted.items ++ more) }
 {
     match touch {
         Touch::Stays => {}

@@ -1,5 +1,5 @@
 //! What can be selected, and which of it is chosen.
-ghost use Rattle.std.specs.Prelude.{◌≡◌, ◌<◌, ◌≤◌, ◌+◌, ◌^◌, [], ℕ, List, Ok, length, map, IfOk, OnErr};
+ghost use Rattle.std.specs.Prelude.{◌≡◌, ◌<◌, ◌≤◌, ◌+◌, ◌^◌, [], ℕ, List, Ok, None, length, map, IfOk, OnErr};
 ghost use Rattle.js_data.specs.Event.{PlainEvent};
 ghost use Rattle.js_frames.specs.Places.{plain_ground};
 ghost use Rattle.bp_words.specs.Words.{draw_word};
@@ -8,7 +8,7 @@ ghost use Rattle.js_value.specs.Value.{PlainSet};
 ghost use Rattle.bp_run.specs.Selecting.{Live, without_fault, first_unblocked, selectable};
 ghost use Rattle.bp_run.specs.Choosing.{drawn_of, chosen};
 ghost use Rattle.bp_select.specs.Lives.{live_of, lent};
-ghost use Rattle.bp_select.specs.Answers.{AnswersAs, chosen_of, enabled_of};
+ghost use Rattle.bp_select.specs.Answers.{AnswersAs, IsFrom, chosen_of, enabled_of};
 ghost use Rattle.bp_select.specs.Candidates.{events_in};
 ghost use Rattle.bp_select.specs.Free.{free_of, IsOf};
 
@@ -97,8 +97,8 @@ pub(crate) fn selectable<'a>(
     queue: &[Event],
 ) -> Result<Free<'a>, SelectFault>
     requires { length queue.now < 2 ^ 32 }
-    ensures free { AnswersAs free_of
-        (selectable (member (plain_ground ground.now) budget) (map live_of live.now) queue.now) result }
+    ensures free { let has = member (plain_ground ground.now) budget in
+        AnswersAs free_of (selectable has (map live_of live.now) queue.now) result }
     ensures tops { IfOk result (λ f. IsOf (map live_of live.now) f) }
 {
     let candidates = candidates(alloc, live)?;
@@ -125,6 +125,7 @@ pub(crate) fn drawn(draw: &mut Draw, remaining: &[Candidate<'_>]) -> Result<Choi
         ≡ drawn_of (draw_word draw.old.seed) draw.old.drawn (events_in remaining.now)) }
     ensures seed { draw.new.seed ≡ draw.old.seed }
     ensures drawn { (draw.old.drawn ≤ draw.new.drawn) × (draw.new.drawn ≤ draw.old.drawn + 1) }
+    ensures place { IfOk result (IsFrom None) }
     ensures nothing { result ≡ Ok Choice.Nothing → draw.new ≡ draw.old }
     ensures failed { OnErr result (draw.new ≡ draw.old) }
 {
@@ -156,6 +157,7 @@ pub(crate) fn chosen<'a>(
         (free_of free.entry).inner (free_of free.entry).outer) }
     ensures seed { draw.new.seed ≡ draw.old.seed }
     ensures drawn { (draw.old.drawn ≤ draw.new.drawn) × (draw.new.drawn ≤ draw.old.drawn + 1) }
+    ensures place { IfOk result (IsFrom (free_of free.entry).outer) }
     ensures nothing { result ≡ Ok Choice.Nothing → draw.new ≡ draw.old }
     ensures failed { OnErr result (draw.new ≡ draw.old) }
 {

@@ -1,5 +1,4 @@
 //! Whether a set has an event.
-ghost use Rattle.js_value.specs.Value.{or, and, xor, negate};
 ghost use Rattle.js_value.specs.Views.{set_list_of};
 ghost use Rattle.js_frames.specs.Places.{plain_ground};
 ghost use Rattle.bp_meaning.specs.Membership.{member, member_of_any};
@@ -12,12 +11,13 @@ use js_frames::Ground;
 use js_value::{EventSet, SetTree};
 use std::alloc::Global;
 
-/// Whether the set has the event. Each predicate of it that is asked may begin as many nodes as the budget says.
+/// Whether the set has the event. Each predicate of it that is asked may begin as many nodes as the
+/// budget says.
 ///
 /// # Errors
 ///
-/// `Broken`, `Spent` and `NotTruth` exactly where a predicate that is asked is at fault, spends its budget or
-/// answers no truth value before the answer is there; and `Memory`.
+/// `Broken`, `Spent` and `NotTruth` exactly where a predicate that is asked is at fault, spends its
+/// budget or answers no truth value before the answer is there; and `Memory`.
 #[cycle(contains)]
 pub fn contains(
     alloc: Global,
@@ -33,10 +33,24 @@ pub fn contains(
         SetTree::Any(sets) => any_contains(alloc, ground, sets, event, budget),
         SetTree::All => Ok(true),
         SetTree::Nothing => Ok(false),
-        SetTree::Or(a, b) => either_contains(alloc, ground, a, b, event, budget),
-        SetTree::And(a, b) => both_contain(alloc, ground, a, b, event, budget),
-        SetTree::Xor(a, b) => one_contains(alloc, ground, a, b, event, budget),
-        SetTree::Negate(a) => lacks(alloc, ground, a, event, budget),
+        SetTree::Or(a, b) => {
+            if contains(alloc, ground, a, event, budget)? {
+                return Ok(true);
+            }
+            contains(alloc, ground, b, event, budget)
+        }
+        SetTree::And(a, b) => {
+            if !contains(alloc, ground, a, event, budget)? {
+                return Ok(false);
+            }
+            contains(alloc, ground, b, event, budget)
+        }
+        SetTree::Xor(a, b) => {
+            let in_a = contains(alloc, ground, a, event, budget)?;
+            let in_b = contains(alloc, ground, b, event, budget)?;
+            Ok(in_a != in_b)
+        }
+        SetTree::Negate(a) => Ok(!contains(alloc, ground, a, event, budget)?),
         SetTree::Predicate { code, captured, .. } => {
             ask(alloc, ground, *code, captured, event, budget)
         }
@@ -52,7 +66,8 @@ fn any_contains(
     event: &Event,
     budget: u64,
 ) -> Result<bool, SetFault>
-    ensures { TellsAs (member_of_any (plain_ground ground.now) budget (set_list_of sets.now) event.now) result }
+    ensures { TellsAs
+        (member_of_any (plain_ground ground.now) budget (set_list_of sets.now) event.now) result }
 {
     for set in sets {
         if contains(alloc, ground, set, event, budget)? {
@@ -60,68 +75,4 @@ fn any_contains(
         }
     }
     Ok(false)
-}
-
-#[cycle(contains)]
-fn either_contains(
-    alloc: Global,
-    ground: &Ground,
-    a: &EventSet,
-    b: &EventSet,
-    event: &Event,
-    budget: u64,
-) -> Result<bool, SetFault>
-    ensures { TellsAs (member (plain_ground ground.now) budget (or a.now b.now) event.now) result }
-{
-    if contains(alloc, ground, a, event, budget)? {
-        return Ok(true);
-    }
-    contains(alloc, ground, b, event, budget)
-}
-
-#[cycle(contains)]
-fn both_contain(
-    alloc: Global,
-    ground: &Ground,
-    a: &EventSet,
-    b: &EventSet,
-    event: &Event,
-    budget: u64,
-) -> Result<bool, SetFault>
-    ensures { TellsAs (member (plain_ground ground.now) budget (and a.now b.now) event.now) result }
-{
-    if contains(alloc, ground, a, event, budget)? {
-        return contains(alloc, ground, b, event, budget);
-    }
-    Ok(false)
-}
-
-// Both are asked.
-#[cycle(contains)]
-fn one_contains(
-    alloc: Global,
-    ground: &Ground,
-    a: &EventSet,
-    b: &EventSet,
-    event: &Event,
-    budget: u64,
-) -> Result<bool, SetFault>
-    ensures { TellsAs (member (plain_ground ground.now) budget (xor a.now b.now) event.now) result }
-{
-    let in_a = contains(alloc, ground, a, event, budget)?;
-    let in_b = contains(alloc, ground, b, event, budget)?;
-    Ok(in_a != in_b)
-}
-
-#[cycle(contains)]
-fn lacks(
-    alloc: Global,
-    ground: &Ground,
-    set: &EventSet,
-    event: &Event,
-    budget: u64,
-) -> Result<bool, SetFault>
-    ensures { TellsAs (member (plain_ground ground.now) budget (negate set.now) event.now) result }
-{
-    Ok(!contains(alloc, ground, set, event, budget)?)
 }

@@ -26,7 +26,8 @@ fn line_of(program: &Program, code: u32) -> u32
 }
 
 fn truth_in(answer: &Value, line: u32) -> Result<bool, SetFault>
-    ensures { (s : State) → TellsAs (truth_answered line (went (normal (plain_value answer.now)) s)) result }
+    ensures { (s : State) →
+        TellsAs (truth_answered line (went (normal (plain_value answer.now)) s)) result }
 {
     match answer {
         Value::Truth(truth) => Ok(*truth),
@@ -43,7 +44,8 @@ pub fn ask(
     event: &Event,
     budget: u64,
 ) -> Result<bool, SetFault>
-    ensures { TellsAs (asks_predicate (plain_ground ground.now) budget code captured.now event.now) result }
+    ensures { TellsAs
+        (asks_predicate (plain_ground ground.now) budget code captured.now event.now) result }
 {
     let line = line_of(ground.program(), code);
     let callee = Value::Function {

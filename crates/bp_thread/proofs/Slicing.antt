@@ -18,7 +18,8 @@ use Rattle.bp_thread.specs.declared.job.Job.{Job}
 use Rattle.bp_thread.specs.declared.outcome.Outcome.{Outcome}
 use Rattle.bp_thread.specs.Views.{plain_origin, plain_outcome}
 use Rattle.bp_thread.specs.Pauses.{outcome_of_pause}
-use Rattle.bp_thread.specs.Jobs.{plain_job, is_ended, IsOutcome, StandsAt, IsWhole, Sliced}
+use Rattle.bp_thread.specs.Jobs.{plain_job, is_ended, IsOf, IsOutcome, StandsAt, IsWhole, IsSame, Sliced}
+use Rattle.bp_thread.specs.Carried.{Carries}
 use Rattle.bp_thread.proofs.Standing.{false_true}
 
 true_false : true ≡ false → ⊥
@@ -119,11 +120,21 @@ module _ (base : Ground) (budget nodes : ℕ) (old new : Job) (p : Pause) (m n :
         reached = λ ended. reached o begun runs.more nodes budget (made ++ untaken m) m p runs.reached (sym (ap is_some at_pause) ∙ sym is ∙ ended);
       }
 
-pub still_whole : (base : Ground) (budget nodes : ℕ) (old new : Job) → new.origin ≡ old.origin → new.replies ≡ old.replies → (w : IsWhole base budget old) (done : Bool) →
+still_whole : (base : Ground) (budget nodes : ℕ) (old new : Job) → IsSame (plain_job old) (plain_job new) → (w : IsWhole base budget old) (done : Bool) →
     Sliced base budget w.begun (w.before ++ plain_effects old.effects) nodes done old new → IsWhole base budget new
-still_whole base budget nodes old new origin replies w done s = record {
+still_whole base budget nodes old new same w done s = record {
   begun = w.begun + s.more;
   before = w.before;
   stands = subst (λ es. StandsAt base budget (w.begun + s.more) es new) (append_assoc w.before (plain_effects old.effects) s.fresh ∙ ap (λ es. w.before ++ es) (sym s.effects)) s.stands;
-  since = rw (origin, replies) w.since;
+  since = rw (same.origin, same.replies) w.since;
+}
+
+-- a slice carries a job on
+pub carries : (base : Ground) (budget nodes : ℕ) (old new : Job) (done : Bool) → IsSame (plain_job old) (plain_job new) →
+    ((begun : ℕ) (made : List Effect) → StandsAt base budget begun made old → Sliced base budget begun made nodes done old new) → IsOf base.program new → Carries base budget old new
+carries base budget nodes old new done same slices program = record {
+  same = same;
+  stands = λ h. let s = slices h.begun h.made h.stands in record { begun = h.begun + s.more; made = _; stands = s.stands };
+  whole = λ w. still_whole base budget nodes old new same w done (slices w.begun _ w.stands);
+  of_program = λ _. program;
 }

@@ -25,8 +25,7 @@ use std::mem;
 
 /// A body that is carried on slice by slice, with the events that it was given and what it did.
 ///
-/// A job is a plain value: it moves between threads, and no call of it needs anything but its ground.
-#[derive(Drop)]
+/// A job is a plain value: it moves between threads, and its calls need nothing but its ground.
 pub struct Job {
     alloc: Global,
     number: u32,
@@ -40,6 +39,22 @@ pub struct Job {
     outcome: Option<Outcome>,
     /// Where the outcome is there, so is the machine; and where it is a stop, the machine asks.
     ghost kept: { fits_outcome machine outcome ≡ true },
+}
+
+impl Drop for Job {
+    fn drop(self) {
+        let Job {
+            alloc: _,
+            number: _,
+            name: _,
+            origin: _,
+            replies: _,
+            machine: _,
+            effects: _,
+            handler: _,
+            outcome: _,
+        } = self;
+    }
 }
 
 impl Job {
@@ -58,7 +73,8 @@ impl Job {
           outcome = None;
         } }
         ensures machine { result.machine ≡ Some machine }
-        ensures whole { (base : js.Ground) → (budget : ℕ) → Stands base budget (plain_origin origin) [] 0 [] machine →
+        ensures whole { (base : js.Ground) → (budget : ℕ) →
+            Stands base budget (plain_origin origin) [] 0 [] machine →
             untaken machine ≡ [] → IsWhole base budget result }
     {
         Job {
@@ -76,8 +92,8 @@ impl Job {
 
     /// A job that stands at the start of a call of a function.
     ///
-    /// Its number and name are those of its b-thread, and its mode is that of a b-thread or of a handler.
-    /// Its only error is want of memory.
+    /// Its number and name are those of its b-thread, and its mode is that of a b-thread or of a
+    /// handler. Its only error is want of memory.
     pub fn start(
         alloc: Global,
         ground: &Ground,
@@ -106,8 +122,8 @@ impl Job {
         Ok(Job::on(alloc, number, name, origin, machine))
     }
 
-    /// A job that stands at the start of the top level. Its number is 0, and its name is empty. Its only error
-    /// is want of memory.
+    /// A job that stands at the start of the top level. Its number is 0, and its name is empty. Its
+    /// only error is want of memory.
     pub fn top(alloc: Global, ground: &Ground, budget: u64) -> Result<Job, Memory>
         ensures program { IfOk result (λ j. IsOf (plain_ground ground.now).program j) }
         ensures made { IfOk result (λ j. plain_job j ≡ record {
@@ -147,12 +163,13 @@ impl Job {
         self.replies.as_slice()
     }
 
-    /// Where its body stands; nothing from the start or a `give` on until a `slice` answers true. Takes no
-    /// memory.
+    /// Where its body stands; nothing from the start or a `give` on until a `slice` answers true.
+    /// Takes no memory.
     pub fn outcome(&self) -> Option<&Outcome>
         ensures held { option_map (λ o. plain_outcome o.now) result ≡ (plain_job self.now).outcome }
         ensures exact { (base : js.Ground) → (budget : ℕ) → StandsFor base budget self.now →
-            IfSome result (λ o. plain_outcome o.now ≡ (after base budget (plain_job self.now).origin (plain_job self.now).replies).outcome) }
+            IfSome result (λ o. plain_outcome o.now ≡ (after base budget
+            (plain_job self.now).origin (plain_job self.now).replies).outcome) }
     {
         self.outcome.as_ref()
     }
@@ -160,33 +177,47 @@ impl Job {
     /// The function that its body set last as its handler, if it set one. Takes no memory.
     pub fn handler(&self) -> Option<&Value>
         ensures held { option_map (λ v. plain_value v.now) result ≡ (plain_job self.now).handler }
-        ensures exact { (base : js.Ground) → (budget : ℕ) → StandsFor base budget self.now → IsSome (plain_job self.now).outcome →
-            option_map (λ v. plain_value v.now) result ≡ handler_set base budget (plain_job self.now).origin (plain_job self.now).replies }
+        ensures exact { (base : js.Ground) → (budget : ℕ) → StandsFor base budget self.now →
+            IsSome (plain_job self.now).outcome → option_map (λ v. plain_value v.now) result
+            ≡ handler_set base budget (plain_job self.now).origin (plain_job self.now).replies }
     {
         self.handler.as_ref()
     }
 
-    /// What each job with an outcome is whose effects are whole, as a fact for its callers. Does nothing.
+    /// What each job with an outcome is whose effects are whole, as a fact for its callers. Does
+    /// nothing.
     pub fn keeps(&self)
-        ensures { (base : js.Ground) → (budget : ℕ) → IsWhole base budget self.now → IsSome (plain_job self.now).outcome →
+        ensures { (base : js.Ground) → (budget : ℕ) → IsWhole base budget self.now →
+            IsSome (plain_job self.now).outcome →
             plain_job self.now ≡ carried base budget (plain_job self.now) }
     {}
 
     /// The constants, as the top level left them. Takes no memory.
     pub fn constants(self) -> Constants
         requires { is_ended (plain_job self).outcome ≡ true }
-        ensures { (base : js.Ground) → (budget : ℕ) → StandsFor base budget self → (plain_job self).origin ≡ the_top →
+        ensures { (base : js.Ground) → (budget : ℕ) → StandsFor base budget self →
+            (plain_job self).origin ≡ the_top →
             result ≡ constants_left (evaluation base budget the_top (plain_job self).replies) }
     {
-        let machine = self.machine;
+        let Job {
+            alloc: _,
+            number: _,
+            name: _,
+            origin: _,
+            replies: _,
+            machine,
+            effects: _,
+            handler: _,
+            outcome: _,
+        } = self;
         match machine {
             Some(machine) => machine.constants(),
             None => unreachable!(),
         }
     }
 
-    /// The event stands at the end of the replies, and the body goes on with it. Takes memory for the event
-    /// alone; its only error is want of memory, and then nothing has changed.
+    /// The event stands at the end of the replies, and the body goes on with it. Takes memory for the
+    /// event alone; its only error is want of memory, and then nothing has changed.
     pub fn give(&mut self, event: &Event) -> Result<(), Memory>
         requires stopped { is_stopped (plain_job self.old).outcome ≡ true }
         requires taken { (plain_job self.old).effects ≡ [] }
@@ -195,7 +226,8 @@ impl Job {
           replies = (plain_job self.old).replies ++ event.now ∷ [];
           outcome = None;
         }) }
-        ensures whole { (base : js.Ground) → (budget : ℕ) → StandsFor base budget self.old → OnOk result (IsWhole base budget self.new) }
+        ensures whole { (base : js.Ground) → (budget : ℕ) → StandsFor base budget self.old →
+            OnOk result (IsWhole base budget self.new) }
         ensures err { OnErr result (self.new ≡ self.old) }
     {
         let kept = event.copy()?;
@@ -208,43 +240,70 @@ impl Job {
         Ok(())
     }
 
-    /// Carries the body on by at most so many nodes: true where the outcome is there now, and false where so
-    /// many nodes began, another must begin and budget is left. After want of memory it answers nothing else.
-    pub fn slice(&mut self, ground: &Ground, nodes: u64) -> Result<bool, Memory>
+    // Carries the body on by at most so many nodes. After want of memory the machine may stand
+    // anywhere.
+    fn step(&mut self, ground: &Ground, nodes: u64) -> Result<bool, Memory>
         requires program { IsOf (plain_ground ground.now).program self.old }
         requires open { (plain_job self.old).outcome ≡ None }
-        ensures program { IsOf (plain_ground ground.now).program self.new }
         ensures same { IsSame (plain_job self.old) (plain_job self.new) }
+        ensures program { OnOk result (IsOf (plain_ground ground.now).program self.new) }
         ensures done { IfOk result (λ done. IsTrue done ↔ IsSome (plain_job self.new).outcome) }
-        ensures stands { (budget begun : ℕ) → (made : List js.Effect) → StandsAt (plain_ground ground.now) budget begun made self.old →
-            IfOk result (λ done. Sliced (plain_ground ground.now) budget begun made nodes done self.old self.new) }
-        ensures carries { (budget : ℕ) → OnOk result (Carries (plain_ground ground.now) budget self.old self.new) }
-        ensures lost { OnErr result (IsLost self.new) }
+        ensures stands { (budget begun : ℕ) → (made : List js.Effect) →
+            StandsAt (plain_ground ground.now) budget begun made self.old →
+            IfOk result (λ done. Sliced (plain_ground ground.now) budget begun made nodes done
+            self.old self.new) }
+        ensures open { OnErr result ((plain_job self.new).outcome ≡ None) }
         ensures stays_lost { IsLost self.old → IsErr result }
     {
-        let Some(mut machine) = self.machine.take() else {
+        let Some(machine) = &mut self.machine else {
             return Err(AllocError);
         };
         let pause = machine.run(ground, nodes)?;
         let fresh = machine.take_effects();
         set_handler(&mut self.handler, fresh.items.as_slice())?;
         append(&mut self.effects, fresh)?;
-        let outcome = outcome_at(self.alloc, &machine, pause)?;
+        let outcome = outcome_at(self.alloc, machine, pause)?;
         let done = outcome.is_some();
-        self.machine = Some(machine);
         self.outcome = outcome;
         Ok(done)
     }
 
-    /// The effects since the start or the last `give` that were not taken yet, in order. Takes no memory.
+    /// Carries the body on by at most so many nodes: true where the outcome is there now, and false
+    /// where so many nodes began, another must begin and budget is left. After want of memory it
+    /// answers nothing else.
+    pub fn slice(&mut self, ground: &Ground, nodes: u64) -> Result<bool, Memory>
+        requires program { IsOf (plain_ground ground.now).program self.old }
+        requires open { (plain_job self.old).outcome ≡ None }
+        ensures program { IsOf (plain_ground ground.now).program self.new }
+        ensures same { IsSame (plain_job self.old) (plain_job self.new) }
+        ensures done { IfOk result (λ done. IsTrue done ↔ IsSome (plain_job self.new).outcome) }
+        ensures stands { (budget begun : ℕ) → (made : List js.Effect) →
+            StandsAt (plain_ground ground.now) budget begun made self.old →
+            IfOk result (λ done. Sliced (plain_ground ground.now) budget begun made nodes done
+            self.old self.new) }
+        ensures carries { (budget : ℕ) →
+            OnOk result (Carries (plain_ground ground.now) budget self.old self.new) }
+        ensures lost { OnErr result (IsLost self.new) }
+        ensures stays_lost { IsLost self.old → IsErr result }
+    {
+        let Ok(there) = self.step(ground, nodes) else {
+            self.machine = None;
+            return Err(AllocError);
+        };
+        Ok(there)
+    }
+
+    /// The effects since the start or the last `give` that were not taken yet, in order. Takes no
+    /// memory.
     pub fn take_effects(&mut self) -> Effects
         ensures program { (program : PlainProgram) → IsOf program self.old → IsOf program self.new }
         ensures given { plain_effects result ≡ (plain_job self.old).effects }
         ensures left { plain_job self.new ≡ record (plain_job self.old) { effects = [] } }
-        ensures stands { (base : js.Ground) → (budget begun : ℕ) → (made : List js.Effect) → StandsAt base budget begun made self.old →
-            StandsAt base budget begun made self.new }
-        ensures exact { (base : js.Ground) → (budget : ℕ) → IsWhole base budget self.old → IsSome (plain_job self.old).outcome →
-            plain_effects result ≡ effects_since (evaluation base budget (plain_job self.old).origin (plain_job self.old).replies) }
+        ensures stands { (base : js.Ground) → (budget begun : ℕ) → (made : List js.Effect) →
+            StandsAt base budget begun made self.old → StandsAt base budget begun made self.new }
+        ensures exact { (base : js.Ground) → (budget : ℕ) → IsWhole base budget self.old →
+            IsSome (plain_job self.old).outcome → plain_effects result ≡ effects_since
+            (evaluation base budget (plain_job self.old).origin (plain_job self.old).replies) }
     {
         mem::replace(&mut self.effects, Effects::new(self.alloc))
     }

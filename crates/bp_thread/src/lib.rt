@@ -1,4 +1,5 @@
-//! What b-threads state, and b-threads, handlers and the top level as jobs that are carried on slice by slice.
+//! What b-threads state, and b-threads, handlers and the top level as jobs that are carried on slice
+//! by slice.
 #![tactic(auto)]
 
 mod crossing;

@@ -3,7 +3,7 @@ use crate::statement::Statement;
 use js_data::{Fault, Text};
 
 /// Where a body stands when it can't go on by itself.
-#[derive(Debug, Drop)]
+#[derive(Debug)]
 pub enum Outcome {
     /// At `bp.sync`, with this statement.
     Stopped(Statement),
@@ -15,4 +15,16 @@ pub enum Outcome {
     Violated(Text),
     /// Its budget is spent, and another node must begin.
     Spent,
+}
+
+impl Drop for Outcome {
+    fn drop(self) {
+        match self {
+            Outcome::Stopped(_) => {}
+            Outcome::Ended => {}
+            Outcome::Broken(_, _) => {}
+            Outcome::Violated(_) => {}
+            Outcome::Spent => {}
+        }
+    }
 }

@@ -70,8 +70,8 @@ fn events_of(alloc: Global, items: &Items) -> Result<Events, StatementFault>
 
 // What is requested: an event or a list of events; undefined is the empty list.
 fn requested(alloc: Global, stated: Option<&Value>) -> Result<Events, StatementFault>
-    ensures { Reads (λ es. es)
-        (requested_by (unwrap_or (option_map (λ v. plain_value v.now) stated.entry) undefined)) result }
+    ensures { Reads (λ es. es) (requested_by
+        (unwrap_or (option_map (λ v. plain_value v.now) stated.entry) undefined)) result }
 {
     match stated {
         None | Some(Value::Undefined) => Ok(Events::new(alloc)),
@@ -87,8 +87,8 @@ fn requested(alloc: Global, stated: Option<&Value>) -> Result<Events, StatementF
 
 // An event, a set, or a list of such, nested or not; undefined is the empty list.
 fn set_stated(alloc: Global, stated: Option<&Value>) -> Result<EventSet, StatementFault>
-    ensures { Reads (λ s. s)
-        (set_that_is (unwrap_or (option_map (λ v. plain_value v.now) stated.entry) undefined)) result }
+    ensures { Reads (λ s. s) (set_that_is
+        (unwrap_or (option_map (λ v. plain_value v.now) stated.entry) undefined)) result }
 {
     match stated {
         None | Some(Value::Undefined) => {
@@ -117,7 +117,8 @@ fn statement_in(
     fields: &Pairs,
     priority: &Value,
 ) -> Result<Statement, StatementFault>
-    ensures { Reads plain_statement (statement_in_fields fields.now (plain_value priority.now)) result }
+    ensures { Reads plain_statement
+        (statement_in_fields fields.now (plain_value priority.now)) result }
 {
     Ok(Statement {
         request: requested(alloc, fields.get("request"))?,
@@ -138,7 +139,8 @@ pub fn statement_of(
     asked: &Value,
     priority: &Value,
 ) -> Result<Statement, StatementFault>
-    ensures { Reads plain_statement (statement_that_is (plain_value asked.now) (plain_value priority.now)) result }
+    ensures { Reads plain_statement
+        (statement_that_is (plain_value asked.now) (plain_value priority.now)) result }
 {
     match asked {
         Value::Fields(fields) => {

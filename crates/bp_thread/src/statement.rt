@@ -8,7 +8,7 @@ use js_value::EventSet;
 use std::alloc::Global;
 
 /// What a b-thread states at `bp.sync`.
-#[derive(Debug, Drop)]
+#[derive(Debug)]
 pub struct Statement {
     /// The events that it requests, in order.
     pub request: Events,
@@ -20,6 +20,18 @@ pub struct Statement {
     pub interrupt: EventSet,
     /// Its priority.
     pub priority: Whole,
+}
+
+impl Drop for Statement {
+    fn drop(self) {
+        let Statement {
+            request: _,
+            wait_for: _,
+            block: _,
+            interrupt: _,
+            priority: _,
+        } = self;
+    }
 }
 
 impl Statement {

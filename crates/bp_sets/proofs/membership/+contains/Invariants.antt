@@ -1,4 +1,4 @@
-use Rattle.std.proofs.Common.{◌≡◌, ◌+◌, ◌*◌, drop}
+use Rattle.std.proofs.Common.{◌≡◌, drop}
 use Rattle.js_value.specs.Sizes.{set_size, sets_size}
 use Rattle.js_value.specs.Views.{set_list_of}
 use Rattle.js_frames.specs.Places.{plain_ground}
@@ -6,22 +6,10 @@ use Rattle.bp_meaning.specs.Membership.{member_of_any}
 use Rattle.bp_sets.proofs.membership.+contains.Given as goal
 
 abbrev pub decreases-contains : goal.decreases-contains
-decreases-contains l = 2 * set_size l.set.now
+decreases-contains l = set_size l.set.now
 
 abbrev pub decreases-any_contains : goal.decreases-any_contains
-decreases-any_contains l = 2 * sets_size (set_list_of l.sets.now)
-
-abbrev pub decreases-either_contains : goal.decreases-either_contains
-decreases-either_contains l = 2 * (set_size l.a.now + set_size l.b.now) + 1
-
-abbrev pub decreases-both_contain : goal.decreases-both_contain
-decreases-both_contain l = 2 * (set_size l.a.now + set_size l.b.now) + 1
-
-abbrev pub decreases-one_contains : goal.decreases-one_contains
-decreases-one_contains l = 2 * (set_size l.a.now + set_size l.b.now) + 1
-
-abbrev pub decreases-lacks : goal.decreases-lacks
-decreases-lacks l = 2 * set_size l.set.now + 1
+decreases-any_contains l = sets_size (set_list_of l.sets.now)
 
 abbrev pub invariant-any_contains-loop-set : goal.invariant-any_contains-loop-set
 invariant-any_contains-loop-set l =

@@ -1,11 +1,11 @@
-use Rattle.std.proofs.Common.{List, ℕ, subst}
+use Rattle.std.proofs.Common.{List, ℕ, IfOk, length, subst}
 use Rattle.js_data.specs.Event.{PlainEvent}
 use Rattle.js_frames.specs.Places.{plain_ground}
 use Rattle.bp_run.specs.Selecting.{live}
 use Rattle.bp_words.specs.Words.{draw_word}
 use Rattle.bp_log.specs.declared.options.Strategy as log
 use Rattle.bp_run.specs.Choosing.{choice}
-use Rattle.bp_select.specs.Answers.{AnswersAs, chosen_of}
+use Rattle.bp_select.specs.Answers.{AnswersAs, IsWithin, chosen_of}
 use Rattle.bp_floor.specs.Boards.{stand_of}
 use Rattle.bp_floor.specs.Floors.{PlainFloor, code_on}
 use Rattle.bp_floor.specs.Programs.{code_of}
@@ -24,3 +24,8 @@ returns-clause-chosen c =
     (subst (λ (q : List PlainEvent). AnswersAs (chosen_of q drawn) (choice (code_of f.ground.program f.options).has word c.strategy.result (live (code_of f.ground.program f.options) (stand_of f.board)) q c.args.draw.now.drawn) c.choose.result) c.as_slice.ensures
     (asked_at_rest (plain_ground f.ground) f.options f.board c.budget-budget.result (chosen_of c.as_slice.result.now drawn) (λ has ts. choice has word c.strategy.result ts c.as_slice.result.now c.args.draw.now.drawn) c.choose.result rests c.budget-budget.ensures.budget
     c.choose.ensures.chosen)))
+
+pub returns-clause-within : goal.returns-clause-within
+returns-clause-within c =
+    subst (λ (x : PlainFloor). IfOk c.choose.result (IsWithin (length x.pair.stand.queue))) c.self.view_is
+    (subst (λ (q : List PlainEvent). IfOk c.choose.result (IsWithin (length q))) c.as_slice.ensures c.choose.ensures.within)

@@ -1,4 +1,4 @@
-use Rattle.std.proofs.Common.{◌≡◌, ◌∙◌, List, Option, Ok, map, ap, sym, subst}
+use Rattle.std.proofs.Common.{◌≡◌, ◌∙◌, List, Option, Ok, length, map, ap, sym, subst}
 use Rattle.std.proofs.lemmas.Result.{err_from_is_err_and}
 use Rattle.js_value.specs.Value.{PlainSet}
 use Rattle.js_frames.specs.Places.{plain_ground}
@@ -10,7 +10,7 @@ use Rattle.bp_select.specs.declared.bench.Stated.{Stated}
 use Rattle.bp_select.specs.Lives.{live_of}
 use Rattle.bp_select.specs.Benches.{PlainBench}
 use Rattle.bp_select.specs.Free.{free_of}
-use Rattle.bp_select.proofs.Selects.{choice_of, choice_fault_at}
+use Rattle.bp_select.proofs.Selects.{choice_of, choice_fault_at, from_within, selectable_within}
 use Rattle.bp_select.proofs.bench.Bench.choose.Goals as goal
 
 pub returns-in_err-free-clause-chosen : goal.returns-in_err-free-clause-chosen
@@ -33,3 +33,11 @@ returns-clause-chosen c =
     ∙ ap (λ (o : Option Choice). Ok o)
     (sym (c.in_ok-chosen.ensures.chosen c.args.queue.now
     ∙ ap (λ (ts : List (Live PlainSet)). chosen word c.args.strategy ts c.args.queue.now d free.inner free.outer) again))
+
+pub returns-clause-within : goal.returns-clause-within
+returns-clause-within c =
+    let has = member (plain_ground c.args.ground.now) c.args.budget in
+    let free = free_of c.in_ok-free.free in
+    let here : map live_of c.as_slice.result.now ≡ c.args.self.now.live = ap (λ (ts : List Stated). map live_of ts) c.as_slice.ensures.value ∙ ap (λ (b : PlainBench). b.live) c.self.view_is in
+    from_within (length c.args.queue.now) free.outer _ c.in_ok-chosen.ensures.place
+    (λ i e. selectable_within has c.args.self.now.live c.args.queue.now free i (subst (λ (ts : List (Live PlainSet)). selectable has ts c.args.queue.now ≡ Ok free) here c.in_ok-free.ensures.free) e)

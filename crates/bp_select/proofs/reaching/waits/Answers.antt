@@ -1,7 +1,0 @@
-use Rattle.js_frames.specs.Places.{plain_ground}
-use Rattle.bp_meaning.specs.Membership.{member}
-use Rattle.bp_select.specs.Lives.{live_of}
-use Rattle.bp_select.proofs.reaching.waits.Goals as goal
-
-pub returns : goal.returns
-returns c = c.named.ensures (member (plain_ground c.args.ground.now) c.args.budget (live_of c.args.stated.now).statement.wait_for c.args.event.now) c.contains.ensures

@@ -1,0 +1,126 @@
+//! Programs whose top level has run, and jobs that are carried on to their outcomes.
+ghost use Rattle.std.specs.Prelude.{◌≡◌, IfOk, OnOk, None, true};
+ghost use Rattle.js_frames.specs.Places.{plain_ground};
+ghost use Rattle.bp_thread.specs.Jobs.{plain_job, IsOf, is_stopped as stops, is_ended as ends};
+
+use crate::lines::Lines;
+use bp_script::accept;
+use bp_thread::{Job, Outcome};
+use js_data::{Event, Text};
+use js_frames::{Effect, Effects, Ground};
+use js_program::{Mode, Program};
+use js_value::{Value, event_value};
+use std::alloc::{AllocError, Global};
+use std::test::Fail;
+
+/// The budget of every body and predicate of which nothing else is said.
+pub const BUDGET: u64 = 100;
+
+/// A program that registers one b-thread, in which the part of a line stands. `\n` there is the end of a line.
+pub fn script_of(alloc: Global, lines: Lines, cell: &str) -> Result<String, AllocError> {
+    let (head, tail) = match lines {
+        Lines::Sets => ("bp.sync({waitFor: ", "})"),
+        Lines::Statements => ("bp.sync(", ")"),
+        Lines::Threads(_) | Lines::Handlers => ("", ""),
+    };
+    let mut script = String::from_str(alloc, "bp.registerBThread('t', (e) => { ")?;
+    script.push_str(head)?;
+    for part in cell.split("\\n") {
+        script.push_str(part)?;
+        script.push('\n')?;
+    }
+    script.push_str(tail)?;
+    script.push_str("})")?;
+    Ok(script)
+}
+
+/// The program of a script.
+pub fn program_of(alloc: Global, script: &str) -> Result<Program, Fail> {
+    Ok(accept(alloc, script.as_bytes())?)
+}
+
+/// The event of this name.
+pub fn event(alloc: Global, name: &str) -> Result<Event, Fail> {
+    let name = Text::new(String::from_str(alloc, name)?);
+    Ok(Event::new(name, None)?)
+}
+
+/// Whether the job stopped.
+pub fn is_stopped(job: &Job) -> bool
+    ensures { result ≡ stops (plain_job job.now).outcome }
+{
+    match job.outcome() {
+        Some(Outcome::Stopped(_)) => true,
+        _ => false,
+    }
+}
+
+fn is_ended(job: &Job) -> bool
+    ensures { result ≡ ends (plain_job job.now).outcome }
+{
+    match job.outcome() {
+        Some(Outcome::Ended) => true,
+        _ => false,
+    }
+}
+
+/// Slices of so many nodes, up to the outcome.
+pub fn carry_on(job: &mut Job, ground: &Ground, nodes: u64) -> Result<(), Fail>
+    requires program { IsOf (plain_ground ground.now).program job.old }
+    requires open { (plain_job job.old).outcome ≡ None }
+    ensures program { IsOf (plain_ground ground.now).program job.new }
+{
+    for _ in 0..BUDGET + 2 {
+        if job.slice(ground, nodes)? {
+            return Ok(());
+        }
+    }
+    Err("no outcome")?
+}
+
+/// The function that was registered first.
+fn registered(effects: Effects) -> Option<Value> {
+    for effect in effects.items {
+        if let Effect::Register(_, function) = effect {
+            return Some(function);
+        }
+    }
+    None
+}
+
+/// The function that a top level registers first, which runs to its end.
+fn run_top(top: &mut Job, ground: &Ground) -> Result<Value, Fail>
+    requires program { IsOf (plain_ground ground.now).program top.old }
+    requires open { (plain_job top.old).outcome ≡ None }
+    ensures { OnOk result (ends (plain_job top.new).outcome ≡ true) }
+{
+    carry_on(top, ground, 7)?;
+    if !is_ended(top) {
+        return Err("the top level did not end")?;
+    }
+    Ok(registered(top.take_effects()).ok_or("no b-thread")?)
+}
+
+/// The function that a program registers first. The ground gets the constants that its top level leaves.
+pub fn first_function(alloc: Global, ground: &mut Ground) -> Result<Value, Fail> {
+    let mut top = Job::top(alloc, ground, BUDGET)?;
+    let function = run_top(&mut top, ground)?;
+    ground.fill(top.constants());
+    Ok(function)
+}
+
+/// A job of this function, which gets the event `e` as its argument.
+pub fn call(alloc: Global, ground: &Ground, function: Value, lines: Lines) -> Result<Job, Fail>
+    ensures program { IfOk result (λ j. IsOf (plain_ground ground.now).program j) }
+    ensures open { IfOk result (λ j. (plain_job j).outcome ≡ None) }
+{
+    let (mode, budget) = match lines {
+        Lines::Threads(budget) => (Mode::Thread, budget),
+        Lines::Handlers => (Mode::Handler, BUDGET),
+        Lines::Sets | Lines::Statements => (Mode::Thread, BUDGET),
+    };
+    let name = Text::new(String::from_str(alloc, "t")?);
+    let mut args = Vec::new(alloc);
+    args.push(event_value(alloc, event(alloc, "e")?)?)?;
+    Ok(Job::start(alloc, ground, 0, name, mode, function, args, budget)?)
+}
