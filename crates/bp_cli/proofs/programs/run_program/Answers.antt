@@ -1,10 +1,11 @@
-use Rattle.std.proofs.Common.{inr, refl}
+use Rattle.std.proofs.Common.{Err, ap, inr}
+use Rattle.bp_serve.specs.declared.fault.RunFault.{RunFault}
 use Rattle.bp_cli.proofs.Endings.{not_refused, run_front}
 use Rattle.bp_cli.proofs.programs.run_program.Goals as goal
 
 pub returns-in-Err-Write-clause-ends : goal.returns-in-Err-Write-clause-ends
 returns-in-Err-Write-clause-ends g c =
-    (c.in-Err-Write.ensures.cause refl, run_front c.args.bytes.now c.in-Ok.program c.defaults.result _ _ c.in-Ok.ensures.program c.defaults.ensures c.in-Err-Write.ensures.front)
+    (c.in-Err-Write.ensures.cause (ap (λ (x : RunFault). Err x) c.in-Err-Write.field-0-is), run_front c.args.bytes.now c.in-Ok.program c.defaults.result _ _ c.in-Ok.ensures.program c.defaults.ensures c.in-Err-Write.ensures.front)
 
 pub returns-in-Err-Memory-clause-ends : goal.returns-in-Err-Memory-clause-ends
 returns-in-Err-Memory-clause-ends g c =
