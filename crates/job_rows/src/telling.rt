@@ -170,8 +170,11 @@ pub fn told_by(
 {
     let mut out = String::new(alloc);
     push_slices(&mut out, alloc, ground, lines, job, nodes)?;
+    if !has_replies(lines) {
+        return Ok(out);
+    }
     for name in REPLIES {
-        if !is_stopped(job) || !has_replies(lines) {
+        if !is_stopped(job) {
             break;
         }
         job.give(&event(alloc, name)?)?;
