@@ -96,8 +96,12 @@ pub struct Rope<'a> {
 }
 
 impl<'a> Rope<'a> {
-    /// A rope of this bell, which has seen no ring. Takes no memory.
-    pub fn new(bell: &'a Bell) -> Rope<'a> {
+    ghost use Rattle.std.specs.Prelude.{◌≡◌};
+
+    /// A rope of this bell, which has seen no ring and no halt. Takes no memory.
+    pub fn new(bell: &'a Bell) -> Rope<'a>
+        ensures { result.halts ≡ 0 }
+    {
         Rope {
             bell,
             seen: 0,

@@ -8,9 +8,8 @@ mod bell;
 mod ends;
 
 pub use bell::{Bell, Rope, Wake};
-pub use ends::{Ear, Mouth};
-
 use bp_base::Memory;
+pub use ends::{Ear, Mouth};
 use rtrb::RingBuffer;
 use std::alloc::Global;
 

@@ -1,0 +1,177 @@
+-- How bytes are cut into lines, and what the items of a first line are.
+use Rattle.std.proofs.Common.{◌≡◌, ℕ, zero, suc, ◌+◌, ◌<◌, ◌≤◌, Bool, true, false, List, [], ◌∷◌, ◌++◌, Option, Some, None, length, take, drop, option_to_list, refl, sym, ap, ◌∙◌, append_assoc, length-append, length-take-le, arith}
+use Rattle.std.specs.Prelude.{◌==◌, nat_lt, slice_index, if◌then◌else◌}
+use Rattle.std.proofs.lemmas.Bool.{or_parts, or_from, or_left, or_right, false_from_ne_true}
+use Rattle.std.proofs.lemmas.Bool.Decides.{nat_tests}
+use Rattle.std.proofs.lemmas.List.{take-append-drop}
+use Rattle.std.proofs.lemmas.List.Folds.{list_any-append}
+use Rattle.js_data.specs.Event.{PlainEvent}
+use Rattle.js_json.specs.Json.{event_at}
+use Rattle.bp_log.specs.declared.item.Item.{Item}
+use Rattle.bp_log.specs.declared.item.Item.TheVariants.{Bad}
+use Rattle.bp_feeds.specs.declared.limits.TheConstants.{MOST_LINES, MOST_LENGTH}
+use Rattle.bp_feeds.specs.Reading.{IsTooLong}
+use Rattle.bp_feeds.specs.Items.{is_break, has_break, before_lines, lines_of, before_whole, whole_lines, is_past, is_blank, event_item, is_last, ends, has_fault, followed, item_of, items_from}
+
+pub unbroken_both : (xs ys : List ℕ) → has_break xs ≡ false → has_break ys ≡ false → has_break (xs ++ ys) ≡ false
+unbroken_both xs ys a b = list_any-append is_break xs ys ∙ or_from (has_break xs) (has_break ys) a b
+
+pub moved : (line block : List ℕ) (n : ℕ) → (line ++ take n block) ++ drop n block ≡ line ++ block
+moved line block n = append_assoc line (take n block) (drop n block) ∙ ap (λ l. line ++ l) (take-append-drop n block)
+
+pub lines_at_break : (xs rest : List ℕ) → has_break xs ≡ false → lines_of (xs ++ 10 ∷ rest) ≡ xs ∷ lines_of rest
+lines_at_break [] rest h = refl
+lines_at_break (b ∷ xs) rest h =
+    let p = or_parts (is_break b) (has_break xs) h in
+    let n : (b == 10) ≡ false = p.0 in
+    rw n (ap (before_lines b) (lines_at_break xs rest p.1))
+
+pub whole_at_break : (xs rest : List ℕ) → has_break xs ≡ false → whole_lines (xs ++ 10 ∷ rest) ≡ xs ∷ whole_lines rest
+whole_at_break [] rest h = refl
+whole_at_break (b ∷ xs) rest h =
+    let p = or_parts (is_break b) (has_break xs) h in
+    let n : (b == 10) ≡ false = p.0 in
+    rw n (ap (before_whole b) (whole_at_break xs rest p.1))
+
+-- bytes without LF are one line
+pub lines_unbroken : (b : ℕ) (xs : List ℕ) → has_break (b ∷ xs) ≡ false → lines_of (b ∷ xs) ≡ (b ∷ xs) ∷ []
+lines_unbroken b [] h = let n : (b == 10) ≡ false = (or_parts (is_break b) false h).0 in rw n refl
+lines_unbroken b (c ∷ xs) h =
+    let p = or_parts (is_break b) (has_break (c ∷ xs)) h in
+    let n : (b == 10) ≡ false = p.0 in
+    rw n (ap (before_lines b) (lines_unbroken c xs p.1))
+
+-- and no whole line
+pub whole_unbroken : (xs : List ℕ) → has_break xs ≡ false → whole_lines xs ≡ []
+whole_unbroken [] h = refl
+whole_unbroken (b ∷ xs) h =
+    let p = or_parts (is_break b) (has_break xs) h in
+    let n : (b == 10) ≡ false = p.0 in
+    rw n (ap (before_whole b) (whole_unbroken xs p.1))
+
+pub one_more : (b : ℕ) (lines : List (List ℕ)) → (line : List ℕ) × (more : List (List ℕ)) × (before_lines b lines ≡ (b ∷ line) ∷ more)
+one_more b [] = ([], [], refl)
+one_more b (line ∷ more) = (line, more, refl)
+
+no_break : (b : ℕ) (bytes : List ℕ) → is_break b ≡ false → lines_of (b ∷ bytes) ≡ before_lines b (lines_of bytes)
+no_break b bytes h = let n : (b == 10) ≡ false = h in rw n refl
+
+-- the first line goes on from its first bytes
+pub first_line : (b : ℕ) (xs rest : List ℕ) → has_break (b ∷ xs) ≡ false
+    → (line : List ℕ) × (more : List (List ℕ)) × (lines_of ((b ∷ xs) ++ rest) ≡ ((b ∷ xs) ++ line) ∷ more)
+first_line b [] rest h =
+    let o = one_more b (lines_of rest) in
+    (o.0, o.1, no_break b rest (or_parts (is_break b) false h).0 ∙ o.2)
+first_line b (c ∷ xs) rest h =
+    let p = or_parts (is_break b) (has_break (c ∷ xs)) h in
+    let o = first_line c xs rest p.1 in
+    (o.0, o.1, no_break b ((c ∷ xs) ++ rest) p.0 ∙ ap (before_lines b) o.2)
+
+pub followed_more : (item : Option Item) (tail : List Item) → ends item ≡ false → followed item tail ≡ option_to_list item ++ tail
+followed_more None tail h = refl
+followed_more (Some item) tail h = let e : is_last item ≡ false = h in rw e refl
+
+pub followed_last : (item : Option Item) (tail : List Item) → ends item ≡ true → followed item tail ≡ option_to_list item
+followed_last None tail h = cc
+followed_last (Some item) tail h = let e : is_last item ≡ true = h in rw e refl
+
+-- a line that is too long is bad
+pub past_is_bad : (number : ℕ) (line : List ℕ) → MOST_LENGTH < length line → item_of number line ≡ Some (Bad number)
+unfolding item_of
+past_is_bad number line long =
+    let much : nat_lt MOST_LENGTH (length line) ≡ true = grind (arith, nat_tests) in
+    let e : is_past number line ≡ true = or_right (nat_lt MOST_LINES number) (nat_lt MOST_LENGTH (length line)) much in
+    rw e refl
+
+-- and so is one whose number is past the limit
+pub many_is_bad : (number : ℕ) (line : List ℕ) → MOST_LINES < number → item_of number line ≡ Some (Bad number)
+unfolding item_of
+many_is_bad number line many =
+    let much : nat_lt MOST_LINES number ≡ true = grind (arith, nat_tests) in
+    let e : is_past number line ≡ true = or_left (nat_lt MOST_LINES number) (nat_lt MOST_LENGTH (length line)) much in
+    rw e refl
+
+not_past : (number : ℕ) (line : List ℕ) → number ≤ MOST_LINES → length line ≤ MOST_LENGTH → is_past number line ≡ false
+not_past number line few short =
+    let a : nat_lt MOST_LINES number ≡ false = grind (arith, nat_tests) in
+    let b : nat_lt MOST_LENGTH (length line) ≡ false = grind (arith, nat_tests) in
+    or_from (nat_lt MOST_LINES number) (nat_lt MOST_LENGTH (length line)) a b
+
+pub judged_blank : (number : ℕ) (line : List ℕ) → number ≤ MOST_LINES → length line ≤ MOST_LENGTH → is_blank line ≡ true → None ≡ item_of number line
+unfolding item_of
+judged_blank number line few short blank =
+    let e : is_past number line ≡ false = not_past number line few short in
+    rw (e, blank) refl
+
+pub judged_event : (number : ℕ) (line : List ℕ) (o : Option PlainEvent) → number ≤ MOST_LINES → length line ≤ MOST_LENGTH → is_blank line ≡ false → event_at line ≡ o
+    → Some (event_item number o) ≡ item_of number line
+unfolding item_of
+judged_event number line o few short blank at =
+    let e : is_past number line ≡ false = not_past number line few short in
+    rw (e, blank) (ap (λ x. Some (event_item number x)) (sym at))
+
+within_in : (past blank : Bool) (o : Option PlainEvent) (n : ℕ) → ends (if past then Some (Bad n) else (if blank then None else Some (event_item n o))) ≡ false → past ≡ false
+within_in true blank o n h = h
+within_in false blank o n h = refl
+
+-- a line that goes on has a number within the limit
+pub counted : (number : ℕ) (line : List ℕ) (item : Option Item) → item ≡ item_of number line → ends item ≡ false → number ≤ MOST_LINES
+unfolding item_of
+counted number line item is e =
+    let past : is_past number line ≡ false = within_in (is_past number line) (is_blank line) (event_at line) number (ap ends (sym is) ∙ e) in
+    let few : nat_lt MOST_LINES number ≡ false = (or_parts (nat_lt MOST_LINES number) (nat_lt MOST_LENGTH (length line)) past).0 in
+    grind (arith, nat_tests)
+
+sound_in : (past blank : Bool) (o : Option PlainEvent) (n : ℕ) → has_fault (option_to_list (if past then Some (Bad n) else (if blank then None else Some (event_item n o)))) ≡ false
+sound_in true blank o n = refl
+sound_in false true o n = refl
+sound_in false false None n = refl
+sound_in false false (Some e) n = refl
+
+-- no line is a fault of the source
+pub sound : (number : ℕ) (line : List ℕ) (item : Option Item) → item ≡ item_of number line → has_fault (option_to_list item) ≡ false
+unfolding item_of
+sound number line item is = ap (λ i. has_fault (option_to_list i)) is ∙ sound_in (is_past number line) (is_blank line) (event_at line) number
+
+-- bytes before the first LF
+pub front_taken : (bytes : List ℕ) (n : ℕ) → ((k : ℕ) → 0 ≤ k → k < n → ¬ (is_break (slice_index bytes k) ≡ true)) → has_break (take n bytes) ≡ false
+front_taken [] zero h = refl
+front_taken [] (suc n) h = refl
+front_taken (b ∷ bytes) zero h = refl
+front_taken (b ∷ bytes) (suc n) h =
+    or_from (is_break b) (has_break (take n bytes)) (false_from_ne_true (is_break b) (h 0 (omega arith) (omega arith)))
+    (front_taken bytes n (λ k l m. h (suc k) (omega arith) (omega arith)))
+
+pub too_long_front : (line block rest : List ℕ) (n : ℕ) → rest ≡ block → has_break line ≡ false → has_break (take n rest) ≡ false → n ≤ length rest
+    → MOST_LENGTH < length line + n → IsTooLong (line ++ block)
+too_long_front line block rest n e u v within long = record {
+  front = line ++ take n rest;
+  behind = drop n rest;
+  all = ap (λ b. line ++ b) (sym e) ∙ sym (moved line rest n);
+  unbroken = unbroken_both line (take n rest) u v;
+  long = omega (arith, long, within, length-append line (take n rest), length-take-le n rest within);
+}
+
+pub bytes_same : (passed line more : List ℕ) → passed ++ (line ++ 10 ∷ more) ≡ (passed ++ (line ++ 10 ∷ [])) ++ more
+bytes_same passed line more = ap (λ l. passed ++ l) (sym (append_assoc line (10 ∷ []) more)) ∙ sym (append_assoc passed (line ++ 10 ∷ []) more)
+
+-- what holds of the bytes behind the lines so far holds of the bytes behind one line more
+pub line_front : (given : List Item) (passed line : List ℕ) (number : ℕ) (item : Option Item) (cut : List ℕ → List (List ℕ))
+    → ((rest : List ℕ) → cut (line ++ 10 ∷ rest) ≡ line ∷ cut rest) → item ≡ item_of number line → ends item ≡ false
+    → ((more : List ℕ) (last : Item) → given ++ items_from (cut more) number last ≡ items_from (cut (passed ++ more)) 1 last)
+    → (more : List ℕ) (last : Item) → (given ++ option_to_list item) ++ items_from (cut more) (number + 1) last ≡ items_from (cut ((passed ++ (line ++ 10 ∷ [])) ++ more)) 1 last
+line_front given passed line number item cut at is e w more last =
+    let tail = items_from (cut more) (number + 1) last in
+    append_assoc given (option_to_list item) tail
+    ∙ ap (λ l. given ++ l) (sym (followed_more item tail e))
+    ∙ ap (λ i. given ++ followed i tail) is
+    ∙ ap (λ c. given ++ items_from c number last) (sym (at more))
+    ∙ w (line ++ 10 ∷ more) last
+    ∙ ap (λ b. items_from (cut b) 1 last) (bytes_same passed line more)
+
+-- what is held once a line and its LF were taken
+pub held_behind : (line block skipped more : List ℕ) → line ≡ [] → skipped ≡ drop 1 block → block ≡ 10 ∷ more → line ++ skipped ≡ more
+held_behind line block skipped more e s b = ap (λ l. l ++ skipped) e ∙ s ∙ ap (drop 1) b
+
+pub unbroken_behind : (line block : List ℕ) → has_break line ≡ false → block ≡ [] → has_break (line ++ block) ≡ false
+unbroken_behind line block u e = unbroken_both line block u (ap has_break e)

@@ -1,0 +1,87 @@
+-- How a feed goes on.
+use Rattle.std.proofs.Common.{◌≡◌, ◌⊎◌, inl, inr, ⊎_elim, ℕ, ◌≤◌, true, List, [], ◌∷◌, ◌++◌, Option, Some, None, option_to_list, sym, ap, ◌∙◌, subst, append_assoc, append-nil, arith}
+use Rattle.std.proofs.lemmas.Bool.{or_cases}
+use Rattle.std.proofs.lemmas.List.Folds.{list_any-append}
+use Rattle.bp_base.specs.Counts.{Rose}
+use Rattle.bp_lanes.specs.Lanes.{offered, IsSameMouth}
+use Rattle.bp_log.specs.declared.item.Item.{Item}
+use Rattle.bp_feeds.specs.declared.lines.Lines.{Lines}
+use Rattle.bp_feeds.specs.declared.feed.Feed.{Feed}
+use Rattle.bp_feeds.specs.Items.{is_fault, has_fault}
+use Rattle.bp_feeds.specs.Reading.{Reading, HasRead, ReadsOn, IsSameReading}
+use Rattle.bp_feeds.specs.Feeds.{reading_of, given, GoesOn}
+use Rattle.bp_feeds.proofs.Within.{same_read}
+
+-- a count that rose has risen when it rises on, and so has one that rises later
+pub rose_on : (a b c : ℕ) → Rose a b → a ≤ b → b ≤ c → Rose a c
+rose_on a b c r from more = grind arith
+
+pub rose_from : (a b c : ℕ) → Rose b c → a ≤ b → Rose a c
+rose_from a b c r from = grind arith
+
+-- nothing was read
+pub reads_nothing : (r : Reading) → ReadsOn r [] r
+reads_nothing r = record { kept = λ bytes given h. subst (λ l. HasRead bytes l r) (sym (append-nil given)) h }
+
+pub reads_same : (old new : Reading) → IsSameReading old new → ReadsOn old [] new
+reads_same old new s = record { kept = λ bytes given h. subst (λ l. HasRead bytes l new) (sym (append-nil given)) (same_read bytes given old new s h) }
+
+faults_of : (xs ys zs : List Item) → zs ≡ xs ++ ys → has_fault zs ≡ true → (has_fault xs ≡ true) ⊎ (has_fault ys ≡ true)
+faults_of xs ys zs is h = or_cases (has_fault xs) (has_fault ys) (sym (list_any-append is_fault xs ys) ∙ ap has_fault (sym is) ∙ h)
+
+module _ {S : Type 0} (left : S → Option (List ℕ)) (faults : S → ℕ) where
+  -- a step that gave these items more
+  pub goes_more : (old new : Feed S) (more : List Item) → IsSameMouth old.mouth new.mouth → given new ≡ given old ++ more
+      → ReadsOn (reading_of left old.lines) more (reading_of left new.lines)
+      → (has_fault more ≡ true → Rose (faults old.lines.source) (faults new.lines.source)) → faults old.lines.source ≤ faults new.lines.source
+      → GoesOn left faults old new
+  goes_more old new more lane all reads cause counts = record {
+    lane = lane;
+    stands = λ bytes before s. record {
+      gave = s.gave ++ more;
+      all = all ∙ ap (λ l. l ++ more) s.all ∙ append_assoc before s.gave more;
+      read = reads.kept bytes s.gave s.read;
+    };
+    cause = λ h. ⊎_elim (λ (a : has_fault (given old) ≡ true). inl a) (λ (b : has_fault more ≡ true). inr (cause b)) (faults_of (given old) more (given new) all h);
+    counts = counts;
+  }
+
+  -- a step that read nothing
+  pub goes_same : (old new : Feed S) → IsSameMouth old.mouth new.mouth → given new ≡ given old → new.lines ≡ old.lines → GoesOn left faults old new
+  goes_same old new lane all lines =
+      goes_more old new [] lane (all ∙ sym (append-nil (given old)))
+      (subst (λ l. ReadsOn (reading_of left old.lines) [] (reading_of left l)) (sym lines) (reads_nothing (reading_of left old.lines)))
+      (λ h. cc) (omega (arith, ap (λ l. faults l.source) lines))
+
+  pub gave_item : (old new : Feed S) (item : Item) → old.kept ≡ None → given new ≡ offered old.mouth ++ item ∷ [] → given new ≡ given old ++ item ∷ []
+  gave_item old new item none all =
+      let gave : given old ≡ offered old.mouth = ap (λ k. offered old.mouth ++ option_to_list k) none ∙ append-nil (offered old.mouth) in
+      all ∙ ap (λ l. l ++ item ∷ []) (sym gave)
+
+  -- a step that read an item and offered or kept it
+  pub goes_item : (old new : Feed S) (mid : Lines S) (item : Item) (o : Option Item) → IsSameMouth old.mouth new.mouth → old.kept ≡ None
+      → given new ≡ offered old.mouth ++ item ∷ [] → new.lines ≡ mid → o ≡ Some item
+      → ReadsOn (reading_of left old.lines) (option_to_list o) (reading_of left mid)
+      → (has_fault (option_to_list o) ≡ true → Rose (faults old.lines.source) (faults mid.source)) → faults old.lines.source ≤ faults mid.source
+      → GoesOn left faults old new
+  goes_item old new mid item o lane none all lines is reads cause counts =
+      let gave : given old ≡ offered old.mouth = ap (λ k. offered old.mouth ++ option_to_list k) none ∙ append-nil (offered old.mouth) in
+      let read : ReadsOn (reading_of left old.lines) (item ∷ []) (reading_of left mid) =
+      subst (λ x. ReadsOn (reading_of left old.lines) (option_to_list x) (reading_of left mid)) is reads in
+      let caused : has_fault (item ∷ []) ≡ true → Rose (faults old.lines.source) (faults mid.source) =
+      subst (λ x. has_fault (option_to_list x) ≡ true → Rose (faults old.lines.source) (faults mid.source)) is cause in
+      goes_more old new (item ∷ []) lane (all ∙ ap (λ l. l ++ item ∷ []) (sym gave))
+      (subst (λ l. ReadsOn (reading_of left old.lines) (item ∷ []) (reading_of left l)) (sym lines) read)
+      (subst (λ l. has_fault (item ∷ []) ≡ true → Rose (faults old.lines.source) (faults l.source)) (sym lines) caused)
+      (subst (λ l. faults old.lines.source ≤ faults l.source) (sym lines) counts)
+
+  pub goes_on : (a b c : Feed S) → IsSameMouth a.mouth c.mouth → GoesOn left faults a b → GoesOn left faults b c → GoesOn left faults a c
+  goes_on a b c lane x y = record {
+    lane = lane;
+    stands = λ bytes before s. y.stands bytes before (x.stands bytes before s);
+    cause = λ h. ⊎_elim
+        (λ (k : has_fault (given b) ≡ true). ⊎_elim (λ (g : has_fault (given a) ≡ true). inl g)
+        (λ (r : Rose (faults a.lines.source) (faults b.lines.source)). inr (rose_on (faults a.lines.source) (faults b.lines.source) (faults c.lines.source) r x.counts y.counts)) (x.cause k))
+        (λ (r : Rose (faults b.lines.source) (faults c.lines.source)). inr (rose_from (faults a.lines.source) (faults b.lines.source) (faults c.lines.source) r x.counts)) (y.cause h);
+    counts = omega (arith, x.counts, y.counts);
+  }

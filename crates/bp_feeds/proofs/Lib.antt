@@ -1,0 +1,4 @@
+pub mod Cuts
+pub mod Within
+pub mod Going
+mod Rows

@@ -1,0 +1,74 @@
+//! A block of bytes, as a read gave it.
+ghost use Rattle.std.specs.Prelude.{◌≡◌, ◌≤◌, [], length, drop, IfOk, OnOk, OnErr, IfSome};
+ghost use Rattle.bp_base.specs.Counts.{Rose};
+ghost use Rattle.bp_base.specs.Pieces.{Gives};
+
+use bp_base::{Failed, Source};
+use std::marker::Model;
+
+/// How many bytes a read may give at once.
+const SIZE: usize = 4096;
+
+/// The bytes of the last read that were not yet taken. Contracts see it as the list of them.
+#[derive(Drop)]
+pub struct Block {
+    bytes: [u8; 4096],
+    at: usize,
+    end: usize,
+}
+
+impl Model for Block {
+    ghost use Rattle.std.specs.Prelude.{ℕ, List, ◌≤◌, drop, take};
+
+    ghost Value = { List ℕ };
+
+    ghost view = { λ b. drop b.at (take b.end b.bytes) };
+
+    ghost invariant = { λ b. (b.at ≤ b.end) × (b.end ≤ 4096) };
+}
+
+impl Block {
+    /// No bytes.
+    pub fn new() -> Block
+        ensures { result ≡ [] }
+    {
+        Block {
+            bytes: [0; SIZE],
+            at: 0,
+            end: 0,
+        }
+    }
+
+    /// The bytes that were not yet taken.
+    pub fn rest(&self) -> &[u8]
+        ensures { result.now ≡ self.now }
+    {
+        &self.bytes[self.at..self.end]
+    }
+
+    /// Takes so many bytes.
+    pub fn skip(&mut self, count: usize)
+        requires { count ≤ length self.old }
+        ensures { self.new ≡ drop count self.old }
+    {
+        self.at += count;
+    }
+
+    /// Asks the source for more bytes, and answers how many came. That none came means that none is left.
+    pub fn fill<S: Source>(&mut self, source: &mut S) -> Result<usize, Failed>
+        requires { self.old ≡ [] }
+        ensures given { OnOk result (Gives (S.left source.old) self.new (S.left source.new)) }
+        ensures count { IfOk result (λ n. length self.new ≡ n) }
+        ensures end { IfOk result (λ n. n ≡ 0 → IfSome (S.left source.old) (λ bytes. bytes ≡ [])) }
+
+        ensures none { OnErr result (self.new ≡ []) }
+        ensures failed { OnErr result (S.left source.new ≡ S.left source.old) }
+        ensures cause { OnErr result (Rose (S.faults source.old) (S.faults source.new)) }
+        ensures counts { S.faults source.old ≤ S.faults source.new }
+    {
+        self.at = 0;
+        self.end = 0;
+        self.end = source.read(&mut self.bytes)?;
+        Ok(self.end)
+    }
+}

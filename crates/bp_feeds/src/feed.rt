@@ -1,0 +1,135 @@
+//! A feed reads the lines of a source and offers their items on a lane.
+ghost use Rattle.std.specs.Prelude.{◌≡◌, ◌⊎◌, ◌↔◌, ◌+◌, [], ◌∷◌, ◌++◌, None, Ok, true, false, IfOk, OnErr, IfSome, IsSome};
+ghost use Rattle.bp_lanes.specs.Lanes.{offered, free, IsSameMouth};
+ghost use Rattle.bp_feeds.specs.Items.{has_break};
+ghost use Rattle.bp_feeds.specs.Reading.{IsSameReading};
+
+use crate::lines::Lines;
+use bp_base::{Memory, Source};
+use bp_lanes::Mouth;
+use bp_log::Item;
+use std::alloc::Global;
+
+/// A source with the mouth of a lane, on which the items of its lines are offered.
+#[derive(Drop)]
+pub struct Feed<S> {
+    lines: Lines<S>,
+    mouth: Mouth,
+    // An item that found no place.
+    kept: Option<Item>,
+}
+
+/// What a turn did.
+#[derive(Clone, Copy, Debug, PartialEq, Eq)]
+pub enum Fed {
+    /// An item found no place and is kept.
+    Full,
+    /// The last item was offered.
+    Over,
+    /// An item was offered that is not the last, or a line was skipped.
+    Went,
+}
+
+impl<S: Source> Feed<S> {
+    ghost use Rattle.bp_feeds.specs.Feeds.{reading_of, given, is_over as feed_is_over, StandsTo, GoesOn};
+
+    /// A feed that has read nothing. It takes no memory; its turns do.
+    pub fn new(alloc: Global, source: S, mouth: Mouth) -> Feed<S>
+        ensures parts { (result.lines.source ≡ source) × (result.mouth ≡ mouth) × (result.kept ≡ None) }
+        ensures fresh { feed_is_over result ≡ false }
+        ensures stands { IfSome (S.left source) (λ bytes. StandsTo S.left bytes (offered mouth) result) }
+    {
+        Feed {
+            lines: Lines::new(alloc, source),
+            mouth,
+            kept: None,
+        }
+    }
+
+    /// The source and the mouth, as the turns left them.
+    pub fn back(self) -> (S, Mouth)
+        ensures { (result.0 ≡ self.lines.source) × (result.1 ≡ self.mouth) }
+    {
+        let Feed {
+            lines,
+            mouth,
+            kept: _,
+        } = self;
+        (lines.back(), mouth)
+    }
+
+    /// Whether the last item was offered.
+    pub fn is_over(&self) -> bool
+        ensures { result ≡ feed_is_over self.now }
+    {
+        self.lines.is_read() && self.kept.is_none()
+    }
+
+    // Offers the item, or keeps it.
+    fn hand_over(&mut self, item: Item) -> Fed
+        requires { self.old.kept ≡ None }
+        ensures lane { IsSameMouth self.old.mouth self.new.mouth }
+        ensures lines { self.new.lines ≡ self.old.lines }
+        ensures given { given self.new ≡ offered self.old.mouth ++ item ∷ [] }
+        ensures kept { (result ≡ Fed.Full) ↔ IsSome self.new.kept }
+        ensures full { result ≡ Fed.Full → free self.new.mouth ≡ 0 }
+        ensures over { (result ≡ Fed.Over) ↔ (feed_is_over self.new ≡ true) }
+    {
+        match self.mouth.offer(item) {
+            Ok(()) => {
+                if self.lines.is_read() {
+                    Fed::Over
+                } else {
+                    Fed::Went
+                }
+            }
+            Err(item) => {
+                self.kept = Some(item);
+                Fed::Full
+            }
+        }
+    }
+
+    /// Makes one turn: offers the item that is kept, or else reads to the end of one line and offers its item.
+    /// An item that finds no place is kept.
+    ///
+    /// # Errors
+    ///
+    /// Want of memory, and then nothing was offered and the feed has the same to give.
+    pub fn turn(&mut self) -> Result<Fed, Memory>
+        requires { feed_is_over self.old ≡ false }
+        ensures goes_on { GoesOn S.left S.faults self.old self.new }
+        ensures first { IsSome self.old.kept → self.new.lines ≡ self.old.lines }
+        ensures one { IfOk result (λ _. (given self.new ≡ given self.old)
+            ⊎ ((item : Item) × (given self.new ≡ given self.old ++ item ∷ []))) }
+
+        ensures kept { IfOk result (λ fed. (fed ≡ Fed.Full) ↔ IsSome self.new.kept) }
+        ensures full { result ≡ Ok Fed.Full → free self.new.mouth ≡ 0 }
+        ensures over { IfOk result (λ fed. (fed ≡ Fed.Over) ↔ (feed_is_over self.new ≡ true)) }
+        ensures went { result ≡ Ok Fed.Went
+            → ((item : Item) × (offered self.new.mouth ≡ offered self.old.mouth ++ item ∷ []))
+            ⊎ (self.new.lines.number ≡ self.old.lines.number + 1) }
+
+        ensures memory { OnErr result
+            (IsSameReading (reading_of S.left self.old.lines) (reading_of S.left self.new.lines)) }
+        ensures nothing { OnErr result ((self.new.mouth ≡ self.old.mouth) × (self.new.kept ≡ self.old.kept)) }
+        ensures asks { has_break (self.old.lines.line.items ++ self.old.lines.block) ≡ true
+            → self.new.lines.source ≡ self.old.lines.source }
+    {
+        if let Some(item) = self.kept.take() {
+            return Ok(self.hand_over(item));
+        }
+        match self.lines.next()? {
+            Some(item) => Ok(self.hand_over(item)),
+            None => Ok(Fed::Went),
+        }
+    }
+}
+
+/// Takes only what may move to another thread.
+fn is_send<T: Send>(_value: &T) {}
+
+/// A feed may move to another thread where its source may.
+pub fn moves_between_threads<S: Source + Send>(feed: &Feed<S>) {
+    is_send(feed);
+}

@@ -1,0 +1,7 @@
+//! The limits of an injector.
+
+/// The most lines of an injector.
+pub const MOST_LINES: u32 = 16_777_216;
+
+/// The most bytes of a line, without the LF that ends it.
+pub const MOST_LENGTH: usize = 32_768;
