@@ -1,0 +1,48 @@
+-- A header from its three parts.
+use Rattle.std.proofs.Common.{◌≡◌, ℕ, List, Option, Some, None, Result, Ok, Err, refl}
+use Rattle.std.specs.Prelude.{IfSome, IsSomeAnd, codes}
+use Rattle.bp_log.specs.Options.{PlainOptions}
+use Rattle.bp_log.specs.Header.{PlainHeader}
+use Rattle.bp_log.specs.declared.limits.TheConstants.{MOST_BYTES}
+use Rattle.bp_reading.specs.Heads.{Refusal, version, header, record_line, cut, options_at, field_at, program_at, header_at}
+use Rattle.bp_reader.specs.declared.fault.LogFault.{LogFault}
+use Rattle.bp_reader.specs.declared.fault.LogFault.TheVariants as fault
+use Rattle.bp_reader.specs.Gets.{MeansRead, Gets}
+
+-- what refuses a part refuses the whole
+refused_too : {X Y : Type 0} (f : LogFault) (part : Result (X × List ℕ) Refusal) (all : Result (Y × List ℕ) Refusal) →
+    ((e : Refusal) → part ≡ Err e → all ≡ Err e) → MeansRead f part → MeansRead f all
+refused_too fault.Version part all h m = h version m
+refused_too fault.Header part all h m = h header m
+refused_too (fault.Line n) part all h m = h (record_line n) m
+refused_too fault.Cut part all h m = h cut m
+refused_too fault.Read part all h m = tt
+refused_too fault.Memory part all h m = tt
+
+-- the options were read, and the size
+abbrev pub Sized : Option (List ℕ) → Option (List ℕ) → Option (List ℕ) → PlainOptions → ℕ → Type 0
+Sized first second third options size =
+    IfSome first (λ bytes. IsSomeAnd second (λ rest. options_at bytes ≡ Ok (options, rest)))
+    × IfSome second (λ bytes. IsSomeAnd third (λ rest. field_at (codes "program ") 0 MOST_BYTES bytes ≡ Ok (size, rest)))
+
+pub program_refused : (first second third last : Option (List ℕ)) (options : PlainOptions) (size : ℕ) (f : LogFault) (r : Result PlainHeader LogFault) →
+    Sized first second third options size → IfSome third (λ bytes. MeansRead f (program_at size bytes)) → r ≡ Err f →
+    IfSome first (λ bytes. Gets (λ (h : PlainHeader). h) r (header_at bytes) last)
+unfolding header_at
+program_refused None second third last options size f r h m e = tt
+program_refused (Some bytes) None third last options size f r h m e = absurd h.0
+program_refused (Some bytes) (Some more) None last options size f r h m e = absurd h.1
+program_refused (Some bytes) (Some more) (Some rest) last options size f r h m e =
+    rw e (refused_too f (program_at size rest) (header_at bytes) (λ x q. rw (h.0, h.1, q) refl) m)
+
+pub program_found : (first second third last : Option (List ℕ)) (options : PlainOptions) (size : ℕ) (program : List ℕ) (r : Result PlainHeader LogFault) →
+    Sized first second third options size →
+    IfSome third (λ bytes. IsSomeAnd last (λ rest. program_at size bytes ≡ Ok (program, rest))) →
+    r ≡ Ok (record { options = options; program = program }) →
+    IfSome first (λ bytes. Gets (λ (h : PlainHeader). h) r (header_at bytes) last)
+unfolding header_at
+program_found None second third last options size program r h m e = tt
+program_found (Some bytes) None third last options size program r h m e = absurd h.0
+program_found (Some bytes) (Some more) None last options size program r h m e = absurd h.1
+program_found (Some bytes) (Some more) (Some rest) None options size program r h m e = absurd m
+program_found (Some bytes) (Some more) (Some rest) (Some left) options size program r h m e = rw e (rw (h.0, h.1, m) refl)

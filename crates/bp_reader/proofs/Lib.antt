@@ -1,0 +1,3 @@
+pub mod Along
+pub mod Programs
+pub mod Headed

@@ -1,0 +1,27 @@
+use Rattle.std.proofs.Common.{ℕ, ◌+◌, ◌-◌, arith, length-append}
+use Rattle.bp_reader.proofs.Programs.{ends, longer, whole, wrong}
+use Rattle.bp_reader.proofs.head.program_of.Goals as goal
+
+pub returns-in-Ok-None-clause-gets : goal.returns-in-Ok-None-clause-gets
+returns-in-Ok-None-clause-gets g c =
+    ends _ _ _ c.args.size (c.args.size - c.loop.counter) c.loop.program.items c.loop.invariant.so_far (rw c.in-Ok-None.field-0-is at c.in-Ok-None.ensures.given)
+
+pub loop-preserved : goal.loop-preserved
+loop-preserved g c = record {
+  so_far = rw c.in_ok-push-in-Ok-Some.ensures.items
+      (longer c.args.input.now.left c.loop.input.left c.byte.new.self.left c.args.size (c.args.size - c.loop.counter) (c.args.size - (c.loop.counter + 1)) c.loop.program.items c.in-Ok-Some.byte c.loop.invariant.so_far (rw c.in-Ok-Some.field-0-is at c.in-Ok-Some.ensures.given) (omega (arith, c.loop-test.true)));
+  taken = rw c.in_ok-push-in-Ok-Some.ensures.items (omega (arith, length-append {A = ℕ}, c.loop.invariant.taken));
+  counts = omega (arith, c.byte.ensures.counts, c.loop.invariant.counts);
+}
+
+pub returns-in-Ok-None-byte-clause-gets : goal.returns-in-Ok-None-byte-clause-gets
+returns-in-Ok-None-byte-clause-gets g c =
+    ends _ _ _ c.args.size (c.args.size - c.loop.counter) c.loop.program.items c.loop.invariant.so_far (rw c.in-Ok-None-byte.field-0-is at c.in-Ok-None-byte.ensures.given)
+
+pub returns-in-Ok-Some-eq10-clause-gets : goal.returns-in-Ok-Some-eq10-clause-gets
+returns-in-Ok-Some-eq10-clause-gets g c =
+    whole _ _ _ c.args.size (c.args.size - c.loop.counter) c.loop.program.items c.loop.invariant.so_far (rw c.in-Ok-Some-eq10.field-0-0-test at (rw c.in-Ok-Some-eq10.field-0-is at c.in-Ok-Some-eq10.ensures.given)) (omega (arith, c.loop-test.false))
+
+pub returns-in-Ok-Some-byte-clause-gets : goal.returns-in-Ok-Some-byte-clause-gets
+returns-in-Ok-Some-byte-clause-gets g c =
+    wrong _ _ _ c.args.size (c.args.size - c.loop.counter) c.loop.program.items c.in-Ok-Some-byte.field-0-0 c.loop.invariant.so_far (rw c.in-Ok-Some-byte.field-0-is at c.in-Ok-Some-byte.ensures.given) c.in-Ok-Some-byte.field-0-0-test.1 (omega (arith, c.loop-test.false))

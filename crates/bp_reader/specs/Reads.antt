@@ -1,0 +1,45 @@
+-- What a reader of a log tells.
+use Rattle.std.specs.Prelude.{◌≡◌, ℕ, List, [], Option, Some, None, Result, Ok, Err, IsSomeAnd}
+use Rattle.bp_log.specs.declared.record.Record.{Record}
+use Rattle.bp_reading.specs.Heads.{version, header, record_line, cut}
+use Rattle.bp_reading.specs.Reading.{Stage, Next, found, finished, refused, after as stage_after}
+use Rattle.bp_reader.specs.declared.fault.LogFault.{LogFault}
+use Rattle.bp_reader.specs.declared.fault.LogFault.TheVariants as fault
+
+-- where a reader stands: the bytes still to come, where the source tells them, how often it failed, what is
+-- known of the records before, and what was refused
+pub record Standing : Type 0 where
+  pub left : Option (List ℕ)
+  pub faults : ℕ
+  pub stage : Stage
+  pub refusal : Option LogFault
+
+-- the fault is what stands next; one of reading or memory says nothing
+abbrev pub MeansNext : LogFault → Next → Type 0
+MeansNext fault.Version next = next ≡ refused version
+MeansNext fault.Header next = next ≡ refused header
+MeansNext (fault.Line n) next = next ≡ refused (record_line n)
+MeansNext fault.Cut next = next ≡ refused cut
+MeansNext fault.Read next = Unit {0}
+MeansNext fault.Memory next = Unit {0}
+
+-- the answer is what stands next in the bytes; behind the end nothing is left
+abbrev pub Tells : Result (Option Record) LogFault → Next → Option (List ℕ) → Type 0
+Tells (Ok (Some r)) next after = IsSomeAnd after (λ rest. next ≡ found r rest)
+Tells (Ok None) next after = (next ≡ finished) × (after ≡ Some [])
+Tells (Err f) next after = MeansNext f next
+
+abbrev pub TellsRecord : Result Record LogFault → Next → Option (List ℕ) → Type 0
+TellsRecord (Ok r) next after = IsSomeAnd after (λ rest. next ≡ found r rest)
+TellsRecord (Err f) next after = MeansNext f next
+
+-- the stage after an answer
+abbrev pub IsStageAfter : Stage → Result (Option Record) LogFault → Stage → Type 0
+IsStageAfter before (Ok (Some r)) s = s ≡ stage_after before r
+IsStageAfter before (Ok None) s = s ≡ before
+IsStageAfter before (Err f) s = s ≡ before
+
+-- a refusal is kept
+abbrev pub IsRefusalAfter : Result (Option Record) LogFault → Option LogFault → Type 0
+IsRefusalAfter (Ok x) kept = kept ≡ None
+IsRefusalAfter (Err f) kept = kept ≡ Some f

@@ -1,0 +1,130 @@
+//! What is known of the records that were read.
+ghost use Rattle.std.specs.Prelude.{◌≡◌, ◌<◌, ◌+◌, IfOk, OnErr, nat_le};
+ghost use Rattle.bp_reading.specs.Reading.{is_live as live, is_known as known, can_stand as stands, after, next_record, first_stage};
+
+use crate::LogFault;
+use bp_lines::record_of;
+use bp_log::{Memory, Record, Verdict};
+use bp_reading::limits::MOST_RECORDS;
+use std::alloc::Global;
+use std::marker::Model;
+
+/// What is known of the records before.
+#[derive(Drop)]
+pub struct Progress {
+    injectors: u32,
+    over: Vec<u32>,
+    lines: u32,
+    ended: bool,
+}
+
+impl Model for Progress {
+    ghost use Rattle.bp_reading.specs.Reading.{Stage};
+    ghost use Rattle.bp_reading.specs.declared.limits.TheConstants.{MOST_RECORDS};
+    ghost use Rattle.std.specs.Prelude.{◌≤◌};
+
+    ghost Value = { Stage };
+
+    ghost view = { λ p. record { injectors = p.injectors; over = p.over.items; lines = p.lines; ended = p.ended } };
+
+    ghost invariant = { λ p. p.lines ≤ MOST_RECORDS };
+}
+
+impl Progress {
+    /// Nothing is read yet, and there are so many injectors. Takes no memory.
+    pub fn new(alloc: Global, injectors: u32) -> Progress
+        ensures { result ≡ first_stage injectors }
+    {
+        Progress {
+            injectors,
+            over: Vec::new(alloc),
+            lines: 0,
+            ended: false,
+        }
+    }
+
+    /// Whether the injector is there and hasn't ended.
+    fn is_live(&self, injector: u32) -> bool
+        ensures { result ≡ live self.now injector }
+    {
+        let some = injector < self.injectors;
+        some & !self.over.contains(&injector)
+    }
+
+    /// Whether the verdict names no injector that isn't there.
+    fn is_known(&self, verdict: &Verdict) -> bool
+        ensures { result ≡ known self.now verdict.now }
+    {
+        match verdict {
+            Verdict::Bad(injector, _) => *injector < self.injectors,
+            _ => true,
+        }
+    }
+
+    /// Whether the record can stand next.
+    fn can_stand(&self, entry: &Record) -> bool
+        ensures { result ≡ stands self.now entry.now }
+    {
+        match entry {
+            Record::In(injector, _) => self.is_live(*injector),
+            Record::Bad(injector, _) => self.is_live(*injector),
+            Record::Eof(injector) => self.is_live(*injector),
+            Record::Sel(_) => true,
+            Record::End(verdict) => self.is_known(verdict),
+        }
+    }
+
+    /// Counts one more record. An `Err` changes nothing.
+    pub fn count(&mut self, entry: &Record) -> Result<(), Memory>
+        requires { self.old.lines < MOST_RECORDS }
+        ensures counted { IfOk result (λ _. self.new ≡ after self.old entry.now) }
+        ensures failed { OnErr result (self.new ≡ self.old) }
+    {
+        match entry {
+            Record::In(_, _) => {}
+            Record::Bad(injector, _) => self.over.push(*injector)?,
+            Record::Eof(injector) => self.over.push(*injector)?,
+            Record::Sel(_) => {}
+            Record::End(_) => self.ended = true,
+        }
+        self.lines += 1;
+        Ok(())
+    }
+
+    /// The record that the line says, where it can stand next.
+    pub fn record_of(&self, alloc: Global, line: &[u8]) -> Result<Option<Record>, Memory>
+        ensures { IfOk result (λ r. r ≡ next_record self.now line.now) }
+    {
+        match record_of(alloc, line)? {
+            None => Ok(None),
+            Some(entry) => {
+                if self.can_stand(&entry) {
+                    Ok(Some(entry))
+                } else {
+                    Ok(None)
+                }
+            }
+        }
+    }
+
+    /// The refusal of the next line.
+    pub fn bad_line(&self) -> LogFault
+        ensures { result ≡ LogFault.Line (self.now.lines + 1) }
+    {
+        LogFault::Line(self.lines + 1)
+    }
+
+    /// Whether the last record was the end.
+    pub fn has_ended(&self) -> bool
+        ensures { result ≡ self.now.ended }
+    {
+        self.ended
+    }
+
+    /// Whether no further line can come.
+    pub fn is_full(&self) -> bool
+        ensures { result ≡ nat_le MOST_RECORDS self.now.lines }
+    {
+        self.lines >= MOST_RECORDS
+    }
+}

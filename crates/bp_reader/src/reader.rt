@@ -1,0 +1,185 @@
+//! A log that is read record by record.
+ghost use Rattle.std.specs.Prelude.{◌≡◌, ◌≤◌, ◌<◌, Some, None, IfOk, IfErr, IsSomeAnd, IfSome, IsErrOf, OnErr};
+ghost use Rattle.bp_base.specs.Counts.{Rose};
+ghost use Rattle.bp_base.specs.Pieces.{GivesSome};
+ghost use Rattle.bp_reading.specs.Heads.{header_at, line_at};
+ghost use Rattle.bp_reading.specs.Reading.{first_stage, next_at, next_of, after, behind_end as ends, too_many};
+ghost use Rattle.bp_reader.specs.Gets.{MeansRead};
+ghost use Rattle.bp_reader.specs.Reads.{Standing, Tells, TellsRecord, MeansNext, IsStageAfter, IsRefusalAfter};
+
+use crate::LogFault;
+use crate::head::header_of;
+use crate::input::{Input, Taken};
+use crate::progress::Progress;
+use bp_base::Source;
+use bp_log::{Header, Record};
+use bp_reading::limits::{MOST_LINE_BYTES, MOST_RECORDS};
+use std::alloc::Global;
+use std::marker::Model;
+
+/// A log that is read record by record.
+#[derive(Drop)]
+pub struct Reader<S: Source> {
+    input: Input<S>,
+    progress: Progress,
+    refusal: Option<LogFault>,
+}
+
+impl<S: Source> Model for Reader<S> {
+    ghost use Rattle.bp_reader.specs.Reads.{Standing};
+
+    ghost Value = { Standing };
+
+    ghost view = { λ r. record { left = r.input.left; faults = r.input.faults; stage = r.progress; refusal = r.refusal } };
+}
+
+/// A log whose header was refused.
+#[derive(Drop)]
+pub struct Refused<S: Source> {
+    /// Why.
+    pub fault: LogFault,
+    /// The source, as far as its blocks were taken.
+    pub source: S,
+}
+
+/// What stands behind the end.
+fn behind_end<S: Source>(
+    input: &mut Input<S>,
+    progress: &Progress,
+) -> Result<Option<Record>, LogFault>
+    ensures tells { IfSome input.old.left (λ bytes. Tells result (next_of progress.now (ends bytes)) input.new.left) }
+    ensures none { IfOk result (λ r. r ≡ None) }
+    ensures cause { IsErrOf result LogFault.Read → Rose input.old.faults input.new.faults }
+    ensures counts { input.old.faults ≤ input.new.faults }
+{
+    match input.byte() {
+        Err(_) => Err(LogFault::Read),
+        Ok(None) => Ok(None),
+        Ok(Some(_)) => Err(progress.bad_line()),
+    }
+}
+
+/// What stands behind the last line that may come.
+fn behind_last<S: Source>(input: &mut Input<S>, progress: &Progress) -> LogFault
+    ensures tells { IfSome input.old.left (λ bytes. MeansNext result (next_of progress.now (too_many bytes))) }
+    ensures cause { result ≡ LogFault.Read → Rose input.old.faults input.new.faults }
+    ensures counts { input.old.faults ≤ input.new.faults }
+{
+    match input.byte() {
+        Err(_) => LogFault::Read,
+        Ok(None) => LogFault::Cut,
+        Ok(Some(_)) => progress.bad_line(),
+    }
+}
+
+/// What the next line says.
+fn next_line<S: Source>(
+    alloc: Global,
+    input: &mut Input<S>,
+    progress: &mut Progress,
+) -> Result<Record, LogFault>
+    requires { progress.old.lines < MOST_RECORDS }
+    ensures tells { IfSome input.old.left (λ bytes. TellsRecord result (next_of progress.old (line_at MOST_LINE_BYTES bytes)) input.new.left) }
+    ensures stage { IfOk result (λ r. progress.new ≡ after progress.old r) }
+    ensures failed { OnErr result (progress.new ≡ progress.old) }
+    ensures cause { IsErrOf result LogFault.Read → Rose input.old.faults input.new.faults }
+    ensures counts { input.old.faults ≤ input.new.faults }
+{
+    let taken = input.line(alloc)?;
+    match &taken {
+        Taken::Partial => Err(LogFault::Cut),
+        Taken::Excess => Err(progress.bad_line()),
+        Taken::Line(line) => match progress.record_of(alloc, line.as_slice())? {
+            None => Err(progress.bad_line()),
+            Some(entry) => {
+                progress.count(&entry)?;
+                Ok(entry)
+            }
+        },
+    }
+}
+
+/// The next record, where nothing was refused before.
+#[tactic(auto, unfolding(bp_reading::specs::Reading::next_at))]
+fn step<S: Source>(
+    alloc: Global,
+    input: &mut Input<S>,
+    progress: &mut Progress,
+) -> Result<Option<Record>, LogFault>
+    ensures tells { IfSome input.old.left (λ bytes. Tells result (next_at progress.old bytes) input.new.left) }
+    ensures stage { IsStageAfter progress.old result progress.new }
+    ensures cause { IsErrOf result LogFault.Read → Rose input.old.faults input.new.faults }
+    ensures counts { input.old.faults ≤ input.new.faults }
+{
+    if progress.has_ended() {
+        return behind_end(input, progress);
+    }
+    if progress.is_full() {
+        return Err(behind_last(input, progress));
+    }
+    Ok(Some(next_line(alloc, input, progress)?))
+}
+
+impl<S: Source> Reader<S> {
+    /// A reader of the log, and its header; a refusal hands the source back.
+    pub fn open(alloc: Global, source: S) -> Result<(Reader<S>, Header), Refused<S>>
+        ensures header { IfOk result (λ p. IfSome (S.left source)
+            (λ bytes. IsSomeAnd p.0.left (λ rest. header_at bytes ≡ Ok (p.1, rest)))) }
+        ensures stage { IfOk result (λ p. p.0.stage ≡ first_stage p.1.options.injectors) }
+        ensures fresh { IfOk result (λ p. p.0.refusal ≡ None) }
+        ensures counts { IfOk result (λ p. S.faults source ≤ p.0.faults) }
+        ensures refused { IfErr result (λ e. IfSome (S.left source)
+            (λ bytes. MeansRead e.fault (header_at bytes))) }
+        ensures cause { IfErr result (λ e. e.fault ≡ LogFault.Read
+            → Rose (S.faults source) (S.faults e.source)) }
+        ensures refused_counts { IfErr result (λ e. S.faults source ≤ S.faults e.source) }
+    {
+        let mut input = Input::new(source);
+        match header_of(alloc, &mut input) {
+            Ok(header) => {
+                let progress = Progress::new(alloc, header.options().injectors());
+                let reader = Reader {
+                    input,
+                    progress,
+                    refusal: None,
+                };
+                Ok((reader, header))
+            }
+            Err(fault) => Err(Refused {
+                fault,
+                source: input.back(),
+            }),
+        }
+    }
+
+    /// The source, as far as its blocks were taken: a block may hold bytes of lines that weren't read.
+    pub fn back(self) -> S
+        ensures faults { S.faults result ≡ self.faults }
+        ensures left { GivesSome self.left (S.left result) }
+    {
+        self.input.back()
+    }
+
+    /// The next record, or `None` behind the end. After a refusal it answers the same one.
+    pub fn next(&mut self, alloc: Global) -> Result<Option<Record>, LogFault>
+        ensures tells { self.old.refusal ≡ None
+            → IfSome self.old.left (λ bytes. Tells result (next_at self.old.stage bytes) self.new.left) }
+        ensures stage { self.old.refusal ≡ None → IsStageAfter self.old.stage result self.new.stage }
+        ensures again { IfSome self.old.refusal
+            (λ f. (result ≡ Err f) × (self.new ≡ self.old)) }
+        ensures kept { IsRefusalAfter result self.new.refusal }
+        ensures cause { self.old.refusal ≡ None → IsErrOf result LogFault.Read → Rose self.old.faults self.new.faults }
+        ensures counts { self.old.faults ≤ self.new.faults }
+    {
+        if let Some(fault) = self.refusal {
+            return Err(fault);
+        }
+        match step(alloc, &mut self.input, &mut self.progress) {
+            Ok(found) => Ok(found),
+            Err(fault) => {
+                self.refusal = Some(fault);
+                Err(fault)
+            }
+        }
+    }
+}
