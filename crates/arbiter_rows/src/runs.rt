@@ -1,5 +1,5 @@
 //! An arbiter that is moved on by hand.
-ghost use Rattle.std.specs.Prelude.{◌≡◌};
+ghost use Rattle.std.specs.Prelude.{◌≡◌, false};
 ghost use Rattle.bp_floor.specs.declared.phase.Phase.TheVariants as phase;
 ghost use Rattle.bp_arbiter.specs.Absorbing.{is_failed};
 
