@@ -1,0 +1,170 @@
+//! Lines of records behind a good header.
+use crate::answers::{agree, answer};
+use bp_reading::limits::MOST_LINE_BYTES;
+use std::alloc::Global;
+use std::test::Fail;
+
+const FRONT: &str =
+    "bp-log 1;strategy simple;seed 0;budget 1000000;steps 100000;injectors 2;program 3;x=1;";
+
+// Each form, each as it is written.
+const FORMS: &str = r#"
+end quiet 0; --> read
+eof 0;eof 1;end quiet 4294967295; --> read
+in 0 ["x"];in 1 ["y",{"a":1,"b":[null,true,-7,"%c3%a4"]}];eof 0;bad 1 7;sel ["x"];end quiet 1; --> read
+bad 0 4294967295;end bad 0 4294967295; --> read
+end violated top "m"; --> read
+end violated "A \"b\" \\" "\n\u0001%c3%a4"; --> read
+end fault top 4 type; --> read
+end fault "A" 1 whole; --> read
+end fault "A" 4294967295 truth; --> read
+end spent top; --> read
+end spent "A"; --> read
+end limit steps 100000; --> read
+end limit queue 16384; --> read
+end limit bthreads 4096; --> read
+end limit weight 16777216; --> read
+"#;
+
+// The log ends too early, or goes on behind its end.
+const ENDS: &str = r#"
+--> cut
+end quiet 0 --> cut
+eof 0; --> cut
+eof 0;end quie --> cut
+sel [x --> cut
+end quiet 0;; --> line 2
+end quiet 0;x --> line 2
+end quiet 0;end quiet 0; --> line 2
+eof 1;end quiet 0;eof 0; --> line 3
+"#;
+
+// Injectors that are not there or have ended.
+const INJECTORS: &str = r#"
+eof 2; --> line 1
+in 2 ["x"]; --> line 1
+bad 2 1; --> line 1
+end bad 2 1; --> line 1
+eof 0;eof 0; --> line 2
+eof 0;in 0 ["x"]; --> line 2
+bad 1 1;in 1 ["x"]; --> line 2
+bad 1 1;eof 1; --> line 2
+eof 1;bad 1 1; --> line 2
+eof 1;in 0 ["x"];end quiet 0; --> read
+"#;
+
+// Numbers with a sign, a leading zero, a blank too many, or past their limit.
+const NUMBERS: &str = r#"
+eof 00; --> line 1
+eof 01; --> line 1
+eof +0; --> line 1
+eof -0; --> line 1
+eof ; --> line 1
+eof; --> line 1
+eof  0; --> line 1
+eof 0 %20; --> line 1
+eof 0x0; --> line 1
+eof 4294967296; --> line 1
+bad 0; --> line 1
+bad 0 ; --> line 1
+bad 0 1 2; --> line 1
+bad 0 4294967296; --> line 1
+bad 01 1; --> line 1
+end quiet 01; --> line 1
+end quiet 4294967296; --> line 1
+end limit steps 01; --> line 1
+end limit queue 16383; --> line 1
+end limit queue 16385; --> line 1
+end limit bthreads 04096; --> line 1
+end limit weight 1; --> line 1
+"#;
+
+// Events in another spelling, and lines of no form.
+const SPELLINGS: &str = r#"
+sel ["x"]%0d; --> line 1
+sel [ "x"]; --> line 1
+sel ["x",{"b":1,"a":2}]; --> line 1
+sel ["x",1.0]; --> line 1
+sel ["x",-0]; --> line 1
+sel ["\u0041"]; --> line 1
+sel ["\/"]; --> line 1
+sel "x"; --> line 1
+sel []; --> line 1
+sel ["x",1,2]; --> line 1
+sel ["%ff"]; --> line 1
+sel  ["x"]; --> line 1
+in 0  ["x"]; --> line 1
+in ["x"]; --> line 1
+Sel ["x"]; --> line 1
+%ff; --> line 1
+; --> line 1
+end; --> line 1
+end ; --> line 1
+end quiet; --> line 1
+end limit; --> line 1
+end spent A; --> line 1
+end spent topx; --> line 1
+end spent "A" "B"; --> line 1
+end violated "A"; --> line 1
+end violated "A" m; --> line 1
+end violated "A"  "m"; --> line 1
+end violated "A" "m" ; --> line 1
+end violated "A" "\u0041"; --> line 1
+end fault top 1 Type; --> line 1
+end fault top type; --> line 1
+end fault "A 1 type; --> line 1
+"#;
+
+#[test]
+fn records_are_read_exactly(rt: HostRuntime) -> Result<(), Fail> {
+    let alloc = rt.alloc();
+    agree(&rt, alloc, FRONT, FORMS)?;
+    agree(&rt, alloc, FRONT, ENDS)?;
+    agree(&rt, alloc, FRONT, INJECTORS)?;
+    agree(&rt, alloc, FRONT, NUMBERS)?;
+    agree(&rt, alloc, FRONT, SPELLINGS)
+}
+
+// The log of a whole run.
+const WHOLE: &[u8] =
+    b"bp-log 1\nstrategy simple\nseed 0\nbudget 1000000\nsteps 100000\ninjectors 1\nprogram 4\nx=1\n\nin 0 [\"x\"]\neof 0\nsel [\"x\"]\nend quiet 1\n";
+
+// Cut anywhere, a log is cut.
+#[test]
+fn a_front_of_a_log_is_cut(rt: HostRuntime) -> Result<(), Fail> {
+    let alloc = rt.alloc();
+    for size in 0..WHOLE.len() {
+        let found = answer(alloc, &WHOLE[..size])?;
+        assert_eq!(rt; found.as_str(), "cut", "{size}");
+    }
+    assert_eq!(rt; answer(alloc, WHOLE)?.as_str(), "read");
+    Ok(())
+}
+
+/// What is answered where so many bytes stand between these two on the first line of a record.
+fn filled(alloc: Global, start: &str, count: u32, end: &str) -> Result<String, Fail> {
+    let mut log = Vec::new(alloc);
+    log.extend_from_slice(
+        b"bp-log 1\nstrategy simple\nseed 0\nbudget 1\nsteps 1\ninjectors 0\nprogram 0\n\n",
+    )?;
+    log.extend_from_slice(start.as_bytes())?;
+    for _ in 0..count {
+        log.push(b'x')?;
+    }
+    log.extend_from_slice(end.as_bytes())?;
+    answer(alloc, log.as_slice())
+}
+
+// An event weighs one more than its name, and its name one more than its bytes.
+#[test]
+fn lines_and_events_have_limits(rt: HostRuntime) -> Result<(), Fail> {
+    let alloc = rt.alloc();
+    assert_eq!(rt; filled(alloc, "sel [\"", 1022, "\"]\n")?.as_str(), "cut");
+    assert_eq!(rt; filled(alloc, "sel [\"", 1023, "\"]\n")?.as_str(), "line 1");
+    assert_eq!(rt; filled(alloc, "", MOST_LINE_BYTES, "")?.as_str(), "cut");
+    assert_eq!(rt;
+        filled(alloc, "", MOST_LINE_BYTES + 1, "")?.as_str(),
+        "line 1"
+    );
+    Ok(())
+}
