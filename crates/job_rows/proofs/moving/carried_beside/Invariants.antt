@@ -4,4 +4,4 @@ use Rattle.bp_thread.specs.Jobs.{plain_job, IsOf}
 use Rattle.job_rows.proofs.moving.carried_beside.Given as goal
 
 abbrev pub invariant-loop : goal.invariant-loop
-invariant-loop l = IsOf (let g = plain_ground l.ground in g.program) l.carried × ((plain_job l.carried).outcome ≡ None)
+invariant-loop g l = IsOf (let g = plain_ground l.ground in g.program) l.carried × ((plain_job l.carried).outcome ≡ None)

@@ -4,4 +4,4 @@ use Rattle.bp_thread.proofs.Standing.{still_open}
 use Rattle.job_rows.proofs.moving.sliced.Goals as goal
 
 pub returns-clause-open : goal.returns-clause-open
-returns-clause-open c = λ still. still_open _ (subst (λ (done : Bool). IsTrue done ↔ IsSome (plain_job c.slice-done.new.self).outcome) still c.in_ok-done.ensures.done)
+returns-clause-open c = λ still. still_open _ (subst (λ (done : Bool). IsTrue done ↔ IsSome (plain_job c.slice.new.self).outcome) still c.in_ok-done.ensures.done)
