@@ -1,0 +1,12 @@
+use Rattle.std.proofs.Common.{[]}
+use Rattle.bp_inject.proofs.Begins.{begins}
+use Rattle.bp_inject.proofs.injecting.inject.Goals as goal
+
+pub returns-then-halted-clause-begins : goal.returns-then-halted-clause-begins
+returns-then-halted-clause-begins g c = λ bytes s. begins g.S.Source.left bytes c.loop.feed (c.loop.invariant.goes_on.stands bytes [] s)
+
+pub returns-in-Ok-Over-clause-begins : goal.returns-in-Ok-Over-clause-begins
+returns-in-Ok-Over-clause-begins g c = λ bytes s. begins g.S.Source.left bytes c.turn.new.self (c.turn.ensures.goes_on.stands bytes [] (c.loop.invariant.goes_on.stands bytes [] s))
+
+pub returns-in-Err-clause-begins : goal.returns-in-Err-clause-begins
+returns-in-Err-clause-begins g c = λ bytes s. begins g.S.Source.left bytes c.turn.new.self (c.turn.ensures.goes_on.stands bytes [] (c.loop.invariant.goes_on.stands bytes [] s))

@@ -1,0 +1,10 @@
+use Rattle.std.proofs.Common.{◌≡◌, ◌≤◌, false}
+use Rattle.bp_feeds.specs.Feeds.{is_over, GoesOn}
+use Rattle.bp_inject.proofs.injecting.inject.Given as goal
+
+abbrev pub invariant-loop : goal.invariant-loop
+invariant-loop g l = record {
+  goes_on : GoesOn g.S.Source.left g.S.Source.faults l.fn.feed l.feed;
+  going : is_over l.feed ≡ false;
+  halts : g.W.Wake.halts l.fn.wake ≤ g.W.Wake.halts l.wake;
+}

@@ -1,0 +1,63 @@
+//! A feed that makes its turns until it is over or there is a halt.
+ghost use Rattle.std.specs.Prelude.{◌≡◌, ◌≤◌, List, ℕ, [], Ok, true, false, IsErr, IsSomeAnd};
+ghost use Rattle.bp_base.specs.Counts.{Rose};
+ghost use Rattle.bp_lanes.specs.Lanes.{offered};
+ghost use Rattle.bp_feeds.specs.Reading.{BeginsItems};
+ghost use Rattle.bp_feeds.specs.Feeds.{is_over, StandsTo, GoesOn};
+
+use bp_base::{Memory, Source};
+use bp_feeds::{Fed, Feed};
+use bp_lanes::Wake;
+use std::sync::Wait;
+use std::thread::Threads;
+
+/// How an injector ended.
+#[derive(Clone, Copy, Debug, PartialEq, Eq)]
+pub enum Injected {
+    /// The last item was offered.
+    Over,
+    /// There was a halt.
+    Halted,
+}
+
+/// Makes turns of the feed until it is over or there is a halt, rings after each turn that went on, and waits while
+/// an item finds no place. Halted, it reads no further line.
+///
+/// # Errors
+///
+/// Want of memory, after a halt of its own.
+pub fn inject<S: Source, W: Wake, R: Threads + Wait + Sync>(
+    rt: &R,
+    feed: &mut Feed<S>,
+    wake: &mut W,
+) -> Result<Injected, Memory>
+    requires { is_over feed.old ≡ false }
+    ensures goes_on { GoesOn S.left S.faults feed.old feed.new }
+    ensures begins { (bytes : List ℕ) → StandsTo S.left bytes [] feed.old
+        → IsSomeAnd (S.left feed.new.lines.source) (λ left. BeginsItems bytes left (offered feed.new.mouth)) }
+
+    ensures over { result ≡ Ok Injected.Over → is_over feed.new ≡ true }
+    ensures halted { result ≡ Ok Injected.Halted → is_over feed.new ≡ false }
+    ensures cause { result ≡ Ok Injected.Halted → Rose (W.halts wake.old) (W.halts wake.new) }
+    ensures memory { IsErr result → is_over feed.new ≡ false }
+    ensures halts { W.halts wake.old ≤ W.halts wake.new }
+{
+    for _ in rt.forever() {
+        if wake.halted(rt) {
+            return Ok(Injected::Halted);
+        }
+        match feed.turn() {
+            Ok(Fed::Over) => {
+                wake.ring(rt);
+                return Ok(Injected::Over);
+            }
+            Ok(Fed::Went) => wake.ring(rt),
+            Ok(Fed::Full) => wake.wait(rt),
+            Err(refused) => {
+                wake.halt(rt);
+                return Err(refused);
+            }
+        }
+    }
+    unreachable!()
+}

@@ -1,0 +1,8 @@
+//! Injectors on threads of their own: what such a thread runs, how it is started, and how it is joined.
+#![tactic(auto)]
+
+mod injecting;
+mod started;
+
+pub use injecting::{Injected, inject};
+pub use started::{Outcome, Started, join, start};
