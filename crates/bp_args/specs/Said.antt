@@ -1,0 +1,91 @@
+-- What the words of a command say, word by word from left to right.
+use Rattle.std.specs.Prelude.{ℕ, ◌&&◌, ◌==◌, Bool, true, false, nat_le, nat_lt, if◌then◌else◌, List, [], ◌∷◌, length, Option, Some, None, option_map, option_and_then, codes}
+use Rattle.std.specs.List.{position_or_len, before_first, after_first}
+use Rattle.std.specs.Str.{all_ascii_digits, bytes_eq}
+use Rattle.bp_log.specs.Logs.{strategy_at}
+use Rattle.bp_reading.specs.Words.{value_on, most_32}
+use Rattle.bp_args.specs.declared.said.Key.{Key}
+use Rattle.bp_args.specs.declared.said.Key.TheVariants.{Log, Strategy, Seed, Budget, Steps}
+use Rattle.bp_args.specs.declared.said.Waiting.{Waiting}
+use Rattle.bp_args.specs.declared.said.Waiting.TheVariants.{Any, Value, Name}
+use Rattle.bp_args.specs.declared.said.Said.{Said}
+
+-- a name is `-` or doesn't begin with `-`
+abbrev pub is_name : List ℕ → Bool
+is_name [] = true
+is_name (b ∷ []) = true
+is_name (b ∷ c ∷ rest) = if b == 45 then false else true
+
+-- a number is 1 to 20 digits, at most `most`
+abbrev pub number_word : ℕ → List ℕ → Option ℕ
+number_word most word =
+    if nat_lt 0 (length word) && (nat_le (length word) 20 && (all_ascii_digits word && nat_le (value_on 0 word) most)) then Some (value_on 0 word) else None
+
+-- the greatest number of 64 bits
+abbrev pub most_64 : ℕ
+most_64 = 18_446_744_073_709_551_615
+
+abbrev pub key_of : List ℕ → Option Key
+key_of word =
+    if bytes_eq word (codes "--log") then Some Log
+    else if bytes_eq word (codes "--strategy") then Some Strategy
+    else if bytes_eq word (codes "--seed") then Some Seed
+    else if bytes_eq word (codes "--budget") then Some Budget
+    else if bytes_eq word (codes "--steps") then Some Steps
+    else None
+
+-- a value is said at most once
+abbrev pub once : {A : Type 0} → Option A → Option A → Option (Option A)
+once (Some x) said = None
+once None None = None
+once None (Some y) = Some (Some y)
+
+-- the text, where it isn't empty
+abbrev pub some_text : List ℕ → Option (List ℕ)
+some_text [] = None
+some_text (b ∷ bytes) = Some (b ∷ bytes)
+
+-- the option gets the value
+abbrev pub set : Said → Key → List ℕ → Option Said
+set s Log v = option_map (λ o. record s { waiting = Any; log = o }) (once s.log (some_text v))
+set s Strategy v = option_map (λ o. record s { waiting = Any; strategy = o }) (once s.strategy (strategy_at v))
+set s Seed v = option_map (λ o. record s { waiting = Any; seed = o }) (once s.seed (number_word most_64 v))
+set s Budget v = option_map (λ o. record s { waiting = Any; budget = o }) (once s.budget (number_word most_64 v))
+set s Steps v = option_map (λ o. record s { waiting = Any; steps = o }) (once s.steps (number_word most_32 v))
+
+-- the word is the one name
+abbrev pub name : Said → List ℕ → Option Said
+name s word = option_map (λ o. record s { name = o }) (once s.name (Some word))
+
+-- what stands before the first such byte, and behind it
+abbrev pub parts_at : ℕ → List ℕ → Option (List ℕ × List ℕ)
+parts_at c word =
+    if nat_lt (position_or_len (λ b. b == c) word) (length word) then Some (before_first (λ b. b == c) word, after_first (λ b. b == c) word) else None
+
+-- an option, with its value behind `=` or in the next word
+abbrev pub option_in : Said → List ℕ → Option (List ℕ × List ℕ) → Option Said
+option_in s word None = option_map (λ k. record s { waiting = Value k }) (key_of word)
+option_in s word (Some p) = option_and_then (λ k. set s k p.1) (key_of p.0)
+
+-- before `--`
+abbrev pub free_word : Said → List ℕ → Option Said
+free_word s word =
+    if bytes_eq word (codes "--") then Some (record s { waiting = Name }) else
+    (if is_name word then name s word else option_in s word (parts_at 61 word))
+
+-- what is said with one more word: a name, an option, or the value of the option before it
+abbrev pub step_at : Said → List ℕ → Waiting → Option Said
+step_at s word Any = free_word s word
+step_at s word (Value k) = if is_name word then set s k word else None
+step_at s word Name = name s word
+
+abbrev pub step : Said → List ℕ → Option Said
+step s word = step_at s word s.waiting
+
+-- nothing is said
+abbrev pub nothing_said : Said
+nothing_said = record { waiting = Any; name = None; log = None; strategy = None; seed = None; budget = None; steps = None }
+
+abbrev pub said_on : Said → List (List ℕ) → Option Said
+said_on s [] = Some s
+said_on s (word ∷ words) = option_and_then (λ t. said_on t words) (step s word)

@@ -1,0 +1,149 @@
+//! The command that words are.
+ghost use Rattle.std.specs.Prelude.{◌≡◌, Some, None, map, string_bytes, IfOk, IsErrOf, if◌then◌else◌};
+ghost use Rattle.bp_args.specs.Said.{nothing_said, said_on};
+ghost use Rattle.bp_args.specs.Command.{options_of, in_range, is_apart as apart, run_of, bare_name, command_with, command_of};
+
+use crate::said::Said;
+use bp_log::Options;
+use js_data::Text;
+use std::alloc::{AllocError, Global};
+use thiserror::Error;
+
+/// What is run, and how.
+#[derive(Debug, Drop)]
+pub struct Run {
+    /// The name of the program.
+    pub program: Text,
+    /// The name of the log, where one is written.
+    pub log: Option<Text>,
+    /// What is asked of the run.
+    pub options: Options,
+}
+
+/// A command.
+#[derive(Debug, Drop)]
+pub enum Command {
+    /// A program is run.
+    Run(Run),
+    /// The log of this name is replayed.
+    Replay(Text),
+    /// The program of this name is accepted or refused, and not run.
+    Accept(Text),
+}
+
+/// Why there is no command.
+#[derive(Clone, Copy, Debug, PartialEq, Eq, Error)]
+pub enum Usage {
+    /// The words are no command.
+    #[error("the words are no command")]
+    Wrong,
+    /// No memory was left.
+    #[error("no memory was left")]
+    Memory,
+}
+
+impl From<AllocError> for Usage {
+    ghost use Rattle.std.specs.Prelude.{◌≡◌};
+    ghost use Rattle.bp_args.specs.declared.command.Usage.TheVariants.{Memory};
+
+    ghost from_gives = { λ _ e. e ≡ Memory };
+
+    fn from(_: AllocError) -> Usage {
+        Usage::Memory
+    }
+}
+
+/// The options that are said, or `None` exactly where one is out of its range.
+fn options_of(said: &Said) -> Option<Options>
+    ensures { result ≡ (if in_range (options_of said.now) then Some (options_of said.now) else None) }
+{
+    let defaults = Options::defaults();
+    let strategy = said.strategy.unwrap_or(defaults.strategy());
+    let seed = said.seed.unwrap_or(defaults.seed());
+    let budget = said.budget.unwrap_or(defaults.budget());
+    let steps = said.steps.unwrap_or(defaults.steps());
+    Options::new(strategy, seed, budget, steps, 0)
+}
+
+/// Whether the log has another name than the program.
+fn is_apart(program: &Text, log: &Option<Text>) -> bool
+    ensures { result ≡ apart program.now log.now }
+{
+    match log {
+        None => true,
+        Some(log) => !log.same(program),
+    }
+}
+
+/// The run of the one name.
+fn run_of(said: Said) -> Option<Command>
+    ensures { result ≡ run_of said }
+{
+    let options = options_of(&said)?;
+    let (name, log) = said.into_names();
+    let program = name?;
+    if !is_apart(&program, &log) {
+        return None;
+    }
+    Some(Command::Run(Run {
+        program,
+        log,
+        options,
+    }))
+}
+
+/// The one name, where no option is said.
+fn bare_name(said: Said) -> Option<Text>
+    ensures { result ≡ bare_name said }
+{
+    if !said.is_bare() {
+        return None;
+    }
+    let (name, _) = said.into_names();
+    name
+}
+
+/// The command of this first word, where this is said behind it.
+fn command_with(verb: &str, said: Said) -> Option<Command>
+    ensures { result ≡ command_with verb.now said }
+{
+    if !said.is_whole() {
+        return None;
+    }
+    match verb {
+        "run" => run_of(said),
+        "replay" => Some(Command::Replay(bare_name(said)?)),
+        "accept" => Some(Command::Accept(bare_name(said)?)),
+        _ => None,
+    }
+}
+
+/// What the words behind the first say.
+fn said_of(alloc: Global, words: &[String]) -> Result<Said, Usage>
+    ensures said { IfOk result (λ s. said_on nothing_said (map string_bytes words.now) ≡ Some s) }
+    ensures wrong { IsErrOf result Usage.Wrong → said_on nothing_said (map string_bytes words.now) ≡ None }
+{
+    let mut said = Said::new();
+    for word in words {
+        said.step(alloc, word.as_str())?;
+    }
+    Ok(said)
+}
+
+/// The command that the words are, without the name of the program that reads them. `Wrong` is
+/// answered exactly where they are none.
+pub fn read(alloc: Global, words: &[String]) -> Result<Command, Usage>
+    ensures command { IfOk result (λ c. command_of (map string_bytes words.now) ≡ Some c) }
+    ensures wrong { IsErrOf result Usage.Wrong → command_of (map string_bytes words.now) ≡ None }
+{
+    match words {
+        [] => Err(Usage::Wrong),
+        [verb, rest @ ..] => {
+            let said = said_of(alloc, rest)?;
+            match command_with(verb.as_str(), said) {
+                None => Err(Usage::Wrong),
+                Some(command) => Ok(command),
+            }
+        }
+    }
+}

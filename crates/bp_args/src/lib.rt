@@ -1,0 +1,7 @@
+//! The command that the words of a command line are.
+#![tactic(auto)]
+
+mod command;
+mod said;
+
+pub use command::{Command, Run, Usage, read};

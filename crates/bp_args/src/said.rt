@@ -1,0 +1,321 @@
+//! What the words of a command say, word by word.
+ghost use Rattle.std.specs.Prelude.{◌≡◌, Some, None, IfOk, IsErrOf, option_map};
+ghost use Rattle.bp_args.specs.Said.{is_name as word_is_name, number_word, most_64, key_of as key_named, set as with_value, name as with_name, option_in, parts_at, free_word as with_free, step, nothing_said};
+ghost use Rattle.bp_args.specs.Command.{is_bare as bare, is_whole as whole};
+ghost use Rattle.bp_reading.specs.Words.{most_32};
+
+use crate::command::Usage;
+use bp_log::{Memory, Strategy};
+use js_data::Text;
+use std::alloc::Global;
+
+/// An option of `run`.
+#[derive(Clone, Copy, Debug, PartialEq, Eq)]
+pub enum Key {
+    /// The name of the log.
+    Log,
+    /// The strategy.
+    Strategy,
+    /// The seed.
+    Seed,
+    /// The budget.
+    Budget,
+    /// The limit of steps.
+    Steps,
+}
+
+/// What the next word may be.
+#[derive(Clone, Copy, Debug, PartialEq, Eq)]
+pub enum Waiting {
+    /// A name, an option or `--`.
+    Any,
+    /// The value of this option.
+    Value(Key),
+    /// A name, whatever it begins with.
+    Name,
+}
+
+/// What the words said so far.
+#[derive(Debug, Drop)]
+pub struct Said {
+    /// What the next word may be.
+    pub waiting: Waiting,
+    /// The one name.
+    pub name: Option<Text>,
+    /// The name of the log.
+    pub log: Option<Text>,
+    /// The strategy.
+    pub strategy: Option<Strategy>,
+    /// The seed.
+    pub seed: Option<u64>,
+    /// The budget.
+    pub budget: Option<u64>,
+    /// The limit of steps.
+    pub steps: Option<u32>,
+}
+
+/// Whether it is `-` or doesn't begin with `-`.
+fn is_name(word: &[u8]) -> bool
+    ensures { result ≡ word_is_name word.now }
+{
+    match word {
+        [] | [_] => true,
+        [first, ..] => *first != b'-',
+    }
+}
+
+/// The option of a name.
+fn key_of(word: &[u8]) -> Option<Key>
+    ensures { result ≡ key_named word.now }
+{
+    if word == b"--log".as_slice() {
+        Some(Key::Log)
+    } else if word == b"--strategy".as_slice() {
+        Some(Key::Strategy)
+    } else if word == b"--seed".as_slice() {
+        Some(Key::Seed)
+    } else if word == b"--budget".as_slice() {
+        Some(Key::Budget)
+    } else if word == b"--steps".as_slice() {
+        Some(Key::Steps)
+    } else {
+        None
+    }
+}
+
+/// The number of 1 to 20 digits, at most `most`.
+fn number_of(word: &str, most: u64) -> Option<u64>
+    ensures { result ≡ number_word most word.now }
+{
+    let digits = word.as_bytes();
+    if digits.is_empty() {
+        return None;
+    }
+    if digits.len() > 20 {
+        return None;
+    }
+    if digits[0] == b'+' {
+        return None;
+    }
+    let Ok(number) = word.parse::<u64>() else {
+        return None;
+    };
+    if number > most {
+        return None;
+    }
+    Some(number)
+}
+
+/// The number of 1 to 20 digits, of 32 bits.
+fn small_number_of(word: &str) -> Option<u32>
+    ensures { result ≡ number_word most_32 word.now }
+{
+    let number = number_of(word, 4_294_967_295)?;
+    Some(number as u32)
+}
+
+/// What stands before the first `=`, and behind it.
+fn parts_of(word: &str) -> Option<(&str, &str)>
+    ensures { option_map (λ p. (p.0.now, p.1.now)) result ≡ parts_at 61 word.now }
+{
+    word.split_once('=')
+}
+
+/// The text of a word.
+fn text_of(alloc: Global, word: &str) -> Result<Text, Memory>
+    ensures { IfOk result (λ t. t ≡ word.now) }
+{
+    Ok(Text::new(String::from_str(alloc, word)?))
+}
+
+impl Said {
+    /// Nothing is said. Takes no memory.
+    pub fn new() -> Said
+        ensures { result ≡ nothing_said }
+    {
+        Said {
+            waiting: Waiting::Any,
+            name: None,
+            log: None,
+            strategy: None,
+            seed: None,
+            budget: None,
+            steps: None,
+        }
+    }
+
+    /// Whether no option waits for its value.
+    pub fn is_whole(&self) -> bool
+        ensures { result ≡ whole self.now.waiting }
+    {
+        match self.waiting {
+            Waiting::Value(_) => false,
+            Waiting::Any | Waiting::Name => true,
+        }
+    }
+
+    /// Whether no option is said.
+    pub fn is_bare(&self) -> bool
+        ensures { result ≡ bare self.now }
+    {
+        let numbers = self.seed.is_some() || (self.budget.is_some() || self.steps.is_some());
+        let some = self.log.is_some() || (self.strategy.is_some() || numbers);
+        !some
+    }
+
+    /// The one name and the name of the log. Takes no memory.
+    pub fn into_names(self) -> (Option<Text>, Option<Text>)
+        ensures { result ≡ (self.name, self.log) }
+    {
+        let Said {
+            waiting: _,
+            name,
+            log,
+            strategy: _,
+            seed: _,
+            budget: _,
+            steps: _,
+        } = self;
+        (name, log)
+    }
+
+    /// The word is the one name.
+    fn name(&mut self, alloc: Global, word: &str) -> Result<(), Usage>
+        ensures named { IfOk result (λ _. with_name self.old word.now ≡ Some self.new) }
+        ensures wrong { IsErrOf result Usage.Wrong → with_name self.old word.now ≡ None }
+    {
+        if self.name.is_some() {
+            return Err(Usage::Wrong);
+        }
+        self.name = Some(text_of(alloc, word)?);
+        Ok(())
+    }
+
+    fn set_log(&mut self, alloc: Global, value: &str) -> Result<(), Usage>
+        ensures set { IfOk result (λ _. with_value self.old Key.Log value.now ≡ Some self.new) }
+        ensures wrong { IsErrOf result Usage.Wrong → with_value self.old Key.Log value.now ≡ None }
+    {
+        if self.log.is_some() || value.is_empty() {
+            return Err(Usage::Wrong);
+        }
+        self.log = Some(text_of(alloc, value)?);
+        self.waiting = Waiting::Any;
+        Ok(())
+    }
+
+    fn set_strategy(&mut self, value: &str) -> Result<(), Usage>
+        ensures set { IfOk result (λ _. with_value self.old Key.Strategy value.now ≡ Some self.new) }
+        ensures wrong { IsErrOf result Usage.Wrong → with_value self.old Key.Strategy value.now ≡ None }
+    {
+        let strategy = Strategy::of_name(value.as_bytes());
+        if self.strategy.is_some() || strategy.is_none() {
+            return Err(Usage::Wrong);
+        }
+        self.strategy = strategy;
+        self.waiting = Waiting::Any;
+        Ok(())
+    }
+
+    fn set_seed(&mut self, value: &str) -> Result<(), Usage>
+        ensures set { IfOk result (λ _. with_value self.old Key.Seed value.now ≡ Some self.new) }
+        ensures wrong { IsErrOf result Usage.Wrong → with_value self.old Key.Seed value.now ≡ None }
+    {
+        let seed = number_of(value, u64::MAX);
+        if self.seed.is_some() || seed.is_none() {
+            return Err(Usage::Wrong);
+        }
+        self.seed = seed;
+        self.waiting = Waiting::Any;
+        Ok(())
+    }
+
+    fn set_budget(&mut self, value: &str) -> Result<(), Usage>
+        ensures set { IfOk result (λ _. with_value self.old Key.Budget value.now ≡ Some self.new) }
+        ensures wrong { IsErrOf result Usage.Wrong → with_value self.old Key.Budget value.now ≡ None }
+    {
+        let budget = number_of(value, u64::MAX);
+        if self.budget.is_some() || budget.is_none() {
+            return Err(Usage::Wrong);
+        }
+        self.budget = budget;
+        self.waiting = Waiting::Any;
+        Ok(())
+    }
+
+    fn set_steps(&mut self, value: &str) -> Result<(), Usage>
+        ensures set { IfOk result (λ _. with_value self.old Key.Steps value.now ≡ Some self.new) }
+        ensures wrong { IsErrOf result Usage.Wrong → with_value self.old Key.Steps value.now ≡ None }
+    {
+        let steps = small_number_of(value);
+        if self.steps.is_some() || steps.is_none() {
+            return Err(Usage::Wrong);
+        }
+        self.steps = steps;
+        self.waiting = Waiting::Any;
+        Ok(())
+    }
+
+    /// The option gets the value.
+    fn set(&mut self, alloc: Global, key: Key, value: &str) -> Result<(), Usage>
+        ensures set { IfOk result (λ _. with_value self.old key value.now ≡ Some self.new) }
+        ensures wrong { IsErrOf result Usage.Wrong → with_value self.old key value.now ≡ None }
+    {
+        match key {
+            Key::Log => self.set_log(alloc, value),
+            Key::Strategy => self.set_strategy(value),
+            Key::Seed => self.set_seed(value),
+            Key::Budget => self.set_budget(value),
+            Key::Steps => self.set_steps(value),
+        }
+    }
+
+    /// The word is an option, which waits for its value or has it behind `=`.
+    fn option(&mut self, alloc: Global, word: &str) -> Result<(), Usage>
+        ensures said { IfOk result (λ _. option_in self.old word.now (parts_at 61 word.now) ≡ Some self.new) }
+        ensures wrong { IsErrOf result Usage.Wrong → option_in self.old word.now (parts_at 61 word.now) ≡ None }
+    {
+        let Some((before, value)) = parts_of(word) else {
+            let Some(key) = key_of(word.as_bytes()) else {
+                return Err(Usage::Wrong);
+            };
+            self.waiting = Waiting::Value(key);
+            return Ok(());
+        };
+        let Some(key) = key_of(before.as_bytes()) else {
+            return Err(Usage::Wrong);
+        };
+        self.set(alloc, key, value)
+    }
+
+    /// A word before `--` that is no value.
+    fn free_word(&mut self, alloc: Global, word: &str) -> Result<(), Usage>
+        ensures said { IfOk result (λ _. with_free self.old word.now ≡ Some self.new) }
+        ensures wrong { IsErrOf result Usage.Wrong → with_free self.old word.now ≡ None }
+    {
+        if word == "--" {
+            self.waiting = Waiting::Name;
+            return Ok(());
+        }
+        if is_name(word.as_bytes()) {
+            return self.name(alloc, word);
+        }
+        self.option(alloc, word)
+    }
+
+    /// What is said with one more word. After a refusal nothing is known of what is said.
+    pub fn step(&mut self, alloc: Global, word: &str) -> Result<(), Usage>
+        ensures said { IfOk result (λ _. step self.old word.now ≡ Some self.new) }
+        ensures wrong { IsErrOf result Usage.Wrong → step self.old word.now ≡ None }
+    {
+        match self.waiting {
+            Waiting::Any => self.free_word(alloc, word),
+            Waiting::Value(key) => {
+                if !is_name(word.as_bytes()) {
+                    return Err(Usage::Wrong);
+                }
+                self.set(alloc, key, word)
+            }
+            Waiting::Name => self.name(alloc, word),
+        }
+    }
+}

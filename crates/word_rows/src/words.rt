@@ -1,0 +1,130 @@
+//! The words of a command.
+use bp_args::{Command, Run, read};
+use std::alloc::Global;
+use std::process::Abort;
+use std::test::Fail;
+
+fn shown_run(alloc: Global, run: &Run) -> Result<String, Fail> {
+    let options = run.options;
+    let log = match &run.log {
+        None => "none",
+        Some(log) => log.as_str(),
+    };
+    Ok(format!(in alloc;
+        "run {} log {} {} {} {} {}",
+        run.program.as_str(),
+        log,
+        options.strategy().name(),
+        options.seed(),
+        options.budget(),
+        options.steps()
+    )?)
+}
+
+/// The command in words of its own, or `wrong`.
+fn shown(alloc: Global, words: &[String]) -> Result<String, Fail> {
+    match read(alloc, words) {
+        Err(_) => Ok(format!(in alloc; "wrong")?),
+        Ok(command) => match &command {
+            Command::Run(run) => shown_run(alloc, run),
+            Command::Replay(name) => Ok(format!(in alloc; "replay {}", name.as_str())?),
+            Command::Accept(name) => Ok(format!(in alloc; "accept {}", name.as_str())?),
+        },
+    }
+}
+
+/// Each line has words, of which `<>` stands for the empty one, the mark `==>`, and their command.
+fn agree(rt: &impl Abort, alloc: Global, table: &str) -> Result<(), Fail> {
+    for line in table.trim().lines() {
+        let (cell, want) = line.split_once("==>").ok_or("no command")?;
+        let mut words = Vec::new(alloc);
+        for word in cell.split_whitespace() {
+            let word = if word == "<>" { "" } else { word };
+            words.push(String::from_str(alloc, word)?)?;
+        }
+        let found = shown(alloc, words.as_slice())?;
+        assert_eq!(rt; found.as_str(), want.trim(), "{line}");
+    }
+    Ok(())
+}
+
+const GOOD: &str = r#"
+run p ==> run p log none simple 0 1000000 100000
+accept p ==> accept p
+replay l ==> replay l
+run - ==> run - log none simple 0 1000000 100000
+run <> ==> run  log none simple 0 1000000 100000
+run -- -p ==> run -p log none simple 0 1000000 100000
+run -- -- ==> run -- log none simple 0 1000000 100000
+run -- --seed=1 ==> run --seed=1 log none simple 0 1000000 100000
+run p -- ==> run p log none simple 0 1000000 100000
+replay -- -l ==> replay -l
+run --log l p ==> run p log l simple 0 1000000 100000
+run p --log=l ==> run p log l simple 0 1000000 100000
+run --log=-l p ==> run p log -l simple 0 1000000 100000
+run --log - p ==> run p log - simple 0 1000000 100000
+run --log=a=b p ==> run p log a=b simple 0 1000000 100000
+run --strategy ordered p --seed 18446744073709551615 --budget=1000000000 --steps=1000000 ==> run p log none ordered 18446744073709551615 1000000000 1000000
+run --strategy=priority --seed=00000000000000000007 --budget 1 --steps 1 p ==> run p log none priority 7 1 1
+run a=b ==> run a=b log none simple 0 1000000 100000
+"#;
+
+const WRONG: &str = r#"
+==> wrong
+run ==> wrong
+accept ==> wrong
+replay ==> wrong
+large 4 ==> wrong
+help ==> wrong
+-h ==> wrong
+--help ==> wrong
+run --help ==> wrong
+Run p ==> wrong
+<> p ==> wrong
+run p q ==> wrong
+run p -- q ==> wrong
+run -- p q ==> wrong
+accept p q ==> wrong
+run -p ==> wrong
+run --- ==> wrong
+run --workers 4 p ==> wrong
+run --slice=1 p ==> wrong
+run --log ==> wrong
+run p --log ==> wrong
+run p --log= ==> wrong
+run p --log <> ==> wrong
+run p --log -l ==> wrong
+run p --log -- l ==> wrong
+run p --log --seed=1 ==> wrong
+run p --log p ==> wrong
+run p --log l --log m ==> wrong
+run p --log=l --log=l ==> wrong
+run p --strategy fast ==> wrong
+run p --strategy= ==> wrong
+run p --strategy simple --strategy simple ==> wrong
+run p --seed ==> wrong
+run p --seed= ==> wrong
+run p --seed 18446744073709551616 ==> wrong
+run p --seed 000000000000000000007 ==> wrong
+run p --seed +1 ==> wrong
+run p --seed=-1 ==> wrong
+run p --seed 1x ==> wrong
+run p --seed 1 --seed=1 ==> wrong
+run p --budget 0 ==> wrong
+run p --budget 1000000001 ==> wrong
+run p --steps 0 ==> wrong
+run p --steps 1000001 ==> wrong
+run p --steps 4294967297 ==> wrong
+run p -seed 1 ==> wrong
+run p --seeds 1 ==> wrong
+accept --log l p ==> wrong
+replay --seed=1 l ==> wrong
+accept -- p q ==> wrong
+"#;
+
+#[test]
+fn words_are_read_exactly(rt: HostRuntime) -> Result<(), Fail> {
+    let alloc = rt.alloc();
+    agree(&rt, alloc, GOOD)?;
+    agree(&rt, alloc, WRONG)
+}
