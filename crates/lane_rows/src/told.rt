@@ -1,0 +1,45 @@
+// The items of a feed as text.
+use bp_base::Source;
+use bp_feeds::Feed;
+use bp_lanes::{Ear, lane};
+use bp_log::Item;
+use js_json::event_text;
+use std::alloc::Global;
+use std::test::Fail;
+
+/// The texts of the items that a feed over this source offers, each behind a bar.
+pub fn told<S: Source + Drop>(alloc: Global, source: S) -> Result<String, Fail> {
+    let (mouth, mut ear) = lane(alloc)?;
+    let mut feed = Feed::new(alloc, source, mouth);
+    let mut text = String::new(alloc);
+    for _ in 0..u64::MAX {
+        if feed.is_over() {
+            break;
+        }
+        feed.turn()?;
+        add_taken(alloc, &mut ear, &mut text)?;
+    }
+    Ok(text)
+}
+
+/// Adds the texts of the items that are there.
+pub fn add_taken(alloc: Global, ear: &mut Ear, text: &mut String) -> Result<(), Fail> {
+    for _ in 0..100 {
+        match ear.take() {
+            Some(item) => add(alloc, text, &item)?,
+            None => return Ok(()),
+        }
+    }
+    Ok(())
+}
+
+fn add(alloc: Global, text: &mut String, item: &Item) -> Result<(), Fail> {
+    text.push_str("|")?;
+    match item {
+        Item::Offered(event) => text.push_str(event_text(alloc, event)?.as_str())?,
+        Item::Bad(number) => text.push_str(format!(in alloc; "bad {}", number)?.as_str())?,
+        Item::Failed => text.push_str("failed")?,
+        Item::End => text.push_str("end")?,
+    }
+    Ok(())
+}
