@@ -8,10 +8,10 @@ use Rattle.std.proofs.lemmas.List.Folds.{list_any-append}
 use Rattle.js_data.specs.Event.{PlainEvent}
 use Rattle.js_json.specs.Json.{event_at}
 use Rattle.bp_log.specs.declared.item.Item.{Item}
-use Rattle.bp_log.specs.declared.item.Item.TheVariants.{Bad}
+use Rattle.bp_log.specs.declared.item.Item.TheVariants.{Bad, Failed}
 use Rattle.bp_feeds.specs.declared.limits.TheConstants.{MOST_LINES, MOST_LENGTH}
 use Rattle.bp_feeds.specs.Reading.{IsTooLong}
-use Rattle.bp_feeds.specs.Items.{is_break, has_break, before_lines, lines_of, before_whole, whole_lines, is_past, is_blank, event_item, is_last, ends, has_fault, followed, item_of, items_from}
+use Rattle.bp_feeds.specs.Items.{is_break, has_break, before_lines, lines_of, before_whole, whole_lines, is_past, is_blank, event_item, is_last, ends, is_end, has_end, has_fault, followed, item_of, items_from}
 
 pub unbroken_both : (xs ys : List ℕ) → has_break xs ≡ false → has_break ys ≡ false → has_break (xs ++ ys) ≡ false
 unbroken_both xs ys a b = list_any-append is_break xs ys ∙ or_from (has_break xs) (has_break ys) a b
@@ -132,6 +132,34 @@ sound_in false false (Some e) n = refl
 pub sound : (number : ℕ) (line : List ℕ) (item : Option Item) → item ≡ item_of number line → has_fault (option_to_list item) ≡ false
 unfolding item_of
 sound number line item is = ap (λ i. has_fault (option_to_list i)) is ∙ sound_in (is_past number line) (is_blank line) (event_at line) number
+
+unended_in : (past blank : Bool) (o : Option PlainEvent) (n : ℕ) → has_end (option_to_list (if past then Some (Bad n) else (if blank then None else Some (event_item n o)))) ≡ false
+unended_in true blank o n = refl
+unended_in false true o n = refl
+unended_in false false None n = refl
+unended_in false false (Some e) n = refl
+
+-- no line is the end
+pub unended : (number : ℕ) (line : List ℕ) (item : Option Item) → item ≡ item_of number line → has_end (option_to_list item) ≡ false
+unfolding item_of
+unended number line item is = ap (λ i. has_end (option_to_list i)) is ∙ unended_in (is_past number line) (is_blank line) (event_at line) number
+
+unended_step : (t : Bool) (item : Item) (tail : List Item) → has_end (item ∷ []) ≡ false → has_end tail ≡ false → has_end (if t then item ∷ [] else item ∷ tail) ≡ false
+unended_step true item tail h k = h
+unended_step false item tail h k = or_from (is_end item) (has_end tail) (or_parts (is_end item) false h).0 k
+
+unended_more : (i : Option Item) (tail : List Item) → has_end (option_to_list i) ≡ false → has_end tail ≡ false → has_end (followed i tail) ≡ false
+unended_more None tail h k = k
+unended_more (Some item) tail h k = unended_step (is_last item) item tail h k
+
+-- where a fault is last there is no end
+pub unended_lines : (lines : List (List ℕ)) (number : ℕ) → has_end (items_from lines number Failed) ≡ false
+unended_lines [] number = refl
+unended_lines (line ∷ lines) number =
+    unended_more (item_of number line) (items_from lines (number + 1) Failed) (unended number line (item_of number line) refl) (unended_lines lines (number + 1))
+
+pub unended_both : (xs ys : List Item) → has_end xs ≡ false → has_end ys ≡ false → has_end (xs ++ ys) ≡ false
+unended_both xs ys a b = list_any-append is_end xs ys ∙ or_from (has_end xs) (has_end ys) a b
 
 -- bytes before the first LF
 pub front_taken : (bytes : List ℕ) (n : ℕ) → ((k : ℕ) → 0 ≤ k → k < n → ¬ (is_break (slice_index bytes k) ≡ true)) → has_break (take n bytes) ≡ false

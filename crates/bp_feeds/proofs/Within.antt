@@ -1,15 +1,17 @@
 -- What each step of a reading keeps.
 use Rattle.std.proofs.Common.{◌≡◌, ℕ, ◌+◌, ◌<◌, true, false, List, [], ◌∷◌, ◌++◌, Option, Some, None, length, option_to_list, refl, sym, ap, ◌∙◌, subst, append_assoc, append-nil, length-append, unwrap_or, arith}
 use Rattle.std.specs.Prelude.{IfSome, IsSomeAnd, option_map}
+use Rattle.std.proofs.lemmas.Bool.{or_parts}
+use Rattle.std.proofs.lemmas.List.Folds.{list_any-append}
 use Rattle.bp_base.specs.Pieces.{Gives}
 use Rattle.bp_log.specs.declared.item.Item.{Item}
 use Rattle.bp_log.specs.declared.item.Item.TheVariants.{Bad, Failed, End}
 use Rattle.bp_feeds.specs.declared.limits.TheConstants.{MOST_LENGTH}
 use Rattle.bp_feeds.specs.declared.reached.Reached.{Reached}
 use Rattle.bp_feeds.specs.declared.reached.Reached.TheVariants.{Within, Last, Ended, Broken, Faulted}
-use Rattle.bp_feeds.specs.Items.{has_break, lines_of, whole_lines, ends, followed, item_of, items_from, items}
+use Rattle.bp_feeds.specs.Items.{has_break, is_end, has_end, lines_of, whole_lines, ends, followed, item_of, items_from, items}
 use Rattle.bp_feeds.specs.Reading.{Reading, pending, IsWithin, IsBrokenOff, HasReached, HasRead, ReadsOn, IsSameReading, IsTooLong}
-use Rattle.bp_feeds.proofs.Cuts.{lines_at_break, whole_at_break, lines_unbroken, whole_unbroken, first_line, followed_more, followed_last, past_is_bad, bytes_same, line_front}
+use Rattle.bp_feeds.proofs.Cuts.{unended, unended_lines, unended_both, lines_at_break, whole_at_break, lines_unbroken, whole_unbroken, first_line, followed_more, followed_last, past_is_bad, bytes_same, line_front}
 
 some_is : {A : Type 0} (x y : A) → Some x ≡ Some y → x ≡ y
 some_is x y e = ap (λ o. unwrap_or o x) e
@@ -45,6 +47,12 @@ passes bytes given line more number (Some l) item u is e w = record {
   whole = line_front given w.passed line number item whole_lines (λ rest. whole_at_break line rest u) is e w.whole;
 }
 
+-- among the items so far is no end
+pub within_unended : (bytes : List ℕ) (given : List Item) (number : ℕ) (rest : List ℕ) → IsWithin bytes given number rest → has_end given ≡ false
+within_unended bytes given number rest w =
+    let all : has_end (given ++ Failed ∷ []) ≡ false = ap has_end (w.lines [] Failed) ∙ unended_lines (lines_of (w.passed ++ [])) 1 in
+    (or_parts (has_end given) (has_end (Failed ∷ [])) (sym (list_any-append is_end given (Failed ∷ [])) ∙ all)).0
+
 -- the items of a first line that is the last one
 bad_front : (given : List Item) (passed front line : List ℕ) (lines : List (List ℕ)) (number : ℕ) (item : Option Item)
     → lines_of front ≡ line ∷ lines → item ≡ item_of number line → ends item ≡ true
@@ -60,11 +68,13 @@ bad_front given passed front line lines number item at is e w =
 breaks : (bytes : List ℕ) (given : List Item) (line more : List ℕ) (number : ℕ) (left : Option (List ℕ)) (item : Option Item)
     → has_break line ≡ false → item ≡ item_of number line → ends item ≡ true
     → IsSomeAnd left (λ l. IsWithin bytes given number ((line ++ 10 ∷ more) ++ l))
-    → IsSomeAnd left (λ l. given ++ option_to_list item ≡ items bytes)
+    → IsSomeAnd left (λ l. (given ++ option_to_list item ≡ items bytes) × (has_end (given ++ option_to_list item) ≡ false))
 breaks bytes given line more number None item u is e w = absurd w
-breaks bytes given line more number (Some l) item u is e w =
-    bad_front given w.passed (line ++ 10 ∷ (more ++ l)) line (lines_of (more ++ l)) number item (lines_at_break line (more ++ l) u) is e w.lines
-    ∙ ap items (sym (w.all ∙ ap (λ r. w.passed ++ r) (append_assoc line (10 ∷ more) l)))
+breaks bytes given line more number (Some l) item u is e w = (
+  bad_front given w.passed (line ++ 10 ∷ (more ++ l)) line (lines_of (more ++ l)) number item (lines_at_break line (more ++ l) u) is e w.lines
+      ∙ ap items (sym (w.all ∙ ap (λ r. w.passed ++ r) (append_assoc line (10 ∷ more) l))),
+  unended_both given (option_to_list item) (within_unended bytes given number ((line ++ 10 ∷ more) ++ l) w) (unended number line item is),
+)
 
 pub line_passed : (old new : Reading) (line more : List ℕ) (item : Option Item) → old.reached ≡ Within → old.held ≡ line ++ 10 ∷ more → has_break line ≡ false
     → item ≡ item_of old.number line → ends item ≡ false → new.reached ≡ Within → new.held ≡ more → new.number ≡ old.number + 1 → new.left ≡ old.left
@@ -91,14 +101,16 @@ long_first (b ∷ xs) rest u some = first_line b xs rest u
 
 long_breaks : (bytes : List ℕ) (given : List Item) (held : List ℕ) (number : ℕ) (left : Option (List ℕ)) → IsTooLong held
     → IsSomeAnd left (λ l. IsWithin bytes given number (held ++ l))
-    → IsSomeAnd left (λ l. given ++ Bad number ∷ [] ≡ items bytes)
+    → IsSomeAnd left (λ l. (given ++ Bad number ∷ [] ≡ items bytes) × (has_end (given ++ Bad number ∷ []) ≡ false))
 long_breaks bytes given held number None long w = absurd w
 long_breaks bytes given held number (Some l) long w =
     let o = long_first long.front (long.behind ++ l) long.unbroken (omega (arith, long.long)) in
     let same : held ++ l ≡ long.front ++ (long.behind ++ l) = ap (λ b. b ++ l) long.all ∙ append_assoc long.front long.behind l in
-    let longer : MOST_LENGTH < length (long.front ++ o.0) = omega (arith, long.long, length-append long.front o.0) in
-    bad_front given w.passed (long.front ++ (long.behind ++ l)) (long.front ++ o.0) o.1 number (Some (Bad number)) o.2 (sym (past_is_bad number (long.front ++ o.0) longer)) refl w.lines
-    ∙ ap items (sym (w.all ∙ ap (λ r. w.passed ++ r) same))
+    let longer : MOST_LENGTH < length (long.front ++ o.0) = omega (arith, long.long, length-append long.front o.0) in (
+      bad_front given w.passed (long.front ++ (long.behind ++ l)) (long.front ++ o.0) o.1 number (Some (Bad number)) o.2 (sym (past_is_bad number (long.front ++ o.0) longer)) refl w.lines
+          ∙ ap items (sym (w.all ∙ ap (λ r. w.passed ++ r) same)),
+      unended_both given (Bad number ∷ []) (within_unended bytes given number (held ++ l) w) refl,
+    )
 
 pub too_long : (old new : Reading) → old.reached ≡ Within → IsTooLong old.held → new.reached ≡ Broken → new.left ≡ old.left → ReadsOn old (Bad old.number ∷ []) new
 too_long old new w0 long w1 l1 = record {
@@ -152,8 +164,10 @@ pub last_broken : (old new : Reading) (line : List ℕ) (item : Option Item) →
 last_broken old new line item w0 h0 u some l0 is e w1 l1 = record {
   kept = λ bytes given h.
       let w : IsWithin bytes given old.number (line ++ []) = to_parts bytes given old Within line (Some []) w0 h0 l0 h in
-      from_parts bytes (given ++ option_to_list item) new Broken new.held new.number (Some []) w1 refl refl (l1 ∙ l0)
-      (bad_front given w.passed (line ++ []) line [] old.number item (last_lines line u some) is e w.lines ∙ ap items (sym w.all));
+      from_parts bytes (given ++ option_to_list item) new Broken new.held new.number (Some []) w1 refl refl (l1 ∙ l0) (
+        bad_front given w.passed (line ++ []) line [] old.number item (last_lines line u some) is e w.lines ∙ ap items (sym w.all),
+        unended_both given (option_to_list item) (within_unended bytes given old.number (line ++ []) w) (unended old.number line item is),
+      );
 }
 
 pub end_told : (old new : Reading) → old.reached ≡ Within → old.held ≡ [] → old.left ≡ Some [] → new.reached ≡ Ended → new.left ≡ old.left

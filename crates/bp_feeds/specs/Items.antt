@@ -68,6 +68,14 @@ abbrev pub is_fault : Item → Bool
 is_fault Failed = true
 is_fault _ = false
 
+abbrev pub is_end : Item → Bool
+is_end End = true
+is_end _ = false
+
+-- whether the end of the bytes is among the items
+abbrev pub has_end : List Item → Bool
+has_end items = list_any is_end items
+
 -- whether a fault of the source is among the items
 abbrev pub has_fault : List Item → Bool
 has_fault items = list_any is_fault items

@@ -6,7 +6,7 @@ use Rattle.bp_log.specs.declared.item.Item.TheVariants.{Failed, End}
 use Rattle.bp_feeds.specs.declared.limits.TheConstants.{MOST_LENGTH}
 use Rattle.bp_feeds.specs.declared.reached.Reached.{Reached}
 use Rattle.bp_feeds.specs.declared.reached.Reached.TheVariants.{Within, Last, Ended, Broken, Faulted}
-use Rattle.bp_feeds.specs.Items.{lines_of, whole_lines, items_from, items, items_before_fault, has_break}
+use Rattle.bp_feeds.specs.Items.{lines_of, whole_lines, items_from, items, items_before_fault, has_break, has_end}
 
 -- a reading of lines: what was taken of the source and belongs to no line that was dealt with, the number of the next line,
 -- what was reached, and what the source has left, where it tells it
@@ -48,7 +48,7 @@ abbrev pub HasReached : Reached → List ℕ → List Item → List ℕ → ℕ 
 HasReached Within bytes given held number left = IsWithin bytes given number (held ++ left)
 HasReached Last bytes given held number left = (given ++ End ∷ [] ≡ items bytes) × (left ≡ [])
 HasReached Ended bytes given held number left = (given ≡ items bytes) × (left ≡ [])
-HasReached Broken bytes given held number left = given ≡ items bytes
+HasReached Broken bytes given held number left = (given ≡ items bytes) × (has_end given ≡ false)
 HasReached Faulted bytes given held number left = IsBrokenOff bytes given left
 
 -- these items were read of these bytes

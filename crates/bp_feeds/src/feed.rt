@@ -125,11 +125,3 @@ impl<S: Source> Feed<S> {
         }
     }
 }
-
-/// Takes only what may move to another thread.
-fn is_send<T: Send>(_value: &T) {}
-
-/// A feed may move to another thread where its source may.
-pub fn moves_between_threads<S: Source + Send>(feed: &Feed<S>) {
-    is_send(feed);
-}

@@ -8,5 +8,14 @@ mod limits;
 mod lines;
 mod reached;
 
+use bp_base::Source;
 pub use feed::{Fed, Feed};
 pub use limits::{MOST_LENGTH, MOST_LINES};
+
+/// Takes only what may move to another thread.
+fn is_send<T: Send>(_value: &T) {}
+
+/// A feed may move to another thread where its source may.
+pub fn moves_between_threads<S: Source + Send>(feed: &Feed<S>) {
+    is_send(feed);
+}

@@ -1,12 +1,16 @@
 -- What was read begins the items of the bytes.
 use Rattle.std.proofs.Common.{◌≡◌, ◌⊎◌, inl, inr, ⊎_elim, ℕ, ◌+◌, Bool, true, false, List, [], ◌∷◌, ◌++◌, Option, Some, None, option_to_list, refl, sym, ap, ◌∙◌, append_assoc, append-nil}
 use Rattle.std.specs.Prelude.{IsSomeAnd, if◌then◌else◌}
+use Rattle.std.proofs.lemmas.Bool.{or_left}
+use Rattle.std.proofs.lemmas.List.Folds.{list_any-append}
+use Rattle.bp_feeds.proofs.Cuts.{unended_lines}
+use Rattle.bp_feeds.proofs.Within.{within_unended}
 use mathlib.Core.List.{IsPrefix}
 use Rattle.bp_log.specs.declared.item.Item.{Item}
 use Rattle.bp_log.specs.declared.item.Item.TheVariants.{Failed, End}
 use Rattle.bp_feeds.specs.declared.reached.Reached.{Reached}
 use Rattle.bp_feeds.specs.declared.reached.Reached.TheVariants.{Within, Last, Ended, Broken, Faulted}
-use Rattle.bp_feeds.specs.Items.{is_break, before_lines, before_whole, lines_of, whole_lines, is_last, followed, item_of, items_from, items, items_before_fault}
+use Rattle.bp_feeds.specs.Items.{is_end, has_end, is_break, before_lines, before_whole, lines_of, whole_lines, is_last, followed, item_of, items_from, items, items_before_fault}
 use Rattle.bp_feeds.specs.Reading.{IsBrokenOff, HasReached, BeginsItems}
 use Rattle.bp_feeds.specs.declared.feed.Feed.{Feed}
 use Rattle.bp_feeds.specs.Feeds.{reading_of, StandsTo}
@@ -88,7 +92,7 @@ reached_begins Within bytes all held number left xs rest e w =
     front_of bytes left xs rest all (items_from (lines_of (held ++ left)) number End) e (w.lines (held ++ left) End ∙ ap items (sym w.all))
 reached_begins Last bytes all held number left xs rest e h = front_of bytes left xs rest all (End ∷ []) e h.0
 reached_begins Ended bytes all held number left xs rest e h = front_of bytes left xs rest all [] e (append-nil all ∙ h.0)
-reached_begins Broken bytes all held number left xs rest e h = front_of bytes left xs rest all [] e (append-nil all ∙ h)
+reached_begins Broken bytes all held number left xs rest e h = front_of bytes left xs rest all [] e (append-nil all ∙ h.0)
 reached_begins Faulted bytes all held number left xs rest e h = before_fault bytes left xs rest all e h
 
 read_begins : (k : Reached) (bytes : List ℕ) (all : List Item) (held : List ℕ) (number : ℕ) (left : Option (List ℕ)) (xs rest : List Item) → xs ++ rest ≡ all
@@ -96,8 +100,30 @@ read_begins : (k : Reached) (bytes : List ℕ) (all : List Item) (held : List �
 read_begins k bytes all held number None xs rest e h = absurd h
 read_begins k bytes all held number (Some l) xs rest e h = reached_begins k bytes all held number l xs rest e h
 
+-- where the end was given nothing is left
+
+reached_ended : (k : Reached) (bytes : List ℕ) (all : List Item) (held : List ℕ) (number : ℕ) (left : List ℕ) → HasReached k bytes all held number left
+    → has_end all ≡ true → left ≡ []
+reached_ended Within bytes all held number left w t = let f : false ≡ true = sym (within_unended bytes all number (held ++ left) w) ∙ t in cc
+reached_ended Last bytes all held number left h t = h.1
+reached_ended Ended bytes all held number left h t = h.1
+reached_ended Broken bytes all held number left h t = let f : false ≡ true = sym h.1 ∙ t in cc
+reached_ended Faulted bytes all held number left b t = let f : false ≡ true = sym (ap has_end b.is ∙ unended_lines (whole_lines b.took) 1) ∙ t in cc
+
+read_ended : (k : Reached) (bytes : List ℕ) (all : List Item) (held : List ℕ) (number : ℕ) (left : Option (List ℕ)) → IsSomeAnd left (λ l. HasReached k bytes all held number l)
+    → has_end all ≡ true → left ≡ Some []
+read_ended k bytes all held number None h t = absurd h
+read_ended k bytes all held number (Some l) h t = ap Some (reached_ended k bytes all held number l h t)
+
 module _ {S : Type 0} (left : S → Option (List ℕ)) where
   -- what was offered begins the items of the bytes
   pub begins : (bytes : List ℕ) (f : Feed S) → StandsTo left bytes [] f → IsSomeAnd (left f.lines.source) (λ l. BeginsItems bytes l (offered f.mouth))
   begins bytes f s =
       read_begins f.lines.reached bytes s.gave (reading_of left f.lines).held f.lines.number (left f.lines.source) (offered f.mouth) (option_to_list f.kept) s.all s.read
+
+  -- a feed that has offered the end has a source with nothing left
+  pub ended : (bytes : List ℕ) (f : Feed S) → StandsTo left bytes [] f → has_end (offered f.mouth) ≡ true → left f.lines.source ≡ Some []
+  ended bytes f s t =
+      let all : has_end s.gave ≡ true =
+      ap has_end (sym s.all) ∙ list_any-append is_end (offered f.mouth) (option_to_list f.kept) ∙ or_left (has_end (offered f.mouth)) (has_end (option_to_list f.kept)) t in
+      read_ended f.lines.reached bytes s.gave (reading_of left f.lines).held f.lines.number (left f.lines.source) s.read all

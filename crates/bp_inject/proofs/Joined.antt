@@ -8,13 +8,13 @@ use Rattle.bp_lanes.specs.declared.ends.Mouth.{Mouth}
 use Rattle.bp_lanes.specs.Lanes.{offered}
 use Rattle.bp_log.specs.declared.item.Item.{Item}
 use Rattle.bp_feeds.specs.declared.feed.Feed.{Feed}
-use Rattle.bp_feeds.specs.Items.{is_fault, has_fault}
+use Rattle.bp_feeds.specs.Items.{is_fault, has_fault, has_end}
 use Rattle.bp_feeds.specs.Reading.{BeginsItems}
 use Rattle.bp_feeds.specs.Feeds.{given, StandsTo, GoesOn}
 use Rattle.bp_feeds.proofs.Going.{rose_on, rose_from}
 use Rattle.bp_inject.specs.declared.started.Started.{Started}
 use Rattle.bp_inject.specs.Injectors.{feed_of, IsFrom}
-use Rattle.bp_inject.proofs.Begins.{begins}
+use Rattle.bp_inject.proofs.Begins.{begins, ended}
 
 module _ {S : Type 0} (left : S → Option (List ℕ)) (faults : S → ℕ) where
   begun_in : (o : Option (List ℕ)) (start end : Feed S) (source : S) (xs : List Item) → IfSome o (λ bytes. StandsTo left bytes [] start)
@@ -24,6 +24,17 @@ module _ {S : Type 0} (left : S → Option (List ℕ)) (faults : S → ℕ) wher
   begun_in (Some bytes) start end source xs s g e a =
       subst (λ x. IsSomeAnd (left source) (λ l. BeginsItems bytes l x)) (sym a)
       (subst (λ y. IsSomeAnd (left y) (λ l. BeginsItems bytes l (offered end.mouth))) (sym e) (begins left bytes end (g.stands bytes [] s)))
+
+  ended_in : (o : Option (List ℕ)) (start end : Feed S) (source : S) (xs : List Item) → IfSome o (λ bytes. StandsTo left bytes [] start)
+      → GoesOn left faults start end → source ≡ end.lines.source → xs ≡ offered end.mouth
+      → IfSome o (λ _. has_end xs ≡ true → left source ≡ Some [])
+  ended_in None start end source xs s g e a = tt
+  ended_in (Some bytes) start end source xs s g e a = λ t. ap left e ∙ ended left bytes end (g.stands bytes [] s) (ap has_end (sym a) ∙ t)
+
+  pub joined_end : (first : S) (started : Started S) (end : Feed S) (source : S) (xs : List Item) → IsFrom left faults first started
+      → GoesOn left faults (feed_of started) end → source ≡ end.lines.source → xs ≡ offered end.mouth
+      → IfSome (left first) (λ _. has_end xs ≡ true → left source ≡ Some [])
+  joined_end first started end source xs f g e a = ended_in (left first) (feed_of started) end source xs f.stands g e a
 
   pub joined_begins : (first : S) (started : Started S) (end : Feed S) (source : S) (xs : List Item) → IsFrom left faults first started
       → GoesOn left faults (feed_of started) end → source ≡ end.lines.source → xs ≡ offered end.mouth

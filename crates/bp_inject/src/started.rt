@@ -1,8 +1,8 @@
 //! Starting the thread of an injector, and joining it.
-ghost use Rattle.std.specs.Prelude.{◌≡◌, ◌≤◌, ◌↔◌, [], ◌++◌, true, false, IfOk, IfSome, IsSomeAnd};
+ghost use Rattle.std.specs.Prelude.{◌≡◌, ◌≤◌, ◌↔◌, Some, [], ◌++◌, true, false, IfOk, IfSome, IsSomeAnd};
 ghost use Rattle.bp_base.specs.Counts.{Rose};
 ghost use Rattle.bp_lanes.specs.Lanes.{offered, taken, known, is_closed, IsLane, IsSameEar};
-ghost use Rattle.bp_feeds.specs.Items.{has_fault};
+ghost use Rattle.bp_feeds.specs.Items.{has_end, has_fault};
 ghost use Rattle.bp_feeds.specs.Reading.{BeginsItems};
 ghost use Rattle.bp_feeds.specs.Feeds.{GoesOn, is_over};
 ghost use Rattle.bp_inject.specs.Injectors.{feed_of, IsFrom, CameBack};
@@ -125,6 +125,8 @@ pub fn join<S: Source, R: Threads>(
     ensures begins { (source : S) → IsFrom S.left S.faults source started → IfSome (S.left source)
         (λ bytes. IsSomeAnd (S.left result.0)
         (λ left. BeginsItems bytes left (taken ear.new ++ known ear.new))) }
+    ensures end { (source : S) → IsFrom S.left S.faults source started → IfSome (S.left source)
+        (λ _. has_end (taken ear.new ++ known ear.new) ≡ true → S.left result.0 ≡ Some []) }
     ensures cause { (source : S) → IsFrom S.left S.faults source started
         → has_fault (taken ear.new ++ known ear.new) ≡ true → Rose (S.faults source) (S.faults result.0) }
     ensures counts { (source : S) → IsFrom S.left S.faults source started

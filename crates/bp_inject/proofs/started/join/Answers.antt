@@ -4,7 +4,7 @@ use Rattle.bp_feeds.specs.declared.feed.Feed.{Feed}
 use Rattle.bp_feeds.specs.Feeds.{GoesOn}
 use Rattle.bp_feeds.proofs.Going.{goes_same}
 use Rattle.bp_inject.specs.Injectors.{feed_of}
-use Rattle.bp_inject.proofs.Joined.{joined_begins, joined_cause}
+use Rattle.bp_inject.proofs.Joined.{joined_begins, joined_end, joined_cause}
 use Rattle.bp_inject.proofs.started.join.Goals as goal
 
 pub returns-in-Beside-clause-back : goal.returns-in-Beside-clause-back
@@ -59,3 +59,19 @@ returns-in-Alone-clause-cause g c = λ first f h.
     (goes_same g.S.Source.left g.S.Source.faults c.in-Alone.feed c.in-Alone.feed lane refl refl) in
     joined_cause g.S.Source.left g.S.Source.faults first c.args.started c.in-Alone.feed c.closed-in-Alone.result.0 (taken c.closed-in-Alone.new.ear ++ known c.closed-in-Alone.new.ear) f goes
     c.closed-in-Alone.ensures.source c.closed-in-Alone.ensures.all h
+
+pub returns-in-Beside-clause-end : goal.returns-in-Beside-clause-end
+returns-in-Beside-clause-end g c = λ first f.
+    let goes : GoesOn g.S.Source.left g.S.Source.faults (feed_of c.args.started) c.join.result =
+    subst (λ (s : Feed _). GoesOn g.S.Source.left g.S.Source.faults s c.join.result) (sym (ap feed_of c.in-Beside.is)) c.join.ensures in
+    joined_end g.S.Source.left g.S.Source.faults first c.args.started c.join.result c.closed.result.0 (taken c.closed.new.ear ++ known c.closed.new.ear) f goes
+    c.closed.ensures.source c.closed.ensures.all
+
+pub returns-in-Alone-clause-end : goal.returns-in-Alone-clause-end
+returns-in-Alone-clause-end g c = λ first f.
+    let lane : IsSameMouth c.in-Alone.feed.mouth c.in-Alone.feed.mouth = search rules in
+    let goes : GoesOn g.S.Source.left g.S.Source.faults (feed_of c.args.started) c.in-Alone.feed =
+    subst (λ (s : Feed _). GoesOn g.S.Source.left g.S.Source.faults s c.in-Alone.feed) (sym (ap feed_of c.in-Alone.is))
+    (goes_same g.S.Source.left g.S.Source.faults c.in-Alone.feed c.in-Alone.feed lane refl refl) in
+    joined_end g.S.Source.left g.S.Source.faults first c.args.started c.in-Alone.feed c.closed-in-Alone.result.0 (taken c.closed-in-Alone.new.ear ++ known c.closed-in-Alone.new.ear) f goes
+    c.closed-in-Alone.ensures.source c.closed-in-Alone.ensures.all
