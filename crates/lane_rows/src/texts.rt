@@ -6,19 +6,25 @@ use std::alloc::Global;
 use std::process::Abort;
 use std::test::Fail;
 
-// The items of the bytes, read at once and by pieces.
-fn are(rt: &impl Abort, alloc: Global, bytes: &[u8], wanted: &str) -> Result<(), Fail> {
+// The items of the bytes, read at once and by pieces of so many.
+fn are_by(
+    rt: &impl Abort,
+    alloc: Global,
+    bytes: &[u8],
+    step: usize,
+    wanted: &str,
+) -> Result<(), Fail> {
     let whole = MemorySource::new(bytes.to_vec(alloc)?, Vec::new(alloc));
     assert_eq!(rt; told(alloc, whole)?.as_str(), wanted);
-    assert_eq!(rt;
-        told(alloc, Drip::new(alloc, bytes, 1, 0)?)?.as_str(),
-        wanted
-    );
-    assert_eq!(rt;
-        told(alloc, Drip::new(alloc, bytes, 7, 0)?)?.as_str(),
-        wanted
-    );
+    let pieces = Drip::new(alloc, bytes, step, 0)?;
+    assert_eq!(rt; told(alloc, pieces)?.as_str(), wanted);
     Ok(())
+}
+
+// The items of the bytes, read at once, byte by byte, and by sevens.
+fn are(rt: &impl Abort, alloc: Global, bytes: &[u8], wanted: &str) -> Result<(), Fail> {
+    are_by(rt, alloc, bytes, 1, wanted)?;
+    are_by(rt, alloc, bytes, 7, wanted)
 }
 
 #[test]
@@ -178,7 +184,7 @@ fn padded_are(
     wanted: &str,
 ) -> Result<(), Fail> {
     let bytes = padded(alloc, b' ', count, behind)?;
-    are(rt, alloc, bytes.as_slice(), wanted)
+    are_by(rt, alloc, bytes.as_slice(), 1_000, wanted)
 }
 
 #[test]
