@@ -8,10 +8,10 @@ use std::test::Fail;
 
 // Offers so many bad lines, by functions that have no leave to wait, and says how many found a place.
 fn offered(mouth: &mut Mouth, from: u32, count: u32) -> u32 {
-    let mut found = 0;
+    let mut found: u32 = 0;
     for number in 0..count {
         if mouth.offer(Item::Bad(from.saturating_add(number))).is_ok() {
-            found += 1;
+            found = found.saturating_add(1);
         }
     }
     found
