@@ -1,4 +1,6 @@
 // Lanes whose ends learn what the other did, and feeds at a full lane.
+ghost use Rattle.bp_lanes.specs.Lanes.{IsSameMouth, IsSameEar};
+
 use crate::told::{add_taken, told};
 use bp_base::MemorySource;
 use bp_feeds::{Fed, Feed};
@@ -7,8 +9,10 @@ use bp_log::Item;
 use std::test::Fail;
 
 // Offers so many bad lines, by functions that have no leave to wait, and says how many found a place.
-fn offered(mouth: &mut Mouth, from: u32, count: u32) -> u32 {
-    let mut found: u32 = 0;
+fn offered(mouth: &mut Mouth, from: u32, count: u32) -> u32
+    ensures { IsSameMouth mouth.old mouth.new }
+{
+    let mut found = 0u32;
     for number in 0..count {
         if mouth.offer(Item::Bad(from.saturating_add(number))).is_ok() {
             found = found.saturating_add(1);
@@ -18,7 +22,9 @@ fn offered(mouth: &mut Mouth, from: u32, count: u32) -> u32 {
 }
 
 // The number of the bad line that is taken next, by a function that has no leave to wait.
-fn taken(ear: &mut Ear) -> Option<u32> {
+fn taken(ear: &mut Ear) -> Option<u32>
+    ensures { IsSameEar ear.old ear.new }
+{
     match ear.take() {
         Some(Item::Bad(number)) => Some(number),
         _ => None,
