@@ -1,21 +1,40 @@
 #!/bin/sh
 # Times benches of 300 and of 3,000 live statements: the choice under each strategy, the reach of an event and the placing of
 # a statement, in a copy of the crates. select_main.txt is the program that does it; it has no ending of a source, since no
-# check of the repository reads it. It is built by LLVM, and not proved.
+# check of the repository reads it. What holds in its loops stands below.
 set -e
 top=$(cd "$(dirname "$0")/.." && pwd)
 copy=$(mktemp -d)
 trap 'rm -rf "$copy"' EXIT
-mkdir -p "$copy/crates/select_bench/src"
 for crate in "$top"/crates/*; do
-    mkdir "$copy/crates/$(basename "$crate")" 2> /dev/null || true
+    name=$(basename "$crate")
+    mkdir -p "$copy/crates/$name"
     for part in src specs proofs; do
-        [ ! -d "$crate/$part" ] || cp -r "$crate/$part" "$copy/crates/$(basename "$crate")/"
+        [ ! -d "$crate/$part" ] || cp -r "$crate/$part" "$copy/crates/$name/"
     done
 done
+bench=$copy/crates/select_bench
+mkdir -p "$bench/src" "$bench/proofs/bench" "$bench/proofs/answers"
 cp "$top/HANDLES" "$copy/HANDLES"
-cp "$top/bench/select_main.txt" "$copy/crates/select_bench/src/main.rt"
+cp "$top/bench/select_main.txt" "$bench/src/main.rt"
 cp "$top/crates.txt" "$copy/crates.txt"
-printf '%s\n' 'select_bench: bp_log bp_script bp_select bp_thread js_data js_frames js_value anyhow' >> "$copy/crates.txt"
-cd "$copy/crates/select_bench"
-rt try
+printf '%s\n' 'select_bench: bp_log bp_script bp_select bp_thread js_data js_frames js_meaning js_value anyhow' >> "$copy/crates.txt"
+cat > "$bench/proofs/bench/Invariants.antt" <<'EOF'
+use Rattle.std.proofs.Common.{ℕ}
+use Rattle.js_meaning.specs.State.{Ground}
+use Rattle.bp_select.specs.Benches.{Fits}
+use Rattle.select_bench.proofs.bench.Given as goal
+
+abbrev pub invariant-loop-number : goal.invariant-loop-number
+invariant-loop-number l = (base : Ground) (budget : ℕ) → Fits l.made base budget
+EOF
+cat > "$bench/proofs/answers/Invariants.antt" <<'EOF'
+use Rattle.js_frames.specs.Places.{plain_ground}
+use Rattle.bp_select.specs.Benches.{Fits}
+use Rattle.select_bench.proofs.answers.Given as goal
+
+abbrev pub invariant-loop-seed : goal.invariant-loop-seed
+invariant-loop-seed l = Fits l.made (plain_ground l.ground) 1000000
+EOF
+cd "$bench"
+rt run
