@@ -1,4 +1,3 @@
-use Rattle.std.proofs.Common.{refl}
 use Rattle.bp_args.specs.Command.{beside_of}
 use Rattle.bp_args.proofs.Ranges.{told_beside}
 use Rattle.bp_args.proofs.command.beside_of.Goals as goal
