@@ -1,3 +1,4 @@
 pub mod Pieces
+pub mod Logging
 pub mod Slices
 pub mod Way

@@ -38,7 +38,7 @@ use Rattle.bp_base.specs.Pieces.{Appends, AppendsFront}
 use Rattle.bp_serve.specs.Ends.{verdict_alone}
 use Rattle.bp_serve.specs.Pages.{Shows, ShowsFront}
 use Rattle.bp_serve.specs.Serving.{Ahead, OnTheWay, Underway, KeepsUnderway, Begins, TakesLines}
-use Rattle.bp_serve.proofs.Pieces.{lines_text-append, lines_none, shows_page, shows_on, front_on, written_all, written_front, written_part, written_front_part}
+use Rattle.bp_serve.proofs.Pieces.{lines_text-append, lines_none, let_go, shows_page, shows_on, front_on, written_all, written_front, written_part, written_front_part}
 
 -- ---- the records
 
@@ -452,3 +452,8 @@ pub written_still : {T E : Type 0} (r : Result T E) (x : Option (List ℕ)) (a b
 written_still (Ok v) x a b c page h w = tt
 written_still (Err e) None a b c page h w = absurd h
 written_still (Err e) (Some t) a b c page h w = written_front a b c t page h w
+
+-- what waits is let go
+pub unprinted : (x : Option (List ℕ)) (a b : Option (List ℕ)) (page : List ℕ) → IsSomeAnd x (λ t. ShowsFront a t page b) → IsSomeAnd x (λ t. AppendsFront a t b)
+unprinted None a b page h = absurd h
+unprinted (Some t) a b page h = let_go a b t page h

@@ -1,3 +1,4 @@
 pub mod Ends
 pub mod Pages
+pub mod Logging
 pub mod Serving
