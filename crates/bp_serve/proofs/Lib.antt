@@ -1,3 +1,5 @@
 pub mod Pieces
 pub mod Slices
 pub mod Way
+pub mod Verdicts
+pub mod Turned

@@ -1,3 +1,4 @@
 pub mod Ends
 pub mod Pages
 pub mod Serving
+pub mod Turning

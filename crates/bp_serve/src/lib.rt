@@ -9,4 +9,6 @@ mod serving;
 
 pub use carrying::carry_all;
 pub use fault::RunFault;
+pub use page::Page;
 pub use running::run;
+pub use serving::settle;

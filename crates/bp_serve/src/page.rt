@@ -30,7 +30,7 @@ impl Model for Page {
 
 impl Page {
     /// An empty page. Takes no memory.
-    pub(crate) fn new(alloc: Global) -> Page
+    pub fn new(alloc: Global) -> Page
         ensures { result ≡ [] }
     {
         Page {
@@ -49,7 +49,7 @@ impl Page {
     }
 
     /// Writes what waits, and then nothing waits. After a refusal a front of it was written.
-    pub(crate) fn write<K: Sink>(&mut self, out: &mut K) -> Result<(), Failed>
+    pub fn write<K: Sink>(&mut self, out: &mut K) -> Result<(), Failed>
         ensures emptied { self.new ≡ [] }
         ensures whole { OnOk result (Appends (K.written out.old) self.old (K.written out.new)) }
         ensures front { OnErr result
@@ -79,7 +79,7 @@ impl Page {
 
     /// Puts the lines at the end, and writes what waits whenever that is much. After a refusal a front of the text
     /// was written or waits.
-    pub(crate) fn print<K: Sink>(
+    pub fn print<K: Sink>(
         &mut self,
         alloc: Global,
         lines: &[Line],

@@ -3,6 +3,7 @@ use Rattle.std.proofs.lemmas.Result.{err_from_is_err_and}
 use Rattle.bp_arbiter.specs.Arbiters.{code_in, options_in, stand_in}
 use Rattle.bp_floor.specs.declared.phase.Phase.TheVariants.{Over}
 use Rattle.bp_serve.proofs.Way.{begins_none, shows_start, shows_lines, front_so_far, front_lines, shows_all, fewer, at_rest, Picks, underway_picked, recorded_all}
+use Rattle.bp_serve.proofs.Turned.{underway_somewhere, underway_unlent}
 use Rattle.bp_serve.proofs.serving.serve.Goals as goal
 
 pub loop-arbiter-init : goal.loop-arbiter-init
@@ -12,6 +13,18 @@ loop-arbiter-init g c =
       underway = ([], c.requires.underway, begins_none (code_in a) (options_in a) c.requires.alone, shows_start (g.K.Sink.written c.args.out.now) c.args.page.now c.requires.empty);
       counts = omega arith;
     }
+
+pub settle-requires-clause-stands : goal.settle-requires-clause-stands
+settle-requires-clause-stands g c =
+    let a = c.args.arbiter.now in
+    let i = c.loop-arbiter.invariant.underway in
+    underway_somewhere (code_in a) (options_in a) c.loop-arbiter.arbiter i.0 i.1
+
+pub settle-requires-clause-unlent : goal.settle-requires-clause-unlent
+settle-requires-clause-unlent g c =
+    let a = c.args.arbiter.now in
+    let i = c.loop-arbiter.invariant.underway in
+    underway_unlent (code_in a) (options_in a) c.loop-arbiter.arbiter i.0 i.1
 
 pub returns-in_err-settle-clause-front : goal.returns-in_err-settle-clause-front
 returns-in_err-settle-clause-front g c =
