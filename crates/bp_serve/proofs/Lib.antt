@@ -2,3 +2,5 @@ pub mod Pieces
 pub mod Logging
 pub mod Slices
 pub mod Way
+pub mod Verdicts
+pub mod Turned

@@ -120,6 +120,15 @@ module _ {L T E : Type 0} (written : L → Option (List ℕ)) where
   log_front_headed (Err e) a b c head page more next whole w h s =
       log_more_front written a b c head page more [] next whole (w ∙ ap (λ (x : List ℕ). head ++ x) (sym (append-nil more))) h s
 
+  -- the page went on
+  pub log_then : (r : Result T E) (a b c : Option L) (text page next : List ℕ) → LogShows written a text page b → OnOk r (LogShows written b page next c) → OnOk r (LogShows written a text next c)
+  log_then (Ok v) a b c text page next h s = log_on written a b c text page next h s
+  log_then (Err e) a b c text page next h s = tt
+
+  pub log_front_then : (r : Result T E) (a b c : Option L) (text page next : List ℕ) → LogShows written a text page b → OnErr r (LogShowsFront written b page next c) → OnErr r (LogShowsFront written a text next c)
+  log_front_then (Ok v) a b c text page next h s = tt
+  log_front_then (Err e) a b c text page next h s = log_front_on written a b c text page next h s
+
   pub log_anyway : (r : Result T E) (a b c : Option L) (text page : List ℕ) → OnOk r (LogShows written a text page b) → OnErr r (LogShowsFront written a text page b) →
       LogGetsFront written b page c → LogGetsFront written a text c
   log_anyway (Ok v) a b c text page h k w = log_written_part written a b c text page h w

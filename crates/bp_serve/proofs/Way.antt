@@ -171,13 +171,13 @@ later_on l o Over rs w = record { later = []; whole = append-nil rs ∙ w }
 pub same_code : (a b : PlainArbiter) → b.floor.base.program ≡ a.floor.base.program → options_in b ≡ options_in a → code_in b ≡ code_in a
 same_code a b p q = λ i. code_of (p i) (q i)
 
-recounts_at : (l : Code Origin PlainSet) (o : PlainOptions) (a : PlainArbiter) (c : Configuration Origin) → code_in a ≡ l → options_in a ≡ o → Recounts a c → story l o a.records ≡ Some c
+pub recounts_at : (l : Code Origin PlainSet) (o : PlainOptions) (a : PlainArbiter) (c : Configuration Origin) → code_in a ≡ l → options_in a ≡ o → Recounts a c → story l o a.records ≡ Some c
 recounts_at l o a c e f h = subst (λ (x : PlainOptions). story l x a.records ≡ Some c) f (subst (λ (x : Code Origin PlainSet). story x (options_in a) a.records ≡ Some c) e h)
 
-recounts_in : (l : Code Origin PlainSet) (o : PlainOptions) (a : PlainArbiter) (c : Configuration Origin) → code_in a ≡ l → options_in a ≡ o → story l o a.records ≡ Some c → Recounts a c
+pub recounts_in : (l : Code Origin PlainSet) (o : PlainOptions) (a : PlainArbiter) (c : Configuration Origin) → code_in a ≡ l → options_in a ≡ o → story l o a.records ≡ Some c → Recounts a c
 recounts_in l o a c e f h = subst (λ (x : PlainOptions). story (code_in a) x a.records ≡ Some c) (sym f) (subst (λ (x : Code Origin PlainSet). story x o a.records ≡ Some c) (sym e) h)
 
-coming_at : (l : Code Origin PlainSet) (o : PlainOptions) (a : PlainArbiter) (c : Configuration Origin) → code_in a ≡ l → options_in a ≡ o → coming a c ≡ next l o c
+pub coming_at : (l : Code Origin PlainSet) (o : PlainOptions) (a : PlainArbiter) (c : Configuration Origin) → code_in a ≡ l → options_in a ≡ o → coming a c ≡ next l o c
 coming_at l o a c e f = λ i. next (e i) (f i) c
 
 -- the lines that were taken begin the text

@@ -2,3 +2,4 @@ pub mod Ends
 pub mod Pages
 pub mod Logging
 pub mod Serving
+pub mod Turning

@@ -14,3 +14,4 @@ pub use fault::RunFault;
 pub use page::Page;
 pub use report::Report;
 pub use running::run;
+pub use serving::settle;

@@ -1,13 +1,14 @@
 //! The loop that serves a run.
-ghost use Rattle.std.specs.Prelude.{◌≡◌, ◌<◌, ◌≤◌, ◌++◌, [], length, drop, IfOk, OnOk, OnErr, IsErrOf, IsSomeAnd};
+ghost use Rattle.std.specs.Prelude.{◌≡◌, ◌<◌, ◌≤◌, ◌++◌, [], false, length, drop, IfOk, OnOk, OnErr, IsErrOf, IsSomeAnd};
 ghost use Rattle.bp_base.specs.Counts.{Rose};
 ghost use Rattle.bp_log.specs.Logs.{records_text};
 ghost use Rattle.bp_log.specs.Texts.{lines_text};
 ghost use Rattle.bp_floor.specs.declared.phase.Phase.TheVariants as phase;
-ghost use Rattle.bp_arbiter.specs.Arbiters.{code_in, options_in, stand_in};
+ghost use Rattle.bp_arbiter.specs.Arbiters.{code_in, options_in, stand_in, is_lent, StandsSomewhere};
 ghost use Rattle.bp_serve.specs.Logging.{LogShows, LogShowsFront, LogFails, LogStays};
 ghost use Rattle.bp_serve.specs.Pages.{Shows, ShowsFront};
-ghost use Rattle.bp_serve.specs.Serving.{records_in, text_in, IsUnderway, Underway, KeepsUnderway, TakesLines};
+ghost use Rattle.bp_serve.specs.Serving.{records_in, text_in, Underway, KeepsUnderway, TakesLines};
+ghost use Rattle.bp_serve.specs.Turning.{Settles};
 
 use crate::RunFault;
 use crate::carrying::carry_all;
@@ -22,7 +23,8 @@ use std::alloc::Global;
 fn turn(alloc: Global, arbiter: &mut Arbiter, slice: u64) -> Result<Phase, Memory>
     requires some_slice { 0 < slice }
     requires ready { arbiter.old.phase ≡ phase.Ready }
-    requires underway { IsUnderway arbiter.old }
+    requires stands { StandsSomewhere arbiter.old }
+    ensures settles { OnOk result (Settles arbiter.old arbiter.new) }
     ensures keeps { OnOk result (KeepsUnderway arbiter.old arbiter.new) }
     ensures phase { IfOk result (λ f. f ≡ arbiter.new.phase) }
     ensures records { OnOk result (length arbiter.old.records ≤ length arbiter.new.records) }
@@ -36,9 +38,11 @@ fn turn(alloc: Global, arbiter: &mut Arbiter, slice: u64) -> Result<Phase, Memor
 }
 
 /// Turn after turn, until nobody is to be run. Its only error is want of memory.
-fn settle(alloc: Global, arbiter: &mut Arbiter, slice: u64) -> Result<(), Memory>
+pub fn settle(alloc: Global, arbiter: &mut Arbiter, slice: u64) -> Result<(), Memory>
     requires some_slice { 0 < slice }
-    requires underway { IsUnderway arbiter.old }
+    requires stands { StandsSomewhere arbiter.old }
+    requires unlent { is_lent arbiter.old.phase ≡ false }
+    ensures settles { OnOk result (Settles arbiter.old arbiter.new) }
     ensures keeps { OnOk result (KeepsUnderway arbiter.old arbiter.new) }
     ensures records { OnOk result (length arbiter.old.records ≤ length arbiter.new.records) }
     ensures settled { OnOk result (¬ (arbiter.new.phase ≡ phase.Ready)) }

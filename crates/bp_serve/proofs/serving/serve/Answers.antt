@@ -9,6 +9,7 @@ use Rattle.bp_serve.specs.Logging.{LogShows}
 use Rattle.bp_serve.proofs.Logging.{log_shows_page, log_more_on, log_more_front, log_stop_at, log_same, stays_on, fails_on}
 use Rattle.bp_serve.proofs.Pieces.{records_first, records_kept, records_later, records_rest, records_whole}
 use Rattle.bp_serve.proofs.Way.{Later, later_on, begins_none, shows_start, shows_lines, front_so_far, front_lines, shows_all, fewer, at_rest, Picks, underway_picked, recorded_all}
+use Rattle.bp_serve.proofs.Turned.{underway_somewhere, underway_unlent}
 use Rattle.bp_serve.proofs.serving.serve.Goals as goal
 
 pub loop-arbiter-init : goal.loop-arbiter-init
@@ -66,6 +67,18 @@ told g c =
     log_more_on g.L.Sink.written _ c.loop-arbiter.log _ _ c.loop-arbiter.telling.records _ _ _
     (records_kept c.args.telling.now.records c.settle.new.arbiter.records l.later all c.loop-arbiter.telling.kept l.whole (kept_at g c))
     c.loop-arbiter.invariant.log_shows c.in_ok-tell.ensures.log_shows
+
+pub settle-requires-clause-stands : goal.settle-requires-clause-stands
+settle-requires-clause-stands g c =
+    let a = c.args.arbiter.now in
+    let i = c.loop-arbiter.invariant.underway in
+    underway_somewhere (code_in a) (options_in a) c.loop-arbiter.arbiter i.0 i.1
+
+pub settle-requires-clause-unlent : goal.settle-requires-clause-unlent
+settle-requires-clause-unlent g c =
+    let a = c.args.arbiter.now in
+    let i = c.loop-arbiter.invariant.underway in
+    underway_unlent (code_in a) (options_in a) c.loop-arbiter.arbiter i.0 i.1
 
 pub returns-in_err-settle-clause-front : goal.returns-in_err-settle-clause-front
 returns-in_err-settle-clause-front g c =
