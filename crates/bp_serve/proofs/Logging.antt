@@ -1,6 +1,6 @@
 -- A log that is kept, or none, from one moment to the next.
 use Rattle.std.proofs.Common.{◌≡◌, ℕ, ◌≤◌, List, [], ◌++◌, refl, ap, sym, ◌∙◌, append-nil, arith, inl, inr, Option, Some, None, Ok, Err}
-use Rattle.std.specs.Prelude.{◌⊎◌, Result, OnOk, OnErr}
+use Rattle.std.specs.Prelude.{Result, OnOk, OnErr}
 use Rattle.bp_base.specs.Counts.{Rose}
 use Rattle.bp_base.specs.Pieces.{Appends, AppendsFront}
 use Rattle.bp_serve.specs.Logging.{OfLog, LogGets, LogGetsFront, LogShows, LogShowsFront, LogFails, LogStays}

@@ -232,12 +232,11 @@ records_whole base all k e = ap (λ (n : ℕ). base ++ records_text (take n all)
 pub records_part : (page at next : List ℕ) (xs : List Record) (i : ℕ) (x : Record) → i < length xs → x ≡ get_or xs i x → at ≡ page ++ records_text (take i xs) →
     AppendsFront (Some at) (whole_record x) (Some next) → AppendsFront (Some page) (records_text xs) (Some next)
 records_part page at next xs i x h e k f =
-    let same : next ≡ at ++ f.0 = some_is next (at ++ f.0) f.3 in
-    (
+    let same : next ≡ at ++ f.0 = some_is next (at ++ f.0) f.3 in (
       records_text (take i xs) ++ f.0,
       f.1 ++ records_text (drop (i + 1) xs),
       records_split xs i x h e ∙ ap (λ (r : List ℕ). records_text (take i xs) ++ (r ++ records_text (drop (i + 1) xs))) f.2
-      ∙ ap (λ (r : List ℕ). records_text (take i xs) ++ r) (append_assoc f.0 f.1 (records_text (drop (i + 1) xs)))
-      ∙ sym (append_assoc (records_text (take i xs)) f.0 (f.1 ++ records_text (drop (i + 1) xs))),
+          ∙ ap (λ (r : List ℕ). records_text (take i xs) ++ r) (append_assoc f.0 f.1 (records_text (drop (i + 1) xs)))
+          ∙ sym (append_assoc (records_text (take i xs)) f.0 (f.1 ++ records_text (drop (i + 1) xs))),
       ap (λ (r : List ℕ). Some r) (same ∙ ap (λ (r : List ℕ). r ++ f.0) k ∙ append_assoc page (records_text (take i xs)) f.0),
     )

@@ -1,5 +1,5 @@
 -- What turns leave of an arbiter, whatever run it serves.
-use Rattle.std.proofs.Common.{◌≡◌, ◌⊎◌, inl, inr, ℕ, false, List, [], ◌∷◌, ◌++◌, refl, ap, sym, ◌∙◌, subst, append-nil, Option, Some, None, Ok, Err}
+use Rattle.std.proofs.Common.{◌≡◌, ◌⊎◌, inl, inr, false, List, [], ◌∷◌, ◌++◌, refl, ap, sym, ◌∙◌, append-nil, Option, Some, None, Ok, Err}
 use Rattle.std.specs.Prelude.{Result, OnOk}
 use Rattle.js_value.specs.Value.{PlainSet}
 use Rattle.js_meaning.specs.Bodies.{Origin}
@@ -20,7 +20,7 @@ use Rattle.bp_floor.specs.Floors.{phase_at, phase_of}
 use Rattle.bp_arbiter.specs.Arbiters.{PlainArbiter, code_in, options_in, stand_in, Recounts, StandsFor, StandsSomewhere, is_lent}
 use Rattle.bp_arbiter.specs.Sealing.{ending, ended_with, after_turn}
 use Rattle.bp_serve.specs.Serving.{OnTheWay, Underway}
-use Rattle.bp_serve.specs.Turning.{StandsAfter, Closes, Settles}
+use Rattle.bp_serve.specs.Turning.{Closes, Settles}
 use Rattle.bp_serve.proofs.Verdicts.{settles_over}
 use Rattle.bp_serve.proofs.Way.{same_code, recounts_in}
 

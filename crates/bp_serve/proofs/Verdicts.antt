@@ -1,9 +1,9 @@
 -- A verdict of merging is where the pair settles.
-use Rattle.std.proofs.Common.{◌≡◌, ℕ, ◌+◌, Bool, true, false, List, [], ◌∷◌, refl, ap, sym, ◌∙◌, subst, Option, Some, None, map}
+use Rattle.std.proofs.Common.{◌≡◌, ◌+◌, Bool, true, false, List, [], ◌∷◌, refl, ap, sym, ◌∙◌, Option, Some, None, map}
 use Rattle.bp_log.specs.declared.limits.TheConstants.{MOST_THREADS}
 use Rattle.bp_log.specs.declared.verdict.Verdict.{Verdict}
 use Rattle.bp_run.specs.Bodies.{Code}
-use Rattle.bp_run.specs.Settling.{Entry, Pair, Ran, ran, unless_at, unless_over, with_part, merged, turn, at_rest, settle}
+use Rattle.bp_run.specs.Settling.{Entry, Pair, Ran, ran, unless_at, with_part, merged, turn, at_rest, settle}
 use Rattle.bp_run.proofs.Turns.{settled, unsettled}
 
 unless_kept : {O : Type 0} (f : Pair O → Pair O) (p : Pair O) (v : Option Verdict) (w : Verdict) → v ≡ Some w → unless_at v f p ≡ p

@@ -81,7 +81,15 @@ pub fn run<K: Sink, L: Sink>(
 {
     let mut telling = Telling::begin(alloc, header, log)?;
     let options = header.options();
-    let ended = run_onto(alloc, program, options, beside.slice(), &mut telling, out, log);
+    let ended = run_onto(
+        alloc,
+        program,
+        options,
+        beside.slice(),
+        &mut telling,
+        out,
+        log,
+    );
     if let Err(RunFault::LogWrite) = ended {
         return Err(RunFault::LogWrite);
     }

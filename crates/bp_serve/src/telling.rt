@@ -26,7 +26,11 @@ pub(crate) struct Telling {
 
 impl Telling {
     /// The head of the log waits, where one is kept. Its only error is want of memory.
-    pub(crate) fn begin<L: Sink>(alloc: Global, header: &Header, log: &Option<L>) -> Result<Telling, Memory>
+    pub(crate) fn begin<L: Sink>(
+        alloc: Global,
+        header: &Header,
+        log: &Option<L>,
+    ) -> Result<Telling, Memory>
         ensures lines { IfOk result (λ t. t.lines ≡ []) }
         ensures kept { IfOk result (λ t. t.kept ≡ 0) }
         ensures shows { IfOk result (λ t.

@@ -1,10 +1,8 @@
 use Rattle.std.proofs.Common.{List, ◌++◌, refl, sym, subst, ◌∙◌}
 use Rattle.std.proofs.lemmas.Result.{err_from_is_err_and}
-use Rattle.bp_code.specs.Code.{records_alone}
 use Rattle.bp_log.specs.Logs.{records_text}
 use Rattle.bp_log.specs.declared.record.Record.{Record}
 use Rattle.bp_serve.specs.Logging.{LogShows, LogShowsFront}
-use Rattle.bp_serve.specs.Serving.{records_in}
 use Rattle.bp_serve.proofs.Logging.{log_shows_page, log_stop, log_stop_at}
 use Rattle.bp_serve.proofs.Way.{front_alone, front_all, front_opened, shows_opened, underway_opened, injectors_opened, records_opened, verdict_opened}
 use Rattle.bp_serve.proofs.running.run_onto.Goals as goal
@@ -30,14 +28,11 @@ returns-in_err-serve-clause-front g c =
     let p = err_from_is_err_and c.from_residual-in_err-serve.result c.from_residual-in_err-serve.ensures.1 in
     rw p.1 (front_opened c.args.program c.args.options c.in_ok-arbiter.arbiter c.in_ok-arbiter.ensures.opened _ _ _ c.in_err-serve.ensures.front)
 
--- the records of the run of the arbiter are those of the program
-at_program : (g : _) (c : goal.In_ok-arbiter g) (P : List Record → Type 0) → P (records_in c.in_ok-arbiter.arbiter) → P (records_alone c.args.program c.args.options)
-at_program g c P h = subst P (records_opened c.args.program c.args.options c.in_ok-arbiter.arbiter c.in_ok-arbiter.ensures.opened) h
-
 pub returns-in_err-serve-clause-log_front : goal.returns-in_err-serve-clause-log_front
 returns-in_err-serve-clause-log_front g c =
     let p = err_from_is_err_and c.from_residual-in_err-serve.result c.from_residual-in_err-serve.ensures.1 in
-    rw p.1 (at_program g c (λ (rs : List Record). LogShowsFront g.L.Sink.written c.args.log.now (c.args.telling.now.records ++ records_text rs) c.serve.new.telling.records c.serve.new.log) c.in_err-serve.ensures.log_front)
+    rw p.1 (subst (λ (rs : List Record). LogShowsFront g.L.Sink.written c.args.log.now (c.args.telling.now.records ++ records_text rs) c.serve.new.telling.records c.serve.new.log)
+    (records_opened c.args.program c.args.options c.in_ok-arbiter.arbiter c.in_ok-arbiter.ensures.opened) c.in_err-serve.ensures.log_front)
 
 pub returns-in_err-report-clause-front : goal.returns-in_err-report-clause-front
 returns-in_err-report-clause-front g c =
@@ -47,7 +42,8 @@ returns-in_err-report-clause-front g c =
 pub returns-in_err-report-clause-log_front : goal.returns-in_err-report-clause-log_front
 returns-in_err-report-clause-log_front g c =
     let p = err_from_is_err_and c.from_residual-in_err-report.result c.from_residual-in_err-report.ensures.1 in
-    rw p.1 (at_program g c (λ (rs : List Record). LogShowsFront g.L.Sink.written c.args.log.now (c.args.telling.now.records ++ records_text rs) c.serve.new.telling.records c.serve.new.log)
+    rw p.1 (subst (λ (rs : List Record). LogShowsFront g.L.Sink.written c.args.log.now (c.args.telling.now.records ++ records_text rs) c.serve.new.telling.records c.serve.new.log)
+    (records_opened c.args.program c.args.options c.in_ok-arbiter.arbiter c.in_ok-arbiter.ensures.opened)
     (log_stop g.L.Sink.written _ _ _ _ c.in_ok-serve.ensures.log_shows))
 
 pub returns-clause-shows : goal.returns-clause-shows
@@ -55,7 +51,8 @@ returns-clause-shows g c = shows_opened c.args.program c.args.options c.in_ok-ar
 
 pub returns-clause-log_shows : goal.returns-clause-log_shows
 returns-clause-log_shows g c =
-    at_program g c (λ (rs : List Record). LogShows g.L.Sink.written c.args.log.now (c.args.telling.now.records ++ records_text rs) c.serve.new.telling.records c.serve.new.log) c.in_ok-serve.ensures.log_shows
+    subst (λ (rs : List Record). LogShows g.L.Sink.written c.args.log.now (c.args.telling.now.records ++ records_text rs) c.serve.new.telling.records c.serve.new.log)
+    (records_opened c.args.program c.args.options c.in_ok-arbiter.arbiter c.in_ok-arbiter.ensures.opened) c.in_ok-serve.ensures.log_shows
 
 pub returns-clause-verdict : goal.returns-clause-verdict
 returns-clause-verdict g c =

@@ -1,4 +1,4 @@
-use Rattle.std.proofs.Common.{◌≡◌, ℕ, ◌≤◌, List, ◌++◌, arith, rules, length, take, [], sym, ap, subst, ◌∙◌}
+use Rattle.std.proofs.Common.{◌≡◌, ℕ, List, ◌++◌, arith, rules, length, take, [], sym, ap, subst, ◌∙◌}
 use Rattle.std.proofs.lemmas.Result.{err_from_is_err_and}
 use Rattle.bp_arbiter.specs.Arbiters.{code_in, options_in, stand_in}
 use Rattle.bp_floor.specs.declared.phase.Phase.TheVariants.{Over}
@@ -6,9 +6,9 @@ use Rattle.bp_log.specs.Logs.{records_text}
 use Rattle.bp_log.specs.declared.record.Record.{Record}
 use Rattle.bp_run.specs.Story.{alone}
 use Rattle.bp_serve.specs.Logging.{LogShows}
-use Rattle.bp_serve.proofs.Logging.{log_shows_page, log_more_on, log_more_front, log_stop_at, log_same, stays_on, fails_on}
-use Rattle.bp_serve.proofs.Pieces.{records_first, records_kept, records_later, records_rest, records_whole}
-use Rattle.bp_serve.proofs.Way.{Later, later_on, begins_none, shows_start, shows_lines, front_so_far, front_lines, shows_all, fewer, at_rest, Picks, underway_picked, recorded_all}
+use Rattle.bp_serve.proofs.Logging.{log_shows_page, log_stop_at, log_same, stays_on}
+use Rattle.bp_serve.proofs.Pieces.{records_first, records_rest, records_whole}
+use Rattle.bp_serve.proofs.Way.{log_told, log_front_told, begins_none, shows_start, shows_lines, front_so_far, front_lines, shows_all, fewer, at_rest, Picks, underway_picked, recorded_all}
 use Rattle.bp_serve.proofs.Turned.{underway_somewhere, underway_unlent}
 use Rattle.bp_serve.proofs.serving.serve.Goals as goal
 
@@ -23,22 +23,11 @@ loop-arbiter-init g c =
       stays = log_same g.L.Sink.made_as g.L.Sink.faults c.args.log.now;
     }
 
--- how the records stand when they are told
-record_at : (g : _) (c : goal.In_ok-settle g) → Later (code_in c.args.arbiter.now) (options_in c.args.arbiter.now) c.settle.new.arbiter.records
-record_at g c =
-    let a = c.args.arbiter.now in
-    let i = c.loop-arbiter.invariant.underway in
-    let u = c.in_ok-settle.ensures.keeps (code_in a) (options_in a) i.0 i.1 in
-    later_on (code_in a) (options_in a) c.settle.new.arbiter.phase c.settle.new.arbiter.records u.way
-
-kept_at : (g : _) (c : goal.In_ok-settle g) → c.loop-arbiter.telling.kept ≤ length c.settle.new.arbiter.records
-kept_at g c =
+pub tell-requires : goal.tell-requires
+tell-requires g c =
     let kept = c.loop-arbiter.invariant.kept in
     let more = c.in_ok-settle.ensures.records in
-    omega (arith, kept, more)
-
-pub tell-requires : goal.tell-requires
-tell-requires g c = record { kept = kept_at g c }
+    record { kept = omega (arith, kept, more) }
 
 pub returns-in_err-settle-clause-log_front : goal.returns-in_err-settle-clause-log_front
 returns-in_err-settle-clause-log_front g c =
@@ -51,22 +40,12 @@ pub returns-in_err-tell-clause-log_front : goal.returns-in_err-tell-clause-log_f
 returns-in_err-tell-clause-log_front g c =
     let p = err_from_is_err_and c.from_residual-in_err-tell.result c.from_residual-in_err-tell.ensures.1 in
     let a = c.args.arbiter.now in
-    let all = alone (code_in a) (options_in a) in
-    let l = record_at g c in
-    rw p.1 (log_more_front g.L.Sink.written _ c.loop-arbiter.log _ _ c.loop-arbiter.telling.records _ _ _ _
-    (records_later c.args.telling.now.records c.settle.new.arbiter.records l.later all c.loop-arbiter.telling.kept l.whole (kept_at g c))
-    c.loop-arbiter.invariant.log_shows c.in_err-tell.ensures.log_front)
-
--- the log after the telling
-told : (g : _) (c : goal.In_ok-tell g) →
-    LogShows g.L.Sink.written c.args.log.now (c.args.telling.now.records ++ records_text (take (length c.settle.new.arbiter.records) (alone (code_in c.args.arbiter.now) (options_in c.args.arbiter.now)))) c.tell.new.telling.records c.tell.new.log
-told g c =
-    let a = c.args.arbiter.now in
-    let all = alone (code_in a) (options_in a) in
-    let l = record_at g c in
-    log_more_on g.L.Sink.written _ c.loop-arbiter.log _ _ c.loop-arbiter.telling.records _ _ _
-    (records_kept c.args.telling.now.records c.settle.new.arbiter.records l.later all c.loop-arbiter.telling.kept l.whole (kept_at g c))
-    c.loop-arbiter.invariant.log_shows c.in_ok-tell.ensures.log_shows
+    let i = c.loop-arbiter.invariant.underway in
+    let u = c.in_ok-settle.ensures.keeps (code_in a) (options_in a) i.0 i.1 in
+    let kept = c.loop-arbiter.invariant.kept in
+    let more = c.in_ok-settle.ensures.records in
+    rw p.1 (log_front_told g.L.Sink.written (code_in a) (options_in a) c.settle.new.arbiter i.0 u c.loop-arbiter.telling.kept (omega (arith, kept, more)) c.args.telling.now.records c.loop-arbiter.telling.records
+    c.tell.new.telling.records c.args.log.now c.loop-arbiter.log c.tell.new.log c.loop-arbiter.invariant.log_shows c.in_err-tell.ensures.log_front)
 
 pub settle-requires-clause-stands : goal.settle-requires-clause-stands
 settle-requires-clause-stands g c =
@@ -121,11 +100,15 @@ returns-then-eq-clause-log_shows g c =
     let a = c.args.arbiter.now in
     let i = c.loop-arbiter.invariant.underway in
     let u = c.in_ok-settle.ensures.keeps (code_in a) (options_in a) i.0 i.1 in
+    let kept = c.loop-arbiter.invariant.kept in
+    let more = c.in_ok-settle.ensures.records in
     let over : c.tell.new.arbiter.phase ≡ Over = search rules in
     let all = alone (code_in a) (options_in a) in
     let rs = recorded_all (code_in a) (options_in a) c.settle.new.arbiter i.0 u (sym c.tell.ensures.phase ∙ over) in
     subst (λ (t : List ℕ). LogShows g.L.Sink.written c.args.log.now t c.tell.new.telling.records c.tell.new.log)
-    (records_whole c.args.telling.now.records all (length c.settle.new.arbiter.records) (ap (λ (es : List Record). length es) rs)) (told g c)
+    (records_whole c.args.telling.now.records all (length c.settle.new.arbiter.records) (ap (λ (es : List Record). length es) rs))
+    (log_told g.L.Sink.written (code_in a) (options_in a) c.settle.new.arbiter i.0 u c.loop-arbiter.telling.kept (omega (arith, kept, more)) c.args.telling.now.records c.loop-arbiter.telling.records
+    c.tell.new.telling.records c.args.log.now c.loop-arbiter.log c.tell.new.log c.loop-arbiter.invariant.log_shows c.in_ok-tell.ensures.log_shows)
 
 pub pick-requires : goal.pick-requires
 pick-requires g c =
@@ -154,8 +137,14 @@ pub returns-in_err-pick-clause-log_front : goal.returns-in_err-pick-clause-log_f
 returns-in_err-pick-clause-log_front g c =
     let p = err_from_is_err_and c.from_residual-in_err-pick.result c.from_residual-in_err-pick.ensures.1 in
     let a = c.args.arbiter.now in
+    let i = c.loop-arbiter.invariant.underway in
+    let u = c.in_ok-settle.ensures.keeps (code_in a) (options_in a) i.0 i.1 in
+    let kept = c.loop-arbiter.invariant.kept in
+    let more = c.in_ok-settle.ensures.records in
     let all = alone (code_in a) (options_in a) in
-    rw p.1 (log_stop_at g.L.Sink.written _ _ _ _ _ _ (records_rest c.args.telling.now.records all (length c.settle.new.arbiter.records)) (told g c))
+    rw p.1 (log_stop_at g.L.Sink.written _ _ _ _ _ _ (records_rest c.args.telling.now.records all (length c.settle.new.arbiter.records))
+    (log_told g.L.Sink.written (code_in a) (options_in a) c.settle.new.arbiter i.0 u c.loop-arbiter.telling.kept (omega (arith, kept, more)) c.args.telling.now.records c.loop-arbiter.telling.records
+    c.tell.new.telling.records c.args.log.now c.loop-arbiter.log c.tell.new.log c.loop-arbiter.invariant.log_shows c.in_ok-tell.ensures.log_shows))
 
 picks : (g : _) (c : goal.In_ok-pick g) → Picks (code_in c.args.arbiter.now) (options_in c.args.arbiter.now) c.tell.new.arbiter c.pick.new.self (c.loop-arbiter.invariant.underway.0 ++ (stand_in c.settle.new.arbiter).lines)
 picks g c =
@@ -186,8 +175,10 @@ loop-arbiter-preserved g c =
     let lines = (stand_in c.settle.new.arbiter).lines in
     let counted = c.tell.ensures.counts in
     let before = c.loop-arbiter.invariant.counts in
-    let kept = c.in_ok-tell.ensures.kept in
-    let more = (picks g c).more in
+    let all_kept = c.in_ok-tell.ensures.kept in
+    let one = (picks g c).more in
+    let kept = c.loop-arbiter.invariant.kept in
+    let more = c.in_ok-settle.ensures.records in
     let same = ap (λ (es : List Record). length es) c.tell.ensures.records in
     record {
       underway = (
@@ -196,9 +187,11 @@ loop-arbiter-preserved g c =
         t.begins (code_in a) (options_in a) i.0 c.requires.alone u,
         shows_lines _ _ _ i.0 lines c.loop-arbiter.telling.lines _ i.3 c.in_ok-tell.ensures.shows,
       );
-      kept = omega (arith, kept, more, same);
+      kept = omega (arith, all_kept, one, same);
       log_shows = subst (λ (n : ℕ). LogShows g.L.Sink.written c.args.log.now (c.args.telling.now.records ++ records_text (take n (alone (code_in a) (options_in a)))) c.tell.new.telling.records c.tell.new.log)
-          (sym kept) (told g c);
+          (sym all_kept)
+          (log_told g.L.Sink.written (code_in a) (options_in a) c.settle.new.arbiter i.0 u c.loop-arbiter.telling.kept (omega (arith, kept, more)) c.args.telling.now.records c.loop-arbiter.telling.records
+          c.tell.new.telling.records c.args.log.now c.loop-arbiter.log c.tell.new.log c.loop-arbiter.invariant.log_shows c.in_ok-tell.ensures.log_shows);
       counts = omega (arith, counted, before);
       stays = stays_on g.L.Sink.made_as g.L.Sink.faults _ c.loop-arbiter.log _ c.loop-arbiter.invariant.stays c.tell.ensures.stays;
     }

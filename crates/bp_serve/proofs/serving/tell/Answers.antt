@@ -25,15 +25,14 @@ returns-clause-keeps g c =
     takes_lines c.args.arbiter.now c.take_lines-lines.new.self c.take_lines-lines.result t.taken t.none t.ground t.options t.records t.phase t.stands
     c.keeps.ensures.tells c.keeps.ensures.exact
 
--- the records that were told
-told : (g : _) (c : goal.In_ok-record g) →
-    LogShows g.L.Sink.written c.args.log.now (c.args.telling.now.records ++ records_text (drop c.args.telling.now.kept c.args.arbiter.now.records)) c.record.new.self.records c.record.new.log
-told g c =
-    subst (λ (rs : List Record). LogShows g.L.Sink.written c.args.log.now (c.args.telling.now.records ++ records_text (drop c.args.telling.now.kept rs)) c.record.new.self.records c.record.new.log)
-    (c.records.ensures ∙ c.take_lines-lines.ensures.records) c.in_ok-record.ensures.shows
-
 pub returns-clause-log_shows : goal.returns-clause-log_shows
-returns-clause-log_shows g c = log_then g.L.Sink.written c.print.result _ c.record.new.log _ _ c.record.new.self.records _ (told g c) c.print.ensures.log_shows
+returns-clause-log_shows g c =
+    log_then g.L.Sink.written c.print.result _ c.record.new.log _ _ c.record.new.self.records _
+    (subst (λ (rs : List Record). LogShows g.L.Sink.written c.args.log.now (c.args.telling.now.records ++ records_text (drop c.args.telling.now.kept rs)) c.record.new.self.records c.record.new.log)
+    (c.records.ensures ∙ c.take_lines-lines.ensures.records) c.in_ok-record.ensures.shows) c.print.ensures.log_shows
 
 pub returns-clause-log_front : goal.returns-clause-log_front
-returns-clause-log_front g c = log_front_then g.L.Sink.written c.print.result _ c.record.new.log _ _ c.record.new.self.records _ (told g c) c.print.ensures.log_front
+returns-clause-log_front g c =
+    log_front_then g.L.Sink.written c.print.result _ c.record.new.log _ _ c.record.new.self.records _
+    (subst (λ (rs : List Record). LogShows g.L.Sink.written c.args.log.now (c.args.telling.now.records ++ records_text (drop c.args.telling.now.kept rs)) c.record.new.self.records c.record.new.log)
+    (c.records.ensures ∙ c.take_lines-lines.ensures.records) c.in_ok-record.ensures.shows) c.print.ensures.log_front

@@ -1,4 +1,4 @@
-use Rattle.std.proofs.Common.{arith, ◌∙◌, refl, []}
+use Rattle.std.proofs.Common.{arith, ◌∙◌, refl}
 use Rattle.std.proofs.lemmas.Result.{err_from_is_err_and}
 use Rattle.bp_serve.proofs.Pieces.{shows_none, shows_on, front_on, line_on, line_whole}
 use Rattle.bp_serve.proofs.Logging.{log_shows_page, log_on, log_front_on, log_same, stays_on}

@@ -1,7 +1,7 @@
-use Rattle.std.proofs.Common.{[], ◌++◌, ◌∙◌, ap, sym, append-nil, refl}
+use Rattle.std.proofs.Common.{[], ◌++◌, ap, sym, append-nil}
 use Rattle.std.proofs.lemmas.Result.{err_from_is_err_and}
 use Rattle.bp_serve.proofs.Pieces.{shows_page, shows_part}
-use Rattle.bp_serve.proofs.Logging.{log_shows_page, log_stop, log_same}
+use Rattle.bp_serve.proofs.Logging.{log_shows_page, log_stop}
 use Rattle.bp_serve.proofs.telling.Telling.print_line.Goals as goal
 
 pub returns-in_err-add_line-clause-front : goal.returns-in_err-add_line-clause-front

@@ -1,4 +1,4 @@
-use Rattle.std.proofs.Common.{List, [], ◌++◌, ◌∙◌, ap, sym, append-nil, refl, subst, ℕ, Some}
+use Rattle.std.proofs.Common.{List, [], ◌++◌, ap, sym, append-nil, subst, ℕ, Some}
 use Rattle.std.proofs.lemmas.List.{take_rest}
 use Rattle.std.proofs.lemmas.Result.{err_from_is_err_and}
 use Rattle.bp_base.specs.Pieces.{AppendsFront}

@@ -1,4 +1,4 @@
-use Rattle.std.proofs.Common.{[], ◌≡◌, ap, subst, sym, append-nil, refl, rules}
+use Rattle.std.proofs.Common.{[], ◌≡◌, ap, sym, append-nil}
 use Rattle.std.proofs.lemmas.Result.{err_from_is_err_and}
 use Rattle.bp_serve.proofs.Pieces.{shows_stop, shows_page}
 use Rattle.bp_serve.proofs.telling.Telling.write.Goals as goal
