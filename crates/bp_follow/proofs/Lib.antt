@@ -1,0 +1,4 @@
+pub mod Tales
+pub mod Steps
+pub mod Shows
+pub mod Loop
