@@ -2,3 +2,4 @@ pub mod Tales
 pub mod Steps
 pub mod Shows
 pub mod Loop
+pub mod Opened

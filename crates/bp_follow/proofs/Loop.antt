@@ -208,9 +208,10 @@ lines_after s (End v) = refl
 
 -- the story with its end, and the text with the line of the verdict
 pub told_end : (c : Course) (v : Verdict) (d : Configuration Origin) → IsTold c → is_complete c.records ≡ false → led c (End v) ≡ Some d → IsTold (onto c (End v) d) × (text_in (onto c (End v) d) ≡ text_in c ++ lines_text (trace.Verdict v ∷ []))
-told_end c v d t g h =
-    (one_more (code_in c) c.options c.records c.told (End v) t g ∙ h,
-    ap (λ (x : Configuration Origin). lines_text x.stand.lines) (end_told (code_in c) c.options c.told d v h).1 ∙ lines_text-append c.told.stand.lines (trace.Verdict v ∷ []))
+told_end c v d t g h = (
+  one_more (code_in c) c.options c.records c.told (End v) t g ∙ h,
+  ap (λ (x : Configuration Origin). lines_text x.stand.lines) (end_told (code_in c) c.options c.told d v h).1 ∙ lines_text-append c.told.stand.lines (trace.Verdict v ∷ []),
+)
 
 -- what a record that was not followed answers is neither of the reader nor of the output
 pub followed_log : (c : Course) (r : Record) (n : ℕ) (a : PlainArbiter) (e : ReplayFault) (f : LogFault) → Followed c r n a (Err e) → e ≡ fault.Log f → ⊥

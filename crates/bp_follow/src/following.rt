@@ -96,12 +96,7 @@ fn compare(arbiter: &Arbiter, number: u32, found: Record) -> Result<(), ReplayFa
 }
 
 /// The run makes its next record, which is to be this one.
-fn make(
-    alloc: Global,
-    arbiter: &mut Arbiter,
-    number: u32,
-    found: Record,
-) -> Result<(), ReplayFault>
+fn make(alloc: Global, arbiter: &mut Arbiter, number: u32, found: Record) -> Result<(), ReplayFault>
     requires rest { arbiter.old.phase ≡ phase.Rest }
     requires there { IsSomewhere arbiter.old }
     ensures { (c : Course) → IsThere c arbiter.old → enters c.told found ≡ false →

@@ -6,4 +6,4 @@ mod following;
 mod telling;
 
 pub use fault::ReplayFault;
-pub use telling::tell;
+pub use telling::replay_onto;

@@ -9,15 +9,16 @@ ghost use Rattle.bp_reader.specs.declared.fault.LogFault.TheVariants as log_faul
 ghost use Rattle.bp_arbiter.specs.Arbiters.{options_in};
 ghost use Rattle.bp_serve.specs.Pages.{Shows, ShowsFront};
 ghost use Rattle.bp_follow.specs.Courses.{Course};
-ghost use Rattle.bp_follow.specs.Following.{Finishes, first_of, IsOnSomeWay, IsOnWay, IsSaid, IsThere, Shown, Tells};
+ghost use Rattle.bp_follow.specs.Following.{Finishes, first_course, first_of, IsOnSomeWay, IsOnWay, IsSaid, IsThere, Shown, Tells};
 
 use crate::ReplayFault;
 use crate::following::follow;
 use bp_arbiter::Arbiter;
 use bp_base::{Sink, Source};
-use bp_log::{Beside, Line, PrintError, Verdict};
+use bp_log::{Beside, Line, Options, PrintError, Verdict};
 use bp_reader::Reader;
 use bp_serve::{Page, settle};
+use js_program::Program;
 use std::alloc::Global;
 
 /// The lines without the last.
@@ -56,7 +57,7 @@ fn show<K: Sink>(
         Shows (K.written out.old) (page.old ++ lines_text w.more) page.new (K.written out.new)) }
     ensures front { OnErr result ((c : Course) (taken : List Told) (w : IsOnWay c taken arbiter.old) →
         ShowsFront (K.written out.old) (page.old ++ lines_text w.more) page.new
-            (K.written out.new)) }
+        (K.written out.new)) }
     ensures cause { IsErrOf result PrintError.Write → Rose (K.faults out.old) (K.faults out.new) }
     ensures counts { K.faults out.old ≤ K.faults out.new }
 {
@@ -94,7 +95,7 @@ fn finish<S: Source, K: Sink>(
 }
 
 /// Follows the log record by record to its end.
-pub fn tell<S: Source, K: Sink>(
+fn tell<S: Source, K: Sink>(
     alloc: Global,
     reader: &mut Reader<S>,
     arbiter: &mut Arbiter,
@@ -127,4 +128,30 @@ pub fn tell<S: Source, K: Sink>(
             return finish(alloc, reader, verdict, page, out);
         }
     }
+}
+
+/// Makes the run of the program again, as far as the records that are still to be read are its own, and puts its text
+/// on the page. After `Write` and `Memory` a front of the text of such records was written or waits.
+pub fn replay_onto<S: Source, K: Sink>(
+    alloc: Global,
+    program: Program,
+    options: Options,
+    reader: &mut Reader<S>,
+    page: &mut Page,
+    out: &mut K,
+) -> Result<Verdict, ReplayFault>
+    requires fresh { reader.old.refusal ≡ None }
+    requires stage { reader.old.stage ≡ first_stage options.injectors }
+    requires empty { page.old ≡ [] }
+    ensures tells { IfSome reader.old.left (λ rest. Tells (first_course program options) rest
+        (K.written out.old) page.new (K.written out.new) result) }
+    ensures read { IsErrOf result (ReplayFault.Log log_fault.Read)
+        → Rose reader.old.faults reader.new.faults }
+    ensures write { IsErrOf result ReplayFault.Write
+        → Rose (K.faults out.old) (K.faults out.new) }
+    ensures read_counts { reader.old.faults ≤ reader.new.faults }
+    ensures write_counts { K.faults out.old ≤ K.faults out.new }
+{
+    let mut arbiter = Arbiter::open(alloc, program, options)?;
+    tell(alloc, reader, &mut arbiter, page, out)
 }
