@@ -5,7 +5,7 @@ use Rattle.std.specs.Str.{all_ascii_digits, bytes_eq}
 use Rattle.bp_log.specs.Logs.{strategy_at}
 use Rattle.bp_reading.specs.Words.{value_on, most_32}
 use Rattle.bp_args.specs.declared.said.Key.{Key}
-use Rattle.bp_args.specs.declared.said.Key.TheVariants.{Log, Strategy, Seed, Budget, Steps}
+use Rattle.bp_args.specs.declared.said.Key.TheVariants.{Log, Strategy, Seed, Budget, Steps, Workers, Slice}
 use Rattle.bp_args.specs.declared.said.Waiting.{Waiting}
 use Rattle.bp_args.specs.declared.said.Waiting.TheVariants.{Any, Value, Name}
 use Rattle.bp_args.specs.declared.said.Said.{Said}
@@ -32,6 +32,8 @@ key_of word =
     else if bytes_eq word (codes "--seed") then Some Seed
     else if bytes_eq word (codes "--budget") then Some Budget
     else if bytes_eq word (codes "--steps") then Some Steps
+    else if bytes_eq word (codes "--workers") then Some Workers
+    else if bytes_eq word (codes "--slice") then Some Slice
     else None
 
 -- a value is said at most once
@@ -52,6 +54,8 @@ set s Strategy v = option_map (λ o. record s { waiting = Any; strategy = o }) (
 set s Seed v = option_map (λ o. record s { waiting = Any; seed = o }) (once s.seed (number_word most_64 v))
 set s Budget v = option_map (λ o. record s { waiting = Any; budget = o }) (once s.budget (number_word most_64 v))
 set s Steps v = option_map (λ o. record s { waiting = Any; steps = o }) (once s.steps (number_word most_32 v))
+set s Workers v = option_map (λ o. record s { waiting = Any; workers = o }) (once s.workers (number_word most_32 v))
+set s Slice v = option_map (λ o. record s { waiting = Any; slice = o }) (once s.slice (number_word most_64 v))
 
 -- the word is the one name
 abbrev pub name : Said → List ℕ → Option Said
@@ -84,7 +88,17 @@ step s word = step_at s word s.waiting
 
 -- nothing is said
 abbrev pub nothing_said : Said
-nothing_said = record { waiting = Any; name = None; log = None; strategy = None; seed = None; budget = None; steps = None }
+nothing_said = record {
+  waiting = Any;
+  name = None;
+  log = None;
+  strategy = None;
+  seed = None;
+  budget = None;
+  steps = None;
+  workers = None;
+  slice = None;
+}
 
 abbrev pub said_on : Said → List (List ℕ) → Option Said
 said_on s [] = Some s

@@ -1,13 +1,16 @@
 //! The command that words are.
 ghost use Rattle.std.specs.Prelude.{◌≡◌, Some, None, map, string_bytes, IfOk, IsErrOf, if◌then◌else◌};
 ghost use Rattle.bp_args.specs.Said.{nothing_said, said_on};
-ghost use Rattle.bp_args.specs.Command.{options_of, in_range, is_apart as apart, run_of, bare_name, command_with, command_of};
+ghost use Rattle.bp_args.specs.Command.{options_of, in_range, beside_of, beside_in_range, is_apart as apart, run_of, bare_name, large_of, command_with, command_of};
 
-use crate::said::Said;
-use bp_log::Options;
+use crate::said::{Said, number_of};
+use bp_log::{Beside, Options};
 use js_data::Text;
 use std::alloc::{AllocError, Global};
 use thiserror::Error;
+
+/// The most b-threads of the large program.
+pub const MOST_LARGE: u32 = 4_000;
 
 /// What is run, and how.
 #[derive(Debug, Drop)]
@@ -18,6 +21,8 @@ pub struct Run {
     pub log: Option<Text>,
     /// What is asked of the run.
     pub options: Options,
+    /// What is asked of the machine that runs, and shows in no output.
+    pub beside: Beside,
 }
 
 /// A command.
@@ -29,6 +34,8 @@ pub enum Command {
     Replay(Text),
     /// The program of this name is accepted or refused, and not run.
     Accept(Text),
+    /// A program that the command makes itself is run, with 1 to 4,000 b-threads, and its text is measured.
+    Large(u32),
 }
 
 /// Why there is no command.
@@ -65,6 +72,16 @@ fn options_of(said: &Said) -> Option<Options>
     Options::new(strategy, seed, budget, steps, 0)
 }
 
+/// Workers and slice as they are said, or `None` exactly where one is out of its range.
+fn beside_of(said: &Said) -> Option<Beside>
+    ensures { result ≡ (if beside_in_range (beside_of said.now) then Some (beside_of said.now) else None) }
+{
+    let defaults = Beside::defaults();
+    let workers = said.workers.unwrap_or(defaults.workers());
+    let slice = said.slice.unwrap_or(defaults.slice());
+    Beside::new(workers, slice)
+}
+
 /// Whether the log has another name than the program.
 fn is_apart(program: &Text, log: &Option<Text>) -> bool
     ensures { result ≡ apart program.now log.now }
@@ -80,6 +97,7 @@ fn run_of(said: Said) -> Option<Command>
     ensures { result ≡ run_of said }
 {
     let options = options_of(&said)?;
+    let beside = beside_of(&said)?;
     let (name, log) = said.into_names();
     let program = name?;
     if !is_apart(&program, &log) {
@@ -89,6 +107,7 @@ fn run_of(said: Said) -> Option<Command>
         program,
         log,
         options,
+        beside,
     }))
 }
 
@@ -103,6 +122,17 @@ fn bare_name(said: Said) -> Option<Text>
     name
 }
 
+/// The number of b-threads, or `None` exactly where the word is no number from 1 to the most.
+fn large_of(word: &Text) -> Option<u32>
+    ensures { result ≡ large_of word.now }
+{
+    let threads = number_of(word.as_str(), u64::from(MOST_LARGE))?;
+    if threads < 1 {
+        return None;
+    }
+    Some(threads as u32)
+}
+
 /// The command of this first word, where this is said behind it.
 fn command_with(verb: &str, said: Said) -> Option<Command>
     ensures { result ≡ command_with verb.now said }
@@ -114,6 +144,7 @@ fn command_with(verb: &str, said: Said) -> Option<Command>
         "run" => run_of(said),
         "replay" => Some(Command::Replay(bare_name(said)?)),
         "accept" => Some(Command::Accept(bare_name(said)?)),
+        "large" => Some(Command::Large(large_of(&bare_name(said)?)?)),
         _ => None,
     }
 }

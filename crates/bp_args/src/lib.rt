@@ -4,4 +4,4 @@
 mod command;
 mod said;
 
-pub use command::{Command, Run, Usage, read};
+pub use command::{Command, MOST_LARGE, Run, Usage, read};

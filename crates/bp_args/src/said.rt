@@ -22,6 +22,10 @@ pub enum Key {
     Budget,
     /// The limit of steps.
     Steps,
+    /// The number of workers.
+    Workers,
+    /// The nodes of a slice.
+    Slice,
 }
 
 /// What the next word may be.
@@ -36,7 +40,7 @@ pub enum Waiting {
 }
 
 /// What the words said so far.
-#[derive(Debug, Drop)]
+#[derive(Debug)]
 pub struct Said {
     /// What the next word may be.
     pub waiting: Waiting,
@@ -52,6 +56,26 @@ pub struct Said {
     pub budget: Option<u64>,
     /// The limit of steps.
     pub steps: Option<u32>,
+    /// The number of workers.
+    pub workers: Option<u32>,
+    /// The nodes of a slice.
+    pub slice: Option<u64>,
+}
+
+impl Drop for Said {
+    fn drop(self) {
+        let Said {
+            waiting: _,
+            name: _,
+            log: _,
+            strategy: _,
+            seed: _,
+            budget: _,
+            steps: _,
+            workers: _,
+            slice: _,
+        } = self;
+    }
 }
 
 /// Whether it is `-` or doesn't begin with `-`.
@@ -78,13 +102,17 @@ fn key_of(word: &[u8]) -> Option<Key>
         Some(Key::Budget)
     } else if word == b"--steps".as_slice() {
         Some(Key::Steps)
+    } else if word == b"--workers".as_slice() {
+        Some(Key::Workers)
+    } else if word == b"--slice".as_slice() {
+        Some(Key::Slice)
     } else {
         None
     }
 }
 
 /// The number of 1 to 20 digits, at most `most`.
-fn number_of(word: &str, most: u64) -> Option<u64>
+pub(crate) fn number_of(word: &str, most: u64) -> Option<u64>
     ensures { result ≡ number_word most word.now }
 {
     let digits = word.as_bytes();
@@ -141,6 +169,8 @@ impl Said {
             seed: None,
             budget: None,
             steps: None,
+            workers: None,
+            slice: None,
         }
     }
 
@@ -158,8 +188,10 @@ impl Said {
     pub fn is_bare(&self) -> bool
         ensures { result ≡ bare self.now }
     {
-        let numbers = self.seed.is_some() || (self.budget.is_some() || self.steps.is_some());
-        let some = self.log.is_some() || (self.strategy.is_some() || numbers);
+        let beside = self.workers.is_some() || self.slice.is_some();
+        let limits = self.budget.is_some() || (self.steps.is_some() || beside);
+        let some = self.log.is_some()
+            || (self.strategy.is_some() || (self.seed.is_some() || limits));
         !some
     }
 
@@ -175,6 +207,8 @@ impl Said {
             seed: _,
             budget: _,
             steps: _,
+            workers: _,
+            slice: _,
         } = self;
         (name, log)
     }
@@ -255,6 +289,32 @@ impl Said {
         Ok(())
     }
 
+    fn set_workers(&mut self, value: &str) -> Result<(), Usage>
+        ensures set { IfOk result (λ _. with_value self.old Key.Workers value.now ≡ Some self.new) }
+        ensures wrong { IsErrOf result Usage.Wrong → with_value self.old Key.Workers value.now ≡ None }
+    {
+        let workers = small_number_of(value);
+        if self.workers.is_some() || workers.is_none() {
+            return Err(Usage::Wrong);
+        }
+        self.workers = workers;
+        self.waiting = Waiting::Any;
+        Ok(())
+    }
+
+    fn set_slice(&mut self, value: &str) -> Result<(), Usage>
+        ensures set { IfOk result (λ _. with_value self.old Key.Slice value.now ≡ Some self.new) }
+        ensures wrong { IsErrOf result Usage.Wrong → with_value self.old Key.Slice value.now ≡ None }
+    {
+        let slice = number_of(value, u64::MAX);
+        if self.slice.is_some() || slice.is_none() {
+            return Err(Usage::Wrong);
+        }
+        self.slice = slice;
+        self.waiting = Waiting::Any;
+        Ok(())
+    }
+
     /// The option gets the value.
     fn set(&mut self, alloc: Global, key: Key, value: &str) -> Result<(), Usage>
         ensures set { IfOk result (λ _. with_value self.old key value.now ≡ Some self.new) }
@@ -266,6 +326,8 @@ impl Said {
             Key::Seed => self.set_seed(value),
             Key::Budget => self.set_budget(value),
             Key::Steps => self.set_steps(value),
+            Key::Workers => self.set_workers(value),
+            Key::Slice => self.set_slice(value),
         }
     }
 

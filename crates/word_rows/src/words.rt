@@ -6,18 +6,21 @@ use std::test::Fail;
 
 fn shown_run(alloc: Global, run: &Run) -> Result<String, Fail> {
     let options = run.options;
+    let beside = run.beside;
     let log = match &run.log {
         None => "none",
         Some(log) => log.as_str(),
     };
     Ok(format!(in alloc;
-        "run {} log {} {} {} {} {}",
+        "run {} log {} {} {} {} {} {} {}",
         run.program.as_str(),
         log,
         options.strategy().name(),
         options.seed(),
         options.budget(),
-        options.steps()
+        options.steps(),
+        beside.workers(),
+        beside.slice()
     )?)
 }
 
@@ -29,6 +32,7 @@ fn shown(alloc: Global, words: &[String]) -> Result<String, Fail> {
             Command::Run(run) => shown_run(alloc, run),
             Command::Replay(name) => Ok(format!(in alloc; "replay {}", name.as_str())?),
             Command::Accept(name) => Ok(format!(in alloc; "accept {}", name.as_str())?),
+            Command::Large(threads) => Ok(format!(in alloc; "large {threads}")?),
         },
     }
 }
@@ -49,24 +53,30 @@ fn agree(rt: &impl Abort, alloc: Global, table: &str) -> Result<(), Fail> {
 }
 
 const GOOD: &str = r#"
-run p ==> run p log none simple 0 1000000 100000
+run p ==> run p log none simple 0 1000000 100000 4 10000
 accept p ==> accept p
 replay l ==> replay l
-run - ==> run - log none simple 0 1000000 100000
-run <> ==> run  log none simple 0 1000000 100000
-run -- -p ==> run -p log none simple 0 1000000 100000
-run -- -- ==> run -- log none simple 0 1000000 100000
-run -- --seed=1 ==> run --seed=1 log none simple 0 1000000 100000
-run p -- ==> run p log none simple 0 1000000 100000
+run - ==> run - log none simple 0 1000000 100000 4 10000
+run <> ==> run  log none simple 0 1000000 100000 4 10000
+run -- -p ==> run -p log none simple 0 1000000 100000 4 10000
+run -- -- ==> run -- log none simple 0 1000000 100000 4 10000
+run -- --seed=1 ==> run --seed=1 log none simple 0 1000000 100000 4 10000
+run p -- ==> run p log none simple 0 1000000 100000 4 10000
 replay -- -l ==> replay -l
-run --log l p ==> run p log l simple 0 1000000 100000
-run p --log=l ==> run p log l simple 0 1000000 100000
-run --log=-l p ==> run p log -l simple 0 1000000 100000
-run --log - p ==> run p log - simple 0 1000000 100000
-run --log=a=b p ==> run p log a=b simple 0 1000000 100000
-run --strategy ordered p --seed 18446744073709551615 --budget=1000000000 --steps=1000000 ==> run p log none ordered 18446744073709551615 1000000000 1000000
-run --strategy=priority --seed=00000000000000000007 --budget 1 --steps 1 p ==> run p log none priority 7 1 1
-run a=b ==> run a=b log none simple 0 1000000 100000
+run --log l p ==> run p log l simple 0 1000000 100000 4 10000
+run p --log=l ==> run p log l simple 0 1000000 100000 4 10000
+run --log=-l p ==> run p log -l simple 0 1000000 100000 4 10000
+run --log - p ==> run p log - simple 0 1000000 100000 4 10000
+run --log=a=b p ==> run p log a=b simple 0 1000000 100000 4 10000
+run --strategy ordered p --seed 18446744073709551615 --budget=1000000000 --steps=1000000 ==> run p log none ordered 18446744073709551615 1000000000 1000000 4 10000
+run --strategy=priority --seed=00000000000000000007 --budget 1 --steps 1 p ==> run p log none priority 7 1 1 4 10000
+run p --workers 64 --slice=1000000000 ==> run p log none simple 0 1000000 100000 64 1000000000
+run --workers=01 --slice 1 p ==> run p log none simple 0 1000000 100000 1 1
+large 1 ==> large 1
+large 4000 ==> large 4000
+large 0002 ==> large 2
+large -- 3 ==> large 3
+run a=b ==> run a=b log none simple 0 1000000 100000 4 10000
 "#;
 
 const WRONG: &str = r#"
@@ -74,7 +84,17 @@ const WRONG: &str = r#"
 run ==> wrong
 accept ==> wrong
 replay ==> wrong
-large 4 ==> wrong
+large ==> wrong
+large 0 ==> wrong
+large 4001 ==> wrong
+large 4294967297 ==> wrong
+large +4 ==> wrong
+large -4 ==> wrong
+large 4x ==> wrong
+large 000000000000000000004 ==> wrong
+large 4 4 ==> wrong
+large --seed=1 4 ==> wrong
+large --workers 2 4 ==> wrong
 help ==> wrong
 -h ==> wrong
 --help ==> wrong
@@ -87,8 +107,15 @@ run -- p q ==> wrong
 accept p q ==> wrong
 run -p ==> wrong
 run --- ==> wrong
-run --workers 4 p ==> wrong
-run --slice=1 p ==> wrong
+run --workers 0 p ==> wrong
+run --workers 65 p ==> wrong
+run --workers= p ==> wrong
+run --workers 4 --workers=4 p ==> wrong
+run --slice=0 p ==> wrong
+run --slice 1000000001 p ==> wrong
+run --slice 1 --slice 1 p ==> wrong
+accept --slice=1 p ==> wrong
+replay l --workers 2 ==> wrong
 run --log ==> wrong
 run p --log ==> wrong
 run p --log= ==> wrong
