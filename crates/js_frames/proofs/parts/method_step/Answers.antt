@@ -5,7 +5,7 @@ use Rattle.js_ops.specs.Methods.{method_of, method_named}
 use Rattle.js_meaning.specs.State.{answered}
 use Rattle.js_meaning.specs.Calls.{applies}
 use Rattle.js_frames.proofs.Becoming.{fails_so, becomes_as}
-use Rattle.js_frames.proofs.parts.apply_method.Goals as goal
+use Rattle.js_frames.proofs.parts.method_step.Goals as goal
 
 pub returns-in-None : goal.returns-in-None
 returns-in-None c = fails_so _ _ fault.Mistyped c.args.line c.mistyped.ensures (λ g s. ap (λ m. applies c.args.line m (plain_value c.args.on.now) c.args.args.now s) (c.in-None.ensures ∙ ap method_named c.as_str.ensures))
