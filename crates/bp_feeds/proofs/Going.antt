@@ -5,11 +5,11 @@ use Rattle.std.proofs.lemmas.List.Folds.{list_any-append}
 use Rattle.bp_base.specs.Counts.{Rose}
 use Rattle.bp_lanes.specs.Lanes.{offered, IsSameMouth}
 use Rattle.bp_log.specs.declared.item.Item.{Item}
-use Rattle.bp_feeds.specs.declared.lines.Lines.{Lines}
+use Rattle.bp_feeds.specs.declared.line_reader.LineReader.{LineReader}
 use Rattle.bp_feeds.specs.declared.feed.Feed.{Feed}
 use Rattle.bp_feeds.specs.Items.{is_fault, has_fault}
 use Rattle.bp_feeds.specs.Reading.{Reading, HasRead, ReadsOn, IsSameReading}
-use Rattle.bp_feeds.specs.Feeds.{reading_of, given, GoesOn}
+use Rattle.bp_feeds.specs.Feeds.{reading_of, given, StandsTo, GoesOn}
 use Rattle.bp_feeds.proofs.Within.{same_read}
 
 -- a count that rose has risen when it rises on, and so has one that rises later
@@ -21,13 +21,28 @@ rose_from a b c r from = grind arith
 
 -- nothing was read
 pub reads_nothing : (r : Reading) → ReadsOn r [] r
-reads_nothing r = record { kept = λ bytes given h. subst (λ l. HasRead bytes l r) (sym (append-nil given)) h }
+reads_nothing r = record {
+  came = [];
+  on = λ start took given h. subst (λ l. HasRead start (took ++ []) l r) (sym (append-nil given)) (subst (λ t. HasRead start t given r) (sym (append-nil took)) h);
+}
 
 pub reads_same : (old new : Reading) → IsSameReading old new → ReadsOn old [] new
-reads_same old new s = record { kept = λ bytes given h. subst (λ l. HasRead bytes l new) (sym (append-nil given)) (same_read bytes given old new s h) }
+reads_same old new s = record {
+  came = s.came;
+  on = λ start took given h. subst (λ l. HasRead start (took ++ s.came) l new) (sym (append-nil given)) (same_read start took given old new s h);
+}
 
-faults_of : (xs ys zs : List Item) → zs ≡ xs ++ ys → has_fault zs ≡ true → (has_fault xs ≡ true) ⊎ (has_fault ys ≡ true)
-faults_of xs ys zs is h = or_cases (has_fault xs) (has_fault ys) (sym (list_any-append is_fault xs ys) ∙ ap has_fault (sym is) ∙ h)
+-- what is read in two steps
+pub reads_both : (a b c : Reading) (xs ys : List Item) → ReadsOn a xs b → ReadsOn b ys c → ReadsOn a (xs ++ ys) c
+reads_both a b c xs ys r s = record {
+  came = r.came ++ s.came;
+  on = λ start took given h.
+      subst (λ l. HasRead start (took ++ (r.came ++ s.came)) l c) (append_assoc given xs ys)
+      (subst (λ t. HasRead start t ((given ++ xs) ++ ys) c) (append_assoc took r.came s.came) (s.on start (took ++ r.came) (given ++ xs) (r.on start took given h)));
+}
+
+faults_of : (xs ys : List Item) → has_fault (xs ++ ys) ≡ true → (has_fault xs ≡ true) ⊎ (has_fault ys ≡ true)
+faults_of xs ys h = or_cases (has_fault xs) (has_fault ys) (sym (list_any-append is_fault xs ys) ∙ h)
 
 module _ {S : Type 0} (left : S → Option (List ℕ)) (faults : S → ℕ) where
   -- a step that gave these items more
@@ -35,16 +50,7 @@ module _ {S : Type 0} (left : S → Option (List ℕ)) (faults : S → ℕ) wher
       → ReadsOn (reading_of left old.lines) more (reading_of left new.lines)
       → (has_fault more ≡ true → Rose (faults old.lines.source) (faults new.lines.source)) → faults old.lines.source ≤ faults new.lines.source
       → GoesOn left faults old new
-  goes_more old new more lane all reads cause counts = record {
-    lane = lane;
-    stands = λ bytes before s. record {
-      gave = s.gave ++ more;
-      all = all ∙ ap (λ l. l ++ more) s.all ∙ append_assoc before s.gave more;
-      read = reads.kept bytes s.gave s.read;
-    };
-    cause = λ h. ⊎_elim (λ (a : has_fault (given old) ≡ true). inl a) (λ (b : has_fault more ≡ true). inr (cause b)) (faults_of (given old) more (given new) all h);
-    counts = counts;
-  }
+  goes_more old new more lane all reads cause counts = record { lane = lane; more = more; all = all; reads = reads; cause = cause; counts = counts }
 
   -- a step that read nothing
   pub goes_same : (old new : Feed S) → IsSameMouth old.mouth new.mouth → given new ≡ given old → new.lines ≡ old.lines → GoesOn left faults old new
@@ -59,7 +65,7 @@ module _ {S : Type 0} (left : S → Option (List ℕ)) (faults : S → ℕ) wher
       all ∙ ap (λ l. l ++ item ∷ []) (sym gave)
 
   -- a step that read an item and offered or kept it
-  pub goes_item : (old new : Feed S) (mid : Lines S) (item : Item) (o : Option Item) → IsSameMouth old.mouth new.mouth → old.kept ≡ None
+  pub goes_item : (old new : Feed S) (mid : LineReader S) (item : Item) (o : Option Item) → IsSameMouth old.mouth new.mouth → old.kept ≡ None
       → given new ≡ offered old.mouth ++ item ∷ [] → new.lines ≡ mid → o ≡ Some item
       → ReadsOn (reading_of left old.lines) (option_to_list o) (reading_of left mid)
       → (has_fault (option_to_list o) ≡ true → Rose (faults old.lines.source) (faults mid.source)) → faults old.lines.source ≤ faults mid.source
@@ -78,10 +84,20 @@ module _ {S : Type 0} (left : S → Option (List ℕ)) (faults : S → ℕ) wher
   pub goes_on : (a b c : Feed S) → IsSameMouth a.mouth c.mouth → GoesOn left faults a b → GoesOn left faults b c → GoesOn left faults a c
   goes_on a b c lane x y = record {
     lane = lane;
-    stands = λ bytes before s. y.stands bytes before (x.stands bytes before s);
+    more = x.more ++ y.more;
+    all = y.all ∙ ap (λ l. l ++ y.more) x.all ∙ append_assoc (given a) x.more y.more;
+    reads = reads_both (reading_of left a.lines) (reading_of left b.lines) (reading_of left c.lines) x.more y.more x.reads y.reads;
     cause = λ h. ⊎_elim
-        (λ (k : has_fault (given b) ≡ true). ⊎_elim (λ (g : has_fault (given a) ≡ true). inl g)
-        (λ (r : Rose (faults a.lines.source) (faults b.lines.source)). inr (rose_on (faults a.lines.source) (faults b.lines.source) (faults c.lines.source) r x.counts y.counts)) (x.cause k))
-        (λ (r : Rose (faults b.lines.source) (faults c.lines.source)). inr (rose_from (faults a.lines.source) (faults b.lines.source) (faults c.lines.source) r x.counts)) (y.cause h);
+        (λ (k : has_fault x.more ≡ true). rose_on (faults a.lines.source) (faults b.lines.source) (faults c.lines.source) (x.cause k) x.counts y.counts)
+        (λ (k : has_fault y.more ≡ true). rose_from (faults a.lines.source) (faults b.lines.source) (faults c.lines.source) (y.cause k) x.counts) (faults_of x.more y.more h);
     counts = omega (arith, x.counts, y.counts);
+  }
+
+  -- what a feed stands to, it stands to when it went on
+  pub stands_on : (start : Option (List ℕ)) (before : List Item) (old new : Feed S) → GoesOn left faults old new → StandsTo left start before old → StandsTo left start before new
+  stands_on start before old new g s = record {
+    took = s.took ++ g.reads.came;
+    gave = s.gave ++ g.more;
+    all = g.all ∙ ap (λ l. l ++ g.more) s.all ∙ append_assoc before s.gave g.more;
+    read = g.reads.on start s.took s.gave s.read;
   }

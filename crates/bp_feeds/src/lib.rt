@@ -5,7 +5,7 @@ mod block;
 mod feed;
 mod judging;
 mod limits;
-mod lines;
+mod line_reader;
 mod reached;
 
 use bp_base::Source;

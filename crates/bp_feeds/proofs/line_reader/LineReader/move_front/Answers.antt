@@ -1,6 +1,6 @@
 use Rattle.std.proofs.Common.{arith}
 use Rattle.bp_feeds.proofs.Cuts.{too_long_front}
-use Rattle.bp_feeds.proofs.lines.Lines.move_front.Goals as goal
+use Rattle.bp_feeds.proofs.line_reader.LineReader.move_front.Goals as goal
 
 pub returns-then-len-count-gt-MOST_LENGTH-clause-long : goal.returns-then-len-count-gt-MOST_LENGTH-clause-long
 returns-then-len-count-gt-MOST_LENGTH-clause-long g c = λ _.

@@ -1,20 +1,20 @@
 //! The lines of a source, read by blocks, as items.
 ghost use Rattle.std.specs.Prelude.{◌≡◌, ℕ, ◌+◌, ◌≤◌, List, [], ◌∷◌, ◌++◌, length, vec_len, Option, Some, Ok, None, true, false, IfOk, OnErr, IfSome, option_to_list};
 ghost use Rattle.bp_base.specs.Counts.{Rose};
-ghost use Rattle.bp_feeds.specs.Items.{has_break, ends, has_fault};
-ghost use Rattle.bp_feeds.specs.Reading.{Reading, pending, is_read, ReadsOn, IsSameReading, IsTooLong};
+ghost use Rattle.bp_feeds.specs.Items.{has_break, has_line, ends, has_fault};
+ghost use Rattle.bp_feeds.specs.Reading.{Reading, is_read, ReadsOn, ReadsLast, IsSameReading, IsSameToEnd, IsTooLong};
 
 use crate::block::Block;
 use crate::judging::{is_end, judge, length_of_front};
 use crate::limits::MOST_LENGTH;
-use crate::reached::{Front, Next, Reached};
+use crate::reached::{Gathered, Moved, Reached};
 use bp_base::{Failed, Memory, Source};
 use bp_log::Item;
 use std::alloc::Global;
 
 /// A source whose lines are read as items.
 #[derive(Drop)]
-pub struct Lines<S> {
+pub struct LineReader<S> {
     alloc: Global,
     source: S,
     // The bytes of the last read that are not yet in the line.
@@ -29,16 +29,16 @@ pub struct Lines<S> {
     ghost counted: { number ≤ 16777217 },
 }
 
-impl<S: Source> Lines<S> {
-    ghost use Rattle.bp_feeds.specs.Feeds.{reading_of};
+impl<S: Source> LineReader<S> {
+    ghost use Rattle.bp_feeds.specs.Feeds.{held, reading_of};
 
     /// The lines of a source, of which none was read.
-    pub fn new(alloc: Global, source: S) -> Lines<S>
+    pub fn new(alloc: Global, source: S) -> LineReader<S>
         ensures source { result.source ≡ source }
         ensures reading { reading_of S.left result
             ≡ record { held = []; number = 1; reached = Reached.Within; left = S.left source } }
     {
-        Lines {
+        LineReader {
             alloc,
             source,
             block: Block::new(),
@@ -66,56 +66,55 @@ impl<S: Source> Lines<S> {
     }
 
     // Moves bytes from the block to the line, up to the first LF.
-    fn move_front(&mut self) -> Result<Front, Memory>
-        ensures held { self.new.line.items ++ self.new.block ≡ self.old.line.items ++ self.old.block }
+    fn move_front(&mut self) -> Result<Moved, Memory>
+        ensures same { held self.new ≡ held self.old }
         ensures source { self.new.source ≡ self.old.source }
         ensures rest { (self.new.number ≡ self.old.number) × (self.new.reached ≡ self.old.reached) }
 
-        ensures line { result ≡ Ok Front.Line → (more : List ℕ) × (self.new.block ≡ 10 ∷ more) }
-        ensures part { result ≡ Ok Front.Part → self.new.block ≡ [] }
-        ensures grows { result ≡ Ok Front.Part
+        ensures line { result ≡ Ok Moved.Line → (more : List ℕ) × (self.new.block ≡ 10 ∷ more) }
+        ensures part { result ≡ Ok Moved.Part → self.new.block ≡ [] }
+        ensures grows { result ≡ Ok Moved.Part
             → vec_len self.new.line ≡ vec_len self.old.line + length self.old.block }
-        ensures long { result ≡ Ok Front.TooLong → IsTooLong (self.new.line.items ++ self.new.block) }
+        ensures long { result ≡ Ok Moved.TooLong → IsTooLong (held self.new) }
     {
         let rest = self.block.rest();
         let count = length_of_front(rest);
         if self.line.len() + count > MOST_LENGTH {
-            return Ok(Front::TooLong);
+            return Ok(Moved::TooLong);
         }
         self.line.extend_from_slice(&rest[..count])?;
         let part = count == rest.len();
         self.block.skip(count);
         if part {
-            return Ok(Front::Part);
+            return Ok(Moved::Part);
         }
-        Ok(Front::Line)
+        Ok(Moved::Line)
     }
 
     // Reads blocks until the line is whole, or can't become one.
-    fn gather(&mut self) -> Result<Next, Memory>
+    fn gather(&mut self) -> Result<Gathered, Memory>
         requires { self.old.reached ≡ Reached.Within }
         ensures same { IsSameReading (reading_of S.left self.old) (reading_of S.left self.new) }
-        ensures line { result ≡ Ok Next.Line → (more : List ℕ) × (self.new.block ≡ 10 ∷ more) }
-        ensures last { result ≡ Ok Next.Last → (self.new.block ≡ [])
-            × IfSome (pending (reading_of S.left self.old)) (λ _. S.left self.new.source ≡ Some []) }
-        ensures long { result ≡ Ok Next.TooLong → IsTooLong (self.new.line.items ++ self.new.block) }
+        ensures line { result ≡ Ok Gathered.Line → (more : List ℕ) × (self.new.block ≡ 10 ∷ more) }
+        ensures last { result ≡ Ok Gathered.Last → (self.new.block ≡ [])
+            × IsSameToEnd (reading_of S.left self.old) (reading_of S.left self.new) }
+        ensures long { result ≡ Ok Gathered.TooLong → IsTooLong (held self.new) }
 
-        ensures fault { result ≡ Ok Next.Fault → self.new.block ≡ [] }
-        ensures cause { result ≡ Ok Next.Fault → Rose (S.faults self.old.source) (S.faults self.new.source) }
+        ensures fault { result ≡ Ok Gathered.Fault → self.new.block ≡ [] }
+        ensures cause { result ≡ Ok Gathered.Fault → Rose (S.faults self.old.source) (S.faults self.new.source) }
         ensures counts { S.faults self.old.source ≤ S.faults self.new.source }
-        ensures asks { has_break (self.old.line.items ++ self.old.block) ≡ true
-            → self.new.source ≡ self.old.source }
+        ensures asks { has_line (held self.old) ≡ true → self.new.source ≡ self.old.source }
     {
         loop {
             match self.move_front()? {
-                Front::Line => return Ok(Next::Line),
-                Front::TooLong => return Ok(Next::TooLong),
-                Front::Part => {}
+                Moved::Line => return Ok(Gathered::Line),
+                Moved::TooLong => return Ok(Gathered::TooLong),
+                Moved::Part => {}
             }
             match self.block.fill(&mut self.source) {
-                Ok(0) => return Ok(Next::Last),
+                Ok(0) => return Ok(Gathered::Last),
                 Ok(_) => {}
-                Err(Failed) => return Ok(Next::Fault),
+                Err(Failed) => return Ok(Gathered::Fault),
             }
         }
     }
@@ -147,8 +146,8 @@ impl<S: Source> Lines<S> {
     fn pass_last(&mut self) -> Result<Option<Item>, Memory>
         requires within { self.old.reached ≡ Reached.Within }
         requires all { self.old.block ≡ [] }
-        ensures reads { S.left self.old.source ≡ Some [] → IfOk result (λ item.
-            ReadsOn (reading_of S.left self.old) (option_to_list item) (reading_of S.left self.new)) }
+        ensures reads { IfOk result (λ item.
+            ReadsLast (reading_of S.left self.old) (option_to_list item) (reading_of S.left self.new)) }
         ensures last { IfOk result (λ item. is_read self.new.reached ≡ ends item) }
         ensures sound { IfOk result (λ item. has_fault (option_to_list item) ≡ false) }
         ensures number { IfOk result (λ item. ends item ≡ false → self.new.number ≡ self.old.number + 1) }
@@ -188,21 +187,20 @@ impl<S: Source> Lines<S> {
         ensures cause { IfOk result (λ item. has_fault (option_to_list item) ≡ true
             → Rose (S.faults self.old.source) (S.faults self.new.source)) }
         ensures counts { S.faults self.old.source ≤ S.faults self.new.source }
-        ensures asks { has_break (self.old.line.items ++ self.old.block) ≡ true
-            → self.new.source ≡ self.old.source }
+        ensures asks { has_line (held self.old) ≡ true → self.new.source ≡ self.old.source }
     {
         if self.reached == Reached::Last {
             self.reached = Reached::Ended;
             return Ok(Some(Item::End));
         }
         match self.gather()? {
-            Next::Line => self.pass(),
-            Next::Last => self.pass_last(),
-            Next::TooLong => {
+            Gathered::Line => self.pass(),
+            Gathered::Last => self.pass_last(),
+            Gathered::TooLong => {
                 self.reached = Reached::Broken;
                 Ok(Some(Item::Bad(self.number)))
             }
-            Next::Fault => {
+            Gathered::Fault => {
                 self.reached = Reached::Faulted;
                 Ok(Some(Item::Failed))
             }

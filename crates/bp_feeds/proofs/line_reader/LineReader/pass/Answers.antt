@@ -2,7 +2,7 @@ use Rattle.std.proofs.Common.{rules, ◌≡◌, ◌≤◌, ◌++◌, true, false
 use Rattle.bp_feeds.specs.Items.{ends, item_of}
 use Rattle.bp_feeds.proofs.Cuts.{counted, sound, held_behind}
 use Rattle.bp_feeds.proofs.Within.{line_passed, line_broken}
-use Rattle.bp_feeds.proofs.lines.Lines.pass.Goals as goal
+use Rattle.bp_feeds.proofs.line_reader.LineReader.pass.Goals as goal
 
 pub returns-then-is_end-clause-reads : goal.returns-then-is_end-clause-reads
 returns-then-is_end-clause-reads g c =
