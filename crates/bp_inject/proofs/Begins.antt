@@ -161,9 +161,9 @@ before_fault : (took rest : List ℕ) (xs ks all : List Item) → xs ++ ks ≡ a
 before_fault took rest xs ks all e h =
     ⊎_elim
     (λ (a : (begun : List Item) × (items_before_fault took ≡ begun ++ Failed ∷ []) × IsPrefix begun (items (took ++ rest))).
-    ⊎_elim (λ (q : IsPrefix xs a.0). inl (prefix_trans xs a.0 (items (took ++ rest)) q a.2.1))
-    (λ (q : xs ≡ a.0 ++ Failed ∷ []). inr (record { begun = a.0; begins = a.2.1; last = q; broken = q ∙ sym a.2.0 }))
-    (prefix_snoc xs ks a.0 Failed (e ∙ h ∙ a.2.0)))
+    ⊎_elim (λ (q : IsPrefix xs a.0). inl (prefix_trans xs a.0 (items (took ++ rest)) q a.2))
+    (λ (q : xs ≡ a.0 ++ Failed ∷ []). inr (record { begun = a.0; begins = a.2; last = q; broken = q ∙ sym a.1 }))
+    (prefix_snoc xs ks a.0 Failed (e ∙ h ∙ a.1)))
     (λ (s : items_before_fault took ≡ items (took ++ rest)). inl (ks, e ∙ h ∙ s))
     (fault_or_all took rest)
 
@@ -174,7 +174,7 @@ whole_or_fault : (took rest : List ℕ) (xs : List Item) → xs ≡ items_before
 whole_or_fault took rest xs h f =
     ⊎_elim
     (λ (a : (begun : List Item) × (items_before_fault took ≡ begun ++ Failed ∷ []) × IsPrefix begun (items (took ++ rest))).
-    absurd (not_both (has_fault xs) f (ap has_fault (h ∙ a.2.0) ∙ fault_among a.0)))
+    absurd (not_both (has_fault xs) f (ap has_fault (h ∙ a.1) ∙ fault_among a.0)))
     (λ (s : items_before_fault took ≡ items (took ++ rest)). h ∙ s)
     (fault_or_all took rest)
 
