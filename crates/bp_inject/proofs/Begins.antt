@@ -1,7 +1,8 @@
 -- What was read begins the items of the bytes.
 use Rattle.std.proofs.Common.{◌≡◌, ◌⊎◌, inl, inr, ⊎_elim, ℕ, ◌+◌, Bool, true, false, List, [], ◌∷◌, ◌++◌, Option, Some, None, option_to_list, refl, sym, ap, ◌∙◌, subst, append_assoc, append-nil}
-use Rattle.std.specs.Prelude.{◌&&◌, is_none, if◌then◌else◌}
+use Rattle.std.specs.Prelude.{◌&&◌, IfSome, is_none, if◌then◌else◌}
 use Rattle.std.proofs.lemmas.Bool.{or_left, or_right, or_parts}
+use Rattle.std.proofs.lemmas.List.{append_cancel_left}
 use Rattle.std.proofs.lemmas.List.Folds.{list_any-append}
 use mathlib.Core.List.{IsPrefix}
 use Rattle.bp_base.specs.Pieces.{Gives}
@@ -94,6 +95,11 @@ all_or_open xs (k ∷ ks) all lines number last e f l = absurd (not_both (has_la
 
 -- ---- what was given
 
+nothing_left : (start : Option (List ℕ)) (took : List ℕ) (left : Option (List ℕ)) → Gives start took left → IsAll start took → IfSome start (λ _. left ≡ Some [])
+nothing_left None took left g a = tt
+nothing_left (Some b) took None g a = absurd g
+nothing_left (Some b) took (Some l) g a = ap Some (append_cancel_left took l [] (sym g ∙ a ∙ sym (append-nil took)))
+
 unended_front : (xs ks all : List Item) → xs ++ ks ≡ all → has_end all ≡ false → has_end xs ≡ true → ⊥
 unended_front xs ks all e u t = not_both (has_end all) u (ap has_end (sym e) ∙ list_any-append is_end xs ks ∙ or_left (has_end xs) (has_end ks) t)
 
@@ -124,7 +130,7 @@ of_all start took all left xs ks e g h told =
       told = subst (λ t. IsAll start t) (sym (append-nil took)) told;
       begins = inl (ks, e ∙ is);
       whole = λ l f. all_or_open xs ks all (lines_of took) 1 End e h l ∙ is;
-      none = λ t. refl;
+      none = λ t. (refl, nothing_left start took left g told);
     }
 
 of_last : (start : Option (List ℕ)) (took : List ℕ) (all : List Item) (left : Option (List ℕ)) (xs ks : List Item) → xs ++ ks ≡ all
@@ -136,7 +142,7 @@ of_last start took all left xs ks e g h told = record {
   told = subst (λ t. IsAll start t) (sym (append-nil took)) told;
   begins = inl (ks ++ End ∷ [], sym (append_assoc xs ks (End ∷ [])) ∙ ap (λ l. l ++ End ∷ []) e ∙ h ∙ ap items (sym (append-nil took)));
   whole = λ l f. absurd (not_both (has_last xs) (open_front xs ks all End (lines_of took) 1 End e h) l);
-  none = λ t. refl;
+  none = λ t. (refl, nothing_left start took left g told);
 }
 
 of_broken : (start : Option (List ℕ)) (took : List ℕ) (all : List Item) (left : Option (List ℕ)) (xs ks : List Item) → xs ++ ks ≡ all
