@@ -5,7 +5,7 @@ use Rattle.std.proofs.lemmas.Bool.{or_parts, or_from}
 use Rattle.bp_log.specs.declared.item.Item.{Item}
 use Rattle.bp_log.specs.declared.item.Item.TheVariants.{Failed}
 use Rattle.bp_feeds.specs.Items.{is_break, has_break, before_lines, lines_of, before_whole, whole_lines, is_last, is_fault, has_fault, has_last, followed, item_of, items_from, items, items_before_fault}
-use Rattle.bp_feeds.specs.Reading.{AreWholeLines, IsWithin}
+use Rattle.bp_feeds.specs.Reading.{AreWholeLines, IsWithin, ItemsFollow}
 use Rattle.bp_feeds.proofs.Cuts.{sound}
 
 -- ---- bytes that end with LF are cut there, whatever follows
@@ -110,6 +110,19 @@ whole_follow took given number held w more last =
     ap (λ n. given ++ items_from (whole_lines more) n last) k
     ∙ sym (items_behind (whole_lines w.passed) (whole_lines more) given 1 last w.good)
     ∙ ap (λ l. items_from l 1 last) (sym (whole_behind w.passed more w.whole))
+
+whole_within : (passed : List ℕ) (given : List Item) → AreWholeLines passed → given ++ Failed ∷ [] ≡ items_before_fault passed
+    → IsWithin passed given (length (whole_lines passed) + 1) []
+whole_within passed given w good = record { passed = passed; all = sym (append-nil passed); whole = w; counted = refl; good = good }
+
+pub items_follow : ItemsFollow
+unfolding whole_within
+items_follow passed given w = (
+  λ good more last.
+      let h : IsWithin passed given (length (whole_lines passed) + 1) [] = whole_within passed given w good in
+      (lines_follow passed given (length (whole_lines passed) + 1) [] h more last, whole_follow passed given (length (whole_lines passed) + 1) [] h more last),
+  λ f. (f [] Failed).1 ∙ ap items_before_fault (append-nil passed),
+)
 
 -- ---- nothing stands behind an item that is last
 

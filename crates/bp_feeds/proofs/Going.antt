@@ -1,8 +1,9 @@
 -- How a feed goes on.
-use Rattle.std.proofs.Common.{◌≡◌, ◌⊎◌, inl, inr, ⊎_elim, ℕ, ◌≤◌, true, List, [], ◌∷◌, ◌++◌, Option, Some, None, option_to_list, sym, ap, ◌∙◌, subst, append_assoc, append-nil, arith}
+use Rattle.std.proofs.Common.{◌≡◌, ◌⊎◌, inl, inr, ⊎_elim, ℕ, ◌≤◌, true, List, [], ◌∷◌, ◌++◌, Option, Some, None, option_to_list, refl, sym, ap, ◌∙◌, subst, append_assoc, append-nil, arith}
 use Rattle.std.proofs.lemmas.Bool.{or_cases}
 use Rattle.std.proofs.lemmas.List.Folds.{list_any-append}
 use Rattle.bp_base.specs.Counts.{Rose}
+use Rattle.bp_lanes.specs.declared.ends.Mouth.{Mouth}
 use Rattle.bp_lanes.specs.Lanes.{offered, IsSameMouth}
 use Rattle.bp_log.specs.declared.item.Item.{Item}
 use Rattle.bp_feeds.specs.declared.line_reader.LineReader.{LineReader}
@@ -44,6 +45,12 @@ reads_both a b c xs ys r s = record {
 faults_of : (xs ys : List Item) → has_fault (xs ++ ys) ≡ true → (has_fault xs ≡ true) ⊎ (has_fault ys ≡ true)
 faults_of xs ys h = or_cases (has_fault xs) (has_fault ys) (sym (list_any-append is_fault xs ys) ∙ h)
 
+same_lane : (a : Mouth) → IsSameMouth a a
+same_lane a = ((refl, refl, refl, refl), refl)
+
+lane_on : (a b c : Mouth) → IsSameMouth a b → IsSameMouth b c → IsSameMouth a c
+lane_on a b c x y = ((y.0.0 ∙ x.0.0, y.0.1 ∙ x.0.1, y.0.2 ∙ x.0.2, y.0.3 ∙ x.0.3), y.1 ∙ x.1)
+
 module _ {S : Type 0} (left : S → Option (List ℕ)) (faults : S → ℕ) where
   -- a step that gave these items more
   pub goes_more : (old new : Feed S) (more : List Item) → IsSameMouth old.mouth new.mouth → given new ≡ given old ++ more
@@ -81,9 +88,14 @@ module _ {S : Type 0} (left : S → Option (List ℕ)) (faults : S → ℕ) wher
       (subst (λ l. has_fault (item ∷ []) ≡ true → Rose (faults old.lines.source) (faults l.source)) (sym lines) caused)
       (subst (λ l. faults old.lines.source ≤ faults l.source) (sym lines) counts)
 
-  pub goes_on : (a b c : Feed S) → IsSameMouth a.mouth c.mouth → GoesOn left faults a b → GoesOn left faults b c → GoesOn left faults a c
-  goes_on a b c lane x y = record {
-    lane = lane;
+  -- no step
+  pub goes_nowhere : (f : Feed S) → GoesOn left faults f f
+  goes_nowhere f = goes_same f f (same_lane f.mouth) refl refl
+
+  -- two steps
+  pub goes_on : (a b c : Feed S) → GoesOn left faults a b → GoesOn left faults b c → GoesOn left faults a c
+  goes_on a b c x y = record {
+    lane = lane_on a.mouth b.mouth c.mouth x.lane y.lane;
     more = x.more ++ y.more;
     all = y.all ∙ ap (λ l. l ++ y.more) x.all ∙ append_assoc (given a) x.more y.more;
     reads = reads_both (reading_of left a.lines) (reading_of left b.lines) (reading_of left c.lines) x.more y.more x.reads y.reads;

@@ -1,5 +1,5 @@
 -- How far the lines of a source were read.
-use Rattle.std.specs.Prelude.{◌≡◌, ◌⊎◌, ℕ, ◌+◌, ◌<◌, Bool, true, false, List, [], ◌∷◌, ◌++◌, length, Option, IfSome}
+use Rattle.std.specs.Prelude.{◌≡◌, ◌⊎◌, ◌↔◌, ℕ, ◌+◌, ◌<◌, Bool, true, false, List, [], ◌∷◌, ◌++◌, length, Option, Some, IfSome}
 use mathlib.Core.List.{IsPrefix}
 use Rattle.bp_base.specs.Pieces.{Gives}
 use Rattle.bp_log.specs.declared.item.Item.{Item}
@@ -7,7 +7,7 @@ use Rattle.bp_log.specs.declared.item.Item.TheVariants.{Failed, End}
 use Rattle.bp_feeds.specs.declared.limits.TheConstants.{MOST_LENGTH}
 use Rattle.bp_feeds.specs.declared.reached.Reached.{Reached}
 use Rattle.bp_feeds.specs.declared.reached.Reached.TheVariants.{Within, Last, Ended, Broken, Faulted}
-use Rattle.bp_feeds.specs.Items.{whole_lines, items, items_before_fault, has_break, has_last, has_end, has_fault}
+use Rattle.bp_feeds.specs.Items.{lines_of, whole_lines, items_from, items, items_before_fault, has_break, has_last, has_end, has_fault}
 
 -- a reading of lines: the bytes that were taken of the source and belong to no line that was dealt with, the number of the next
 -- line, what was reached, and what the source has left, where it tells it
@@ -39,6 +39,17 @@ pub record IsWithin (took : List ℕ) (given : List Item) (number : ℕ) (held :
 -- these are all bytes of a source that had so much left at the start, where it tells them
 abbrev pub IsAll : Option (List ℕ) → List ℕ → Type 0
 IsAll start bytes = IfSome start (λ all. all ≡ bytes)
+
+-- whatever follows these bytes, its items, the first line of which has this number, follow these
+abbrev pub Follows : List ℕ → List Item → ℕ → Type 0
+Follows bytes given number = (more : List ℕ) (last : Item)
+    → (given ++ items_from (lines_of more) number last ≡ items_from (lines_of (bytes ++ more)) 1 last)
+    × (given ++ items_from (whole_lines more) number last ≡ items_from (whole_lines (bytes ++ more)) 1 last)
+
+-- the items that were given are those of whole lines exactly where the items of whatever follows these lines follow them
+abbrev pub ItemsFollow : Type 0
+ItemsFollow = (passed : List ℕ) (given : List Item) → AreWholeLines passed
+    → (given ++ Failed ∷ [] ≡ items_before_fault passed) ↔ Follows passed given (length (whole_lines passed) + 1)
 
 -- the items go up to a bad line: they are all items of the bytes that were taken and the rest, and the end is not among them
 pub record IsBroken (start : Option (List ℕ)) (took : List ℕ) (given : List Item) : Type 0 where
@@ -111,4 +122,4 @@ pub record BeginsItems (start left : Option (List ℕ)) (given : List Item) : Ty
   pub told : IsAll start (took ++ rest)
   pub begins : IsPrefix given (items (took ++ rest)) ⊎ EndsInFault took rest given
   pub whole : has_last given ≡ true → has_fault given ≡ false → given ≡ items (took ++ rest)
-  pub none : has_end given ≡ true → rest ≡ []
+  pub none : has_end given ≡ true → (rest ≡ []) × IfSome start (λ _. left ≡ Some [])

@@ -37,7 +37,8 @@ impl<S: Source> Feed<S> {
 
     /// A feed that has read nothing. It takes no memory; its turns do.
     pub fn new(alloc: Global, source: S, mouth: Mouth) -> Feed<S>
-        ensures parts { (result.lines.source ≡ source) × (result.mouth ≡ mouth) × (result.kept ≡ None) }
+        ensures parts { (result.lines.source ≡ source)
+            × (result.mouth ≡ mouth) × (result.kept ≡ None) }
         ensures fresh { feed_is_over result ≡ false }
         ensures stands { StandsTo S.left (S.left source) (offered mouth) result }
     {
@@ -98,7 +99,8 @@ impl<S: Source> Feed<S> {
     }
 
     /// Makes one turn: offers the item that is kept, or else reads to the end of one line and offers its item.
-    /// An item that finds no place is kept.
+    /// An item that finds no place is kept. The source is asked only where no whole line is held, nor one that is
+    /// too long.
     ///
     /// # Errors
     ///
@@ -123,8 +125,10 @@ impl<S: Source> Feed<S> {
 
         ensures memory { OnErr result
             (IsSameReading (reading_of S.left self.old.lines) (reading_of S.left self.new.lines)) }
-        ensures nothing { OnErr result ((self.new.mouth ≡ self.old.mouth) × (self.new.kept ≡ self.old.kept)) }
-        ensures asks { has_line (held self.old.lines) ≡ true → self.new.lines.source ≡ self.old.lines.source }
+        ensures nothing { OnErr result
+            ((self.new.mouth ≡ self.old.mouth) × (self.new.kept ≡ self.old.kept)) }
+        ensures asks { has_line (held self.old.lines) ≡ true
+            → self.new.lines.source ≡ self.old.lines.source }
     {
         if let Some(item) = self.kept.take() {
             return Ok(self.hand_over(item));

@@ -101,7 +101,8 @@ impl<S: Source> LineReader<S> {
         ensures long { result ≡ Ok Gathered.TooLong → IsTooLong (held self.new) }
 
         ensures fault { result ≡ Ok Gathered.Fault → self.new.block ≡ [] }
-        ensures cause { result ≡ Ok Gathered.Fault → Rose (S.faults self.old.source) (S.faults self.new.source) }
+        ensures cause { result ≡ Ok Gathered.Fault
+            → Rose (S.faults self.old.source) (S.faults self.new.source) }
         ensures counts { S.faults self.old.source ≤ S.faults self.new.source }
         ensures asks { has_line (held self.old) ≡ true → self.new.source ≡ self.old.source }
     {
@@ -124,10 +125,12 @@ impl<S: Source> LineReader<S> {
         requires within { self.old.reached ≡ Reached.Within }
         requires line { (more : List ℕ) × (self.old.block ≡ 10 ∷ more) }
         ensures reads { IfOk result (λ item.
-            ReadsOn (reading_of S.left self.old) (option_to_list item) (reading_of S.left self.new)) }
+            ReadsOn (reading_of S.left self.old) (option_to_list item)
+            (reading_of S.left self.new)) }
         ensures last { IfOk result (λ item. is_read self.new.reached ≡ ends item) }
         ensures sound { IfOk result (λ item. has_fault (option_to_list item) ≡ false) }
-        ensures number { IfOk result (λ item. ends item ≡ false → self.new.number ≡ self.old.number + 1) }
+        ensures number { IfOk result (λ item. ends item ≡ false
+            → self.new.number ≡ self.old.number + 1) }
         ensures source { self.new.source ≡ self.old.source }
         ensures memory { OnErr result (self.new ≡ self.old) }
     {
@@ -147,10 +150,12 @@ impl<S: Source> LineReader<S> {
         requires within { self.old.reached ≡ Reached.Within }
         requires all { self.old.block ≡ [] }
         ensures reads { IfOk result (λ item.
-            ReadsLast (reading_of S.left self.old) (option_to_list item) (reading_of S.left self.new)) }
+            ReadsLast (reading_of S.left self.old) (option_to_list item)
+            (reading_of S.left self.new)) }
         ensures last { IfOk result (λ item. is_read self.new.reached ≡ ends item) }
         ensures sound { IfOk result (λ item. has_fault (option_to_list item) ≡ false) }
-        ensures number { IfOk result (λ item. ends item ≡ false → self.new.number ≡ self.old.number + 1) }
+        ensures number { IfOk result (λ item. ends item ≡ false
+            → self.new.number ≡ self.old.number + 1) }
         ensures source { self.new.source ≡ self.old.source }
         ensures memory { OnErr result (self.new ≡ self.old) }
     {
@@ -178,7 +183,8 @@ impl<S: Source> LineReader<S> {
     pub fn next(&mut self) -> Result<Option<Item>, Memory>
         requires { is_read self.old.reached ≡ false }
         ensures reads { IfOk result (λ item.
-            ReadsOn (reading_of S.left self.old) (option_to_list item) (reading_of S.left self.new)) }
+            ReadsOn (reading_of S.left self.old) (option_to_list item)
+            (reading_of S.left self.new)) }
         ensures last { IfOk result (λ item. is_read self.new.reached ≡ ends item) }
         ensures skips { result ≡ Ok None → self.new.number ≡ self.old.number + 1 }
         ensures memory { OnErr result

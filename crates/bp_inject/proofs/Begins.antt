@@ -1,7 +1,8 @@
 -- What was read begins the items of the bytes.
 use Rattle.std.proofs.Common.{◌≡◌, ◌⊎◌, inl, inr, ⊎_elim, ℕ, ◌+◌, Bool, true, false, List, [], ◌∷◌, ◌++◌, Option, Some, None, option_to_list, refl, sym, ap, ◌∙◌, subst, append_assoc, append-nil}
-use Rattle.std.specs.Prelude.{◌&&◌, is_none, if◌then◌else◌}
+use Rattle.std.specs.Prelude.{◌&&◌, IfSome, is_none, if◌then◌else◌}
 use Rattle.std.proofs.lemmas.Bool.{or_left, or_right, or_parts}
+use Rattle.std.proofs.lemmas.List.{append_cancel_left}
 use Rattle.std.proofs.lemmas.List.Folds.{list_any-append}
 use mathlib.Core.List.{IsPrefix}
 use Rattle.bp_base.specs.Pieces.{Gives}
@@ -94,6 +95,11 @@ all_or_open xs (k ∷ ks) all lines number last e f l = absurd (not_both (has_la
 
 -- ---- what was given
 
+nothing_left : (start : Option (List ℕ)) (took : List ℕ) (left : Option (List ℕ)) → Gives start took left → IsAll start took → IfSome start (λ _. left ≡ Some [])
+nothing_left None took left g a = tt
+nothing_left (Some b) took None g a = absurd g
+nothing_left (Some b) took (Some l) g a = ap Some (append_cancel_left took l [] (sym g ∙ a ∙ sym (append-nil took)))
+
 unended_front : (xs ks all : List Item) → xs ++ ks ≡ all → has_end all ≡ false → has_end xs ≡ true → ⊥
 unended_front xs ks all e u t = not_both (has_end all) u (ap has_end (sym e) ∙ list_any-append is_end xs ks ∙ or_left (has_end xs) (has_end ks) t)
 
@@ -124,7 +130,7 @@ of_all start took all left xs ks e g h told =
       told = subst (λ t. IsAll start t) (sym (append-nil took)) told;
       begins = inl (ks, e ∙ is);
       whole = λ l f. all_or_open xs ks all (lines_of took) 1 End e h l ∙ is;
-      none = λ t. refl;
+      none = λ t. (refl, nothing_left start took left g told);
     }
 
 of_last : (start : Option (List ℕ)) (took : List ℕ) (all : List Item) (left : Option (List ℕ)) (xs ks : List Item) → xs ++ ks ≡ all
@@ -136,7 +142,7 @@ of_last start took all left xs ks e g h told = record {
   told = subst (λ t. IsAll start t) (sym (append-nil took)) told;
   begins = inl (ks ++ End ∷ [], sym (append_assoc xs ks (End ∷ [])) ∙ ap (λ l. l ++ End ∷ []) e ∙ h ∙ ap items (sym (append-nil took)));
   whole = λ l f. absurd (not_both (has_last xs) (open_front xs ks all End (lines_of took) 1 End e h) l);
-  none = λ t. refl;
+  none = λ t. (refl, nothing_left start took left g told);
 }
 
 of_broken : (start : Option (List ℕ)) (took : List ℕ) (all : List Item) (left : Option (List ℕ)) (xs ks : List Item) → xs ++ ks ≡ all
@@ -161,9 +167,9 @@ before_fault : (took rest : List ℕ) (xs ks all : List Item) → xs ++ ks ≡ a
 before_fault took rest xs ks all e h =
     ⊎_elim
     (λ (a : (begun : List Item) × (items_before_fault took ≡ begun ++ Failed ∷ []) × IsPrefix begun (items (took ++ rest))).
-    ⊎_elim (λ (q : IsPrefix xs a.0). inl (prefix_trans xs a.0 (items (took ++ rest)) q a.2.1))
-    (λ (q : xs ≡ a.0 ++ Failed ∷ []). inr (record { begun = a.0; begins = a.2.1; last = q; broken = q ∙ sym a.2.0 }))
-    (prefix_snoc xs ks a.0 Failed (e ∙ h ∙ a.2.0)))
+    ⊎_elim (λ (q : IsPrefix xs a.0). inl (prefix_trans xs a.0 (items (took ++ rest)) q a.2))
+    (λ (q : xs ≡ a.0 ++ Failed ∷ []). inr (record { begun = a.0; begins = a.2; last = q; broken = q ∙ sym a.1 }))
+    (prefix_snoc xs ks a.0 Failed (e ∙ h ∙ a.1)))
     (λ (s : items_before_fault took ≡ items (took ++ rest)). inl (ks, e ∙ h ∙ s))
     (fault_or_all took rest)
 
@@ -174,7 +180,7 @@ whole_or_fault : (took rest : List ℕ) (xs : List Item) → xs ≡ items_before
 whole_or_fault took rest xs h f =
     ⊎_elim
     (λ (a : (begun : List Item) × (items_before_fault took ≡ begun ++ Failed ∷ []) × IsPrefix begun (items (took ++ rest))).
-    absurd (not_both (has_fault xs) f (ap has_fault (h ∙ a.2.0) ∙ fault_among a.0)))
+    absurd (not_both (has_fault xs) f (ap has_fault (h ∙ a.1) ∙ fault_among a.0)))
     (λ (s : items_before_fault took ≡ items (took ++ rest)). h ∙ s)
     (fault_or_all took rest)
 

@@ -1,6 +1,7 @@
-use Rattle.std.proofs.Common.{[]}
-use Rattle.bp_feeds.proofs.Going.{stands_on}
+use Rattle.std.proofs.Common.{rules, ◌≡◌, ◌≤◌, [], false}
+use Rattle.bp_feeds.proofs.Going.{stands_on, goes_nowhere, goes_on}
 use Rattle.bp_inject.proofs.Begins.{begins, over_is_last}
+use Rattle.bp_feeds.specs.Feeds.{is_over}
 use Rattle.bp_inject.proofs.injecting.inject.Goals as goal
 
 pub returns-then-halted-clause-begins : goal.returns-then-halted-clause-begins
@@ -30,3 +31,36 @@ pub returns-in-Err-clause-last : goal.returns-in-Err-clause-last
 returns-in-Err-clause-last g c = λ start s.
     over_is_last g.S.Source.left start c.turn.new.self (stands_on g.S.Source.left g.S.Source.faults start [] c.loop.feed c.turn.new.self c.turn.ensures.goes_on
     (stands_on g.S.Source.left g.S.Source.faults start [] c.args.feed.now c.loop.feed c.loop.invariant.goes_on s))
+
+pub loop-init : goal.loop-init
+loop-init g c = record {
+  goes_on = goes_nowhere g.S.Source.left g.S.Source.faults c.args.feed.now;
+  going = search rules;
+  halts = search rules;
+}
+
+pub loop-preserved-in-Ok-Went : goal.loop-preserved-in-Ok-Went
+loop-preserved-in-Ok-Went g c =
+    let going : is_over c.turn.new.self ≡ false = search rules in
+    let halts : g.W.Wake.halts c.args.wake.now ≤ g.W.Wake.halts c.ring-in-Ok-Went.new.self = search rules in
+    record {
+      goes_on = goes_on g.S.Source.left g.S.Source.faults c.args.feed.now c.loop.feed c.turn.new.self c.loop.invariant.goes_on c.turn.ensures.goes_on;
+      going = going;
+      halts = halts;
+    }
+
+pub loop-preserved : goal.loop-preserved
+loop-preserved g c =
+    let going : is_over c.turn.new.self ≡ false = search rules in
+    let halts : g.W.Wake.halts c.args.wake.now ≤ g.W.Wake.halts c.wait.new.self = search rules in
+    record {
+      goes_on = goes_on g.S.Source.left g.S.Source.faults c.args.feed.now c.loop.feed c.turn.new.self c.loop.invariant.goes_on c.turn.ensures.goes_on;
+      going = going;
+      halts = halts;
+    }
+
+pub returns-in-Ok-Over-clause-goes_on : goal.returns-in-Ok-Over-clause-goes_on
+returns-in-Ok-Over-clause-goes_on g c = goes_on g.S.Source.left g.S.Source.faults c.args.feed.now c.loop.feed c.turn.new.self c.loop.invariant.goes_on c.turn.ensures.goes_on
+
+pub returns-in-Err-clause-goes_on : goal.returns-in-Err-clause-goes_on
+returns-in-Err-clause-goes_on g c = goes_on g.S.Source.left g.S.Source.faults c.args.feed.now c.loop.feed c.turn.new.self c.loop.invariant.goes_on c.turn.ensures.goes_on

@@ -1,8 +1,8 @@
-use Rattle.std.proofs.Common.{rules, ◌++◌, refl, sym, ap, subst}
-use Rattle.bp_lanes.specs.Lanes.{taken, known, IsSameMouth}
+use Rattle.std.proofs.Common.{◌++◌, sym, ap, subst}
+use Rattle.bp_lanes.specs.Lanes.{taken, known}
 use Rattle.bp_feeds.specs.declared.feed.Feed.{Feed}
 use Rattle.bp_feeds.specs.Feeds.{GoesOn}
-use Rattle.bp_feeds.proofs.Going.{goes_same}
+use Rattle.bp_feeds.proofs.Going.{goes_nowhere}
 use Rattle.bp_inject.specs.Injectors.{feed_of}
 use Rattle.bp_inject.proofs.Joined.{came_back}
 use Rattle.bp_inject.proofs.started.join.Goals as goal
@@ -16,9 +16,8 @@ returns-in-Beside-clause-back g c = λ first f.
 
 pub returns-in-Alone-clause-back : goal.returns-in-Alone-clause-back
 returns-in-Alone-clause-back g c = λ first f.
-    let lane : IsSameMouth c.in-Alone.feed.mouth c.in-Alone.feed.mouth = search rules in
     let goes : GoesOn g.S.Source.left g.S.Source.faults (feed_of c.args.started) c.in-Alone.feed =
     subst (λ (s : Feed _). GoesOn g.S.Source.left g.S.Source.faults s c.in-Alone.feed) (sym (ap feed_of c.in-Alone.is))
-    (goes_same g.S.Source.left g.S.Source.faults c.in-Alone.feed c.in-Alone.feed lane refl refl) in
+    (goes_nowhere g.S.Source.left g.S.Source.faults c.in-Alone.feed) in
     came_back g.S.Source.left g.S.Source.faults first (feed_of c.args.started) c.in-Alone.feed c.closed-in-Alone.result.0
     (taken c.closed-in-Alone.new.ear ++ known c.closed-in-Alone.new.ear) _ f goes c.closed-in-Alone.ensures.source c.closed-in-Alone.ensures.all c.closed-in-Alone.ensures.over
