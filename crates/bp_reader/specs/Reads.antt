@@ -1,6 +1,7 @@
 -- What a reader of a log tells.
-use Rattle.std.specs.Prelude.{◌≡◌, ℕ, List, [], Option, Some, None, Result, Ok, Err, IsSomeAnd}
+use Rattle.std.specs.Prelude.{◌≡◌, ℕ, ◌<◌, true, false, List, [], Option, Some, None, Result, Ok, Err, IsSomeAnd}
 use Rattle.bp_log.specs.declared.record.Record.{Record}
+use Rattle.bp_reading.specs.declared.limits.TheConstants.{MOST_RECORDS}
 use Rattle.bp_reading.specs.Heads.{version, header, record_line, cut}
 use Rattle.bp_reading.specs.Reading.{Stage, Next, found, finished, refused, after as stage_after}
 use Rattle.bp_reader.specs.declared.fault.LogFault.{LogFault}
@@ -38,6 +39,12 @@ abbrev pub IsStageAfter : Stage → Result (Option Record) LogFault → Stage �
 IsStageAfter before (Ok (Some r)) s = s ≡ stage_after before r
 IsStageAfter before (Ok None) s = s ≡ before
 IsStageAfter before (Err f) s = s ≡ before
+
+-- A record comes where none before was the end, and fewer than the most came; behind the end no record comes.
+abbrev pub ComesInTime : Stage → Result (Option Record) LogFault → Type 0
+ComesInTime s (Ok (Some r)) = (s.ended ≡ false) × (s.lines < MOST_RECORDS)
+ComesInTime s (Ok None) = s.ended ≡ true
+ComesInTime s (Err f) = Unit {0}
 
 -- a refusal is kept
 abbrev pub IsRefusalAfter : Result (Option Record) LogFault → Option LogFault → Type 0

@@ -5,7 +5,7 @@ ghost use Rattle.bp_base.specs.Pieces.{GivesSome};
 ghost use Rattle.bp_reading.specs.Heads.{header_at, line_at};
 ghost use Rattle.bp_reading.specs.Reading.{first_stage, next_at, next_of, after, behind_end as ends, too_many};
 ghost use Rattle.bp_reader.specs.Gets.{MeansRead};
-ghost use Rattle.bp_reader.specs.Reads.{Standing, Tells, TellsRecord, MeansNext, IsStageAfter, IsRefusalAfter};
+ghost use Rattle.bp_reader.specs.Reads.{Standing, Tells, TellsRecord, MeansNext, IsStageAfter, ComesInTime, IsRefusalAfter};
 
 use crate::LogFault;
 use crate::head::header_of;
@@ -108,6 +108,7 @@ fn step<S: Source>(
 ) -> Result<Option<Record>, LogFault>
     ensures tells { IfSome input.old.left (λ bytes. Tells result (next_at progress.old bytes) input.new.left) }
     ensures stage { IsStageAfter progress.old result progress.new }
+    ensures time { ComesInTime progress.old result }
     ensures cause { IsErrOf result LogFault.Read → Rose input.old.faults input.new.faults }
     ensures counts { input.old.faults ≤ input.new.faults }
 {
@@ -165,6 +166,7 @@ impl<S: Source> Reader<S> {
         ensures tells { self.old.refusal ≡ None
             → IfSome self.old.left (λ bytes. Tells result (next_at self.old.stage bytes) self.new.left) }
         ensures stage { self.old.refusal ≡ None → IsStageAfter self.old.stage result self.new.stage }
+        ensures time { self.old.refusal ≡ None → ComesInTime self.old.stage result }
         ensures again { IfSome self.old.refusal
             (λ f. (result ≡ Err f) × (self.new ≡ self.old)) }
         ensures kept { IsRefusalAfter result self.new.refusal }

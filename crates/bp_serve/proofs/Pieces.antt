@@ -1,17 +1,26 @@
 -- Text in pieces: written, waiting on the page, and to come.
-use Rattle.std.proofs.Common.{◌≡◌, ℕ, suc, ◌+◌, ◌<◌, List, [], ◌∷◌, ◌++◌, length, add-one, take, drop, get_or, refl, ap, sym, subst, ◌∙◌, append_assoc, append-nil, take-append-drop, flat_map, Option, Some, None}
-use Rattle.std.proofs.lemmas.List.{take_more}
+use Rattle.std.proofs.Common.{◌≡◌, ℕ, suc, ◌+◌, ◌<◌, ◌≤◌, arith, List, [], ◌∷◌, ◌++◌, length, add-one, take, drop, get_or, refl, ap, sym, subst, ◌∙◌, append_assoc, append-nil, take-append-drop, flat_map, Option, Some, None}
+use Rattle.std.proofs.lemmas.List.{take_more, take_all, take-append-le}
 use Rattle.std.proofs.lemmas.Grind.{flat_map-append}
 use Rattle.std.proofs.Math.Seq.{drop-cons}
 use Rattle.bp_base.specs.Pieces.{Appends, AppendsFront}
 use Rattle.bp_base.proofs.Appending.{appends-on}
 use Rattle.bp_log.specs.declared.trace.Line.{Line}
+use Rattle.bp_log.specs.declared.record.Record.{Record}
+use Rattle.bp_log.specs.Logs.{whole_record, records_text}
 use Rattle.bp_log.specs.Texts.{whole_line, lines_text}
 use Rattle.bp_serve.specs.Pages.{Shows, ShowsFront}
 
 pub appends_nothing : (a : Option (List ℕ)) → Appends a [] a
 appends_nothing None = tt
 appends_nothing (Some w) = sym (ap (λ (r : List ℕ). Some r) (append-nil w))
+
+some_is : (x y : List ℕ) → Some x ≡ Some y → x ≡ y
+some_is x y h = cc
+
+-- a text that was put on a page stands at its end
+pub put : (page more next : List ℕ) → Appends (Some page) more (Some next) → next ≡ page ++ more
+put page more next h = some_is next (page ++ more) h
 
 -- nothing was written
 pub shows_page : (a : Option (List ℕ)) (page : List ℕ) → Shows a page page a
@@ -24,12 +33,37 @@ shows_written a b text page e h = record { front = text; is_text = sym (ap (λ (
 pub front_written : (a b : Option (List ℕ)) (text page : List ℕ) → page ≡ [] → AppendsFront a text b → ShowsFront a text page b
 front_written a b text page e h = record { shown = h.0; rest = h.1; is_text = h.2; shows = shows_written a b h.0 page e h.3 }
 
+-- a further text was put on the page
+pub shows_put : (a b : Option (List ℕ)) (text page more next whole : List ℕ) → next ≡ page ++ more → whole ≡ text ++ more → Shows a text page b → Shows a whole next b
+shows_put a b text page more next whole e w s =
+    record {
+      front = s.front;
+      is_text = w ∙ ap (λ (x : List ℕ). x ++ more) s.is_text ∙ append_assoc s.front page more ∙ ap (λ (x : List ℕ). s.front ++ x) (sym e);
+      written = s.written;
+    }
+
 -- no more is shown
-shows_stop : (a b : Option (List ℕ)) (text page rest whole : List ℕ) → whole ≡ text ++ rest → Shows a text page b → ShowsFront a whole page b
+pub shows_stop : (a b : Option (List ℕ)) (text page rest whole : List ℕ) → whole ≡ text ++ rest → Shows a text page b → ShowsFront a whole page b
 shows_stop a b text page rest whole e s = record { shown = text; rest = rest; is_text = e; shows = s }
 
-pub shows_stop_at : (a b : Option (List ℕ)) (text page same rest whole : List ℕ) → same ≡ page → whole ≡ text ++ rest → Shows a text page b → ShowsFront a whole same b
-shows_stop_at a b text page same rest whole k e s = shows_stop a b text same rest whole e (subst (λ (x : List ℕ). Shows a text x b) (sym k) s)
+-- a front of what was to come waits
+pub shows_part : (a b : Option (List ℕ)) (text page more rest next whole : List ℕ) → whole ≡ text ++ (more ++ rest) → Shows a text page b → AppendsFront (Some page) more (Some next) → ShowsFront a whole next b
+shows_part a b text page more rest next whole e s h =
+    let same : next ≡ page ++ h.0 = some_is next (page ++ h.0) h.3 in
+    record {
+      shown = text ++ h.0;
+      rest = h.1 ++ rest;
+      is_text = e ∙ ap (λ (x : List ℕ). text ++ (x ++ rest)) h.2 ∙ ap (λ (x : List ℕ). text ++ x) (append_assoc h.0 h.1 rest) ∙ sym (append_assoc text h.0 (h.1 ++ rest));
+      shows = record {
+        front = s.front;
+        is_text = ap (λ (x : List ℕ). x ++ h.0) s.is_text ∙ append_assoc s.front page h.0 ∙ ap (λ (x : List ℕ). s.front ++ x) (sym same);
+        written = s.written;
+      };
+    }
+
+-- nothing more of what was to come
+pub shows_stop_at : (a : Option (List ℕ)) (page same more : List ℕ) → same ≡ page → ShowsFront a (page ++ more) same a
+shows_stop_at a page same more e = shows_stop a a page same more (page ++ more) refl (subst (λ (x : List ℕ). Shows a page x a) (sym e) (shows_page a page))
 
 -- more is shown
 pub shows_on : (a b c : Option (List ℕ)) (text page more on next whole : List ℕ) → on ≡ page ++ more → whole ≡ text ++ more → Shows a text page b → Shows b on next c → Shows a whole next c
@@ -59,6 +93,12 @@ front_on a b c text page more rest on next whole e w s t =
         written = appends-on a b c s.front u.front s.written u.written;
       };
     }
+
+-- the page is let go
+pub let_go : (a b : Option (List ℕ)) (text page : List ℕ) → ShowsFront a text page b → AppendsFront a text b
+let_go a b text page s =
+    let u = s.shows in
+    (u.front, page ++ s.rest, s.is_text ∙ ap (λ (x : List ℕ). x ++ s.rest) u.is_text ∙ append_assoc u.front page s.rest, u.written)
 
 -- the page was written at last
 pub written_all : (a b c : Option (List ℕ)) (text page : List ℕ) → Shows a text page b → Appends b page c → Appends a text c
@@ -123,3 +163,80 @@ pub line_whole : (page : List ℕ) (xs : List Line) (i : ℕ) (x : Line) → i <
     page ++ lines_text xs ≡ (page ++ lines_text (take i xs)) ++ (whole_line x ++ lines_text (drop (i + 1) xs))
 line_whole page xs i x h e =
     ap (λ (t : List ℕ). page ++ t) (lines_split xs i x h e) ∙ sym (append_assoc page (lines_text (take i xs)) (whole_line x ++ lines_text (drop (i + 1) xs)))
+
+-- ---- records
+
+pub records_text-append : (xs ys : List Record) → records_text (xs ++ ys) ≡ records_text xs ++ records_text ys
+unfolding records_text
+records_text-append xs ys = flat_map-append whole_record xs ys
+
+pub records_none : records_text [] ≡ []
+unfolding records_text
+records_none = refl
+
+-- one more record
+pub records_more : (xs : List Record) (i : ℕ) (x : Record) → i < length xs → x ≡ get_or xs i x → records_text (take (i + 1) xs) ≡ records_text (take i xs) ++ whole_record x
+unfolding records_text
+records_more xs i x h e =
+    ap (λ (r : List Record). flat_map whole_record r) (take_more xs i x h)
+    ∙ flat_map-append whole_record (take i xs) (get_or xs i x ∷ [])
+    ∙ ap (λ (r : List ℕ). flat_map whole_record (take i xs) ++ r) (append-nil (whole_record (get_or xs i x)))
+    ∙ ap (λ (y : Record). flat_map whole_record (take i xs) ++ whole_record y) (sym e)
+
+-- and those behind it
+pub records_split : (xs : List Record) (i : ℕ) (x : Record) → i < length xs → x ≡ get_or xs i x →
+    records_text xs ≡ records_text (take i xs) ++ (whole_record x ++ records_text (drop (i + 1) xs))
+unfolding records_text
+records_split xs i x h e =
+    ap (λ (r : List Record). flat_map whole_record r) (sym (take-append-drop i xs)) ∙ flat_map-append whole_record (take i xs) (drop i xs)
+    ∙ ap (λ (r : List Record). flat_map whole_record (take i xs) ++ flat_map whole_record r) (drop_is xs i x h e)
+
+take_front : (xs later all : List Record) (k : ℕ) → xs ++ later ≡ all → k ≤ length xs → take k all ≡ take k xs
+take_front xs later all k e h = ap (λ (r : List Record). take k r) (sym e) ∙ take-append-le k xs later h
+
+take_whole : (xs later all : List Record) → xs ++ later ≡ all → take (length xs) all ≡ xs
+take_whole xs later all e = take_front xs later all (length xs) e (omega arith) ∙ take_all (length xs) xs (omega arith)
+
+-- of a list that goes on, those up to a place, and those behind it that are there
+pub records_kept : (base : List ℕ) (xs later all : List Record) (k : ℕ) → xs ++ later ≡ all → k ≤ length xs →
+    base ++ records_text (take (length xs) all) ≡ (base ++ records_text (take k all)) ++ records_text (drop k xs)
+records_kept base xs later all k e h =
+    ap (λ (r : List ℕ). base ++ r)
+    (ap (λ (rs : List Record). records_text rs) (take_whole xs later all e ∙ sym (take-append-drop k xs) ∙ ap (λ (rs : List Record). rs ++ drop k xs) (sym (take_front xs later all k e h)))
+    ∙ records_text-append (take k all) (drop k xs))
+    ∙ sym (append_assoc base (records_text (take k all)) (records_text (drop k xs)))
+
+-- and those to come
+pub records_later : (base : List ℕ) (xs later all : List Record) (k : ℕ) → xs ++ later ≡ all → k ≤ length xs →
+    base ++ records_text all ≡ (base ++ records_text (take k all)) ++ (records_text (drop k xs) ++ records_text later)
+records_later base xs later all k e h =
+    ap (λ (rs : List Record). base ++ records_text rs) (sym e) ∙ ap (λ (r : List ℕ). base ++ r) (records_text-append xs later) ∙ sym (append_assoc base (records_text xs) (records_text later))
+    ∙ ap (λ (r : List ℕ). r ++ records_text later) (ap (λ (rs : List Record). base ++ records_text rs) (sym (take_whole xs later all e)) ∙ records_kept base xs later all k e h)
+    ∙ append_assoc (base ++ records_text (take k all)) (records_text (drop k xs)) (records_text later)
+
+-- those up to a place, and those behind it
+pub records_rest : (base : List ℕ) (all : List Record) (k : ℕ) → base ++ records_text all ≡ (base ++ records_text (take k all)) ++ records_text (drop k all)
+records_rest base all k =
+    ap (λ (rs : List Record). base ++ records_text rs) (sym (take-append-drop k all)) ∙ ap (λ (r : List ℕ). base ++ r) (records_text-append (take k all) (drop k all))
+    ∙ sym (append_assoc base (records_text (take k all)) (records_text (drop k all)))
+
+-- before the first
+pub records_first : (base : List ℕ) (all : List Record) (k : ℕ) → k ≡ 0 → base ++ records_text (take k all) ≡ base
+records_first base all k e = ap (λ (n : ℕ). base ++ records_text (take n all)) e ∙ ap (λ (r : List ℕ). base ++ r) records_none ∙ append-nil base
+
+-- and all of them
+pub records_whole : (base : List ℕ) (all : List Record) (k : ℕ) → k ≡ length all → base ++ records_text (take k all) ≡ base ++ records_text all
+records_whole base all k e = ap (λ (n : ℕ). base ++ records_text (take n all)) e ∙ ap (λ (rs : List Record). base ++ records_text rs) (take_all (length all) all (omega arith))
+
+-- records that were put on a page, or a front of their text
+pub records_part : (page at next : List ℕ) (xs : List Record) (i : ℕ) (x : Record) → i < length xs → x ≡ get_or xs i x → at ≡ page ++ records_text (take i xs) →
+    AppendsFront (Some at) (whole_record x) (Some next) → AppendsFront (Some page) (records_text xs) (Some next)
+records_part page at next xs i x h e k f =
+    let same : next ≡ at ++ f.0 = some_is next (at ++ f.0) f.3 in (
+      records_text (take i xs) ++ f.0,
+      f.1 ++ records_text (drop (i + 1) xs),
+      records_split xs i x h e ∙ ap (λ (r : List ℕ). records_text (take i xs) ++ (r ++ records_text (drop (i + 1) xs))) f.2
+          ∙ ap (λ (r : List ℕ). records_text (take i xs) ++ r) (append_assoc f.0 f.1 (records_text (drop (i + 1) xs)))
+          ∙ sym (append_assoc (records_text (take i xs)) f.0 (f.1 ++ records_text (drop (i + 1) xs))),
+      ap (λ (r : List ℕ). Some r) (same ∙ ap (λ (r : List ℕ). r ++ f.0) k ∙ append_assoc page (records_text (take i xs)) f.0),
+    )

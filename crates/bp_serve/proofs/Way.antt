@@ -1,5 +1,5 @@
 -- A run on its way to its end.
-use Rattle.std.proofs.Common.{◌≡◌, ℕ, zero, suc, ◌+◌, ◌-◌, ◌<◌, ◌≤◌, true, false, List, [], ◌∷◌, ◌++◌, length, refl, ap, sym, ◌∙◌, subst, append_assoc, append-nil, length-append, arith, Option, Some, None, Ok, Err, option_map, IsSomeAnd}
+use Rattle.std.proofs.Common.{◌≡◌, ℕ, zero, suc, ◌+◌, ◌-◌, ◌<◌, ◌≤◌, true, false, List, [], ◌∷◌, ◌++◌, length, take, drop, refl, ap, sym, ◌∙◌, subst, append_assoc, append-nil, length-append, arith, Option, Some, None, Ok, Err, option_map, IsSomeAnd}
 use Rattle.std.specs.Prelude.{option_to_list, Result, OnOk, OnErr}
 use Rattle.js_data.specs.Event.{PlainEvent}
 use Rattle.js_value.specs.Value.{PlainSet}
@@ -38,7 +38,10 @@ use Rattle.bp_base.specs.Pieces.{Appends, AppendsFront}
 use Rattle.bp_serve.specs.Ends.{verdict_alone}
 use Rattle.bp_serve.specs.Pages.{Shows, ShowsFront}
 use Rattle.bp_serve.specs.Serving.{Ahead, OnTheWay, Underway, KeepsUnderway, Begins, TakesLines}
-use Rattle.bp_serve.proofs.Pieces.{lines_text-append, lines_none, shows_page, shows_on, front_on, written_all, written_front, written_part, written_front_part}
+use Rattle.bp_log.specs.Logs.{records_text}
+use Rattle.bp_serve.specs.Logging.{LogShows, LogShowsFront}
+use Rattle.bp_serve.proofs.Logging.{log_more_on, log_more_front}
+use Rattle.bp_serve.proofs.Pieces.{records_kept, records_later, lines_text-append, lines_none, let_go, shows_page, shows_on, front_on, written_all, written_front, written_part, written_front_part}
 
 -- ---- the records
 
@@ -171,13 +174,13 @@ later_on l o Over rs w = record { later = []; whole = append-nil rs ∙ w }
 pub same_code : (a b : PlainArbiter) → b.floor.base.program ≡ a.floor.base.program → options_in b ≡ options_in a → code_in b ≡ code_in a
 same_code a b p q = λ i. code_of (p i) (q i)
 
-recounts_at : (l : Code Origin PlainSet) (o : PlainOptions) (a : PlainArbiter) (c : Configuration Origin) → code_in a ≡ l → options_in a ≡ o → Recounts a c → story l o a.records ≡ Some c
+pub recounts_at : (l : Code Origin PlainSet) (o : PlainOptions) (a : PlainArbiter) (c : Configuration Origin) → code_in a ≡ l → options_in a ≡ o → Recounts a c → story l o a.records ≡ Some c
 recounts_at l o a c e f h = subst (λ (x : PlainOptions). story l x a.records ≡ Some c) f (subst (λ (x : Code Origin PlainSet). story x (options_in a) a.records ≡ Some c) e h)
 
-recounts_in : (l : Code Origin PlainSet) (o : PlainOptions) (a : PlainArbiter) (c : Configuration Origin) → code_in a ≡ l → options_in a ≡ o → story l o a.records ≡ Some c → Recounts a c
+pub recounts_in : (l : Code Origin PlainSet) (o : PlainOptions) (a : PlainArbiter) (c : Configuration Origin) → code_in a ≡ l → options_in a ≡ o → story l o a.records ≡ Some c → Recounts a c
 recounts_in l o a c e f h = subst (λ (x : PlainOptions). story (code_in a) x a.records ≡ Some c) (sym f) (subst (λ (x : Code Origin PlainSet). story x o a.records ≡ Some c) (sym e) h)
 
-coming_at : (l : Code Origin PlainSet) (o : PlainOptions) (a : PlainArbiter) (c : Configuration Origin) → code_in a ≡ l → options_in a ≡ o → coming a c ≡ next l o c
+pub coming_at : (l : Code Origin PlainSet) (o : PlainOptions) (a : PlainArbiter) (c : Configuration Origin) → code_in a ≡ l → options_in a ≡ o → coming a c ≡ next l o c
 coming_at l o a c e f = λ i. next (e i) (f i) c
 
 -- the lines that were taken begin the text
@@ -452,3 +455,27 @@ pub written_still : {T E : Type 0} (r : Result T E) (x : Option (List ℕ)) (a b
 written_still (Ok v) x a b c page h w = tt
 written_still (Err e) None a b c page h w = absurd h
 written_still (Err e) (Some t) a b c page h w = written_front a b c t page h w
+
+-- what waits is let go
+pub unprinted : (x : Option (List ℕ)) (a b : Option (List ℕ)) (page : List ℕ) → IsSomeAnd x (λ t. ShowsFront a t page b) → IsSomeAnd x (λ t. AppendsFront a t b)
+unprinted None a b page h = absurd h
+unprinted (Some t) a b page h = let_go a b t page h
+
+-- ---- the log
+
+-- what was recorded of the run stands in its log, and the rest is to come
+pub log_told : {L : Type 0} (written : L → Option (List ℕ)) (l : Code Origin PlainSet) (o : PlainOptions) (a : PlainArbiter) (taken : List Line) → Underway l o a taken → (k : ℕ) → k ≤ length a.records →
+    (base page next : List ℕ) (x y z : Option L) → LogShows written x (base ++ records_text (take k (alone l o))) page y → LogShows written y (page ++ records_text (drop k a.records)) next z →
+    LogShows written x (base ++ records_text (take (length a.records) (alone l o))) next z
+log_told written l o a taken u k h base page next x y z s t =
+    let w = later_on l o a.phase a.records u.way in
+    log_more_on written x y z (base ++ records_text (take k (alone l o))) page (records_text (drop k a.records)) next (base ++ records_text (take (length a.records) (alone l o)))
+    (records_kept base a.records w.later (alone l o) k w.whole h) s t
+
+pub log_front_told : {L : Type 0} (written : L → Option (List ℕ)) (l : Code Origin PlainSet) (o : PlainOptions) (a : PlainArbiter) (taken : List Line) → Underway l o a taken → (k : ℕ) → k ≤ length a.records →
+    (base page next : List ℕ) (x y z : Option L) → LogShows written x (base ++ records_text (take k (alone l o))) page y → LogShowsFront written y (page ++ records_text (drop k a.records)) next z →
+    LogShowsFront written x (base ++ records_text (alone l o)) next z
+log_front_told written l o a taken u k h base page next x y z s t =
+    let w = later_on l o a.phase a.records u.way in
+    log_more_front written x y z (base ++ records_text (take k (alone l o))) page (records_text (drop k a.records)) (records_text w.later) next (base ++ records_text (alone l o))
+    (records_later base a.records w.later (alone l o) k w.whole h) s t

@@ -1,3 +1,5 @@
 pub mod Ends
 pub mod Pages
+pub mod Logging
 pub mod Serving
+pub mod Turning

@@ -48,13 +48,6 @@ pub record Underway (l : Code Origin PlainSet) (o : PlainOptions) (a : PlainArbi
   pub stands : StandsFor a [] taken pair
   pub way : OnTheWay l o a.phase a.records
 
--- the arbiter serves some run
-pub record IsUnderway (a : PlainArbiter) : Type 0 where
-  pub code : Code Origin PlainSet
-  pub options : PlainOptions
-  pub taken : List Line
-  pub underway : Underway code options a taken
-
 -- the same run is served, and no line was taken
 abbrev pub KeepsUnderway : PlainArbiter → PlainArbiter → Type 0
 KeepsUnderway old new =

@@ -11,6 +11,9 @@ pub enum RunFault {
     /// The output failed.
     #[error("the output failed")]
     Write,
+    /// The log failed.
+    #[error("the log failed")]
+    LogWrite,
     /// No memory was left.
     #[error("no memory was left")]
     Memory,

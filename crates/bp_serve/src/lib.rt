@@ -1,12 +1,17 @@
-//! A run that is served: carried on to its end by one thread, and printed as it comes.
+//! A run that is served: carried on to its end by one thread, and printed and kept as it comes.
 #![tactic(auto)]
 
 mod carrying;
 mod fault;
 mod page;
+mod report;
 mod running;
 mod serving;
+mod telling;
 
 pub use carrying::carry_all;
 pub use fault::RunFault;
+pub use page::Page;
+pub use report::Report;
 pub use running::run;
+pub use serving::settle;

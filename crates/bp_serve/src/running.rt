@@ -1,66 +1,98 @@
-//! A program, run to its end and printed.
-ghost use Rattle.std.specs.Prelude.{◌≡◌, ◌≤◌, [], Some, IfOk, OnOk, OnErr, IsErrOf, IsSomeAnd};
+//! A program, run to its end, printed, and kept in a log.
+ghost use Rattle.std.specs.Prelude.{◌≡◌, ◌<◌, ◌≤◌, ◌++◌, [], Some, IfOk, OnOk, OnErr, IsErrOf, IsSomeAnd};
 ghost use Rattle.bp_base.specs.Counts.{Rose};
 ghost use Rattle.bp_base.specs.Pieces.{Appends, AppendsFront};
-ghost use Rattle.bp_code.specs.Code.{text_alone};
+ghost use Rattle.bp_code.specs.Code.{records_alone, text_alone};
+ghost use Rattle.bp_log.specs.Logs.{records_text, log_text};
 ghost use Rattle.bp_serve.specs.Ends.{verdict_alone};
+ghost use Rattle.bp_serve.specs.Logging.{LogGets, LogGetsFront, LogShows, LogShowsFront, LogFails, LogStays};
 ghost use Rattle.bp_serve.specs.Pages.{Shows, ShowsFront};
 
-use crate::RunFault;
-use crate::page::Page;
 use crate::serving::serve;
+use crate::telling::Telling;
+use crate::{Report, RunFault};
 use bp_arbiter::Arbiter;
 use bp_base::Sink;
-use bp_log::{Beside, Options, Verdict};
+use bp_log::{Beside, Header, Options};
 use js_program::Program;
 use std::alloc::Global;
 
-/// The verdict of the run, whose text is put on the page.
-fn run_onto<K: Sink>(
+/// What the run came to, whose text and whose records are told.
+fn run_onto<K: Sink, L: Sink>(
     alloc: Global,
     program: Program,
     options: Options,
-    page: &mut Page,
+    slice: u64,
+    telling: &mut Telling,
     out: &mut K,
-) -> Result<Verdict, RunFault>
+    log: &mut Option<L>,
+) -> Result<Report, RunFault>
     requires alone { options.injectors ≡ 0 }
-    requires empty { page.old ≡ [] }
+    requires some_slice { 0 < slice }
+    requires lines { telling.old.lines ≡ [] }
+    requires kept { telling.old.kept ≡ 0 }
     ensures shows { OnOk result (IsSomeAnd (text_alone program options)
-        (λ text. Shows (K.written out.old) text page.new (K.written out.new))) }
-    ensures verdict { IfOk result (λ verdict. verdict_alone program options ≡ Some verdict) }
+        (λ text. Shows (K.written out.old) text telling.new.lines (K.written out.new))) }
     ensures front { OnErr result (IsSomeAnd (text_alone program options)
-        (λ text. ShowsFront (K.written out.old) text page.new (K.written out.new))) }
+        (λ text. ShowsFront (K.written out.old) text telling.new.lines (K.written out.new))) }
+    ensures verdict { IfOk result (λ r. verdict_alone program options ≡ Some r.verdict) }
+    ensures records { IfOk result (λ r. r.records ≡ records_alone program options) }
+    ensures log_shows { let text = telling.old.records ++ records_text (records_alone program options) in
+        OnOk result (LogShows L.written log.old text telling.new.records log.new) }
+    ensures log_front { let text = telling.old.records ++ records_text (records_alone program options) in
+        OnErr result (LogShowsFront L.written log.old text telling.new.records log.new) }
     ensures cause { IsErrOf result RunFault.Write → Rose (K.faults out.old) (K.faults out.new) }
+    ensures log_cause { IsErrOf result RunFault.LogWrite → LogFails L.faults log.old log.new }
     ensures counts { K.faults out.old ≤ K.faults out.new }
+    ensures stays { LogStays L.made_as L.faults log.old log.new }
 {
-    let slice = Beside::defaults().slice();
     let mut arbiter = Arbiter::open(alloc, program, options)?;
-    serve(alloc, &mut arbiter, slice, page, out)?;
-    match arbiter.verdict() {
-        Some(verdict) => Ok(verdict.copy()?),
-        None => unreachable!(),
-    }
+    serve(alloc, &mut arbiter, slice, telling, out, log)?;
+    let report = Report::of(arbiter)?;
+    Ok(report)
 }
 
-/// Runs the program to its end, and prints the text of its run, in pieces of 64 KiB or a little more. After a refusal a part
-/// of that text, from its front, was printed.
-pub fn run<K: Sink>(
+/// Runs the program to its end under the options of the header. Prints the text of its run, in pieces of 64 KiB or a little
+/// more, and writes its log, where one is kept: the header before anything is printed, and each record before the lines that come
+/// of it. After a refusal a part of the text and a part of the log, each from its front, were written.
+pub fn run<K: Sink, L: Sink>(
     alloc: Global,
     program: Program,
-    options: Options,
+    header: &Header,
+    beside: Beside,
     out: &mut K,
-) -> Result<Verdict, RunFault>
-    requires alone { options.injectors ≡ 0 }
-    ensures prints { OnOk result (IsSomeAnd (text_alone program options)
+    log: &mut Option<L>,
+) -> Result<Report, RunFault>
+    requires alone { header.now.options.injectors ≡ 0 }
+    ensures prints { OnOk result (IsSomeAnd (text_alone program header.now.options)
         (λ text. Appends (K.written out.old) text (K.written out.new))) }
-    ensures verdict { IfOk result (λ verdict. verdict_alone program options ≡ Some verdict) }
-    ensures front { OnErr result (IsSomeAnd (text_alone program options)
+    ensures front { OnErr result (IsSomeAnd (text_alone program header.now.options)
         (λ text. AppendsFront (K.written out.old) text (K.written out.new))) }
+    ensures verdict { IfOk result (λ r. verdict_alone program header.now.options ≡ Some r.verdict) }
+    ensures records { IfOk result (λ r. r.records ≡ records_alone program header.now.options) }
+    ensures logs { let text = log_text header.now (records_alone program header.now.options) in
+        OnOk result (LogGets L.written log.old text log.new) }
+    ensures log_front { let text = log_text header.now (records_alone program header.now.options) in
+        OnErr result (LogGetsFront L.written log.old text log.new) }
     ensures cause { IsErrOf result RunFault.Write → Rose (K.faults out.old) (K.faults out.new) }
+    ensures log_cause { IsErrOf result RunFault.LogWrite → LogFails L.faults log.old log.new }
     ensures counts { K.faults out.old ≤ K.faults out.new }
+    ensures stays { LogStays L.made_as L.faults log.old log.new }
 {
-    let mut page = Page::new(alloc);
-    let ended = run_onto(alloc, program, options, &mut page, out);
-    page.write(out)?;
+    let mut telling = Telling::begin(alloc, header, log)?;
+    let options = header.options();
+    let ended = run_onto(
+        alloc,
+        program,
+        options,
+        beside.slice(),
+        &mut telling,
+        out,
+        log,
+    );
+    if let Err(RunFault::LogWrite) = ended {
+        return Err(RunFault::LogWrite);
+    }
+    telling.write(out, log)?;
     ended
 }

@@ -1,15 +1,18 @@
 //! The loop that serves a run.
-ghost use Rattle.std.specs.Prelude.{◌≡◌, ◌<◌, ◌≤◌, ◌++◌, [], length, IfOk, OnOk, OnErr, IsErrOf, IsSomeAnd};
+ghost use Rattle.std.specs.Prelude.{◌≡◌, ◌<◌, ◌≤◌, ◌++◌, [], false, length, drop, IfOk, OnOk, OnErr, IsErrOf, IsSomeAnd};
 ghost use Rattle.bp_base.specs.Counts.{Rose};
+ghost use Rattle.bp_log.specs.Logs.{records_text};
 ghost use Rattle.bp_log.specs.Texts.{lines_text};
 ghost use Rattle.bp_floor.specs.declared.phase.Phase.TheVariants as phase;
-ghost use Rattle.bp_arbiter.specs.Arbiters.{code_in, options_in, stand_in};
+ghost use Rattle.bp_arbiter.specs.Arbiters.{code_in, options_in, stand_in, is_lent, StandsSomewhere};
+ghost use Rattle.bp_serve.specs.Logging.{LogShows, LogShowsFront, LogFails, LogStays};
 ghost use Rattle.bp_serve.specs.Pages.{Shows, ShowsFront};
-ghost use Rattle.bp_serve.specs.Serving.{records_in, text_in, IsUnderway, Underway, KeepsUnderway, TakesLines};
+ghost use Rattle.bp_serve.specs.Serving.{records_in, text_in, Underway, KeepsUnderway, TakesLines};
+ghost use Rattle.bp_serve.specs.Turning.{Settles};
 
 use crate::RunFault;
 use crate::carrying::carry_all;
-use crate::page::Page;
+use crate::telling::Telling;
 use bp_arbiter::{Arbiter, Phase};
 use bp_base::Sink;
 use bp_log::Memory;
@@ -20,7 +23,8 @@ use std::alloc::Global;
 fn turn(alloc: Global, arbiter: &mut Arbiter, slice: u64) -> Result<Phase, Memory>
     requires some_slice { 0 < slice }
     requires ready { arbiter.old.phase ≡ phase.Ready }
-    requires underway { IsUnderway arbiter.old }
+    requires stands { StandsSomewhere arbiter.old }
+    ensures settles { OnOk result (Settles arbiter.old arbiter.new) }
     ensures keeps { OnOk result (KeepsUnderway arbiter.old arbiter.new) }
     ensures phase { IfOk result (λ f. f ≡ arbiter.new.phase) }
     ensures records { OnOk result (length arbiter.old.records ≤ length arbiter.new.records) }
@@ -34,9 +38,11 @@ fn turn(alloc: Global, arbiter: &mut Arbiter, slice: u64) -> Result<Phase, Memor
 }
 
 /// Turn after turn, until nobody is to be run. Its only error is want of memory.
-fn settle(alloc: Global, arbiter: &mut Arbiter, slice: u64) -> Result<(), Memory>
+pub fn settle(alloc: Global, arbiter: &mut Arbiter, slice: u64) -> Result<(), Memory>
     requires some_slice { 0 < slice }
-    requires underway { IsUnderway arbiter.old }
+    requires stands { StandsSomewhere arbiter.old }
+    requires unlent { is_lent arbiter.old.phase ≡ false }
+    ensures settles { OnOk result (Settles arbiter.old arbiter.new) }
     ensures keeps { OnOk result (KeepsUnderway arbiter.old arbiter.new) }
     ensures records { OnOk result (length arbiter.old.records ≤ length arbiter.new.records) }
     ensures settled { OnOk result (¬ (arbiter.new.phase ≡ phase.Ready)) }
@@ -49,52 +55,70 @@ fn settle(alloc: Global, arbiter: &mut Arbiter, slice: u64) -> Result<(), Memory
     Ok(())
 }
 
-/// Takes the lines of the run since the last taking, and puts them on the page.
-fn print_lines<K: Sink>(
+/// Tells what came of the run since the last telling: its records, and then its lines.
+fn tell<K: Sink, L: Sink>(
     alloc: Global,
     arbiter: &mut Arbiter,
-    page: &mut Page,
+    telling: &mut Telling,
     out: &mut K,
+    log: &mut Option<L>,
 ) -> Result<(), RunFault>
-    ensures shows { let text = page.old ++ lines_text (stand_in arbiter.old).lines in
-        OnOk result (Shows (K.written out.old) text page.new (K.written out.new)) }
-    ensures front { let text = page.old ++ lines_text (stand_in arbiter.old).lines in
-        OnErr result (ShowsFront (K.written out.old) text page.new (K.written out.new)) }
+    requires kept { telling.old.kept ≤ length arbiter.old.records }
+    ensures shows { let text = telling.old.lines ++ lines_text (stand_in arbiter.old).lines in
+        OnOk result (Shows (K.written out.old) text telling.new.lines (K.written out.new)) }
+    ensures front { let text = telling.old.lines ++ lines_text (stand_in arbiter.old).lines in
+        OnErr result (ShowsFront (K.written out.old) text telling.new.lines (K.written out.new)) }
+    ensures log_shows { let more = records_text (drop telling.old.kept arbiter.old.records) in
+        OnOk result (LogShows L.written log.old (telling.old.records ++ more) telling.new.records log.new) }
+    ensures log_front { let more = records_text (drop telling.old.kept arbiter.old.records) in
+        OnErr result (LogShowsFront L.written log.old (telling.old.records ++ more) telling.new.records log.new) }
+    ensures kept { OnOk result (telling.new.kept ≡ length arbiter.old.records) }
     ensures keeps { TakesLines arbiter.old arbiter.new }
     ensures records { arbiter.new.records ≡ arbiter.old.records }
     ensures phase { arbiter.new.phase ≡ arbiter.old.phase }
     ensures cause { IsErrOf result RunFault.Write → Rose (K.faults out.old) (K.faults out.new) }
+    ensures log_cause { IsErrOf result RunFault.LogWrite → LogFails L.faults log.old log.new }
     ensures counts { K.faults out.old ≤ K.faults out.new }
+    ensures stays { LogStays L.made_as L.faults log.old log.new }
 {
     let lines = arbiter.take_lines();
     arbiter.keeps();
-    page.print(alloc, lines.as_slice(), out)
+    telling.record(alloc, arbiter.records(), log)?;
+    telling.print(alloc, lines.as_slice(), out, log)
 }
 
-/// Serves the run to its end, and puts its lines on the page as they come.
-pub(crate) fn serve<K: Sink>(
+/// Serves the run to its end, and tells its records and its lines as they come.
+pub(crate) fn serve<K: Sink, L: Sink>(
     alloc: Global,
     arbiter: &mut Arbiter,
     slice: u64,
-    page: &mut Page,
+    telling: &mut Telling,
     out: &mut K,
+    log: &mut Option<L>,
 ) -> Result<(), RunFault>
     requires some_slice { 0 < slice }
     requires alone { (options_in arbiter.old).injectors ≡ 0 }
     requires underway { Underway (code_in arbiter.old) (options_in arbiter.old) arbiter.old [] }
-    requires empty { page.old ≡ [] }
+    requires lines { telling.old.lines ≡ [] }
+    requires kept { telling.old.kept ≡ 0 }
     ensures shows { OnOk result (IsSomeAnd (text_in arbiter.old)
-        (λ text. Shows (K.written out.old) text page.new (K.written out.new))) }
+        (λ text. Shows (K.written out.old) text telling.new.lines (K.written out.new))) }
     ensures front { OnErr result (IsSomeAnd (text_in arbiter.old)
-        (λ text. ShowsFront (K.written out.old) text page.new (K.written out.new))) }
+        (λ text. ShowsFront (K.written out.old) text telling.new.lines (K.written out.new))) }
+    ensures log_shows { let text = telling.old.records ++ records_text (records_in arbiter.old) in
+        OnOk result (LogShows L.written log.old text telling.new.records log.new) }
+    ensures log_front { let text = telling.old.records ++ records_text (records_in arbiter.old) in
+        OnErr result (LogShowsFront L.written log.old text telling.new.records log.new) }
     ensures over { OnOk result (arbiter.new.phase ≡ phase.Over) }
     ensures records { OnOk result (arbiter.new.records ≡ records_in arbiter.old) }
     ensures cause { IsErrOf result RunFault.Write → Rose (K.faults out.old) (K.faults out.new) }
+    ensures log_cause { IsErrOf result RunFault.LogWrite → LogFails L.faults log.old log.new }
     ensures counts { K.faults out.old ≤ K.faults out.new }
+    ensures stays { LogStays L.made_as L.faults log.old log.new }
 {
     loop {
         settle(alloc, arbiter, slice)?;
-        print_lines(alloc, arbiter, page, out)?;
+        tell(alloc, arbiter, telling, out, log)?;
         if arbiter.phase() == Phase::Over {
             return Ok(());
         }

@@ -3,6 +3,7 @@ use Rattle.bp_log.specs.declared.limits.TheConstants.{MOST_THREADS}
 use Rattle.bp_floor.specs.declared.phase.Phase.{Phase}
 use Rattle.bp_floor.specs.declared.phase.Phase.TheVariants.{Ready, Lent, Rest, Over}
 use Rattle.bp_arbiter.specs.Arbiters.{stand_in}
+use Rattle.bp_serve.proofs.Turned.{settles_refl, settles_trans, settles_somewhere}
 use Rattle.bp_serve.proofs.serving.settle.Invariants.{turns_left}
 use Rattle.bp_serve.proofs.serving.settle.Goals as goal
 
@@ -15,9 +16,12 @@ falls_to Over m n h k = omega (arith, h)
 falls : (old new : Phase) (m n : ℕ) → old ≡ Ready → m ≤ MOST_THREADS → (new ≡ Ready → m < n) → turns_left new n < turns_left old m
 falls old new m n e h k = subst (λ (f : Phase). turns_left new n < turns_left f m) (sym e) (falls_to new m n h k)
 
+pub loop-alloc-init : goal.loop-alloc-init
+loop-alloc-init c = record { stands = c.requires.stands; settles = settles_refl c.args.arbiter.now; keeps = λ l o taken x. x; records = omega arith }
+
 pub loop-alloc-smaller : goal.loop-alloc-smaller
 loop-alloc-smaller c =
-    let u = (c.loop-alloc.invariant.underway).underway in
+    let u = c.loop-alloc.invariant.stands in
     let ready : c.loop-alloc.arbiter.phase ≡ Ready = search rules in
     falls c.loop-alloc.arbiter.phase c.turn.new.arbiter.phase (length (stand_in c.loop-alloc.arbiter).threads) (length (stand_in c.turn.new.arbiter).threads) ready
     (c.keeps.ensures.few (u.stands).whole) (λ e. c.in_ok-turn.ensures.grows (c.in_ok-turn.ensures.phase ∙ e))
@@ -25,11 +29,12 @@ loop-alloc-smaller c =
 pub loop-alloc-preserved : goal.loop-alloc-preserved
 loop-alloc-preserved c =
     let i = c.loop-alloc.invariant in
-    let u = i.underway in
+    let ready : c.loop-alloc.arbiter.phase ≡ Ready = search rules in
     let before = i.records in
     let after = c.in_ok-turn.ensures.records in
     record {
-      underway = record { code = u.code; options = u.options; taken = u.taken; underway = c.in_ok-turn.ensures.keeps u.code u.options u.taken u.underway };
+      stands = settles_somewhere c.loop-alloc.arbiter c.turn.new.arbiter c.in_ok-turn.ensures.settles i.stands;
+      settles = settles_trans c.args.arbiter.now c.loop-alloc.arbiter c.turn.new.arbiter ready i.settles c.in_ok-turn.ensures.settles;
       keeps = λ l o taken x. c.in_ok-turn.ensures.keeps l o taken (i.keeps l o taken x);
       records = omega (arith, before, after);
     }

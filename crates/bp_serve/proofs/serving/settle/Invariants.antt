@@ -2,8 +2,9 @@ use Rattle.std.proofs.Common.{ℕ, ◌+◌, ◌-◌, ◌≤◌, length}
 use Rattle.bp_log.specs.declared.limits.TheConstants.{MOST_THREADS}
 use Rattle.bp_floor.specs.declared.phase.Phase.{Phase}
 use Rattle.bp_floor.specs.declared.phase.Phase.TheVariants.{Ready, Lent, Rest, Over}
-use Rattle.bp_arbiter.specs.Arbiters.{stand_in}
-use Rattle.bp_serve.specs.Serving.{IsUnderway, KeepsUnderway}
+use Rattle.bp_arbiter.specs.Arbiters.{stand_in, StandsSomewhere}
+use Rattle.bp_serve.specs.Serving.{KeepsUnderway}
+use Rattle.bp_serve.specs.Turning.{Settles}
 use Rattle.bp_serve.proofs.serving.settle.Given as goal
 
 -- at most so many turns are left with so many b-threads
@@ -15,7 +16,8 @@ turns_left Over threads = 0
 
 abbrev pub invariant-loop-alloc : goal.invariant-loop-alloc
 invariant-loop-alloc l = record {
-  underway : IsUnderway l.arbiter;
+  stands : StandsSomewhere l.arbiter;
+  settles : Settles l.fn.arbiter l.arbiter;
   keeps : KeepsUnderway l.fn.arbiter l.arbiter;
   records : length l.fn.arbiter.records ≤ length l.arbiter.records;
 }

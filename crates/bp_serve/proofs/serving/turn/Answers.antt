@@ -1,6 +1,7 @@
 use Rattle.std.proofs.Common.{arith}
 use Rattle.bp_arbiter.specs.Arbiters.{options_in}
 use Rattle.bp_serve.proofs.Way.{turn_keeps, turn_records, budget_of, carried_at, can_run_here}
+use Rattle.bp_serve.proofs.Turned.{turn_settles}
 use Rattle.bp_serve.proofs.serving.turn.Goals as goal
 
 pub carry_all-requires-clause-some_budget : goal.carry_all-requires-clause-some_budget
@@ -17,13 +18,12 @@ carry_all-requires-clause-can_run c =
 
 pub seal-requires-clause-back : goal.seal-requires-clause-back
 seal-requires-clause-back c = λ _.
-    let u = c.requires.underway in
-    let s = (u.underway).stands in
+    let u = c.requires.stands in
     record {
       lent = c.in_ok-jobs.jobs.items;
       taken = u.taken;
-      pair = (u.underway).pair;
-      stands = c.in_ok-jobs.ensures.stands u.taken (u.underway).pair s;
+      pair = u.pair;
+      stands = c.in_ok-jobs.ensures.stands u.taken u.pair u.stands;
       out = c.in_ok-jobs.ensures.lent;
       carried = carried_at _ _ _ c.budget-budget.result c.in_ok-jobs.jobs.items c.carry_all.new.jobs.items c.ground.ensures
           (budget_of c.options.result (options_in c.lend.new.self) c.args.arbiter.now.floor c.floor.result.now c.budget-budget.result c.budget-budget.ensures.budget c.options.ensures c.floor.ensures.floor c.lend.ensures.options)
@@ -40,6 +40,17 @@ returns-clause-keeps c =
     (budget_of c.options.result (options_in c.lend.new.self) c.args.arbiter.now.floor c.floor.result.now c.budget-budget.result c.budget-budget.ensures.budget c.options.ensures c.floor.ensures.floor l.options)
     c.in_ok-carry_all.ensures)
     s.stands s.phase s.recorded s.over s.program s.options
+
+pub returns-clause-settles : goal.returns-clause-settles
+returns-clause-settles c =
+    let l = c.lend.ensures in
+    let s = c.seal.ensures in
+    turn_settles c.seal.result c.args.arbiter.now c.lend.new.self c.seal.new.self c.in_ok-jobs.jobs.items c.carry_all.new.jobs.items
+    c.requires.stands c.in_ok-jobs.ensures.stands l.records l.ground l.options
+    (carried_at _ _ _ c.budget-budget.result c.in_ok-jobs.jobs.items c.carry_all.new.jobs.items c.ground.ensures
+    (budget_of c.options.result (options_in c.lend.new.self) c.args.arbiter.now.floor c.floor.result.now c.budget-budget.result c.budget-budget.ensures.budget c.options.ensures c.floor.ensures.floor l.options)
+    c.in_ok-carry_all.ensures)
+    s.stands s.phase s.recorded s.program s.options
 
 pub returns-clause-records : goal.returns-clause-records
 returns-clause-records c = turn_records c.seal.result c.args.arbiter.now c.lend.new.self c.seal.new.self c.lend.ensures.records c.seal.ensures.recorded
