@@ -8,7 +8,7 @@ ghost use Rattle.bp_serve.specs.Turning.{Settles};
 use bp_arbiter::{Arbiter, Phase};
 use bp_log::{Beside, Memory};
 use bp_pool::{Open, superstep};
-use std::alloc::Global;
+use std::alloc::{AllocError, Global};
 use std::sync::Wait;
 use std::thread::Threads;
 
@@ -31,7 +31,9 @@ fn turn_beside<R: Threads + Wait + Sync>(
 {
     let (workers, slice) = (beside.workers(), beside.slice());
     let lent = arbiter.lend(alloc)?;
-    let done = superstep(rt, alloc, arbiter.ground(), lent, workers, slice, &Open)?;
+    let Ok(done) = superstep(rt, alloc, arbiter.ground(), lent, workers, slice, &Open) else {
+        return Err(AllocError);
+    };
     arbiter.seal(alloc, done)
 }
 

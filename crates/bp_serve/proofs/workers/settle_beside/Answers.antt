@@ -7,23 +7,23 @@ use Rattle.bp_serve.proofs.Turned.{settles_somewhere}
 use Rattle.bp_serve.proofs.Measure.{falls}
 use Rattle.bp_serve.proofs.workers.settle_beside.Goals as goal
 
-pub loop-rt-init : goal.loop-rt-init
-loop-rt-init g c = record { stands = c.requires.stands; keeps = λ l o taken x. x; records = omega arith }
+pub loop-alloc-init : goal.loop-alloc-init
+loop-alloc-init g c = record { stands = c.requires.stands; keeps = λ l o taken x. x; records = omega arith }
 
-pub loop-rt-smaller : goal.loop-rt-smaller
-loop-rt-smaller g c =
-    let u = c.loop-rt.invariant.stands in
-    let ready : c.loop-rt.arbiter.phase ≡ Ready = search rules in
-    falls c.loop-rt.arbiter.phase c.turn_beside.new.arbiter.phase (length (stand_in c.loop-rt.arbiter).threads) (length (stand_in c.turn_beside.new.arbiter).threads) ready
+pub loop-alloc-smaller : goal.loop-alloc-smaller
+loop-alloc-smaller g c =
+    let u = c.loop-alloc.invariant.stands in
+    let ready : c.loop-alloc.arbiter.phase ≡ Ready = search rules in
+    falls c.loop-alloc.arbiter.phase c.turn_beside.new.arbiter.phase (length (stand_in c.loop-alloc.arbiter).threads) (length (stand_in c.turn_beside.new.arbiter).threads) ready
     (c.keeps.ensures.few (u.stands).whole) (λ e. c.in_ok-turn_beside.ensures.grows (c.in_ok-turn_beside.ensures.phase ∙ e))
 
-pub loop-rt-preserved : goal.loop-rt-preserved
-loop-rt-preserved g c =
-    let i = c.loop-rt.invariant in
+pub loop-alloc-preserved : goal.loop-alloc-preserved
+loop-alloc-preserved g c =
+    let i = c.loop-alloc.invariant in
     let before = i.records in
     let after = c.in_ok-turn_beside.ensures.records in
     record {
-      stands = settles_somewhere c.loop-rt.arbiter c.turn_beside.new.arbiter c.in_ok-turn_beside.ensures.settles i.stands;
+      stands = settles_somewhere c.loop-alloc.arbiter c.turn_beside.new.arbiter c.in_ok-turn_beside.ensures.settles i.stands;
       keeps = λ l o taken x. c.in_ok-turn_beside.ensures.keeps l o taken (i.keeps l o taken x);
       records = omega (arith, before, after);
     }

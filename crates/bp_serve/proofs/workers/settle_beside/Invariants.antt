@@ -7,12 +7,12 @@ use Rattle.bp_serve.specs.Serving.{KeepsUnderway}
 use Rattle.bp_serve.proofs.Measure.{turns_left}
 use Rattle.bp_serve.proofs.workers.settle_beside.Given as goal
 
-abbrev pub invariant-loop-rt : goal.invariant-loop-rt
-invariant-loop-rt g l = record {
+abbrev pub invariant-loop-alloc : goal.invariant-loop-alloc
+invariant-loop-alloc g l = record {
   stands : StandsSomewhere l.arbiter;
   keeps : KeepsUnderway l.fn.arbiter l.arbiter;
   records : length l.fn.arbiter.records ≤ length l.arbiter.records;
 }
 
-abbrev pub decreases-loop-rt : goal.decreases-loop-rt
-decreases-loop-rt g l = turns_left l.arbiter.phase (length (stand_in l.arbiter).threads)
+abbrev pub decreases-loop-alloc : goal.decreases-loop-alloc
+decreases-loop-alloc g l = turns_left l.arbiter.phase (length (stand_in l.arbiter).threads)

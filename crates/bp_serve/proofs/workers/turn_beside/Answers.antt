@@ -6,25 +6,25 @@ use Rattle.bp_serve.proofs.Turned.{turn_settles}
 use Rattle.bp_serve.proofs.workers.turn_beside.Goals as goal
 
 pub superstep-requires-clause-some_workers : goal.superstep-requires-clause-some_workers
-superstep-requires-clause-some_workers g c =
-    let some = c.workers.ensures.within.some_workers in
-    let same = c.workers.ensures.workers in
+superstep-requires-clause-some_workers g c κs within =
+    let some = c.workers-workers.ensures.within.some_workers in
+    let same = c.workers-workers.ensures.workers in
     omega (arith, some, same)
 
 pub superstep-requires-clause-some_slice : goal.superstep-requires-clause-some_slice
-superstep-requires-clause-some_slice g c =
-    let some = c.slice.ensures.within.some_slice in
-    let same = c.slice.ensures.slice in
+superstep-requires-clause-some_slice g c κs within =
+    let some = c.slice-slice.ensures.within.some_slice in
+    let same = c.slice-slice.ensures.slice in
     omega (arith, some, same)
 
 pub superstep-requires-clause-program : goal.superstep-requires-clause-program
-superstep-requires-clause-program g c = are_of_here _ _ (options_in c.lend.new.self).budget c.in_ok-lent.lent.items c.ground.ensures (c.in_ok-lent.ensures.lent).can_run
+superstep-requires-clause-program g c κs within = are_of_here _ _ (options_in c.lend.new.self).budget c.in_ok-lent.lent.items c.ground.ensures (c.in_ok-lent.ensures.lent).can_run
 
 pub superstep-requires-clause-open : goal.superstep-requires-clause-open
-superstep-requires-clause-open g c = are_open c.lend.new.self.floor.base (options_in c.lend.new.self).budget c.in_ok-lent.lent.items (c.in_ok-lent.ensures.lent).can_run
+superstep-requires-clause-open g c κs within = are_open c.lend.new.self.floor.base (options_in c.lend.new.self).budget c.in_ok-lent.lent.items (c.in_ok-lent.ensures.lent).can_run
 
 pub superstep-requires-clause-distinct : goal.superstep-requires-clause-distinct
-superstep-requires-clause-distinct g c = c.in_ok-lent.ensures.distinct
+superstep-requires-clause-distinct g c κs within = c.in_ok-lent.ensures.distinct
 
 pub seal-requires-clause-back : goal.seal-requires-clause-back
 seal-requires-clause-back g c = λ _.
@@ -35,25 +35,25 @@ seal-requires-clause-back g c = λ _.
       pair = u.pair;
       stands = c.in_ok-lent.ensures.stands u.taken u.pair u.stands;
       out = c.in_ok-lent.ensures.lent;
-      carried = carried_beside _ _ (options_in c.lend.new.self).budget c.in_ok-lent.lent.items (λ v. v.items) c.superstep.result c.in_ok-done.done c.ground.ensures c.in_ok-done.is c.superstep.ensures;
+      carried = carried_beside _ _ (options_in c.lend.new.self).budget c.in_ok-lent.lent.items (λ v. v.items) c.superstep.result c.in-Ok.done c.ground.ensures c.in-Ok.is c.superstep.ensures;
     }
 
 pub returns-clause-keeps : goal.returns-clause-keeps
 returns-clause-keeps g c =
     let l = c.lend.ensures in
     let s = c.seal.ensures in
-    turn_keeps c.seal.result c.args.arbiter.now c.lend.new.self c.seal.new.self c.in_ok-lent.lent.items c.in_ok-done.done.items c.requires.ready
+    turn_keeps c.seal.result c.args.arbiter.now c.lend.new.self c.seal.new.self c.in_ok-lent.lent.items c.in-Ok.done.items c.requires.ready
     c.in_ok-lent.ensures.stands l.records l.ground l.options
-    (carried_beside _ _ (options_in c.lend.new.self).budget c.in_ok-lent.lent.items (λ v. v.items) c.superstep.result c.in_ok-done.done c.ground.ensures c.in_ok-done.is c.superstep.ensures)
+    (carried_beside _ _ (options_in c.lend.new.self).budget c.in_ok-lent.lent.items (λ v. v.items) c.superstep.result c.in-Ok.done c.ground.ensures c.in-Ok.is c.superstep.ensures)
     s.stands s.phase s.recorded s.over s.program s.options
 
 pub returns-clause-settles : goal.returns-clause-settles
 returns-clause-settles g c =
     let l = c.lend.ensures in
     let s = c.seal.ensures in
-    turn_settles c.seal.result c.args.arbiter.now c.lend.new.self c.seal.new.self c.in_ok-lent.lent.items c.in_ok-done.done.items
+    turn_settles c.seal.result c.args.arbiter.now c.lend.new.self c.seal.new.self c.in_ok-lent.lent.items c.in-Ok.done.items
     c.requires.stands c.in_ok-lent.ensures.stands l.records l.ground l.options
-    (carried_beside _ _ (options_in c.lend.new.self).budget c.in_ok-lent.lent.items (λ v. v.items) c.superstep.result c.in_ok-done.done c.ground.ensures c.in_ok-done.is c.superstep.ensures)
+    (carried_beside _ _ (options_in c.lend.new.self).budget c.in_ok-lent.lent.items (λ v. v.items) c.superstep.result c.in-Ok.done c.ground.ensures c.in-Ok.is c.superstep.ensures)
     s.stands s.phase s.recorded s.program s.options
 
 pub returns-clause-records : goal.returns-clause-records
