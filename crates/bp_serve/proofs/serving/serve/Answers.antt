@@ -48,7 +48,7 @@ returns-in_err-tell-clause-log_front g c =
     c.tell.new.telling.records c.args.log.now c.loop-arbiter.log c.tell.new.log c.loop-arbiter.invariant.log_shows c.in_err-tell.ensures.log_front)
 
 pub settle_beside-requires : goal.settle_beside-requires
-settle_beside-requires g c =
+settle_beside-requires g c κs within =
     let a = c.args.arbiter.now in
     let i = c.loop-arbiter.invariant.underway in
     record { stands = underway_somewhere (code_in a) (options_in a) c.loop-arbiter.arbiter i.0 i.1 }
