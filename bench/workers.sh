@@ -20,19 +20,25 @@ if [ -z "$BP" ]; then
     BP=$top/crates/bp/out/bp
 fi
 
-# seconds_with WORKERS: seconds by the clock, the least of three tries
-seconds_with() {
-    for try in 1 2 3; do
-        begun=$(date +%s%N)
-        "$BP" run "$work/workers.js" --workers "$1" --slice 10000 --budget 10000000 > "$work/trace" || {
-            echo "$1 workers: status $? in try $try" >&2
-            exit 1
-        }
-        echo $(( $(date +%s%N) - begun ))
-    done | sort -n | awk 'NR == 1 { printf "%.3f\n", $1 / 1000000000 }'
+# run WORKERS: one run, whose nanoseconds by the clock stand behind those of the runs before
+run() {
+    begun=$(date +%s%N)
+    "$BP" run "$work/workers.js" --workers "$1" --slice 10000 --budget 10000000 > "$work/trace" || {
+        echo "$1 workers: status $?"
+        exit 1
+    }
+    echo $(($(date +%s%N) - begun)) >> "$work/times-$1"
 }
 
-one=$(seconds_with 1)
-many=$(seconds_with "$workers")
-grep -c '^done' "$work/trace" | sed 's/$/ b-threads ended/'
-echo "1 worker $one s, $workers workers $many s: $(awk "BEGIN { printf \"%.2f\", $one / $many }") times as fast on $(nproc) processors"
+# least WORKERS: the least of its times, in seconds
+least() {
+    sort -n "$work/times-$1" | awk 'NR == 1 { printf "%.3f", $1 / 1000000000 }'
+}
+
+for try in 1 2 3; do
+    run 1
+    run "$workers"
+done
+echo "$(grep -c '^done' "$work/trace") b-threads ended"
+echo "1 worker $(least 1) s, $workers workers $(least "$workers") s, on $(nproc) processors"
+awk "BEGIN { printf \"%.2f times as fast\\n\", $(least 1) / $(least "$workers") }"
