@@ -1,7 +1,7 @@
 //! Turns whose jobs several workers carry on.
-ghost use Rattle.std.specs.Prelude.{◌≡◌, ◌<◌, ◌≤◌, length, IfOk, OnOk};
+ghost use Rattle.std.specs.Prelude.{◌≡◌, ◌<◌, ◌≤◌, false, length, IfOk, OnOk};
 ghost use Rattle.bp_floor.specs.declared.phase.Phase.TheVariants as phase;
-ghost use Rattle.bp_arbiter.specs.Arbiters.{stand_in, StandsSomewhere};
+ghost use Rattle.bp_arbiter.specs.Arbiters.{stand_in, is_lent, StandsSomewhere};
 ghost use Rattle.bp_serve.specs.Serving.{KeepsUnderway};
 ghost use Rattle.bp_serve.specs.Turning.{Settles};
 
@@ -45,6 +45,7 @@ pub(crate) fn settle_beside<R: Threads + Wait + Sync>(
     beside: Beside,
 ) -> Result<(), Memory>
     requires stands { StandsSomewhere arbiter.old }
+    requires unlent { is_lent arbiter.old.phase ≡ false }
     ensures keeps { OnOk result (KeepsUnderway arbiter.old arbiter.new) }
     ensures records { OnOk result (length arbiter.old.records ≤ length arbiter.new.records) }
     ensures settled { OnOk result (¬ (arbiter.new.phase ≡ phase.Ready)) }

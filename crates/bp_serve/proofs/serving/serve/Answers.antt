@@ -9,7 +9,7 @@ use Rattle.bp_serve.specs.Logging.{LogShows}
 use Rattle.bp_serve.proofs.Logging.{log_shows_page, log_stop_at, log_same, stays_on}
 use Rattle.bp_serve.proofs.Pieces.{records_first, records_rest, records_whole}
 use Rattle.bp_serve.proofs.Way.{log_told, log_front_told, begins_none, shows_start, shows_lines, front_so_far, front_lines, shows_all, fewer, at_rest, Picks, underway_picked, recorded_all}
-use Rattle.bp_serve.proofs.Turned.{underway_somewhere}
+use Rattle.bp_serve.proofs.Turned.{underway_somewhere, underway_unlent}
 use Rattle.bp_serve.proofs.serving.serve.Goals as goal
 
 pub loop-arbiter-init : goal.loop-arbiter-init
@@ -47,11 +47,17 @@ returns-in_err-tell-clause-log_front g c =
     rw p.1 (log_front_told g.L.Sink.written (code_in a) (options_in a) c.settle_beside.new.arbiter i.0 u c.loop-arbiter.telling.kept (omega (arith, kept, more)) c.args.telling.now.records c.loop-arbiter.telling.records
     c.tell.new.telling.records c.args.log.now c.loop-arbiter.log c.tell.new.log c.loop-arbiter.invariant.log_shows c.in_err-tell.ensures.log_front)
 
-pub settle_beside-requires : goal.settle_beside-requires
-settle_beside-requires g c κs within =
+pub settle_beside-requires-clause-stands : goal.settle_beside-requires-clause-stands
+settle_beside-requires-clause-stands g c κs within =
     let a = c.args.arbiter.now in
     let i = c.loop-arbiter.invariant.underway in
-    record { stands = underway_somewhere (code_in a) (options_in a) c.loop-arbiter.arbiter i.0 i.1 }
+    underway_somewhere (code_in a) (options_in a) c.loop-arbiter.arbiter i.0 i.1
+
+pub settle_beside-requires-clause-unlent : goal.settle_beside-requires-clause-unlent
+settle_beside-requires-clause-unlent g c κs within =
+    let a = c.args.arbiter.now in
+    let i = c.loop-arbiter.invariant.underway in
+    underway_unlent (code_in a) (options_in a) c.loop-arbiter.arbiter i.0 i.1
 
 pub returns-in_err-settle_beside-clause-front : goal.returns-in_err-settle_beside-clause-front
 returns-in_err-settle_beside-clause-front g c =
