@@ -40,4 +40,15 @@ impl Report {
             records: arbiter.into_records(),
         })
     }
+
+    /// Its verdict, moved out. Takes no memory.
+    pub fn into_verdict(self) -> Verdict
+        ensures { result ≡ self.verdict }
+    {
+        let Report {
+            verdict,
+            records: _,
+        } = self;
+        verdict
+    }
 }
