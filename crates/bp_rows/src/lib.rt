@@ -6,6 +6,10 @@ mod accepted;
 #[cfg(test)]
 mod limits;
 #[cfg(test)]
+mod logs;
+#[cfg(test)]
+mod options;
+#[cfg(test)]
 mod outside;
 #[cfg(test)]
 mod runs;

@@ -18,8 +18,20 @@ run|script.js|
 Run|script.js
 run |script.js
 --help
-replay|script.js
+replay
+replay|--seed=1|script.js
 accept
+accept|--workers|2|script.js
+large
+large|0
+large|4001
+run|script.js|--seed|x
+run|script.js|--log|script.js
+run|script.js|--workers|65
+run|script.js|--slice|0
+run|script.js|--budget=0
+run|script.js|--steps=1000001
+run|script.js|--strategy|fast
 accept|--script.js
 ";
 

@@ -32,6 +32,31 @@ pub const NONE: Fails<'static> = Fails {
     output: &[],
 };
 
+/// A world that holds the script as `script.js`, with room for a log.
+pub fn world_of(alloc: Global, script: &[u8], fails: Fails<'_>) -> Result<MemoryWorld, Fail> {
+    let mut world = MemoryWorld::new(alloc, 1_000_000, fails.world.to_vec(alloc)?);
+    world.hold("script.js".to_string(alloc)?, script.to_vec(alloc)?)?;
+    world.fail("script.js".to_string(alloc)?, fails.input.to_vec(alloc)?)?;
+    Ok(world)
+}
+
+/// Runs `bp` with these words in this world. Of the output the calls with these numbers fail.
+pub fn run_in<R: Threads + Wait + Sync>(
+    rt: &R,
+    alloc: Global,
+    words: &[String],
+    world: &mut MemoryWorld,
+    fails: &[u64],
+) -> Result<Ran, Fail> {
+    let mut out = MemorySink::new(alloc, 2_000_000, fails.to_vec(alloc)?)?;
+    let status = command(rt, alloc, words, world, &mut out);
+    Ok(Ran {
+        code: status.code,
+        note: status.note.as_str().to_string(alloc)?,
+        printed: out.written().to_vec(alloc)?,
+    })
+}
+
 /// Runs `bp` with these words in a world that holds the script as `script.js`.
 pub fn run_words<R: Threads + Wait + Sync>(
     rt: &R,
@@ -40,16 +65,17 @@ pub fn run_words<R: Threads + Wait + Sync>(
     script: &[u8],
     fails: Fails<'_>,
 ) -> Result<Ran, Fail> {
-    let mut world = MemoryWorld::new(alloc, 0, fails.world.to_vec(alloc)?);
-    world.hold("script.js".to_string(alloc)?, script.to_vec(alloc)?)?;
-    world.fail("script.js".to_string(alloc)?, fails.input.to_vec(alloc)?)?;
-    let mut out = MemorySink::new(alloc, 2_000_000, fails.output.to_vec(alloc)?)?;
-    let status = command(rt, alloc, words, &mut world, &mut out);
-    Ok(Ran {
-        code: status.code,
-        note: status.note.as_str().to_string(alloc)?,
-        printed: out.written().to_vec(alloc)?,
-    })
+    let mut world = world_of(alloc, script, fails)?;
+    run_in(rt, alloc, words, &mut world, fails.output)
+}
+
+/// The words that stand between the `|` of the line.
+pub fn words_of(alloc: Global, line: &str) -> Result<Vec<String>, Fail> {
+    let mut words = Vec::new(alloc);
+    for word in line.split("|") {
+        words.push(word.to_string(alloc)?)?;
+    }
+    Ok(words)
 }
 
 /// Runs `bp` with the words that stand between the `|` of the line.
@@ -60,10 +86,7 @@ pub fn run_with<R: Threads + Wait + Sync>(
     script: &[u8],
     fails: Fails<'_>,
 ) -> Result<Ran, Fail> {
-    let mut words = Vec::new(alloc);
-    for word in line.split("|") {
-        words.push(word.to_string(alloc)?)?;
-    }
+    let words = words_of(alloc, line)?;
     run_words(rt, alloc, &words, script, fails)
 }
 
