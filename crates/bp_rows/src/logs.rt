@@ -52,9 +52,9 @@ const ALTERED: &str = r#"
 quiet 2 | quiet 2 | 0 | | event ["a"];event ["b",{"x":1}];done "A";verdict quiet 2;
 quiet 2 | quiet 3 | 11 | bad log: record 3 expected end quiet 2 found end quiet 3 | event ["a"];event ["b",{"x":1}];done "A";
 sel ["a"] | sel ["x"] | 11 | bad log: record 1 expected sel ["a"] found sel ["x"] |
-sel ["a"] | eof 0 | 11 | bad log: line 9 |
-{"x":1} | {"x": 1} | 11 | bad log: line 10 | event ["a"];
-end quiet 2 | | 11 | bad log: line 11 | event ["a"];event ["b",{"x":1}];done "A";
+sel ["a"] | eof 0 | 11 | bad log: line 1 |
+{"x":1} | {"x": 1} | 11 | bad log: line 2 | event ["a"];
+end quiet 2 | | 11 | bad log: line 3 | event ["a"];event ["b",{"x":1}];done "A";
 "#;
 
 #[test]
