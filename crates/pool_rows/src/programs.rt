@@ -39,11 +39,19 @@ fn run_top(top: &mut Job, ground: &Ground) -> Result<(), Fail>
     Ok(())
 }
 
+/// The function that the effect registers, if it does.
+fn function_of(effect: Effect) -> Option<Value> {
+    match effect {
+        Effect::Register(_name, function) => Some(function),
+        _other => None,
+    }
+}
+
 /// The functions that were registered, in order.
 fn registered(alloc: Global, effects: Effects) -> Result<Vec<Value>, Fail> {
     let mut functions = Vec::new(alloc);
     for effect in effects.items {
-        if let Effect::Register(_, function) = effect {
+        if let Some(function) = function_of(effect) {
             functions.push(function)?;
         }
     }
