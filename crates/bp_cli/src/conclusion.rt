@@ -1,10 +1,10 @@
 //! How a command ends.
 ghost use Rattle.std.specs.Prelude.{◌≡◌, IfOk};
-ghost use Rattle.bp_cli.specs.Conclusions.{code_of, note_of, verdict_code, conclusion_of};
+ghost use Rattle.bp_cli.specs.Conclusions.{code_of, note_of, verdict_code, conclusion_of, ended_of};
 
 use bp_log::{Memory, Verdict};
 use bp_script::{Refusal, ScriptFault};
-use bp_serve::RunFault;
+use bp_serve::{Report, RunFault};
 use js_data::Text;
 use std::alloc::Global;
 
@@ -80,6 +80,17 @@ fn verdict_code(verdict: &Verdict) -> u8
 }
 
 impl Conclusion {
+    /// What comes of a run.
+    pub(crate) fn of(ended: Result<Report, RunFault>) -> Conclusion
+        ensures { result ≡ ended_of ended }
+    {
+        match ended {
+            Ok(report) => Conclusion::Ran(report.into_verdict()),
+            Err(RunFault::Write) | Err(RunFault::LogWrite) => Conclusion::NotWritten,
+            Err(RunFault::Memory) => Conclusion::NoMemory,
+        }
+    }
+
     /// Its code for the system, from 0 to 10.
     pub(crate) fn code(&self) -> u8
         ensures { result ≡ code_of self.now }

@@ -3,9 +3,11 @@
 
 mod commands;
 mod conclusion;
+mod large;
+mod loading;
 mod programs;
+mod running;
 mod status;
-mod words;
 
 pub use commands::command;
 pub use status::Status;
