@@ -12,6 +12,7 @@ ghost use Rattle.bp_run.specs.Settling.{Pair, opening};
 ghost use Rattle.bp_run.specs.Story.{has_room, record_of};
 ghost use Rattle.bp_run.specs.Story as story;
 ghost use Rattle.bp_thread.specs.declared.job.Job.{Job as Lent};
+ghost use Rattle.bp_thread.specs.Carried.{HaveDistinctNumbers};
 ghost use Rattle.bp_floor.specs.declared.phase.Phase.TheVariants as phase;
 ghost use Rattle.bp_floor.specs.Floors.{is_idle, phase_of};
 ghost use Rattle.bp_arbiter.specs.declared.picked.Picked.TheVariants as picked;
@@ -280,6 +281,7 @@ impl Arbiter {
         ensures lent { IfOk result (λ jobs. AreOut self.new jobs.items) }
         ensures stands { IfOk result (λ jobs. (taken : List Line) (p : Pair Origin) →
             StandsFor self.old [] taken p → StandsFor self.new jobs.items taken p) }
+        ensures distinct { IfOk result (λ jobs. HaveDistinctNumbers jobs.items) }
         ensures phase { OnOk result (self.new.phase ≡ phase.Lent) }
         ensures count { OnOk result (length (stand_in self.new).threads ≡
             length (stand_in self.old).threads) }

@@ -1,5 +1,5 @@
 -- How bytes are cut into lines, and what the items of a first line are.
-use Rattle.std.proofs.Common.{◌≡◌, ℕ, zero, suc, ◌+◌, ◌<◌, ◌≤◌, Bool, true, false, List, [], ◌∷◌, ◌++◌, Option, Some, None, length, take, drop, option_to_list, refl, sym, ap, ◌∙◌, append_assoc, length-append, length-take-le, arith}
+use Rattle.std.proofs.Common.{◌≡◌, ℕ, zero, suc, ◌+◌, ◌<◌, ◌≤◌, Bool, true, false, List, [], ◌∷◌, ◌++◌, Option, Some, None, length, take, drop, option_to_list, refl, sym, ap, ◌∙◌, append_assoc, append-nil, length-append, length-take-le, arith}
 use Rattle.std.specs.Prelude.{◌==◌, nat_lt, slice_index, if◌then◌else◌}
 use Rattle.std.proofs.lemmas.Bool.{or_parts, or_from, or_left, or_right, false_from_ne_true}
 use Rattle.std.proofs.lemmas.Bool.Decides.{nat_tests}
@@ -11,7 +11,7 @@ use Rattle.bp_log.specs.declared.item.Item.{Item}
 use Rattle.bp_log.specs.declared.item.Item.TheVariants.{Bad, Failed}
 use Rattle.bp_feeds.specs.declared.limits.TheConstants.{MOST_LINES, MOST_LENGTH}
 use Rattle.bp_feeds.specs.Reading.{IsTooLong}
-use Rattle.bp_feeds.specs.Items.{is_break, has_break, before_lines, lines_of, before_whole, whole_lines, is_past, is_blank, event_item, is_last, ends, is_end, has_end, has_fault, followed, item_of, items_from}
+use Rattle.bp_feeds.specs.Items.{is_break, has_break, has_line, before_lines, lines_of, before_whole, whole_lines, is_past, is_blank, event_item, is_last, ends, is_end, has_end, has_fault, followed, item_of, items_from}
 
 pub unbroken_both : (xs ys : List ℕ) → has_break xs ≡ false → has_break ys ≡ false → has_break (xs ++ ys) ≡ false
 unbroken_both xs ys a b = list_any-append is_break xs ys ∙ or_from (has_break xs) (has_break ys) a b
@@ -180,26 +180,17 @@ too_long_front line block rest n e u v within long = record {
   long = omega (arith, long, within, length-append line (take n rest), length-take-le n rest within);
 }
 
-pub bytes_same : (passed line more : List ℕ) → passed ++ (line ++ 10 ∷ more) ≡ (passed ++ (line ++ 10 ∷ [])) ++ more
-bytes_same passed line more = ap (λ l. passed ++ l) (sym (append_assoc line (10 ∷ []) more)) ∙ sym (append_assoc passed (line ++ 10 ∷ []) more)
-
--- what holds of the bytes behind the lines so far holds of the bytes behind one line more
-pub line_front : (given : List Item) (passed line : List ℕ) (number : ℕ) (item : Option Item) (cut : List ℕ → List (List ℕ))
-    → ((rest : List ℕ) → cut (line ++ 10 ∷ rest) ≡ line ∷ cut rest) → item ≡ item_of number line → ends item ≡ false
-    → ((more : List ℕ) (last : Item) → given ++ items_from (cut more) number last ≡ items_from (cut (passed ++ more)) 1 last)
-    → (more : List ℕ) (last : Item) → (given ++ option_to_list item) ++ items_from (cut more) (number + 1) last ≡ items_from (cut ((passed ++ (line ++ 10 ∷ [])) ++ more)) 1 last
-line_front given passed line number item cut at is e w more last =
-    let tail = items_from (cut more) (number + 1) last in
-    append_assoc given (option_to_list item) tail
-    ∙ ap (λ l. given ++ l) (sym (followed_more item tail e))
-    ∙ ap (λ i. given ++ followed i tail) is
-    ∙ ap (λ c. given ++ items_from c number last) (sym (at more))
-    ∙ w (line ++ 10 ∷ more) last
-    ∙ ap (λ b. items_from (cut b) 1 last) (bytes_same passed line more)
-
 -- what is held once a line and its LF were taken
 pub held_behind : (line block skipped more : List ℕ) → line ≡ [] → skipped ≡ drop 1 block → block ≡ 10 ∷ more → line ++ skipped ≡ more
 held_behind line block skipped more e s b = ap (λ l. l ++ skipped) e ∙ s ∙ ap (drop 1) b
 
 pub unbroken_behind : (line block : List ℕ) → has_break line ≡ false → block ≡ [] → has_break (line ++ block) ≡ false
 unbroken_behind line block u e = unbroken_both line block u (ap has_break e)
+
+-- where a line is whole or too long, the line and the block are not both within the limit and without LF
+pub has_no_line : (bytes line block : List ℕ) → bytes ≡ line ++ block → has_break line ≡ false → block ≡ [] → length line ≤ MOST_LENGTH → has_line bytes ≡ true → ⊥
+has_no_line bytes line block e u none short t =
+    let same : bytes ≡ line = e ∙ ap (λ b. line ++ b) none ∙ append-nil line in
+    let few : nat_lt MOST_LENGTH (length line) ≡ false = grind (arith, nat_tests) in
+    let f : has_line bytes ≡ false = ap has_line same ∙ or_from (has_break line) (nat_lt MOST_LENGTH (length line)) u few in
+    cc

@@ -1,4 +1,5 @@
 pub mod Cuts
+pub mod Behind
 pub mod Within
 pub mod Going
 mod Rows

@@ -14,6 +14,10 @@ is_break b = b == 10
 abbrev pub has_break : List ℕ → Bool
 has_break bytes = list_any is_break bytes
 
+-- whether a line is whole, or is too long to become one that is good
+abbrev pub has_line : List ℕ → Bool
+has_line bytes = has_break bytes || nat_lt MOST_LENGTH (length bytes)
+
 -- one more byte before these lines
 abbrev pub before_lines : ℕ → List (List ℕ) → List (List ℕ)
 before_lines b [] = (b ∷ []) ∷ []
@@ -71,6 +75,10 @@ is_fault _ = false
 abbrev pub is_end : Item → Bool
 is_end End = true
 is_end _ = false
+
+-- whether an item that nothing follows is among the items
+abbrev pub has_last : List Item → Bool
+has_last items = list_any is_last items
 
 -- whether the end of the bytes is among the items
 abbrev pub has_end : List Item → Bool

@@ -1,15 +1,16 @@
 -- How far the lines of a source were read.
-use Rattle.std.specs.Prelude.{◌≡◌, ◌⊎◌, ℕ, ◌<◌, Bool, true, false, List, [], ◌∷◌, ◌++◌, length, Option, Some, IfSome, IsSomeAnd, option_map}
+use Rattle.std.specs.Prelude.{◌≡◌, ◌⊎◌, ◌↔◌, ℕ, ◌+◌, ◌<◌, Bool, true, false, List, [], ◌∷◌, ◌++◌, length, Option, Some, IfSome}
 use mathlib.Core.List.{IsPrefix}
+use Rattle.bp_base.specs.Pieces.{Gives}
 use Rattle.bp_log.specs.declared.item.Item.{Item}
 use Rattle.bp_log.specs.declared.item.Item.TheVariants.{Failed, End}
 use Rattle.bp_feeds.specs.declared.limits.TheConstants.{MOST_LENGTH}
 use Rattle.bp_feeds.specs.declared.reached.Reached.{Reached}
 use Rattle.bp_feeds.specs.declared.reached.Reached.TheVariants.{Within, Last, Ended, Broken, Faulted}
-use Rattle.bp_feeds.specs.Items.{lines_of, whole_lines, items_from, items, items_before_fault, has_break, has_end}
+use Rattle.bp_feeds.specs.Items.{lines_of, whole_lines, items_from, items, items_before_fault, has_break, has_last, has_end, has_fault}
 
--- a reading of lines: what was taken of the source and belongs to no line that was dealt with, the number of the next line,
--- what was reached, and what the source has left, where it tells it
+-- a reading of lines: the bytes that were taken of the source and belong to no line that was dealt with, the number of the next
+-- line, what was reached, and what the source has left, where it tells it
 pub record Reading : Type 0 where
   pub held : List ℕ
   pub number : ℕ
@@ -22,49 +23,79 @@ is_read Within = false
 is_read Last = false
 is_read _ = true
 
--- the bytes that are still to be dealt with, where the source tells them
-abbrev pub pending : Reading → Option (List ℕ)
-pending r = option_map (λ left. r.held ++ left) r.left
+-- no bytes, or bytes of which the last is LF
+abbrev pub AreWholeLines : List ℕ → Type 0
+AreWholeLines bytes = (bytes ≡ []) ⊎ ((front : List ℕ) × (bytes ≡ front ++ 10 ∷ []))
 
--- The bytes before the next line, whose number this is, were dealt with, and gave these items: whatever follows those bytes,
--- its items follow these.
-pub record IsWithin (bytes : List ℕ) (given : List Item) (number : ℕ) (rest : List ℕ) : Type 0 where
+-- Of the bytes that were taken, whole lines were dealt with, and the others are held. The items that were given are those of
+-- these lines, none of which is bad, and the number is that of the next line.
+pub record IsWithin (took : List ℕ) (given : List Item) (number : ℕ) (held : List ℕ) : Type 0 where
   pub passed : List ℕ
-  pub all : bytes ≡ passed ++ rest
-  pub lines : (more : List ℕ) (last : Item)
-      → given ++ items_from (lines_of more) number last ≡ items_from (lines_of (passed ++ more)) 1 last
-  pub whole : (more : List ℕ) (last : Item)
-      → given ++ items_from (whole_lines more) number last ≡ items_from (whole_lines (passed ++ more)) 1 last
+  pub all : took ≡ passed ++ held
+  pub whole : AreWholeLines passed
+  pub counted : number ≡ length (whole_lines passed) + 1
+  pub good : given ++ Failed ∷ [] ≡ items_before_fault passed
 
--- the items are those of the whole lines among the bytes that were taken, and then the fault
-pub record IsBrokenOff (bytes : List ℕ) (given : List Item) (left : List ℕ) : Type 0 where
-  pub took : List ℕ
-  pub all : bytes ≡ took ++ left
-  pub is : given ≡ items_before_fault took
+-- these are all bytes of a source that had so much left at the start, where it tells them
+abbrev pub IsAll : Option (List ℕ) → List ℕ → Type 0
+IsAll start bytes = IfSome start (λ all. all ≡ bytes)
 
--- what the items that were given are of the bytes: the items of the lines so far; all but the end; all, with nothing left;
--- all, up to the bad line; or those before a fault
-abbrev pub HasReached : Reached → List ℕ → List Item → List ℕ → ℕ → List ℕ → Type 0
-HasReached Within bytes given held number left = IsWithin bytes given number (held ++ left)
-HasReached Last bytes given held number left = (given ++ End ∷ [] ≡ items bytes) × (left ≡ [])
-HasReached Ended bytes given held number left = (given ≡ items bytes) × (left ≡ [])
-HasReached Broken bytes given held number left = (given ≡ items bytes) × (has_end given ≡ false)
-HasReached Faulted bytes given held number left = IsBrokenOff bytes given left
+-- whatever follows these bytes, its items, the first line of which has this number, follow these
+abbrev pub Follows : List ℕ → List Item → ℕ → Type 0
+Follows bytes given number = (more : List ℕ) (last : Item)
+    → (given ++ items_from (lines_of more) number last ≡ items_from (lines_of (bytes ++ more)) 1 last)
+    × (given ++ items_from (whole_lines more) number last ≡ items_from (whole_lines (bytes ++ more)) 1 last)
 
--- these items were read of these bytes
-abbrev pub HasRead : List ℕ → List Item → Reading → Type 0
-HasRead bytes given r = IsSomeAnd r.left (λ left. HasReached r.reached bytes given r.held r.number left)
+-- the items that were given are those of whole lines exactly where the items of whatever follows these lines follow them
+abbrev pub ItemsFollow : Type 0
+ItemsFollow = (passed : List ℕ) (given : List Item) → AreWholeLines passed
+    → (given ++ Failed ∷ [] ≡ items_before_fault passed) ↔ Follows passed given (length (whole_lines passed) + 1)
 
--- these items more were read
+-- the items go up to a bad line: they are all items of the bytes that were taken and the rest, and the end is not among them
+pub record IsBroken (start : Option (List ℕ)) (took : List ℕ) (given : List Item) : Type 0 where
+  pub rest : List ℕ
+  pub told : IsAll start (took ++ rest)
+  pub all : given ≡ items (took ++ rest)
+  pub endless : has_end given ≡ false
+
+-- what the items are that were given of the bytes that were taken: those of the lines so far; all but the end; all; all, up to
+-- a bad line; or those before a fault
+abbrev pub HasReached : Reached → Option (List ℕ) → List ℕ → List Item → ℕ → List ℕ → Type 0
+HasReached Within start took given number held = IsWithin took given number held
+HasReached Last start took given number held = (given ++ End ∷ [] ≡ items took) × IsAll start took
+HasReached Ended start took given number held = (given ≡ items took) × IsAll start took
+HasReached Broken start took given number held = IsBroken start took given
+HasReached Faulted start took given number held = given ≡ items_before_fault took
+
+-- these bytes were taken of a source that had so much left at the start, and these items were read of them
+pub record HasRead (start : Option (List ℕ)) (took : List ℕ) (given : List Item) (r : Reading) : Type 0 where
+  pub taken : Gives start took r.left
+  pub is : HasReached r.reached start took given r.number r.held
+
+-- these items more were read, of what was held and of the bytes that came
 pub record ReadsOn (old : Reading) (more : List Item) (new : Reading) : Type 0 where
-  pub kept : (bytes : List ℕ) (given : List Item) → HasRead bytes given old → HasRead bytes (given ++ more) new
+  pub came : List ℕ
+  pub on : (start : Option (List ℕ)) (took : List ℕ) (given : List Item)
+      → HasRead start took given old → HasRead start (took ++ came) (given ++ more) new
 
--- nothing was read: the next line, and the bytes that are still to be dealt with, are the same
+-- these items more were read of what was held, where all bytes of the source were taken
+pub record ReadsLast (old : Reading) (more : List Item) (new : Reading) : Type 0 where
+  pub on : (start : Option (List ℕ)) (took : List ℕ) (given : List Item)
+      → IsAll start took → HasRead start took given old → HasRead start took (given ++ more) new
+
+-- bytes came and are held, and nothing was read of them
 pub record IsSameReading (old new : Reading) : Type 0 where
   pub was : old.reached ≡ Within
   pub is : new.reached ≡ Within
   pub number : new.number ≡ old.number
-  pub same : IfSome (pending old) (λ bytes. pending new ≡ Some bytes)
+  pub came : List ℕ
+  pub held : new.held ≡ old.held ++ came
+  pub given : Gives old.left came new.left
+
+-- the bytes that came are all that was left
+pub record IsSameToEnd (old new : Reading) : Type 0 where
+  pub same : IsSameReading old new
+  pub all : IsAll old.left same.came
 
 -- the bytes begin with a line that is too long
 pub record IsTooLong (bytes : List ℕ) : Type 0 where
@@ -75,12 +106,20 @@ pub record IsTooLong (bytes : List ℕ) : Type 0 where
   pub long : MOST_LENGTH < length front
 
 -- a fault is the last of the items, which are those of the whole lines among the bytes that were taken
-pub record EndsInFault (bytes : List ℕ) (left : List ℕ) (given : List Item) : Type 0 where
+pub record EndsInFault (took rest : List ℕ) (given : List Item) : Type 0 where
   pub begun : List Item
-  pub begins : IsPrefix begun (items bytes)
+  pub begins : IsPrefix begun (items (took ++ rest))
   pub last : given ≡ begun ++ Failed ∷ []
-  pub broken : IsBrokenOff bytes given left
+  pub broken : given ≡ items_before_fault took
 
--- the items begin those of the bytes, apart from a last fault
-abbrev pub BeginsItems : List ℕ → List ℕ → List Item → Type 0
-BeginsItems bytes left given = IsPrefix given (items bytes) ⊎ EndsInFault bytes left given
+-- Bytes were taken of a source that had so much left at the start, and others are left; where it tells what it has, these are its
+-- bytes. The items begin theirs, apart from a last fault; where the last of them is among the items, they are all, and where it is
+-- the end, nothing is left.
+pub record BeginsItems (start left : Option (List ℕ)) (given : List Item) : Type 0 where
+  pub took : List ℕ
+  pub rest : List ℕ
+  pub taken : Gives start took left
+  pub told : IsAll start (took ++ rest)
+  pub begins : IsPrefix given (items (took ++ rest)) ⊎ EndsInFault took rest given
+  pub whole : has_last given ≡ true → has_fault given ≡ false → given ≡ items (took ++ rest)
+  pub none : has_end given ≡ true → (rest ≡ []) × IfSome start (λ _. left ≡ Some [])

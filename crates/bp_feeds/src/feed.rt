@@ -1,10 +1,11 @@
 //! A feed reads the lines of a source and offers their items on a lane.
-ghost use Rattle.std.specs.Prelude.{◌≡◌, ◌⊎◌, ◌↔◌, ◌+◌, [], ◌∷◌, ◌++◌, None, Ok, true, false, IfOk, OnErr, IfSome, IsSome};
-ghost use Rattle.bp_lanes.specs.Lanes.{offered, free, IsSameMouth};
-ghost use Rattle.bp_feeds.specs.Items.{has_break};
-ghost use Rattle.bp_feeds.specs.Reading.{IsSameReading};
+ghost use Rattle.std.specs.Prelude.{◌≡◌, ◌⊎◌, ◌↔◌, ◌+◌, [], ◌∷◌, ◌++◌, Option, option_to_list, None, Ok, true, false, ◌&&◌, IfOk, OnErr, IsSome};
+ghost use Rattle.std.specs.Option.{is_some};
+ghost use Rattle.bp_lanes.specs.Lanes.{offered, free_places, IsSameMouth};
+ghost use Rattle.bp_feeds.specs.Items.{is_last, ends, has_line};
+ghost use Rattle.bp_feeds.specs.Reading.{is_read, IsSameReading};
 
-use crate::lines::Lines;
+use crate::line_reader::LineReader;
 use bp_base::{Memory, Source};
 use bp_lanes::Mouth;
 use bp_log::Item;
@@ -13,10 +14,11 @@ use std::alloc::Global;
 /// A source with the mouth of a lane, on which the items of its lines are offered.
 #[derive(Drop)]
 pub struct Feed<S> {
-    lines: Lines<S>,
+    lines: LineReader<S>,
     mouth: Mouth,
     // An item that found no place.
     kept: Option<Item>,
+    ghost last: { ends kept ≡ (is_some kept && is_read lines.reached) },
 }
 
 /// What a turn did.
@@ -31,16 +33,17 @@ pub enum Fed {
 }
 
 impl<S: Source> Feed<S> {
-    ghost use Rattle.bp_feeds.specs.Feeds.{reading_of, given, is_over as feed_is_over, StandsTo, GoesOn};
+    ghost use Rattle.bp_feeds.specs.Feeds.{held, reading_of, given, is_over as feed_is_over, StandsTo, GoesOn};
 
     /// A feed that has read nothing. It takes no memory; its turns do.
     pub fn new(alloc: Global, source: S, mouth: Mouth) -> Feed<S>
-        ensures parts { (result.lines.source ≡ source) × (result.mouth ≡ mouth) × (result.kept ≡ None) }
+        ensures parts { (result.lines.source ≡ source)
+            × (result.mouth ≡ mouth) × (result.kept ≡ None) }
         ensures fresh { feed_is_over result ≡ false }
-        ensures stands { IfSome (S.left source) (λ bytes. StandsTo S.left bytes (offered mouth) result) }
+        ensures stands { StandsTo S.left (S.left source) (offered mouth) result }
     {
         Feed {
-            lines: Lines::new(alloc, source),
+            lines: LineReader::new(alloc, source),
             mouth,
             kept: None,
         }
@@ -67,13 +70,18 @@ impl<S: Source> Feed<S> {
 
     // Offers the item, or keeps it.
     fn hand_over(&mut self, item: Item) -> Fed
-        requires { self.old.kept ≡ None }
+        requires none { self.old.kept ≡ None }
+        requires last { is_last item ≡ is_read self.old.lines.reached }
         ensures lane { IsSameMouth self.old.mouth self.new.mouth }
         ensures lines { self.new.lines ≡ self.old.lines }
         ensures given { given self.new ≡ offered self.old.mouth ++ item ∷ [] }
         ensures kept { (result ≡ Fed.Full) ↔ IsSome self.new.kept }
-        ensures full { result ≡ Fed.Full → free self.new.mouth ≡ 0 }
+        ensures full { result ≡ Fed.Full
+            → (free_places self.old.mouth ≡ 0) × (free_places self.new.mouth ≡ 0) }
         ensures over { (result ≡ Fed.Over) ↔ (feed_is_over self.new ≡ true) }
+        ensures offers { (found : Option Item)
+            × (offered self.new.mouth ≡ offered self.old.mouth ++ option_to_list found)
+            × ((result ≡ Fed.Over) ↔ (ends found ≡ true)) }
     {
         match self.mouth.offer(item) {
             Ok(()) => {
@@ -91,7 +99,8 @@ impl<S: Source> Feed<S> {
     }
 
     /// Makes one turn: offers the item that is kept, or else reads to the end of one line and offers its item.
-    /// An item that finds no place is kept.
+    /// An item that finds no place is kept. The source is asked only where no whole line is held, nor one that is
+    /// too long.
     ///
     /// # Errors
     ///
@@ -104,16 +113,21 @@ impl<S: Source> Feed<S> {
             ⊎ ((item : Item) × (given self.new ≡ given self.old ++ item ∷ []))) }
 
         ensures kept { IfOk result (λ fed. (fed ≡ Fed.Full) ↔ IsSome self.new.kept) }
-        ensures full { result ≡ Ok Fed.Full → free self.new.mouth ≡ 0 }
+        ensures full { result ≡ Ok Fed.Full
+            → (free_places self.old.mouth ≡ 0) × (free_places self.new.mouth ≡ 0) }
         ensures over { IfOk result (λ fed. (fed ≡ Fed.Over) ↔ (feed_is_over self.new ≡ true)) }
+        ensures offers { IfOk result (λ fed. (found : Option Item)
+            × (offered self.new.mouth ≡ offered self.old.mouth ++ option_to_list found)
+            × ((fed ≡ Fed.Over) ↔ (ends found ≡ true))) }
         ensures went { result ≡ Ok Fed.Went
             → ((item : Item) × (offered self.new.mouth ≡ offered self.old.mouth ++ item ∷ []))
             ⊎ (self.new.lines.number ≡ self.old.lines.number + 1) }
 
         ensures memory { OnErr result
             (IsSameReading (reading_of S.left self.old.lines) (reading_of S.left self.new.lines)) }
-        ensures nothing { OnErr result ((self.new.mouth ≡ self.old.mouth) × (self.new.kept ≡ self.old.kept)) }
-        ensures asks { has_break (self.old.lines.line.items ++ self.old.lines.block) ≡ true
+        ensures nothing { OnErr result
+            ((self.new.mouth ≡ self.old.mouth) × (self.new.kept ≡ self.old.kept)) }
+        ensures asks { has_line (held self.old.lines) ≡ true
             → self.new.lines.source ≡ self.old.lines.source }
     {
         if let Some(item) = self.kept.take() {

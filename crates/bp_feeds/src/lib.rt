@@ -4,12 +4,14 @@
 mod block;
 mod feed;
 mod judging;
+mod laws;
 mod limits;
-mod lines;
+mod line_reader;
 mod reached;
 
 use bp_base::Source;
 pub use feed::{Fed, Feed};
+pub use laws::items_follow;
 pub use limits::{MOST_LENGTH, MOST_LINES};
 
 /// Takes only what may move to another thread.

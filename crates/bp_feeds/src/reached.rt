@@ -17,7 +17,7 @@ pub enum Reached {
 
 /// What stands at the front of what is still to be dealt with.
 #[derive(Clone, Copy, Debug, PartialEq, Eq)]
-pub enum Front {
+pub enum Moved {
     /// A line, with its LF.
     Line,
     /// Bytes without LF.
@@ -28,7 +28,7 @@ pub enum Front {
 
 /// What comes next.
 #[derive(Clone, Copy, Debug, PartialEq, Eq)]
-pub enum Next {
+pub enum Gathered {
     /// A line, with its LF.
     Line,
     /// The last line, which has no LF, or nothing.

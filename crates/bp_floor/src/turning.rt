@@ -58,13 +58,13 @@ fn ending_of(job: &Job) -> Result<Ending, Memory>
 }
 
 /// What a job states.
-fn statement_of(alloc: Global, job: &Job) -> Result<Option<Statement>, Memory>
+fn statement_of(job: &Job) -> Result<Option<Statement>, Memory>
     ensures { IfOk result (λ s. (k : ℕ) → stop_at k (plain_job job.now).outcome
         ≡ live_at k (option_map plain_statement s)) }
 {
     match job.outcome() {
         None => Ok(None),
-        Some(Outcome::Stopped(statement)) => Ok(Some(statement.copy(alloc)?)),
+        Some(Outcome::Stopped(statement)) => Ok(Some(statement.copy()?)),
         Some(Outcome::Ended) => Ok(None),
         Some(Outcome::Broken(_, _)) => Ok(None),
         Some(Outcome::Violated(_)) => Ok(None),
@@ -91,24 +91,18 @@ fn fill(ground: &mut Ground, job: Job)
 
 impl Board {
     /// A job is back in its place.
-    fn put(&mut self, alloc: Global, number: u32, job: Job) -> Result<(), Memory>
+    fn put(&mut self, number: u32, job: Job) -> Result<(), Memory>
         requires { number < length self.old.seats }
         ensures { OnOk result (IsPut number job self.old self.new) }
     {
-        let statement = statement_of(alloc, &job)?;
+        let statement = statement_of(&job)?;
         self.bench.place(number, statement)?;
         self.seats.put(number as usize, job);
         Ok(())
     }
 
     /// A job whose effects were taken goes to its place: only a b-thread's own is kept.
-    fn keep(
-        &mut self,
-        alloc: Global,
-        ground: &mut Ground,
-        entry: &Entry,
-        job: Job,
-    ) -> Result<(), Memory>
+    fn keep(&mut self, ground: &mut Ground, entry: &Entry, job: Job) -> Result<(), Memory>
         requires { RunsBelow (length self.old.seats) (entry_seen entry.now) }
         ensures program { ground.new.program ≡ ground.old.program }
         ensures kept { OnOk result (IsKeptBy (entry_seen entry.now) job
@@ -119,19 +113,13 @@ impl Board {
                 fill(ground, job);
                 Ok(())
             }
-            Entry::Runs(number) => self.put(alloc, *number, job),
+            Entry::Runs(number) => self.put(*number, job),
             Entry::Stops(_, _) => Ok(()),
         }
     }
 
     /// The job of an entry comes back.
-    fn back(
-        &mut self,
-        alloc: Global,
-        ground: &mut Ground,
-        entry: &Entry,
-        mut job: Job,
-    ) -> Result<Part, Memory>
+    fn back(&mut self, ground: &mut Ground, entry: &Entry, mut job: Job) -> Result<Part, Memory>
         requires below { RunsBelow (length self.old.seats) (entry_seen entry.now) }
         requires body { has_body (entry_seen entry.now) ≡ true }
         ensures program { ground.new.program ≡ ground.old.program }
@@ -141,7 +129,7 @@ impl Board {
     {
         let effects = job.take_effects();
         let ending = ending_of(&job)?;
-        self.keep(alloc, ground, entry, job)?;
+        self.keep(ground, entry, job)?;
         Ok(Part { effects, ending })
     }
 
@@ -170,7 +158,7 @@ impl Board {
         }
         match jobs.next() {
             None => Ok(idle),
-            Some(job) => self.back(alloc, ground, entry, job),
+            Some(job) => self.back(ground, entry, job),
         }
     }
 

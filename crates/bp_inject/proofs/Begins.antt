@@ -1,20 +1,23 @@
 -- What was read begins the items of the bytes.
-use Rattle.std.proofs.Common.{◌≡◌, ◌⊎◌, inl, inr, ⊎_elim, ℕ, ◌+◌, Bool, true, false, List, [], ◌∷◌, ◌++◌, Option, Some, None, option_to_list, refl, sym, ap, ◌∙◌, append_assoc, append-nil}
-use Rattle.std.specs.Prelude.{IsSomeAnd, if◌then◌else◌}
-use Rattle.std.proofs.lemmas.Bool.{or_left}
+use Rattle.std.proofs.Common.{◌≡◌, ◌⊎◌, inl, inr, ⊎_elim, ℕ, ◌+◌, Bool, true, false, List, [], ◌∷◌, ◌++◌, Option, Some, None, option_to_list, refl, sym, ap, ◌∙◌, subst, append_assoc, append-nil}
+use Rattle.std.specs.Prelude.{◌&&◌, IfSome, is_none, if◌then◌else◌}
+use Rattle.std.proofs.lemmas.Bool.{or_left, or_right, or_parts}
+use Rattle.std.proofs.lemmas.List.{append_cancel_left}
 use Rattle.std.proofs.lemmas.List.Folds.{list_any-append}
-use Rattle.bp_feeds.proofs.Cuts.{unended_lines}
-use Rattle.bp_feeds.proofs.Within.{within_unended}
 use mathlib.Core.List.{IsPrefix}
+use Rattle.bp_base.specs.Pieces.{Gives}
 use Rattle.bp_log.specs.declared.item.Item.{Item}
 use Rattle.bp_log.specs.declared.item.Item.TheVariants.{Failed, End}
+use Rattle.bp_lanes.specs.Lanes.{offered}
 use Rattle.bp_feeds.specs.declared.reached.Reached.{Reached}
 use Rattle.bp_feeds.specs.declared.reached.Reached.TheVariants.{Within, Last, Ended, Broken, Faulted}
-use Rattle.bp_feeds.specs.Items.{is_end, has_end, is_break, before_lines, before_whole, lines_of, whole_lines, is_last, followed, item_of, items_from, items, items_before_fault}
-use Rattle.bp_feeds.specs.Reading.{IsBrokenOff, HasReached, BeginsItems}
 use Rattle.bp_feeds.specs.declared.feed.Feed.{Feed}
-use Rattle.bp_feeds.specs.Feeds.{reading_of, StandsTo}
-use Rattle.bp_lanes.specs.Lanes.{offered}
+use Rattle.bp_feeds.specs.Items.{is_fault, is_end, is_last, has_fault, has_end, has_last, is_break, before_lines, before_whole, lines_of, whole_lines, followed, item_of, items_from, items, items_before_fault}
+use Rattle.bp_feeds.specs.Reading.{is_read, IsWithin, IsAll, IsBroken, HasReached, HasRead, EndsInFault, BeginsItems}
+use Rattle.bp_feeds.specs.Feeds.{reading_of, is_over, StandsTo}
+use Rattle.bp_feeds.proofs.Cuts.{unended_lines}
+use Rattle.bp_feeds.proofs.Behind.{lines_follow, open_before}
+use Rattle.bp_feeds.proofs.Within.{rest_of, all_with_rest, within_unended}
 
 pub prefix_trans : (xs ys zs : List Item) → IsPrefix xs ys → IsPrefix ys zs → IsPrefix xs zs
 prefix_trans xs ys zs (a, e) (b, f) = (a ++ b, sym (append_assoc xs a b) ∙ ap (λ l. l ++ b) e ∙ f)
@@ -61,69 +64,170 @@ either_way [] more number last other = inl ([], refl, (items_from more number ot
 either_way (line ∷ front) more number last other =
     one_line (item_of number line) (items_from front (number + 1) last) (items_from (front ++ more) (number + 1) other) last (either_way front more (number + 1) last other)
 
+-- ---- the last of the items
+
+one_ended : (t : Bool) (i : Item) (tail : List Item) → is_last i ≡ t → has_last tail ≡ true → has_last (if t then i ∷ [] else i ∷ tail) ≡ true
+one_ended true i tail l h = or_left (is_last i) false l
+one_ended false i tail l h = or_right (is_last i) (has_last tail) h
+
+line_ended : (o : Option Item) (tail : List Item) → has_last tail ≡ true → has_last (followed o tail) ≡ true
+line_ended None tail h = h
+line_ended (Some i) tail h = one_ended (is_last i) i tail refl h
+
+-- the last of the items of lines is one that nothing follows
+closed : (lines : List (List ℕ)) (number : ℕ) (last : Item) → is_last last ≡ true → has_last (items_from lines number last) ≡ true
+closed [] number last l = or_left (is_last last) false l
+closed (line ∷ lines) number last l = line_ended (item_of number line) (items_from lines (number + 1) last) (closed lines (number + 1) last l)
+
+not_both : (b : Bool) → b ≡ false → b ≡ true → ⊥
+not_both true f t = cc
+not_both false f t = cc
+
+-- and the others are not
+open_front : (xs ks all : List Item) (y : Item) (lines : List (List ℕ)) (number : ℕ) (last : Item) → xs ++ ks ≡ all → all ++ y ∷ [] ≡ items_from lines number last → has_last xs ≡ false
+open_front xs ks all y lines number last e f =
+    let none : has_last all ≡ false = open_before lines number last y all [] f in
+    (or_parts (has_last xs) (has_last ks) (sym (list_any-append is_last xs ks) ∙ ap has_last e ∙ none)).0
+
+all_or_open : (xs ks all : List Item) (lines : List (List ℕ)) (number : ℕ) (last : Item) → xs ++ ks ≡ all → all ≡ items_from lines number last → has_last xs ≡ true → xs ≡ all
+all_or_open xs [] all lines number last e f l = sym (append-nil xs) ∙ e
+all_or_open xs (k ∷ ks) all lines number last e f l = absurd (not_both (has_last xs) (open_before lines number last k xs ks (e ∙ f)) l)
+
 -- ---- what was given
 
-front_of : (bytes : List ℕ) (left : List ℕ) (xs rest all tail : List Item) → xs ++ rest ≡ all → all ++ tail ≡ items bytes → BeginsItems bytes left xs
-front_of bytes left xs rest all tail e f = inl (rest ++ tail, sym (append_assoc xs rest tail) ∙ ap (λ l. l ++ tail) e ∙ f)
+nothing_left : (start : Option (List ℕ)) (took : List ℕ) (left : Option (List ℕ)) → Gives start took left → IsAll start took → IfSome start (λ _. left ≡ Some [])
+nothing_left None took left g a = tt
+nothing_left (Some b) took None g a = absurd g
+nothing_left (Some b) took (Some l) g a = ap Some (append_cancel_left took l [] (sym g ∙ a ∙ sym (append-nil took)))
 
-before_fault : (bytes : List ℕ) (left : List ℕ) (xs rest all : List Item) → xs ++ rest ≡ all → IsBrokenOff bytes all left → BeginsItems bytes left xs
-before_fault bytes left xs rest all e b =
-    let f = whole_first b.took left in
-    let same : items_from (whole_lines b.took ++ f.0) 1 End ≡ items bytes = ap (λ l. items_from l 1 End) (sym f.1) ∙ ap items (sym b.all) in
+unended_front : (xs ks all : List Item) → xs ++ ks ≡ all → has_end all ≡ false → has_end xs ≡ true → ⊥
+unended_front xs ks all e u t = not_both (has_end all) u (ap has_end (sym e) ∙ list_any-append is_end xs ks ∙ or_left (has_end xs) (has_end ks) t)
+
+of_within : (start : Option (List ℕ)) (took : List ℕ) (all : List Item) (number : ℕ) (held : List ℕ) (left : Option (List ℕ)) (xs ks : List Item) → xs ++ ks ≡ all
+    → Gives start took left → IsWithin took all number held → BeginsItems start left xs
+of_within start took all number held left xs ks e g w =
+    let rest = rest_of left in
+    let tail = items_from (lines_of (held ++ rest)) number End in
+    let same : took ++ rest ≡ w.passed ++ (held ++ rest) = ap (λ l. l ++ rest) w.all ∙ append_assoc w.passed held rest in
+    record {
+      took = took;
+      rest = rest;
+      taken = g;
+      told = all_with_rest start took left g;
+      begins = inl (ks ++ tail, sym (append_assoc xs ks tail) ∙ ap (λ l. l ++ tail) e ∙ lines_follow took all number held w (held ++ rest) End ∙ ap items (sym same));
+      whole = λ l f. absurd (not_both (has_last xs) (open_front xs ks all Failed (whole_lines w.passed) 1 Failed e w.good) l);
+      none = λ t. absurd (unended_front xs ks all e (within_unended took all number held w) t);
+    }
+
+of_all : (start : Option (List ℕ)) (took : List ℕ) (all : List Item) (left : Option (List ℕ)) (xs ks : List Item) → xs ++ ks ≡ all
+    → Gives start took left → all ≡ items took → IsAll start took → BeginsItems start left xs
+of_all start took all left xs ks e g h told =
+    let is : all ≡ items (took ++ []) = h ∙ ap items (sym (append-nil took)) in
+    record {
+      took = took;
+      rest = [];
+      taken = g;
+      told = subst (λ t. IsAll start t) (sym (append-nil took)) told;
+      begins = inl (ks, e ∙ is);
+      whole = λ l f. all_or_open xs ks all (lines_of took) 1 End e h l ∙ is;
+      none = λ t. (refl, nothing_left start took left g told);
+    }
+
+of_last : (start : Option (List ℕ)) (took : List ℕ) (all : List Item) (left : Option (List ℕ)) (xs ks : List Item) → xs ++ ks ≡ all
+    → Gives start took left → all ++ End ∷ [] ≡ items took → IsAll start took → BeginsItems start left xs
+of_last start took all left xs ks e g h told = record {
+  took = took;
+  rest = [];
+  taken = g;
+  told = subst (λ t. IsAll start t) (sym (append-nil took)) told;
+  begins = inl (ks ++ End ∷ [], sym (append_assoc xs ks (End ∷ [])) ∙ ap (λ l. l ++ End ∷ []) e ∙ h ∙ ap items (sym (append-nil took)));
+  whole = λ l f. absurd (not_both (has_last xs) (open_front xs ks all End (lines_of took) 1 End e h) l);
+  none = λ t. (refl, nothing_left start took left g told);
+}
+
+of_broken : (start : Option (List ℕ)) (took : List ℕ) (all : List Item) (left : Option (List ℕ)) (xs ks : List Item) → xs ++ ks ≡ all
+    → Gives start took left → IsBroken start took all → BeginsItems start left xs
+of_broken start took all left xs ks e g b = record {
+  took = took;
+  rest = b.rest;
+  taken = g;
+  told = b.told;
+  begins = inl (ks, e ∙ b.all);
+  whole = λ l f. all_or_open xs ks all (lines_of (took ++ b.rest)) 1 End e b.all l ∙ b.all;
+  none = λ t. absurd (unended_front xs ks all e b.endless t);
+}
+
+-- the items before a fault, and those of the bytes that were taken and a rest
+fault_or_all : (took rest : List ℕ) → Either_way (items_before_fault took) (items (took ++ rest)) Failed
+fault_or_all took rest =
+    let f = whole_first took rest in
+    subst (λ l. Either_way (items_before_fault took) (items_from l 1 End) Failed) (sym f.1) (either_way (whole_lines took) f.0 1 Failed End)
+
+before_fault : (took rest : List ℕ) (xs ks all : List Item) → xs ++ ks ≡ all → all ≡ items_before_fault took → IsPrefix xs (items (took ++ rest)) ⊎ EndsInFault took rest xs
+before_fault took rest xs ks all e h =
     ⊎_elim
-    (λ (a : (begun : List Item) × (items_before_fault b.took ≡ begun ++ Failed ∷ []) × IsPrefix begun (items_from (whole_lines b.took ++ f.0) 1 End)).
-    let p : IsPrefix a.0 (items bytes) = (a.2.0, a.2.1 ∙ same) in
-    let whole : xs ++ rest ≡ a.0 ++ Failed ∷ [] = e ∙ b.is ∙ a.1 in
-    ⊎_elim (λ (q : IsPrefix xs a.0). inl (prefix_trans xs a.0 (items bytes) q p))
-    (λ (q : xs ≡ a.0 ++ Failed ∷ []). inr (record {
-      begun = a.0;
-      begins = p;
-      last = q;
-      broken = record { took = b.took; all = b.all; is = q ∙ sym a.1 };
-    }))
-    (prefix_snoc xs rest a.0 Failed whole))
-    (λ (s : items_before_fault b.took ≡ items_from (whole_lines b.took ++ f.0) 1 End).
-    front_of bytes left xs rest all [] e (append-nil all ∙ b.is ∙ s ∙ same))
-    (either_way (whole_lines b.took) f.0 1 Failed End)
+    (λ (a : (begun : List Item) × (items_before_fault took ≡ begun ++ Failed ∷ []) × IsPrefix begun (items (took ++ rest))).
+    ⊎_elim (λ (q : IsPrefix xs a.0). inl (prefix_trans xs a.0 (items (took ++ rest)) q a.2))
+    (λ (q : xs ≡ a.0 ++ Failed ∷ []). inr (record { begun = a.0; begins = a.2; last = q; broken = q ∙ sym a.1 }))
+    (prefix_snoc xs ks a.0 Failed (e ∙ h ∙ a.1)))
+    (λ (s : items_before_fault took ≡ items (took ++ rest)). inl (ks, e ∙ h ∙ s))
+    (fault_or_all took rest)
 
-reached_begins : (k : Reached) (bytes : List ℕ) (all : List Item) (held : List ℕ) (number : ℕ) (left : List ℕ) (xs rest : List Item) → xs ++ rest ≡ all
-    → HasReached k bytes all held number left → BeginsItems bytes left xs
-reached_begins Within bytes all held number left xs rest e w =
-    front_of bytes left xs rest all (items_from (lines_of (held ++ left)) number End) e (w.lines (held ++ left) End ∙ ap items (sym w.all))
-reached_begins Last bytes all held number left xs rest e h = front_of bytes left xs rest all (End ∷ []) e h.0
-reached_begins Ended bytes all held number left xs rest e h = front_of bytes left xs rest all [] e (append-nil all ∙ h.0)
-reached_begins Broken bytes all held number left xs rest e h = front_of bytes left xs rest all [] e (append-nil all ∙ h.0)
-reached_begins Faulted bytes all held number left xs rest e h = before_fault bytes left xs rest all e h
+fault_among : (xs : List Item) → has_fault (xs ++ Failed ∷ []) ≡ true
+fault_among xs = list_any-append is_fault xs (Failed ∷ []) ∙ or_right (has_fault xs) true refl
 
-read_begins : (k : Reached) (bytes : List ℕ) (all : List Item) (held : List ℕ) (number : ℕ) (left : Option (List ℕ)) (xs rest : List Item) → xs ++ rest ≡ all
-    → IsSomeAnd left (λ l. HasReached k bytes all held number l) → IsSomeAnd left (λ l. BeginsItems bytes l xs)
-read_begins k bytes all held number None xs rest e h = absurd h
-read_begins k bytes all held number (Some l) xs rest e h = reached_begins k bytes all held number l xs rest e h
+whole_or_fault : (took rest : List ℕ) (xs : List Item) → xs ≡ items_before_fault took → has_fault xs ≡ false → xs ≡ items (took ++ rest)
+whole_or_fault took rest xs h f =
+    ⊎_elim
+    (λ (a : (begun : List Item) × (items_before_fault took ≡ begun ++ Failed ∷ []) × IsPrefix begun (items (took ++ rest))).
+    absurd (not_both (has_fault xs) f (ap has_fault (h ∙ a.1) ∙ fault_among a.0)))
+    (λ (s : items_before_fault took ≡ items (took ++ rest)). h ∙ s)
+    (fault_or_all took rest)
 
--- where the end was given nothing is left
+of_fault : (start : Option (List ℕ)) (took : List ℕ) (all : List Item) (left : Option (List ℕ)) (xs ks : List Item) → xs ++ ks ≡ all
+    → Gives start took left → all ≡ items_before_fault took → BeginsItems start left xs
+of_fault start took all left xs ks e g h =
+    let rest = rest_of left in
+    record {
+      took = took;
+      rest = rest;
+      taken = g;
+      told = all_with_rest start took left g;
+      begins = before_fault took rest xs ks all e h;
+      whole = λ l f. whole_or_fault took rest xs (all_or_open xs ks all (whole_lines took) 1 Failed e h l ∙ h) f;
+      none = λ t. absurd (unended_front xs ks all e (ap has_end h ∙ unended_lines (whole_lines took) 1) t);
+    }
 
-reached_ended : (k : Reached) (bytes : List ℕ) (all : List Item) (held : List ℕ) (number : ℕ) (left : List ℕ) → HasReached k bytes all held number left
-    → has_end all ≡ true → left ≡ []
-reached_ended Within bytes all held number left w t = let f : false ≡ true = sym (within_unended bytes all number (held ++ left) w) ∙ t in cc
-reached_ended Last bytes all held number left h t = h.1
-reached_ended Ended bytes all held number left h t = h.1
-reached_ended Broken bytes all held number left h t = let f : false ≡ true = sym h.1 ∙ t in cc
-reached_ended Faulted bytes all held number left b t = let f : false ≡ true = sym (ap has_end b.is ∙ unended_lines (whole_lines b.took) 1) ∙ t in cc
+reached_begins : (k : Reached) (start : Option (List ℕ)) (took : List ℕ) (all : List Item) (number : ℕ) (held : List ℕ) (left : Option (List ℕ)) (xs ks : List Item)
+    → xs ++ ks ≡ all → Gives start took left → HasReached k start took all number held → BeginsItems start left xs
+reached_begins Within start took all number held left xs ks e g h = of_within start took all number held left xs ks e g h
+reached_begins Last start took all number held left xs ks e g h = of_last start took all left xs ks e g h.0 h.1
+reached_begins Ended start took all number held left xs ks e g h = of_all start took all left xs ks e g h.0 h.1
+reached_begins Broken start took all number held left xs ks e g h = of_broken start took all left xs ks e g h
+reached_begins Faulted start took all number held left xs ks e g h = of_fault start took all left xs ks e g h
 
-read_ended : (k : Reached) (bytes : List ℕ) (all : List Item) (held : List ℕ) (number : ℕ) (left : Option (List ℕ)) → IsSomeAnd left (λ l. HasReached k bytes all held number l)
-    → has_end all ≡ true → left ≡ Some []
-read_ended k bytes all held number None h t = absurd h
-read_ended k bytes all held number (Some l) h t = ap Some (reached_ended k bytes all held number l h t)
+-- ---- whether the last item was offered
 
-module _ {S : Type 0} (left : S → Option (List ℕ)) where
+kept_open : (kept : Option Item) (xs all : List Item) (lines : List (List ℕ)) (number : ℕ) (last : Item) → is_last last ≡ true → xs ++ option_to_list kept ≡ all
+    → all ≡ items_from lines number last → has_last xs ≡ is_none kept
+kept_open None xs all lines number last l e h = ap has_last (sym (append-nil xs) ∙ e ∙ h) ∙ closed lines number last l
+kept_open (Some k) xs all lines number last l e h = open_before lines number last k xs [] (e ∙ h)
+
+reached_last : (k : Reached) (start : Option (List ℕ)) (took : List ℕ) (all : List Item) (number : ℕ) (held : List ℕ) (xs : List Item) (kept : Option Item)
+    → xs ++ option_to_list kept ≡ all → HasReached k start took all number held → has_last xs ≡ is_read k && is_none kept
+reached_last Within start took all number held xs kept e w = open_front xs (option_to_list kept) all Failed (whole_lines w.passed) 1 Failed e w.good
+reached_last Last start took all number held xs kept e h = open_front xs (option_to_list kept) all End (lines_of took) 1 End e h.0
+reached_last Ended start took all number held xs kept e h = kept_open kept xs all (lines_of took) 1 End refl e h.0
+reached_last Broken start took all number held xs kept e b = kept_open kept xs all (lines_of (took ++ b.rest)) 1 End refl e b.all
+reached_last Faulted start took all number held xs kept e h = kept_open kept xs all (whole_lines took) 1 Failed refl e h
+
+module _ {S : Type 0} where
   -- what was offered begins the items of the bytes
-  pub begins : (bytes : List ℕ) (f : Feed S) → StandsTo left bytes [] f → IsSomeAnd (left f.lines.source) (λ l. BeginsItems bytes l (offered f.mouth))
-  begins bytes f s =
-      read_begins f.lines.reached bytes s.gave (reading_of left f.lines).held f.lines.number (left f.lines.source) (offered f.mouth) (option_to_list f.kept) s.all s.read
+  pub begins : (left : S → Option (List ℕ)) (start : Option (List ℕ)) (f : Feed S) → StandsTo left start [] f → BeginsItems start (left f.lines.source) (offered f.mouth)
+  begins left start f s =
+      reached_begins f.lines.reached start s.took s.gave f.lines.number (reading_of left f.lines).held (left f.lines.source) (offered f.mouth) (option_to_list f.kept) s.all s.read.taken s.read.is
 
-  -- a feed that has offered the end has a source with nothing left
-  pub ended : (bytes : List ℕ) (f : Feed S) → StandsTo left bytes [] f → has_end (offered f.mouth) ≡ true → left f.lines.source ≡ Some []
-  ended bytes f s t =
-      let all : has_end s.gave ≡ true =
-      ap has_end (sym s.all) ∙ list_any-append is_end (offered f.mouth) (option_to_list f.kept) ∙ or_left (has_end (offered f.mouth)) (has_end (option_to_list f.kept)) t in
-      read_ended f.lines.reached bytes s.gave (reading_of left f.lines).held f.lines.number (left f.lines.source) s.read all
+  -- a feed is over exactly where the last item was offered
+  pub over_is_last : (left : S → Option (List ℕ)) (start : Option (List ℕ)) (f : Feed S) → StandsTo left start [] f → has_last (offered f.mouth) ≡ is_over f
+  over_is_last left start f s =
+      reached_last f.lines.reached start s.took s.gave f.lines.number (reading_of left f.lines).held (offered f.mouth) f.kept s.all s.read.is

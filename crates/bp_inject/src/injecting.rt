@@ -1,8 +1,8 @@
 //! A feed that makes its turns until it is over or there is a halt.
-ghost use Rattle.std.specs.Prelude.{◌≡◌, ◌≤◌, List, ℕ, Some, [], Ok, true, false, IsErr, IsSomeAnd};
+ghost use Rattle.std.specs.Prelude.{◌≡◌, ◌≤◌, List, ℕ, Option, [], Ok, true, false, IsErr};
 ghost use Rattle.bp_base.specs.Counts.{Rose};
 ghost use Rattle.bp_lanes.specs.Lanes.{offered};
-ghost use Rattle.bp_feeds.specs.Items.{has_end};
+ghost use Rattle.bp_feeds.specs.Items.{has_last};
 ghost use Rattle.bp_feeds.specs.Reading.{BeginsItems};
 ghost use Rattle.bp_feeds.specs.Feeds.{is_over, StandsTo, GoesOn};
 
@@ -34,10 +34,10 @@ pub fn inject<S: Source, W: Wake, R: Threads + Wait + Sync>(
 ) -> Result<Injected, Memory>
     requires { is_over feed.old ≡ false }
     ensures goes_on { GoesOn S.left S.faults feed.old feed.new }
-    ensures begins { (bytes : List ℕ) → StandsTo S.left bytes [] feed.old
-        → IsSomeAnd (S.left feed.new.lines.source) (λ left. BeginsItems bytes left (offered feed.new.mouth)) }
-    ensures end { (bytes : List ℕ) → StandsTo S.left bytes [] feed.old
-        → has_end (offered feed.new.mouth) ≡ true → S.left feed.new.lines.source ≡ Some [] }
+    ensures begins { (start : Option (List ℕ)) → StandsTo S.left start [] feed.old
+        → BeginsItems start (S.left feed.new.lines.source) (offered feed.new.mouth) }
+    ensures last { (start : Option (List ℕ)) → StandsTo S.left start [] feed.old
+        → has_last (offered feed.new.mouth) ≡ is_over feed.new }
 
     ensures over { result ≡ Ok Injected.Over → is_over feed.new ≡ true }
     ensures halted { result ≡ Ok Injected.Halted → is_over feed.new ≡ false }

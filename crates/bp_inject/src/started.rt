@@ -1,9 +1,6 @@
 //! Starting the thread of an injector, and joining it.
-ghost use Rattle.std.specs.Prelude.{◌≡◌, ◌≤◌, ◌↔◌, Some, [], ◌++◌, true, false, IfOk, IfSome, IsSomeAnd};
-ghost use Rattle.bp_base.specs.Counts.{Rose};
+ghost use Rattle.std.specs.Prelude.{◌≡◌, ◌↔◌, [], ◌++◌, true, false, IfOk};
 ghost use Rattle.bp_lanes.specs.Lanes.{offered, taken, known, is_closed, IsLane, IsSameEar};
-ghost use Rattle.bp_feeds.specs.Items.{has_end, has_fault};
-ghost use Rattle.bp_feeds.specs.Reading.{BeginsItems};
 ghost use Rattle.bp_feeds.specs.Feeds.{GoesOn, is_over};
 ghost use Rattle.bp_inject.specs.Injectors.{feed_of, IsFrom, CameBack};
 
@@ -89,7 +86,7 @@ pub fn start<'s, S: Source + Send + Drop + 's, R: Threads + Wait + Sync, E>(
     source: S,
 ) -> Result<(Started<S>, Ear), Memory>
     ensures lane { IfOk result (λ r. IsLane (feed_of r.0).mouth r.1) }
-    ensures from { IfOk result (λ r. IsFrom S.left S.faults source r.0) }
+    ensures from { IfOk result (λ r. IsFrom S.left S.faults source (feed_of r.0)) }
     ensures ear { IfOk result (λ r. (taken r.1 ≡ []) × (is_closed r.1 ≡ false)) }
 {
     let (mouth, ear) = lane(alloc)?;
@@ -111,6 +108,7 @@ pub fn start<'s, S: Source + Send + Drop + 's, R: Threads + Wait + Sync, E>(
 
 /// Joins the thread of an injector, and compares the ends of its lane. What was taken, and then what is still to be
 /// taken, begins the items of the source's bytes, apart from a last fault, which comes only where the source failed.
+/// The injector is over exactly where the last item is among them; why it is not is told by no clause.
 pub fn join<S: Source, R: Threads>(
     rt: &R,
     started: Started<S>,
@@ -120,17 +118,9 @@ pub fn join<S: Source, R: Threads>(
     requires { IsLane (feed_of started).mouth ear.old }
     ensures ear { IsSameEar ear.old ear.new × (taken ear.new ≡ taken ear.old) }
     ensures closed { is_closed ear.new ≡ true }
-    ensures back { CameBack S.left S.faults (feed_of started) result.0
-        (taken ear.new ++ known ear.new) (result.1 ≡ Outcome.Over) }
-    ensures begins { (source : S) → IsFrom S.left S.faults source started → IfSome (S.left source)
-        (λ bytes. IsSomeAnd (S.left result.0)
-        (λ left. BeginsItems bytes left (taken ear.new ++ known ear.new))) }
-    ensures end { (source : S) → IsFrom S.left S.faults source started → IfSome (S.left source)
-        (λ _. has_end (taken ear.new ++ known ear.new) ≡ true → S.left result.0 ≡ Some []) }
-    ensures cause { (source : S) → IsFrom S.left S.faults source started
-        → has_fault (taken ear.new ++ known ear.new) ≡ true → Rose (S.faults source) (S.faults result.0) }
-    ensures counts { (source : S) → IsFrom S.left S.faults source started
-        → S.faults source ≤ S.faults result.0 }
+    ensures back { (source : S) → IsFrom S.left S.faults source (feed_of started)
+        → CameBack S.left S.faults source result.0 (taken ear.new ++ known ear.new)
+        (result.1 ≡ Outcome.Over) }
 {
     match started {
         Started::Beside(child) => closed(child.join(rt), ear, flag),

@@ -11,8 +11,8 @@ abbrev pub offered : Mouth → List Item
 offered m = sent m.producer
 
 -- how many free places the mouth knows of
-abbrev pub free : Mouth → ℕ
-free m = known_free m.producer
+abbrev pub free_places : Mouth → ℕ
+free_places m = known_free m.producer
 
 -- all that was taken, oldest first
 abbrev pub taken : Ear → List Item

@@ -23,7 +23,7 @@ pub struct Ear {
 }
 
 impl Mouth {
-    ghost use Rattle.bp_lanes.specs.Lanes.{offered, free, IsSameMouth};
+    ghost use Rattle.bp_lanes.specs.Lanes.{offered, free_places, IsSameMouth};
 
     pub(crate) fn new(producer: Producer<Item>) -> Mouth
         ensures { result.producer ≡ producer }
@@ -39,11 +39,11 @@ impl Mouth {
     pub fn offer(&mut self, item: Item) -> Result<(), Item>
         ensures lane { IsSameMouth self.old self.new }
         ensures offers { OnOk result (offered self.new ≡ offered self.old ++ item ∷ []) }
-        ensures place { OnOk result (free self.old ≤ free self.new + 1) }
+        ensures place { OnOk result (free_places self.old ≤ free_places self.new + 1) }
 
         ensures back { IfErr result (λ x. (x ≡ item) × (offered self.new ≡ offered self.old)) }
-        ensures full { IfErr result (λ _. free self.new ≡ 0) }
-        ensures succeeds { 0 < free self.old → IsOk result }
+        ensures full { IfErr result (λ _. free_places self.new ≡ 0) }
+        ensures succeeds { 0 < free_places self.old → IsOk result }
     {
         match self.producer.push(item) {
             Ok(()) => Ok(()),
@@ -53,7 +53,7 @@ impl Mouth {
 }
 
 impl Ear {
-    ghost use Rattle.bp_lanes.specs.Lanes.{offered, taken, known, is_closed, IsLane, IsSameMouth, IsSameEar};
+    ghost use Rattle.bp_lanes.specs.Lanes.{offered, free_places, taken, known, is_closed, IsLane, IsSameMouth, IsSameEar};
 
     pub(crate) fn new(consumer: Consumer<Item>) -> Ear
         ensures { (result.consumer ≡ consumer) × (result.left ≡ None) }
@@ -87,11 +87,12 @@ impl Ear {
     }
 
     /// Compares the ear with the mouth of its lane: what was taken, and then what is still to be taken, is what
-    /// was offered. Takes no memory and does not wait.
+    /// was offered by then. No place is lost. Takes no memory and does not wait.
     pub fn close(&mut self, mouth: &mut Mouth)
         requires { IsLane mouth.old self.old }
         ensures ear { IsSameEar self.old self.new × (taken self.new ≡ taken self.old) }
         ensures mouth { IsSameMouth mouth.old mouth.new × (offered mouth.new ≡ offered mouth.old) }
+        ensures places { free_places mouth.old ≤ free_places mouth.new }
         ensures closed { is_closed self.new ≡ true }
         ensures all { taken self.new ++ known self.new ≡ offered mouth.new }
     {

@@ -2,7 +2,7 @@
 #![tactic(auto)]
 
 ghost use Rattle.std.specs.Prelude.{◌≡◌, [], false, IfOk};
-ghost use Rattle.bp_lanes.specs.Lanes.{offered, free, taken, known, is_closed, IsLane};
+ghost use Rattle.bp_lanes.specs.Lanes.{offered, free_places, taken, known, is_closed, IsLane};
 
 mod bell;
 mod ends;
@@ -19,7 +19,7 @@ const ROOM: usize = 64;
 /// The two ends of a fresh lane, with room for 64 items.
 pub fn lane(alloc: Global) -> Result<(Mouth, Ear), Memory>
     ensures ends { IfOk result (λ r. IsLane r.0 r.1) }
-    ensures mouth { IfOk result (λ r. (offered r.0 ≡ []) × (free r.0 ≡ 64)) }
+    ensures mouth { IfOk result (λ r. (offered r.0 ≡ []) × (free_places r.0 ≡ 64)) }
     ensures ear { IfOk result (λ r. (taken r.1 ≡ []) × (known r.1 ≡ [])) }
     ensures open { IfOk result (λ r. is_closed r.1 ≡ false) }
 {

@@ -4,6 +4,7 @@ ghost use Rattle.js_frames.specs.Places.{plain_ground};
 ghost use Rattle.bp_meaning.specs.Membership.{Membership, member};
 ghost use Rattle.js_value.specs.Value.{PlainSet};
 ghost use Rattle.bp_sets.specs.Answers.{TellsAs};
+ghost use Rattle.bp_thread.specs.Views.{stated_set};
 ghost use Rattle.bp_run.specs.Selecting.{Live, by_number, blocked, unblocked, first_unblocked, blocker};
 ghost use Rattle.bp_select.specs.Lives.{live_of, lent};
 ghost use Rattle.bp_select.specs.Answers.{AnswersAs};
@@ -36,23 +37,36 @@ fn named(number: u32, answer: Result<bool, SetFault>) -> Result<bool, SelectFaul
     }
 }
 
-/// Whether the set of the b-thread of this number has the event.
+/// Whether the set that the b-thread of this number states has the event.
 pub(crate) fn ask(
     alloc: Global,
     ground: &Ground,
     budget: u64,
     number: u32,
-    set: &EventSet,
+    set: &Option<EventSet>,
     event: &Event,
 ) -> Result<bool, SelectFault>
-    ensures { AnswersAs (λ b. b)
-        (by_number number (member (plain_ground ground.now) budget set.now event.now)) result }
+    ensures { let has = member (plain_ground ground.now) budget in
+        AnswersAs (λ b. b) (by_number number (has (stated_set set.now) event.now)) result }
 {
-    named(number, contains(alloc, ground, set, event, budget))
+    match set {
+        None => Ok(false),
+        Some(set) => named(number, contains(alloc, ground, set, event, budget)),
+    }
 }
 
 /// Whether no event is in the set, without a look at an event.
-fn is_empty(set: &EventSet) -> bool
+fn is_empty(set: &Option<EventSet>) -> bool
+    ensures { result ≡ is_plainly_empty (stated_set set.now) }
+{
+    match set {
+        None => true,
+        Some(set) => is_empty_set(set),
+    }
+}
+
+/// Whether no event is in the set that is stated, without a look at an event.
+fn is_empty_set(set: &EventSet) -> bool
     ensures { result ≡ is_plainly_empty set.now }
 {
     match set.tree() {

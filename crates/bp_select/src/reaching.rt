@@ -57,10 +57,11 @@ fn touch_of(
 
 /// Notes what the event does to the b-thread of this number.
 fn note(reach: &mut Reach, number: u32, touch: Touch) -> Result<(), Memory>
-    ensures moved { let more = filter_map move_of (option_to_list (touch_as number touch)) in
-        OnOk result (reach.new.moved.items ≡ reach.old.moved.items ++ more) }
-    ensures interrupted { let more = filter_map interrupt_of (option_to_list (touch_as number touch)) in
-        OnOk result (reach.new.interrupted.items ≡ reach.old.interrupted.items ++ more) }
+    ensures moved { let touches = option_to_list (touch_as number touch) in OnOk result
+        (reach.new.moved.items ≡ reach.old.moved.items ++ filter_map move_of touches) }
+    ensures interrupted { let touches = option_to_list (touch_as number touch) in OnOk result
+        (reach.new.interrupted.items
+        ≡ reach.old.interrupted.items ++ filter_map interrupt_of touches) }
 {
     match touch {
         Touch::Stays => {}

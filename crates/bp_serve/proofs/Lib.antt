@@ -4,3 +4,5 @@ pub mod Slices
 pub mod Way
 pub mod Verdicts
 pub mod Turned
+pub mod Beside
+pub mod Measure

@@ -1,4 +1,4 @@
-//! A run that is served: carried on to its end by one thread, and printed and kept as it comes.
+//! A run that is served: carried on to its end, and printed and kept as it comes.
 #![tactic(auto)]
 
 mod carrying;
@@ -8,6 +8,7 @@ mod report;
 mod running;
 mod serving;
 mod telling;
+mod workers;
 
 pub use carrying::carry_all;
 pub use fault::RunFault;

@@ -16,19 +16,21 @@ use bp_base::Sink;
 use bp_log::{Beside, Header, Options};
 use js_program::Program;
 use std::alloc::Global;
+use std::sync::Wait;
+use std::thread::Threads;
 
 /// What the run came to, whose text and whose records are told.
-fn run_onto<K: Sink, L: Sink>(
+fn run_onto<R: Threads + Wait + Sync, K: Sink, L: Sink>(
+    rt: &R,
     alloc: Global,
     program: Program,
     options: Options,
-    slice: u64,
+    beside: Beside,
     telling: &mut Telling,
     out: &mut K,
     log: &mut Option<L>,
 ) -> Result<Report, RunFault>
     requires alone { options.injectors ≡ 0 }
-    requires some_slice { 0 < slice }
     requires lines { telling.old.lines ≡ [] }
     requires kept { telling.old.kept ≡ 0 }
     ensures shows { OnOk result (IsSomeAnd (text_alone program options)
@@ -47,15 +49,17 @@ fn run_onto<K: Sink, L: Sink>(
     ensures stays { LogStays L.made_as L.faults log.old log.new }
 {
     let mut arbiter = Arbiter::open(alloc, program, options)?;
-    serve(alloc, &mut arbiter, slice, telling, out, log)?;
+    serve(rt, alloc, &mut arbiter, beside, telling, out, log)?;
     let report = Report::of(arbiter)?;
     Ok(report)
 }
 
-/// Runs the program to its end under the options of the header. Prints the text of its run, in pieces of 64 KiB or a little
+/// Runs the program to its end under the options of the header, by so many workers and slices as is said: neither shows in what is
+/// told. Prints the text of its run, in pieces of 64 KiB or a little
 /// more, and writes its log, where one is kept: the header before anything is printed, and each record before the lines that come
 /// of it. After a refusal a part of the text and a part of the log, each from its front, were written.
-pub fn run<K: Sink, L: Sink>(
+pub fn run<R: Threads + Wait + Sync, K: Sink, L: Sink>(
+    rt: &R,
     alloc: Global,
     program: Program,
     header: &Header,
@@ -81,15 +85,7 @@ pub fn run<K: Sink, L: Sink>(
 {
     let mut telling = Telling::begin(alloc, header, log)?;
     let options = header.options();
-    let ended = run_onto(
-        alloc,
-        program,
-        options,
-        beside.slice(),
-        &mut telling,
-        out,
-        log,
-    );
+    let ended = run_onto(rt, alloc, program, options, beside, &mut telling, out, log);
     if let Err(RunFault::LogWrite) = ended {
         return Err(RunFault::LogWrite);
     }

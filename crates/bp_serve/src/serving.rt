@@ -13,10 +13,13 @@ ghost use Rattle.bp_serve.specs.Turning.{Settles};
 use crate::RunFault;
 use crate::carrying::carry_all;
 use crate::telling::Telling;
+use crate::workers::settle_beside;
 use bp_arbiter::{Arbiter, Phase};
 use bp_base::Sink;
-use bp_log::Memory;
+use bp_log::{Beside, Memory};
 use std::alloc::Global;
+use std::sync::Wait;
+use std::thread::Threads;
 
 /// One turn: the jobs of what is to be run are carried to their outcomes, one after the other, and what they did is
 /// merged. Its only error is want of memory.
@@ -88,15 +91,15 @@ fn tell<K: Sink, L: Sink>(
 }
 
 /// Serves the run to its end, and tells its records and its lines as they come.
-pub(crate) fn serve<K: Sink, L: Sink>(
+pub(crate) fn serve<R: Threads + Wait + Sync, K: Sink, L: Sink>(
+    rt: &R,
     alloc: Global,
     arbiter: &mut Arbiter,
-    slice: u64,
+    beside: Beside,
     telling: &mut Telling,
     out: &mut K,
     log: &mut Option<L>,
 ) -> Result<(), RunFault>
-    requires some_slice { 0 < slice }
     requires alone { (options_in arbiter.old).injectors ≡ 0 }
     requires underway { Underway (code_in arbiter.old) (options_in arbiter.old) arbiter.old [] }
     requires lines { telling.old.lines ≡ [] }
@@ -117,7 +120,7 @@ pub(crate) fn serve<K: Sink, L: Sink>(
     ensures stays { LogStays L.made_as L.faults log.old log.new }
 {
     loop {
-        settle(alloc, arbiter, slice)?;
+        settle_beside(rt, alloc, arbiter, beside)?;
         tell(alloc, arbiter, telling, out, log)?;
         if arbiter.phase() == Phase::Over {
             return Ok(());

@@ -1,3 +1,4 @@
+pub mod Shared
 pub mod Views
 pub mod Kept
 pub mod Pauses

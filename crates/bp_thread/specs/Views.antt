@@ -1,6 +1,6 @@
 -- Statements, outcomes and origins as plain data.
 use Rattle.std.specs.Prelude.{◌≡◌, Option, Some, None, Result, Ok, Err}
-use Rattle.js_value.specs.Value.{PlainSet}
+use Rattle.js_value.specs.Value.{PlainSet, any, no_sets}
 use Rattle.js_value.specs.Views.{plain_value}
 use Rattle.js_value.specs.Lists.{values_in}
 use Rattle.js_meaning.specs.Bodies as body
@@ -13,8 +13,19 @@ use Rattle.bp_thread.specs.declared.origin.Origin.TheVariants.{Top, Call}
 use Rattle.bp_thread.specs.declared.reading.StatementFault.{StatementFault}
 use Rattle.bp_thread.specs.declared.reading.StatementFault.TheVariants as fault
 
+-- the empty list of sets where no set is stated
+abbrev pub stated_set : Option PlainSet → PlainSet
+stated_set None = any no_sets
+stated_set (Some s) = s
+
 abbrev pub plain_statement : Statement → run.Statement PlainSet
-plain_statement s = record { request = s.request; wait_for = s.wait_for; block = s.block; interrupt = s.interrupt; priority = s.priority }
+plain_statement s = record {
+  request = s.request;
+  wait_for = stated_set s.wait_for;
+  block = stated_set s.block;
+  interrupt = stated_set s.interrupt;
+  priority = s.priority;
+}
 
 abbrev pub plain_outcome : Outcome → run.Outcome PlainSet
 plain_outcome (Stopped s) = run.Outcome.Stopped (plain_statement s)

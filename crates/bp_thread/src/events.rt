@@ -1,5 +1,5 @@
 //! Lists of events.
-ghost use Rattle.std.specs.Prelude.{◌≡◌, ◌++◌, ◌∷◌, [], IfOk, OnOk, OnErr};
+ghost use Rattle.std.specs.Prelude.{◌≡◌, ◌++◌, ◌∷◌, [], OnOk, OnErr};
 
 use js_data::{Event, Memory};
 use std::alloc::Global;
@@ -55,16 +55,5 @@ impl Events {
     {
         self.items.push(event)?;
         Ok(())
-    }
-
-    /// Equal events in the same order. Its only error is want of memory.
-    pub fn copy(&self, alloc: Global) -> Result<Events, Memory>
-        ensures { IfOk result (λ l. l ≡ self.now) }
-    {
-        let mut copied = Events::new(alloc);
-        for event in self.items.as_slice() {
-            copied.push(event.copy()?)?;
-        }
-        Ok(copied)
     }
 }

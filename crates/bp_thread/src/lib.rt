@@ -1,5 +1,5 @@
-//! What b-threads state, and b-threads, handlers and the top level as jobs that are carried on slice
-//! by slice.
+//! What b-threads state, and b-threads, handlers and the top level as jobs that are carried on
+//! slice by slice.
 #![tactic(auto)]
 
 mod crossing;
@@ -10,6 +10,7 @@ mod origin;
 mod outcome;
 mod pausing;
 mod reading;
+mod requests;
 mod statement;
 
 pub use crossing::job_moves;
@@ -17,4 +18,5 @@ pub use events::Events;
 pub use job::Job;
 pub use outcome::Outcome;
 pub use reading::{StatementFault, statement_of};
+pub use requests::Requests;
 pub use statement::Statement;

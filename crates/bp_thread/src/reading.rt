@@ -5,12 +5,13 @@ ghost use Rattle.js_value.specs.Lists.{fields_in};
 ghost use Rattle.js_value.specs.Value.{undefined};
 ghost use Rattle.js_value.specs.Views.{plain_value, value_list_of};
 ghost use Rattle.bp_meaning.specs.Statements.{statement_of as statement_that_is, statement_in as statement_in_fields, requested as requested_by, set_stated as set_that_is, priority_stated as priority_that_is, events_in, is_key as is_stated_key};
-ghost use Rattle.bp_thread.specs.Views.{plain_statement, Reads};
+ghost use Rattle.bp_thread.specs.Views.{plain_statement, stated_set, Reads};
 
 use crate::events::Events;
+use crate::requests::Requests;
 use crate::statement::Statement;
 use js_data::{Memory, Text, Whole};
-use js_value::{EventSet, Items, Pairs, SetTree, Value, set_of_value};
+use js_value::{EventSet, Items, Pairs, Value, set_of_value};
 use std::alloc::Global;
 use thiserror::Error;
 
@@ -69,33 +70,31 @@ fn events_of(alloc: Global, items: &Items) -> Result<Events, StatementFault>
 }
 
 // What is requested: an event or a list of events; undefined is the empty list.
-fn requested(alloc: Global, stated: Option<&Value>) -> Result<Events, StatementFault>
+fn requested(alloc: Global, stated: Option<&Value>) -> Result<Requests, StatementFault>
     ensures { Reads (λ es. es) (requested_by
         (unwrap_or (option_map (λ v. plain_value v.now) stated.entry) undefined)) result }
 {
     match stated {
-        None | Some(Value::Undefined) => Ok(Events::new(alloc)),
+        None | Some(Value::Undefined) => Ok(Requests::none()),
         Some(Value::Event(event)) => {
             let mut events = Events::new(alloc);
             events.push(event.copy()?)?;
-            Ok(events)
+            Ok(Requests::new(alloc, events)?)
         }
-        Some(Value::List(items)) => events_of(alloc, items),
+        Some(Value::List(items)) => Ok(Requests::new(alloc, events_of(alloc, items)?)?),
         Some(_) => Err(StatementFault::Shape),
     }
 }
 
 // An event, a set, or a list of such, nested or not; undefined is the empty list.
-fn set_stated(alloc: Global, stated: Option<&Value>) -> Result<EventSet, StatementFault>
-    ensures { Reads (λ s. s) (set_that_is
+fn set_stated(alloc: Global, stated: Option<&Value>) -> Result<Option<EventSet>, StatementFault>
+    ensures { Reads stated_set (set_that_is
         (unwrap_or (option_map (λ v. plain_value v.now) stated.entry) undefined)) result }
 {
     match stated {
-        None | Some(Value::Undefined) => {
-            Ok(EventSet::new(alloc, SetTree::Any(Vec::new(alloc)))?)
-        }
+        None | Some(Value::Undefined) => Ok(None),
         Some(value) => match set_of_value(alloc, value)? {
-            Some(set) => Ok(set),
+            Some(set) => Ok(Some(set)),
             None => Err(StatementFault::Shape),
         },
     }
@@ -129,7 +128,8 @@ fn statement_in(
     })
 }
 
-/// The statement that the two values are. Sets are shared, and each requested event is copied once.
+/// The statement that the two values are. Sets are shared, each requested event is copied once, and
+/// what is not stated takes no memory.
 ///
 /// # Errors
 ///

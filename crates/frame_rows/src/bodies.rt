@@ -133,6 +133,11 @@ bp.ASSERT(1, 'm'); bp.ASSERT(0, 'm') --> violated m
 bp.ASSERT(1) --> type 1
 bp.enqueueExternalEvent(bp.Event('q', 1)) --> enqueue ["q",1]; ended
 bp.enqueueExternalEvent('q') --> type 1
+const s = bp.EventSet('s', (e) => e.name === 'a'); bp.log.info(s ? 'a set' : 'none'); bp.log.info(s) --> a set; type 1
+const s = bp.EventSet('s', () => true).or(bp.none).negate(); bp.log.info(s ? 'a set' : 'none') --> a set; ended
+bp.log.info(bp.none ? 'a set' : 'none'); bp.log.info(bp.none) --> a set; type 1
+bp.EventSet('s') --> type 1
+bp.EventSet('s', 1) --> type 1
 "#;
 
 const THREAD: &str = r#"
@@ -140,7 +145,10 @@ bp.registerBThread('n', () => {}) --> register n; ended
 bp.sync({}); bp.log.info('behind') --> sync 1; behind; ended
 bp.log.info(bp.sync({request: e}).name) --> sync 1 request ["e"]; e; ended
 bp.sync({request: [bp.Event('a'), bp.Event('b'), bp.Event('c')]}) --> sync 1 request ["a"] ["b"] ["c"]; ended
-bp.sync({waitFor: bp.all, request: []}, 7) --> sync 1 request waitFor at 7; ended
+bp.sync({waitFor: bp.all, request: []}, 7) --> sync 1 request waitFor all at 7; ended
+bp.sync({waitFor: bp.EventSet('s', (e) => e.name === 'a'), block: bp.none}) --> sync 1 block none waitFor set s; ended
+const s = bp.EventSet('s', () => true); bp.sync({waitFor: [s, e, bp.none]}) --> sync 1 waitFor set s ["e"] none; ended
+bp.EventSet('s', e) --> type 1
 bp.log.info(9007199254740991); bp.log.info(9007199254740991 + 1) --> 9007199254740991; whole 1
 bp.log.info(-7 % 3); bp.log.info(Math.floor(-7 / 2)); 7 / 2 --> -1; -4; fraction 1
 bp.log.info(-7 % 3); bp.log.info(Math.floor(-7 / 2)); 1 / 0 --> -1; -4; zero 1

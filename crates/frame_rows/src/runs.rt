@@ -9,7 +9,7 @@ use js_data::{Event, Text};
 use js_frames::{Effect, Effects, Ground, Machine, Pause};
 use js_json::event_text;
 use js_program::{Mode, Program};
-use js_value::Value;
+use js_value::{EventSet, SetTree, Value};
 use std::alloc::{AllocError, Global};
 use std::process::Abort;
 use std::test::Fail;
@@ -48,19 +48,35 @@ fn push_effects(out: &mut String, alloc: Global, effects: &Effects) -> Result<()
     Ok(())
 }
 
-/// The events of a list, or the event.
-fn push_events(out: &mut String, alloc: Global, value: &Value) -> Result<(), AllocError> {
+/// A set of all events, of none, or of those for which a function answers true.
+fn push_set(out: &mut String, set: &EventSet) -> Result<(), AllocError> {
+    match set.tree() {
+        SetTree::All => write!(out, " all"),
+        SetTree::Nothing => write!(out, " none"),
+        SetTree::Predicate { name, .. } => write!(out, " set {}", name.as_str()),
+        _ => Ok(()),
+    }
+}
+
+/// An event, or a set.
+fn push_event(out: &mut String, alloc: Global, value: &Value) -> Result<(), AllocError> {
     match value {
         Value::Event(event) => write!(out, " {}", event_text(alloc, event)?.as_str()),
+        Value::Set(set) => push_set(out, set),
+        _ => Ok(()),
+    }
+}
+
+/// The events and sets of a list, or the one.
+fn push_events(out: &mut String, alloc: Global, value: &Value) -> Result<(), AllocError> {
+    match value {
         Value::List(items) => {
             for item in items.as_slice() {
-                if let Value::Event(event) = item {
-                    write!(out, " {}", event_text(alloc, event)?.as_str())?;
-                }
+                push_event(out, alloc, item)?;
             }
             Ok(())
         }
-        _ => Ok(()),
+        one => push_event(out, alloc, one),
     }
 }
 

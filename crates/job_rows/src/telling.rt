@@ -54,13 +54,16 @@ fn push_answer(out: &mut String, answer: Result<bool, SetFault>) -> Result<(), A
     }
 }
 
-/// What the set says of `x` and `y`.
+/// What the set says of `x` and `y`; where none is stated, it is empty.
 fn push_answers(
     out: &mut String,
     alloc: Global,
     ground: &Ground,
-    set: &EventSet,
+    set: &Option<EventSet>,
 ) -> Result<(), Fail> {
+    let Some(set) = set else {
+        return Ok(out.push_str("no no")?);
+    };
     let (x, y) = (event(alloc, "x")?, event(alloc, "y")?);
     push_answer(out, contains(alloc, ground, set, &x, BUDGET))?;
     out.push_str(" ")?;
@@ -94,7 +97,7 @@ fn push_stop(
 ) -> Result<(), Fail> {
     match lines {
         Lines::Sets => push_answers(out, alloc, ground, &statement.wait_for),
-        Lines::Statements => push_statement(out, alloc, ground, &statement.copy(alloc)?),
+        Lines::Statements => push_statement(out, alloc, ground, &statement.copy()?),
         Lines::Threads(_) | Lines::Handlers => Ok(out.push_str("stop")?),
     }
 }

@@ -16,6 +16,7 @@ use Rattle.js_data.proofs.data.Data.TheLaws.TheKnot as data_knot
 use Rattle.js_program.proofs.builtin.Mode.TheSendSync as mode
 use Rattle.js_program.proofs.node.Variable.TheSendSync as variable
 use Rattle.js_program.proofs.Crosses.{text_send, program_send, program_sync}
+use Rattle.js_ops.specs.contracts.rules.Rules as Rules
 use Rattle.js_value.proofs.op.Op.TheSendSync as op
 use Rattle.js_value.proofs.Crosses.{items_send, value_send, value_sync}
 use Rattle.js_frames.specs.contracts.effect.Effects as Effects
@@ -54,11 +55,17 @@ slots_send = search (sendable, crosses, value_send) depth 18
 slots_sync : IsSync Slots.the_row
 slots_sync = search (sendable, crosses, value_sync) depth 18
 
+rules_send : IsSend Rules.the_row
+rules_send = search (sendable, crosses) depth 18
+
+rules_sync : IsSync Rules.the_row
+rules_sync = search (sendable, crosses) depth 18
+
 pub ground_send : IsSend Ground.the_row
-ground_send = search (sendable, crosses, program_send, slots_send) depth 18
+ground_send = search (sendable, crosses, program_send, slots_send, rules_send) depth 18
 
 pub ground_sync : IsSync Ground.the_row
-ground_sync = search (sendable, crosses, program_sync, slots_sync) depth 18
+ground_sync = search (sendable, crosses, program_sync, slots_sync, rules_sync) depth 18
 
 -- ---- machines
 

@@ -24,7 +24,7 @@ use crate::operators::{op_before, step_for};
 use crate::slots::Slots;
 use crate::step::{Step, answered, failed, give};
 use js_data::{Fault, Memory};
-use js_ops::{OpFault, apply, made, unary};
+use js_ops::{OpFault, apply_by, made, unary};
 use js_program::Variable;
 use js_tree::{AssignOp, Fix, Step as Change};
 use js_value::{Items, Op, Value, copy};
@@ -249,7 +249,7 @@ impl Engine {
         ensures { Goes base.now self.old
             (writes line slot (value_of op (plain_value old) (plain_value value))) self.new result }
     {
-        let answer = apply(self.alloc, op, &old, &value);
+        let answer = apply_by(self.alloc, base.rules(), op, &old, &value);
         self.write(base, slot, answer, line)
     }
 

@@ -1,5 +1,5 @@
 //! What a machine keeps between two steps.
-ghost use Rattle.std.specs.Prelude.{◌≡◌, [], IfOk, option_map};
+ghost use Rattle.std.specs.Prelude.{◌≡◌, [], IfOk, unwrap_or};
 ghost use Rattle.js_frames.specs.Places.{plain_effects, place_of, fresh};
 ghost use Rattle.js_frames.specs.Leads.{pushed};
 
@@ -14,7 +14,6 @@ use std::alloc::Global;
 use std::mem;
 
 /// What a machine keeps between two steps.
-#[derive(Drop)]
 pub struct Engine {
     pub alloc: Global,
     pub mode: Mode,
@@ -28,6 +27,23 @@ pub struct Engine {
     pub effects: Effects,
     /// Lists of values that are done with: their room serves the nodes that come.
     pub spare: Vec<Values>,
+}
+
+impl Drop for Engine {
+    fn drop(self) {
+        let Engine {
+            alloc: _,
+            mode: _,
+            stack: _,
+            slots: _,
+            constants: _,
+            calls: _,
+            fuel: _,
+            budget: _,
+            effects: _,
+            spare: _,
+        } = self;
+    }
 }
 
 impl Engine {
@@ -85,6 +101,25 @@ impl Engine {
         ensures place { place_of self.new ≡ record (place_of self.old) { effects = [] } }
     {
         mem::replace(&mut self.effects, Effects::new(self.alloc))
+    }
+
+    /// The constants so far; none where it has none. Takes no memory.
+    pub fn into_constants(self) -> Constants
+        ensures { result ≡ unwrap_or self.constants [] }
+    {
+        let Engine {
+            alloc,
+            mode: _,
+            stack: _,
+            slots: _,
+            constants,
+            calls: _,
+            fuel: _,
+            budget: _,
+            effects: _,
+            spare: _,
+        } = self;
+        constants.unwrap_or(Constants::new(alloc))
     }
 
     /// Begins a part, and has a frame wait for it.

@@ -3,6 +3,7 @@ ghost use Rattle.std.specs.Prelude.{◌≡◌, ◌<◌, ◌+◌, ◌^◌, ◌∷
 ghost use Rattle.js_value.specs.Value.{PlainValue, function, list, whole};
 ghost use Rattle.js_value.specs.Lists.{values_in};
 ghost use Rattle.js_value.specs.Views.{plain_value};
+ghost use Rattle.js_meaning.specs.declared.limits.TheConstants.{MOST_CALLS};
 ghost use Rattle.js_meaning.specs.Variables.{padded};
 ghost use Rattle.js_meaning.specs.Calls.{for_each_call};
 ghost use Rattle.js_meaning.specs.Meaning.{eval};
@@ -80,7 +81,9 @@ impl Engine {
         ensures { let g = here base.now self.old in Goes base.now self.old
             (for_each_call g (eval g) line items args) self.new result }
     {
-        match args.take(0) {
+        let function = args.take(0);
+        self.done_with(args);
+        match function {
             Value::Function { code, captured } => self.walk(
                 base,
                 Walk {
@@ -128,7 +131,7 @@ impl Engine {
         walk: Walk,
         args: Values,
     ) -> Result<Step, Memory>
-        requires room { self.old.calls < 200 }
+        requires room { self.old.calls < MOST_CALLS }
         requires places { walk.index + 1 < 2 ^ 64 }
         requires found { slice_get base.now.program.functions walk.code
             ≡ Some (plain_body body.now) }

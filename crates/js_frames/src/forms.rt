@@ -6,9 +6,9 @@ ghost use Rattle.js_value.specs.Views.{plain_value, plain_set};
 ghost use Rattle.js_value.specs.DataValues.{value_data};
 ghost use Rattle.js_meaning.specs.State.{gives};
 ghost use Rattle.js_meaning.specs.Forms.{argument, does_to_run, registers_thread, asks, asserted, enqueues_event, sets_handler, log_text, logs, floors, takes_effect, applies_form};
-ghost use Rattle.js_frames.specs.Places.{here, place_of, plain_ground, plain_effect};
+ghost use Rattle.js_frames.specs.Places.{here, plain_effect};
 ghost use Rattle.js_frames.specs.Fits.{StackFits};
-ghost use Rattle.js_frames.specs.Leads.{Leads, Goes, Becomes};
+ghost use Rattle.js_frames.specs.Leads.{Goes, Becomes};
 
 use crate::effect::Effect;
 use crate::engine::Engine;
@@ -31,17 +31,18 @@ fn set(alloc: Global, tree: SetTree) -> Result<Step, Memory>
 }
 
 /// A statement asks. Takes no memory.
-fn ask(line: u32, mut args: Values) -> Step
-    ensures { Becomes (λ g s. asks g.budget line (argument 0 args) (argument 1 args) s.replies s)
-        result }
+fn ask(line: u32, args: &mut Values) -> Step
+    ensures { Becomes (λ g s.
+        asks g.budget line (argument 0 args.old) (argument 1 args.old) s.replies s) result }
 {
     let priority = args.take(1);
     Step::Ask(args.take(0), priority, line)
 }
 
 /// An assertion.
-fn asserted(line: u32, mut args: Values) -> Result<Step, Memory>
-    ensures { IfOk result (Becomes (λ g. asserted line (argument 0 args) (argument 1 args))) }
+fn asserted(line: u32, args: &mut Values) -> Result<Step, Memory>
+    ensures { IfOk result
+        (Becomes (λ g. asserted line (argument 0 args.old) (argument 1 args.old))) }
 {
     let text = args.take(1);
     assert_with(line, &args.take(0), &text)
@@ -96,7 +97,7 @@ fn json_text(alloc: Global, value: &Value) -> Result<Option<Text>, Memory>
 }
 
 impl Engine {
-    /// In a mode where the form has no effect it is the fault `mode`.
+    /// In a mode where the form has no effect it is the fault `mode`. The form is done with its arguments.
     pub fn apply_form(
         &mut self,
         base: &Ground,
@@ -109,10 +110,26 @@ impl Engine {
             self.new result }
     {
         if has_effect_in(self.mode, form) {
-            self.take_effect(base, line, form, args)
+            self.finish_form(base, line, form, args)
         } else {
             Ok(Step::Fail(Fault::Mode, line))
         }
+    }
+
+    fn finish_form(
+        &mut self,
+        base: &Ground,
+        line: u32,
+        form: Builtin,
+        mut args: Values,
+    ) -> Result<Step, Memory>
+        requires { StackFits base.now.program self.old.stack.items }
+        ensures { Goes base.now self.old (takes_effect self.old.budget line form args)
+            self.new result }
+    {
+        let step = self.take_effect(base, line, form, &mut args)?;
+        self.done_with(args);
+        Ok(step)
     }
 
     fn take_effect(
@@ -120,10 +137,10 @@ impl Engine {
         base: &Ground,
         line: u32,
         form: Builtin,
-        args: Values,
+        args: &mut Values,
     ) -> Result<Step, Memory>
         requires { StackFits base.now.program self.old.stack.items }
-        ensures { Goes base.now self.old (takes_effect self.old.budget line form args)
+        ensures { Goes base.now self.old (takes_effect self.old.budget line form args.old)
             self.new result }
     {
         match form {
@@ -137,7 +154,7 @@ impl Engine {
             Builtin::EnqueueExternalEvent => self.enqueue(base, line, args),
             Builtin::SetInterruptHandler => self.handle(base, line, args),
             Builtin::LogInfo => self.log(base, line, args),
-            Builtin::Floor => Ok(self.floor(base, line, args)),
+            Builtin::Floor => Ok(floored(line, args)),
         }
     }
 
@@ -150,21 +167,10 @@ impl Engine {
         Ok(leave())
     }
 
-    fn floor(&mut self, base: &Ground, line: u32, args: Values) -> Step
+    fn register(&mut self, base: &Ground, line: u32, args: &mut Values) -> Result<Step, Memory>
         requires { StackFits base.now.program self.old.stack.items }
-        ensures { Leads (plain_ground base.now) (place_of self.old) (floors line (argument 0 args))
-            (place_of self.new) result }
-    {
-        let mut values = args;
-        let step = floored(line, &mut values);
-        self.done_with(values);
-        step
-    }
-
-    fn register(&mut self, base: &Ground, line: u32, mut args: Values) -> Result<Step, Memory>
-        requires { StackFits base.now.program self.old.stack.items }
-        ensures { Goes base.now self.old (registers_thread line (argument 0 args) (argument 1 args))
-            self.new result }
+        ensures { Goes base.now self.old
+            (registers_thread line (argument 0 args.old) (argument 1 args.old)) self.new result }
     {
         let function = args.take(1);
         let name = args.take(0);
@@ -211,9 +217,10 @@ impl Engine {
         }
     }
 
-    fn enqueue(&mut self, base: &Ground, line: u32, mut args: Values) -> Result<Step, Memory>
+    fn enqueue(&mut self, base: &Ground, line: u32, args: &mut Values) -> Result<Step, Memory>
         requires { StackFits base.now.program self.old.stack.items }
-        ensures { Goes base.now self.old (enqueues_event line (argument 0 args)) self.new result }
+        ensures { Goes base.now self.old (enqueues_event line (argument 0 args.old))
+            self.new result }
     {
         match args.take(0) {
             Value::Event(event) => {
@@ -224,9 +231,9 @@ impl Engine {
         }
     }
 
-    fn handle(&mut self, base: &Ground, line: u32, mut args: Values) -> Result<Step, Memory>
+    fn handle(&mut self, base: &Ground, line: u32, args: &mut Values) -> Result<Step, Memory>
         requires { StackFits base.now.program self.old.stack.items }
-        ensures { Goes base.now self.old (sets_handler line (argument 0 args)) self.new result }
+        ensures { Goes base.now self.old (sets_handler line (argument 0 args.old)) self.new result }
     {
         match args.take(0) {
             Value::Function { code, captured } => {
@@ -236,9 +243,10 @@ impl Engine {
         }
     }
 
-    fn log(&mut self, base: &Ground, line: u32, mut args: Values) -> Result<Step, Memory>
+    fn log(&mut self, base: &Ground, line: u32, args: &mut Values) -> Result<Step, Memory>
         requires { StackFits base.now.program self.old.stack.items }
-        ensures { Goes base.now self.old (logs line (log_text (argument 0 args))) self.new result }
+        ensures { Goes base.now self.old (logs line (log_text (argument 0 args.old)))
+            self.new result }
     {
         let value = args.take(0);
         match log_text(self.alloc, &value)? {

@@ -5,14 +5,25 @@ ghost use Rattle.js_meaning.specs.Bodies.{bare};
 ghost use Rattle.js_frames.specs.Places.{plain_ground};
 
 use crate::slots::Constants;
+use js_ops::Rules;
 use js_program::Program;
 use std::alloc::Global;
 
-/// A program, and the values of its constants.
-#[derive(Drop)]
+/// A program, the values of its constants, and the table of the rules of its operators.
 pub struct Ground {
     program: Program,
     constants: Constants,
+    rules: Rules,
+}
+
+impl Drop for Ground {
+    fn drop(self) {
+        let Ground {
+            program: _,
+            constants: _,
+            rules: _,
+        } = self;
+    }
 }
 
 impl Ground {
@@ -23,6 +34,7 @@ impl Ground {
         Ground {
             program,
             constants: Constants::new(alloc),
+            rules: Rules::new(),
         }
     }
 
@@ -52,5 +64,12 @@ impl Ground {
         ensures { result.now ≡ self.now.constants }
     {
         &self.constants
+    }
+
+    /// The table of the rules, which each operator is lent. Takes no memory.
+    pub fn rules(&self) -> &Rules
+        ensures { result.now ≡ self.now.rules }
+    {
+        &self.rules
     }
 }

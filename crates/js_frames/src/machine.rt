@@ -48,10 +48,18 @@ pub enum Pending {
 }
 
 /// A machine, which runs the top level or a call of a function in slices.
-#[derive(Drop)]
 pub struct Machine {
     pub engine: Engine,
     pub pending: Option<Pending>,
+}
+
+impl Drop for Machine {
+    fn drop(self) {
+        let Machine {
+            engine: _,
+            pending: _,
+        } = self;
+    }
 }
 
 /// Copies of values.
@@ -238,9 +246,8 @@ impl Machine {
     pub fn constants(self) -> Constants
         ensures { result ≡ constants_by self }
     {
-        let alloc = self.engine.alloc;
-        let constants = self.engine.constants;
-        constants.unwrap_or(Constants::new(alloc))
+        let Machine { engine, pending: _ } = self;
+        engine.into_constants()
     }
 }
 

@@ -29,7 +29,7 @@ use crate::operators::{op_for, unary_for};
 use crate::step::{Step, answered, failed, mistyped};
 use crate::values::{Values, number_at};
 use js_data::{Fault, Memory, Text};
-use js_ops::{OpFault, apply, index, make_from, member, method, method_named, unary};
+use js_ops::{OpFault, Rules, apply_by, index, make_from, member, method, method_named, unary};
 use js_program::{Node, NodeForm};
 use js_value::{Items, Make, Op, Value};
 use std::alloc::Global;
@@ -74,12 +74,18 @@ fn behind_two(first: u32, second: u32, parts: &[u32], place: usize) -> Option<u3
 /// What an operator of two sides answers; `||` and `&&` have no rule. Takes memory for a text that
 /// is joined.
 #[inline(always)]
-fn by_rule(alloc: Global, op: Option<Op>, left: &Value, right: &Value) -> Result<Value, OpFault>
+fn by_rule(
+    alloc: Global,
+    rules: &Rules,
+    op: Option<Op>,
+    left: &Value,
+    right: &Value,
+) -> Result<Value, OpFault>
     ensures { AnswersAs (by_rule op (plain_value left.now) (plain_value right.now)) result }
 {
     match op {
         None => Err(OpFault::Fault(Fault::Mistyped)),
-        Some(op) => apply(alloc, op, left, right),
+        Some(op) => apply_by(alloc, rules, op, left, right),
     }
 }
 
@@ -106,8 +112,8 @@ fn made_fields(alloc: Global, keys: &[Arc<Text>], mut done: Values) -> Result<Va
     make_from(alloc, Make::Fields, done.into_vec(), &keys[..count])
 }
 
-/// A method that calls nothing.
-fn apply_method(
+/// What a method does that calls nothing.
+fn method_step(
     alloc: Global,
     line: u32,
     on: &Value,
@@ -231,7 +237,7 @@ impl Engine {
         match &node.form {
             NodeForm::Index(_, _) => answered(index(&first, &value), node.line),
             NodeForm::Binary(operator, _, _) => answered(
-                by_rule(self.alloc, op_for(*operator), &first, &value),
+                by_rule(self.alloc, base.rules(), op_for(*operator), &first, &value),
                 node.line,
             ),
             _ => unreachable!(),
@@ -267,10 +273,14 @@ impl Engine {
         let divisor = done.take(1);
         let dividend = done.take(0);
         self.done_with(done);
-        answered(
-            apply(self.alloc, Op::FloorDivide, &dividend, &divisor),
-            line,
-        )
+        let answer = apply_by(
+            self.alloc,
+            base.rules(),
+            Op::FloorDivide,
+            &dividend,
+            &divisor,
+        );
+        answered(answer, line)
     }
 
     /// The first value is called with the others.
@@ -318,7 +328,7 @@ impl Engine {
                 self.call_field(base, line, field, args)
             }
             Value::List(items) => self.call_on_list(base, line, word, items, args),
-            other => apply_method(self.alloc, line, &other, word, &args),
+            other => self.apply_method(base, line, &other, word, args),
         }
     }
 
@@ -354,7 +364,25 @@ impl Engine {
         if is_for_each(word) {
             self.for_each(base, line, items, args)
         } else {
-            apply_method(self.alloc, line, &Value::List(items), word, &args)
+            self.apply_method(base, line, &Value::List(items), word, args)
         }
+    }
+
+    /// A method that calls nothing, which is done with its arguments.
+    fn apply_method(
+        &mut self,
+        base: &Ground,
+        line: u32,
+        on: &Value,
+        word: &Text,
+        args: Values,
+    ) -> Result<Step, Memory>
+        requires { StackFits base.now.program self.old.stack.items }
+        ensures { Goes base.now self.old
+            (applies line (method_named word.now) (plain_value on.now) args) self.new result }
+    {
+        let step = method_step(self.alloc, line, on, word, &args)?;
+        self.done_with(args);
+        Ok(step)
     }
 }

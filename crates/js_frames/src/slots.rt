@@ -15,9 +15,14 @@ use std::mem;
 
 /// Variables by their numbers: none where one is not declared yet. Contracts see the list of their
 /// plain forms.
-#[derive(Drop)]
 pub struct Slots {
     items: Vec<Option<Value>>,
+}
+
+impl Drop for Slots {
+    fn drop(self) {
+        let Slots { items: _ } = self;
+    }
 }
 
 /// The constants of a program by their numbers.

@@ -12,9 +12,14 @@ use std::marker::Model;
 use std::mem;
 
 /// Values in order. Contracts see the list of their plain forms.
-#[derive(Drop)]
 pub struct Values {
     items: Vec<Value>,
+}
+
+impl Drop for Values {
+    fn drop(self) {
+        let Values { items: _ } = self;
+    }
 }
 
 impl Model for Values {
@@ -68,7 +73,8 @@ impl Values {
     pub fn into_vec(self) -> Vec<Value>
         ensures { map plain_value result.items ≡ self }
     {
-        self.items
+        let Values { items } = self;
+        items
     }
 
     /// One more value.

@@ -7,7 +7,7 @@ use Rattle.js_tree.specs.declared.tree.AssignOp.{AssignOp}
 use Rattle.js_tree.specs.declared.tree.Step.{Step}
 use Rattle.js_tree.specs.declared.tree.Fix.{Fix}
 use Rattle.js_tree.specs.declared.tree.DeclareKind.{DeclareKind}
-use Rattle.js_tree.specs.Plain.{PlainExpr, PlainForm, at, number, use_of, list, member, call, update, assign, arrow_value, function, PlainPerhaps, absent, present, declarator_in, no_declarators, nothing, declared, PlainStmt, on, block, declaration, expression, while_of, for_of_three, for_each, break_of, continue_of, return_nothing, return_of, PlainItem, statement, function_of, exprs_of, stmts_of}
+use Rattle.js_tree.specs.Plain.{PlainExpr, PlainForm, at, number, use_of, member, call, update, assign, arrow_value, function, absent, present, declarator_in, no_declarators, declared, PlainStmt, on, block, declaration, expression, while_of, for_of_three, for_each, break_of, continue_of, return_nothing, return_of, PlainItem, statement, function_of, exprs_of, stmts_of}
 
 abbrev pub spot : ℕ → Spot
 spot p = record { at = p; line = 1 }

@@ -1,15 +1,15 @@
 -- Constants and captures, worked out.
-use Rattle.std.proofs.Common.{◌≡◌, ◌++◌, List, [], ◌∷◌, refl}
-use Rattle.std.specs.Prelude.{Option, Some, None, codes}
+use Rattle.std.proofs.Common.{◌≡◌, [], ◌∷◌, refl}
+use Rattle.std.specs.Prelude.{Some, None, codes}
 use Rattle.js_tree.specs.declared.tree.DeclareKind.TheVariants.{Const, Let, Var}
-use Rattle.js_names.specs.declared.place.NameFault.TheVariants.{Unknown, Twice, AssignConst, Capture, LoopWord, ReturnPlace}
+use Rattle.js_names.specs.declared.place.NameFault.TheVariants.{Capture}
 use Rattle.js_names.specs.Scopes.{program_scope, function_scope, block_scope, for_scope, list_scope, each_scope}
 use Rattle.js_names.specs.Sites.{expr_sites, form_sites, exprs_sites, fields_sites, perhaps_sites, declarators_sites, start_sites, stmt_sites, stmt_form_sites, stmts_sites, item_sites, program_sites}
 use Rattle.js_names.specs.Places.{found, found_var, functions_of, repeated, blocked, see, places}
 use Rattle.js_names.specs.Slots.{assigned_in, holdings, slots_of, slot_count}
 use Rattle.js_names.specs.Rules.{fault_at, name_fault}
 use Rattle.js_tree.specs.Plain.{statement}
-use Rattle.js_names.proofs.Build.{name, one, uses, sets, counts, dot, calls, arrow, made, declares, bare, does, block_of, loop, breaks, goes_on, returns, returns_value, counted, each, items, declared_function}
+use Rattle.js_names.proofs.Build.{name, one, uses, sets, counts, arrow, made, declares, bare, does, block_of, counted, each, items, declared_function}
 
 -- Constants are seen everywhere.
 

@@ -1,8 +1,8 @@
 -- Names, worked out: accepted programs and refused neighbours.
-use Rattle.std.proofs.Common.{◌≡◌, ◌++◌, List, [], ◌∷◌, refl}
-use Rattle.std.specs.Prelude.{Option, Some, None, codes}
+use Rattle.std.proofs.Common.{◌≡◌, [], ◌∷◌, refl}
+use Rattle.std.specs.Prelude.{Some, None, codes}
 use Rattle.js_tree.specs.declared.tree.DeclareKind.TheVariants.{Const, Let, Var}
-use Rattle.js_names.specs.declared.place.NameFault.TheVariants.{Unknown, Twice, AssignConst, Capture, LoopWord, ReturnPlace}
+use Rattle.js_names.specs.declared.place.NameFault.TheVariants.{Unknown, Twice, AssignConst, LoopWord, ReturnPlace}
 use Rattle.js_names.specs.Scopes.{program_scope, function_scope, block_scope, for_scope, list_scope, each_scope}
 use Rattle.js_names.specs.Sites.{expr_sites, form_sites, exprs_sites, fields_sites, perhaps_sites, declarators_sites, start_sites, stmt_sites, stmt_form_sites, stmts_sites, item_sites, program_sites}
 use Rattle.js_names.specs.Places.{found, found_var, functions_of, repeated, blocked, see, places}

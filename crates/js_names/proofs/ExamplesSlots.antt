@@ -1,8 +1,8 @@
 -- Slots, worked out.
-use Rattle.std.proofs.Common.{◌≡◌, ℕ, suc, zero, ◌+◌, ◌++◌, List, [], ◌∷◌, refl}
-use Rattle.std.specs.Prelude.{Option, Some, None, codes}
-use Rattle.js_tree.specs.declared.tree.DeclareKind.TheVariants.{Const, Let, Var}
-use Rattle.js_names.specs.declared.place.NameFault.TheVariants.{Unknown, Twice, Slots}
+use Rattle.std.proofs.Common.{◌≡◌, ℕ, suc, zero, ◌+◌, List, [], ◌∷◌, refl}
+use Rattle.std.specs.Prelude.{Some, None, codes}
+use Rattle.js_tree.specs.declared.tree.DeclareKind.TheVariants.{Let}
+use Rattle.js_names.specs.declared.place.NameFault.TheVariants.{Slots}
 use Rattle.js_names.specs.Scopes.{program_scope, function_scope, block_scope, for_scope, list_scope, each_scope}
 use Rattle.js_names.specs.Sites.{expr_sites, form_sites, exprs_sites, fields_sites, perhaps_sites, declarators_sites, start_sites, stmt_sites, stmt_form_sites, stmts_sites, item_sites, program_sites}
 use Rattle.js_names.specs.Places.{found, found_var, functions_of, repeated, blocked, see, places}
@@ -10,7 +10,7 @@ use Rattle.js_names.specs.Slots.{assigned_in, holdings, slots_of, slot_count}
 use Rattle.js_names.specs.Rules.{fault_at, name_fault}
 use Rattle.js_names.proofs.Build.{name, one, uses, arrow, made, declares, does, block_of, items}
 use Rattle.js_tree.specs.declared.tree.Name.{Name}
-use Rattle.js_tree.specs.Plain.{PlainExpr, PlainStmt}
+use Rattle.js_tree.specs.Plain.{PlainStmt}
 
 -- names that differ in their one letter, their declarations and their uses, from a place on
 abbrev names : ℕ → ℕ → List Name

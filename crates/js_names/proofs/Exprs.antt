@@ -1,12 +1,11 @@
 -- The places of each form of an expression, from those of its parts.
-use Rattle.std.proofs.Common.{◌≡◌, ℕ, rules, List, [], ◌∷◌, ◌++◌, ◌∙◌, ap, refl, sym, map, Option, append_assoc, if◌then◌else◌}
-use Rattle.std.specs.Prelude.{Vec, option_map, is_some, codes}
+use Rattle.std.proofs.Common.{◌≡◌, ℕ, rules, List, [], ◌∷◌, ◌++◌, ◌∙◌, ap, refl, sym, map, append_assoc, if◌then◌else◌}
+use Rattle.std.specs.Prelude.{Vec, is_some}
 use Rattle.std.specs.List.{flat_map}
 use Rattle.std.specs.declared.alloc.Global.{Global}
 use Rattle.std.specs.declared.boxed.Box.{Box}
 use Rattle.js_tree.specs.declared.tree.Name.{Name}
 use Rattle.js_tree.specs.declared.tree.Spot.{Spot}
-use Rattle.js_tree.specs.declared.tree.DeclareKind.{DeclareKind}
 use Rattle.js_tree.specs.declared.tree.Sign.{Sign}
 use Rattle.js_tree.specs.declared.tree.Step.{Step}
 use Rattle.js_tree.specs.declared.tree.Fix.{Fix}
@@ -14,17 +13,16 @@ use Rattle.js_tree.specs.declared.tree.Operator.{Operator}
 use Rattle.js_tree.specs.declared.tree.AssignOp.{AssignOp}
 use Rattle.js_tree.specs.declared.tree.Expr.{Expr, fold_out-Expr}
 use Rattle.js_tree.specs.declared.tree.Field.{Field, fold_out-Field}
-use Rattle.js_tree.specs.declared.tree.Declarator.{Declarator}
 use Rattle.js_tree.specs.declared.tree.Stmt.{Stmt}
-use Rattle.js_tree.specs.declared.tree.Form.{Form, Number, Words, Truth, Null, Use, List as ListOf, Fields, Member, Index, Call, Unary, Update, Binary, Conditional, Assign, ArrowValue, ArrowBlock, Function, fold-Form, fold-roll-Form}
+use Rattle.js_tree.specs.declared.tree.Form.{Form, Number, Words, Truth, Null, Use, List as ListOf, Fields, Member, Index, Call, Unary, Update, Binary, Conditional, Assign, ArrowValue, ArrowBlock, Function, fold-roll-Form}
 use Rattle.js_tree.specs.declared.tree.Form.TheVariants.{rolls-Number, rolls-Words, rolls-Truth, rolls-Null, rolls-Use, rolls-List, rolls-Fields, rolls-Member, rolls-Index, rolls-Call, rolls-Unary, rolls-Update, rolls-Binary, rolls-Conditional, rolls-Assign, rolls-ArrowValue, rolls-ArrowBlock, rolls-Function}
 use Rattle.js_tree.specs.Plain as p
 use Rattle.js_tree.specs.Plain.{PlainExpr, PlainForm, PlainField, PlainDeclarator, PlainPerhaps, PlainStart, PlainStmt, PlainStmtForm, exprs_of, fields_of, declarators_of, stmts_of}
 use Rattle.js_tree.specs.Views.{plain_expr, plain_form, plain_field, plain_stmt, form_step, start_step, stmt_form_step, declarator_step, expr_step, field_step, stmt_step}
 use Rattle.js_names.specs.declared.place.Around.{Around}
 use Rattle.js_names.specs.Scopes.{Scope, function_scope}
-use Rattle.js_names.specs.Sites.{Site, expr_sites, form_sites, exprs_sites, fields_sites, declarators_sites, stmt_sites, stmts_sites, read_site, assign_site, member_sites, object_of, value_builtin, called_builtin, begin_site, parameter_sites, in_function}
-use Rattle.js_names.specs.Views.{tree_sites, field_sites, declarator_sites, tree_stmt_sites, arrow_sites, body_sites}
+use Rattle.js_names.specs.Sites.{Site, expr_sites, form_sites, exprs_sites, fields_sites, stmts_sites, read_site, assign_site, member_sites, object_of, value_builtin, called_builtin, begin_site, parameter_sites, in_function}
+use Rattle.js_names.specs.Views.{tree_sites, field_sites, tree_stmt_sites, arrow_sites, body_sites}
 
 pub expr_is : (e : Expr) → plain_expr e ≡ p.at e.parens e.line (plain_form e.form)
 expr_is e = search (rules, fold_out-Expr)

@@ -1,5 +1,5 @@
 -- The first breach of a rule, from the lists that the check makes.
-use Rattle.std.proofs.Common.{◌≡◌, ℕ, ◌+◌, ◌<◌, List, [], ◌∷◌, ◌∙◌, ap, refl, sym, map, fold, length, get_or, drop, Option, Some, None}
+use Rattle.std.proofs.Common.{◌≡◌, ℕ, ◌+◌, ◌<◌, List, ◌∙◌, ap, sym, map, fold, length, get_or, drop, Option}
 use Rattle.std.proofs.lemmas.List.{at_drop_more}
 use Rattle.js_names.specs.declared.place.NameFault.{NameFault}
 use Rattle.js_names.specs.declared.place.Seen.{Seen}

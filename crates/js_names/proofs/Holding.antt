@@ -1,10 +1,12 @@
 -- Maps of sets that take in what functions hold.
-use Rattle.std.proofs.Common.{◌≡◌, ℕ, ◌+◌, ◌<◌, List, [], ◌∷◌, ◌++◌, ◌∙◌, ap, refl, sym, subst, map, fold, length, take, get_or, Bool, true, false, if◌then◌else◌, nat_eq}
+use Rattle.std.proofs.Common.{◌≡◌, ℕ, ◌+◌, ◌<◌, List, [], ◌∷◌, ◌++◌, ◌∙◌, ap, refl, sym, subst, map, fold, length, take, get_or, Bool, true, false, ◌||◌, if◌then◌else◌, nat_eq, zero, suc, arith, Some}
 use Rattle.std.specs.List.{flat_map}
 use Rattle.std.specs.Map.{lookup}
+use Rattle.std.proofs.lemmas.Bool.{eq-eqb, false≢true}
 use Rattle.js_names.specs.declared.place.Seen.{Seen}
+use Rattle.js_names.specs.declared.place.Declared.{Declared}
 use Rattle.js_names.specs.Places.{Place}
-use Rattle.js_names.specs.Slots.{Holding, hold, held_by, holds_all, inside, joins, holdings, slots_of, captures, captures_in, parameter_in, variable_in, var_in, vars_of}
+use Rattle.js_names.specs.Slots.{Holding, hold, held_by, holds_all, inside, is_among, joins, copies, captures_of, holdings, slots_of, captures, captures_in, parameter_in, variable_in, var_in, vars_of}
 use Rattle.js_names.specs.Views.{Sets, keys_of, held_in, Holds, place_of}
 use Rattle.js_names.proofs.Taking.{flat_map_take}
 
@@ -28,6 +30,70 @@ pub holds_more : {X : Type 0} (f : X → List Holding) (xs : List X) (i : ℕ) (
     → Holds a b (flat_map f (take i xs)) → Holds b c (f x) → Holds a c (flat_map f (take (i + 1) xs))
 holds_more f xs i d x a b c h e s t =
     subst (Holds a c) (ap (λ y. flat_map f (take i xs) ++ f y) e ∙ sym (flat_map_take f xs i d h)) (holds_both a b c _ _ s t)
+
+-- a list that has each of some variables stays as it is when they join it once more
+
+abbrev Has : List ℕ → List ℕ → Type 0
+Has h [] = Unit {0}
+Has h (x ∷ xs) = (is_among x h ≡ true) × Has h xs
+
+has_same : (h xs : List ℕ) → Has h xs → fold joins h xs ≡ h
+has_same h [] k = refl
+has_same h (x ∷ xs) k = ap (λ b. fold joins (if b then h else h ++ x ∷ []) xs) k.0 ∙ has_same h xs k.1
+
+among_end : (x y : ℕ) (h : List ℕ) → is_among x h ≡ true → is_among x (h ++ y ∷ []) ≡ true
+among_end x y [] k = absurd (false≢true k)
+among_end x y (z ∷ zs) k = elim (nat_eq x z) as (λ b. (b || is_among x zs) ≡ true → (b || is_among x (zs ++ y ∷ [])) ≡ true) [ true ↦ λ _. refl | false ↦ λ m. among_end x y zs m ] k
+
+among_joins : (x y : ℕ) (h : List ℕ) → is_among x h ≡ true → is_among x (joins h y) ≡ true
+among_joins x y h k = elim (is_among y h) as (λ b. is_among x (if b then h else h ++ y ∷ []) ≡ true) [ true ↦ k | false ↦ among_end x y h k ]
+
+at_end : (x : ℕ) (h : List ℕ) → is_among x (h ++ x ∷ []) ≡ true
+at_end x [] = ap (λ b. b || false) (eq-eqb x x refl)
+at_end x (z ∷ zs) = elim (nat_eq x z) as (λ b. (b || is_among x (zs ++ x ∷ [])) ≡ true) [ true ↦ refl | false ↦ at_end x zs ]
+
+joined : (x : ℕ) (h : List ℕ) → is_among x (joins h x) ≡ true
+joined x h =
+    let cases : (b : Bool) → is_among x h ≡ b → is_among x (if b then h else h ++ x ∷ []) ≡ true = λ b. elim b as (λ b. is_among x h ≡ b → is_among x (if b then h else h ++ x ∷ []) ≡ true) [ true ↦ λ e. e | false ↦ λ _. at_end x h ] in
+    cases (is_among x h) refl
+
+among_folded : (x : ℕ) (h ys : List ℕ) → is_among x h ≡ true → is_among x (fold joins h ys) ≡ true
+among_folded x h [] k = k
+among_folded x h (y ∷ ys) k = among_folded x (joins h y) ys (among_joins x y h k)
+
+has_folded : (h xs ys : List ℕ) → Has h xs → Has (fold joins h ys) xs
+has_folded h [] ys k = tt
+has_folded h (x ∷ xs) ys k = (among_folded x h ys k.0, has_folded h xs ys k.1)
+
+has_all : (h xs : List ℕ) → Has (fold joins h xs) xs
+has_all h [] = tt
+has_all h (x ∷ xs) = (among_folded x (joins h x) xs (joined x h), has_all (joins h x) xs)
+
+-- what one of some elements holds is held once all have been taken in
+has_of : {X : Type 0} (q : ℕ) (f : X → List Holding) (xs : List X) (at : ℕ) (d x : X) (h : List ℕ) → at < length xs → x ≡ get_or xs at d → Has (fold joins h (held_by q (flat_map f xs))) (held_by q (f x))
+has_of q f [] at d x h l e = absurd (omega arith)
+has_of q f (y ∷ ys) zero d x h l e =
+    subst (λ z. Has (fold joins h (held_by q (f z ++ flat_map f ys))) (held_by q (f x))) e
+    (subst (λ z. Has z (held_by q (f x))) (sym (ap (fold joins h) (held_by-append q (f x) (flat_map f ys)) ∙ fold-both h (held_by q (f x)) (held_by q (flat_map f ys))))
+    (has_folded (fold joins h (held_by q (f x))) (held_by q (f x)) (held_by q (flat_map f ys)) (has_all h (held_by q (f x)))))
+has_of q f (y ∷ ys) (suc n) d x h l e =
+    subst (λ z. Has z (held_by q (f x))) (sym (ap (fold joins h) (held_by-append q (f y) (flat_map f ys)) ∙ fold-both h (held_by q (f y)) (held_by q (flat_map f ys))))
+    (has_of q f ys n d x (fold joins h (held_by q (f y))) (omega arith) e)
+
+-- a turn of a loop that takes nothing in, since an element before holds the same
+pub holds_again : {X : Type 0} (f : X → List Holding) (xs : List X) (i : ℕ) (d x : X) (a b : Sets) (at : ℕ) (y : X) → i < length xs → x ≡ get_or xs i d
+    → at < length (take i xs) → y ≡ get_or (take i xs) at y → f y ≡ f x → Holds a b (flat_map f (take i xs)) → Holds a b (flat_map f (take (i + 1) xs))
+holds_again f xs i d x a b at y h e l g s t = λ q.
+    let before = held_by q (flat_map f (take i xs)) in
+    let more : held_by q (flat_map f (take (i + 1) xs)) ≡ before ++ held_by q (f x) =
+    ap (held_by q) (flat_map_take f xs i d h ∙ ap (λ z. flat_map f (take i xs) ++ f z) (sym e)) ∙ held_by-append q (flat_map f (take i xs)) (f x)
+    in
+    let has : Has (fold joins (held_in a q) before) (held_by q (f x)) = subst (λ z. Has (fold joins (held_in a q) before) (held_by q z)) s (has_of q f (take i xs) at y y (held_in a q) l g) in
+    t q ∙ sym (ap (fold joins (held_in a q)) more ∙ (fold-both (held_in a q) before (held_by q (f x)) ∙ has_same (fold joins (held_in a q) before) (held_by q (f x)) has))
+
+-- the captures of a place that mentions a variable which can be copied
+pub made_captures : (assigned : List ℕ) (p : Place) (d : Declared) → p.declared ≡ Some d → copies assigned p d ≡ true → holds_all d.place (inside d.owner p.functions) ≡ captures_in assigned p
+made_captures assigned p d e k = sym (ap (captures_of assigned p) e ∙ ap (λ (b : Bool). if b then holds_all d.place (inside d.owner p.functions) else []) k)
 
 -- a capture into the first of some functions, and into the rest
 held_first : (q f v : ℕ) (h rest : List ℕ) → fold joins (fold joins h (held_by q (hold f v ∷ []))) rest ≡ fold joins h (if nat_eq f q then v ∷ rest else rest)

@@ -12,3 +12,4 @@ pub mod Adding
 pub mod Exprs
 pub mod Spots
 pub mod Stmts
+mod Keeping

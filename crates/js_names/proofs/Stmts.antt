@@ -1,34 +1,29 @@
 -- The places of each form of a statement, from those of its parts.
-use Rattle.std.proofs.Common.{◌≡◌, ℕ, rules, List, [], ◌∷◌, ◌++◌, ◌∙◌, ap, refl, sym, map, Option, Some, None, append_assoc, if◌then◌else◌}
-use Rattle.std.specs.Prelude.{Vec, option_map, is_some, codes}
+use Rattle.std.proofs.Common.{◌≡◌, ℕ, rules, List, [], ◌∷◌, ◌++◌, ◌∙◌, ap, refl, sym, map, Option, Some, None, append_assoc}
+use Rattle.std.specs.Prelude.{Vec, option_map, codes}
 use Rattle.std.specs.List.{flat_map}
 use Rattle.std.specs.declared.alloc.Global.{Global}
 use Rattle.std.specs.declared.boxed.Box.{Box}
 use Rattle.js_tree.specs.declared.tree.Name.{Name}
 use Rattle.js_tree.specs.declared.tree.Spot.{Spot}
 use Rattle.js_tree.specs.declared.tree.DeclareKind.{DeclareKind}
-use Rattle.js_tree.specs.declared.tree.Sign.{Sign}
-use Rattle.js_tree.specs.declared.tree.Step.{Step}
-use Rattle.js_tree.specs.declared.tree.Fix.{Fix}
-use Rattle.js_tree.specs.declared.tree.Operator.{Operator}
-use Rattle.js_tree.specs.declared.tree.AssignOp.{AssignOp}
 use Rattle.js_tree.specs.declared.tree.Expr.{Expr}
 use Rattle.js_tree.specs.declared.tree.Declarator.{Declarator, out-Declarator, fold_out-Declarator}
 use Rattle.js_tree.specs.declared.tree.Stmt.{Stmt}
 use Rattle.js_tree.specs.declared.tree.Start.{Start, Nothing, Declares, Evaluates, fold-roll-Start}
-use Rattle.js_tree.specs.declared.tree.Start.TheVariants.{rolls-Nothing, rolls-Declares, rolls-Evaluates}
+use Rattle.js_tree.specs.declared.tree.Start.TheVariants.{rolls-Nothing, rolls-Evaluates}
 use Rattle.js_tree.specs.declared.tree.StmtForm.{StmtForm, Empty, Block, Declaration, Expression, If, IfElse, While, For, ForOf, Break, Continue, ReturnNothing, Return, fold-roll-StmtForm}
 use Rattle.js_tree.specs.declared.tree.StmtForm.TheVariants.{rolls-Empty, rolls-Expression, rolls-Break, rolls-Continue, rolls-ReturnNothing, rolls-Return}
 use Rattle.js_tree.specs.declared.tree.Item.{Item}
 use Rattle.js_tree.specs.declared.tree.Item.TheVariants.{Statement, Function}
 use Rattle.js_tree.specs.Plain as p
 use Rattle.js_tree.specs.Plain.{PlainExpr, PlainForm, PlainField, PlainDeclarator, PlainPerhaps, PlainStart, PlainStmt, PlainStmtForm, declarators_of, stmts_of}
-use Rattle.js_tree.specs.Views.{perhaps, plain_expr, plain_start, plain_stmt, plain_declarator, plain_item, form_step, start_step, stmt_form_step, declarator_step, expr_step, field_step, stmt_step}
+use Rattle.js_tree.specs.Views.{perhaps, plain_expr, plain_start, plain_stmt, plain_declarator, form_step, start_step, stmt_form_step, declarator_step, expr_step, field_step, stmt_step}
 use Rattle.js_names.specs.declared.place.Around.{Around}
 use Rattle.js_names.specs.declared.place.What.{What}
 use Rattle.js_names.specs.declared.place.Role.{Role}
 use Rattle.js_names.specs.Scopes.{Scope, top, for_scope}
-use Rattle.js_names.specs.Sites.{Site, site, word_at, perhaps_sites, declarators_sites, start_sites, stmt_sites, stmt_form_sites, stmts_sites, item_sites, declared_role, in_loop, in_function}
+use Rattle.js_names.specs.Sites.{site, word_at, perhaps_sites, declarators_sites, start_sites, stmt_sites, stmt_form_sites, item_sites, declared_role, in_loop, in_function}
 use Rattle.js_names.specs.Views.{tree_sites, declarator_sites, perhaps_tree_sites, start_tree_sites, tree_stmt_sites, block_sites, for_sites, listed_sites, turn_sites, declared_sites, tree_item_sites}
 use Rattle.js_names.proofs.Trees.{plain_stmt_form, with_form, declaration_is, block_is, if_is, if_else_is, while_is, for_is, for_of_is, start_is}
 use Rattle.js_names.proofs.Exprs.{stmts_flat, body_is}

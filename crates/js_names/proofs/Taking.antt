@@ -1,5 +1,5 @@
 -- Maps that take in declarations.
-use Rattle.std.proofs.Common.{◌≡◌, ℕ, ◌+◌, ◌<◌, ◌≤◌, List, [], ◌∷◌, ◌++◌, ◌∙◌, ap, refl, sym, subst, map, length, take, take_all, get_or, Option, Some, None, Bool, true, false, ⊎_elim, if◌then◌else◌}
+use Rattle.std.proofs.Common.{◌≡◌, ℕ, ◌+◌, ◌<◌, List, [], ◌∷◌, ◌++◌, ◌∙◌, ap, refl, sym, subst, map, length, take, get_or, Option, Some, None, Bool, true, false, ⊎_elim, if◌then◌else◌}
 use Rattle.std.proofs.Math.Bool.{cond}
 use Rattle.std.proofs.lemmas.Bool.{cases_Bool, cond-true, cond-false, true≢false}
 use Rattle.std.proofs.lemmas.Slice.Eq.{bytes_eq-Decides as bytes_decides}
@@ -19,11 +19,11 @@ use Rattle.js_names.specs.declared.place.Declared.{Declared}
 use Rattle.js_tree.specs.declared.tree.Declarator.{Declarator}
 use Rattle.js_tree.specs.declared.tree.DeclareKind.{DeclareKind}
 use Rattle.js_tree.specs.declared.tree.Stmt.{Stmt}
-use Rattle.js_tree.specs.declared.tree.StmtForm.{StmtForm, Declaration, Block, IfElse, For, If, While, ForOf}
+use Rattle.js_tree.specs.declared.tree.StmtForm.{Declaration, Block, IfElse, For, If, While, ForOf}
 use Rattle.std.specs.Prelude.{Vec, Result, Ok, Err, OnOk}
 use Rattle.js_tree.specs.Plain.{declarators_of, stmts_of}
 use Rattle.js_tree.specs.Views.{plain_declarator, plain_stmt, plain_start}
-use Rattle.js_names.specs.Scopes.{Entry, first, named, one_var, merge, parameter, parameters, own_declarators, var_declarators, own_of, own_of_all, vars_of, vars_of_all, own_of_start, vars_of_start}
+use Rattle.js_names.specs.Scopes.{Entry, first, named, one_var, merge, kept, parameter, parameters, own_declarators, var_declarators, own_of, own_of_all, vars_of, vars_of_all, own_of_start, vars_of_start}
 use Rattle.js_names.specs.Places.{or_else}
 use Rattle.js_names.proofs.Trees.{with_form, declaration_is, block_is, if_else_is, for_is, start_is, if_is, while_is, for_of_is}
 use Rattle.js_tree.specs.declared.tree.Expr.{Expr}
@@ -39,6 +39,17 @@ merge_none : (a : Option Declared) → merge a None ≡ a
 merge_none None = refl
 merge_none (Some x) = refl
 
+kept_no : (o : Option Declared) → kept false o ≡ None
+kept_no None = refl
+kept_no (Some d) = refl
+
+kept_merge : (b : Bool) (x y : Option Declared) → kept b (merge x y) ≡ merge (kept b x) (kept b y)
+kept_merge b None y = refl
+kept_merge true (Some x) None = refl
+kept_merge false (Some x) None = refl
+kept_merge true (Some x) (Some y) = refl
+kept_merge false (Some x) (Some y) = refl
+
 -- one more declaration, in a look-up
 pub own_step : (old new : List ℕ → Option Declared) (n : List ℕ) (d : Declared) → old n ≡ None → ((q : List ℕ) → new q ≡ cond (bytes_eq n q) (Some d) (old q))
     → (q : List ℕ) → new q ≡ or_else (old q) (first (named q (alone n d)))
@@ -49,14 +60,29 @@ own_step old new n d a h q =
     (λ e. h q ∙ cond-false b (Some d) (old q) e ∙ sym (ap (λ c. or_else (old q) (first (if c then d ∷ [] else []))) e ∙ or_else_none (old q)))
     (cases_Bool b)
 
-pub var_step : (old new : List ℕ → Option Declared) (n : List ℕ) (m d : Declared) → Some m ≡ merge (old n) (Some d) → ((q : List ℕ) → new q ≡ cond (bytes_eq n q) (Some m) (old q))
-    → (q : List ℕ) → new q ≡ merge (old q) (one_var (named q (alone n d)))
-var_step old new n m d a h q =
+pub var_step : (keep : List ℕ → Bool) (old new : List ℕ → Option Declared) (n : List ℕ) (m d : Declared) → keep n ≡ true → Some m ≡ merge (old n) (Some d)
+    → ((q : List ℕ) → new q ≡ cond (bytes_eq n q) (Some m) (old q)) → (q : List ℕ) → new q ≡ merge (old q) (kept (keep q) (one_var (named q (alone n d))))
+var_step keep old new n m d kn a h q =
     let b = bytes_eq n q in
     ⊎_elim
-    (λ e. h q ∙ cond-true b (Some m) (old q) e ∙ a ∙ sym (ap (λ c. merge (old q) (one_var (if c then d ∷ [] else []))) e ∙ ap (λ z. merge (old z) (Some d)) (sym ((bytes_decides n q).0 e))))
-    (λ e. h q ∙ cond-false b (Some m) (old q) e ∙ sym (ap (λ c. merge (old q) (one_var (if c then d ∷ [] else []))) e ∙ merge_none (old q)))
+    (λ e.
+    let same : n ≡ q = (bytes_decides n q).0 e in
+    h q ∙ cond-true b (Some m) (old q) e ∙ a
+    ∙ sym (ap (λ c. merge (old q) (kept (keep q) (one_var (if c then d ∷ [] else [])))) e ∙ ap (λ k. merge (old q) (kept k (Some d))) (ap keep (sym same) ∙ kn) ∙ ap (λ z. merge (old z) (Some d)) (sym same)))
+    (λ e. h q ∙ cond-false b (Some m) (old q) e ∙ sym (ap (λ c. merge (old q) (kept (keep q) (one_var (if c then d ∷ [] else [])))) e ∙ merge_none (old q)))
     (cases_Bool b)
+
+-- a `var` that is not kept
+not_kept : (keep : List ℕ → Bool) (n : List ℕ) (d : Declared) → keep n ≡ false → (q : List ℕ) → kept (keep q) (one_var (named q (alone n d))) ≡ None
+not_kept keep n d kn q =
+    let b = bytes_eq n q in
+    ⊎_elim
+    (λ e. ap (λ k. kept k (one_var (named q (alone n d)))) (ap keep (sym ((bytes_decides n q).0 e)) ∙ kn) ∙ kept_no (one_var (named q (alone n d))))
+    (λ e. ap (λ c. kept (keep q) (one_var (if c then d ∷ [] else []))) e)
+    (cases_Bool b)
+
+pub var_passed : (keep : List ℕ → Bool) (a : Names) (n : List ℕ) (d : Declared) → keep n ≡ false → TakesVars keep a a (alone n d)
+var_passed keep a n d kn = λ q. sym (ap (merge (get_by_text a q)) (not_kept keep n d kn q) ∙ merge_none (get_by_text a q))
 
 named-append : (q : List ℕ) (xs ys : List Entry) → named q (xs ++ ys) ≡ named q xs ++ named q ys
 named-append q [] ys = refl
@@ -91,16 +117,18 @@ own_both a b c xs ys h k = λ q.
     k q ∙ ap (λ o. or_else o (first (named q ys))) (h q) ∙ or_else_assoc (get_by_text a q) (first (named q xs)) (first (named q ys))
     ∙ ap (or_else (get_by_text a q)) (sym (ap first (named-append q xs ys) ∙ first-append (named q xs) (named q ys)))
 
-pub vars_both : (a b c : Names) (xs ys : List Entry) → TakesVars a b xs → TakesVars b c ys → TakesVars a c (xs ++ ys)
-vars_both a b c xs ys h k = λ q.
-    k q ∙ ap (λ o. merge o (one_var (named q ys))) (h q) ∙ merge_assoc (get_by_text a q) (one_var (named q xs)) (one_var (named q ys))
-    ∙ ap (merge (get_by_text a q)) (sym (ap one_var (named-append q xs ys) ∙ one_var-append (named q xs) (named q ys)))
+pub vars_both : (keep : List ℕ → Bool) (a b c : Names) (xs ys : List Entry) → TakesVars keep a b xs → TakesVars keep b c ys → TakesVars keep a c (xs ++ ys)
+vars_both keep a b c xs ys h k = λ q.
+    let x = one_var (named q xs) in
+    let y = one_var (named q ys) in
+    k q ∙ ap (λ o. merge o (kept (keep q) y)) (h q) ∙ merge_assoc (get_by_text a q) (kept (keep q) x) (kept (keep q) y)
+    ∙ ap (merge (get_by_text a q)) (sym (ap (kept (keep q)) (ap one_var (named-append q xs ys) ∙ one_var-append (named q xs) (named q ys)) ∙ kept_merge (keep q) x y))
 
 pub own_none : (a : Names) → TakesOwn a a []
 own_none a = λ q. sym (or_else_none (get_by_text a q))
 
-pub vars_none : (a : Names) → TakesVars a a []
-vars_none a = λ q. sym (merge_none (get_by_text a q))
+pub vars_none : (keep : List ℕ → Bool) (a : Names) → TakesVars keep a a []
+vars_none keep a = λ q. sym (merge_none (get_by_text a q))
 
 append_nil : {A : Type 0} (xs : List A) → xs ++ [] ≡ xs
 append_nil [] = refl
@@ -117,10 +145,10 @@ pub own_more : {X : Type 0} (f : X → List Entry) (xs : List X) (i : ℕ) (d x 
 own_more f xs i d x a b c h e s t =
     subst (TakesOwn a c) (ap (λ y. flat_map f (take i xs) ++ f y) e ∙ sym (flat_map_take f xs i d h)) (own_both a b c _ _ s t)
 
-pub vars_more : {X : Type 0} (f : X → List Entry) (xs : List X) (i : ℕ) (d x : X) (a b c : Names) → i < length xs → x ≡ get_or xs i d
-    → TakesVars a b (flat_map f (take i xs)) → TakesVars b c (f x) → TakesVars a c (flat_map f (take (i + 1) xs))
-vars_more f xs i d x a b c h e s t =
-    subst (TakesVars a c) (ap (λ y. flat_map f (take i xs) ++ f y) e ∙ sym (flat_map_take f xs i d h)) (vars_both a b c _ _ s t)
+pub vars_more : {X : Type 0} (keep : List ℕ → Bool) (f : X → List Entry) (xs : List X) (i : ℕ) (d x : X) (a b c : Names) → i < length xs → x ≡ get_or xs i d
+    → TakesVars keep a b (flat_map f (take i xs)) → TakesVars keep b c (f x) → TakesVars keep a c (flat_map f (take (i + 1) xs))
+vars_more keep f xs i d x a b c h e s t =
+    subst (TakesVars keep a c) (ap (λ y. flat_map f (take i xs) ++ f y) e ∙ sym (flat_map_take f xs i d h)) (vars_both keep a b c _ _ s t)
 
 pub absent : {X : Type 0} (o : Option X) (r : Bool) → r ≡ is_some o → r ≡ false → o ≡ None
 absent None r e f = refl
@@ -136,10 +164,10 @@ pub own_inserted : (m n : Names) (key : String Global) (bs name : List ℕ) (d :
 own_inserted m n key bs name d r e f t is u =
     own_step (get_by_text m) (get_by_text n) name d (subst (λ b. get_by_text m b ≡ None) f (absent (get_by_text m bs) r t is)) (updated m n key name d (e ∙ f) u)
 
-pub var_inserted : (m n : Names) (key : String Global) (bs name : List ℕ) (x d : Declared) → string_bytes key ≡ bs → bs ≡ name → Some x ≡ merge (get_by_text m bs) (Some d)
-    → UpdatesBy string_eq (λ k. bytes_eq (string_bytes key) (string_bytes k)) m n (Some x) → TakesVars m n (alone name d)
-var_inserted m n key bs name x d e f t u =
-    var_step (get_by_text m) (get_by_text n) name x d (subst (λ b. Some x ≡ merge (get_by_text m b) (Some d)) f t) (updated m n key name x (e ∙ f) u)
+pub var_inserted : (keep : List ℕ → Bool) (m n : Names) (key : String Global) (bs name : List ℕ) (x d : Declared) → string_bytes key ≡ bs → bs ≡ name → true ≡ keep bs → Some x ≡ merge (get_by_text m bs) (Some d)
+    → UpdatesBy string_eq (λ k. bytes_eq (string_bytes key) (string_bytes k)) m n (Some x) → TakesVars keep m n (alone name d)
+var_inserted keep m n key bs name x d e f kn t u =
+    var_step keep (get_by_text m) (get_by_text n) name x d (ap keep (sym f) ∙ sym kn) (subst (λ b. Some x ≡ merge (get_by_text m b) (Some d)) f t) (updated m n key name x (e ∙ f) u)
 
 -- lists of a tree, as the rules see them
 
@@ -167,8 +195,8 @@ own_of_declaration owner direct s kind v ds e d =
 pub own_on_ok : {A E : Type 0} (r : Result A E) (a b : Names) (xs ys : List Entry) → xs ≡ ys → OnOk r (TakesOwn a b xs) → OnOk r (TakesOwn a b ys)
 own_on_ok r a b xs ys e h = subst (λ es. OnOk r (TakesOwn a b es)) e h
 
-pub vars_on_ok : {A E : Type 0} (r : Result A E) (a b : Names) (xs ys : List Entry) → xs ≡ ys → OnOk r (TakesVars a b xs) → OnOk r (TakesVars a b ys)
-vars_on_ok r a b xs ys e h = subst (λ es. OnOk r (TakesVars a b es)) e h
+pub vars_on_ok : {A E : Type 0} (keep : List ℕ → Bool) (r : Result A E) (a b : Names) (xs ys : List Entry) → xs ≡ ys → OnOk r (TakesVars keep a b xs) → OnOk r (TakesVars keep a b ys)
+vars_on_ok keep r a b xs ys e h = subst (λ es. OnOk r (TakesVars keep a b es)) e h
 
 pub own_of_head : (owner : ℕ) (b : Start) (line : ℕ) (kind : DeclareKind) (v : Vec Declarator Global) (ds : List Declarator) → b ≡ Declares line kind v → ds ≡ v.items
     → flat_map (own_of_declarator owner false kind) ds ≡ own_of_start owner (plain_start b)
@@ -215,9 +243,9 @@ vars_of_each owner direct s kind name list b x e h =
     ap (vars_of_stmt owner false) h ∙ sym (ap (vars_of owner direct) (with_form s (ForOf kind name list b) _ e (for_of_is kind name list b)))
 
 -- two steps, the second of which is the answer
-pub vars_on_ok_both : {A E : Type 0} (r : Result A E) (a b c : Names) (xs ys zs : List Entry) → xs ++ ys ≡ zs → TakesVars a b xs → OnOk r (TakesVars b c ys) → OnOk r (TakesVars a c zs)
-vars_on_ok_both (Ok x) a b c xs ys zs e h k = subst (TakesVars a c) e (vars_both a b c xs ys h k)
-vars_on_ok_both (Err x) a b c xs ys zs e h k = tt
+pub vars_on_ok_both : {A E : Type 0} (keep : List ℕ → Bool) (r : Result A E) (a b c : Names) (xs ys zs : List Entry) → xs ++ ys ≡ zs → TakesVars keep a b xs → OnOk r (TakesVars keep b c ys) → OnOk r (TakesVars keep a c zs)
+vars_on_ok_both keep (Ok x) a b c xs ys zs e h k = subst (TakesVars keep a c) e (vars_both keep a b c xs ys h k)
+vars_on_ok_both keep (Err x) a b c xs ys zs e h k = tt
 
 -- one more parameter
 pub parameters_more : (owner : ℕ) (vars : List ℕ → Option Declared) (ns : List Name) (i : ℕ) (d x : Name) (a b c : Names) → i < length ns → x ≡ get_or ns i d

@@ -1,12 +1,12 @@
 -- What the rules ask of a place: the declaration that its name stands for, and whether it clashes with an earlier one.
-use Rattle.std.specs.Prelude.{ℕ, Bool, true, false, not, ◌&&◌, ◌||◌, nat_eq, nat_lt, List, [], ◌∷◌, ◌++◌, Option, Some, None, map, if◌then◌else◌}
+use Rattle.std.specs.Prelude.{ℕ, Bool, true, false, not, ◌&&◌, ◌||◌, nat_lt, List, [], ◌∷◌, ◌++◌, Option, Some, None, map, if◌then◌else◌}
 use Rattle.js_tree.specs.declared.tree.Name.{Name}
 use Rattle.js_tree.specs.Plain.{PlainItem}
 use Rattle.js_names.specs.declared.place.Role.{Role}
-use Rattle.js_names.specs.declared.place.Role.TheVariants.{Parameter, Const, Let, Var, Function}
+use Rattle.js_names.specs.declared.place.Role.TheVariants.{Parameter, Const, Var, Function}
 use Rattle.js_names.specs.declared.place.Declared.{Declared}
 use Rattle.js_names.specs.declared.place.What.{What}
-use Rattle.js_names.specs.declared.place.What.TheVariants.{Declares, Reads, Assigns, Misuses, LoopWord, Returns, Begins}
+use Rattle.js_names.specs.declared.place.What.TheVariants.{Declares, Reads, Assigns}
 use Rattle.js_names.specs.declared.place.Around.{Around}
 use Rattle.js_names.specs.Scopes.{Scope}
 use Rattle.js_names.specs.Sites.{Site, is_reserved, program_sites}

@@ -1,7 +1,5 @@
 -- The rules of names: each is a test of a place. The answer is the least place at which one fails, and of the rules that fail there the first one.
-use Rattle.std.specs.Prelude.{ℕ, ◌<◌, Bool, true, false, not, ◌&&◌, ◌||◌, nat_eq, nat_lt, List, [], ◌∷◌, Option, Some, None, is_some, fold, if◌then◌else◌}
-use Rattle.js_tree.specs.declared.tree.Name.{Name}
-use Rattle.js_tree.specs.declared.tree.Spot.{Spot}
+use Rattle.std.specs.Prelude.{ℕ, Bool, true, false, not, ◌&&◌, ◌||◌, nat_eq, nat_lt, List, Option, Some, None, is_some, fold, if◌then◌else◌}
 use Rattle.js_tree.specs.Plain.{PlainItem}
 use Rattle.js_names.specs.declared.place.What.{What}
 use Rattle.js_names.specs.declared.place.NameFault.{NameFault}

@@ -1,5 +1,5 @@
 -- Scopes: which names a block, a function and the program declare.
-use Rattle.std.specs.Prelude.{ℕ, Bool, true, false, max, map, List, [], ◌∷◌, ◌++◌, Option, Some, None, if◌then◌else◌}
+use Rattle.std.specs.Prelude.{ℕ, Bool, true, false, max, map, List, [], ◌∷◌, ◌++◌, Option, Some, None, is_some, if◌then◌else◌}
 use Rattle.std.specs.Str.{bytes_eq}
 use Rattle.std.specs.List.{flat_map}
 use Rattle.js_tree.specs.declared.tree.Name.{Name}
@@ -49,6 +49,19 @@ one_var (d ∷ ds) = merge (Some d) (one_var ds)
 
 abbrev pub scope_with : List Entry → List Entry → Bool → ℕ → Scope
 scope_with own vars whole owner = record { own = λ q. first (named q own); vars = λ q. one_var (named q vars); whole = whole; owner = owner }
+
+abbrev pub kept : Bool → Option Declared → Option Declared
+kept is_own None = None
+kept is_own (Some d) = if is_own then Some d else None
+
+-- the scope of a block or of a `for`: a `var` in it clashes there with a name of its own alone, so it keeps no other
+abbrev pub inner_scope : List Entry → List Entry → ℕ → Scope
+inner_scope own vars owner = record {
+  own = λ q. first (named q own);
+  vars = λ q. kept (is_some (first (named q own))) (one_var (named q vars));
+  whole = false;
+  owner = owner;
+}
 
 abbrev pub entry : Name → Role → ℕ → ℕ → Bool → ℕ → Entry
 entry name role end owner direct given =
@@ -141,11 +154,11 @@ parameters owner vars names = map (parameter owner vars) names
 
 -- the scope of a block
 unfoldable pub block_scope : ℕ → PlainStmts → Scope
-block_scope owner ss = scope_with (own_of_all owner false ss) (vars_of_all owner false ss) false owner
+block_scope owner ss = inner_scope (own_of_all owner false ss) (vars_of_all owner false ss) owner
 
 -- the scope of a `for` with three parts
 unfoldable pub for_scope : ℕ → PlainStart → PlainStmt → Scope
-for_scope owner start s = scope_with (own_of_start owner start) (vars_of_start owner start ++ vars_of owner false s) false owner
+for_scope owner start s = inner_scope (own_of_start owner start) (vars_of_start owner start ++ vars_of owner false s) owner
 
 abbrev pub each_role : DeclareKind → Role
 each_role const_word = Const
@@ -158,7 +171,7 @@ list_scope owner kind name = scope_with (entry name (each_role kind) top owner f
 
 -- the scope of the body of a `for` over a list
 unfoldable pub each_scope : ℕ → DeclareKind → Name → PlainStmt → Scope
-each_scope owner kind name s = scope_with (entry name (each_role kind) name.spot.at owner false 0 ∷ []) (vars_of owner false s) false owner
+each_scope owner kind name s = inner_scope (entry name (each_role kind) name.spot.at owner false 0 ∷ []) (vars_of owner false s) owner
 
 -- the scope of a function, with its parameters
 unfoldable pub function_scope : ℕ → List Name → PlainStmts → Scope

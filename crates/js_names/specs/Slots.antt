@@ -1,13 +1,12 @@
 -- Constants, captures and slots, from the places of a program.
 use Rattle.std.specs.Prelude.{ℕ, Bool, true, false, not, ◌&&◌, ◌||◌, nat_eq, nat_le, List, [], ◌∷◌, ◌++◌, Option, Some, None, map, fold, length, if◌then◌else◌}
 use Rattle.std.specs.List.{list_any, filter_map, flat_map}
-use Rattle.js_names.specs.declared.place.Role.{Role}
-use Rattle.js_names.specs.declared.place.Role.TheVariants.{Parameter, Const, Let, Var, Function}
+use Rattle.js_names.specs.declared.place.Role.TheVariants.{Parameter}
 use Rattle.js_names.specs.declared.place.Declared.{Declared}
 use Rattle.js_names.specs.declared.place.What.{What}
-use Rattle.js_names.specs.declared.place.What.TheVariants.{Declares, Reads, Assigns, Misuses, LoopWord, Returns, Begins}
+use Rattle.js_names.specs.declared.place.What.TheVariants.{Declares, Reads, Assigns, Begins}
 use Rattle.js_names.specs.Scopes.{top}
-use Rattle.js_names.specs.Places.{Place, test_of, is_parameter, is_var, is_function}
+use Rattle.js_names.specs.Places.{Place, is_parameter, is_var, is_function}
 
 abbrev pub is_assignment : What → Bool
 is_assignment Assigns = true

@@ -1,6 +1,7 @@
 -- What the walk over a tree holds, as the rules see it.
-use Rattle.std.specs.Prelude.{◌≡◌, ℕ, Bool, true, false, List, [], ◌∷◌, ◌++◌, Option, Some, None, map, take, length, ◌-◌, nat_eq, fold, option_map}
+use Rattle.std.specs.Prelude.{◌≡◌, ◌<◌, ℕ, Bool, true, List, [], ◌∷◌, ◌++◌, Option, Some, None, map, take, length, ◌-◌, nat_eq, fold, is_some, option_map, slice_index_or}
 use Rattle.std.specs.HashMap.{get_by_text}
+use Rattle.std.specs.Arc.{arc_value}
 use Rattle.js_names.specs.declared.scope.Scope.{Scope as Held}
 use Rattle.js_names.specs.declared.place.Seen.{Seen}
 use Rattle.js_names.specs.declared.scope.Walk.{Walk}
@@ -11,16 +12,16 @@ use Rattle.js_tree.specs.Views.{perhaps, plain_expr, plain_start, plain_declarat
 use Rattle.js_tree.specs.declared.tree.Item.{Item}
 use Rattle.indexmap.specs.IndexMap.{IndexMap, get}
 use Rattle.indexmap.specs.IndexSet.{IndexSet}
-use Rattle.js_names.specs.Slots.{Holding, joins, held_by}
+use Rattle.js_names.specs.Slots.{Holding, captures_in, joins, held_by}
 use Rattle.std.specs.declared.hash.FoldHasher.{FoldHasher}
 use Rattle.std.specs.declared.hash.BuildHasherDefault.{BuildHasherDefault}
 use Rattle.std.specs.declared.alloc.Global.{Global}
 use Rattle.std.specs.Prelude.{String}
 use Rattle.js_names.specs.declared.place.Declared.{Declared}
-use Rattle.js_names.specs.Scopes.{Scope, Entry, first, named, one_var, merge, own_declarator, var_declarator, own_of, vars_of, own_of_item, vars_of_item, top, block_scope, for_scope, list_scope, each_scope, each_role, function_scope}
+use Rattle.js_names.specs.Scopes.{Scope, Entry, first, named, one_var, merge, kept, own_declarator, var_declarator, own_of, vars_of, own_of_item, vars_of_item, top, block_scope, for_scope, list_scope, each_scope, each_role, function_scope}
 use Rattle.js_names.specs.declared.place.Around.{Around}
 use Rattle.js_names.specs.declared.place.What.{What}
-use Rattle.js_names.specs.declared.place.Role.TheVariants.{Parameter, Function}
+use Rattle.js_names.specs.declared.place.Role.TheVariants.{Function}
 use Rattle.js_tree.specs.declared.tree.Name.{Name}
 use Rattle.js_tree.specs.declared.tree.Expr.{Expr}
 use Rattle.js_tree.specs.declared.tree.Start.{Start}
@@ -43,7 +44,7 @@ abbrev pub scopes_of : List Held → List Scope
 scopes_of ss = scopes_onto [] ss
 
 abbrev pub place_of : Seen → Place
-place_of p = record { what = p.what; name = p.name; around = p.around; declared = p.declared; functions = p.functions.items; clashes = p.clashes }
+place_of p = record { what = p.what; name = p.name; around = p.around; declared = p.declared; functions = (arc_value p.functions).items; clashes = p.clashes }
 
 abbrev pub Names : Type 0
 Names = IndexMap (String Global) Declared (BuildHasherDefault FoldHasher)
@@ -52,9 +53,14 @@ Names = IndexMap (String Global) Declared (BuildHasherDefault FoldHasher)
 abbrev pub TakesOwn : Names → Names → List Entry → Type 0
 TakesOwn old new entries = (q : List ℕ) → get_by_text new q ≡ or_else (get_by_text old q) (first (named q entries))
 
--- a map took in `var`s
-abbrev pub TakesVars : Names → Names → List Entry → Type 0
-TakesVars old new entries = (q : List ℕ) → get_by_text new q ≡ merge (get_by_text old q) (one_var (named q entries))
+-- the `var`s that a scope keeps: all, or those of its own names
+abbrev pub keeps : Option Names → List ℕ → Bool
+keeps None q = true
+keeps (Some own) q = is_some (get_by_text own q)
+
+-- a map took in the `var`s that are kept
+abbrev pub TakesVars : (List ℕ → Bool) → Names → Names → List Entry → Type 0
+TakesVars keep old new entries = (q : List ℕ) → get_by_text new q ≡ merge (get_by_text old q) (kept (keep q) (one_var (named q entries)))
 
 -- what one declarator or statement of a tree declares
 abbrev pub own_of_declarator : ℕ → Bool → DeclareKind → Declarator → List Entry
@@ -179,3 +185,7 @@ held_in sets f = keys_of (get nat_eq sets f)
 -- a map of sets took in what functions hold
 abbrev pub Holds : Sets → Sets → List Holding → Type 0
 Holds old new hs = (f : ℕ) → held_in new f ≡ fold joins (held_in old f) (held_by f hs)
+
+-- a place before makes the captures of this place
+abbrev pub IsMade : List ℕ → List Seen → Place → Type 0
+IsMade assigned before p = (at : ℕ) × (x : Seen) × (at < length before) × (x ≡ slice_index_or before at x) × (captures_in assigned (place_of x) ≡ captures_in assigned p)

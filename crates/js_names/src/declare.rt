@@ -1,10 +1,10 @@
 //! The names that statements declare, put into maps.
-ghost use Rattle.std.specs.Prelude.{◌≡◌, OnOk};
+ghost use Rattle.std.specs.Prelude.{◌≡◌, OnOk, option_copied};
 ghost use Rattle.std.specs.List.{flat_map};
 ghost use Rattle.std.specs.HashMap.{get_by_text};
 ghost use Rattle.js_names.specs.Scopes.{merge, given_at, own_of_start, vars_of_start};
 ghost use Rattle.js_tree.specs.Views.{plain_declarator, plain_start};
-ghost use Rattle.js_names.specs.Views.{TakesOwn, TakesVars, alone, own_of_declarator, vars_of_declarator, own_of_stmt, vars_of_stmt};
+ghost use Rattle.js_names.specs.Views.{TakesOwn, TakesVars, keeps, alone, own_of_declarator, vars_of_declarator, own_of_stmt, vars_of_stmt};
 
 use crate::place::{Declared, Role};
 use crate::scope::TOP;
@@ -37,7 +37,8 @@ fn declare_own_declarator(
     kind: DeclareKind,
     declarator: &Declarator,
 ) -> Result<(), AllocError>
-    ensures { OnOk result (TakesOwn map.old map.new (own_of_declarator owner direct kind declarator.now)) }
+    ensures { OnOk result (TakesOwn map.old map.new
+        (own_of_declarator owner direct kind declarator.now)) }
 {
     let role = match kind {
         DeclareKind::Const => Role::Const,
@@ -64,7 +65,8 @@ pub fn declare_own_declarators(
     kind: DeclareKind,
     declarators: &[Declarator],
 ) -> Result<(), AllocError>
-    ensures { OnOk result (TakesOwn map.old map.new (flat_map (own_of_declarator owner direct kind) declarators.now)) }
+    ensures { OnOk result (TakesOwn map.old map.new
+        (flat_map (own_of_declarator owner direct kind) declarators.now)) }
 {
     for declarator in declarators {
         declare_own_declarator(alloc, map, owner, direct, kind, declarator)?;
@@ -98,7 +100,8 @@ pub fn declare_own_stmts(
     direct: bool,
     body: &[Stmt],
 ) -> Result<(), AllocError>
-    ensures { OnOk result (TakesOwn map.old map.new (flat_map (own_of_stmt owner direct) body.now)) }
+    ensures { OnOk result (TakesOwn map.old map.new
+        (flat_map (own_of_stmt owner direct) body.now)) }
 {
     for stmt in body {
         declare_own_stmt(alloc, map, owner, direct, stmt)?;
@@ -120,16 +123,32 @@ fn merged(map: &IndexMap<String, Declared>, text: &str, declared: Declared) -> D
     }
 }
 
-/// Declares a `var`, which is one variable with earlier ones of its name.
+// Whether a scope keeps a `var` of this name: a block keeps those that its own names can clash with.
+fn keeps(own: Option<&IndexMap<String, Declared>>, text: &str) -> bool
+    ensures { result ≡ keeps (option_copied own.entry) text.now }
+{
+    match own {
+        Some(own) => own.contains_key(text),
+        None => true,
+    }
+}
+
+/// Declares a `var`, which is one variable with earlier ones of its name, unless the own names of a block are
+/// given and this is none of them.
 pub fn declare_var(
     alloc: Global,
     map: &mut IndexMap<String, Declared>,
+    own: Option<&IndexMap<String, Declared>>,
     name: &Name,
     declared: Declared,
 ) -> Result<(), AllocError>
-    ensures { OnOk result (TakesVars map.old map.new (alone name.now.text declared)) }
+    ensures { OnOk result (TakesVars (keeps (option_copied own.entry)) map.old map.new
+        (alone name.now.text declared)) }
 {
     let text = name.text.as_str();
+    if !keeps(own, text) {
+        return Ok(());
+    }
     let merged = merged(map, text, declared);
     map.insert(String::from_str(alloc, text)?, merged)?;
     Ok(())
@@ -137,7 +156,8 @@ pub fn declare_var(
 
 // The place from which on the value of a `var` stays that names a parameter: a nested one may run again.
 fn given_at(direct: bool, declarator: &Declarator) -> u32
-    ensures { result ≡ given_at direct (plain_declarator declarator.now).value (plain_declarator declarator.now).end }
+    ensures { result ≡ given_at direct (plain_declarator declarator.now).value
+        (plain_declarator declarator.now).end }
 {
     match declarator.value {
         Some(_) => { if direct { declarator.end } else { TOP } }
@@ -149,12 +169,14 @@ fn given_at(direct: bool, declarator: &Declarator) -> u32
 fn declare_var_declarator(
     alloc: Global,
     map: &mut IndexMap<String, Declared>,
+    own: Option<&IndexMap<String, Declared>>,
     owner: u32,
     direct: bool,
     kind: DeclareKind,
     declarator: &Declarator,
 ) -> Result<(), AllocError>
-    ensures { OnOk result (TakesVars map.old map.new (vars_of_declarator owner direct kind declarator.now)) }
+    ensures { OnOk result (TakesVars (keeps (option_copied own.entry)) map.old map.new
+        (vars_of_declarator owner direct kind declarator.now)) }
 {
     if kind != DeclareKind::Var {
         return Ok(());
@@ -167,22 +189,24 @@ fn declare_var_declarator(
         direct,
         given: given_at(direct, declarator),
     };
-    declare_var(alloc, map, &declarator.name, declared)
+    declare_var(alloc, map, own, &declarator.name, declared)
 }
 
 /// The same of declarators.
 pub fn declare_var_declarators(
     alloc: Global,
     map: &mut IndexMap<String, Declared>,
+    own: Option<&IndexMap<String, Declared>>,
     owner: u32,
     direct: bool,
     kind: DeclareKind,
     declarators: &[Declarator],
 ) -> Result<(), AllocError>
-    ensures { OnOk result (TakesVars map.old map.new (flat_map (vars_of_declarator owner direct kind) declarators.now)) }
+    ensures { OnOk result (TakesVars (keeps (option_copied own.entry)) map.old map.new
+        (flat_map (vars_of_declarator owner direct kind) declarators.now)) }
 {
     for declarator in declarators {
-        declare_var_declarator(alloc, map, owner, direct, kind, declarator)?;
+        declare_var_declarator(alloc, map, own, owner, direct, kind, declarator)?;
     }
     Ok(())
 }
@@ -191,14 +215,16 @@ pub fn declare_var_declarators(
 pub fn declare_start_vars(
     alloc: Global,
     map: &mut IndexMap<String, Declared>,
+    own: Option<&IndexMap<String, Declared>>,
     owner: u32,
     start: &Start,
 ) -> Result<(), AllocError>
-    ensures { OnOk result (TakesVars map.old map.new (vars_of_start owner (plain_start start.now))) }
+    ensures { OnOk result (TakesVars (keeps (option_copied own.entry)) map.old map.new
+        (vars_of_start owner (plain_start start.now))) }
 {
     match start {
         Start::Declares(_, kind, declarators) => {
-            declare_var_declarators(alloc, map, owner, false, *kind, declarators)
+            declare_var_declarators(alloc, map, own, owner, false, *kind, declarators)
         }
         Start::Nothing | Start::Evaluates(_) => Ok(()),
     }
@@ -226,28 +252,30 @@ pub fn declare_start_own(
 pub fn declare_stmt_vars(
     alloc: Global,
     map: &mut IndexMap<String, Declared>,
+    own: Option<&IndexMap<String, Declared>>,
     owner: u32,
     direct: bool,
     stmt: &Stmt,
 ) -> Result<(), AllocError>
-    ensures { OnOk result (TakesVars map.old map.new (vars_of_stmt owner direct stmt.now)) }
+    ensures { OnOk result (TakesVars (keeps (option_copied own.entry)) map.old map.new
+        (vars_of_stmt owner direct stmt.now)) }
 {
     match &stmt.form {
-        StmtForm::Block(body) => declare_list_vars(alloc, map, owner, false, body),
+        StmtForm::Block(body) => declare_list_vars(alloc, map, own, owner, false, body),
         StmtForm::Declaration(kind, declarators) => {
-            declare_var_declarators(alloc, map, owner, direct, *kind, declarators)
+            declare_var_declarators(alloc, map, own, owner, direct, *kind, declarators)
         }
-        StmtForm::If(_, body) => declare_stmt_vars(alloc, map, owner, false, body),
+        StmtForm::If(_, body) => declare_stmt_vars(alloc, map, own, owner, false, body),
         StmtForm::IfElse(_, body, other) => {
-            declare_stmt_vars(alloc, map, owner, false, body)?;
-            declare_stmt_vars(alloc, map, owner, false, other)
+            declare_stmt_vars(alloc, map, own, owner, false, body)?;
+            declare_stmt_vars(alloc, map, own, owner, false, other)
         }
-        StmtForm::While(_, body) => declare_stmt_vars(alloc, map, owner, false, body),
+        StmtForm::While(_, body) => declare_stmt_vars(alloc, map, own, owner, false, body),
         StmtForm::For(start, _, _, body) => {
-            declare_start_vars(alloc, map, owner, start)?;
-            declare_stmt_vars(alloc, map, owner, false, body)
+            declare_start_vars(alloc, map, own, owner, start)?;
+            declare_stmt_vars(alloc, map, own, owner, false, body)
         }
-        StmtForm::ForOf(_, _, _, body) => declare_stmt_vars(alloc, map, owner, false, body),
+        StmtForm::ForOf(_, _, _, body) => declare_stmt_vars(alloc, map, own, owner, false, body),
         _ => Ok(()),
     }
 }
@@ -257,14 +285,16 @@ pub fn declare_stmt_vars(
 pub fn declare_list_vars(
     alloc: Global,
     map: &mut IndexMap<String, Declared>,
+    own: Option<&IndexMap<String, Declared>>,
     owner: u32,
     direct: bool,
     body: &[Stmt],
 ) -> Result<(), AllocError>
-    ensures { OnOk result (TakesVars map.old map.new (flat_map (vars_of_stmt owner direct) body.now)) }
+    ensures { OnOk result (TakesVars (keeps (option_copied own.entry)) map.old map.new
+        (flat_map (vars_of_stmt owner direct) body.now)) }
 {
     for stmt in body {
-        declare_stmt_vars(alloc, map, owner, direct, stmt)?;
+        declare_stmt_vars(alloc, map, own, owner, direct, stmt)?;
     }
     Ok(())
 }

@@ -24,7 +24,8 @@ fn fault_at(
     held: &IndexMap<u32, IndexSet<u32>>,
     place: &Seen,
 ) -> Result<Option<NameFault>, AllocError>
-    ensures { IfOk result (λ f. f ≡ fault_at assigned.now.keys (λ g. length (held_in held.now g)) (place_of place.now)) }
+    ensures { IfOk result (λ f. f ≡ fault_at assigned.now.keys (λ g. length (held_in held.now g))
+        (place_of place.now)) }
 {
     if fails_unknown(place) {
         Ok(Some(NameFault::Unknown(copy_of(&place.name)?)))
@@ -118,7 +119,8 @@ fn soonest(
     held: &IndexMap<u32, IndexSet<u32>>,
     places: &[Seen],
 ) -> Result<Option<NameFault>, AllocError>
-    ensures { IfOk result (λ f. f ≡ soonest (fault_at assigned.now.keys (λ g. length (held_in held.now g))) (map place_of places.now)) }
+    ensures { IfOk result (λ f. f ≡ soonest (fault_at assigned.now.keys
+        (λ g. length (held_in held.now g))) (map place_of places.now)) }
 {
     let mut first = None;
     for place in places {
@@ -152,8 +154,10 @@ impl Drop for Names {
 // The places of a tree, and what each function holds, whether or not a rule is broken.
 fn names_of(alloc: Global, tree: &Tree) -> Result<Names, AllocError>
     ensures places { IfOk result (λ n. map place_of n.places.items ≡ places (plain_tree tree.now)) }
-    ensures assigned { IfOk result (λ n. n.assigned.keys ≡ assigned_in (places (plain_tree tree.now))) }
-    ensures slots { IfOk result (λ n. (f : _) → held_in n.slots f ≡ slots_of (assigned_in (places (plain_tree tree.now))) f (places (plain_tree tree.now))) }
+    ensures assigned { IfOk result (λ n. n.assigned.keys ≡ assigned_in
+        (places (plain_tree tree.now))) }
+    ensures slots { IfOk result (λ n. (f : _) → held_in n.slots f ≡ slots_of
+        (assigned_in (places (plain_tree tree.now))) f (places (plain_tree tree.now))) }
 {
     let places = places_of(alloc, tree)?;
     let assigned = assigned_in(alloc, &places)?;
@@ -170,9 +174,12 @@ fn names_of(alloc: Global, tree: &Tree) -> Result<Names, AllocError>
 pub fn check_names(alloc: Global, tree: &Tree) -> Result<Names, NameFault>
     ensures accepted { IfOk result (λ _. name_fault (plain_tree tree.now) ≡ None) }
     ensures places { IfOk result (λ n. map place_of n.places.items ≡ places (plain_tree tree.now)) }
-    ensures assigned { IfOk result (λ n. n.assigned.keys ≡ assigned_in (places (plain_tree tree.now))) }
-    ensures slots { IfOk result (λ n. (f : _) → held_in n.slots f ≡ slots_of (assigned_in (places (plain_tree tree.now))) f (places (plain_tree tree.now))) }
-    ensures refused { IfErr result (λ f. f ≢ NameFault.Memory → name_fault (plain_tree tree.now) ≡ Some f) }
+    ensures assigned { IfOk result (λ n. n.assigned.keys ≡ assigned_in
+        (places (plain_tree tree.now))) }
+    ensures slots { IfOk result (λ n. (f : _) → held_in n.slots f ≡ slots_of
+        (assigned_in (places (plain_tree tree.now))) f (places (plain_tree tree.now))) }
+    ensures refused { IfErr result (λ f. f ≢ NameFault.Memory → name_fault (plain_tree tree.now)
+        ≡ Some f) }
 {
     let names = names_of(alloc, tree)?;
     let first = soonest(&names.assigned, &names.slots, &names.places)?;

@@ -67,7 +67,8 @@ fn builtin_at(object: &Expr, word: &str, called: bool) -> Option<Builtin>
 
 // The form of a name's member.
 fn builtin_of_name(object: &str, word: &str, called: bool) -> Option<Builtin>
-    ensures { result ≡ builtin_at (if is_object object.now then Some object.now else None) word.now called }
+    ensures { result ≡ builtin_at
+        (if is_object object.now then Some object.now else None) word.now called }
 {
     if is_object(object) {
         builtin_of(object, word, called)
@@ -78,7 +79,8 @@ fn builtin_of_name(object: &str, word: &str, called: bool) -> Option<Builtin>
 
 // The form of a member's member.
 fn builtin_of_log(e: &Expr, member: &str, word: &str, called: bool) -> Option<Builtin>
-    ensures { result ≡ builtin_at (if is_log_of (plain_expr e.now) member.now then Some (codes "bp.log") else None) word.now called }
+    ensures { result ≡ builtin_at (if is_log_of (plain_expr e.now) member.now then Some
+        (codes "bp.log") else None) word.now called }
 {
     if is_log(e, member) {
         builtin_of("bp.log", word, called)

@@ -1,9 +1,9 @@
 //! The variables that each function holds in its slots.
-ghost use Rattle.std.specs.Prelude.{◌≡◌, ◌∷◌, [], ◌++◌, false, IfOk, OnOk, map, length, nat_eq};
+ghost use Rattle.std.specs.Prelude.{◌≡◌, ◌∷◌, [], ◌++◌, false, IfOk, IsTrue, OnOk, map, length, nat_eq};
 ghost use Rattle.std.specs.List.{flat_map};
 ghost use Rattle.indexmap.specs.IndexMap.{get};
 ghost use Rattle.js_names.specs.Slots.{hold, holds_all, copies, inside, holdings, slots_of, captures, captures_in, parameter_in, variable_in, var_in, vars_of};
-ghost use Rattle.js_names.specs.Views.{Holds, held_in, place_of};
+ghost use Rattle.js_names.specs.Views.{Holds, IsMade, held_in, place_of};
 
 use crate::place::{Declared, Role, Seen, What};
 use crate::rules::{can_copy, is_constant};
@@ -23,7 +23,8 @@ pub fn slot_count(held: &IndexMap<u32, IndexSet<u32>>, function: u32) -> usize
 // Takes the set of a function out of the map.
 fn take_set(alloc: Global, held: &mut IndexMap<u32, IndexSet<u32>>, function: u32) -> IndexSet<u32>
     ensures set { result.keys ≡ held_in held.old function }
-    ensures others { (q : _) → nat_eq function q ≡ false → get nat_eq held.new q ≡ get nat_eq held.old q }
+    ensures others { (q : _) → nat_eq function q ≡ false → get nat_eq held.new q
+        ≡ get nat_eq held.old q }
 {
     match held.swap_remove(&function) {
         Some(variables) => variables,
@@ -69,7 +70,8 @@ fn hold_inside(
     functions: &[u32],
     declared: Declared,
 ) -> Result<(), AllocError>
-    ensures { OnOk result (Holds held.old held.new (holds_all declared.place (inside declared.owner functions.now))) }
+    ensures { OnOk result (Holds held.old held.new
+        (holds_all declared.place (inside declared.owner functions.now))) }
 {
     for function in functions {
         if *function == declared.owner {
@@ -101,14 +103,65 @@ fn hold_captures(
     assigned: &IndexSet<u32>,
     place: &Seen,
 ) -> Result<(), AllocError>
-    ensures { OnOk result (Holds held.old held.new (captures_in assigned.now.keys (place_of place.now))) }
+    ensures { OnOk result (Holds held.old held.new
+        (captures_in assigned.now.keys (place_of place.now))) }
 {
     match place.declared {
         Some(declared) if copies(assigned, place, declared) => {
-            hold_inside(alloc, held, &place.functions, declared)
+            hold_inside(alloc, held, place.functions.as_slice(), declared)
         }
         _ => Ok(()),
     }
+}
+
+// Whether a place makes the captures of this variable into these functions.
+fn makes(assigned: &IndexSet<u32>, place: &Seen, declared: Declared, functions: &[u32]) -> bool
+    ensures { IsTrue result → captures_in assigned.now.keys (place_of place.now)
+        ≡ holds_all declared.place (inside declared.owner functions.now) }
+{
+    match place.declared {
+        Some(other) => {
+            other.place == declared.place
+                && other.owner == declared.owner
+                && copies(assigned, place, other)
+                && place.functions.as_slice() == functions
+        }
+        None => false,
+    }
+}
+
+// Whether a place before this one is known that makes the same captures.
+fn is_made(
+    assigned: &IndexSet<u32>,
+    known: &IndexMap<(u32, u32), usize>,
+    before: &[Seen],
+    place: &Seen,
+) -> bool
+    ensures { IsTrue result → IsMade assigned.now.keys before.now (place_of place.now) }
+{
+    if let Some(declared) = place.declared
+        && copies(assigned, place, declared)
+        && let Some(at) = known.get(&(place.around.owner, declared.place))
+        && let Some(earlier) = before.get(*at)
+    {
+        return makes(assigned, earlier, declared, place.functions.as_slice());
+    }
+    false
+}
+
+// Notes the place as one that makes captures. How fast later places are passed over is all that hangs on it.
+fn note_captures(
+    known: &mut IndexMap<(u32, u32), usize>,
+    assigned: &IndexSet<u32>,
+    place: &Seen,
+    at: usize,
+) -> Result<(), AllocError> {
+    if let Some(declared) = place.declared
+        && copies(assigned, place, declared)
+    {
+        known.insert((place.around.owner, declared.place), at)?;
+    }
+    Ok(())
 }
 
 // A variable that is no parameter and no constant.
@@ -118,7 +171,8 @@ fn hold_variable(
     assigned: &IndexSet<u32>,
     place: &Seen,
 ) -> Result<(), AllocError>
-    ensures { OnOk result (Holds held.old held.new (variable_in assigned.now.keys (place_of place.now))) }
+    ensures { OnOk result (Holds held.old held.new
+        (variable_in assigned.now.keys (place_of place.now))) }
 {
     if let What::Declares(_) = place.what
         && let Some(declared) = place.declared
@@ -136,7 +190,8 @@ fn hold_parameters(
     held: &mut IndexMap<u32, IndexSet<u32>>,
     places: &[Seen],
 ) -> Result<(), AllocError>
-    ensures { OnOk result (Holds held.old held.new (flat_map (λ p. parameter_in (place_of p)) places.now)) }
+    ensures { OnOk result (Holds held.old held.new
+        (flat_map (λ p. parameter_in (place_of p)) places.now)) }
 {
     for place in places {
         hold_parameter(alloc, held, place)?;
@@ -144,17 +199,23 @@ fn hold_parameters(
     Ok(())
 }
 
-// The captures of all functions.
+// The captures of all functions. Those that a place before made are not held once more: a function that mentions a
+// variable a thousand times, far inside that of the variable, walks over the functions between them once.
 fn hold_all_captures(
     alloc: Global,
     held: &mut IndexMap<u32, IndexSet<u32>>,
     assigned: &IndexSet<u32>,
     places: &[Seen],
 ) -> Result<(), AllocError>
-    ensures { OnOk result (Holds held.old held.new (flat_map (λ p. captures_in assigned.now.keys (place_of p)) places.now)) }
+    ensures { OnOk result (Holds held.old held.new
+        (flat_map (λ p. captures_in assigned.now.keys (place_of p)) places.now)) }
 {
-    for place in places {
-        hold_captures(alloc, held, assigned, place)?;
+    let mut known = IndexMap::new(alloc);
+    for (at, place) in places.iter().enumerate() {
+        if !is_made(assigned, &known, &places[..at], place) {
+            hold_captures(alloc, held, assigned, place)?;
+            note_captures(&mut known, assigned, place, at)?;
+        }
     }
     Ok(())
 }
@@ -166,7 +227,8 @@ fn hold_variables(
     assigned: &IndexSet<u32>,
     places: &[Seen],
 ) -> Result<(), AllocError>
-    ensures { OnOk result (Holds held.old held.new (flat_map (λ p. variable_in assigned.now.keys (place_of p)) places.now)) }
+    ensures { OnOk result (Holds held.old held.new
+        (flat_map (λ p. variable_in assigned.now.keys (place_of p)) places.now)) }
 {
     for place in places {
         hold_variable(alloc, held, assigned, place)?;
@@ -181,8 +243,10 @@ fn hold_all(
     assigned: &IndexSet<u32>,
     places: &[Seen],
 ) -> Result<(), AllocError>
-    ensures { OnOk result (Holds held.old held.new (flat_map (λ p. parameter_in (place_of p)) places.now
-        ++ (flat_map (λ p. captures_in assigned.now.keys (place_of p)) places.now ++ flat_map (λ p. variable_in assigned.now.keys (place_of p)) places.now))) }
+    ensures { OnOk result (Holds held.old held.new
+        (flat_map (λ p. parameter_in (place_of p)) places.now
+        ++ (flat_map (λ p. captures_in assigned.now.keys (place_of p)) places.now ++ flat_map
+        (λ p. variable_in assigned.now.keys (place_of p)) places.now))) }
 {
     hold_parameters(alloc, held, places)?;
     hold_all_captures(alloc, held, assigned, places)?;
@@ -196,7 +260,8 @@ pub fn slots(
     assigned: &IndexSet<u32>,
     places: &[Seen],
 ) -> Result<IndexMap<u32, IndexSet<u32>>, AllocError>
-    ensures { IfOk result (λ m. (f : _) → held_in m f ≡ slots_of assigned.now.keys f (map place_of places.now)) }
+    ensures { IfOk result (λ m. (f : _) → held_in m f ≡ slots_of assigned.now.keys f
+        (map place_of places.now)) }
 {
     let mut held = IndexMap::new(alloc);
     hold_all(alloc, &mut held, assigned, places)?;
@@ -209,7 +274,8 @@ pub fn captured(
     assigned: &IndexSet<u32>,
     places: &[Seen],
 ) -> Result<IndexMap<u32, IndexSet<u32>>, AllocError>
-    ensures { IfOk result (λ m. (f : _) → held_in m f ≡ captures assigned.now.keys f (map place_of places.now)) }
+    ensures { IfOk result (λ m. (f : _) → held_in m f ≡ captures assigned.now.keys f
+        (map place_of places.now)) }
 {
     let mut held = IndexMap::new(alloc);
     hold_all_captures(alloc, &mut held, assigned, places)?;
@@ -223,7 +289,8 @@ fn hold_var(
     assigned: &IndexSet<u32>,
     place: &Seen,
 ) -> Result<(), AllocError>
-    ensures { OnOk result (Holds held.old held.new (var_in assigned.now.keys (place_of place.now))) }
+    ensures { OnOk result (Holds held.old held.new
+        (var_in assigned.now.keys (place_of place.now))) }
 {
     if let What::Declares(_) = place.what
         && let Some(declared) = place.declared
@@ -242,7 +309,8 @@ fn hold_vars(
     assigned: &IndexSet<u32>,
     places: &[Seen],
 ) -> Result<(), AllocError>
-    ensures { OnOk result (Holds held.old held.new (flat_map (λ p. var_in assigned.now.keys (place_of p)) places.now)) }
+    ensures { OnOk result (Holds held.old held.new
+        (flat_map (λ p. var_in assigned.now.keys (place_of p)) places.now)) }
 {
     for place in places {
         hold_var(alloc, held, assigned, place)?;
@@ -256,7 +324,8 @@ pub fn vars(
     assigned: &IndexSet<u32>,
     places: &[Seen],
 ) -> Result<IndexMap<u32, IndexSet<u32>>, AllocError>
-    ensures { IfOk result (λ m. (f : _) → held_in m f ≡ vars_of assigned.now.keys f (map place_of places.now)) }
+    ensures { IfOk result (λ m. (f : _) → held_in m f ≡ vars_of assigned.now.keys f
+        (map place_of places.now)) }
 {
     let mut held = IndexMap::new(alloc);
     hold_vars(alloc, &mut held, assigned, places)?;

@@ -5,10 +5,11 @@ ghost use Rattle.js_names.specs.Sites.{word_at};
 use js_data::Text;
 use js_tree::{Name, Spot};
 use std::alloc::{AllocError, Global};
+use std::sync::Arc;
 use thiserror::Error;
 
 /// What a name is declared as.
-#[derive(Clone, Copy, Debug, PartialEq, Eq)]
+#[derive(Clone, Copy, PartialEq, Eq)]
 pub enum Role {
     Parameter,
     Const,
@@ -18,7 +19,7 @@ pub enum Role {
 }
 
 /// A declaration.
-#[derive(Clone, Copy, Debug, PartialEq, Eq)]
+#[derive(Clone, Copy)]
 pub struct Declared {
     pub role: Role,
     /// The place of the declared name.
@@ -34,7 +35,7 @@ pub struct Declared {
 }
 
 /// What stands at a place.
-#[derive(Clone, Copy, Debug, PartialEq, Eq)]
+#[derive(Clone, Copy)]
 pub enum What {
     /// A name that is declared.
     Declares(Role),
@@ -53,24 +54,37 @@ pub enum What {
 }
 
 /// Where a place is: the place of the function around it, and whether a loop of that function is around it.
-#[derive(Clone, Copy, Debug, PartialEq, Eq)]
+#[derive(Clone, Copy)]
 pub struct Around {
     pub owner: u32,
     pub looped: bool,
 }
 
 /// A place, with what the rules ask of it.
-#[derive(Drop)]
 pub struct Seen {
     pub what: What,
     pub name: Name,
     pub around: Around,
     /// What the name stands for.
     pub declared: Option<Declared>,
-    /// The functions around, the innermost first, and the top level last.
-    pub functions: Vec<u32>,
+    /// The functions around, the innermost first, and the top level last. Places in a row share them.
+    pub functions: Arc<Vec<u32>>,
     /// The name has an earlier declaration that it clashes with, or can't be declared.
     pub clashes: bool,
+}
+
+// It is let go by one call, written out.
+impl Drop for Seen {
+    fn drop(self) {
+        let Seen {
+            what: _,
+            name: _,
+            around: _,
+            declared: _,
+            functions: _,
+            clashes: _,
+        } = self;
+    }
 }
 
 /// A rule of names that is broken, with the name and the place; or want of memory.

@@ -1,4 +1,5 @@
 //! Scopes, as the walk over a tree holds them.
+ghost use Rattle.std.specs.Prelude.{◌≡◌};
 
 use crate::place::{Declared, Seen};
 use indexmap::IndexMap;
@@ -10,6 +11,7 @@ pub const TOP: u32 = u32::MAX;
 /// A block, a `for`, a function or the program: its own names, and the `var` names declared at any depth in it.
 pub struct Scope {
     pub own: IndexMap<String, Declared>,
+    /// A block and a `for` have those alone that are names of their own too: no other can clash there.
     pub vars: IndexMap<String, Declared>,
     /// It is a whole function's, or the program's.
     pub whole: bool,
@@ -30,9 +32,33 @@ impl Drop for Scope {
 }
 
 /// A walk over a tree: the scopes around where it is, the innermost last, and the places that it has met.
-#[derive(Drop)]
 pub struct Walk {
     pub alloc: Global,
     pub scopes: Vec<Scope>,
     pub places: Vec<Seen>,
+}
+
+impl Walk {
+    /// The places that it has met.
+    pub fn into_places(self) -> Vec<Seen>
+        ensures { result ≡ self.places }
+    {
+        let Walk {
+            alloc: _,
+            scopes: _,
+            places,
+        } = self;
+        places
+    }
+}
+
+// It is let go by one call, written out.
+impl Drop for Walk {
+    fn drop(self) {
+        let Walk {
+            alloc: _,
+            scopes: _,
+            places: _,
+        } = self;
+    }
 }

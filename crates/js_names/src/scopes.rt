@@ -1,11 +1,11 @@
 //! The scopes of blocks, loops and the program, made from their trees.
-ghost use Rattle.std.specs.Prelude.{◌≡◌, ◌∷◌, [], IfOk, OnOk, false, map};
+ghost use Rattle.std.specs.Prelude.{◌≡◌, ◌∷◌, [], IfOk, None, OnOk, false, map};
 ghost use Rattle.std.specs.List.{flat_map};
 ghost use Rattle.js_tree.specs.Plain.{stmts_of};
 ghost use Rattle.js_tree.specs.Views.{plain_stmt, plain_start, plain_tree};
 ghost use Rattle.std.specs.HashMap.{get_by_text};
 ghost use Rattle.js_names.specs.Scopes.{entry, given_of, parameter, parameters, function_scope, block_scope, for_scope, list_scope, each_scope, each_role, program_scope};
-ghost use Rattle.js_names.specs.Views.{TakesOwn, TakesVars, in_map, scope_of, own_of_tree_item, vars_of_tree_item};
+ghost use Rattle.js_names.specs.Views.{TakesOwn, TakesVars, in_map, keeps, scope_of, own_of_tree_item, vars_of_tree_item};
 
 use crate::declare::{
     declare_list_vars, declare_own, declare_own_stmt, declare_own_stmts, declare_start_own,
@@ -20,7 +20,8 @@ use std::alloc::{AllocError, Global};
 
 /// The scope of a block.
 pub fn block_scope(alloc: Global, owner: u32, body: &[Stmt]) -> Result<Scope, AllocError>
-    ensures { IfOk result (λ s. scope_of s ≡ block_scope owner (stmts_of (map plain_stmt body.now))) }
+    ensures { IfOk result (λ s. scope_of s ≡ block_scope owner
+        (stmts_of (map plain_stmt body.now))) }
 {
     let mut scope = Scope {
         own: IndexMap::new(alloc),
@@ -29,13 +30,14 @@ pub fn block_scope(alloc: Global, owner: u32, body: &[Stmt]) -> Result<Scope, Al
         owner,
     };
     declare_own_stmts(alloc, &mut scope.own, owner, false, body)?;
-    declare_list_vars(alloc, &mut scope.vars, owner, false, body)?;
+    declare_list_vars(alloc, &mut scope.vars, Some(&scope.own), owner, false, body)?;
     Ok(scope)
 }
 
 /// The scope of a `for` with three parts.
 pub fn for_scope(alloc: Global, owner: u32, start: &Start, body: &Stmt) -> Result<Scope, AllocError>
-    ensures { IfOk result (λ s. scope_of s ≡ for_scope owner (plain_start start.now) (plain_stmt body.now)) }
+    ensures { IfOk result (λ s. scope_of s ≡ for_scope owner (plain_start start.now)
+        (plain_stmt body.now)) }
 {
     let mut scope = Scope {
         own: IndexMap::new(alloc),
@@ -44,8 +46,8 @@ pub fn for_scope(alloc: Global, owner: u32, start: &Start, body: &Stmt) -> Resul
         owner,
     };
     declare_start_own(alloc, &mut scope.own, owner, start)?;
-    declare_start_vars(alloc, &mut scope.vars, owner, start)?;
-    declare_stmt_vars(alloc, &mut scope.vars, owner, false, body)?;
+    declare_start_vars(alloc, &mut scope.vars, Some(&scope.own), owner, start)?;
+    declare_stmt_vars(alloc, &mut scope.vars, Some(&scope.own), owner, false, body)?;
     Ok(scope)
 }
 
@@ -58,7 +60,8 @@ fn declare_each(
     name: &Name,
     end: u32,
 ) -> Result<(), AllocError>
-    ensures { OnOk result (TakesOwn own.old own.new (entry name.now (each_role kind) end owner false 0 ∷ [])) }
+    ensures { OnOk result (TakesOwn own.old own.new
+        (entry name.now (each_role kind) end owner false 0 ∷ [])) }
 {
     let role = each_role(kind);
     let declared = Declared {
@@ -108,7 +111,7 @@ pub fn each_scope(
         owner,
     };
     declare_each(alloc, &mut scope.own, owner, kind, name, name.spot.at)?;
-    declare_stmt_vars(alloc, &mut scope.vars, owner, false, body)?;
+    declare_stmt_vars(alloc, &mut scope.vars, Some(&scope.own), owner, false, body)?;
     Ok(scope)
 }
 
@@ -130,7 +133,8 @@ fn declare_parameter(
     owner: u32,
     name: &Name,
 ) -> Result<(), AllocError>
-    ensures { OnOk result (TakesOwn own.old own.new (parameter owner (in_map vars.now) name.now ∷ [])) }
+    ensures { OnOk result (TakesOwn own.old own.new
+        (parameter owner (in_map vars.now) name.now ∷ [])) }
 {
     let given = given_of(vars, name.text.as_str());
     let declared = Declared {
@@ -152,7 +156,8 @@ fn declare_parameters(
     owner: u32,
     names: &[Name],
 ) -> Result<(), AllocError>
-    ensures { OnOk result (TakesOwn own.old own.new (parameters owner (in_map vars.now) names.now)) }
+    ensures { OnOk result (TakesOwn own.old own.new
+        (parameters owner (in_map vars.now) names.now)) }
 {
     for name in names {
         declare_parameter(alloc, own, vars, owner, name)?;
@@ -167,7 +172,8 @@ pub fn function_scope(
     names: &[Name],
     body: &[Stmt],
 ) -> Result<Scope, AllocError>
-    ensures { IfOk result (λ s. scope_of s ≡ function_scope owner names.now (stmts_of (map plain_stmt body.now))) }
+    ensures { IfOk result (λ s. scope_of s ≡ function_scope owner names.now
+        (stmts_of (map plain_stmt body.now))) }
 {
     let mut scope = Scope {
         own: IndexMap::new(alloc),
@@ -175,7 +181,7 @@ pub fn function_scope(
         whole: true,
         owner,
     };
-    declare_list_vars(alloc, &mut scope.vars, owner, true, body)?;
+    declare_list_vars(alloc, &mut scope.vars, None, owner, true, body)?;
     declare_parameters(alloc, &mut scope.own, &scope.vars, owner, names)?;
     declare_own_stmts(alloc, &mut scope.own, owner, true, body)?;
     Ok(scope)
@@ -211,10 +217,10 @@ fn declare_item_vars(
     vars: &mut IndexMap<String, Declared>,
     item: &Item,
 ) -> Result<(), AllocError>
-    ensures { OnOk result (TakesVars vars.old vars.new (vars_of_tree_item item.now)) }
+    ensures { OnOk result (TakesVars (keeps None) vars.old vars.new (vars_of_tree_item item.now)) }
 {
     match item {
-        Item::Statement(stmt) => declare_stmt_vars(alloc, vars, TOP, true, stmt),
+        Item::Statement(stmt) => declare_stmt_vars(alloc, vars, None, TOP, true, stmt),
         Item::Function(_, _, _, _) => Ok(()),
     }
 }
@@ -239,7 +245,8 @@ fn vars_of_items(
     vars: &mut IndexMap<String, Declared>,
     items: &[Item],
 ) -> Result<(), AllocError>
-    ensures { OnOk result (TakesVars vars.old vars.new (flat_map vars_of_tree_item items.now)) }
+    ensures { OnOk result (TakesVars (keeps None) vars.old vars.new
+        (flat_map vars_of_tree_item items.now)) }
 {
     for item in items {
         declare_item_vars(alloc, vars, item)?;

@@ -1,5 +1,6 @@
 //! Places, as a walk meets them.
 ghost use Rattle.std.specs.Prelude.{◌≡◌, ◌++◌, IfOk, OnOk};
+ghost use Rattle.std.specs.Arc.{arc_value};
 ghost use Rattle.js_names.specs.Sites.{site, read_site, assign_site, begin_site, parameter_sites, in_function, in_loop, declared_role, word_at};
 ghost use Rattle.js_names.specs.Scopes.{each_role};
 ghost use Rattle.js_names.specs.Places.{see, functions_of, owner_in};
@@ -11,10 +12,12 @@ use crate::place::{Around, Role, Seen, What, copy_of, word_at};
 use crate::scope::{Scope, Walk};
 use js_tree::{DeclareKind, Name, Spot};
 use std::alloc::{AllocError, Global};
+use std::sync::Arc;
 
 // Adds the function that begins with a scope.
 fn push_owner(functions: &mut Vec<u32>, scope: &Scope) -> Result<(), AllocError>
-    ensures { OnOk result (functions.new.items ≡ functions.old.items ++ owner_in (scope_of scope.now)) }
+    ensures { OnOk result (functions.new.items ≡ functions.old.items ++ owner_in
+        (scope_of scope.now)) }
 {
     if scope.whole {
         functions.push(scope.owner)?;
@@ -35,20 +38,38 @@ fn functions_of(alloc: Global, scopes: &[Scope]) -> Result<Vec<u32>, AllocError>
     Ok(functions)
 }
 
-// What the rules ask of a place.
+// These functions, shared with the place before where they are those around it.
+fn shared(
+    alloc: Global,
+    functions: Vec<u32>,
+    before: Option<&Seen>,
+) -> Result<Arc<Vec<u32>>, AllocError>
+    ensures { IfOk result (λ fs. (arc_value fs).items ≡ functions.items) }
+{
+    if let Some(seen) = before
+        && seen.functions.as_slice() == functions.as_slice()
+    {
+        return seen.functions.clone();
+    }
+    Ok(Arc::new(alloc, functions)?)
+}
+
+// What the rules ask of a place, which stands behind another one.
 #[tactic(auto, unfolding(crate::specs::Places::see))]
 fn see(
     alloc: Global,
     scopes: &[Scope],
+    before: Option<&Seen>,
     around: Around,
     what: What,
     name: Name,
 ) -> Result<Seen, AllocError>
-    ensures { IfOk result (λ p. place_of p ≡ see (record { what = what; name = name; scopes = scopes_of scopes.now; around = around })) }
+    ensures { IfOk result (λ p. place_of p ≡ see
+        (record { what = what; name = name; scopes = scopes_of scopes.now; around = around })) }
 {
     let declared = declared_at(scopes, what, name.text.as_str());
     let clashes = clashes(scopes, what, &name);
-    let functions = functions_of(alloc, scopes)?;
+    let functions = shared(alloc, functions_of(alloc, scopes)?, before)?;
     Ok(Seen {
         what,
         name,
@@ -63,14 +84,16 @@ fn see(
 pub fn put(walk: &mut Walk, around: Around, what: What, name: Name) -> Result<(), AllocError>
     ensures { OnOk result (Adds walk.old walk.new (site (scopes_in walk.old) around what name)) }
 {
-    let seen = see(walk.alloc, &walk.scopes, around, what, name)?;
+    let before = walk.places.last();
+    let seen = see(walk.alloc, &walk.scopes, before, around, what, name)?;
     walk.places.push(seen)?;
     Ok(())
 }
 
 /// One more place, at a name of the tree.
 pub fn put_name(walk: &mut Walk, around: Around, what: What, name: &Name) -> Result<(), AllocError>
-    ensures { OnOk result (Adds walk.old walk.new (site (scopes_in walk.old) around what name.now)) }
+    ensures { OnOk result (Adds walk.old walk.new
+        (site (scopes_in walk.old) around what name.now)) }
 {
     put(walk, around, what, copy_of(name)?)
 }
@@ -83,7 +106,8 @@ pub fn put_word(
     word: &str,
     spot: Spot,
 ) -> Result<(), AllocError>
-    ensures { OnOk result (Adds walk.old walk.new (site (scopes_in walk.old) around what (word_at word.now spot))) }
+    ensures { OnOk result (Adds walk.old walk.new
+        (site (scopes_in walk.old) around what (word_at word.now spot))) }
 {
     let name = word_at(walk.alloc, word, spot)?;
     put(walk, around, what, name)
@@ -91,7 +115,8 @@ pub fn put_word(
 
 /// A name that is read.
 pub fn put_read(walk: &mut Walk, around: Around, name: &Name) -> Result<(), AllocError>
-    ensures { OnOk result (Adds walk.old walk.new (read_site (scopes_in walk.old) around name.now)) }
+    ensures { OnOk result (Adds walk.old walk.new
+        (read_site (scopes_in walk.old) around name.now)) }
 {
     let text = name.text.as_str();
     if is_object(text) {
@@ -105,7 +130,8 @@ pub fn put_read(walk: &mut Walk, around: Around, name: &Name) -> Result<(), Allo
 
 /// A name that is assigned or updated.
 pub fn put_changed(walk: &mut Walk, around: Around, name: &Name) -> Result<(), AllocError>
-    ensures { OnOk result (Adds walk.old walk.new (assign_site (scopes_in walk.old) around name.now)) }
+    ensures { OnOk result (Adds walk.old walk.new
+        (assign_site (scopes_in walk.old) around name.now)) }
 {
     let what = if is_reserved(name.text.as_str()) {
         What::Misuses
@@ -124,7 +150,8 @@ pub fn put_begin(walk: &mut Walk, owner: u32, spot: Spot) -> Result<(), AllocErr
 
 /// The parameters of a function.
 pub fn put_parameters(walk: &mut Walk, around: Around, names: &[Name]) -> Result<(), AllocError>
-    ensures { OnOk result (Adds walk.old walk.new (parameter_sites (scopes_in walk.old) around names.now)) }
+    ensures { OnOk result (Adds walk.old walk.new
+        (parameter_sites (scopes_in walk.old) around names.now)) }
 {
     for name in names {
         put_name(walk, around, What::Declares(Role::Parameter), name)?;

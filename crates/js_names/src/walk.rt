@@ -27,7 +27,9 @@ use std::alloc::{AllocError, Global};
 
 // A use of `bp` or `Math` that is no form, named by both words.
 fn put_misuse(walk: &mut Walk, around: Around, object: &Name, word: &str) -> Result<(), AllocError>
-    ensures { OnOk result (Adds walk.old walk.new (site (scopes_in walk.old) around What.Misuses (word_at (object.now.text ++ (codes "." ++ word.now)) object.now.spot))) }
+    ensures { OnOk result (Adds walk.old walk.new
+        (site (scopes_in walk.old) around What.Misuses
+        (word_at (object.now.text ++ (codes "." ++ word.now)) object.now.spot))) }
 {
     let text = member_name(walk.alloc, object.text.as_str(), word)?;
     put_word(walk, around, What::Misuses, text.as_str(), object.spot)
@@ -90,7 +92,8 @@ fn put_expr(walk: &mut Walk, around: Around, e: &Expr) -> Result<(), AllocError>
 fn put_member(walk: &mut Walk, around: Around, e: &Expr, word: &Text) -> Result<(), AllocError>
     ensures { OnOk result (Adds walk.old walk.new
         (member_sites (scopes_in walk.old) around (object_of (plain_expr e.now)) word.now
-        (is_some (value_builtin (plain_expr e.now) word.now)) (tree_sites (scopes_in walk.old) around e.now))) }
+        (is_some (value_builtin (plain_expr e.now) word.now))
+        (tree_sites (scopes_in walk.old) around e.now))) }
 {
     match object_of(e) {
         None => put_expr(walk, around, e),
@@ -108,7 +111,8 @@ fn put_member(walk: &mut Walk, around: Around, e: &Expr, word: &Text) -> Result<
 #[cycle(walk)]
 fn put_callee(walk: &mut Walk, around: Around, callee: &Expr) -> Result<(), AllocError>
     ensures { OnOk result (Adds walk.old walk.new
-        (if is_some (called_builtin (plain_expr callee.now)) then [] else tree_sites (scopes_in walk.old) around callee.now)) }
+        (if is_some (called_builtin (plain_expr callee.now)) then [] else tree_sites
+        (scopes_in walk.old) around callee.now)) }
 {
     if called_builtin(callee).is_some() {
         Ok(())
@@ -120,7 +124,8 @@ fn put_callee(walk: &mut Walk, around: Around, callee: &Expr) -> Result<(), Allo
 // An arrow function with a value.
 #[cycle(walk)]
 fn put_arrow(walk: &mut Walk, spot: Spot, names: &[Name], value: &Expr) -> Result<(), AllocError>
-    ensures { OnOk result (Adds walk.old walk.new (arrow_sites (scopes_in walk.old) spot names.now value.now)) }
+    ensures { OnOk result (Adds walk.old walk.new
+        (arrow_sites (scopes_in walk.old) spot names.now value.now)) }
 {
     let scope = function_scope(walk.alloc, spot.at, names, &[])?;
     enter(walk, scope)?;
@@ -138,7 +143,8 @@ fn put_function(
     names: &[Name],
     body: &[Stmt],
 ) -> Result<(), AllocError>
-    ensures { OnOk result (Adds walk.old walk.new (body_sites (scopes_in walk.old) spot names.now body.now)) }
+    ensures { OnOk result (Adds walk.old walk.new
+        (body_sites (scopes_in walk.old) spot names.now body.now)) }
 {
     let scope = function_scope(walk.alloc, spot.at, names, body)?;
     enter(walk, scope)?;
@@ -151,7 +157,8 @@ fn put_function(
 // Expressions.
 #[cycle(walk)]
 fn put_exprs(walk: &mut Walk, around: Around, es: &[Expr]) -> Result<(), AllocError>
-    ensures { OnOk result (Adds walk.old walk.new (flat_map (tree_sites (scopes_in walk.old) around) es.now)) }
+    ensures { OnOk result (Adds walk.old walk.new
+        (flat_map (tree_sites (scopes_in walk.old) around) es.now)) }
 {
     for e in es {
         put_expr(walk, around, e)?;
@@ -162,7 +169,8 @@ fn put_exprs(walk: &mut Walk, around: Around, es: &[Expr]) -> Result<(), AllocEr
 // The values of fields.
 #[cycle(walk)]
 fn put_fields(walk: &mut Walk, around: Around, fields: &[Field]) -> Result<(), AllocError>
-    ensures { OnOk result (Adds walk.old walk.new (flat_map (field_sites (scopes_in walk.old) around) fields.now)) }
+    ensures { OnOk result (Adds walk.old walk.new
+        (flat_map (field_sites (scopes_in walk.old) around) fields.now)) }
 {
     for field in fields {
         put_expr(walk, around, &field.value)?;
@@ -173,7 +181,8 @@ fn put_fields(walk: &mut Walk, around: Around, fields: &[Field]) -> Result<(), A
 // An expression that may be absent.
 #[cycle(walk)]
 fn put_perhaps(walk: &mut Walk, around: Around, e: &Option<Expr>) -> Result<(), AllocError>
-    ensures { OnOk result (Adds walk.old walk.new (perhaps_tree_sites (scopes_in walk.old) around e.now)) }
+    ensures { OnOk result (Adds walk.old walk.new
+        (perhaps_tree_sites (scopes_in walk.old) around e.now)) }
 {
     match e {
         Some(e) => put_expr(walk, around, e),
@@ -189,7 +198,8 @@ fn put_declarator(
     kind: DeclareKind,
     declarator: &Declarator,
 ) -> Result<(), AllocError>
-    ensures { OnOk result (Adds walk.old walk.new (declarator_sites (scopes_in walk.old) around kind declarator.now)) }
+    ensures { OnOk result (Adds walk.old walk.new
+        (declarator_sites (scopes_in walk.old) around kind declarator.now)) }
 {
     put_name(
         walk,
@@ -208,7 +218,8 @@ fn put_declarators(
     kind: DeclareKind,
     declarators: &[Declarator],
 ) -> Result<(), AllocError>
-    ensures { OnOk result (Adds walk.old walk.new (flat_map (declarator_sites (scopes_in walk.old) around kind) declarators.now)) }
+    ensures { OnOk result (Adds walk.old walk.new
+        (flat_map (declarator_sites (scopes_in walk.old) around kind) declarators.now)) }
 {
     for declarator in declarators {
         put_declarator(walk, around, kind, declarator)?;
@@ -219,7 +230,8 @@ fn put_declarators(
 // What a `for` begins with.
 #[cycle(walk)]
 fn put_start(walk: &mut Walk, around: Around, start: &Start) -> Result<(), AllocError>
-    ensures { OnOk result (Adds walk.old walk.new (start_tree_sites (scopes_in walk.old) around start.now)) }
+    ensures { OnOk result (Adds walk.old walk.new
+        (start_tree_sites (scopes_in walk.old) around start.now)) }
 {
     match start {
         Start::Nothing => Ok(()),
@@ -230,7 +242,8 @@ fn put_start(walk: &mut Walk, around: Around, start: &Start) -> Result<(), Alloc
 
 #[cycle(walk)]
 fn put_stmt(walk: &mut Walk, around: Around, stmt: &Stmt) -> Result<(), AllocError>
-    ensures { OnOk result (Adds walk.old walk.new (tree_stmt_sites (scopes_in walk.old) around stmt.now)) }
+    ensures { OnOk result (Adds walk.old walk.new
+        (tree_stmt_sites (scopes_in walk.old) around stmt.now)) }
 {
     match &stmt.form {
         StmtForm::Empty => Ok(()),
@@ -284,7 +297,8 @@ fn put_listed(
     name: &Name,
     list: &Expr,
 ) -> Result<(), AllocError>
-    ensures { OnOk result (Adds walk.old walk.new (listed_sites (scopes_in walk.old) around kind name.now list.now)) }
+    ensures { OnOk result (Adds walk.old walk.new
+        (listed_sites (scopes_in walk.old) around kind name.now list.now)) }
 {
     enter_list(walk, around, kind, name)?;
     put_expr(walk, around, list)?;
@@ -301,7 +315,8 @@ fn put_turns(
     name: &Name,
     body: &Stmt,
 ) -> Result<(), AllocError>
-    ensures { OnOk result (Adds walk.old walk.new (turn_sites (scopes_in walk.old) around kind name.now body.now)) }
+    ensures { OnOk result (Adds walk.old walk.new
+        (turn_sites (scopes_in walk.old) around kind name.now body.now)) }
 {
     let scope = each_scope(walk.alloc, around.owner, kind, name, body)?;
     enter(walk, scope)?;
@@ -313,7 +328,8 @@ fn put_turns(
 // A block.
 #[cycle(walk)]
 fn put_block(walk: &mut Walk, around: Around, body: &[Stmt]) -> Result<(), AllocError>
-    ensures { OnOk result (Adds walk.old walk.new (block_sites (scopes_in walk.old) around body.now)) }
+    ensures { OnOk result (Adds walk.old walk.new
+        (block_sites (scopes_in walk.old) around body.now)) }
 {
     let scope = block_scope(walk.alloc, around.owner, body)?;
     enter(walk, scope)?;
@@ -325,7 +341,8 @@ fn put_block(walk: &mut Walk, around: Around, body: &[Stmt]) -> Result<(), Alloc
 // Statements.
 #[cycle(walk)]
 fn put_stmts(walk: &mut Walk, around: Around, body: &[Stmt]) -> Result<(), AllocError>
-    ensures { OnOk result (Adds walk.old walk.new (flat_map (tree_stmt_sites (scopes_in walk.old) around) body.now)) }
+    ensures { OnOk result (Adds walk.old walk.new
+        (flat_map (tree_stmt_sites (scopes_in walk.old) around) body.now)) }
 {
     for stmt in body {
         put_stmt(walk, around, stmt)?;
@@ -336,7 +353,8 @@ fn put_stmts(walk: &mut Walk, around: Around, body: &[Stmt]) -> Result<(), Alloc
 // The parameters of a function, behind its first token.
 fn put_head(walk: &mut Walk, spot: Spot, names: &[Name]) -> Result<(), AllocError>
     ensures { OnOk result (Adds walk.old walk.new
-        (begin_site (scopes_in walk.old) spot.at spot ++ parameter_sites (scopes_in walk.old) (in_function spot.at) names.now)) }
+        (begin_site (scopes_in walk.old) spot.at spot ++ parameter_sites (scopes_in walk.old)
+        (in_function spot.at) names.now)) }
 {
     put_begin(walk, spot.at, spot)?;
     put_parameters(walk, in_function(spot.at), names)
@@ -344,7 +362,8 @@ fn put_head(walk: &mut Walk, spot: Spot, names: &[Name]) -> Result<(), AllocErro
 
 // The scope of a `for` with three parts.
 fn enter_for(walk: &mut Walk, around: Around, start: &Start, body: &Stmt) -> Result<(), AllocError>
-    ensures { OnOk result (Enters walk.old walk.new (for_scope around.owner (plain_start start.now) (plain_stmt body.now))) }
+    ensures { OnOk result (Enters walk.old walk.new
+        (for_scope around.owner (plain_start start.now) (plain_stmt body.now))) }
 {
     let scope = for_scope(walk.alloc, around.owner, start, body)?;
     enter(walk, scope)
@@ -357,7 +376,8 @@ fn enter_list(
     kind: DeclareKind,
     name: &Name,
 ) -> Result<(), AllocError>
-    ensures { OnOk result (EntersEach walk.old walk.new around kind name.now (list_scope around.owner kind name.now)) }
+    ensures { OnOk result (EntersEach walk.old walk.new around kind name.now
+        (list_scope around.owner kind name.now)) }
 {
     let scope = list_scope(walk.alloc, around.owner, kind, name)?;
     enter(walk, scope)?;
@@ -372,7 +392,8 @@ fn put_declared(
     names: &[Name],
     body: &[Stmt],
 ) -> Result<(), AllocError>
-    ensures { OnOk result (Adds walk.old walk.new (declared_sites (scopes_in walk.old) spot name.now names.now body.now)) }
+    ensures { OnOk result (Adds walk.old walk.new
+        (declared_sites (scopes_in walk.old) spot name.now names.now body.now)) }
 {
     put_name(walk, in_function(TOP), What::Declares(Role::Function), name)?;
     put_function(walk, spot, names, body)
@@ -390,7 +411,8 @@ fn put_item(walk: &mut Walk, item: &Item) -> Result<(), AllocError>
 
 // All that a program lists.
 fn put_items(walk: &mut Walk, items: &[Item]) -> Result<(), AllocError>
-    ensures { OnOk result (Adds walk.old walk.new (flat_map (tree_item_sites (scopes_in walk.old)) items.now)) }
+    ensures { OnOk result (Adds walk.old walk.new
+        (flat_map (tree_item_sites (scopes_in walk.old)) items.now)) }
 {
     for item in items {
         put_item(walk, item)?;
@@ -411,5 +433,5 @@ pub fn places_of(alloc: Global, tree: &Tree) -> Result<Vec<Seen>, AllocError>
     enter(&mut walk, scope)?;
     put_begin(&mut walk, TOP, program_spot(tree))?;
     put_items(&mut walk, &tree.items)?;
-    Ok(walk.places)
+    Ok(walk.into_places())
 }

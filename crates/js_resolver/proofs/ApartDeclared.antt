@@ -1,5 +1,5 @@
 -- What the lists of a tree declare is of their function, and is found in their scopes.
-use Rattle.std.proofs.Common.{◌≡◌, ℕ, List, [], ◌∷◌, ◌++◌, inl, inr, refl, Option, Some, Bool, true, false}
+use Rattle.std.proofs.Common.{◌≡◌, ℕ, List, [], ◌∷◌, ◌++◌, inl, inr, refl, Option, Some, None, Bool, true, false}
 use Rattle.std.proofs.lemmas.Bool.{true≢false}
 use Rattle.std.specs.List.{flat_map}
 use Rattle.js_tree.specs.declared.tree.Name.{Name}
@@ -101,11 +101,11 @@ var_items_of (t.function_of spot name names ss ∷ is) = var_items_of is
 
 pub block_own : (f : ℕ) (ss : PlainStmts) (scopes : List Scope) → AllThere (found (block_scope f ss ∷ scopes)) f (in_whole (block_scope f ss ∷ scopes)) (own_of_all f false ss)
 unfolding block_scope
-block_own f ss scopes = nested_there f (own_of_all f false ss) (vars_of_all f false ss) scopes (own_all_of f false false (no_directs false) ss)
+block_own f ss scopes = nested_there f (own_of_all f false ss) (block_scope f ss).vars scopes (own_all_of f false false (no_directs false) ss)
 
 pub for_own : (f : ℕ) (start : PlainStart) (s : PlainStmt) (scopes : List Scope) → AllThere (found (for_scope f start s ∷ scopes)) f (in_whole (for_scope f start s ∷ scopes)) (own_of_start f start)
 unfolding for_scope
-for_own f start s scopes = nested_there f (own_of_start f start) (vars_of_start f start ++ vars_of f false s) scopes (own_start_of f start)
+for_own f start s scopes = nested_there f (own_of_start f start) (for_scope f start s).vars scopes (own_start_of f start)
 
 each_kept : (f end : ℕ) (kind : DeclareKind) (name : Name) → IsKept f false (entry name (each_role kind) end f false 0).declared
 each_kept f end const_word name = record { owner = refl; nested = λ e. (refl, refl); inside = λ e. refl }
@@ -114,7 +114,7 @@ each_kept f end var_word name = record { owner = refl; nested = λ e. (refl, ref
 
 pub each_own : (f : ℕ) (kind : DeclareKind) (name : Name) (scopes : List Scope) → There (found (list_scope f kind name ∷ scopes)) f (in_whole (list_scope f kind name ∷ scopes)) name.text
 unfolding list_scope
-each_own f kind name scopes = (nested_there f (entry name (each_role kind) top f false 0 ∷ []) [] scopes (each_kept f top kind name, tt)).0
+each_own f kind name scopes = (nested_there f (entry name (each_role kind) top f false 0 ∷ []) (λ q. None) scopes (each_kept f top kind name, tt)).0
 
 -- the parameters of a function, and what its list declares
 function_own_of : (f : ℕ) (names : List Name) (ss : PlainStmts) → AllOf f true (parameters f (λ q. one_var (named q (vars_of_all f true ss))) names ++ own_of_all f true ss)

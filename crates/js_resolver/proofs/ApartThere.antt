@@ -94,9 +94,10 @@ earlier_kept f w (Some d) (Some e) g k s =
     elim (nat_lt e.place d.place) as (λ b. (c : Declared) × ((if b then Some e else Some d) ≡ Some c) × IsKept f w c) [ true ↦ (e, refl, k e refl) | false ↦ (d, refl, g d refl) ]
 
 -- the names of a block's or a `for`'s scope are found in it
-pub nested_there : (f : ℕ) (own vars : List Entry) (scopes : List Scope) → AllOf f false own → AllThere (found (scope_with own vars false f ∷ scopes)) f false own
+pub nested_there : (f : ℕ) (own : List Entry) (vars : List ℕ → Option Declared) (scopes : List Scope) → AllOf f false own
+    → AllThere (found (record { own = λ q. first (named q own); vars = vars; whole = false; owner = f } ∷ scopes)) f false own
 nested_there f own vars scopes h =
-    let s = scope_with own vars false f in
+    let s : Scope = record { own = λ q. first (named q own); vars = vars; whole = false; owner = f } in
     there_by (λ q. first (named q own)) (found (s ∷ scopes)) f false own (λ q t. (t.0, here_look s scopes q t.0 t.1, t.2)) (there_from first first_keeps f false [] own h)
 
 -- and so are those of a function's or the program's

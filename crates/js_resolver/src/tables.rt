@@ -177,7 +177,7 @@ fn around_there(place: &Seen) -> Option<u32>
     ensures { result ≡ around_there (place_of place.now) }
 {
     match place.what {
-        What::Begins => Some(second(&place.functions)),
+        What::Begins => Some(second(place.functions.as_slice())),
         _ => None,
     }
 }

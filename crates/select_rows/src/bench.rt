@@ -2,8 +2,9 @@
 //!
 //! `QUESTION | NUMBER: NAMES ; WAITS BLOCKS INTERRUPTS PRIORITY / .. | NAMES --> ANSWER`
 //!
-//! Names are those of events. A set is an event's name, `-` for none, `*` for all, or `!` for one
-//! whose predicate answers no truth value. `NUMBER: ended` takes away what a b-thread states.
+//! Names are those of events. A set is an event's name, `-` for none, `0` for one that is not stated,
+//! `*` for all, or `!` for one whose predicate answers no truth value. `NUMBER: ended` takes away
+//! what a b-thread states.
 ghost use Rattle.std.specs.Prelude.{ℕ, ◌≤◌, length, IfOk};
 ghost use Rattle.js_meaning.specs.State.{Ground as Base};
 ghost use Rattle.bp_select.specs.Benches.{Fits};
@@ -12,7 +13,7 @@ use bp_log::Strategy;
 use bp_script::accept;
 use bp_select::{Bench, Choice, Draw, Enabled, Reach, SelectFault};
 use bp_sets::SetFault;
-use bp_thread::{Events, Statement};
+use bp_thread::{Events, Requests, Statement};
 use js_data::{Event, Text, Whole};
 use js_frames::Ground;
 use js_value::{EventSet, Items, SetTree};
@@ -50,21 +51,22 @@ fn no_truth(alloc: Global) -> Result<SetTree, Fail> {
     })
 }
 
-fn set(alloc: Global, name: Option<&str>) -> Result<EventSet, Fail> {
+fn set(alloc: Global, name: Option<&str>) -> Result<Option<EventSet>, Fail> {
     let tree = match name.ok_or("no set")? {
+        "0" => return Ok(None),
         "-" => SetTree::Nothing,
         "*" => SetTree::All,
         "!" => no_truth(alloc)?,
         name => SetTree::Only(Arc::new(alloc, event(alloc, name)?)?),
     };
-    Ok(EventSet::new(alloc, tree)?)
+    Ok(Some(EventSet::new(alloc, tree)?))
 }
 
 fn statement(alloc: Global, line: &str) -> Result<Statement, Fail> {
     let (names, rest) = line.split_once(";").ok_or("no sets")?;
     let mut words = rest.split_whitespace();
     Ok(Statement {
-        request: events(alloc, names)?,
+        request: Requests::new(alloc, events(alloc, names)?)?,
         wait_for: set(alloc, words.next())?,
         block: set(alloc, words.next())?,
         interrupt: set(alloc, words.next())?,

@@ -25,6 +25,7 @@ const CHOICES: &str = "
     ordered 7 | 0: ended | --> nothing 0
     priority 7 | 0: ended | --> nothing 0
     simple 7 | 0: x y ; - - - 0 / 1: ; - x - 0 | --> y 0
+    simple 7 | 0: x y ; 0 0 0 0 / 1: ; 0 x 0 0 | --> y 0
     ordered 7 | 0: x y ; - - - 0 / 1: ; - x - 0 | --> y 0
     priority 7 | 0: x y ; - - - 0 / 1: ; - x - 0 | --> y 0
     simple 7 | 0: e ; - - - 0 / 1: e ; - - - 0 | --> e 0
@@ -67,6 +68,7 @@ const CHOICES: &str = "
 /// Sets that are not needed are not asked.
 const REACHES: &str = "
     reach | 0: ended | x --> moved [] interrupted []
+    reach | 0: x ; 0 0 0 0 / 1: ; x 0 0 0 / 2: x ; 0 0 x 0 / 3: ; 0 0 0 0 | x --> moved [0, 1] interrupted [2]
     reach | 0: x ; - - - 0 / 1: ; x - - 0 / 2: x ; x - x 0 / 3: y ; - - - 0 / 4: ; * - - 0 | x --> moved [0, 1, 4] interrupted [2]
     reach | 0: y ; x - * 0 / 1: ended / 2: y x ; - x - 0 | x --> moved [2] interrupted [0]
     reach | 0: x ; - - x 0 / 1: ; - x - 0 | x --> moved [] interrupted [0]
@@ -77,6 +79,7 @@ const REACHES: &str = "
 /// Who blocks, what is requested and what is selectable; statements are placed in any order.
 const OTHERS: &str = "
     blocker | 0: x ; - - - 0 / 1: ; - y - 0 | x --> none
+    blocker | 0: x ; 0 0 0 0 / 1: ; 0 x 0 0 | x --> 1
     blocker | 0: ended / 1: y ; - x - 0 / 2: ; - * - 0 | x --> 1
     blocker | 0: ; - * - 0 / 1: ; - ! - 0 | x --> 0
     blocker | 0: ; - ! - 0 / 1: ; - * - 0 | x --> no truth of 0 on line 1

@@ -1,21 +1,66 @@
-use Rattle.std.proofs.Common.{[]}
-use Rattle.bp_inject.proofs.Begins.{begins, ended}
+use Rattle.std.proofs.Common.{rules, ◌≡◌, ◌≤◌, [], false}
+use Rattle.bp_feeds.proofs.Going.{stands_on, goes_nowhere, goes_on}
+use Rattle.bp_inject.proofs.Begins.{begins, over_is_last}
+use Rattle.bp_feeds.specs.Feeds.{is_over}
 use Rattle.bp_inject.proofs.injecting.inject.Goals as goal
 
 pub returns-then-halted-clause-begins : goal.returns-then-halted-clause-begins
-returns-then-halted-clause-begins g c = λ bytes s. begins g.S.Source.left bytes c.loop.feed (c.loop.invariant.goes_on.stands bytes [] s)
+returns-then-halted-clause-begins g c = λ start s.
+    begins g.S.Source.left start c.loop.feed (stands_on g.S.Source.left g.S.Source.faults start [] c.args.feed.now c.loop.feed c.loop.invariant.goes_on s)
+
+pub returns-then-halted-clause-last : goal.returns-then-halted-clause-last
+returns-then-halted-clause-last g c = λ start s.
+    over_is_last g.S.Source.left start c.loop.feed (stands_on g.S.Source.left g.S.Source.faults start [] c.args.feed.now c.loop.feed c.loop.invariant.goes_on s)
 
 pub returns-in-Ok-Over-clause-begins : goal.returns-in-Ok-Over-clause-begins
-returns-in-Ok-Over-clause-begins g c = λ bytes s. begins g.S.Source.left bytes c.turn.new.self (c.turn.ensures.goes_on.stands bytes [] (c.loop.invariant.goes_on.stands bytes [] s))
+returns-in-Ok-Over-clause-begins g c = λ start s.
+    begins g.S.Source.left start c.turn.new.self (stands_on g.S.Source.left g.S.Source.faults start [] c.loop.feed c.turn.new.self c.turn.ensures.goes_on
+    (stands_on g.S.Source.left g.S.Source.faults start [] c.args.feed.now c.loop.feed c.loop.invariant.goes_on s))
+
+pub returns-in-Ok-Over-clause-last : goal.returns-in-Ok-Over-clause-last
+returns-in-Ok-Over-clause-last g c = λ start s.
+    over_is_last g.S.Source.left start c.turn.new.self (stands_on g.S.Source.left g.S.Source.faults start [] c.loop.feed c.turn.new.self c.turn.ensures.goes_on
+    (stands_on g.S.Source.left g.S.Source.faults start [] c.args.feed.now c.loop.feed c.loop.invariant.goes_on s))
 
 pub returns-in-Err-clause-begins : goal.returns-in-Err-clause-begins
-returns-in-Err-clause-begins g c = λ bytes s. begins g.S.Source.left bytes c.turn.new.self (c.turn.ensures.goes_on.stands bytes [] (c.loop.invariant.goes_on.stands bytes [] s))
+returns-in-Err-clause-begins g c = λ start s.
+    begins g.S.Source.left start c.turn.new.self (stands_on g.S.Source.left g.S.Source.faults start [] c.loop.feed c.turn.new.self c.turn.ensures.goes_on
+    (stands_on g.S.Source.left g.S.Source.faults start [] c.args.feed.now c.loop.feed c.loop.invariant.goes_on s))
 
-pub returns-then-halted-clause-end : goal.returns-then-halted-clause-end
-returns-then-halted-clause-end g c = λ bytes s. ended g.S.Source.left bytes c.loop.feed (c.loop.invariant.goes_on.stands bytes [] s)
+pub returns-in-Err-clause-last : goal.returns-in-Err-clause-last
+returns-in-Err-clause-last g c = λ start s.
+    over_is_last g.S.Source.left start c.turn.new.self (stands_on g.S.Source.left g.S.Source.faults start [] c.loop.feed c.turn.new.self c.turn.ensures.goes_on
+    (stands_on g.S.Source.left g.S.Source.faults start [] c.args.feed.now c.loop.feed c.loop.invariant.goes_on s))
 
-pub returns-in-Ok-Over-clause-end : goal.returns-in-Ok-Over-clause-end
-returns-in-Ok-Over-clause-end g c = λ bytes s. ended g.S.Source.left bytes c.turn.new.self (c.turn.ensures.goes_on.stands bytes [] (c.loop.invariant.goes_on.stands bytes [] s))
+pub loop-init : goal.loop-init
+loop-init g c = record {
+  goes_on = goes_nowhere g.S.Source.left g.S.Source.faults c.args.feed.now;
+  going = search rules;
+  halts = search rules;
+}
 
-pub returns-in-Err-clause-end : goal.returns-in-Err-clause-end
-returns-in-Err-clause-end g c = λ bytes s. ended g.S.Source.left bytes c.turn.new.self (c.turn.ensures.goes_on.stands bytes [] (c.loop.invariant.goes_on.stands bytes [] s))
+pub loop-preserved-in-Ok-Went : goal.loop-preserved-in-Ok-Went
+loop-preserved-in-Ok-Went g c =
+    let going : is_over c.turn.new.self ≡ false = search rules in
+    let halts : g.W.Wake.halts c.args.wake.now ≤ g.W.Wake.halts c.ring-in-Ok-Went.new.self = search rules in
+    record {
+      goes_on = goes_on g.S.Source.left g.S.Source.faults c.args.feed.now c.loop.feed c.turn.new.self c.loop.invariant.goes_on c.turn.ensures.goes_on;
+      going = going;
+      halts = halts;
+    }
+
+pub loop-preserved : goal.loop-preserved
+loop-preserved g c =
+    let going : is_over c.turn.new.self ≡ false = search rules in
+    let halts : g.W.Wake.halts c.args.wake.now ≤ g.W.Wake.halts c.wait.new.self = search rules in
+    record {
+      goes_on = goes_on g.S.Source.left g.S.Source.faults c.args.feed.now c.loop.feed c.turn.new.self c.loop.invariant.goes_on c.turn.ensures.goes_on;
+      going = going;
+      halts = halts;
+    }
+
+pub returns-in-Ok-Over-clause-goes_on : goal.returns-in-Ok-Over-clause-goes_on
+returns-in-Ok-Over-clause-goes_on g c = goes_on g.S.Source.left g.S.Source.faults c.args.feed.now c.loop.feed c.turn.new.self c.loop.invariant.goes_on c.turn.ensures.goes_on
+
+pub returns-in-Err-clause-goes_on : goal.returns-in-Err-clause-goes_on
+returns-in-Err-clause-goes_on g c = goes_on g.S.Source.left g.S.Source.faults c.args.feed.now c.loop.feed c.turn.new.self c.loop.invariant.goes_on c.turn.ensures.goes_on

@@ -18,10 +18,10 @@ returns-in_err-arbiter-clause-log_front g c =
     rw p.1 (log_stop_at g.L.Sink.written _ _ c.args.telling.now.records _ _ _ refl (log_shows_page g.L.Sink.written c.args.log.now c.args.telling.now.records))
 
 pub serve-requires-clause-alone : goal.serve-requires-clause-alone
-serve-requires-clause-alone g c = injectors_opened c.args.program c.args.options c.in_ok-arbiter.arbiter c.in_ok-arbiter.ensures.opened c.requires.alone
+serve-requires-clause-alone g c κs within = injectors_opened c.args.program c.args.options c.in_ok-arbiter.arbiter c.in_ok-arbiter.ensures.opened c.requires.alone
 
 pub serve-requires-clause-underway : goal.serve-requires-clause-underway
-serve-requires-clause-underway g c = underway_opened c.args.program c.args.options c.in_ok-arbiter.arbiter c.in_ok-arbiter.ensures.opened c.requires.alone c.in_ok-arbiter.ensures.stands
+serve-requires-clause-underway g c κs within = underway_opened c.args.program c.args.options c.in_ok-arbiter.arbiter c.in_ok-arbiter.ensures.opened c.requires.alone c.in_ok-arbiter.ensures.stands
 
 pub returns-in_err-serve-clause-front : goal.returns-in_err-serve-clause-front
 returns-in_err-serve-clause-front g c =

@@ -4,17 +4,8 @@ use Rattle.bp_floor.specs.declared.phase.Phase.{Phase}
 use Rattle.bp_floor.specs.declared.phase.Phase.TheVariants.{Ready, Lent, Rest, Over}
 use Rattle.bp_arbiter.specs.Arbiters.{stand_in}
 use Rattle.bp_serve.proofs.Turned.{settles_refl, settles_trans, settles_somewhere}
-use Rattle.bp_serve.proofs.serving.settle.Invariants.{turns_left}
+use Rattle.bp_serve.proofs.Measure.{falls}
 use Rattle.bp_serve.proofs.serving.settle.Goals as goal
-
-falls_to : (new : Phase) (m n : ℕ) → m ≤ MOST_THREADS → (new ≡ Ready → m < n) → turns_left new n < turns_left Ready m
-falls_to Ready m n h k = let l = k refl in omega (arith, h, l)
-falls_to Lent m n h k = omega (arith, h)
-falls_to Rest m n h k = omega (arith, h)
-falls_to Over m n h k = omega (arith, h)
-
-falls : (old new : Phase) (m n : ℕ) → old ≡ Ready → m ≤ MOST_THREADS → (new ≡ Ready → m < n) → turns_left new n < turns_left old m
-falls old new m n e h k = subst (λ (f : Phase). turns_left new n < turns_left f m) (sym e) (falls_to new m n h k)
 
 pub loop-alloc-init : goal.loop-alloc-init
 loop-alloc-init c = record { stands = c.requires.stands; settles = settles_refl c.args.arbiter.now; keeps = λ l o taken x. x; records = omega arith }

@@ -5,14 +5,8 @@ use Rattle.bp_floor.specs.declared.phase.Phase.TheVariants.{Ready, Lent, Rest, O
 use Rattle.bp_arbiter.specs.Arbiters.{stand_in, StandsSomewhere}
 use Rattle.bp_serve.specs.Serving.{KeepsUnderway}
 use Rattle.bp_serve.specs.Turning.{Settles}
+use Rattle.bp_serve.proofs.Measure.{turns_left}
 use Rattle.bp_serve.proofs.serving.settle.Given as goal
-
--- at most so many turns are left with so many b-threads
-abbrev pub turns_left : Phase → ℕ → ℕ
-turns_left Ready threads = MOST_THREADS + 1 - threads
-turns_left Lent threads = 0
-turns_left Rest threads = 0
-turns_left Over threads = 0
 
 abbrev pub invariant-loop-alloc : goal.invariant-loop-alloc
 invariant-loop-alloc l = record {

@@ -7,5 +7,5 @@ use Rattle.js_frames.proofs.forms.ask.Goals as goal
 
 pub returns : goal.returns
 returns c = asks_so _ c.take.result c.take-priority.result c.args.line (λ g s.
-    ap (λ x. asks g.budget c.args.line x (plain_value c.take-priority.result) s.replies s) (c.take.ensures.value ∙ ap (argument 0) c.take-priority.ensures.rest ∙ argument_taken c.args.args)
-    ∙ ap (λ y. asks g.budget c.args.line (argument 0 c.args.args) y s.replies s) c.take-priority.ensures.value)
+    ap (λ x. asks g.budget c.args.line x (plain_value c.take-priority.result) s.replies s) (c.take.ensures.value ∙ ap (argument 0) c.take-priority.ensures.rest ∙ argument_taken c.args.args.now)
+    ∙ ap (λ y. asks g.budget c.args.line (argument 0 c.args.args.now) y s.replies s) c.take-priority.ensures.value)

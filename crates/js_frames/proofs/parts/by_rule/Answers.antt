@@ -8,4 +8,4 @@ pub returns-in-None : goal.returns-in-None
 returns-in-None c = ap (λ o. by_rule o (plain_value c.args.left.now) (plain_value c.args.right.now)) c.in-None.is
 
 pub returns-in-Some : goal.returns-in-Some
-returns-in-Some c = subst (λ o. AnswersAs (by_rule o (plain_value c.args.left.now) (plain_value c.args.right.now)) c.apply.result) (sym c.in-Some.is) c.apply.ensures
+returns-in-Some c = subst (λ o. AnswersAs (by_rule o (plain_value c.args.left.now) (plain_value c.args.right.now)) c.apply_by.result) (sym c.in-Some.is) c.apply_by.ensures

@@ -1,10 +1,20 @@
-use Rattle.std.proofs.Common.{arith}
-use Rattle.js_names.specs.Slots.{parameter_in, captures_in, variable_in}
-use Rattle.js_names.specs.Views.{place_of}
-use Rattle.js_names.proofs.Holding.{holds_more}
+use Rattle.std.proofs.Common.{◌∙◌, ap, arith}
+use Rattle.js_names.specs.Slots.{captures_in}
+use Rattle.js_names.specs.Views.{held_in, place_of}
+use Rattle.js_names.proofs.Holding.{holds_more, holds_again}
+use Rattle.js_names.proofs.holdings.hold_all_captures.Goals.{then-not-is_made+in_ok-hold_captures+in_ok-note_captures, else-not-is_made}
 use Rattle.js_names.proofs.holdings.hold_all_captures.Goals as goal
 
-pub loop-place-preserved : goal.loop-place-preserved
-loop-place-preserved c =
-    holds_more (λ p. captures_in c.args.assigned.now.keys (place_of p)) c.args.places.now c.loop-place.place-index c.place-item.result c.place-item.result c.args.held.now c.loop-place.held c.hold_captures.new.held (omega arith) c.place-item.is
-    c.loop-place.invariant c.in_ok-hold_captures.ensures
+pub loop-at-preserved : goal.loop-at-preserved
+loop-at-preserved c = λ q.
+    elim c.if-not-is_made.branch [
+      | then-not-is_made+in_ok-hold_captures+in_ok-note_captures w ↦
+          ap (λ z. held_in z q) w.held-is
+          ∙ holds_more (λ p. captures_in c.args.assigned.now.keys (place_of p)) c.args.places.now c.loop-at.at c.index-places-at.result c.index-places-at.result c.args.held.now c.loop-at.held w.hold_captures.new.held (omega arith)
+          c.index-places-at.is c.loop-at.invariant w.in_ok-hold_captures.ensures q
+      | else-not-is_made w ↦
+          let m = c.is_made.ensures w.if-not-is_made.false in
+          ap (λ z. held_in z q) w.held-is
+          ∙ holds_again (λ p. captures_in c.args.assigned.now.keys (place_of p)) c.args.places.now c.loop-at.at c.index-places-at.result c.index-places-at.result c.args.held.now c.loop-at.held m.0 m.1 (omega arith)
+          c.index-places-at.is m.2 m.3 m.4 c.loop-at.invariant q
+    ]

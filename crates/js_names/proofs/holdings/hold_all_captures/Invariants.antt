@@ -1,8 +1,8 @@
 use Rattle.std.proofs.Common.{take}
 use Rattle.std.specs.List.{flat_map}
-use Rattle.js_names.specs.Slots.{parameter_in, captures_in, variable_in}
+use Rattle.js_names.specs.Slots.{captures_in}
 use Rattle.js_names.specs.Views.{Holds, place_of}
 use Rattle.js_names.proofs.holdings.hold_all_captures.Given as goal
 
-abbrev pub invariant-loop-place : goal.invariant-loop-place
-invariant-loop-place l = Holds l.initial.held l.held (flat_map (λ p. captures_in l.assigned.keys (place_of p)) (take l.place-index l.places))
+abbrev pub invariant-loop-at : goal.invariant-loop-at
+invariant-loop-at l = Holds l.initial.held l.held (flat_map (λ p. captures_in l.assigned.keys (place_of p)) (take l.at l.places))

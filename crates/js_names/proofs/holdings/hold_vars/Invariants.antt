@@ -1,6 +1,6 @@
 use Rattle.std.proofs.Common.{take}
 use Rattle.std.specs.List.{flat_map}
-use Rattle.js_names.specs.Slots.{parameter_in, captures_in, variable_in, var_in}
+use Rattle.js_names.specs.Slots.{var_in}
 use Rattle.js_names.specs.Views.{Holds, place_of}
 use Rattle.js_names.proofs.holdings.hold_vars.Given as goal
 

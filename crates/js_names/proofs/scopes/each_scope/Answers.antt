@@ -1,7 +1,7 @@
 use Rattle.std.proofs.Common.{false, ◌∷◌, []}
 use Rattle.js_tree.specs.Views.{plain_stmt}
 use Rattle.js_names.specs.Scopes.{each_scope, each_role, entry, vars_of}
-use Rattle.js_names.proofs.Making.{scope_made}
+use Rattle.js_names.proofs.Making.{inner_made}
 use Rattle.js_names.proofs.scopes.each_scope.Goals as goal
 
 pub returns : goal.returns
@@ -9,5 +9,5 @@ unfolding each_scope
 returns c =
     let o = c.args.owner in
     let n = c.args.name.now in
-    scope_made c.new.result c.declare_each.new.own c.new-2.result c.declare_stmt_vars.new.map (entry n (each_role c.args.kind) n.spot.at o false 0 ∷ []) (vars_of o false (plain_stmt c.args.body.now)) false o
+    inner_made c.new.result c.declare_each.new.own c.new-2.result c.declare_stmt_vars.new.map (entry n (each_role c.args.kind) n.spot.at o false 0 ∷ []) (vars_of o false (plain_stmt c.args.body.now)) o
     c.new.ensures.empty c.new-2.ensures.empty c.in_ok-declare_each.ensures c.in_ok-declare_stmt_vars.ensures

@@ -2,7 +2,7 @@ use Rattle.std.proofs.Common.{◌∙◌, ap, sym, true, map, ◌++◌}
 use Rattle.std.specs.List.{flat_map}
 use Rattle.js_tree.specs.Plain.{stmts_of}
 use Rattle.js_tree.specs.Views.{plain_stmt}
-use Rattle.js_names.specs.Scopes.{function_scope, scope_with, parameters, own_of_all, vars_of_all, one_var, named}
+use Rattle.js_names.specs.Scopes.{function_scope, scope_with, parameters, vars_of_all, one_var, named}
 use Rattle.js_names.specs.Views.{in_map, own_of_stmt, vars_of_stmt}
 use Rattle.js_names.proofs.Making.{scope_made, in_map_is}
 use Rattle.js_names.proofs.Taking.{own_both, own_of_stmts, vars_of_stmts}

@@ -1,7 +1,7 @@
-use Rattle.std.proofs.Common.{take}
+use Rattle.std.proofs.Common.{take, None}
 use Rattle.std.specs.List.{flat_map}
-use Rattle.js_names.specs.Views.{TakesVars, vars_of_tree_item}
+use Rattle.js_names.specs.Views.{TakesVars, keeps, vars_of_tree_item}
 use Rattle.js_names.proofs.scopes.vars_of_items.Given as goal
 
 abbrev pub invariant-loop-item : goal.invariant-loop-item
-invariant-loop-item l = TakesVars l.initial.vars l.vars (flat_map vars_of_tree_item (take l.item-index l.items))
+invariant-loop-item l = TakesVars (keeps None) l.initial.vars l.vars (flat_map vars_of_tree_item (take l.item-index l.items))

@@ -1,4 +1,4 @@
-use Rattle.std.proofs.Common.{◌≡◌, ◌∙◌, ◌++◌, sym, ap, arith, take, length, take_all, append-nil, ◌-◌}
+use Rattle.std.proofs.Common.{◌≡◌, ◌∙◌, ◌++◌, sym, ap, arith, take, append-nil, ◌-◌}
 use Rattle.js_names.specs.Places.{functions_of, owner_in}
 use Rattle.js_names.specs.Views.{scope_of, scopes_of}
 use Rattle.js_names.proofs.Stacks.{functions_down, functions_empty, functions_step}

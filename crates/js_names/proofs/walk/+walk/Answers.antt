@@ -1,11 +1,11 @@
-use Rattle.std.proofs.Common.{◌++◌, ◌∷◌, [], ◌∙◌, sym, append_assoc, arith, subst, map}
+use Rattle.std.proofs.Common.{◌++◌, [], ◌∙◌, sym, append_assoc, arith, subst, map}
 use Rattle.std.specs.Prelude.{is_some, codes, if◌then◌else◌}
 use Rattle.std.specs.List.{flat_map}
 use Rattle.js_tree.specs.declared.tree.Declarator.{out-Declarator}
 use Rattle.js_tree.specs.Plain.{stmts_of}
 use Rattle.js_tree.specs.Views.{plain_expr, plain_start, plain_stmt}
 use Rattle.js_names.specs.declared.place.What.{What}
-use Rattle.js_names.specs.Scopes.{block_scope, for_scope, list_scope, each_scope, each_role, function_scope}
+use Rattle.js_names.specs.Scopes.{block_scope, for_scope, list_scope, each_scope, function_scope}
 use Rattle.js_names.specs.Sites.{site, word_at, assign_site, begin_site, parameter_sites, in_function, in_loop, declared_role, called_builtin}
 use Rattle.js_names.specs.Views.{Adds, Enters, scopes_in, tree_sites, field_sites, declarator_sites, perhaps_tree_sites, start_tree_sites, tree_stmt_sites, listed_sites, turn_sites}
 use Rattle.js_names.proofs.Adding.{adds_as, adds_none, adds_then, adds_both, adds_more, adds_under, enters_under, each_under}

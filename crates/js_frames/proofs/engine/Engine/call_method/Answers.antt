@@ -3,8 +3,8 @@ use Rattle.js_value.specs.Views.{plain_value}
 use Rattle.js_meaning.specs.Calls.{calls_method}
 use Rattle.js_meaning.specs.Meaning.{eval}
 use Rattle.js_ops.specs.Members.{field_or_undefined}
-use Rattle.js_frames.specs.Places.{plain_ground, place_of, here}
-use Rattle.js_frames.proofs.Steps.{means_ok, becomes_ok}
+use Rattle.js_frames.specs.Places.{plain_ground, here}
+use Rattle.js_frames.proofs.Steps.{means_ok}
 use Rattle.js_frames.proofs.Calling.{no_method_call}
 use Rattle.js_frames.proofs.engine.Engine.call_method.Goals as goal
 
@@ -23,7 +23,7 @@ returns-in-List c =
 pub returns-in_default : goal.returns-in_default
 returns-in_default c =
     let g = here c.args.base.now c.args.self.now in
-    becomes_ok (plain_ground c.args.base.now) (place_of c.args.self.now) _ _ c.apply_method.result c.requires c.apply_method.ensures
+    means_ok (plain_ground c.args.base.now) _ _ _ _ c.apply_method.result c.apply_method.ensures
     (λ s. no_method_call g (eval g) c.args.line c.args.word.now c.args.on c.args.args s c.in_default.not-Fields c.in_default.not-List)
 
 pub call_field-requires : goal.call_field-requires
@@ -31,3 +31,6 @@ call_field-requires c = c.requires
 
 pub call_on_list-requires : goal.call_on_list-requires
 call_on_list-requires c = c.requires
+
+pub apply_method-requires : goal.apply_method-requires
+apply_method-requires c = c.requires

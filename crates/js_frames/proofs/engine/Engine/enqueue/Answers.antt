@@ -17,7 +17,7 @@ pub returns : goal.returns
 unfolding step_outcome
 returns c =
     let old = place_of c.args.self.now in
-    subst (Leads (plain_ground c.args.base.now) old (enqueues_event c.args.line (argument 0 c.args.args)) old) (sym c.mistyped.ensures)
+    subst (Leads (plain_ground c.args.base.now) old (enqueues_event c.args.line (argument 0 c.args.args.now)) old) (sym c.mistyped.ensures)
     (stays (plain_ground c.args.base.now) old _ _ c.requires tt (λ s. no_event c.args.line c.take.result s c.in_default.not-Event ∙ ap (λ x. enqueues_event c.args.line x s) c.take.ensures.value))
 
 pub act-requires : goal.act-requires

@@ -16,6 +16,6 @@ returns c =
     let base = plain_ground c.args.base.now in
     let old = place_of c.args.self.now in
     subst (λ q. IfOk c.answered.result (λ step. Leads base old (answered c.args.line (value_of op.FloorDivide (argument 0 c.args.done) (argument 1 c.args.done))) q step)) (sym c.done_with.ensures)
-    (becomes_ok base old _ _ c.answered.result c.requires (c.answered.ensures _ c.apply.ensures) (λ s.
+    (becomes_ok base old _ _ c.answered.result c.requires (c.answered.ensures _ c.apply_by-answer.ensures) (λ s.
     ap (λ x. answered c.args.line (value_of op.FloorDivide x (plain_value c.take-divisor.result)) s) (c.take-dividend.ensures.value ∙ ap (argument 0) c.take-divisor.ensures.rest ∙ argument_taken c.args.done)
     ∙ ap (λ y. answered c.args.line (value_of op.FloorDivide (argument 0 c.args.done) y) s) c.take-divisor.ensures.value))

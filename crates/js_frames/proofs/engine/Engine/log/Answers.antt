@@ -14,7 +14,7 @@ pub returns-in-None : goal.returns-in-None
 unfolding step_outcome
 returns-in-None c =
     let old = place_of c.args.self.now in
-    subst (Leads (plain_ground c.args.base.now) old (logs c.args.line (log_text (argument 0 c.args.args))) old) (sym c.mistyped.ensures)
+    subst (Leads (plain_ground c.args.base.now) old (logs c.args.line (log_text (argument 0 c.args.args.now))) old) (sym c.mistyped.ensures)
     (stays (plain_ground c.args.base.now) old _ _ c.requires tt (λ s. ap (λ o. logs c.args.line o s) (sym c.in-None.is ∙ c.in_ok-log_text.ensures) ∙ ap (λ x. logs c.args.line (log_text x) s) c.take-value.ensures.value))
 
 pub act-requires : goal.act-requires

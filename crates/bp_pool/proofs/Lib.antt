@@ -1,0 +1,4 @@
+pub mod Going
+pub mod Places
+pub mod Writes
+pub mod Crossings

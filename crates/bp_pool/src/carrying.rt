@@ -1,0 +1,89 @@
+//! Jobs that are carried on in the calling thread.
+ghost use Rattle.std.specs.Prelude.{◌≡◌, ◌↔◌, IfOk, OnOk, IsSome, IsTrue, None, is_some};
+ghost use Rattle.js_frames.specs.Places.{plain_ground};
+ghost use Rattle.bp_thread.specs.Jobs.{plain_job, IsOf};
+ghost use Rattle.bp_pool.specs.Carrying.{AreOf, AreOpen, IsCarriedOn, IsDone, Each};
+
+use crate::gate::Gate;
+use bp_thread::Job;
+use js_data::Memory;
+use js_frames::Ground;
+use std::sync::Wait;
+
+/// Whether the job has its outcome.
+pub(crate) fn has_outcome(job: &Job) -> bool
+    ensures { result ≡ is_some (plain_job job.now).outcome }
+{
+    job.outcome().is_some()
+}
+
+/// Carries each job on by one slice. Its only error is want of memory.
+pub(crate) fn look(ground: &Ground, jobs: &mut [Job], slice: u64) -> Result<(), Memory>
+    requires program { AreOf (plain_ground ground.now) jobs.old }
+    requires open { AreOpen jobs.old }
+    ensures carried { OnOk result (Each (IsCarriedOn (plain_ground ground.now)) jobs.old jobs.new) }
+{
+    for job in jobs {
+        job.slice(ground, slice)?;
+    }
+    Ok(())
+}
+
+/// One slice of the job, of which the gate is told. Its only error is want of memory.
+pub(crate) fn gated_slice<G: Gate>(
+    ground: &Ground,
+    job: &mut Job,
+    slice: u64,
+    gate: &G,
+) -> Result<bool, Memory>
+    requires program { IsOf (plain_ground ground.now).program job.old }
+    requires open { (plain_job job.old).outcome ≡ None }
+    ensures program { IsOf (plain_ground ground.now).program job.new }
+    ensures done { IfOk result (λ done. IsTrue done ↔ IsSome (plain_job job.new).outcome) }
+    ensures carried { OnOk result (IsCarriedOn (plain_ground ground.now) job.old job.new) }
+{
+    let number = job.number();
+    gate.before(number);
+    let sliced = job.slice(ground, slice);
+    gate.after(number, matches!(sliced, Ok(false)));
+    sliced
+}
+
+/// Carries the job to its outcome, unless it has one. Its only error is want of memory.
+fn finish<G: Gate, R: Wait>(
+    rt: &R,
+    ground: &Ground,
+    job: &mut Job,
+    slice: u64,
+    gate: &G,
+) -> Result<(), Memory>
+    requires program { IsOf (plain_ground ground.now).program job.old }
+    ensures { OnOk result (IsDone (plain_ground ground.now) job.old job.new) }
+{
+    if has_outcome(job) {
+        return Ok(());
+    }
+    for _slices in rt.forever() {
+        if gated_slice(ground, job, slice, gate)? {
+            return Ok(());
+        }
+    }
+    unreachable!()
+}
+
+/// Carries each job to its outcome, one after the other. Its only error is want of memory.
+pub(crate) fn finish_all<G: Gate, R: Wait>(
+    rt: &R,
+    ground: &Ground,
+    jobs: &mut [Job],
+    slice: u64,
+    gate: &G,
+) -> Result<(), Memory>
+    requires program { AreOf (plain_ground ground.now) jobs.old }
+    ensures { OnOk result (Each (IsDone (plain_ground ground.now)) jobs.old jobs.new) }
+{
+    for job in jobs {
+        finish(rt, ground, job, slice, gate)?;
+    }
+    Ok(())
+}

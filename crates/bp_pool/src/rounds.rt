@@ -1,0 +1,76 @@
+//! Rounds: in each every job without outcome gets one slice, by several threads.
+ghost use Rattle.std.specs.Prelude.{◌≡◌, ◌<◌, All, IfOk};
+ghost use Rattle.js_frames.specs.Places.{plain_ground};
+ghost use Rattle.bp_pool.specs.Carrying.{AreOf, IsDone, Each};
+ghost use Rattle.bp_pool.specs.Seats.{CanTurn, Turned};
+
+use crate::carrying::gated_slice;
+use crate::gate::Gate;
+use crate::seat::Seat;
+use crate::seating::{all_of, put_back, take_out};
+use bp_thread::Job;
+use js_data::Memory;
+use js_frames::Ground;
+use std::alloc::Global;
+use std::sync::Wait;
+use std::thread;
+use std::thread::Threads;
+
+/// One slice of the seat's job.
+fn turn<G: Gate>(ground: &Ground, seat: &mut Seat, slice: u64, gate: &G)
+    requires { CanTurn (plain_ground ground.now) seat.old }
+    ensures { Turned (plain_ground ground.now) seat.old seat.new }
+{
+    if gated_slice(ground, &mut seat.job, slice, gate).is_err() {
+        seat.lost = true;
+    }
+}
+
+/// One slice of the job of each seat, by so many threads at most, and by fewer where one can't be started.
+fn round<G: Gate + Sync, R: Threads + Sync>(
+    rt: &R,
+    ground: &Ground,
+    seats: &mut [Seat],
+    workers: u32,
+    slice: u64,
+    gate: &G,
+)
+    requires some_workers { 0 < workers }
+    requires can_turn { All (CanTurn (plain_ground ground.now)) seats.old }
+    ensures { Each (Turned (plain_ground ground.now)) seats.old seats.new }
+{
+    thread::for_each_mut(
+        rt,
+        seats,
+        workers as usize,
+        &|_place: usize, seat: &mut Seat|
+            requires { CanTurn (plain_ground ground.now) seat.old }
+            ensures { Turned (plain_ground ground.entry.now) seat.old seat.new }
+        { turn(ground, seat, slice, gate) },
+    );
+}
+
+/// Carries each job to its outcome, by rounds. Its only error is want of memory.
+pub(crate) fn by_rounds<G: Gate + Sync, R: Threads + Wait + Sync>(
+    rt: &R,
+    alloc: Global,
+    ground: &Ground,
+    jobs: Vec<Job>,
+    workers: u32,
+    slice: u64,
+    gate: &G,
+) -> Result<Vec<Job>, Memory>
+    requires some_workers { 0 < workers }
+    requires program { AreOf (plain_ground ground.now) jobs.items }
+    ensures { IfOk result (λ all. Each (IsDone (plain_ground ground.now)) jobs.items all.items) }
+{
+    let (mut done, mut seats) = take_out(alloc, ground, jobs)?;
+    for _rounds in rt.forever() {
+        if seats.is_empty() {
+            return all_of(alloc, done);
+        }
+        round(rt, ground, seats.as_mut_slice(), workers, slice, gate);
+        seats = put_back(alloc, ground, seats, &mut done)?;
+    }
+    unreachable!()
+}

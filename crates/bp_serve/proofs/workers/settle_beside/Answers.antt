@@ -1,0 +1,29 @@
+use Rattle.std.proofs.Common.{ℕ, ◌≡◌, ◌∙◌, ◌<◌, ◌≤◌, arith, length, refl, rules, subst, sym}
+use Rattle.bp_log.specs.declared.limits.TheConstants.{MOST_THREADS}
+use Rattle.bp_floor.specs.declared.phase.Phase.{Phase}
+use Rattle.bp_floor.specs.declared.phase.Phase.TheVariants.{Ready, Lent, Rest, Over}
+use Rattle.bp_arbiter.specs.Arbiters.{stand_in}
+use Rattle.bp_serve.proofs.Turned.{settles_somewhere}
+use Rattle.bp_serve.proofs.Measure.{falls}
+use Rattle.bp_serve.proofs.workers.settle_beside.Goals as goal
+
+pub loop-alloc-init : goal.loop-alloc-init
+loop-alloc-init g c = record { stands = c.requires.stands; keeps = λ l o taken x. x; records = omega arith }
+
+pub loop-alloc-smaller : goal.loop-alloc-smaller
+loop-alloc-smaller g c =
+    let u = c.loop-alloc.invariant.stands in
+    let ready : c.loop-alloc.arbiter.phase ≡ Ready = search rules in
+    falls c.loop-alloc.arbiter.phase c.turn_beside.new.arbiter.phase (length (stand_in c.loop-alloc.arbiter).threads) (length (stand_in c.turn_beside.new.arbiter).threads) ready
+    (c.keeps.ensures.few (u.stands).whole) (λ e. c.in_ok-turn_beside.ensures.grows (c.in_ok-turn_beside.ensures.phase ∙ e))
+
+pub loop-alloc-preserved : goal.loop-alloc-preserved
+loop-alloc-preserved g c =
+    let i = c.loop-alloc.invariant in
+    let before = i.records in
+    let after = c.in_ok-turn_beside.ensures.records in
+    record {
+      stands = settles_somewhere c.loop-alloc.arbiter c.turn_beside.new.arbiter c.in_ok-turn_beside.ensures.settles i.stands;
+      keeps = λ l o taken x. c.in_ok-turn_beside.ensures.keeps l o taken (i.keeps l o taken x);
+      records = omega (arith, before, after);
+    }

@@ -1,0 +1,18 @@
+use Rattle.std.proofs.Common.{ℕ, ◌+◌, ◌-◌, ◌≤◌, length}
+use Rattle.bp_log.specs.declared.limits.TheConstants.{MOST_THREADS}
+use Rattle.bp_floor.specs.declared.phase.Phase.{Phase}
+use Rattle.bp_floor.specs.declared.phase.Phase.TheVariants.{Ready, Lent, Rest, Over}
+use Rattle.bp_arbiter.specs.Arbiters.{stand_in, StandsSomewhere}
+use Rattle.bp_serve.specs.Serving.{KeepsUnderway}
+use Rattle.bp_serve.proofs.Measure.{turns_left}
+use Rattle.bp_serve.proofs.workers.settle_beside.Given as goal
+
+abbrev pub invariant-loop-alloc : goal.invariant-loop-alloc
+invariant-loop-alloc g l = record {
+  stands : StandsSomewhere l.arbiter;
+  keeps : KeepsUnderway l.fn.arbiter l.arbiter;
+  records : length l.fn.arbiter.records ≤ length l.arbiter.records;
+}
+
+abbrev pub decreases-loop-alloc : goal.decreases-loop-alloc
+decreases-loop-alloc g l = turns_left l.arbiter.phase (length (stand_in l.arbiter).threads)

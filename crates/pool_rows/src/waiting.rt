@@ -1,0 +1,50 @@
+//! Jobs that wait for each other, which one thread alone could not carry.
+use crate::gates::{Holding, Meeting};
+use crate::programs::{jobs_of, started};
+use crate::telling::push_told;
+use bp_pool::superstep;
+use std::test::Fail;
+
+/// Two b-threads of a hundred rounds and more.
+const TWO: &str = r#"
+const make = i => () => { for (let r = 0; r < 100; r++) ; bp.log.info(i) }
+for (let i = 0; i < 2; i++) bp.registerBThread("t", make(i))
+"#;
+
+/// Three b-threads: one of many slices of 100 nodes, one of two, and one of one.
+const LONG_AND_SHORT: &str = r#"
+const make = n => () => { for (let r = 0; r < n; r++) ; bp.log.info(n) }
+bp.registerBThread("long", make(1000));
+bp.registerBThread("two slices", make(30));
+bp.registerBThread("short", make(1));
+"#;
+
+#[test]
+fn two_jobs_are_carried_at_once(rt: HostRuntime) -> Result<(), Fail> {
+    let alloc = rt.alloc();
+    let gate = Meeting::new();
+    let (ground, functions) = started(alloc, TWO)?;
+    let jobs = jobs_of(alloc, &ground, functions, 100_000)?;
+    let done = superstep(&rt, alloc, &ground, jobs, 2, 10, &gate)?;
+    let mut out = String::new(alloc);
+    push_told(&mut out, done)?;
+    assert_eq!(&rt; out.as_str(), "0: 0 ended; 1: 1 ended; ");
+    assert!(&rt; gate.was_met());
+    assert!(&rt; !gate.was_missed());
+    Ok(())
+}
+
+#[test]
+fn a_job_is_held_until_another_is_done(rt: HostRuntime) -> Result<(), Fail> {
+    let alloc = rt.alloc();
+    let gate = Holding::new();
+    let (ground, functions) = started(alloc, LONG_AND_SHORT)?;
+    let jobs = jobs_of(alloc, &ground, functions, 100_000)?;
+    let done = superstep(&rt, alloc, &ground, jobs, 2, 100, &gate)?;
+    let mut out = String::new(alloc);
+    push_told(&mut out, done)?;
+    assert_eq!(&rt; out.as_str(), "0: 1000 ended; 1: 30 ended; 2: 1 ended; ");
+    assert!(&rt; gate.slices() > 1);
+    assert!(&rt; !gate.was_missed());
+    Ok(())
+}
