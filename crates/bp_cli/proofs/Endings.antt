@@ -1,5 +1,5 @@
 -- How a command ends: from its parts, and with its note or without the memory for it.
-use Rattle.std.proofs.Common.{◌≡◌, ℕ, zero, suc, ◌<◌, List, [], ◌∷◌, ◌++◌, length, take, refl, sym, ap, subst, ◌∙◌, append-nil, append_assoc, arith, inl, inr}
+use Rattle.std.proofs.Common.{◌≡◌, ℕ, zero, suc, ◌<◌, List, [], ◌∷◌, ◌++◌, length, take, refl, sym, ap, subst, ◌∙◌, append-nil, append_assoc, arith, rules, inl, inr}
 use Rattle.std.specs.Prelude.{◌⊎◌, Bool, true, false, Option, Some, None, Ok, Err, IsErrOf, IsSome, IfSome, IsSomeAnd, option_and_then, option_map, if◌then◌else◌, option_to_list}
 use Rattle.bp_base.specs.Worlds.{Holdings, Opens, Asks}
 use Rattle.bp_base.specs.Pieces.{Appends, AppendsFront}
@@ -296,6 +296,10 @@ measured_aside n unread unwritten more before after conclusion h m = measured n 
 pub refuses_measured : (n : ℕ) (holds : Option Holdings) (code : ℕ) → Refuses (Some (command.Large n)) holds code
 refuses_measured n None code = tt
 refuses_measured n (Some held) code = tt
+
+pub refuses_none : (holds : Option Holdings) (code : ℕ) → Refuses None holds code
+refuses_none None code = tt
+refuses_none (Some held) code = tt
 
 keeps_front : (log : Option (List ℕ)) (before : Option Holdings) (text : List ℕ) (after : Option Holdings) → KeepsLog log before text after → KeepsLogFront log before text after
 keeps_front None before text after k = k

@@ -20,7 +20,8 @@ use std::sync::Wait;
 use std::thread::Threads;
 
 /// Carries out the command, and says how it ended.
-fn carry_out<W: World, K: Sink>(
+fn carry_out<R: Threads + Wait + Sync, W: World, K: Sink>(
+    rt: &R,
     alloc: Global,
     command: Command,
     world: &mut W,
@@ -40,15 +41,16 @@ fn carry_out<W: World, K: Sink>(
     ensures counts { K.faults out.old ≤ K.faults out.new }
 {
     match command {
-        Command::Run(asked) => run_program(alloc, &asked, world, out),
+        Command::Run(asked) => run_program(rt, alloc, &asked, world, out),
         Command::Accept(name) => accept_program(alloc, &name, world, out),
-        Command::Large(count) => measure_large(alloc, count, out),
+        Command::Large(count) => measure_large(rt, alloc, count, out),
         Command::Replay(_) => Conclusion::NoCommand,
     }
 }
 
 /// Carries out what the words ask for, and says how it ended.
-fn conclude<W: World, K: Sink>(
+fn conclude<R: Threads + Wait + Sync, W: World, K: Sink>(
+    rt: &R,
     alloc: Global,
     words: &[String],
     world: &mut W,
@@ -69,7 +71,7 @@ fn conclude<W: World, K: Sink>(
     ensures counts { K.faults out.old ≤ K.faults out.new }
 {
     match read(alloc, words) {
-        Ok(command) => carry_out(alloc, command, world, out),
+        Ok(command) => carry_out(rt, alloc, command, world, out),
         Err(Usage::Wrong) => Conclusion::NoCommand,
         Err(Usage::Memory) => Conclusion::NoMemory,
     }
@@ -79,7 +81,7 @@ fn conclude<W: World, K: Sink>(
 ///
 /// The words are those after the program's name: `run [OPTIONS] PROGRAM`, `accept PROGRAM` or `large N`.
 pub fn command<R: Threads + Wait + Sync, W: World, K: Sink>(
-    _rt: &R,
+    rt: &R,
     alloc: Global,
     words: &[String],
     world: &mut W,
@@ -104,6 +106,6 @@ pub fn command<R: Threads + Wait + Sync, W: World, K: Sink>(
     ensures world_counts { W.write_faults world.old ≤ W.write_faults world.new }
     ensures write_counts { K.faults out.old ≤ K.faults out.new }
 {
-    let conclusion = conclude(alloc, words, world, out);
+    let conclusion = conclude(rt, alloc, words, world, out);
     Status::of(alloc, &conclusion)
 }

@@ -13,6 +13,8 @@ use bp_script::accept;
 use bp_serve::{Report, run};
 use js_program::Program;
 use std::alloc::{AllocError, Global};
+use std::sync::Wait;
+use std::thread::Threads;
 
 /// The program before the number of its b-threads.
 const FRONT: &str = "const make = i => () => { for (let r = 0; r < 4; r++) bp.sync({request: bp.Event(\"e\", i)}) }\nfor (let i = 0; i < ";
@@ -50,7 +52,11 @@ fn line_of(alloc: Global, count: u32, records: &[Record], text: &[u8]) -> Result
 }
 
 /// What the run of the program under the default options came to, and its text. Want of room for the text is want of memory.
-fn run_aside(alloc: Global, program: Program) -> Result<(Report, MemorySink), Memory>
+fn run_aside<R: Threads + Wait + Sync>(
+    rt: &R,
+    alloc: Global,
+    program: Program,
+) -> Result<(Report, MemorySink), Memory>
     ensures verdict { IfOk result (λ p. verdict_alone program default_options ≡ Some p.0.verdict) }
     ensures records { IfOk result (λ p. p.0.records ≡ records_alone program default_options) }
     ensures text { IfOk result (λ p. text_alone program default_options ≡ Some p.1.written) }
@@ -61,14 +67,19 @@ fn run_aside(alloc: Global, program: Program) -> Result<(Report, MemorySink), Me
     };
     let mut log: Option<MemorySink> = None;
     let beside = Beside::defaults();
-    match run(alloc, program, &header, beside, &mut sink, &mut log) {
+    match run(rt, alloc, program, &header, beside, &mut sink, &mut log) {
         Ok(report) => Ok((report, sink)),
         Err(_) => Err(AllocError),
     }
 }
 
 /// Runs the program of so many b-threads, and prints one line of what its run comes to.
-pub(crate) fn measure_large<K: Sink>(alloc: Global, count: u32, out: &mut K) -> Conclusion
+pub(crate) fn measure_large<R: Threads + Wait + Sync, K: Sink>(
+    rt: &R,
+    alloc: Global,
+    count: u32,
+    out: &mut K,
+) -> Conclusion
     ensures ends { MeasureEnds count (Rose (K.faults out.old) (K.faults out.new))
         (K.written out.old) (K.written out.new) result }
     ensures counts { K.faults out.old ≤ K.faults out.new }
@@ -80,7 +91,7 @@ pub(crate) fn measure_large<K: Sink>(alloc: Global, count: u32, out: &mut K) -> 
         Ok(program) => program,
         Err(fault) => return Conclusion::from(fault),
     };
-    let Ok((report, text)) = run_aside(alloc, program) else {
+    let Ok((report, text)) = run_aside(rt, alloc, program) else {
         return Conclusion::NoMemory;
     };
     let Ok(line) = line_of(alloc, count, report.records.as_slice(), text.written()) else {

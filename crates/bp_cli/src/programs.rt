@@ -16,12 +16,15 @@ use bp_base::{Sink, World, write_all};
 use bp_log::Header;
 use js_data::Text;
 use std::alloc::Global;
+use std::sync::Wait;
+use std::thread::Threads;
 
 /// What is printed of an accepted program.
 const ACCEPTED: &[u8] = b"accepted\n";
 
 /// Runs the program of that name as the words ask for, prints its run, and keeps its log where they ask for one.
-pub(crate) fn run_program<W: World, K: Sink>(
+pub(crate) fn run_program<R: Threads + Wait + Sync, W: World, K: Sink>(
+    rt: &R,
     alloc: Global,
     asked: &Run,
     world: &mut W,
@@ -49,8 +52,9 @@ pub(crate) fn run_program<W: World, K: Sink>(
         unreachable!()
     };
     match &asked.log {
-        None => run_unlogged(alloc, program, &header, asked.beside, out),
+        None => run_unlogged(rt, alloc, program, &header, asked.beside, out),
         Some(name) => run_logged(
+            rt,
             alloc,
             program,
             &header,

@@ -10,9 +10,12 @@ use bp_log::{Beside, Header};
 use bp_serve::run;
 use js_program::Program;
 use std::alloc::Global;
+use std::sync::Wait;
+use std::thread::Threads;
 
 /// Runs the program, and keeps no log.
-pub(crate) fn run_unlogged<K: Sink>(
+pub(crate) fn run_unlogged<R: Threads + Wait + Sync, K: Sink>(
+    rt: &R,
     alloc: Global,
     program: Program,
     header: &Header,
@@ -25,11 +28,13 @@ pub(crate) fn run_unlogged<K: Sink>(
     ensures counts { K.faults out.old ≤ K.faults out.new }
 {
     let mut log: Option<MemorySink> = None;
-    Conclusion::of(run(alloc, program, header, beside, out, &mut log))
+    let ended = run(rt, alloc, program, header, beside, out, &mut log);
+    Conclusion::of(ended)
 }
 
 /// Runs the program, and keeps its log under the name.
-pub(crate) fn run_logged<W: World, K: Sink>(
+pub(crate) fn run_logged<R: Threads + Wait + Sync, W: World, K: Sink>(
+    rt: &R,
     alloc: Global,
     program: Program,
     header: &Header,
@@ -56,7 +61,7 @@ pub(crate) fn run_logged<W: World, K: Sink>(
         Err(WorldError::Memory) => return Conclusion::NoMemory,
     };
     let mut log = Some(output);
-    let ended = run(alloc, program, header, beside, out, &mut log);
+    let ended = run(rt, alloc, program, header, beside, out, &mut log);
     let Some(output) = log else { unreachable!() };
     world.close_output(name, output);
     Conclusion::of(ended)
