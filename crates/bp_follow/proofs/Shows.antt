@@ -1,0 +1,169 @@
+-- What is printed as a log is followed.
+use Rattle.std.proofs.Common.{◌≡◌, ◌⊎◌, inl, inr, ℕ, ◌+◌, Bool, true, false, List, [], ◌∷◌, ◌++◌, length, refl, ap, sym, ◌∙◌, subst, append_assoc, append-nil, length-append, arith, Option, Some, None, Ok, Err, IsSome}
+use Rattle.std.specs.Prelude.{Result, OnOk, OnErr}
+use Rattle.std.proofs.lemmas.List.{append_cancel_left}
+use Rattle.js_meaning.specs.Bodies.{Origin}
+use Rattle.bp_log.specs.Records.{is_complete, verdict_of}
+use Rattle.bp_log.specs.Texts.{lines_text}
+use Rattle.bp_log.specs.declared.record.Record.{Record}
+use Rattle.bp_log.specs.declared.record.Record.TheVariants.{In, Bad, Eof, Sel, End}
+use Rattle.bp_log.specs.declared.trace.Line.{Line}
+use Rattle.bp_log.specs.declared.trace.Line.TheVariants as trace
+use Rattle.bp_log.specs.declared.verdict.Verdict.{Verdict}
+use Rattle.bp_run.specs.Configuration.{Configuration}
+use Rattle.bp_run.specs.Settling.{Pair}
+use Rattle.bp_run.specs.Story.{over_with, story}
+use Rattle.bp_thread.specs.declared.job.Job.{Job}
+use Rattle.bp_floor.specs.declared.phase.Phase.{Phase}
+use Rattle.bp_floor.specs.declared.phase.Phase.TheVariants.{Ready, Lent, Rest, Over}
+use Rattle.bp_floor.specs.Floors.{is_idle}
+use Rattle.bp_arbiter.specs.Arbiters as arbiter
+use Rattle.bp_arbiter.specs.Arbiters.{PlainArbiter, Recounts, StandsFor, StandsSomewhere, options_in, stand_in, is_lent}
+use Rattle.bp_serve.specs.Turning.{StandsAfter, Closes, Settles}
+use Rattle.bp_serve.proofs.Way.{same_code, recounts_at, recounts_in}
+use Rattle.bp_follow.specs.Courses.{Course, code_in, led, IsTold}
+use Rattle.bp_follow.specs.Following.{Runs, IsOnWay, StaysAt, IsThere, IsOnSomeWay, IsSaid}
+use Rattle.bp_follow.proofs.Tales.{one_more, end_told}
+use Rattle.bp_follow.proofs.Steps.{recounts_course, told_at}
+
+pub on_way_somewhere : (a : PlainArbiter) → IsOnSomeWay a → StandsSomewhere a
+on_way_somewhere a w = let s = (w.2).stands in record { taken = w.1; pair = s.0; stands = s.1 }
+
+pub on_way_unlent : (a : PlainArbiter) → IsOnSomeWay a → is_lent a.phase ≡ false
+on_way_unlent a w = (w.2).unlent
+
+verdict_none : (rs : List Record) → is_complete rs ≡ false → verdict_of rs ≡ None
+verdict_none [] h = refl
+verdict_none (In j e ∷ rs) h = verdict_none rs h
+verdict_none (Bad j n ∷ rs) h = verdict_none rs h
+verdict_none (Eof j ∷ rs) h = verdict_none rs h
+verdict_none (Sel e ∷ rs) h = verdict_none rs h
+verdict_none (End v ∷ []) h = absurd (cc)
+verdict_none (End v ∷ r ∷ rs) h = verdict_none (r ∷ rs) h
+
+pub verdict_last : (rs : List Record) (v : Verdict) → verdict_of (rs ++ End v ∷ []) ≡ Some v
+verdict_last [] v = refl
+verdict_last (In j e ∷ rs) v = verdict_last rs v
+verdict_last (Bad j n ∷ rs) v = verdict_last rs v
+verdict_last (Eof j ∷ rs) v = verdict_last rs v
+verdict_last (Sel e ∷ rs) v = verdict_last rs v
+verdict_last (End w ∷ []) v = refl
+verdict_last (End w ∷ r ∷ rs) v = verdict_last (r ∷ rs) v
+
+-- the arbiter after settling and the taking of its lines, of which those of the course are printed
+pub record Settled (c : Course) (more : List Line) (a : PlainArbiter) (said : List Line) : Type 0 where
+  pub there : IsThere c a
+  pub said_is : said ≡ more
+
+none_or : (x : Option Verdict) → x ≡ None → IsSome x → ⊥
+none_or None h k = absurd (cc)
+none_or (Some v) h k = absurd (cc)
+
+at_rest_phase : (f : Phase) → (f ≡ Ready → ⊥) → is_lent f ≡ false → (f ≡ Over → ⊥) → f ≡ Rest
+at_rest_phase Ready h u o = absurd (h refl)
+at_rest_phase Lent h u o = absurd (cc)
+at_rest_phase Rest h u o = refl
+at_rest_phase Over h u o = absurd (o refl)
+
+module _ (c : Course) (taken : List Line) (a mid b : PlainArbiter) (lines said : List Line) (w : IsOnWay c taken a) (s : Settles a mid) (busy : mid.phase ≡ Ready → ⊥) (lines_are : (stand_in mid).lines ≡ lines)
+    (exact : (t : List Line) (p : Pair Origin) → StandsFor mid [] t p → is_idle mid.phase ≡ true → (d : Configuration Origin) → Recounts mid d → d.stand.lines ≡ t ++ (stand_in mid).lines)
+    (base : b.floor.base ≡ mid.floor.base) (options : options_in b ≡ options_in mid) (records : b.records ≡ mid.records) (phase : b.phase ≡ mid.phase)
+    (stands : (jobs : List Job) (t : List Line) (p : Pair Origin) → StandsFor mid jobs t p → StandsFor b jobs (t ++ lines) p) (is_said : IsSaid b lines said) where
+  runs_mid : Runs c mid
+  runs_mid = record { code = s.code ∙ (w.runs).code; options = s.options ∙ (w.runs).options; told = (w.runs).told; going = (w.runs).going; reads = (w.runs).reads }
+
+  runs_b : Runs c b
+  runs_b = record {
+    code = same_code mid b (ap (λ x. x.program) base) options ∙ runs_mid.code;
+    options = options ∙ runs_mid.options;
+    told = (w.runs).told;
+    going = (w.runs).going;
+    reads = (w.runs).reads;
+  }
+
+  here : StandsAfter mid taken
+  here = s.stands taken w.stands
+
+  -- the run goes on
+  settled_on : mid.records ≡ a.records → Settled c w.more b said
+  settled_on same =
+      let rs : mid.records ≡ c.records = same ∙ w.records in
+      let none : verdict_of b.records ≡ None = ap verdict_of (records ∙ rs) ∙ verdict_none c.records (w.runs).going in
+      let rest : mid.phase ≡ Rest = at_rest_phase mid.phase busy (s.unlent w.unlent) (λ o. none_or (verdict_of b.records) none (is_said.over (phase ∙ o))) in
+      let whole : c.told.stand.lines ≡ taken ++ lines =
+      exact taken here.0 here.1 (ap is_idle rest) c.told (recounts_course c mid runs_mid rs) ∙ ap (λ (ls : List Line). taken ++ ls) lines_are in
+      record {
+        there = record {
+          runs = runs_b;
+          stays = subst (λ (f : Phase). StaysAt c b f) (sym (phase ∙ rest)) (records ∙ rs, (here.0, subst (λ (ls : List Line). StandsFor b [] ls here.0) (sym whole) (stands [] taken here.0 here.1)));
+        };
+        said_is = is_said.going none ∙ append_cancel_left taken lines w.more (sym whole ∙ w.lines);
+      }
+
+  -- it has ended by itself
+  settled_over : Closes a mid → Settled c w.more b said
+  settled_over k =
+      let v = k.verdict in
+      let verdict = k.comes c.told (recounts_course c a w.runs w.records) in
+      let rs : mid.records ≡ c.records ++ End v ∷ [] = k.records ∙ ap (λ (xs : List Record). xs ++ End v ∷ []) w.records in
+      let d = (here.1).told in
+      let story_is : story (code_in c) c.options (c.records ++ End v ∷ []) ≡ Some d =
+      ap (λ (xs : List Record). story (code_in c) c.options xs) (sym rs) ∙ recounts_at (code_in c) c.options mid d runs_mid.code runs_mid.options (here.1).story in
+      let ends = end_told (code_in c) c.options c.told d v (sym (one_more (code_in c) c.options c.records c.told (End v) (w.runs).told (w.runs).going) ∙ story_is) in
+      let whole : taken ++ lines ≡ taken ++ (w.more ++ trace.Verdict v ∷ []) =
+      ap (λ (ls : List Line). taken ++ ls) (sym lines_are)
+      ∙ sym (exact taken here.0 here.1 (ap is_idle k.over) d (here.1).story)
+      ∙ ap (λ (x : Configuration Origin). x.stand.lines) ends.1
+      ∙ ap (λ (ls : List Line). ls ++ trace.Verdict v ∷ []) w.lines
+      ∙ append_assoc taken w.more (trace.Verdict v ∷ []) in
+      record {
+        there = record {
+          runs = runs_b;
+          stays = subst (λ (f : Phase). StaysAt c b f) (sym (phase ∙ k.over)) (v, records ∙ rs, verdict);
+        };
+        said_is = is_said.ended (some_at (ap verdict_of (records ∙ rs) ∙ verdict_last c.records v)) w.more (trace.Verdict v) (append_cancel_left taken lines (w.more ++ trace.Verdict v ∷ []) whole);
+      }
+    where
+      some_at : {x : Option Verdict} {u : Verdict} → x ≡ Some u → IsSome x
+      some_at {x} {u} h = subst (λ (y : Option Verdict). IsSome y) (sym h) refl
+
+  pub settled : Settled c w.more b said
+  settled = elim s.recorded [ inl h ↦ settled_on h | inr k ↦ settled_over k ]
+
+-- ---- all lines but the last
+
+abbrev tail_of : {A : Type 0} → List A → List A
+tail_of [] = []
+tail_of (x ∷ xs) = xs
+
+longer : {A : Type 0} (ys : List A) (b : A) (n : ℕ) → n ≡ length (ys ++ b ∷ []) → n ≡ 0 → ⊥
+longer ys b n h e = let k = length-append ys (b ∷ []) in omega (arith, h, e, k)
+
+fronts : {A : Type 0} (xs ys : List A) (a b : A) → xs ++ a ∷ [] ≡ ys ++ b ∷ [] → xs ≡ ys
+fronts [] [] a b h = refl
+fronts [] (y ∷ ys) a b h = absurd (longer ys b 0 (ap (λ (l : List _). length (tail_of l)) h) refl)
+fronts (x ∷ xs) [] a b h = absurd (longer xs a 0 (ap (λ (l : List _). length (tail_of l)) (sym h)) refl)
+fronts (x ∷ xs) (y ∷ ys) a b h =
+    let e : x ≡ y = cc in
+    let t : xs ≡ ys = fronts xs ys a b (ap (λ (l : List _). tail_of l) h) in cc
+
+-- the front that was split off is the one before the last
+pub split_front : (lines before front : List Line) (last l : Line) → lines ≡ front ++ l ∷ [] → lines ≡ before ++ last ∷ [] → front ≡ before
+split_front lines before front last l h k = fronts front before l last (sym h ∙ k)
+
+pub no_front : (lines before : List Line) (last : Line) → length lines ≡ 0 → lines ≡ before ++ last ∷ [] → lines ≡ before
+no_front lines before last n h = absurd (longer before last 0 (sym n ∙ ap (λ (l : List Line). length l) h) refl)
+
+-- ---- answers
+
+pub ok_any : {T E X : Type 0} (r : Result T E) → X → OnOk r X
+ok_any (Ok t) x = x
+ok_any (Err e) x = tt
+
+pub ok_map : {T E X Y : Type 0} (r : Result T E) → (X → Y) → OnOk r X → OnOk r Y
+ok_map (Ok t) f x = f x
+ok_map (Err e) f x = tt
+
+pub err_map : {T E X Y : Type 0} (r : Result T E) → (X → Y) → OnErr r X → OnErr r Y
+err_map (Ok t) f x = tt
+err_map (Err e) f x = f x

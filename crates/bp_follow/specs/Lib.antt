@@ -1,0 +1,4 @@
+pub mod Faults
+pub mod Courses
+pub mod Endings
+pub mod Following

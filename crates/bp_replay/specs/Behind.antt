@@ -1,0 +1,35 @@
+-- What a replay does with what stands behind the header.
+use Rattle.std.specs.Prelude.{◌≡◌, ◌⊎◌, ℕ, List, Option, Result, Ok, Err}
+use Rattle.bp_log.specs.Header.{PlainHeader}
+use Rattle.bp_log.specs.declared.verdict.Verdict.{Verdict}
+use Rattle.bp_reading.specs.Reading.{Stage}
+use Rattle.bp_script.specs.declared.refusal.Refusal.{Refusal}
+use Rattle.bp_script.specs.Programs.{IsProgram, IsRefused}
+use Rattle.bp_follow.specs.declared.fault.ReplayFault.{ReplayFault}
+use Rattle.bp_follow.specs.declared.fault.ReplayFault.TheVariants.{Log, Differs, Program, Write, Memory}
+use Rattle.bp_follow.specs.Courses.{Course, Follows, text_in}
+use Rattle.bp_follow.specs.Endings.{EndsAt}
+use Rattle.bp_replay.specs.Replays.{Prints}
+
+-- with the program refused, or with memory wanting before a record was read
+abbrev pub HasNoProgram : PlainHeader → Result Verdict ReplayFault → Type 0
+HasNoProgram header (Ok v) = ⊥
+HasNoProgram header (Err (Log f)) = ⊥
+HasNoProgram header (Err (Differs number expected other)) = ⊥
+HasNoProgram header (Err Program) = (refusal : Refusal) × IsRefused header.program refusal
+HasNoProgram header (Err Write) = ⊥
+HasNoProgram header (Err Memory) = Unit {0}
+
+-- what was told is written
+pub record Replayed (header : PlainHeader) (rest : List ℕ) (before after : Option (List ℕ)) (ended : Result Verdict ReplayFault) : Type 0 where
+  pub course : Course
+  pub program : IsProgram header.program course.program
+  pub options : course.options ≡ header.options
+  pub stage : Stage
+  pub left : List ℕ
+  pub follows : Follows rest course stage left
+  pub ends : EndsAt course stage left ended
+  pub prints : Prints ended before (text_in course) after
+
+abbrev pub EndsBehind : PlainHeader → List ℕ → Option (List ℕ) → Option (List ℕ) → Result Verdict ReplayFault → Type 0
+EndsBehind header rest before after ended = (HasNoProgram header ended × (after ≡ before)) ⊎ Replayed header rest before after ended

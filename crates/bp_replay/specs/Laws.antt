@@ -1,0 +1,55 @@
+-- What is true of replays.
+use Rattle.std.specs.Prelude.{◌≡◌, ◌⊎◌, ℕ, List, Option, Some, None, Result, Ok, Err}
+use Rattle.js_program.specs.PlainProgram.{PlainProgram}
+use Rattle.js_meaning.specs.Bodies.{Origin}
+use Rattle.bp_base.specs.Pieces.{Appends}
+use Rattle.bp_log.specs.Header.{PlainHeader}
+use Rattle.bp_log.specs.Logs.{log_text}
+use Rattle.bp_log.specs.Records.{verdict_of}
+use Rattle.bp_log.specs.declared.record.Record.{Record}
+use Rattle.bp_log.specs.declared.verdict.Verdict.{Verdict}
+use Rattle.bp_reading.specs.Reading.{first_stage}
+use Rattle.bp_reading.specs.Laws.{IsHeader, AreRecords, Stands}
+use Rattle.bp_reader.specs.declared.fault.LogFault.{LogFault}
+use Rattle.bp_reader.specs.declared.fault.LogFault.TheVariants as log
+use Rattle.bp_script.specs.Programs.{IsProgram}
+use Rattle.bp_code.specs.Code.{text_of}
+use Rattle.bp_follow.specs.declared.fault.ReplayFault.{ReplayFault}
+use Rattle.bp_follow.specs.declared.fault.ReplayFault.TheVariants.{Log, Differs, Program, Write, Memory}
+use Rattle.bp_replay.specs.Replays.{Ends}
+
+-- reading or writing failed, or memory was wanting
+abbrev pub IsTrouble : Result Verdict ReplayFault → Type 0
+IsTrouble (Ok v) = ⊥
+IsTrouble (Err (Log log.Version)) = ⊥
+IsTrouble (Err (Log log.Header)) = ⊥
+IsTrouble (Err (Log (log.Line n))) = ⊥
+IsTrouble (Err (Log log.Cut)) = ⊥
+IsTrouble (Err (Log log.Read)) = Unit {0}
+IsTrouble (Err (Log log.Memory)) = Unit {0}
+IsTrouble (Err (Differs number expected other)) = ⊥
+IsTrouble (Err Program) = ⊥
+IsTrouble (Err Write) = Unit {0}
+IsTrouble (Err Memory) = Unit {0}
+
+-- the bytes are the log of a run of this program, which has this text
+pub record IsLogOf (bytes : List ℕ) (header : PlainHeader) (records : List Record) (program : PlainProgram) (text : List ℕ) : Type 0 where
+  pub bytes_are : bytes ≡ log_text header records
+  pub header_is : IsHeader header
+  pub records_are : AreRecords records
+  pub stands : Stands (first_stage header.options.injectors) records
+  pub program_is : IsProgram header.program program
+  pub text_is : text_of program header.options records ≡ Some text
+
+-- the text was written, and the answer is the verdict of the records
+pub record TellsAll (records : List Record) (text : List ℕ) (before after : Option (List ℕ)) (ended : Result Verdict ReplayFault) : Type 0 where
+  pub verdict : Verdict
+  pub ended_is : ended ≡ Ok verdict
+  pub verdict_is : verdict_of records ≡ Some verdict
+  pub prints : Appends before text after
+
+-- A replay of the log of a run tells the run: its whole text and its verdict.
+abbrev pub ReplaysTellTheRun : Type 0
+ReplaysTellTheRun =
+    (bytes : List ℕ) (header : PlainHeader) (records : List Record) (program : PlainProgram) (text : List ℕ) (before after : Option (List ℕ)) (ended : Result Verdict ReplayFault) →
+    IsLogOf bytes header records program text → Ends bytes before after ended → IsTrouble ended ⊎ TellsAll records text before after ended

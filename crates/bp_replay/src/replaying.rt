@@ -1,0 +1,87 @@
+//! A log, replayed.
+ghost use Rattle.std.specs.Prelude.{◌≡◌, ◌≤◌, None, IfSome, IsErrOf};
+ghost use Rattle.bp_base.specs.Counts.{Rose};
+ghost use Rattle.bp_reading.specs.Reading.{first_stage};
+ghost use Rattle.bp_reader.specs.declared.fault.LogFault.TheVariants as log_fault;
+ghost use Rattle.bp_replay.specs.Replays.{Ends};
+ghost use Rattle.bp_replay.specs.Behind.{EndsBehind};
+
+use bp_base::{Sink, Source};
+use bp_follow::{ReplayFault, replay_onto};
+use bp_log::{Header, Verdict};
+use bp_reader::Reader;
+use bp_script::{ScriptFault, accept};
+use bp_serve::Page;
+use std::alloc::Global;
+
+/// What came of a replay.
+#[derive(Drop)]
+pub struct Replayed<S: Source> {
+    /// The verdict with which the log and its run end, or why there is none.
+    pub ended: Result<Verdict, ReplayFault>,
+    /// The source, as far as its blocks were taken.
+    pub log: S,
+}
+
+/// Replays what stands behind the header.
+fn replay_records<S: Source, K: Sink>(
+    alloc: Global,
+    header: &Header,
+    reader: &mut Reader<S>,
+    out: &mut K,
+) -> Result<Verdict, ReplayFault>
+    requires fresh { reader.old.refusal ≡ None }
+    requires stage { reader.old.stage ≡ first_stage header.now.options.injectors }
+    ensures ends { IfSome reader.old.left (λ rest. EndsBehind header.now rest
+        (K.written out.old) (K.written out.new) result) }
+    ensures read { IsErrOf result (ReplayFault.Log log_fault.Read)
+        → Rose reader.old.faults reader.new.faults }
+    ensures write { IsErrOf result ReplayFault.Write
+        → Rose (K.faults out.old) (K.faults out.new) }
+    ensures read_counts { reader.old.faults ≤ reader.new.faults }
+    ensures write_counts { K.faults out.old ≤ K.faults out.new }
+{
+    let program = match accept(alloc, header.program()) {
+        Ok(program) => program,
+        Err(ScriptFault::Refused(_)) => return Err(ReplayFault::Program),
+        Err(ScriptFault::Memory) => return Err(ReplayFault::Memory),
+    };
+    let mut page = Page::new(alloc);
+    let ended = replay_onto(alloc, program, header.options(), reader, &mut page, out);
+    page.write(out)?;
+    ended
+}
+
+/// Makes the run of a log again, record by record, and prints it, in pieces of 64 KiB or a little more.
+///
+/// # Errors
+///
+/// `Log` exactly where the bytes are no log at that place, `Program` exactly where its program is refused, and
+/// `Differs` exactly at the first record that the run does not make. Before the last two and the first the text of
+/// the records before was printed, and before `Write` and `Memory` a front of such a text.
+pub fn replay<S: Source, K: Sink>(alloc: Global, log: S, out: &mut K) -> Replayed<S>
+    // Of a source that tells its bytes: the answer and what was printed are those of these bytes.
+    ensures ends { IfSome (S.left log)
+        (λ bytes. Ends bytes (K.written out.old) (K.written out.new) result.ended) }
+
+    ensures read { IsErrOf result.ended (ReplayFault.Log log_fault.Read)
+        → Rose (S.faults log) (S.faults result.log) }
+    ensures write { IsErrOf result.ended ReplayFault.Write
+        → Rose (K.faults out.old) (K.faults out.new) }
+    ensures read_counts { S.faults log ≤ S.faults result.log }
+    ensures write_counts { K.faults out.old ≤ K.faults out.new }
+{
+    match Reader::open(alloc, log) {
+        Err(refused) => Replayed {
+            ended: Err(ReplayFault::from(refused.fault)),
+            log: refused.source,
+        },
+        Ok((mut reader, header)) => {
+            let ended = replay_records(alloc, &header, &mut reader, out);
+            Replayed {
+                ended,
+                log: reader.back(),
+            }
+        }
+    }
+}
