@@ -1,6 +1,6 @@
 -- How a command ends: from its parts, and with its note or without the memory for it.
 use Rattle.std.proofs.Common.{◌≡◌, ℕ, zero, suc, ◌<◌, List, [], ◌∷◌, ◌++◌, length, take, refl, sym, ap, subst, ◌∙◌, append-nil, append_assoc, arith, rules, inl, inr}
-use Rattle.std.specs.Prelude.{◌⊎◌, Bool, true, false, Option, Some, None, Ok, Err, IsErrOf, IsSome, IfSome, IsSomeAnd, option_and_then, option_map, if◌then◌else◌, option_to_list}
+use Rattle.std.specs.Prelude.{◌⊎◌, Option, Some, None, Result, Ok, Err, IsErrOf, IsSome, IfSome, IsSomeAnd, option_and_then, option_to_list}
 use Rattle.bp_base.specs.Worlds.{Holdings, Opens, Asks}
 use Rattle.bp_base.specs.Pieces.{Appends, AppendsFront}
 use Rattle.js_program.specs.PlainProgram.{PlainProgram}
@@ -14,20 +14,25 @@ use Rattle.bp_script.specs.declared.refusal.Refusal.{Refusal}
 use Rattle.bp_script.specs.Faults.{IsScriptFault}
 use Rattle.bp_script.specs.declared.reading.ScriptFault.{ScriptFault}
 use Rattle.bp_script.proofs.Once.{never}
+use Rattle.bp_reader.specs.declared.fault.LogFault.TheVariants as log_fault
+use Rattle.bp_follow.specs.declared.fault.ReplayFault.{ReplayFault}
+use Rattle.bp_follow.specs.Courses.{text_in}
+use Rattle.bp_replay.specs.Replays as replays
 use Rattle.bp_args.specs.declared.command.Command.{Command}
 use Rattle.bp_args.specs.declared.command.Command.TheVariants as command
 use Rattle.bp_args.specs.declared.command.Run.{Run}
 use Rattle.bp_cli.specs.declared.conclusion.Conclusion.{Conclusion}
-use Rattle.bp_cli.specs.declared.conclusion.Conclusion.TheVariants.{NoCommand, Refused, Accepted, Ran, NotRead, NotWritten, NoMemory}
+use Rattle.bp_cli.specs.declared.conclusion.Conclusion.TheVariants.{NoCommand, Refused, Accepted, Ran, NotRead, NotWritten, NoMemory, BadLog}
 use Rattle.bp_cli.specs.Outside.{Outside, IsAsBefore, IsUnder}
 use Rattle.bp_cli.specs.Asking.{names_of, WasAsked, AsksFor, AsksIn}
 use Rattle.bp_cli.specs.Conclusions.{code_of, conclusion_of, IsStatusOf}
-use Rattle.bp_cli.specs.Endings.{IsGiven, OfBytes, TellsPartly, ComesTo, Accepts, EndsOn, EndsIn, Ends}
-use Rattle.bp_cli.specs.Large.{large_program, line_of, MeasuresTo, MeasuresPartly, MeasureEnds}
+use Rattle.bp_cli.specs.Endings.{EndsSo, IsGiven, TellsPartly, ComesTo, Accepts, EndsIn, Ends}
+use Rattle.bp_cli.specs.Large.{large_program, line_of, MeasureEnds}
 use Rattle.bp_cli.specs.Loading.{IsUnloaded}
+use Rattle.bp_cli.specs.Replaying.{ReplayEnds, IsCaused, replayed_of}
 use Rattle.bp_cli.specs.Refusing.{IsTooLong, program_of, Refuses}
-use Rattle.bp_cli.specs.Runs.{Holds, HoldsFront, KeepsLog, KeepsLogFront, RunsTo, RunsPartly, RunEnds, log_alone, header_of}
-use Rattle.bp_cli.specs.Texts.{accepted_line, SaysAccepted, SaysAcceptedPartly}
+use Rattle.bp_cli.specs.Runs.{Holds, KeepsLog, KeepsLogFront, RunEnds, log_alone, header_of}
+use Rattle.bp_cli.specs.Texts.{accepted_line}
 
 -- ---- too long
 
@@ -64,6 +69,7 @@ unloaded_code holds name unread NoCommand u = absurd u
 unloaded_code holds name unread Accepted u = absurd u
 unloaded_code holds name unread (Ran verdict) u = absurd u
 unloaded_code holds name unread NotWritten u = absurd u
+unloaded_code holds name unread (BadLog fault) u = absurd u
 
 refuses_held : (held : Holdings) (name : Option (List ℕ)) (code : ℕ) → ((code ≡ 2) ⊎ ((code ≡ 8) ⊎ (code ≡ 10))) →
     IfSome name (λ n. IfSome (held n) (λ bytes. (refusal : Refusal) → IsRefused bytes refusal → (code ≡ 2) ⊎ ((code ≡ 8) ⊎ (code ≡ 10))))
@@ -120,6 +126,7 @@ asks_unloaded c name rest holds unread before after NoCommand e u h = absurd u
 asks_unloaded c name rest holds unread before after Accepted e u h = absurd u
 asks_unloaded c name rest holds unread before after (Ran verdict) e u h = absurd u
 asks_unloaded c name rest holds unread before after NotWritten e u h = absurd u
+asks_unloaded c name rest holds unread before after (BadLog fault) e u h = absurd u
 
 asks_all : (c : Command) (before after : Option (List (List ℕ))) (conclusion : Conclusion) → WasAsked before (names_of c) after → AsksFor conclusion (names_of c) (names_of c) → AsksIn (Some c) before after conclusion
 asks_all c before after conclusion h k = (names_of c, k, h)
@@ -134,6 +141,7 @@ asks_unlogged asked program o unwritten whole partly b a before after NoCommand 
 asks_unlogged asked program o unwritten whole partly b a before after (Refused refusal) e r h = absurd r
 asks_unlogged asked program o unwritten whole partly b a before after Accepted e r h = absurd r
 asks_unlogged asked program o unwritten whole partly b a before after NotRead e r h = absurd r
+asks_unlogged asked program o unwritten whole partly b a before after (BadLog fault) e r h = absurd r
 
 -- a run that keeps a log
 pub asks_logged : (asked : Run) (name : List ℕ) (program : PlainProgram) (o : PlainOptions) (unwritten whole partly : Type 0) (b a : Option (List ℕ)) (before mid after : Option (List (List ℕ))) (conclusion : Conclusion) → asked.log ≡ Some name →
@@ -152,6 +160,7 @@ asks_logged asked name program o unwritten whole partly b a before mid after NoC
 asks_logged asked name program o unwritten whole partly b a before mid after (Refused refusal) e r h k = absurd r
 asks_logged asked name program o unwritten whole partly b a before mid after Accepted e r h k = absurd r
 asks_logged asked name program o unwritten whole partly b a before mid after NotRead e r h k = absurd r
+asks_logged asked name program o unwritten whole partly b a before mid after (BadLog fault) e r h k = absurd r
 
 -- measuring the large program asks for nothing
 pub asks_measured : (n : ℕ) (unwritten : Type 0) (b a : Option (List ℕ)) (before : Option (List (List ℕ))) (conclusion : Conclusion) → MeasureEnds n unwritten b a conclusion → AsksIn (Some (command.Large n)) before before conclusion
@@ -162,6 +171,7 @@ asks_measured n unwritten b a before NoMemory m = ([], ([], refl), asks_none bef
 asks_measured n unwritten b a before NoCommand m = absurd m
 asks_measured n unwritten b a before Accepted m = absurd m
 asks_measured n unwritten b a before NotRead m = absurd m
+asks_measured n unwritten b a before (BadLog fault) m = absurd m
 
 -- where memory was wanting nothing was asked for
 pub asks_wanting : (c : Option Command) (before : Option (List (List ℕ))) → AsksIn c before before NoMemory
@@ -180,6 +190,7 @@ some_asked NoCommand names asked h = ([], sym h ∙ sym (append-nil asked))
 some_asked Accepted names asked h = ([], sym h ∙ sym (append-nil asked))
 some_asked (Ran verdict) names asked h = ([], sym h ∙ sym (append-nil asked))
 some_asked NotWritten names asked h = ([], sym h ∙ sym (append-nil asked))
+some_asked (BadLog fault) names asked h = ([], sym h ∙ sym (append-nil asked))
 
 asks_some : (c : Option Command) (before after : Option (List (List ℕ))) (conclusion : Conclusion) → AsksIn c before after conclusion → AsksIn c before after NoMemory
 asks_some None before after conclusion h = h
@@ -208,6 +219,7 @@ unloaded_ends c name unread unwritten before after NoCommand g u same = absurd u
 unloaded_ends c name unread unwritten before after Accepted g u same = absurd u
 unloaded_ends c name unread unwritten before after (Ran verdict) g u same = absurd u
 unloaded_ends c name unread unwritten before after NotWritten g u same = absurd u
+unloaded_ends c name unread unwritten before after (BadLog fault) g u same = absurd u
 
 -- a run of an accepted program
 pub run_given : (asked : Run) (bytes : List ℕ) (program : PlainProgram) (unread unwritten whole partly : Type 0) (before after : Outside) (conclusion : Conclusion) →
@@ -221,6 +233,7 @@ run_given asked bytes program unread unwritten whole partly before after NoComma
 run_given asked bytes program unread unwritten whole partly before after (Refused refusal) u p k f r = absurd r
 run_given asked bytes program unread unwritten whole partly before after Accepted u p k f r = absurd r
 run_given asked bytes program unread unwritten whole partly before after NotRead u p k f r = absurd r
+run_given asked bytes program unread unwritten whole partly before after (BadLog fault) u p k f r = absurd r
 
 weaker : (program : PlainProgram) (o : PlainOptions) (unwritten more whole partly : Type 0) (b a : Option (List ℕ)) (conclusion : Conclusion) → RunEnds program o unwritten whole partly b a conclusion →
     RunEnds program o (unwritten ⊎ more) whole partly b a conclusion
@@ -231,6 +244,17 @@ weaker program o unwritten more whole partly b a NoCommand r = absurd r
 weaker program o unwritten more whole partly b a (Refused refusal) r = absurd r
 weaker program o unwritten more whole partly b a Accepted r = absurd r
 weaker program o unwritten more whole partly b a NotRead r = absurd r
+weaker program o unwritten more whole partly b a (BadLog fault) r = absurd r
+
+caused_on : (program : PlainProgram) (o : PlainOptions) (u v whole partly : Type 0) (b a : Option (List ℕ)) (conclusion : Conclusion) → (u → v) → RunEnds program o u whole partly b a conclusion → RunEnds program o v whole partly b a conclusion
+caused_on program o u v whole partly b a (Ran x) f r = r
+caused_on program o u v whole partly b a NotWritten f r = (f r.0, r.1, r.2)
+caused_on program o u v whole partly b a NoMemory f r = r
+caused_on program o u v whole partly b a NoCommand f r = absurd r
+caused_on program o u v whole partly b a (Refused refusal) f r = absurd r
+caused_on program o u v whole partly b a Accepted f r = absurd r
+caused_on program o u v whole partly b a NotRead f r = absurd r
+caused_on program o u v whole partly b a (BadLog fault) f r = absurd r
 
 -- the program that was run is the one that was read, and so are the header and the name
 runs_same : (asked : Run) (program run : PlainProgram) (bytes : List ℕ) (header : PlainHeader) (unwritten whole partly : Type 0) (b a : Option (List ℕ)) (conclusion : Conclusion) → run ≡ program → header ≡ header_of asked bytes →
@@ -254,11 +278,11 @@ unlogged_given asked program run bytes name header unread unwritten more before 
     (runs_same asked program run bytes header unwritten (Unit {0}) (Unit {0}) before.printed after.printed conclusion e h r))
 
 -- a log is kept
-pub logged_given : (asked : Run) (program run : PlainProgram) (bytes name log said : List ℕ) (header : PlainHeader) (unread unwritten : Type 0) (mid : Option Holdings) (before after : Outside) (conclusion : Conclusion) → name ≡ asked.program →
+pub logged_given : (asked : Run) (program run : PlainProgram) (bytes name log said : List ℕ) (header : PlainHeader) (unread said_unwritten unwritten : Type 0) (mid : Option Holdings) (before after : Outside) (conclusion : Conclusion) → (said_unwritten → unwritten) → name ≡ asked.program →
     IsUnder before.holds name bytes → IsProgram bytes program → run ≡ program → header ≡ header_of asked bytes → asked.log ≡ Some said → log ≡ said → mid ≡ before.holds →
-    RunEnds run header.options unwritten (Holds mid log (log_alone header run) after.holds) (KeepsLogFront (Some log) mid (log_alone header run) after.holds) before.printed after.printed conclusion →
+    RunEnds run header.options said_unwritten (Holds mid log (log_alone header run) after.holds) (KeepsLogFront (Some log) mid (log_alone header run) after.holds) before.printed after.printed conclusion →
     EndsIn (Some (command.Run asked)) unread unwritten before after conclusion
-logged_given asked program run bytes name log said header unread unwritten mid before after conclusion n u p e h l k m r =
+logged_given asked program run bytes name log said header unread said_unwritten unwritten mid before after conclusion f n u p e h l k m r =
     let text : log_alone header run ≡ log_alone (header_of asked bytes) program = λ i. log_alone (h i) (e i) in
     let named : Some log ≡ asked.log = ap (λ (x : List ℕ). Some x) k ∙ sym l in
     run_given asked bytes program unread unwritten (Holds mid log (log_alone header run) after.holds) (KeepsLogFront (Some log) mid (log_alone header run) after.holds) before after conclusion
@@ -267,7 +291,7 @@ logged_given asked program run bytes name log said header unread unwritten mid b
     (subst (λ (t : List ℕ). Holds before.holds log t after.holds) text (subst (λ (x : Option Holdings). Holds x log (log_alone header run) after.holds) m w)))
     (λ w. subst (λ (o : Option (List ℕ)). KeepsLogFront o before.holds (log_alone (header_of asked bytes) program) after.holds) named
     (subst (λ (t : List ℕ). KeepsLogFront (Some log) before.holds t after.holds) text (subst (λ (x : Option Holdings). KeepsLogFront (Some log) x (log_alone header run) after.holds) m w)))
-    (runs_same asked program run bytes header unwritten _ _ before.printed after.printed conclusion e h r)
+    (caused_on program asked.options said_unwritten unwritten _ _ before.printed after.printed conclusion f (runs_same asked program run bytes header said_unwritten _ _ before.printed after.printed conclusion e h r))
 
 -- the large program
 pub measured : (n : ℕ) (unread unwritten : Type 0) (before after : Outside) (conclusion : Conclusion) → after.holds ≡ before.holds → MeasureEnds n unwritten before.printed after.printed conclusion →
@@ -279,6 +303,7 @@ measured n unread unwritten before after NoMemory h m = inl (m, h)
 measured n unread unwritten before after NoCommand h m = absurd m
 measured n unread unwritten before after Accepted h m = absurd m
 measured n unread unwritten before after NotRead h m = absurd m
+measured n unread unwritten before after (BadLog fault) h m = absurd m
 
 weaker_measure : (n : ℕ) (unwritten more : Type 0) (b a : Option (List ℕ)) (conclusion : Conclusion) → MeasureEnds n unwritten b a conclusion → MeasureEnds n (unwritten ⊎ more) b a conclusion
 weaker_measure n unwritten more b a (Ran v) m = m
@@ -288,6 +313,7 @@ weaker_measure n unwritten more b a NoMemory m = m
 weaker_measure n unwritten more b a NoCommand m = absurd m
 weaker_measure n unwritten more b a Accepted m = absurd m
 weaker_measure n unwritten more b a NotRead m = absurd m
+weaker_measure n unwritten more b a (BadLog fault) m = absurd m
 
 pub measured_aside : (n : ℕ) (unread unwritten more : Type 0) (before after : Outside) (conclusion : Conclusion) → after.holds ≡ before.holds → MeasureEnds n unwritten before.printed after.printed conclusion →
     EndsIn (Some (command.Large n)) unread (unwritten ⊎ more) before after conclusion
@@ -339,13 +365,119 @@ ends_partly None unread unwritten before after (Ran v) e = absurd e
 ends_partly (Some c) unread unwritten before after (Ran v) e = inr (e.0, e.1, comes_partly c e.0 before after v e.2)
 ends_partly None unread unwritten before after NotWritten e = absurd e
 ends_partly (Some c) unread unwritten before after NotWritten e = inr (e.0, e.1, (e.2).1)
+ends_partly None unread unwritten before after (BadLog fault) e = absurd e
+ends_partly (Some c) unread unwritten before after (BadLog fault) e = absurd e.2
+
+-- ---- a replay
+
+prints_partly : (ended : Result Verdict ReplayFault) (b : Option (List ℕ)) (t : List ℕ) (a : Option (List ℕ)) → replays.Prints ended b t a → AppendsFront b t a
+prints_partly (Ok v) b t a p = front_of b a t p
+prints_partly (Err (ReplayFault.Log fault)) b t a p = front_of b a t p
+prints_partly (Err (ReplayFault.Differs number expected other)) b t a p = front_of b a t p
+prints_partly (Err ReplayFault.Program) b t a p = front_of b a t p
+prints_partly (Err ReplayFault.Write) b t a p = p
+prints_partly (Err ReplayFault.Memory) b t a p = p
+
+replays_partly : (bytes : List ℕ) (b a : Option (List ℕ)) (ended : Result Verdict ReplayFault) → replays.Ends bytes b a ended → replays.Ends bytes b a (Err ReplayFault.Memory)
+replays_partly bytes b a ended (inl h) = inl (tt, h.1)
+replays_partly bytes b a ended (inr r) =
+    inr (record {
+      course = r.course;
+      rest = r.rest;
+      heads = r.heads;
+      stage = r.stage;
+      left = r.left;
+      follows = r.follows;
+      ends = tt;
+      prints = prints_partly ended b (text_in r.course) a r.prints;
+    })
+
+some_partly : (o : Option (List ℕ)) (b a : Option (List ℕ)) (ended : Result Verdict ReplayFault) → IsSomeAnd o (λ bytes. replays.Ends bytes b a ended) → IsSomeAnd o (λ bytes. replays.Ends bytes b a (Err ReplayFault.Memory))
+some_partly None b a ended h = absurd h
+some_partly (Some bytes) b a ended h = replays_partly bytes b a ended h
+
+told_partly : (name : List ℕ) (holds : Option Holdings) (b a : Option (List ℕ)) (ended : Result Verdict ReplayFault) → IfSome holds (λ held. IsSomeAnd (held name) (λ bytes. replays.Ends bytes b a ended)) →
+    IfSome holds (λ held. IsSomeAnd (held name) (λ bytes. replays.Ends bytes b a (Err ReplayFault.Memory)))
+told_partly name None b a ended h = tt
+told_partly name (Some held) b a ended h = some_partly (held name) b a ended h
+
+replay_partly : (name : List ℕ) (unread unwritten : Type 0) (before after : Outside) (c : Conclusion) → ReplayEnds name unread unwritten before after c → ReplayEnds name unread unwritten before after NoMemory
+replay_partly name unread unwritten before after c (e, inl h) = (tt, inl (inr refl, h.1))
+replay_partly name unread unwritten before after c (e, inr r) =
+    (tt, inr (record { ended = Err ReplayFault.Memory; is_conclusion = refl; ends = told_partly name before.holds before.printed after.printed r.ended r.ends; holds = r.holds }))
+
+pub so_partly : (c : Option Command) (unread unwritten : Type 0) (before after : Outside) (conclusion : Conclusion) → EndsSo c unread unwritten before after conclusion → EndsSo c unread unwritten before after NoMemory
+so_partly None unread unwritten before after conclusion e = ends_partly None unread unwritten before after conclusion e
+so_partly (Some (command.Replay log)) unread unwritten before after conclusion e = replay_partly log unread unwritten before after conclusion e
+so_partly (Some (command.Run asked)) unread unwritten before after conclusion e = ends_partly (Some (command.Run asked)) unread unwritten before after conclusion e
+so_partly (Some (command.Accept program)) unread unwritten before after conclusion e = ends_partly (Some (command.Accept program)) unread unwritten before after conclusion e
+so_partly (Some (command.Large n)) unread unwritten before after conclusion e = ends_partly (Some (command.Large n)) unread unwritten before after conclusion e
+
+-- where memory was wanting before anything was done
+pub ends_wanting : (c : Option Command) (unread unwritten : Type 0) (same : Outside) → EndsSo c unread unwritten same same NoMemory
+ends_wanting None unread unwritten same = inl (refl, refl)
+ends_wanting (Some (command.Replay log)) unread unwritten same = (tt, inl (inr refl, (refl, refl)))
+ends_wanting (Some (command.Run asked)) unread unwritten same = inl (refl, refl)
+ends_wanting (Some (command.Accept program)) unread unwritten same = inl (refl, refl)
+ends_wanting (Some (command.Large n)) unread unwritten same = inl (refl, refl)
+
+pub refuses_replayed : (log : List ℕ) (holds : Option Holdings) (code : ℕ) → Refuses (Some (command.Replay log)) holds code
+refuses_replayed log None code = tt
+refuses_replayed log (Some held) code = tt
+
+caused_by : (ended : Result Verdict ReplayFault) (unread unwritten : Type 0) → (IsErrOf ended (ReplayFault.Log log_fault.Read) → unread) → (IsErrOf ended ReplayFault.Write → unwritten) → IsCaused unread unwritten (replayed_of ended)
+caused_by (Ok v) unread unwritten r w = tt
+caused_by (Err (ReplayFault.Log log_fault.Version)) unread unwritten r w = tt
+caused_by (Err (ReplayFault.Log log_fault.Header)) unread unwritten r w = tt
+caused_by (Err (ReplayFault.Log (log_fault.Line n))) unread unwritten r w = tt
+caused_by (Err (ReplayFault.Log log_fault.Cut)) unread unwritten r w = tt
+caused_by (Err (ReplayFault.Log log_fault.Read)) unread unwritten r w = r refl
+caused_by (Err (ReplayFault.Log log_fault.Memory)) unread unwritten r w = tt
+caused_by (Err (ReplayFault.Differs number expected other)) unread unwritten r w = tt
+caused_by (Err ReplayFault.Program) unread unwritten r w = tt
+caused_by (Err ReplayFault.Write) unread unwritten r w = w refl
+caused_by (Err ReplayFault.Memory) unread unwritten r w = tt
+
+-- a failure of a replay has its cause
+pub caused : (ended : Result Verdict ReplayFault) (c : Conclusion) (unread unwritten : Type 0) → c ≡ replayed_of ended → (IsErrOf ended (ReplayFault.Log log_fault.Read) → unread) → (IsErrOf ended ReplayFault.Write → unwritten) →
+    IsCaused unread unwritten c
+caused ended c unread unwritten e r w = subst (λ (x : Conclusion). IsCaused unread unwritten x) (sym e) (caused_by ended unread unwritten r w)
+
+nothing : IsSome {T = List ℕ} None → ⊥
+nothing s = cc
+
+there : (o : Option (List ℕ)) (b a : Option (List ℕ)) (ended : Result Verdict ReplayFault) → IsSome o → IfSome o (λ bytes. replays.Ends bytes b a ended) → IsSomeAnd o (λ bytes. replays.Ends bytes b a ended)
+there None b a ended s h = absurd (nothing s)
+there (Some bytes) b a ended s h = h
+
+-- what is left of an input is what the world holds
+pub replay_told : (holds : Option Holdings) (name : List ℕ) (left b a : Option (List ℕ)) (ended : Result Verdict ReplayFault) → Opens holds name left → IfSome left (λ bytes. replays.Ends bytes b a ended) →
+    IfSome holds (λ held. IsSomeAnd (held name) (λ bytes. replays.Ends bytes b a ended))
+replay_told None name left b a ended o h = tt
+replay_told (Some held) name left b a ended o h =
+    let told : IfSome (held name) (λ bytes. replays.Ends bytes b a ended) = subst (λ (x : Option (List ℕ)). IfSome x (λ bytes. replays.Ends bytes b a ended)) o.1 h in
+    there (held name) b a ended o.0 told
+
+pub asks_unopened : (name : List ℕ) (before after : Option (List (List ℕ))) → after ≡ before → AsksIn (Some (command.Replay name)) before after NoMemory
+asks_unopened name before after e = ([], (name ∷ [], refl), asks_same before after e)
+
+-- a replay asks for its log alone
+pub asks_replayed : (name : List ℕ) (before after : Option (List (List ℕ))) (c : Conclusion) → Asks before name after → AsksIn (Some (command.Replay name)) before after c
+asks_replayed name before after NotRead h = (name ∷ [], refl, h)
+asks_replayed name before after (Refused refusal) h = (name ∷ [], refl, h)
+asks_replayed name before after NoMemory h = (name ∷ [], ([], refl), h)
+asks_replayed name before after NoCommand h = (name ∷ [], refl, h)
+asks_replayed name before after Accepted h = (name ∷ [], refl, h)
+asks_replayed name before after (Ran v) h = (name ∷ [], refl, h)
+asks_replayed name before after NotWritten h = (name ∷ [], refl, h)
+asks_replayed name before after (BadLog fault) h = (name ∷ [], refl, h)
 
 -- the status is that of the conclusion, or says that memory was wanting
 pub concluded : (c : Option Command) (unread unwritten : Type 0) (before after : Outside) (conclusion : Conclusion) (code : ℕ) (note : List ℕ) →
-    AsksIn c before.asked after.asked conclusion → EndsIn c unread unwritten before after conclusion → (IsStatusOf code note conclusion ⊎ IsStatusOf code note NoMemory) → Ends c unread unwritten before after code note
+    AsksIn c before.asked after.asked conclusion → EndsSo c unread unwritten before after conclusion → (IsStatusOf code note conclusion ⊎ IsStatusOf code note NoMemory) → Ends c unread unwritten before after code note
 concluded c unread unwritten before after conclusion code note a e (inl s) = record { conclusion = conclusion; status = s; asks = a; ends = e }
 concluded c unread unwritten before after conclusion code note a e (inr s) =
-    record { conclusion = NoMemory; status = s; asks = asks_some c before.asked after.asked conclusion a; ends = ends_partly c unread unwritten before after conclusion e }
+    record { conclusion = NoMemory; status = s; asks = asks_some c before.asked after.asked conclusion a; ends = so_partly c unread unwritten before after conclusion e }
 
 -- and a refused program comes to it
 pub refuses_concluded : (c : Option Command) (holds : Option Holdings) (conclusion : Conclusion) (code : ℕ) (note : List ℕ) → Refuses c holds (code_of conclusion) →

@@ -1,6 +1,6 @@
 -- How a run ends, and what is held of its log.
-use Rattle.std.proofs.Common.{◌≡◌, ℕ, ◌+◌, ◌<◌, ◌≤◌, List, [], ◌++◌, refl, sym, ap, subst, ◌∙◌, arith, inl, inr, append-nil, lit<, Option, Some, None, Ok, Err}
-use Rattle.std.specs.Prelude.{◌⊎◌, ◌-◌, ◌^◌, Result, OnOk, OnErr, IfOk, IsErrOf, IfSome, IsSomeAnd}
+use Rattle.std.proofs.Common.{◌≡◌, ℕ, ◌<◌, ◌≤◌, List, [], refl, sym, subst, arith, inl, inr, lit<, Option, Some, None, Ok, Err}
+use Rattle.std.specs.Prelude.{◌-◌, ◌^◌, Result, OnOk, OnErr, IfOk, IsErrOf, IfSome, IsSomeAnd}
 use Rattle.bp_base.specs.Counts.{Rose}
 use Rattle.bp_base.specs.Worlds.{Holdings, Sets, Keeps}
 use Rattle.bp_base.specs.Pieces.{Appends, AppendsFront}
@@ -14,7 +14,7 @@ use Rattle.bp_serve.specs.Logging.{LogGets, LogGetsFront}
 use Rattle.bp_serve.proofs.Way.{front_alone, unprinted as let_go}
 use Rattle.bp_cli.specs.declared.conclusion.Conclusion.{Conclusion}
 use Rattle.bp_cli.specs.Conclusions.{ended_of}
-use Rattle.bp_cli.specs.Runs.{Holds, HoldsFront, KeepsLogFront, RunEnds}
+use Rattle.bp_cli.specs.Runs.{Holds, KeepsLogFront, RunEnds}
 
 -- what a run answers says how the command ends
 pub run_ends : (r : Result Report RunFault) (c : Conclusion) (program : PlainProgram) (o : PlainOptions) (unwritten whole partly : Type 0) (before after : Option (List ℕ)) → c ≡ ended_of r →

@@ -6,7 +6,7 @@ use Rattle.bp_args.specs.declared.command.Command.{Command}
 use Rattle.bp_args.specs.declared.command.Command.TheVariants as command
 use Rattle.bp_args.specs.declared.said.Said.{Said}
 use Rattle.bp_args.specs.Said.{nothing_said, said_on}
-use Rattle.bp_args.specs.Command.{options_of, in_range, beside_of, beside_in_range, is_apart, run_with, run_of, bare_name, large_of, is_whole, command_with, command_of}
+use Rattle.bp_args.specs.Command.{options_of, in_range, beside_of, beside_in_range, is_apart, run_with, bare_name, large_of, is_whole, command_with, command_of}
 use Rattle.bp_cli.specs.Runs.{IsAlone}
 
 if_alone : (b : Bool) (x y : Option Command) → IsAlone x → IsAlone y → IsAlone (if b then x else y)

@@ -3,7 +3,7 @@ use Rattle.std.specs.Prelude.{◌≡◌, ℕ, List, [], ◌∷◌, ◌++◌, tak
 use Rattle.bp_args.specs.declared.command.Command.{Command}
 use Rattle.bp_args.specs.declared.command.Command.TheVariants.{Run, Replay, Accept, Large}
 use Rattle.bp_cli.specs.declared.conclusion.Conclusion.{Conclusion}
-use Rattle.bp_cli.specs.declared.conclusion.Conclusion.TheVariants.{NoCommand, Refused, Accepted, Ran, NotRead, NotWritten, NoMemory}
+use Rattle.bp_cli.specs.declared.conclusion.Conclusion.TheVariants.{NoCommand, Refused, Accepted, Ran, NotRead, NotWritten, NoMemory, BadLog}
 
 -- its names, in the order in which the world is asked for them
 abbrev pub names_of : Command → List (List ℕ)
@@ -25,6 +25,7 @@ AsksFor NoCommand names asked = asked ≡ names
 AsksFor Accepted names asked = asked ≡ names
 AsksFor (Ran verdict) names asked = asked ≡ names
 AsksFor NotWritten names asked = asked ≡ names
+AsksFor (BadLog fault) names asked = asked ≡ names
 
 -- words that are no command ask for nothing
 abbrev pub AsksIn : Option Command → Option (List (List ℕ)) → Option (List (List ℕ)) → Conclusion → Type 0

@@ -6,8 +6,9 @@ use Rattle.bp_script.specs.Refusals as refusals
 use Rattle.bp_script.specs.declared.reading.ScriptFault.{ScriptFault}
 use Rattle.bp_serve.specs.declared.report.Report.{Report}
 use Rattle.bp_serve.specs.declared.fault.RunFault.{RunFault}
+use Rattle.bp_cli.specs.Replaying.{bad_log_note}
 use Rattle.bp_cli.specs.declared.conclusion.Conclusion.{Conclusion}
-use Rattle.bp_cli.specs.declared.conclusion.Conclusion.TheVariants.{NoCommand, Refused, Accepted, Ran, NotRead, NotWritten, NoMemory}
+use Rattle.bp_cli.specs.declared.conclusion.Conclusion.TheVariants.{NoCommand, Refused, Accepted, Ran, NotRead, NotWritten, NoMemory, BadLog}
 
 -- what a wrong command is told
 abbrev pub usage : List ℕ
@@ -33,6 +34,7 @@ code_of (Ran verdict) = verdict_code verdict
 code_of NotRead = 8
 code_of NotWritten = 9
 code_of NoMemory = 10
+code_of (BadLog fault) = 11
 
 abbrev pub note_of : Conclusion → List ℕ
 note_of Accepted = []
@@ -42,6 +44,7 @@ note_of (Ran verdict) = []
 note_of NotRead = codes "read fault"
 note_of NotWritten = codes "write fault"
 note_of NoMemory = []
+note_of (BadLog fault) = bad_log_note fault
 
 -- the code and the note are those of the conclusion
 abbrev pub IsStatusOf : ℕ → List ℕ → Conclusion → Type 0

@@ -1,18 +1,19 @@
 -- Why a command ends as it does, and what came of it outside.
-use Rattle.std.specs.Prelude.{◌≡◌, ◌⊎◌, ℕ, List, Option, None, IsSome, IsSomeAnd}
+use Rattle.std.specs.Prelude.{◌≡◌, ◌⊎◌, ℕ, List, Option, Some, None, IsSome, IsSomeAnd}
 use Rattle.bp_base.specs.Worlds.{Holdings}
 use Rattle.bp_log.specs.declared.verdict.Verdict.{Verdict}
 use Rattle.bp_script.specs.Programs.{IsRefused}
 use Rattle.bp_args.specs.declared.command.Command.{Command}
 use Rattle.bp_args.specs.declared.command.Command.TheVariants.{Run, Replay, Accept, Large}
 use Rattle.bp_cli.specs.declared.conclusion.Conclusion.{Conclusion}
-use Rattle.bp_cli.specs.declared.conclusion.Conclusion.TheVariants.{NoCommand, Refused, Accepted, Ran, NotRead, NotWritten, NoMemory}
+use Rattle.bp_cli.specs.declared.conclusion.Conclusion.TheVariants.{NoCommand, Refused, Accepted, Ran, NotRead, NotWritten, NoMemory, BadLog}
 use Rattle.bp_cli.specs.Outside.{Outside, IsAsBefore, IsUnder}
 use Rattle.bp_cli.specs.Texts.{SaysAccepted, SaysAcceptedPartly}
 use Rattle.bp_cli.specs.Runs.{RunsTo, RunsPartly}
 use Rattle.bp_cli.specs.Large.{large_program, MeasuresTo, MeasuresPartly}
 use Rattle.bp_cli.specs.Conclusions.{IsStatusOf}
 use Rattle.bp_cli.specs.Asking.{AsksIn}
+use Rattle.bp_cli.specs.Replaying.{ReplayEnds}
 
 -- what a command works on: what the world holds under its first name, or the large program
 abbrev pub IsGiven : Option Holdings → Command → List ℕ → Type 0
@@ -55,8 +56,9 @@ EndsOn command bytes unwritten before after NotWritten = unwritten × TellsPartl
 EndsOn command bytes unwritten before after NoMemory = IsAsBefore before after ⊎ TellsPartly command bytes before after
 EndsOn command bytes unwritten before after NoCommand = ⊥
 EndsOn command bytes unwritten before after NotRead = ⊥
+EndsOn command bytes unwritten before after (BadLog fault) = ⊥
 
--- the same of a command, where reading failed or not: why and what are of the same bytes
+-- the same of a command on a program, where reading failed or not: why and what are of the same bytes
 abbrev pub EndsIn : Option Command → Type 0 → Type 0 → Outside → Outside → Conclusion → Type 0
 EndsIn command unread unwritten before after NoCommand = (command ≡ None) × IsAsBefore before after
 EndsIn command unread unwritten before after NotRead = IsSome command × unread × IsAsBefore before after
@@ -65,9 +67,17 @@ EndsIn command unread unwritten before after NoMemory =
 EndsIn command unread unwritten before after conclusion =
     OfBytes command before.holds (λ c bytes. EndsOn c bytes unwritten before after conclusion)
 
+-- the same of each command: a replay ends in its own way
+abbrev pub EndsSo : Option Command → Type 0 → Type 0 → Outside → Outside → Conclusion → Type 0
+EndsSo (Some (Replay log)) unread unwritten before after conclusion = ReplayEnds log unread unwritten before after conclusion
+EndsSo (Some (Run asked)) unread unwritten before after conclusion = EndsIn (Some (Run asked)) unread unwritten before after conclusion
+EndsSo (Some (Accept program)) unread unwritten before after conclusion = EndsIn (Some (Accept program)) unread unwritten before after conclusion
+EndsSo (Some (Large n)) unread unwritten before after conclusion = EndsIn (Some (Large n)) unread unwritten before after conclusion
+EndsSo None unread unwritten before after conclusion = EndsIn None unread unwritten before after conclusion
+
 -- the code and the note are those of a conclusion in which the command ends, and for which it asks
 pub record Ends (command : Option Command) (unread unwritten : Type 0) (before after : Outside) (code : ℕ) (note : List ℕ) : Type 0 where
   pub conclusion : Conclusion
   pub status : IsStatusOf code note conclusion
   pub asks : AsksIn command before.asked after.asked conclusion
-  pub ends : EndsIn command unread unwritten before after conclusion
+  pub ends : EndsSo command unread unwritten before after conclusion

@@ -10,7 +10,7 @@ use Rattle.bp_code.specs.Code.{records_alone, text_alone}
 use Rattle.bp_script.specs.Programs.{IsProgram, IsRefused}
 use Rattle.bp_serve.specs.Ends.{verdict_alone}
 use Rattle.bp_cli.specs.declared.conclusion.Conclusion.{Conclusion}
-use Rattle.bp_cli.specs.declared.conclusion.Conclusion.TheVariants.{NoCommand, Refused, Accepted, Ran, NotRead, NotWritten, NoMemory}
+use Rattle.bp_cli.specs.declared.conclusion.Conclusion.TheVariants.{NoCommand, Refused, Accepted, Ran, NotRead, NotWritten, NoMemory, BadLog}
 
 -- so many b-threads, of which each requests an event of its own four times
 unfoldable pub large_program : ℕ → List ℕ
@@ -28,8 +28,8 @@ is_selection (End v) = false
 -- the number of b-threads, and the selected events, the lines and the bytes of the text of a run
 unfoldable pub large_line : ℕ → List Record → List ℕ → List ℕ
 large_line n records text =
-    codes "large " ++ decimal n ++ codes " events " ++ decimal (count_by is_selection records)
-    ++ codes " lines " ++ decimal (count_by (λ byte. byte == 10) text) ++ codes " bytes " ++ decimal (length text) ++ codes "\n"
+    codes "large " ++ (decimal n ++ (codes " events " ++ (decimal (count_by is_selection records)
+    ++ (codes " lines " ++ (decimal (count_by (λ byte. byte == 10) text) ++ (codes " bytes " ++ (decimal (length text) ++ codes "\n")))))))
 
 -- the line of the one run of the program under the default options
 abbrev pub line_of : ℕ → PlainProgram → List ℕ → List ℕ
@@ -57,3 +57,4 @@ MeasureEnds n unwritten before after NoMemory = after ≡ before
 MeasureEnds n unwritten before after NoCommand = ⊥
 MeasureEnds n unwritten before after Accepted = ⊥
 MeasureEnds n unwritten before after NotRead = ⊥
+MeasureEnds n unwritten before after (BadLog fault) = ⊥

@@ -7,3 +7,4 @@ pub mod Asking
 pub mod Endings
 pub mod Refusing
 pub mod Loading
+pub mod Replaying

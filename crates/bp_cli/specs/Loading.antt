@@ -3,7 +3,7 @@ use Rattle.std.specs.Prelude.{ℕ, List, Option}
 use Rattle.bp_base.specs.Worlds.{Holdings}
 use Rattle.bp_script.specs.Programs.{IsRefused}
 use Rattle.bp_cli.specs.declared.conclusion.Conclusion.{Conclusion}
-use Rattle.bp_cli.specs.declared.conclusion.Conclusion.TheVariants.{NoCommand, Refused, Accepted, Ran, NotRead, NotWritten, NoMemory}
+use Rattle.bp_cli.specs.declared.conclusion.Conclusion.TheVariants.{NoCommand, Refused, Accepted, Ran, NotRead, NotWritten, NoMemory, BadLog}
 use Rattle.bp_cli.specs.Outside.{IsUnder}
 
 -- why there is no accepted program of that name, where reading failed or not
@@ -15,3 +15,4 @@ IsUnloaded holds name unread NoCommand = ⊥
 IsUnloaded holds name unread Accepted = ⊥
 IsUnloaded holds name unread (Ran verdict) = ⊥
 IsUnloaded holds name unread NotWritten = ⊥
+IsUnloaded holds name unread (BadLog fault) = ⊥

@@ -14,7 +14,7 @@ use Rattle.bp_args.specs.declared.command.Command.TheVariants as command
 use Rattle.bp_args.specs.declared.command.Run.{Run}
 use Rattle.bp_serve.specs.Ends.{verdict_alone}
 use Rattle.bp_cli.specs.declared.conclusion.Conclusion.{Conclusion}
-use Rattle.bp_cli.specs.declared.conclusion.Conclusion.TheVariants.{NoCommand, Refused, Accepted, Ran, NotRead, NotWritten, NoMemory}
+use Rattle.bp_cli.specs.declared.conclusion.Conclusion.TheVariants.{NoCommand, Refused, Accepted, Ran, NotRead, NotWritten, NoMemory, BadLog}
 use Rattle.bp_cli.specs.Outside.{Outside}
 
 -- the text is now under the name, and under each other name what was there, where the world tells what it holds
@@ -70,6 +70,7 @@ RunEnds program options unwritten whole partly before after NoCommand = ⊥
 RunEnds program options unwritten whole partly before after (Refused refusal) = ⊥
 RunEnds program options unwritten whole partly before after Accepted = ⊥
 RunEnds program options unwritten whole partly before after NotRead = ⊥
+RunEnds program options unwritten whole partly before after (BadLog fault) = ⊥
 
 -- a run that is asked for has no injectors
 abbrev pub IsAlone : Option Command → Type 0
@@ -78,11 +79,3 @@ IsAlone (Some (command.Run asked)) = asked.options.injectors ≡ 0
 IsAlone (Some (command.Replay log)) = Unit {0}
 IsAlone (Some (command.Accept program)) = Unit {0}
 IsAlone (Some (command.Large n)) = Unit {0}
-
--- the commands that are carried out: all but a replay
-abbrev pub served : Option Command → Option Command
-served None = None
-served (Some (command.Run asked)) = Some (command.Run asked)
-served (Some (command.Replay log)) = None
-served (Some (command.Accept program)) = Some (command.Accept program)
-served (Some (command.Large n)) = Some (command.Large n)

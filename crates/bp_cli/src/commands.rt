@@ -4,15 +4,16 @@ ghost use Rattle.bp_base.specs.Counts.{Rose};
 ghost use Rattle.bp_args.specs.Command.{command_of};
 ghost use Rattle.bp_cli.specs.Asking.{AsksIn};
 ghost use Rattle.bp_cli.specs.Conclusions.{code_of};
-ghost use Rattle.bp_cli.specs.Endings.{EndsIn, Ends};
+ghost use Rattle.bp_cli.specs.Endings.{EndsSo, Ends};
 ghost use Rattle.bp_cli.specs.Outside.{Outside};
 ghost use Rattle.bp_cli.specs.Refusing.{Refuses};
-ghost use Rattle.bp_cli.specs.Runs.{IsAlone, served};
+ghost use Rattle.bp_cli.specs.Runs.{IsAlone};
 
 use crate::Status;
 use crate::conclusion::Conclusion;
 use crate::large::measure_large;
 use crate::programs::{accept_program, run_program};
+use crate::replaying::replay_log;
 use bp_args::{Command, Usage, read};
 use bp_base::{Sink, World};
 use std::alloc::Global;
@@ -28,14 +29,13 @@ fn carry_out<R: Threads + Wait + Sync, W: World, K: Sink>(
     out: &mut K,
 ) -> Conclusion
     requires alone { IsAlone (Some command) }
-    ensures ends {
-        let before : Outside = record { holds = W.holds world.old; asked = W.asked world.old; printed = K.written out.old } in
+    ensures ends { let before : Outside = record { holds = W.holds world.old; asked = W.asked world.old; printed = K.written out.old } in
         let after : Outside = record { holds = W.holds world.new; asked = W.asked world.new; printed = K.written out.new } in
-        EndsIn (served (Some command)) (Rose (W.read_faults world.old) (W.read_faults world.new))
-            (Rose (K.faults out.old) (K.faults out.new) ⊎ Rose (W.write_faults world.old) (W.write_faults world.new))
-            before after result }
-    ensures asks { AsksIn (served (Some command)) (W.asked world.old) (W.asked world.new) result }
-    ensures refuses { Refuses (served (Some command)) (W.holds world.old) (code_of result) }
+        EndsSo (Some command) (Rose (W.read_faults world.old) (W.read_faults world.new))
+        (Rose (K.faults out.old) (K.faults out.new) ⊎ Rose (W.write_faults world.old) (W.write_faults world.new))
+        before after result }
+    ensures asks { AsksIn (Some command) (W.asked world.old) (W.asked world.new) result }
+    ensures refuses { Refuses (Some command) (W.holds world.old) (code_of result) }
     ensures read_counts { W.read_faults world.old ≤ W.read_faults world.new }
     ensures write_counts { W.write_faults world.old ≤ W.write_faults world.new }
     ensures counts { K.faults out.old ≤ K.faults out.new }
@@ -44,7 +44,7 @@ fn carry_out<R: Threads + Wait + Sync, W: World, K: Sink>(
         Command::Run(asked) => run_program(rt, alloc, &asked, world, out),
         Command::Accept(name) => accept_program(alloc, &name, world, out),
         Command::Large(count) => measure_large(rt, alloc, count, out),
-        Command::Replay(_) => Conclusion::NoCommand,
+        Command::Replay(name) => replay_log(alloc, &name, world, out),
     }
 }
 
@@ -56,15 +56,14 @@ fn conclude<R: Threads + Wait + Sync, W: World, K: Sink>(
     world: &mut W,
     out: &mut K,
 ) -> Conclusion
-    ensures ends {
-        let before : Outside = record { holds = W.holds world.old; asked = W.asked world.old; printed = K.written out.old } in
+    ensures ends { let before : Outside = record { holds = W.holds world.old; asked = W.asked world.old; printed = K.written out.old } in
         let after : Outside = record { holds = W.holds world.new; asked = W.asked world.new; printed = K.written out.new } in
-        EndsIn (served (command_of (map string_bytes words.now))) (Rose (W.read_faults world.old) (W.read_faults world.new))
-            (Rose (K.faults out.old) (K.faults out.new) ⊎ Rose (W.write_faults world.old) (W.write_faults world.new))
-            before after result }
-    ensures asks { AsksIn (served (command_of (map string_bytes words.now)))
+        EndsSo (command_of (map string_bytes words.now)) (Rose (W.read_faults world.old) (W.read_faults world.new))
+        (Rose (K.faults out.old) (K.faults out.new) ⊎ Rose (W.write_faults world.old) (W.write_faults world.new))
+        before after result }
+    ensures asks { AsksIn (command_of (map string_bytes words.now))
         (W.asked world.old) (W.asked world.new) result }
-    ensures refuses { Refuses (served (command_of (map string_bytes words.now))) (W.holds world.old)
+    ensures refuses { Refuses (command_of (map string_bytes words.now)) (W.holds world.old)
         (code_of result) }
     ensures read_counts { W.read_faults world.old ≤ W.read_faults world.new }
     ensures write_counts { W.write_faults world.old ≤ W.write_faults world.new }
@@ -79,7 +78,7 @@ fn conclude<R: Threads + Wait + Sync, W: World, K: Sink>(
 
 /// Carries out what the words ask for.
 ///
-/// The words are those after the program's name: `run [OPTIONS] PROGRAM`, `accept PROGRAM` or `large N`.
+/// The words are those after the program's name: `run [OPTIONS] PROGRAM`, `replay LOG`, `accept PROGRAM` or `large N`.
 pub fn command<R: Threads + Wait + Sync, W: World, K: Sink>(
     rt: &R,
     alloc: Global,
@@ -92,15 +91,14 @@ pub fn command<R: Threads + Wait + Sync, W: World, K: Sink>(
     // is kept that log, at 9 and 10 maybe a front of it. The world was asked for the names of the words, in order: at 2 and 8 for
     // the first alone, at 10 for some. So where no count rose and memory was not wanting, the code is 1, 2, that of the one run's
     // verdict, or 0 for an accepted program.
-    ensures ends {
-        let before : Outside = record { holds = W.holds world.old; asked = W.asked world.old; printed = K.written out.old } in
+    ensures ends { let before : Outside = record { holds = W.holds world.old; asked = W.asked world.old; printed = K.written out.old } in
         let after : Outside = record { holds = W.holds world.new; asked = W.asked world.new; printed = K.written out.new } in
-        Ends (served (command_of (map string_bytes words.now))) (Rose (W.read_faults world.old) (W.read_faults world.new))
-            (Rose (K.faults out.old) (K.faults out.new) ⊎ Rose (W.write_faults world.old) (W.write_faults world.new))
-            before after result.code result.note }
+        Ends (command_of (map string_bytes words.now)) (Rose (W.read_faults world.old) (W.read_faults world.new))
+        (Rose (K.faults out.old) (K.faults out.new) ⊎ Rose (W.write_faults world.old) (W.write_faults world.new))
+        before after result.code result.note }
 
     // A refused program comes to no other end, but for a fault of reading or want of memory.
-    ensures refuses { Refuses (served (command_of (map string_bytes words.now))) (W.holds world.old)
+    ensures refuses { Refuses (command_of (map string_bytes words.now)) (W.holds world.old)
         result.code }
     ensures read_counts { W.read_faults world.old ≤ W.read_faults world.new }
     ensures world_counts { W.write_faults world.old ≤ W.write_faults world.new }

@@ -1,5 +1,5 @@
 //! The large program, which the command makes itself, and whose run it measures.
-ghost use Rattle.std.specs.Prelude.{◌≡◌, ◌≤◌, Some, IfOk, string_bytes};
+ghost use Rattle.std.specs.Prelude.{◌≡◌, ◌==◌, ◌≤◌, ◌++◌, Some, IfOk, codes, count_by, decimal, string_bytes};
 ghost use Rattle.bp_base.specs.Counts.{Rose};
 ghost use Rattle.bp_code.specs.Code.{records_alone, text_alone};
 ghost use Rattle.bp_log.specs.Options.{default_options};
@@ -17,7 +17,8 @@ use std::sync::Wait;
 use std::thread::Threads;
 
 /// The program before the number of its b-threads.
-const FRONT: &str = "const make = i => () => { for (let r = 0; r < 4; r++) bp.sync({request: bp.Event(\"e\", i)}) }\nfor (let i = 0; i < ";
+const FRONT: &str =
+    "const make = i => () => { for (let r = 0; r < 4; r++) bp.sync({request: bp.Event(\"e\", i)}) }\nfor (let i = 0; i < ";
 
 /// The program behind it.
 const REST: &str = "; i++) bp.registerBThread(\"t\" + i, make(i))\n";
@@ -40,15 +41,42 @@ fn is_selection(entry: &Record) -> bool
     matches!(entry, Record::Sel(_))
 }
 
+/// How many events were selected.
+fn selections(records: &[Record]) -> usize
+    ensures { result ≡ count_by selects records.now }
+{
+    let mut count = 0;
+    for entry in records {
+        if is_selection(entry) {
+            count += 1;
+        }
+    }
+    count
+}
+
+/// How many lines the text has.
+fn newlines(text: &[u8]) -> usize
+    ensures { result ≡ count_by (λ byte. byte == 10) text.now }
+{
+    text.iter().filter(|byte| **byte == b'\n').count()
+}
+
+/// How many lines and how many bytes. Its only error is want of memory.
+fn sizes_of(alloc: Global, lines: usize, bytes: usize) -> Result<String, Memory>
+    ensures { IfOk result (λ s. string_bytes s ≡ decimal lines ++ (codes " bytes " ++ (decimal bytes ++ codes "\n"))) }
+{
+    format!(in alloc; "{lines} bytes {bytes}\n")
+}
+
 /// The line of a run of the program of so many b-threads. Its only error is want of memory.
 #[tactic(auto, unfolding(crate::specs::Large::large_line))]
 fn line_of(alloc: Global, count: u32, records: &[Record], text: &[u8]) -> Result<String, Memory>
     ensures { IfOk result (λ s. string_bytes s ≡ large_line count records.now text.now) }
 {
-    let events = records.iter().filter(|entry| is_selection(entry)).count();
-    let lines = text.iter().filter(|byte| **byte == b'\n').count();
-    let bytes = text.len();
-    format!(in alloc; "large {count} events {events} lines {lines} bytes {bytes}\n")
+    let events = selections(records);
+    let sizes = sizes_of(alloc, newlines(text), text.len())?;
+    let sizes = sizes.as_str();
+    format!(in alloc; "large {count} events {events} lines {sizes}")
 }
 
 /// What the run of the program under the default options came to, and its text. Want of room for the text is want of memory.

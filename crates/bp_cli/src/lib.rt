@@ -6,6 +6,7 @@ mod conclusion;
 mod large;
 mod loading;
 mod programs;
+mod replaying;
 mod running;
 mod status;
 

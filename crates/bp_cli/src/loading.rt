@@ -63,11 +63,7 @@ fn bytes_of<W: World>(alloc: Global, world: &mut W, name: &str) -> Result<Vec<u8
 }
 
 /// The accepted program of that name, or how a command ends that has none.
-pub(crate) fn load<W: World>(
-    alloc: Global,
-    world: &mut W,
-    name: &str,
-) -> Result<Loaded, Conclusion>
+pub(crate) fn load<W: World>(alloc: Global, world: &mut W, name: &str) -> Result<Loaded, Conclusion>
     ensures program { IfOk result (λ l. IsProgram l.bytes.items l.program) }
     ensures bytes { IfOk result (λ l. IsUnder (W.holds world.old) name.now l.bytes.items) }
     ensures within { IfOk result (λ l. vec_len l.bytes ≤ MOST_BYTES) }

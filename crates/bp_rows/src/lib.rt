@@ -6,6 +6,8 @@ mod accepted;
 #[cfg(test)]
 mod limits;
 #[cfg(test)]
+mod logs;
+#[cfg(test)]
 mod outside;
 #[cfg(test)]
 mod runs;

@@ -15,10 +15,22 @@ run|-x
 run|--script.js
 run|script.js|script.js
 run|script.js|
+run|a|--seed|x
+run|a|--log|a
+run|a|--budget|0
+run|a|--steps|1000001
+run|a|--workers|65
+run|a|--slice=
+run|a|--seed|1|--seed|2
+large
+large|0
+large|4001
 Run|script.js
 run |script.js
 --help
-replay|script.js
+replay
+replay|script.js|script.js
+replay|--seed|1|script.js
 accept
 accept|--script.js
 ";

@@ -15,14 +15,17 @@ pub struct Ran {
     pub code: u8,
     pub note: String,
     pub printed: Vec<u8>,
+    /// What is held as `log` afterwards; of no bytes where nothing is.
+    pub log: Vec<u8>,
 }
 
-/// The calls that are to fail: of the world, of the script's input, and of the output.
+/// The calls that are to fail: of the world, of the script's input, of the output, and of the log.
 #[derive(Clone, Copy)]
 pub struct Fails<'a> {
     pub world: &'a [u64],
     pub input: &'a [u64],
     pub output: &'a [u64],
+    pub log: &'a [u64],
 }
 
 /// No call fails.
@@ -30,6 +33,7 @@ pub const NONE: Fails<'static> = Fails {
     world: &[],
     input: &[],
     output: &[],
+    log: &[],
 };
 
 /// Runs `bp` with these words in a world that holds the script as `script.js`.
@@ -40,15 +44,17 @@ pub fn run_words<R: Threads + Wait + Sync>(
     script: &[u8],
     fails: Fails<'_>,
 ) -> Result<Ran, Fail> {
-    let mut world = MemoryWorld::new(alloc, 0, fails.world.to_vec(alloc)?);
+    let mut world = MemoryWorld::new(alloc, 1_000_000, fails.world.to_vec(alloc)?);
     world.hold("script.js".to_string(alloc)?, script.to_vec(alloc)?)?;
     world.fail("script.js".to_string(alloc)?, fails.input.to_vec(alloc)?)?;
+    world.fail("log".to_string(alloc)?, fails.log.to_vec(alloc)?)?;
     let mut out = MemorySink::new(alloc, 2_000_000, fails.output.to_vec(alloc)?)?;
     let status = command(rt, alloc, words, &mut world, &mut out);
     Ok(Ran {
         code: status.code,
         note: status.note.as_str().to_string(alloc)?,
         printed: out.written().to_vec(alloc)?,
+        log: world.held("log").unwrap_or(b"").to_vec(alloc)?,
     })
 }
 

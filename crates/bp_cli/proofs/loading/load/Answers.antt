@@ -1,7 +1,6 @@
 use Rattle.std.proofs.Common.{Err, ap, subst, List, ℕ}
 use Rattle.bp_base.specs.declared.moving.ReadError.{ReadError}
 use Rattle.bp_script.specs.Faults.{IsScriptFault}
-use Rattle.bp_script.specs.Programs.{IsProgram}
 use Rattle.bp_cli.proofs.Endings.{unloaded_fault}
 use Rattle.bp_cli.proofs.loading.load.Goals as goal
 

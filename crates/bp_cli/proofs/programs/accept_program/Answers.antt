@@ -1,6 +1,4 @@
-use Rattle.std.proofs.Common.{◌≡◌, Some, List, ℕ, [], ◌∷◌, ◌∙◌, ap, inl, inr, refl, sym, subst}
-use Rattle.std.specs.Prelude.{option_to_list}
-use Rattle.js_program.specs.PlainProgram.{PlainProgram}
+use Rattle.std.proofs.Common.{Some, List, ℕ, [], ◌∷◌, ap, inl, refl, sym, subst}
 use Rattle.bp_args.specs.declared.command.Command.TheVariants as command
 use Rattle.bp_base.specs.Worlds.{Asks}
 use Rattle.bp_cli.specs.Outside.{Outside, IsUnder}
@@ -39,4 +37,3 @@ returns-clause-asks g c = (c.args.name.now ∷ [], refl, subst (λ (n : List ℕ
 
 pub returns-clause-refuses : goal.returns-clause-refuses
 returns-clause-refuses g c = refuses_loaded (command.Accept c.args.name.now) _ c.as_str.result.now c.in-Ok.loaded.bytes.items c.in-Ok.loaded.program _ (ap (λ (n : List ℕ). Some n) (sym c.as_str.ensures)) c.in-Ok.ensures.bytes c.in-Ok.ensures.program
-

@@ -1,7 +1,7 @@
-use Rattle.std.proofs.Common.{◌≡◌, Some, List, ℕ, [], ◌∷◌, ◌∙◌, ap, inl, inr, refl, sym, subst}
+use Rattle.std.proofs.Common.{◌≡◌, Some, List, ℕ, ◌∷◌, ◌∙◌, ap, refl, sym, subst}
 use Rattle.std.specs.Prelude.{◌⊎◌, option_to_list}
-use Rattle.js_program.specs.PlainProgram.{PlainProgram}
 use Rattle.bp_args.specs.declared.command.Command.TheVariants as command
+use Rattle.bp_base.specs.Counts.{Rose}
 use Rattle.bp_base.specs.Worlds.{Asks}
 use Rattle.bp_cli.specs.declared.conclusion.Conclusion.TheVariants.{NoMemory}
 use Rattle.bp_cli.specs.Outside.{Outside, IsUnder}
@@ -44,12 +44,13 @@ pub returns-clause-ends : goal.returns-clause-ends
 returns-clause-ends g c =
     let before : Outside = record { holds = g.W.World.holds c.args.world.now; asked = g.W.World.asked c.args.world.now; printed = g.K.Sink.written c.args.out.now } in
     let after : Outside = record { holds = g.W.World.holds c.run_logged.new.world; asked = g.W.World.asked c.run_logged.new.world; printed = g.K.Sink.written c.run_logged.new.out } in
-    logged_given c.args.asked.now c.in-Ok.loaded.program c.into_parts-program.result.0 c.in-Ok.loaded.bytes.items c.as_str.result.now c.as_str-in-Some-log.result.now c.in-Some-log.name.now c.in-Some.header _ _ _ before after c.run_logged.result
+    logged_given c.args.asked.now c.in-Ok.loaded.program c.into_parts-program.result.0 c.in-Ok.loaded.bytes.items c.as_str.result.now c.as_str-in-Some-log.result.now c.in-Some-log.name c.in-Some.header _ _ _ _ before after c.run_logged.result
+    (λ w. subst (λ (n : ℕ). Rose (g.K.Sink.faults c.args.out.now) (g.K.Sink.faults c.run_logged.new.out) ⊎ Rose n (g.W.World.write_faults c.run_logged.new.world)) c.load.ensures.writes w)
     c.as_str.ensures c.in-Ok.ensures.bytes c.in-Ok.ensures.program (ap (λ x. x.0) c.into_parts-program.ensures) (c.in-Some.ensures.1 ∙ ap (λ x. header_of c.args.asked.now x.1.items) c.into_parts-program.ensures) c.in-Some-log.is c.as_str-in-Some-log.ensures c.load.ensures.holds c.run_logged.ensures.ends
 
 pub returns-clause-asks : goal.returns-clause-asks
 returns-clause-asks g c =
-    asks_logged c.args.asked.now c.in-Some-log.name.now _ _ _ _ _ _ _ _ _ _ c.run_logged.result c.in-Some-log.is c.run_logged.ensures.ends
+    asks_logged c.args.asked.now c.in-Some-log.name _ _ _ _ _ _ _ _ _ _ c.run_logged.result c.in-Some-log.is c.run_logged.ensures.ends
     (subst (λ (n : List ℕ). Asks (g.W.World.asked c.args.world.now) n (g.W.World.asked c.load.new.world)) c.as_str.ensures (asked_ok c.in-Ok.loaded _ _ _ c.in-Ok.ensures.asked))
     (subst (λ (n : List ℕ). ((c.run_logged.result ≡ NoMemory) × (g.W.World.asked c.run_logged.new.world ≡ g.W.World.asked c.load.new.world)) ⊎ Asks (g.W.World.asked c.load.new.world) n (g.W.World.asked c.run_logged.new.world))
     c.as_str-in-Some-log.ensures c.run_logged.ensures.asked)
