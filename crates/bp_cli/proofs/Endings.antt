@@ -1,107 +1,38 @@
--- How a command ends: from the bytes of its program, and with its note or without the memory for it.
-use Rattle.std.proofs.Common.{◌≡◌, ℕ, zero, suc, ◌<◌, List, [], ◌∷◌, length, refl, sym, subst, append-nil, arith, inl, inr}
-use Rattle.std.specs.Prelude.{◌⊎◌, Option, Some, None, IsSome, IfSome, IsSomeAnd}
-use Rattle.bp_base.specs.Worlds.{Holdings, Opens}
+-- How a command ends: from its parts, and with its note or without the memory for it.
+use Rattle.std.proofs.Common.{◌≡◌, ℕ, zero, suc, ◌<◌, List, [], ◌∷◌, ◌++◌, length, take, refl, sym, ap, subst, ◌∙◌, append-nil, append_assoc, arith, rules, inl, inr}
+use Rattle.std.specs.Prelude.{◌⊎◌, Option, Some, None, Result, Ok, Err, IsErrOf, IsSome, IfSome, IsSomeAnd, option_and_then, option_to_list}
+use Rattle.bp_base.specs.Worlds.{Holdings, Opens, Asks}
 use Rattle.bp_base.specs.Pieces.{Appends, AppendsFront}
 use Rattle.js_program.specs.PlainProgram.{PlainProgram}
+use Rattle.bp_log.specs.Header.{PlainHeader}
 use Rattle.bp_log.specs.Options.{PlainOptions, default_options}
 use Rattle.bp_log.specs.declared.limits.TheConstants.{MOST_BYTES}
 use Rattle.bp_log.specs.declared.verdict.Verdict.{Verdict}
-use Rattle.bp_script.specs.Programs.{IsProgram, IsRefused}
 use Rattle.bp_code.specs.Code.{text_alone}
-use Rattle.bp_serve.specs.Ends.{verdict_alone}
-use Rattle.bp_cli.specs.declared.words.Verb.{Verb}
-use Rattle.bp_cli.specs.declared.conclusion.Conclusion.{Conclusion}
-use Rattle.bp_cli.specs.declared.conclusion.Conclusion.TheVariants.{NoCommand, Refused, Accepted, Ran, NotRead, NotWritten, NoMemory}
-use Rattle.bp_cli.specs.Command.{PlainCommand}
-use Rattle.bp_cli.specs.Programs.{IsUnder, accepted_line, PrintsFront, RunsTo}
-use Rattle.bp_cli.specs.Conclusions.{IsStatusOf}
-use Rattle.bp_cli.specs.Endings.{EndsOn, EndsIn, Ends}
-use Rattle.bp_cli.specs.Refusing.{IsTooLong}
+use Rattle.bp_script.specs.Programs.{IsProgram, IsRefused}
 use Rattle.bp_script.specs.declared.refusal.Refusal.{Refusal}
+use Rattle.bp_script.specs.Faults.{IsScriptFault}
+use Rattle.bp_script.specs.declared.reading.ScriptFault.{ScriptFault}
 use Rattle.bp_script.proofs.Once.{never}
-
-there_is : {A : Type 0} (o : Option A) (P : A → Type 0) → IsSomeAnd o P → (a : A) × (o ≡ Some a) × P a
-there_is None P h = absurd h
-there_is (Some a) P h = (a, refl, h)
-
--- the whole is a front
-front_of : (before after : Option (List ℕ)) (text : List ℕ) → Appends before text after → AppendsFront before text after
-front_of before after text h = (text, [], sym (append-nil text), h)
-
--- ---- on the bytes of a program
-
--- a run came to its end
-pub run_whole : (bytes : List ℕ) (program : PlainProgram) (o : PlainOptions) (before after : Option (List ℕ)) (v : Verdict) → IsProgram bytes program → o ≡ default_options →
-    IsSomeAnd (text_alone program o) (λ text. Appends before text after) → verdict_alone program o ≡ Some v → RunsTo before after bytes v
-run_whole bytes program o before after v p e h k =
-    record {
-      program = program;
-      is_program = p;
-      verdict = subst (λ (x : PlainOptions). verdict_alone program x ≡ Some v) e k;
-      prints = subst (λ (x : PlainOptions). IsSomeAnd (text_alone program x) (λ text. Appends before text after)) e h;
-    }
-
--- a front of the text of a run was printed
-pub run_front : (bytes : List ℕ) (program : PlainProgram) (o : PlainOptions) (before after : Option (List ℕ)) → IsProgram bytes program → o ≡ default_options →
-    IsSomeAnd (text_alone program o) (λ text. AppendsFront before text after) → PrintsFront before after Verb.Run bytes
-run_front bytes program o before after p e h =
-    let there : IsSomeAnd (text_alone program default_options) (λ text. AppendsFront before text after) =
-    subst (λ (x : PlainOptions). IsSomeAnd (text_alone program x) (λ text. AppendsFront before text after)) e h in
-    let some = there_is (text_alone program default_options) (λ text. AppendsFront before text after) there in
-    (some.0, (program, p, some.1), some.2)
-
--- ---- of a command
-
-ends_of : (verb : Verb) (name bytes : List ℕ) (holds : Option Holdings) (unread unwritten : Type 0) (before after : Option (List ℕ)) (c : Conclusion) →
-    IsUnder holds name bytes → EndsOn verb bytes unwritten before after c → EndsIn (Some (record { verb = verb; name = name })) holds unread unwritten before after c
-ends_of verb name bytes holds unread unwritten before after NoCommand u e = absurd e
-ends_of verb name bytes holds unread unwritten before after (Refused refusal) u e = (bytes, u, e)
-ends_of verb name bytes holds unread unwritten before after Accepted u e = (bytes, u, e)
-ends_of verb name bytes holds unread unwritten before after (Ran v) u e = (bytes, u, e)
-ends_of verb name bytes holds unread unwritten before after NotRead u e = absurd e
-ends_of verb name bytes holds unread unwritten before after NotWritten u e = (bytes, u, e)
-ends_of verb name bytes holds unread unwritten before after NoMemory u (inl same) = inl same
-ends_of verb name bytes holds unread unwritten before after NoMemory u (inr p) = inr (bytes, u, p)
-
--- what is done to the bytes of its program ends the command
-pub ends_at : (command : Option PlainCommand) (verb v : Verb) (name bytes read : List ℕ) (holds : Option Holdings) (unread unwritten : Type 0) (before after : Option (List ℕ)) (c : Conclusion) →
-    Some (record { verb = verb; name = name }) ≡ command → verb ≡ v → read ≡ bytes → IsUnder holds name bytes →
-    EndsOn v read unwritten before after c → EndsIn command holds unread unwritten before after c
-ends_at command verb v name bytes read holds unread unwritten before after c e d r u p =
-    let there : EndsOn verb bytes unwritten before after c =
-    subst (λ (w : Verb). EndsOn w bytes unwritten before after c) (sym d) (subst (λ (bs : List ℕ). EndsOn v bs unwritten before after c) r p) in
-    subst (λ (x : Option PlainCommand). EndsIn x holds unread unwritten before after c) e (ends_of verb name bytes holds unread unwritten before after c u there)
-
--- the text of a run that came to its end
-run_text : (before after : Option (List ℕ)) (bytes : List ℕ) (v : Verdict) → RunsTo before after bytes v → PrintsFront before after Verb.Run bytes
-run_text before after bytes v r =
-    let some = there_is (text_alone r.program default_options) (λ text. Appends before text after) r.prints in
-    (some.0, (r.program, r.is_program, some.1), front_of before after some.0 some.2)
-
--- whatever a command ends in, nothing or a front of its text was printed
-printed_some : (command : Option PlainCommand) (holds : Option Holdings) (unread unwritten : Type 0) (before after : Option (List ℕ)) (c : Conclusion) →
-    EndsIn command holds unread unwritten before after c → EndsIn command holds unread unwritten before after NoMemory
-printed_some command holds unread unwritten before after NoCommand e = inl e.1
-printed_some command holds unread unwritten before after NotRead e = inl e.2
-printed_some command holds unread unwritten before after NoMemory e = e
-printed_some None holds unread unwritten before after (Refused refusal) e = absurd e
-printed_some (Some c) holds unread unwritten before after (Refused refusal) e = inl (e.2).1
-printed_some None holds unread unwritten before after Accepted e = absurd e
-printed_some (Some c) holds unread unwritten before after Accepted e =
-    inr (e.0, e.1, subst (λ (w : Verb). PrintsFront before after w e.0) (sym (e.2).0) (accepted_line, ((e.2).1, refl), front_of before after accepted_line (e.2).2))
-printed_some None holds unread unwritten before after (Ran v) e = absurd e
-printed_some (Some c) holds unread unwritten before after (Ran v) e =
-    inr (e.0, e.1, subst (λ (w : Verb). PrintsFront before after w e.0) (sym (e.2).0) (run_text before after e.0 v (e.2).1))
-printed_some None holds unread unwritten before after NotWritten e = absurd e
-printed_some (Some c) holds unread unwritten before after NotWritten e = inr (e.0, e.1, (e.2).1)
-
--- the status is that of the conclusion, or says that memory was wanting
-pub concluded : (command : Option PlainCommand) (holds : Option Holdings) (unread unwritten : Type 0) (before after : Option (List ℕ)) (c : Conclusion) (code : ℕ) (note : List ℕ) →
-    EndsIn command holds unread unwritten before after c → (IsStatusOf code note c ⊎ IsStatusOf code note NoMemory) → Ends command holds unread unwritten before after code note
-concluded command holds unread unwritten before after c code note k (inl s) = record { conclusion = c; status = s; ends = k }
-concluded command holds unread unwritten before after c code note k (inr s) =
-    record { conclusion = NoMemory; status = s; ends = printed_some command holds unread unwritten before after c k }
+use Rattle.bp_reader.specs.declared.fault.LogFault.TheVariants as log_fault
+use Rattle.bp_follow.specs.declared.fault.ReplayFault.{ReplayFault}
+use Rattle.bp_follow.specs.Courses.{text_in}
+use Rattle.bp_replay.specs.Replays as replays
+use Rattle.bp_args.specs.declared.command.Command.{Command}
+use Rattle.bp_args.specs.declared.command.Command.TheVariants as command
+use Rattle.bp_args.specs.declared.command.Run.{Run}
+use Rattle.bp_cli.specs.declared.conclusion.Conclusion.{Conclusion}
+use Rattle.bp_cli.specs.declared.conclusion.Conclusion.TheVariants.{NoCommand, Refused, Accepted, Ran, NotRead, NotWritten, NoMemory, BadLog}
+use Rattle.bp_cli.specs.Outside.{Outside, IsAsBefore, IsUnder}
+use Rattle.bp_cli.specs.Asking.{names_of, WasAsked, AsksFor, AsksIn}
+use Rattle.bp_cli.specs.Conclusions.{code_of, conclusion_of, IsStatusOf}
+use Rattle.bp_cli.specs.Endings.{EndsSo, IsGiven, TellsPartly, ComesTo, Accepts, EndsIn, Ends}
+use Rattle.bp_cli.specs.Large.{large_program, line_of, MeasureEnds}
+use Rattle.bp_cli.specs.Loading.{IsUnloaded}
+use Rattle.bp_cli.specs.Replaying.{ReplayEnds, IsCaused, replayed_of}
+use Rattle.bp_cli.specs.Refusing.{IsTooLong, program_of, Refuses}
+use Rattle.bp_cli.specs.Runs.{Holds, KeepsLog, KeepsLogFront, RunEnds, log_alone, header_of}
+use Rattle.bp_cli.specs.Texts.{accepted_line}
 
 -- ---- too long
 
@@ -117,6 +48,439 @@ too_long (Some held) name (Some bytes) limit o e h = (bytes, sym o.1, subst (λ 
 too_long (Some held) name None limit o e h =
     let f : IsSome {T = List ℕ} None = subst (λ (x : Option (List ℕ)). IsSome x) (sym o.1) o.0 in cc
 
--- an accepted program is not refused
-pub not_refused : {P : Type 0} (bytes : List ℕ) (program : PlainProgram) → IsProgram bytes program → (refusal : Refusal) → IsRefused bytes refusal → P
+-- ---- refused
+
+-- no accepted program is refused
+not_refused : {P : Type 0} (bytes : List ℕ) (program : PlainProgram) → IsProgram bytes program → (refusal : Refusal) → IsRefused bytes refusal → P
 not_refused bytes program p refusal h = absurd (never bytes p.tree refusal p.accepted h)
+
+pub refuses_loaded : (c : Command) (holds : Option Holdings) (name bytes : List ℕ) (program : PlainProgram) (code : ℕ) → program_of c ≡ Some name → IsUnder holds name bytes → IsProgram bytes program →
+    Refuses (Some c) holds code
+refuses_loaded c None name bytes program code e u p = tt
+refuses_loaded c (Some held) name bytes program code e u p =
+    subst (λ (o : Option (List ℕ)). IfSome o (λ n. IfSome (held n) (λ bs. (refusal : Refusal) → IsRefused bs refusal → (code ≡ 2) ⊎ ((code ≡ 8) ⊎ (code ≡ 10))))) (sym e)
+    (subst (λ (o : Option (List ℕ)). IfSome o (λ bs. (refusal : Refusal) → IsRefused bs refusal → (code ≡ 2) ⊎ ((code ≡ 8) ⊎ (code ≡ 10)))) (sym u) (λ refusal h. not_refused bytes program p refusal h))
+
+unloaded_code : (holds : Option Holdings) (name : List ℕ) (unread : Type 0) (c : Conclusion) → IsUnloaded holds name unread c → (code_of c ≡ 2) ⊎ ((code_of c ≡ 8) ⊎ (code_of c ≡ 10))
+unloaded_code holds name unread (Refused refusal) u = inl refl
+unloaded_code holds name unread NotRead u = inr (inl refl)
+unloaded_code holds name unread NoMemory u = inr (inr refl)
+unloaded_code holds name unread NoCommand u = absurd u
+unloaded_code holds name unread Accepted u = absurd u
+unloaded_code holds name unread (Ran verdict) u = absurd u
+unloaded_code holds name unread NotWritten u = absurd u
+unloaded_code holds name unread (BadLog fault) u = absurd u
+
+refuses_held : (held : Holdings) (name : Option (List ℕ)) (code : ℕ) → ((code ≡ 2) ⊎ ((code ≡ 8) ⊎ (code ≡ 10))) →
+    IfSome name (λ n. IfSome (held n) (λ bytes. (refusal : Refusal) → IsRefused bytes refusal → (code ≡ 2) ⊎ ((code ≡ 8) ⊎ (code ≡ 10))))
+refuses_held held None code h = tt
+refuses_held held (Some n) code h =
+    elim (held n) as (λ o. IfSome o (λ bytes. (refusal : Refusal) → IsRefused bytes refusal → (code ≡ 2) ⊎ ((code ≡ 8) ⊎ (code ≡ 10)))) [ None ↦ tt | Some bytes ↦ λ refusal r. h ]
+
+pub refuses_any : (c : Option Command) (holds : Option Holdings) (code : ℕ) → ((code ≡ 2) ⊎ ((code ≡ 8) ⊎ (code ≡ 10))) → Refuses c holds code
+refuses_any c None code h = tt
+refuses_any c (Some held) code h = refuses_held held (option_and_then program_of c) code h
+
+-- why a program is not accepted
+pub unloaded_fault : (holds : Option Holdings) (name bytes : List ℕ) (unread : Type 0) (fault : ScriptFault) (c : Conclusion) → c ≡ conclusion_of fault → IsUnder holds name bytes → IsScriptFault bytes fault → IsUnloaded holds name unread c
+unloaded_fault holds name bytes unread (ScriptFault.Refused refusal) c e u f = subst (λ (x : Conclusion). IsUnloaded holds name unread x) (sym e) (bytes, u, f)
+unloaded_fault holds name bytes unread ScriptFault.Memory c e u f = subst (λ (x : Conclusion). IsUnloaded holds name unread x) (sym e) tt
+
+-- a command that has no accepted program ends with 2, 8 or 10
+pub refuses_unloaded : (c : Option Command) (holds : Option Holdings) (name : List ℕ) (unread : Type 0) (conclusion : Conclusion) → IsUnloaded holds name unread conclusion → Refuses c holds (code_of conclusion)
+refuses_unloaded c holds name unread conclusion u = refuses_any c holds (code_of conclusion) (unloaded_code holds name unread conclusion u)
+
+-- ---- asked
+
+pub asked_err : {T : Type 0} (c k : Conclusion) (P Q : Type 0) → ((IsErrOf {T = T} (Err c) k × P) ⊎ Q) → (((c ≡ k) × P) ⊎ Q)
+asked_err c k P Q (inl h) = inl ((let e = h.0 in cc), h.1)
+asked_err c k P Q (inr q) = inr q
+
+pub asked_ok : {T : Type 0} (x : T) (k : Conclusion) (P Q : Type 0) → ((IsErrOf (Ok x) k × P) ⊎ Q) → Q
+asked_ok x k P Q (inl h) = let f : ⊥ = (let e = h.0 in cc) in absurd f
+asked_ok x k P Q (inr q) = q
+
+asks_none : (before : Option (List (List ℕ))) → WasAsked before [] before
+asks_none None = tt
+asks_none (Some names) = ap (λ (x : List (List ℕ)). Some x) (sym (append-nil names))
+
+pub asks_same : (before after : Option (List (List ℕ))) → after ≡ before → WasAsked before [] after
+asks_same before after e = subst (λ (x : Option (List (List ℕ))). WasAsked before [] x) (sym e) (asks_none before)
+
+asks_both : (before mid after : Option (List (List ℕ))) (p l : List ℕ) → Asks before p mid → Asks mid l after → WasAsked before (p ∷ l ∷ []) after
+asks_both None mid after p l a b = tt
+asks_both (Some names) mid after p l a b =
+    let there : IfSome (Some (names ++ p ∷ [])) (λ (ns : List (List ℕ)). after ≡ Some (ns ++ l ∷ [])) = subst (λ (m : Option (List (List ℕ))). IfSome m (λ ns. after ≡ Some (ns ++ l ∷ []))) a b in
+    there ∙ ap (λ (x : List (List ℕ)). Some x) (append_assoc names (p ∷ []) (l ∷ []))
+
+-- a command that has no accepted program
+pub asks_unloaded : (c : Command) (name : List ℕ) (rest : List (List ℕ)) (holds : Option Holdings) (unread : Type 0) (before after : Option (List (List ℕ))) (conclusion : Conclusion) → names_of c ≡ name ∷ rest →
+    IsUnloaded holds name unread conclusion → (((conclusion ≡ NoMemory) × (after ≡ before)) ⊎ Asks before name after) → AsksIn (Some c) before after conclusion
+asks_unloaded c name rest holds unread before after (Refused refusal) e u (inl h) = let f : ⊥ = (let k = h.0 in cc) in absurd f
+asks_unloaded c name rest holds unread before after (Refused refusal) e u (inr h) = (name ∷ [], sym (ap (λ (x : List (List ℕ)). take 1 x) e), h)
+asks_unloaded c name rest holds unread before after NotRead e u (inl h) = let f : ⊥ = (let k = h.0 in cc) in absurd f
+asks_unloaded c name rest holds unread before after NotRead e u (inr h) = (name ∷ [], sym (ap (λ (x : List (List ℕ)). take 1 x) e), h)
+asks_unloaded c name rest holds unread before after NoMemory e u (inl h) = ([], (names_of c, refl), asks_same before after h.1)
+asks_unloaded c name rest holds unread before after NoMemory e u (inr h) = (name ∷ [], (rest, e), h)
+asks_unloaded c name rest holds unread before after NoCommand e u h = absurd u
+asks_unloaded c name rest holds unread before after Accepted e u h = absurd u
+asks_unloaded c name rest holds unread before after (Ran verdict) e u h = absurd u
+asks_unloaded c name rest holds unread before after NotWritten e u h = absurd u
+asks_unloaded c name rest holds unread before after (BadLog fault) e u h = absurd u
+
+asks_all : (c : Command) (before after : Option (List (List ℕ))) (conclusion : Conclusion) → WasAsked before (names_of c) after → AsksFor conclusion (names_of c) (names_of c) → AsksIn (Some c) before after conclusion
+asks_all c before after conclusion h k = (names_of c, k, h)
+
+-- a run that keeps no log
+pub asks_unlogged : (asked : Run) (program : PlainProgram) (o : PlainOptions) (unwritten whole partly : Type 0) (b a : Option (List ℕ)) (before after : Option (List (List ℕ))) (conclusion : Conclusion) → asked.log ≡ None →
+    RunEnds program o unwritten whole partly b a conclusion → Asks before asked.program after → AsksIn (Some (command.Run asked)) before after conclusion
+asks_unlogged asked program o unwritten whole partly b a before after (Ran v) e r h = (asked.program ∷ [], ap (λ (x : Option (List ℕ)). asked.program ∷ option_to_list x) (sym e), h)
+asks_unlogged asked program o unwritten whole partly b a before after NotWritten e r h = (asked.program ∷ [], ap (λ (x : Option (List ℕ)). asked.program ∷ option_to_list x) (sym e), h)
+asks_unlogged asked program o unwritten whole partly b a before after NoMemory e r h = (asked.program ∷ [], ([], ap (λ (x : Option (List ℕ)). asked.program ∷ option_to_list x) e), h)
+asks_unlogged asked program o unwritten whole partly b a before after NoCommand e r h = absurd r
+asks_unlogged asked program o unwritten whole partly b a before after (Refused refusal) e r h = absurd r
+asks_unlogged asked program o unwritten whole partly b a before after Accepted e r h = absurd r
+asks_unlogged asked program o unwritten whole partly b a before after NotRead e r h = absurd r
+asks_unlogged asked program o unwritten whole partly b a before after (BadLog fault) e r h = absurd r
+
+-- a run that keeps a log
+pub asks_logged : (asked : Run) (name : List ℕ) (program : PlainProgram) (o : PlainOptions) (unwritten whole partly : Type 0) (b a : Option (List ℕ)) (before mid after : Option (List (List ℕ))) (conclusion : Conclusion) → asked.log ≡ Some name →
+    RunEnds program o unwritten whole partly b a conclusion → Asks before asked.program mid → (((conclusion ≡ NoMemory) × (after ≡ mid)) ⊎ Asks mid name after) → AsksIn (Some (command.Run asked)) before after conclusion
+asks_logged asked name program o unwritten whole partly b a before mid after (Ran v) e r h (inl k) = let f : ⊥ = (let m = k.0 in cc) in absurd f
+asks_logged asked name program o unwritten whole partly b a before mid after (Ran v) e r h (inr k) =
+    (asked.program ∷ name ∷ [], ap (λ (x : Option (List ℕ)). asked.program ∷ option_to_list x) (sym e), asks_both before mid after asked.program name h k)
+asks_logged asked name program o unwritten whole partly b a before mid after NotWritten e r h (inl k) = let f : ⊥ = (let m = k.0 in cc) in absurd f
+asks_logged asked name program o unwritten whole partly b a before mid after NotWritten e r h (inr k) =
+    (asked.program ∷ name ∷ [], ap (λ (x : Option (List ℕ)). asked.program ∷ option_to_list x) (sym e), asks_both before mid after asked.program name h k)
+asks_logged asked name program o unwritten whole partly b a before mid after NoMemory e r h (inl k) =
+    (asked.program ∷ [], (option_to_list asked.log, refl), subst (λ (x : Option (List (List ℕ))). Asks before asked.program x) (sym k.1) h)
+asks_logged asked name program o unwritten whole partly b a before mid after NoMemory e r h (inr k) =
+    (asked.program ∷ name ∷ [], ([], ap (λ (x : Option (List ℕ)). asked.program ∷ option_to_list x) e), asks_both before mid after asked.program name h k)
+asks_logged asked name program o unwritten whole partly b a before mid after NoCommand e r h k = absurd r
+asks_logged asked name program o unwritten whole partly b a before mid after (Refused refusal) e r h k = absurd r
+asks_logged asked name program o unwritten whole partly b a before mid after Accepted e r h k = absurd r
+asks_logged asked name program o unwritten whole partly b a before mid after NotRead e r h k = absurd r
+asks_logged asked name program o unwritten whole partly b a before mid after (BadLog fault) e r h k = absurd r
+
+-- measuring the large program asks for nothing
+pub asks_measured : (n : ℕ) (unwritten : Type 0) (b a : Option (List ℕ)) (before : Option (List (List ℕ))) (conclusion : Conclusion) → MeasureEnds n unwritten b a conclusion → AsksIn (Some (command.Large n)) before before conclusion
+asks_measured n unwritten b a before (Ran v) m = ([], refl, asks_none before)
+asks_measured n unwritten b a before (Refused refusal) m = ([], refl, asks_none before)
+asks_measured n unwritten b a before NotWritten m = ([], refl, asks_none before)
+asks_measured n unwritten b a before NoMemory m = ([], ([], refl), asks_none before)
+asks_measured n unwritten b a before NoCommand m = absurd m
+asks_measured n unwritten b a before Accepted m = absurd m
+asks_measured n unwritten b a before NotRead m = absurd m
+asks_measured n unwritten b a before (BadLog fault) m = absurd m
+
+-- where memory was wanting nothing was asked for
+pub asks_wanting : (c : Option Command) (before : Option (List (List ℕ))) → AsksIn c before before NoMemory
+asks_wanting None before = refl
+asks_wanting (Some c) before = ([], (names_of c, refl), asks_none before)
+
+front_of_names : (names : List (List ℕ)) → (rest : List (List ℕ)) × (names ≡ take 1 names ++ rest)
+front_of_names [] = ([], refl)
+front_of_names (n ∷ ns) = (ns, refl)
+
+some_asked : (conclusion : Conclusion) (names asked : List (List ℕ)) → AsksFor conclusion names asked → (rest : List (List ℕ)) × (names ≡ asked ++ rest)
+some_asked NotRead names asked h = let f = front_of_names names in (f.0, f.1 ∙ ap (λ (x : List (List ℕ)). x ++ f.0) (sym h))
+some_asked (Refused refusal) names asked h = let f = front_of_names names in (f.0, f.1 ∙ ap (λ (x : List (List ℕ)). x ++ f.0) (sym h))
+some_asked NoMemory names asked h = h
+some_asked NoCommand names asked h = ([], sym h ∙ sym (append-nil asked))
+some_asked Accepted names asked h = ([], sym h ∙ sym (append-nil asked))
+some_asked (Ran verdict) names asked h = ([], sym h ∙ sym (append-nil asked))
+some_asked NotWritten names asked h = ([], sym h ∙ sym (append-nil asked))
+some_asked (BadLog fault) names asked h = ([], sym h ∙ sym (append-nil asked))
+
+asks_some : (c : Option Command) (before after : Option (List (List ℕ))) (conclusion : Conclusion) → AsksIn c before after conclusion → AsksIn c before after NoMemory
+asks_some None before after conclusion h = h
+asks_some (Some c) before after conclusion h = (h.0, some_asked conclusion (names_of c) h.0 h.1, h.2)
+
+-- ---- the ends
+
+-- the whole is a front
+front_of : (before after : Option (List ℕ)) (text : List ℕ) → Appends before text after → AppendsFront before text after
+front_of before after text h = (text, [], sym (append-nil text), h)
+
+front_in : (o : Option (List ℕ)) (before after : Option (List ℕ)) (line : List ℕ → List ℕ) → IsSomeAnd o (λ text. Appends before (line text) after) → IsSomeAnd o (λ text. AppendsFront before (line text) after)
+front_in None before after line h = absurd h
+front_in (Some text) before after line h = front_of before after (line text) h
+
+is_there : (c : Command) → IsSome (Some c)
+is_there c = search rules
+
+-- without an accepted program
+pub unloaded_ends : (c : Command) (name : List ℕ) (unread unwritten : Type 0) (before after : Outside) (conclusion : Conclusion) → ((bytes : List ℕ) → IsUnder before.holds name bytes → IsGiven before.holds c bytes) →
+    IsUnloaded before.holds name unread conclusion → IsAsBefore before after → EndsIn (Some c) unread unwritten before after conclusion
+unloaded_ends c name unread unwritten before after (Refused refusal) g u same = (u.0, g u.0 u.1, (u.2, same))
+unloaded_ends c name unread unwritten before after NotRead g u same = (is_there c, u, same)
+unloaded_ends c name unread unwritten before after NoMemory g u same = inl same
+unloaded_ends c name unread unwritten before after NoCommand g u same = absurd u
+unloaded_ends c name unread unwritten before after Accepted g u same = absurd u
+unloaded_ends c name unread unwritten before after (Ran verdict) g u same = absurd u
+unloaded_ends c name unread unwritten before after NotWritten g u same = absurd u
+unloaded_ends c name unread unwritten before after (BadLog fault) g u same = absurd u
+
+-- a run of an accepted program
+pub run_given : (asked : Run) (bytes : List ℕ) (program : PlainProgram) (unread unwritten whole partly : Type 0) (before after : Outside) (conclusion : Conclusion) →
+    IsUnder before.holds asked.program bytes → IsProgram bytes program → (whole → KeepsLog asked.log before.holds (log_alone (header_of asked bytes) program) after.holds) →
+    (partly → KeepsLogFront asked.log before.holds (log_alone (header_of asked bytes) program) after.holds) →
+    RunEnds program asked.options unwritten whole partly before.printed after.printed conclusion → EndsIn (Some (command.Run asked)) unread unwritten before after conclusion
+run_given asked bytes program unread unwritten whole partly before after (Ran v) u p k f r = (bytes, u, record { program = program; is_program = p; verdict = r.0; prints = r.1; keeps = k r.2 })
+run_given asked bytes program unread unwritten whole partly before after NotWritten u p k f r = (bytes, u, (r.0, record { program = program; is_program = p; prints = r.1; keeps = f r.2 }))
+run_given asked bytes program unread unwritten whole partly before after NoMemory u p k f r = inr (bytes, u, record { program = program; is_program = p; prints = r.0; keeps = f r.1 })
+run_given asked bytes program unread unwritten whole partly before after NoCommand u p k f r = absurd r
+run_given asked bytes program unread unwritten whole partly before after (Refused refusal) u p k f r = absurd r
+run_given asked bytes program unread unwritten whole partly before after Accepted u p k f r = absurd r
+run_given asked bytes program unread unwritten whole partly before after NotRead u p k f r = absurd r
+run_given asked bytes program unread unwritten whole partly before after (BadLog fault) u p k f r = absurd r
+
+weaker : (program : PlainProgram) (o : PlainOptions) (unwritten more whole partly : Type 0) (b a : Option (List ℕ)) (conclusion : Conclusion) → RunEnds program o unwritten whole partly b a conclusion →
+    RunEnds program o (unwritten ⊎ more) whole partly b a conclusion
+weaker program o unwritten more whole partly b a (Ran v) r = r
+weaker program o unwritten more whole partly b a NotWritten r = (inl r.0, r.1, r.2)
+weaker program o unwritten more whole partly b a NoMemory r = r
+weaker program o unwritten more whole partly b a NoCommand r = absurd r
+weaker program o unwritten more whole partly b a (Refused refusal) r = absurd r
+weaker program o unwritten more whole partly b a Accepted r = absurd r
+weaker program o unwritten more whole partly b a NotRead r = absurd r
+weaker program o unwritten more whole partly b a (BadLog fault) r = absurd r
+
+caused_on : (program : PlainProgram) (o : PlainOptions) (u v whole partly : Type 0) (b a : Option (List ℕ)) (conclusion : Conclusion) → (u → v) → RunEnds program o u whole partly b a conclusion → RunEnds program o v whole partly b a conclusion
+caused_on program o u v whole partly b a (Ran x) f r = r
+caused_on program o u v whole partly b a NotWritten f r = (f r.0, r.1, r.2)
+caused_on program o u v whole partly b a NoMemory f r = r
+caused_on program o u v whole partly b a NoCommand f r = absurd r
+caused_on program o u v whole partly b a (Refused refusal) f r = absurd r
+caused_on program o u v whole partly b a Accepted f r = absurd r
+caused_on program o u v whole partly b a NotRead f r = absurd r
+caused_on program o u v whole partly b a (BadLog fault) f r = absurd r
+
+-- the program that was run is the one that was read, and so are the header and the name
+runs_same : (asked : Run) (program run : PlainProgram) (bytes : List ℕ) (header : PlainHeader) (unwritten whole partly : Type 0) (b a : Option (List ℕ)) (conclusion : Conclusion) → run ≡ program → header ≡ header_of asked bytes →
+    RunEnds run header.options unwritten whole partly b a conclusion → RunEnds program asked.options unwritten whole partly b a conclusion
+runs_same asked program run bytes header unwritten whole partly b a conclusion e h r =
+    subst (λ (o : PlainOptions). RunEnds program o unwritten whole partly b a conclusion) (ap (λ (x : PlainHeader). x.options) h)
+    (subst (λ (p : PlainProgram). RunEnds p header.options unwritten whole partly b a conclusion) e r)
+
+-- no log is kept
+pub unlogged_given : (asked : Run) (program run : PlainProgram) (bytes name : List ℕ) (header : PlainHeader) (unread unwritten more : Type 0) (before after : Outside) (conclusion : Conclusion) → name ≡ asked.program →
+    IsUnder before.holds name bytes → IsProgram bytes program → run ≡ program → header ≡ header_of asked bytes → asked.log ≡ None → after.holds ≡ before.holds →
+    RunEnds run header.options unwritten (Unit {0}) (Unit {0}) before.printed after.printed conclusion → EndsIn (Some (command.Run asked)) unread (unwritten ⊎ more) before after conclusion
+unlogged_given asked program run bytes name header unread unwritten more before after conclusion n u p e h l same r =
+    let keeps : KeepsLog asked.log before.holds (log_alone (header_of asked bytes) program) after.holds =
+    subst (λ (o : Option (List ℕ)). KeepsLog o before.holds (log_alone (header_of asked bytes) program) after.holds) (sym l) same in
+    let partly : KeepsLogFront asked.log before.holds (log_alone (header_of asked bytes) program) after.holds =
+    subst (λ (o : Option (List ℕ)). KeepsLogFront o before.holds (log_alone (header_of asked bytes) program) after.holds) (sym l) same in
+    run_given asked bytes program unread (unwritten ⊎ more) (Unit {0}) (Unit {0}) before after conclusion
+    (subst (λ (x : List ℕ). IsUnder before.holds x bytes) n u) p (λ _. keeps) (λ _. partly)
+    (weaker program asked.options unwritten more (Unit {0}) (Unit {0}) before.printed after.printed conclusion
+    (runs_same asked program run bytes header unwritten (Unit {0}) (Unit {0}) before.printed after.printed conclusion e h r))
+
+-- a log is kept
+pub logged_given : (asked : Run) (program run : PlainProgram) (bytes name log said : List ℕ) (header : PlainHeader) (unread said_unwritten unwritten : Type 0) (mid : Option Holdings) (before after : Outside) (conclusion : Conclusion) → (said_unwritten → unwritten) → name ≡ asked.program →
+    IsUnder before.holds name bytes → IsProgram bytes program → run ≡ program → header ≡ header_of asked bytes → asked.log ≡ Some said → log ≡ said → mid ≡ before.holds →
+    RunEnds run header.options said_unwritten (Holds mid log (log_alone header run) after.holds) (KeepsLogFront (Some log) mid (log_alone header run) after.holds) before.printed after.printed conclusion →
+    EndsIn (Some (command.Run asked)) unread unwritten before after conclusion
+logged_given asked program run bytes name log said header unread said_unwritten unwritten mid before after conclusion f n u p e h l k m r =
+    let text : log_alone header run ≡ log_alone (header_of asked bytes) program = λ i. log_alone (h i) (e i) in
+    let named : Some log ≡ asked.log = ap (λ (x : List ℕ). Some x) k ∙ sym l in
+    run_given asked bytes program unread unwritten (Holds mid log (log_alone header run) after.holds) (KeepsLogFront (Some log) mid (log_alone header run) after.holds) before after conclusion
+    (subst (λ (x : List ℕ). IsUnder before.holds x bytes) n u) p
+    (λ w. subst (λ (o : Option (List ℕ)). KeepsLog o before.holds (log_alone (header_of asked bytes) program) after.holds) named
+    (subst (λ (t : List ℕ). Holds before.holds log t after.holds) text (subst (λ (x : Option Holdings). Holds x log (log_alone header run) after.holds) m w)))
+    (λ w. subst (λ (o : Option (List ℕ)). KeepsLogFront o before.holds (log_alone (header_of asked bytes) program) after.holds) named
+    (subst (λ (t : List ℕ). KeepsLogFront (Some log) before.holds t after.holds) text (subst (λ (x : Option Holdings). KeepsLogFront (Some log) x (log_alone header run) after.holds) m w)))
+    (caused_on program asked.options said_unwritten unwritten _ _ before.printed after.printed conclusion f (runs_same asked program run bytes header said_unwritten _ _ before.printed after.printed conclusion e h r))
+
+-- the large program
+pub measured : (n : ℕ) (unread unwritten : Type 0) (before after : Outside) (conclusion : Conclusion) → after.holds ≡ before.holds → MeasureEnds n unwritten before.printed after.printed conclusion →
+    EndsIn (Some (command.Large n)) unread unwritten before after conclusion
+measured n unread unwritten before after (Ran v) h m = (large_program n, refl, (m, h))
+measured n unread unwritten before after (Refused refusal) h m = (large_program n, refl, (m.0, (m.1, h)))
+measured n unread unwritten before after NotWritten h m = (large_program n, refl, (m.0, (m.1, h)))
+measured n unread unwritten before after NoMemory h m = inl (m, h)
+measured n unread unwritten before after NoCommand h m = absurd m
+measured n unread unwritten before after Accepted h m = absurd m
+measured n unread unwritten before after NotRead h m = absurd m
+measured n unread unwritten before after (BadLog fault) h m = absurd m
+
+weaker_measure : (n : ℕ) (unwritten more : Type 0) (b a : Option (List ℕ)) (conclusion : Conclusion) → MeasureEnds n unwritten b a conclusion → MeasureEnds n (unwritten ⊎ more) b a conclusion
+weaker_measure n unwritten more b a (Ran v) m = m
+weaker_measure n unwritten more b a (Refused refusal) m = m
+weaker_measure n unwritten more b a NotWritten m = (inl m.0, m.1)
+weaker_measure n unwritten more b a NoMemory m = m
+weaker_measure n unwritten more b a NoCommand m = absurd m
+weaker_measure n unwritten more b a Accepted m = absurd m
+weaker_measure n unwritten more b a NotRead m = absurd m
+weaker_measure n unwritten more b a (BadLog fault) m = absurd m
+
+pub measured_aside : (n : ℕ) (unread unwritten more : Type 0) (before after : Outside) (conclusion : Conclusion) → after.holds ≡ before.holds → MeasureEnds n unwritten before.printed after.printed conclusion →
+    EndsIn (Some (command.Large n)) unread (unwritten ⊎ more) before after conclusion
+measured_aside n unread unwritten more before after conclusion h m = measured n unread (unwritten ⊎ more) before after conclusion h (weaker_measure n unwritten more before.printed after.printed conclusion m)
+
+pub refuses_measured : (n : ℕ) (holds : Option Holdings) (code : ℕ) → Refuses (Some (command.Large n)) holds code
+refuses_measured n None code = tt
+refuses_measured n (Some held) code = tt
+
+pub refuses_none : (holds : Option Holdings) (code : ℕ) → Refuses None holds code
+refuses_none None code = tt
+refuses_none (Some held) code = tt
+
+keeps_front : (log : Option (List ℕ)) (before : Option Holdings) (text : List ℕ) (after : Option Holdings) → KeepsLog log before text after → KeepsLogFront log before text after
+keeps_front None before text after k = k
+keeps_front (Some name) before text after k = inr (text, [], sym (append-nil text), k)
+
+-- whatever it comes to, a part of what is told came outside
+comes_partly : (c : Command) (bytes : List ℕ) (before after : Outside) (v : Verdict) → ComesTo c bytes before after v → TellsPartly c bytes before after
+comes_partly (command.Run asked) bytes before after v r =
+    record {
+      program = r.program;
+      is_program = r.is_program;
+      prints = front_in (text_alone r.program asked.options) before.printed after.printed (λ text. text) r.prints;
+      keeps = keeps_front asked.log before.holds (log_alone (header_of asked bytes) r.program) after.holds r.keeps;
+    }
+comes_partly (command.Large n) bytes before after v r =
+    let m = r.0 in
+    (record { program = m.program; is_program = m.is_program; prints = front_in (text_alone m.program default_options) before.printed after.printed (line_of n m.program) m.prints }, r.1)
+comes_partly (command.Accept program) bytes before after v r = absurd r
+comes_partly (command.Replay log) bytes before after v r = absurd r
+
+accepts_partly : (c : Command) (bytes : List ℕ) (before after : Outside) → Accepts c bytes before after → TellsPartly c bytes before after
+accepts_partly (command.Accept program) bytes before after a = (a.0, front_of before.printed after.printed accepted_line a.1, a.2)
+accepts_partly (command.Run asked) bytes before after a = absurd a
+accepts_partly (command.Large n) bytes before after a = absurd a
+accepts_partly (command.Replay log) bytes before after a = absurd a
+
+-- whatever a command ends in, nothing came outside or a part
+ends_partly : (c : Option Command) (unread unwritten : Type 0) (before after : Outside) (conclusion : Conclusion) → EndsIn c unread unwritten before after conclusion → EndsIn c unread unwritten before after NoMemory
+ends_partly c unread unwritten before after NoCommand e = inl e.1
+ends_partly c unread unwritten before after NotRead e = inl e.2
+ends_partly c unread unwritten before after NoMemory e = e
+ends_partly None unread unwritten before after (Refused refusal) e = absurd e
+ends_partly (Some c) unread unwritten before after (Refused refusal) e = inl (e.2).1
+ends_partly None unread unwritten before after Accepted e = absurd e
+ends_partly (Some c) unread unwritten before after Accepted e = inr (e.0, e.1, accepts_partly c e.0 before after e.2)
+ends_partly None unread unwritten before after (Ran v) e = absurd e
+ends_partly (Some c) unread unwritten before after (Ran v) e = inr (e.0, e.1, comes_partly c e.0 before after v e.2)
+ends_partly None unread unwritten before after NotWritten e = absurd e
+ends_partly (Some c) unread unwritten before after NotWritten e = inr (e.0, e.1, (e.2).1)
+ends_partly None unread unwritten before after (BadLog fault) e = absurd e
+ends_partly (Some c) unread unwritten before after (BadLog fault) e = absurd e.2
+
+-- ---- a replay
+
+prints_partly : (ended : Result Verdict ReplayFault) (b : Option (List ℕ)) (t : List ℕ) (a : Option (List ℕ)) → replays.Prints ended b t a → AppendsFront b t a
+prints_partly (Ok v) b t a p = front_of b a t p
+prints_partly (Err (ReplayFault.Log fault)) b t a p = front_of b a t p
+prints_partly (Err (ReplayFault.Differs number expected other)) b t a p = front_of b a t p
+prints_partly (Err ReplayFault.Program) b t a p = front_of b a t p
+prints_partly (Err ReplayFault.Write) b t a p = p
+prints_partly (Err ReplayFault.Memory) b t a p = p
+
+replays_partly : (bytes : List ℕ) (b a : Option (List ℕ)) (ended : Result Verdict ReplayFault) → replays.Ends bytes b a ended → replays.Ends bytes b a (Err ReplayFault.Memory)
+replays_partly bytes b a ended (inl h) = inl (tt, h.1)
+replays_partly bytes b a ended (inr r) =
+    inr (record {
+      course = r.course;
+      rest = r.rest;
+      heads = r.heads;
+      stage = r.stage;
+      left = r.left;
+      follows = r.follows;
+      ends = tt;
+      prints = prints_partly ended b (text_in r.course) a r.prints;
+    })
+
+some_partly : (o : Option (List ℕ)) (b a : Option (List ℕ)) (ended : Result Verdict ReplayFault) → IsSomeAnd o (λ bytes. replays.Ends bytes b a ended) → IsSomeAnd o (λ bytes. replays.Ends bytes b a (Err ReplayFault.Memory))
+some_partly None b a ended h = absurd h
+some_partly (Some bytes) b a ended h = replays_partly bytes b a ended h
+
+told_partly : (name : List ℕ) (holds : Option Holdings) (b a : Option (List ℕ)) (ended : Result Verdict ReplayFault) → IfSome holds (λ held. IsSomeAnd (held name) (λ bytes. replays.Ends bytes b a ended)) →
+    IfSome holds (λ held. IsSomeAnd (held name) (λ bytes. replays.Ends bytes b a (Err ReplayFault.Memory)))
+told_partly name None b a ended h = tt
+told_partly name (Some held) b a ended h = some_partly (held name) b a ended h
+
+replay_partly : (name : List ℕ) (unread unwritten : Type 0) (before after : Outside) (c : Conclusion) → ReplayEnds name unread unwritten before after c → ReplayEnds name unread unwritten before after NoMemory
+replay_partly name unread unwritten before after c (e, inl h) = (tt, inl (inr refl, h.1))
+replay_partly name unread unwritten before after c (e, inr r) =
+    (tt, inr (record { ended = Err ReplayFault.Memory; is_conclusion = refl; ends = told_partly name before.holds before.printed after.printed r.ended r.ends; holds = r.holds }))
+
+pub so_partly : (c : Option Command) (unread unwritten : Type 0) (before after : Outside) (conclusion : Conclusion) → EndsSo c unread unwritten before after conclusion → EndsSo c unread unwritten before after NoMemory
+so_partly None unread unwritten before after conclusion e = ends_partly None unread unwritten before after conclusion e
+so_partly (Some (command.Replay log)) unread unwritten before after conclusion e = replay_partly log unread unwritten before after conclusion e
+so_partly (Some (command.Run asked)) unread unwritten before after conclusion e = ends_partly (Some (command.Run asked)) unread unwritten before after conclusion e
+so_partly (Some (command.Accept program)) unread unwritten before after conclusion e = ends_partly (Some (command.Accept program)) unread unwritten before after conclusion e
+so_partly (Some (command.Large n)) unread unwritten before after conclusion e = ends_partly (Some (command.Large n)) unread unwritten before after conclusion e
+
+-- where memory was wanting before anything was done
+pub ends_wanting : (c : Option Command) (unread unwritten : Type 0) (same : Outside) → EndsSo c unread unwritten same same NoMemory
+ends_wanting None unread unwritten same = inl (refl, refl)
+ends_wanting (Some (command.Replay log)) unread unwritten same = (tt, inl (inr refl, (refl, refl)))
+ends_wanting (Some (command.Run asked)) unread unwritten same = inl (refl, refl)
+ends_wanting (Some (command.Accept program)) unread unwritten same = inl (refl, refl)
+ends_wanting (Some (command.Large n)) unread unwritten same = inl (refl, refl)
+
+pub refuses_replayed : (log : List ℕ) (holds : Option Holdings) (code : ℕ) → Refuses (Some (command.Replay log)) holds code
+refuses_replayed log None code = tt
+refuses_replayed log (Some held) code = tt
+
+caused_by : (ended : Result Verdict ReplayFault) (unread unwritten : Type 0) → (IsErrOf ended (ReplayFault.Log log_fault.Read) → unread) → (IsErrOf ended ReplayFault.Write → unwritten) → IsCaused unread unwritten (replayed_of ended)
+caused_by (Ok v) unread unwritten r w = tt
+caused_by (Err (ReplayFault.Log log_fault.Version)) unread unwritten r w = tt
+caused_by (Err (ReplayFault.Log log_fault.Header)) unread unwritten r w = tt
+caused_by (Err (ReplayFault.Log (log_fault.Line n))) unread unwritten r w = tt
+caused_by (Err (ReplayFault.Log log_fault.Cut)) unread unwritten r w = tt
+caused_by (Err (ReplayFault.Log log_fault.Read)) unread unwritten r w = r refl
+caused_by (Err (ReplayFault.Log log_fault.Memory)) unread unwritten r w = tt
+caused_by (Err (ReplayFault.Differs number expected other)) unread unwritten r w = tt
+caused_by (Err ReplayFault.Program) unread unwritten r w = tt
+caused_by (Err ReplayFault.Write) unread unwritten r w = w refl
+caused_by (Err ReplayFault.Memory) unread unwritten r w = tt
+
+-- a failure of a replay has its cause
+pub caused : (ended : Result Verdict ReplayFault) (c : Conclusion) (unread unwritten : Type 0) → c ≡ replayed_of ended → (IsErrOf ended (ReplayFault.Log log_fault.Read) → unread) → (IsErrOf ended ReplayFault.Write → unwritten) →
+    IsCaused unread unwritten c
+caused ended c unread unwritten e r w = subst (λ (x : Conclusion). IsCaused unread unwritten x) (sym e) (caused_by ended unread unwritten r w)
+
+nothing : IsSome {T = List ℕ} None → ⊥
+nothing s = cc
+
+there : (o : Option (List ℕ)) (b a : Option (List ℕ)) (ended : Result Verdict ReplayFault) → IsSome o → IfSome o (λ bytes. replays.Ends bytes b a ended) → IsSomeAnd o (λ bytes. replays.Ends bytes b a ended)
+there None b a ended s h = absurd (nothing s)
+there (Some bytes) b a ended s h = h
+
+-- what is left of an input is what the world holds
+pub replay_told : (holds : Option Holdings) (name : List ℕ) (left b a : Option (List ℕ)) (ended : Result Verdict ReplayFault) → Opens holds name left → IfSome left (λ bytes. replays.Ends bytes b a ended) →
+    IfSome holds (λ held. IsSomeAnd (held name) (λ bytes. replays.Ends bytes b a ended))
+replay_told None name left b a ended o h = tt
+replay_told (Some held) name left b a ended o h =
+    let told : IfSome (held name) (λ bytes. replays.Ends bytes b a ended) = subst (λ (x : Option (List ℕ)). IfSome x (λ bytes. replays.Ends bytes b a ended)) o.1 h in
+    there (held name) b a ended o.0 told
+
+pub asks_unopened : (name : List ℕ) (before after : Option (List (List ℕ))) → after ≡ before → AsksIn (Some (command.Replay name)) before after NoMemory
+asks_unopened name before after e = ([], (name ∷ [], refl), asks_same before after e)
+
+-- a replay asks for its log alone
+pub asks_replayed : (name : List ℕ) (before after : Option (List (List ℕ))) (c : Conclusion) → Asks before name after → AsksIn (Some (command.Replay name)) before after c
+asks_replayed name before after NotRead h = (name ∷ [], refl, h)
+asks_replayed name before after (Refused refusal) h = (name ∷ [], refl, h)
+asks_replayed name before after NoMemory h = (name ∷ [], ([], refl), h)
+asks_replayed name before after NoCommand h = (name ∷ [], refl, h)
+asks_replayed name before after Accepted h = (name ∷ [], refl, h)
+asks_replayed name before after (Ran v) h = (name ∷ [], refl, h)
+asks_replayed name before after NotWritten h = (name ∷ [], refl, h)
+asks_replayed name before after (BadLog fault) h = (name ∷ [], refl, h)
+
+-- the status is that of the conclusion, or says that memory was wanting
+pub concluded : (c : Option Command) (unread unwritten : Type 0) (before after : Outside) (conclusion : Conclusion) (code : ℕ) (note : List ℕ) →
+    AsksIn c before.asked after.asked conclusion → EndsSo c unread unwritten before after conclusion → (IsStatusOf code note conclusion ⊎ IsStatusOf code note NoMemory) → Ends c unread unwritten before after code note
+concluded c unread unwritten before after conclusion code note a e (inl s) = record { conclusion = conclusion; status = s; asks = a; ends = e }
+concluded c unread unwritten before after conclusion code note a e (inr s) =
+    record { conclusion = NoMemory; status = s; asks = asks_some c before.asked after.asked conclusion a; ends = so_partly c unread unwritten before after conclusion e }
+
+-- and a refused program comes to it
+pub refuses_concluded : (c : Option Command) (holds : Option Holdings) (conclusion : Conclusion) (code : ℕ) (note : List ℕ) → Refuses c holds (code_of conclusion) →
+    (IsStatusOf code note conclusion ⊎ IsStatusOf code note NoMemory) → Refuses c holds code
+refuses_concluded c holds conclusion code note r (inl s) = subst (λ (n : ℕ). Refuses c holds n) (sym s.0) r
+refuses_concluded c holds conclusion code note r (inr s) = refuses_any c holds code (inr (inr s.0))

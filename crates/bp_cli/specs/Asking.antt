@@ -1,9 +1,34 @@
 -- What a command asks of the world.
-use Rattle.std.specs.Prelude.{◌≡◌, ◌⊎◌, ℕ, List, Option, IsSomeAnd}
-use Rattle.bp_base.specs.Worlds.{Asks}
-use Rattle.bp_cli.specs.Command.{PlainCommand}
+use Rattle.std.specs.Prelude.{◌≡◌, ℕ, List, [], ◌∷◌, ◌++◌, take, Option, Some, None, IfSome, option_to_list}
+use Rattle.bp_args.specs.declared.command.Command.{Command}
+use Rattle.bp_args.specs.declared.command.Command.TheVariants.{Run, Replay, Accept, Large}
+use Rattle.bp_cli.specs.declared.conclusion.Conclusion.{Conclusion}
+use Rattle.bp_cli.specs.declared.conclusion.Conclusion.TheVariants.{NoCommand, Refused, Accepted, Ran, NotRead, NotWritten, NoMemory, BadLog}
 
--- the name of its program, once; nothing at 1, where there is no command, and maybe nothing at 10, where memory was wanting
-abbrev pub AsksAt : Option PlainCommand → Option (List (List ℕ)) → Option (List (List ℕ)) → ℕ → Type 0
-AsksAt command before after code =
-    (((code ≡ 1) ⊎ (code ≡ 10)) × (after ≡ before)) ⊎ (¬ (code ≡ 1) × IsSomeAnd command (λ c. Asks before c.name after))
+-- its names, in the order in which the world is asked for them
+abbrev pub names_of : Command → List (List ℕ)
+names_of (Run asked) = asked.program ∷ option_to_list asked.log
+names_of (Replay log) = log ∷ []
+names_of (Accept program) = program ∷ []
+names_of (Large n) = []
+
+-- the world was asked for these names, in order
+abbrev pub WasAsked : Option (List (List ℕ)) → List (List ℕ) → Option (List (List ℕ)) → Type 0
+WasAsked before names after = IfSome before (λ asked. after ≡ Some (asked ++ names))
+
+-- so many of its names a command asks for that ends so: the first where that was not read or is refused, some where memory was wanting, and else all
+abbrev pub AsksFor : Conclusion → List (List ℕ) → List (List ℕ) → Type 0
+AsksFor NotRead names asked = asked ≡ take 1 names
+AsksFor (Refused refusal) names asked = asked ≡ take 1 names
+AsksFor NoMemory names asked = (rest : List (List ℕ)) × (names ≡ asked ++ rest)
+AsksFor NoCommand names asked = asked ≡ names
+AsksFor Accepted names asked = asked ≡ names
+AsksFor (Ran verdict) names asked = asked ≡ names
+AsksFor NotWritten names asked = asked ≡ names
+AsksFor (BadLog fault) names asked = asked ≡ names
+
+-- words that are no command ask for nothing
+abbrev pub AsksIn : Option Command → Option (List (List ℕ)) → Option (List (List ℕ)) → Conclusion → Type 0
+AsksIn None before after conclusion = after ≡ before
+AsksIn (Some command) before after conclusion =
+    (asked : List (List ℕ)) × AsksFor conclusion (names_of command) asked × WasAsked before asked after

@@ -1,11 +1,14 @@
 -- How a command ends: the code and the note of each conclusion.
-use Rattle.std.specs.Prelude.{◌≡◌, ℕ, List, [], codes}
+use Rattle.std.specs.Prelude.{◌≡◌, ℕ, List, [], codes, Result, Ok, Err}
 use Rattle.bp_log.specs.declared.verdict.Verdict.{Verdict}
 use Rattle.bp_log.specs.declared.verdict.Verdict.TheVariants.{Quiet, Violated, Fault, Spent, Steps, Queue, Threads, Weight, Bad}
 use Rattle.bp_script.specs.Refusals as refusals
 use Rattle.bp_script.specs.declared.reading.ScriptFault.{ScriptFault}
+use Rattle.bp_serve.specs.declared.report.Report.{Report}
+use Rattle.bp_serve.specs.declared.fault.RunFault.{RunFault}
+use Rattle.bp_cli.specs.Replaying.{bad_log_note}
 use Rattle.bp_cli.specs.declared.conclusion.Conclusion.{Conclusion}
-use Rattle.bp_cli.specs.declared.conclusion.Conclusion.TheVariants.{NoCommand, Refused, Accepted, Ran, NotRead, NotWritten, NoMemory}
+use Rattle.bp_cli.specs.declared.conclusion.Conclusion.TheVariants.{NoCommand, Refused, Accepted, Ran, NotRead, NotWritten, NoMemory, BadLog}
 
 -- what a wrong command is told
 abbrev pub usage : List ℕ
@@ -31,6 +34,7 @@ code_of (Ran verdict) = verdict_code verdict
 code_of NotRead = 8
 code_of NotWritten = 9
 code_of NoMemory = 10
+code_of (BadLog fault) = 11
 
 abbrev pub note_of : Conclusion → List ℕ
 note_of Accepted = []
@@ -40,10 +44,18 @@ note_of (Ran verdict) = []
 note_of NotRead = codes "read fault"
 note_of NotWritten = codes "write fault"
 note_of NoMemory = []
+note_of (BadLog fault) = bad_log_note fault
 
 -- the code and the note are those of the conclusion
 abbrev pub IsStatusOf : ℕ → List ℕ → Conclusion → Type 0
 IsStatusOf code note conclusion = (code ≡ code_of conclusion) × (note ≡ note_of conclusion)
+
+-- what comes of a run
+abbrev pub ended_of : Result Report RunFault → Conclusion
+ended_of (Ok report) = Ran report.verdict
+ended_of (Err RunFault.Write) = NotWritten
+ended_of (Err RunFault.LogWrite) = NotWritten
+ended_of (Err RunFault.Memory) = NoMemory
 
 -- what comes of a program that is not accepted
 abbrev pub conclusion_of : ScriptFault → Conclusion

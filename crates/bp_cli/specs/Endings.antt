@@ -1,37 +1,83 @@
--- Why a command ends as it does, and what was printed.
-use Rattle.std.specs.Prelude.{◌≡◌, ◌⊎◌, ℕ, List, Option, None, IsSome}
+-- Why a command ends as it does, and what came of it outside.
+use Rattle.std.specs.Prelude.{◌≡◌, ◌⊎◌, ℕ, List, Option, Some, None, IsSome, IsSomeAnd}
 use Rattle.bp_base.specs.Worlds.{Holdings}
-use Rattle.bp_base.specs.Pieces.{Appends}
+use Rattle.bp_log.specs.declared.verdict.Verdict.{Verdict}
 use Rattle.bp_script.specs.Programs.{IsRefused}
-use Rattle.bp_cli.specs.declared.words.Verb.{Verb}
+use Rattle.bp_args.specs.declared.command.Command.{Command}
+use Rattle.bp_args.specs.declared.command.Command.TheVariants.{Run, Replay, Accept, Large}
 use Rattle.bp_cli.specs.declared.conclusion.Conclusion.{Conclusion}
-use Rattle.bp_cli.specs.declared.conclusion.Conclusion.TheVariants.{NoCommand, Refused, Accepted, Ran, NotRead, NotWritten, NoMemory}
-use Rattle.bp_cli.specs.Command.{PlainCommand}
-use Rattle.bp_cli.specs.Programs.{OfProgram, IsAccepted, accepted_line, PrintsFront, RunsTo}
+use Rattle.bp_cli.specs.declared.conclusion.Conclusion.TheVariants.{NoCommand, Refused, Accepted, Ran, NotRead, NotWritten, NoMemory, BadLog}
+use Rattle.bp_cli.specs.Outside.{Outside, IsAsBefore, IsUnder}
+use Rattle.bp_cli.specs.Texts.{SaysAccepted, SaysAcceptedPartly}
+use Rattle.bp_cli.specs.Runs.{RunsTo, RunsPartly}
+use Rattle.bp_cli.specs.Large.{large_program, MeasuresTo, MeasuresPartly}
 use Rattle.bp_cli.specs.Conclusions.{IsStatusOf}
+use Rattle.bp_cli.specs.Asking.{AsksIn}
+use Rattle.bp_cli.specs.Replaying.{ReplayEnds}
 
--- why what is done to these bytes ends so, where the output failed or not, and what was printed
-abbrev pub EndsOn : Verb → List ℕ → Type 0 → Option (List ℕ) → Option (List ℕ) → Conclusion → Type 0
-EndsOn verb bytes unwritten before after Accepted =
-    (verb ≡ Verb.Accept) × IsAccepted bytes × Appends before accepted_line after
-EndsOn verb bytes unwritten before after (Ran v) = (verb ≡ Verb.Run) × RunsTo before after bytes v
-EndsOn verb bytes unwritten before after NoCommand = ⊥
-EndsOn verb bytes unwritten before after (Refused refusal) = IsRefused bytes refusal × (after ≡ before)
-EndsOn verb bytes unwritten before after NotRead = ⊥
-EndsOn verb bytes unwritten before after NotWritten = unwritten × PrintsFront before after verb bytes
-EndsOn verb bytes unwritten before after NoMemory = (after ≡ before) ⊎ PrintsFront before after verb bytes
+-- what a command works on: what the world holds under its first name, or the large program
+abbrev pub IsGiven : Option Holdings → Command → List ℕ → Type 0
+IsGiven holds (Run asked) bytes = IsUnder holds asked.program bytes
+IsGiven holds (Replay log) bytes = IsUnder holds log bytes
+IsGiven holds (Accept program) bytes = IsUnder holds program bytes
+IsGiven holds (Large n) bytes = bytes ≡ large_program n
 
--- the same of a command, where reading failed or not: why and what are of the same bytes
-abbrev pub EndsIn : Option PlainCommand → Option Holdings → Type 0 → Type 0 → Option (List ℕ) → Option (List ℕ) → Conclusion → Type 0
-EndsIn command holds unread unwritten before after NoCommand = (command ≡ None) × (after ≡ before)
-EndsIn command holds unread unwritten before after NotRead = IsSome command × unread × (after ≡ before)
-EndsIn command holds unread unwritten before after NoMemory =
-    (after ≡ before) ⊎ OfProgram command holds (PrintsFront before after)
-EndsIn command holds unread unwritten before after conclusion =
-    OfProgram command holds (λ verb bytes. EndsOn verb bytes unwritten before after conclusion)
+-- there is a command, and P of it and of the bytes on which it works
+abbrev pub OfBytes : Option Command → Option Holdings → (Command → List ℕ → Type 0) → Type 0
+OfBytes command holds P = IsSomeAnd command (λ c. (bytes : List ℕ) × IsGiven holds c bytes × P c bytes)
 
--- the code and the note are those of a conclusion in which the command ends
-pub record Ends (command : Option PlainCommand) (holds : Option Holdings) (unread unwritten : Type 0) (before after : Option (List ℕ)) (code : ℕ) (note : List ℕ) : Type 0 where
+-- a part of what is told of these bytes, from its front, came outside
+abbrev pub TellsPartly : Command → List ℕ → Outside → Outside → Type 0
+TellsPartly (Run asked) bytes before after = RunsPartly asked bytes before after
+TellsPartly (Accept program) bytes before after = SaysAcceptedPartly bytes before after
+TellsPartly (Large n) bytes before after = MeasuresPartly n before.printed after.printed × (after.holds ≡ before.holds)
+TellsPartly (Replay log) bytes before after = ⊥
+
+-- what runs these bytes came to the verdict, and all that is told of it came outside
+abbrev pub ComesTo : Command → List ℕ → Outside → Outside → Verdict → Type 0
+ComesTo (Run asked) bytes before after v = RunsTo asked bytes before after v
+ComesTo (Large n) bytes before after v = MeasuresTo n before.printed after.printed v × (after.holds ≡ before.holds)
+ComesTo (Accept program) bytes before after v = ⊥
+ComesTo (Replay log) bytes before after v = ⊥
+
+-- the command asks whether the bytes are accepted; they are, and that was printed
+abbrev pub Accepts : Command → List ℕ → Outside → Outside → Type 0
+Accepts (Accept program) bytes before after = SaysAccepted bytes before after
+Accepts (Run asked) bytes before after = ⊥
+Accepts (Large n) bytes before after = ⊥
+Accepts (Replay log) bytes before after = ⊥
+
+-- why what is done to these bytes ends so, where writing failed or not, and what came of it outside
+abbrev pub EndsOn : Command → List ℕ → Type 0 → Outside → Outside → Conclusion → Type 0
+EndsOn command bytes unwritten before after Accepted = Accepts command bytes before after
+EndsOn command bytes unwritten before after (Ran v) = ComesTo command bytes before after v
+EndsOn command bytes unwritten before after (Refused refusal) = IsRefused bytes refusal × IsAsBefore before after
+EndsOn command bytes unwritten before after NotWritten = unwritten × TellsPartly command bytes before after
+EndsOn command bytes unwritten before after NoMemory = IsAsBefore before after ⊎ TellsPartly command bytes before after
+EndsOn command bytes unwritten before after NoCommand = ⊥
+EndsOn command bytes unwritten before after NotRead = ⊥
+EndsOn command bytes unwritten before after (BadLog fault) = ⊥
+
+-- the same of a command on a program, where reading failed or not: why and what are of the same bytes
+abbrev pub EndsIn : Option Command → Type 0 → Type 0 → Outside → Outside → Conclusion → Type 0
+EndsIn command unread unwritten before after NoCommand = (command ≡ None) × IsAsBefore before after
+EndsIn command unread unwritten before after NotRead = IsSome command × unread × IsAsBefore before after
+EndsIn command unread unwritten before after NoMemory =
+    IsAsBefore before after ⊎ OfBytes command before.holds (λ c bytes. TellsPartly c bytes before after)
+EndsIn command unread unwritten before after conclusion =
+    OfBytes command before.holds (λ c bytes. EndsOn c bytes unwritten before after conclusion)
+
+-- the same of each command: a replay ends in its own way
+abbrev pub EndsSo : Option Command → Type 0 → Type 0 → Outside → Outside → Conclusion → Type 0
+EndsSo (Some (Replay log)) unread unwritten before after conclusion = ReplayEnds log unread unwritten before after conclusion
+EndsSo (Some (Run asked)) unread unwritten before after conclusion = EndsIn (Some (Run asked)) unread unwritten before after conclusion
+EndsSo (Some (Accept program)) unread unwritten before after conclusion = EndsIn (Some (Accept program)) unread unwritten before after conclusion
+EndsSo (Some (Large n)) unread unwritten before after conclusion = EndsIn (Some (Large n)) unread unwritten before after conclusion
+EndsSo None unread unwritten before after conclusion = EndsIn None unread unwritten before after conclusion
+
+-- the code and the note are those of a conclusion in which the command ends, and for which it asks
+pub record Ends (command : Option Command) (unread unwritten : Type 0) (before after : Outside) (code : ℕ) (note : List ℕ) : Type 0 where
   pub conclusion : Conclusion
   pub status : IsStatusOf code note conclusion
-  pub ends : EndsIn command holds unread unwritten before after conclusion
+  pub asks : AsksIn command before.asked after.asked conclusion
+  pub ends : EndsSo command unread unwritten before after conclusion

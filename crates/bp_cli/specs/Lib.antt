@@ -1,6 +1,10 @@
-pub mod Command
-pub mod Programs
+pub mod Outside
+pub mod Texts
+pub mod Runs
+pub mod Large
 pub mod Conclusions
-pub mod Endings
 pub mod Asking
+pub mod Endings
 pub mod Refusing
+pub mod Loading
+pub mod Replaying

@@ -1,22 +1,26 @@
 -- Refused programs.
-use Rattle.std.specs.Prelude.{◌≡◌, ◌⊎◌, ℕ, ◌<◌, List, length, Option, IfSome}
+use Rattle.std.specs.Prelude.{◌≡◌, ◌⊎◌, ℕ, ◌<◌, List, length, Option, Some, None, IfSome, option_and_then}
 use Rattle.bp_base.specs.Worlds.{Holdings}
 use Rattle.bp_log.specs.declared.limits.TheConstants.{MOST_BYTES}
 use Rattle.bp_script.specs.declared.refusal.Refusal.{Refusal}
 use Rattle.bp_script.specs.Programs.{IsRefused}
-use Rattle.bp_cli.specs.Command.{PlainCommand}
-use Rattle.bp_cli.specs.Programs.{IsUnder}
+use Rattle.bp_args.specs.declared.command.Command.{Command}
+use Rattle.bp_args.specs.declared.command.Command.TheVariants.{Run, Replay, Accept, Large}
+use Rattle.bp_cli.specs.Outside.{IsUnder}
 
 -- the program of that name is too long
 abbrev pub IsTooLong : Option Holdings → List ℕ → Type 0
 IsTooLong holds name = (bytes : List ℕ) × IsUnder holds name bytes × (MOST_BYTES < length bytes)
 
--- where these bytes are refused, the code is 2, unless memory was wanting
-abbrev pub RefusesAt : List ℕ → ℕ → Type 0
-RefusesAt bytes code = (refusal : Refusal) → IsRefused bytes refusal → (code ≡ 2) ⊎ (code ≡ 10)
+-- the name of the program that a command is to run or to accept
+abbrev pub program_of : Command → Option (List ℕ)
+program_of (Run asked) = Some asked.program
+program_of (Accept program) = Some program
+program_of (Replay log) = None
+program_of (Large n) = None
 
 -- where the world tells that the program is refused, the code is 2, unless reading failed or memory was wanting
-abbrev pub Refuses : Option PlainCommand → Option Holdings → ℕ → Type 0
+abbrev pub Refuses : Option Command → Option Holdings → ℕ → Type 0
 Refuses command holds code =
-    IfSome holds (λ held. IfSome command (λ c. IfSome (held c.name) (λ bytes.
+    IfSome holds (λ held. IfSome (option_and_then program_of command) (λ name. IfSome (held name) (λ bytes.
     (refusal : Refusal) → IsRefused bytes refusal → (code ≡ 2) ⊎ ((code ≡ 8) ⊎ (code ≡ 10)))))

@@ -1,12 +1,17 @@
 //! How a command ends.
-ghost use Rattle.std.specs.Prelude.{◌≡◌, IfOk};
-ghost use Rattle.bp_cli.specs.Conclusions.{code_of, note_of, verdict_code, conclusion_of};
+ghost use Rattle.std.specs.Prelude.{◌≡◌, IfOk, string_bytes};
+ghost use Rattle.bp_cli.specs.Conclusions.{code_of, note_of, verdict_code, conclusion_of, ended_of};
+ghost use Rattle.bp_log.specs.Logs.{record_text};
+ghost use Rattle.bp_cli.specs.Replaying.{trouble_of as trouble_in, replayed_of, expected_text, log_detail as log_fault_text, detail_of, bad_log_note as bad_log_text};
 
-use bp_log::{Memory, Verdict};
+use bp_base::MemorySink;
+use bp_log::{Memory, Record, Verdict, write_record};
+use bp_reader::LogFault;
+use bp_replay::ReplayFault;
 use bp_script::{Refusal, ScriptFault};
-use bp_serve::RunFault;
+use bp_serve::{Report, RunFault};
 use js_data::Text;
-use std::alloc::Global;
+use std::alloc::{AllocError, Global};
 
 /// The note of words that are no command.
 const USAGE: &str =
@@ -35,6 +40,8 @@ pub enum Conclusion {
     NotWritten,
     /// No memory was left.
     NoMemory,
+    /// The log is none, its program is refused, or it differs from its run.
+    BadLog(ReplayFault),
 }
 
 impl Drop for Conclusion {
@@ -47,6 +54,7 @@ impl Drop for Conclusion {
             Conclusion::NotRead => {}
             Conclusion::NotWritten => {}
             Conclusion::NoMemory => {}
+            Conclusion::BadLog(_) => {}
         }
     }
 }
@@ -79,8 +87,137 @@ fn verdict_code(verdict: &Verdict) -> u8
     }
 }
 
+/// The conclusion where reading or writing failed or memory was wanting.
+fn trouble_of(fault: &ReplayFault) -> Option<Conclusion>
+    ensures { result ≡ trouble_in fault.now }
+{
+    match fault {
+        ReplayFault::Log(LogFault::Version) => None,
+        ReplayFault::Log(LogFault::Header) => None,
+        ReplayFault::Log(LogFault::Line(_)) => None,
+        ReplayFault::Log(LogFault::Cut) => None,
+        ReplayFault::Log(LogFault::Read) => Some(Conclusion::NotRead),
+        ReplayFault::Log(LogFault::Memory) => Some(Conclusion::NoMemory),
+        ReplayFault::Differs { .. } => None,
+        ReplayFault::Program => None,
+        ReplayFault::Write => Some(Conclusion::NotWritten),
+        ReplayFault::Memory => Some(Conclusion::NoMemory),
+    }
+}
+
+/// Room for the text of a record, in bytes.
+const ROOM: u64 = 500_000;
+
+/// The text of a record, without its line end. Its errors are want of memory and of room.
+fn text_of(alloc: Global, entry: &Record) -> Result<String, Memory>
+    ensures { IfOk result (λ s. string_bytes s ≡ record_text entry.now) }
+{
+    let mut sink = MemorySink::new(alloc, ROOM, Vec::new(alloc))?;
+    if write_record(alloc, entry, &mut sink).is_err() {
+        return Err(AllocError);
+    }
+    let Some((_, line)) = sink.written().split_last() else {
+        return Err(AllocError);
+    };
+    let Ok(text) = str::from_utf8(line) else {
+        return Err(AllocError);
+    };
+    text.to_string(alloc)
+}
+
+/// The text of the record that was expected. Its errors are want of memory and of room.
+fn expected_of(alloc: Global, expected: &Option<Record>) -> Result<String, Memory>
+    ensures { IfOk result (λ s. string_bytes s ≡ expected_text expected.now) }
+{
+    match expected {
+        None => "wait".to_string(alloc),
+        Some(entry) => text_of(alloc, entry),
+    }
+}
+
+/// Why bytes are no log. Its only error is want of memory.
+fn log_detail(alloc: Global, fault: LogFault) -> Result<String, Memory>
+    ensures { IfOk result (λ s. string_bytes s ≡ log_fault_text fault) }
+{
+    match fault {
+        LogFault::Version => "version".to_string(alloc),
+        LogFault::Header => "header".to_string(alloc),
+        LogFault::Line(number) => format!(in alloc; "line {number}"),
+        LogFault::Cut => "cut".to_string(alloc),
+        LogFault::Read => "read fault".to_string(alloc),
+        LogFault::Memory => "memory".to_string(alloc),
+    }
+}
+
+/// How a record differs. Its errors are want of memory and of room.
+fn differs(
+    alloc: Global,
+    number: u32,
+    expected: &Option<Record>,
+    found: &Record,
+) -> Result<String, Memory>
+    ensures { IfOk result (λ s. string_bytes s ≡ detail_of (ReplayFault.Differs number expected.now found.now)) }
+{
+    let expected = expected_of(alloc, expected)?;
+    let expected = expected.as_str();
+    let found = text_of(alloc, found)?;
+    let found = found.as_str();
+    format!(in alloc; "record {number} expected {expected} found {found}")
+}
+
+/// Why a log is bad. Its errors are want of memory and of room.
+fn detail(alloc: Global, fault: &ReplayFault) -> Result<String, Memory>
+    ensures { IfOk result (λ s. string_bytes s ≡ detail_of fault.now) }
+{
+    match fault {
+        ReplayFault::Log(fault) => log_detail(alloc, *fault),
+        ReplayFault::Differs {
+            number,
+            expected,
+            found,
+        } => differs(alloc, *number, expected, found),
+        ReplayFault::Program => "program".to_string(alloc),
+        ReplayFault::Write => "write fault".to_string(alloc),
+        ReplayFault::Memory => "memory".to_string(alloc),
+    }
+}
+
+/// The note of a bad log. Its errors are want of memory and of room.
+fn bad_log_note(alloc: Global, fault: &ReplayFault) -> Result<Text, Memory>
+    ensures { IfOk result (λ t. t ≡ bad_log_text fault.now) }
+{
+    let detail = detail(alloc, fault)?;
+    let detail = detail.as_str();
+    Ok(Text::new(format!(in alloc; "bad log: {detail}")?))
+}
+
 impl Conclusion {
-    /// Its code for the system, from 0 to 10.
+    /// What comes of a run.
+    pub(crate) fn of(ended: Result<Report, RunFault>) -> Conclusion
+        ensures { result ≡ ended_of ended }
+    {
+        match ended {
+            Ok(report) => Conclusion::Ran(report.into_verdict()),
+            Err(RunFault::Write) | Err(RunFault::LogWrite) => Conclusion::NotWritten,
+            Err(RunFault::Memory) => Conclusion::NoMemory,
+        }
+    }
+
+    /// What comes of a replay.
+    pub(crate) fn of_replay(ended: Result<Verdict, ReplayFault>) -> Conclusion
+        ensures { result ≡ replayed_of ended }
+    {
+        let fault = match ended {
+            Ok(verdict) => return Conclusion::Ran(verdict),
+            Err(fault) => fault,
+        };
+        match trouble_of(&fault) {
+            Some(conclusion) => conclusion,
+            None => Conclusion::BadLog(fault),
+        }
+    }
+
+    /// Its code for the system, from 0 to 11.
     pub(crate) fn code(&self) -> u8
         ensures { result ≡ code_of self.now }
     {
@@ -92,6 +229,7 @@ impl Conclusion {
             Conclusion::NotRead => 8,
             Conclusion::NotWritten => 9,
             Conclusion::NoMemory => 10,
+            Conclusion::BadLog(_) => 11,
         }
     }
 
@@ -101,6 +239,7 @@ impl Conclusion {
     {
         let words = match self {
             Conclusion::Refused(refusal) => return refusal.note(alloc),
+            Conclusion::BadLog(fault) => return bad_log_note(alloc, fault),
             Conclusion::NoCommand => USAGE,
             Conclusion::NotRead => READ_FAULT,
             Conclusion::NotWritten => WRITE_FAULT,

@@ -3,9 +3,12 @@
 
 mod commands;
 mod conclusion;
+mod large;
+mod loading;
 mod programs;
+mod replaying;
+mod running;
 mod status;
-mod words;
 
 pub use commands::command;
 pub use status::Status;

@@ -1,49 +1,92 @@
-//! What is done to a program whose bytes were read.
-ghost use Rattle.std.specs.Prelude.{◌≡◌, ◌≤◌};
+//! Commands on a program of the world.
+ghost use Rattle.std.specs.Prelude.{◌≡◌, ◌⊎◌, ◌≤◌, Some};
 ghost use Rattle.bp_base.specs.Counts.{Rose};
+ghost use Rattle.bp_args.specs.declared.command.Command.TheVariants as command;
+ghost use Rattle.bp_cli.specs.Asking.{AsksIn};
 ghost use Rattle.bp_cli.specs.Conclusions.{code_of};
-ghost use Rattle.bp_cli.specs.Endings.{EndsOn};
-ghost use Rattle.bp_cli.specs.Refusing.{RefusesAt};
-ghost use Rattle.bp_cli.specs.declared.words.Verb.{Verb};
+ghost use Rattle.bp_cli.specs.Endings.{EndsIn};
+ghost use Rattle.bp_cli.specs.Outside.{Outside};
+ghost use Rattle.bp_cli.specs.Refusing.{Refuses};
 
 use crate::conclusion::Conclusion;
-use bp_base::{Sink, write_all};
-use bp_log::Options;
-use bp_script::accept;
-use bp_serve::{RunFault, run};
+use crate::loading::load;
+use crate::running::{run_logged, run_unlogged};
+use bp_args::Run;
+use bp_base::{Sink, World, write_all};
+use bp_log::Header;
+use js_data::Text;
 use std::alloc::Global;
+use std::sync::Wait;
+use std::thread::Threads;
 
 /// What is printed of an accepted program.
 const ACCEPTED: &[u8] = b"accepted\n";
 
-/// Runs the program under the default options, and prints its run.
-pub(crate) fn run_program<K: Sink>(alloc: Global, bytes: &[u8], out: &mut K) -> Conclusion
-    ensures ends { EndsOn Verb.Run bytes.now (Rose (K.faults out.old) (K.faults out.new))
-        (K.written out.old) (K.written out.new) result }
-    ensures refuses { RefusesAt bytes.now (code_of result) }
+/// Runs the program of that name as the words ask for, prints its run, and keeps its log where they ask for one.
+pub(crate) fn run_program<R: Threads + Wait + Sync, W: World, K: Sink>(
+    rt: &R,
+    alloc: Global,
+    asked: &Run,
+    world: &mut W,
+    out: &mut K,
+) -> Conclusion
+    requires alone { asked.now.options.injectors ≡ 0 }
+    ensures ends { let before : Outside = record { holds = W.holds world.old; asked = W.asked world.old; printed = K.written out.old } in
+        let after : Outside = record { holds = W.holds world.new; asked = W.asked world.new; printed = K.written out.new } in
+        EndsIn (Some (command.Run asked.now)) (Rose (W.read_faults world.old) (W.read_faults world.new))
+        (Rose (K.faults out.old) (K.faults out.new) ⊎ Rose (W.write_faults world.old) (W.write_faults world.new))
+        before after result }
+    ensures asks { AsksIn (Some (command.Run asked.now)) (W.asked world.old) (W.asked world.new) result }
+    ensures refuses { Refuses (Some (command.Run asked.now)) (W.holds world.old) (code_of result) }
+    ensures read_counts { W.read_faults world.old ≤ W.read_faults world.new }
+    ensures write_counts { W.write_faults world.old ≤ W.write_faults world.new }
     ensures counts { K.faults out.old ≤ K.faults out.new }
 {
-    let program = match accept(alloc, bytes) {
-        Ok(program) => program,
-        Err(fault) => return Conclusion::from(fault),
+    let loaded = match load(alloc, world, asked.program.as_str()) {
+        Ok(loaded) => loaded,
+        Err(conclusion) => return conclusion,
     };
-    match run(alloc, program, Options::defaults(), out) {
-        Ok(verdict) => Conclusion::Ran(verdict),
-        Err(RunFault::Write) => Conclusion::NotWritten,
-        Err(RunFault::Memory) => Conclusion::NoMemory,
+    let (program, bytes) = loaded.into_parts();
+    let Some(header) = Header::new(asked.options, bytes) else {
+        unreachable!()
+    };
+    match &asked.log {
+        None => run_unlogged(rt, alloc, program, &header, asked.beside, out),
+        Some(name) => run_logged(
+            rt,
+            alloc,
+            program,
+            &header,
+            asked.beside,
+            name.as_str(),
+            world,
+            out,
+        ),
     }
 }
 
-/// Prints that the program is accepted, or refuses it.
-pub(crate) fn accept_program<K: Sink>(alloc: Global, bytes: &[u8], out: &mut K) -> Conclusion
-    ensures ends { EndsOn Verb.Accept bytes.now (Rose (K.faults out.old) (K.faults out.new))
-        (K.written out.old) (K.written out.new) result }
-    ensures refuses { RefusesAt bytes.now (code_of result) }
+/// Prints that the program of that name is accepted, or refuses it.
+pub(crate) fn accept_program<W: World, K: Sink>(
+    alloc: Global,
+    name: &Text,
+    world: &mut W,
+    out: &mut K,
+) -> Conclusion
+    ensures ends { let before : Outside = record { holds = W.holds world.old; asked = W.asked world.old; printed = K.written out.old } in
+        let after : Outside = record { holds = W.holds world.new; asked = W.asked world.new; printed = K.written out.new } in
+        EndsIn (Some (command.Accept name.now)) (Rose (W.read_faults world.old) (W.read_faults world.new))
+        (Rose (K.faults out.old) (K.faults out.new) ⊎ Rose (W.write_faults world.old) (W.write_faults world.new))
+        before after result }
+    ensures asks { AsksIn (Some (command.Accept name.now)) (W.asked world.old) (W.asked world.new) result }
+    ensures refuses { Refuses (Some (command.Accept name.now)) (W.holds world.old) (code_of result) }
+    ensures read_counts { W.read_faults world.old ≤ W.read_faults world.new }
+    ensures write_counts { W.write_faults world.old ≤ W.write_faults world.new }
     ensures counts { K.faults out.old ≤ K.faults out.new }
 {
-    if let Err(fault) = accept(alloc, bytes) {
-        return Conclusion::from(fault);
-    }
+    let _loaded = match load(alloc, world, name.as_str()) {
+        Ok(loaded) => loaded,
+        Err(conclusion) => return conclusion,
+    };
     match write_all(out, ACCEPTED) {
         Ok(()) => Conclusion::Accepted,
         Err(_) => Conclusion::NotWritten,

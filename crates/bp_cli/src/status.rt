@@ -6,7 +6,7 @@ use crate::conclusion::Conclusion;
 use js_data::Text;
 use std::alloc::Global;
 
-/// What a command ends with: the code for the system, from 0 to 10, and the note for standard error, which may be empty.
+/// What a command ends with: the code for the system, from 0 to 11, and the note for standard error, which may be empty.
 #[derive(Debug, Drop)]
 pub struct Status {
     pub code: u8,

@@ -1,117 +1,122 @@
-// Runs that keep a log, and its replay.
+// Options, logs, replays and the large program.
 
-use crate::world::{Fails, NONE, run_in, words_of, world_of};
+use crate::world::{Fails, NONE, run_with, tells};
 use std::test::Fail;
 
-const SCRIPT: &str =
-    r#"bp.registerBThread("A", () => { bp.sync({request: bp.Event("a")}); bp.sync({request: bp.Event("b", {x: 1})}) })"#;
+/// A blocked event of the queue is overtaken: the log of such a run, with an injector.
+const LOG: &str = r#"bp-log 1
+strategy simple
+seed 0
+budget 1000000
+steps 100000
+injectors 1
+program 181
+bp.registerBThread("B", () => { bp.sync({waitFor: bp.Event("go"), block: bp.Event("x")}) })
+bp.registerBThread("C", () => { bp.sync({waitFor: bp.Event("x")}); bp.log.info("got") })
 
-const TRACE: &str = r#"event ["a"]
-event ["b",{"x":1}]
-done "A"
-verdict quiet 2
-"#;
-
-const HEAD: &str = "bp-log 1
-strategy priority
-seed 7
-budget 1000
-steps 50
-injectors 0
-program 111
-";
-
-const RECORDS: &str = r#"sel ["a"]
-sel ["b",{"x":1}]
+in 0 ["x"]
+in 0 ["go"]
+eof 0
+sel ["go"]
+sel ["x"]
 end quiet 2
 "#;
 
-const WORDS: &str = "run|--log|l|--strategy=priority|--seed|7|--budget=1000|--steps|50|script.js";
+const REPLAYED: &str =
+    "external [\"go\"]\ndone \"B\"\nexternal [\"x\"]\nlog \"C\" \"got\"\ndone \"C\"\nverdict quiet 2\n";
+
+const TURNS: &str =
+    "bp.registerBThread(\"A\", () => { while (true) bp.sync({request: bp.Event(\"t\")}) })";
+
+const NODES: &str = "bp.registerBThread(\"A\", function() { let a = 1 + 2; let b = a; a + b; });\n";
+
+const DRAWN: &str =
+    "bp.registerBThread(\"A\", () => { bp.sync({request: [bp.Event(\"a\"), bp.Event(\"b\"), bp.Event(\"c\")]}) })";
 
 #[test]
-fn a_log_tells_the_run_and_replays(rt: HostRuntime) -> Result<(), Fail> {
+fn a_log_is_replayed(rt: HostRuntime) -> Result<(), Fail> {
     let alloc = rt.alloc();
-    let mut world = world_of(alloc, SCRIPT.as_bytes(), NONE)?;
-    let words = words_of(alloc, WORDS)?;
-    let ran = run_in(&rt, alloc, &words, &mut world, &[])?;
-    assert_eq!(rt; ran.code, 0);
-    assert!(rt; ran.printed.as_slice() == TRACE.as_bytes());
-    let log = format!(in alloc; "{HEAD}{SCRIPT}\n{RECORDS}")?;
-    let held = world.held("l").ok_or("no log")?;
-    assert!(rt; held == log.as_bytes());
-    let words = words_of(alloc, "replay|l")?;
-    let told = run_in(&rt, alloc, &words, &mut world, &[])?;
-    assert_eq!(rt; told.code, 0);
-    assert_eq!(rt; told.note.as_str(), "");
-    assert!(rt; told.printed.as_slice() == TRACE.as_bytes());
-    Ok(())
+    let words = "replay|script.js";
+    tells(&rt, alloc, words, LOG.as_bytes(), (0, "", REPLAYED))?;
+
+    let (front, _) = LOG.split_once("sel [\"x\"]").ok_or("no selection")?;
+    let cut = (11, "bad log: cut", "external [\"go\"]\ndone \"B\"\n");
+    tells(&rt, alloc, words, front.as_bytes(), cut)?;
+
+    let other = LOG.replace(alloc, "sel [\"go\"]", "sel [\"x\"]")?;
+    let note = "bad log: record 4 expected sel [\"go\"] found sel [\"x\"]";
+    tells(&rt, alloc, words, other.as_bytes(), (11, note, ""))?;
+    tells(&rt, alloc, words, b"x\n", (11, "bad log: version", ""))
 }
 
-// A line has what stands in the records, what stands there in its place, the status, the note and what is printed.
-const ALTERED: &str = r#"
-quiet 2 | quiet 2 | 0 | | event ["a"];event ["b",{"x":1}];done "A";verdict quiet 2;
-quiet 2 | quiet 3 | 11 | bad log: record 3 expected end quiet 2 found end quiet 3 | event ["a"];event ["b",{"x":1}];done "A";
-sel ["a"] | sel ["x"] | 11 | bad log: record 1 expected sel ["a"] found sel ["x"] |
-sel ["a"] | eof 0 | 11 | bad log: line 1 |
-{"x":1} | {"x": 1} | 11 | bad log: line 2 | event ["a"];
-end quiet 2 | | 11 | bad log: line 3 | event ["a"];event ["b",{"x":1}];done "A";
-"#;
+#[test]
+fn a_run_keeps_its_log_and_the_log_replays_it(rt: HostRuntime) -> Result<(), Fail> {
+    let alloc = rt.alloc();
+    let words = "run|--log|log|--seed=7|script.js";
+    let ran = run_with(&rt, alloc, words, DRAWN.as_bytes(), NONE)?;
+    assert_eq!(rt; ran.code, 0);
+    let again = run_with(&rt, alloc, "replay|script.js", &ran.log, NONE)?;
+    assert_eq!(rt; again.code, 0);
+    assert!(rt; again.printed == ran.printed);
+    assert!(rt;
+        ran.log
+            .starts_with(b"bp-log 1\nstrategy simple\nseed 7\nbudget 1000000\n")
+    );
+
+    let ordered = "run|--strategy|ordered|--seed|3|script.js";
+    let printed = "event [\"a\"]\ndone \"A\"\nverdict quiet 1\n";
+    tells(&rt, alloc, ordered, DRAWN.as_bytes(), (0, "", printed))
+}
 
 #[test]
-fn altered_logs_are_refused(rt: HostRuntime) -> Result<(), Fail> {
+fn what_is_not_in_the_log_is_not_printed(rt: HostRuntime) -> Result<(), Fail> {
     let alloc = rt.alloc();
-    let words = words_of(alloc, "replay|l")?;
-    for line in ALTERED.trim().lines() {
-        let mut cells = line.split("|");
-        let old = cells.next().ok_or("no text")?.trim();
-        let new = cells.next().ok_or("no other text")?.trim();
-        let code = cells.next().ok_or("no status")?.trim();
-        let note = cells.next().ok_or("no note")?.trim();
-        let printed = cells.next().ok_or("no trace")?.trim();
-        let mut world = world_of(alloc, SCRIPT.as_bytes(), NONE)?;
-        let records = RECORDS.replace(alloc, old, new)?;
-        let log = format!(in alloc; "{HEAD}{SCRIPT}\n{records}")?;
-        world.hold("l".to_string(alloc)?, log.into_bytes())?;
-        let told = run_in(&rt, alloc, &words, &mut world, &[])?;
-        assert_eq!(rt; told.note.as_str(), note, "{line}");
-        assert_eq!(rt; told.code, code.parse::<u8>()?, "{line}");
-        let want = printed.replace(alloc, ";", "\n")?;
-        assert!(rt; told.printed.as_slice() == want.as_bytes(), "{line}");
+    let words = "run|--log|log|script.js";
+    let write = Fails { log: &[1], ..NONE };
+    let create = Fails {
+        world: &[2],
+        ..NONE
+    };
+    for fails in [write, create] {
+        let ran = run_with(&rt, alloc, words, DRAWN.as_bytes(), fails)?;
+        assert_eq!(rt; ran.code, 9);
+        assert_eq!(rt; ran.note.as_str(), "write fault");
+        assert!(rt; ran.printed.is_empty());
     }
     Ok(())
 }
 
-// The log can't be made, or its first write fails: then nothing is printed, since what is recorded is written first.
 #[test]
-fn without_its_log_nothing_is_printed(rt: HostRuntime) -> Result<(), Fail> {
+fn budget_and_steps_are_as_asked(rt: HostRuntime) -> Result<(), Fail> {
     let alloc = rt.alloc();
-    let words = words_of(alloc, WORDS)?;
-    let refused = Fails {
-        world: &[2],
-        ..NONE
-    };
-    let mut world = world_of(alloc, SCRIPT.as_bytes(), refused)?;
-    let ran = run_in(&rt, alloc, &words, &mut world, &[])?;
-    assert_eq!(rt; ran.code, 9);
-    assert_eq!(rt; ran.note.as_str(), "write fault");
-    assert!(rt; ran.printed.is_empty());
-    let mut world = world_of(alloc, SCRIPT.as_bytes(), NONE)?;
-    world.fail("l".to_string(alloc)?, [1u64].to_vec(alloc)?)?;
-    let ran = run_in(&rt, alloc, &words, &mut world, &[])?;
-    assert_eq!(rt; ran.code, 9);
-    assert_eq!(rt; ran.note.as_str(), "write fault");
-    assert!(rt; ran.printed.is_empty());
+    let steps = "event [\"t\"]\nevent [\"t\"]\nverdict limit steps 2\n";
+    tells(
+        &rt,
+        alloc,
+        "run|--steps|2|script.js",
+        TURNS.as_bytes(),
+        (6, "", steps),
+    )?;
+    let spent = "verdict spent \"A\"\n";
+    tells(
+        &rt,
+        alloc,
+        "run|--budget|9|script.js",
+        NODES.as_bytes(),
+        (5, "", spent),
+    )?;
+    let done = "done \"A\"\nverdict quiet 0\n";
+    for words in [
+        "run|--budget|10|script.js",
+        "run|--budget|10|--slice|3|--workers|2|script.js",
+    ] {
+        tells(&rt, alloc, words, NODES.as_bytes(), (0, "", done))?;
+    }
     Ok(())
 }
 
 #[test]
-fn a_log_that_is_not_held_is_a_read_fault(rt: HostRuntime) -> Result<(), Fail> {
-    let alloc = rt.alloc();
-    let words = words_of(alloc, "replay|l")?;
-    let mut world = world_of(alloc, SCRIPT.as_bytes(), NONE)?;
-    let told = run_in(&rt, alloc, &words, &mut world, &[])?;
-    assert_eq!(rt; told.code, 8);
-    assert_eq!(rt; told.note.as_str(), "read fault");
-    assert!(rt; told.printed.is_empty());
-    Ok(())
+fn the_large_program_is_measured(rt: HostRuntime) -> Result<(), Fail> {
+    let line = "large 2 events 8 lines 11 bytes 148\n";
+    tells(&rt, rt.alloc(), "large|2", b"", (0, "", line))
 }

@@ -15,23 +15,23 @@ run|-x
 run|--script.js
 run|script.js|script.js
 run|script.js|
+run|a|--seed|x
+run|a|--log|a
+run|a|--budget|0
+run|a|--steps|1000001
+run|a|--workers|65
+run|a|--slice=
+run|a|--seed|1|--seed|2
+large
+large|0
+large|4001
 Run|script.js
 run |script.js
 --help
 replay
-replay|--seed=1|script.js
+replay|script.js|script.js
+replay|--seed|1|script.js
 accept
-accept|--workers|2|script.js
-large
-large|0
-large|4001
-run|script.js|--seed|x
-run|script.js|--log|script.js
-run|script.js|--workers|65
-run|script.js|--slice|0
-run|script.js|--budget=0
-run|script.js|--steps=1000001
-run|script.js|--strategy|fast
 accept|--script.js
 ";
 

@@ -15,14 +15,17 @@ pub struct Ran {
     pub code: u8,
     pub note: String,
     pub printed: Vec<u8>,
+    /// What is held as `log` afterwards; of no bytes where nothing is.
+    pub log: Vec<u8>,
 }
 
-/// The calls that are to fail: of the world, of the script's input, and of the output.
+/// The calls that are to fail: of the world, of the script's input, of the output, and of the log.
 #[derive(Clone, Copy)]
 pub struct Fails<'a> {
     pub world: &'a [u64],
     pub input: &'a [u64],
     pub output: &'a [u64],
+    pub log: &'a [u64],
 }
 
 /// No call fails.
@@ -30,32 +33,8 @@ pub const NONE: Fails<'static> = Fails {
     world: &[],
     input: &[],
     output: &[],
+    log: &[],
 };
-
-/// A world that holds the script as `script.js`, with room for a log.
-pub fn world_of(alloc: Global, script: &[u8], fails: Fails<'_>) -> Result<MemoryWorld, Fail> {
-    let mut world = MemoryWorld::new(alloc, 1_000_000, fails.world.to_vec(alloc)?);
-    world.hold("script.js".to_string(alloc)?, script.to_vec(alloc)?)?;
-    world.fail("script.js".to_string(alloc)?, fails.input.to_vec(alloc)?)?;
-    Ok(world)
-}
-
-/// Runs `bp` with these words in this world. Of the output the calls with these numbers fail.
-pub fn run_in<R: Threads + Wait + Sync>(
-    rt: &R,
-    alloc: Global,
-    words: &[String],
-    world: &mut MemoryWorld,
-    fails: &[u64],
-) -> Result<Ran, Fail> {
-    let mut out = MemorySink::new(alloc, 2_000_000, fails.to_vec(alloc)?)?;
-    let status = command(rt, alloc, words, world, &mut out);
-    Ok(Ran {
-        code: status.code,
-        note: status.note.as_str().to_string(alloc)?,
-        printed: out.written().to_vec(alloc)?,
-    })
-}
 
 /// Runs `bp` with these words in a world that holds the script as `script.js`.
 pub fn run_words<R: Threads + Wait + Sync>(
@@ -65,17 +44,18 @@ pub fn run_words<R: Threads + Wait + Sync>(
     script: &[u8],
     fails: Fails<'_>,
 ) -> Result<Ran, Fail> {
-    let mut world = world_of(alloc, script, fails)?;
-    run_in(rt, alloc, words, &mut world, fails.output)
-}
-
-/// The words that stand between the `|` of the line.
-pub fn words_of(alloc: Global, line: &str) -> Result<Vec<String>, Fail> {
-    let mut words = Vec::new(alloc);
-    for word in line.split("|") {
-        words.push(word.to_string(alloc)?)?;
-    }
-    Ok(words)
+    let mut world = MemoryWorld::new(alloc, 1_000_000, fails.world.to_vec(alloc)?);
+    world.hold("script.js".to_string(alloc)?, script.to_vec(alloc)?)?;
+    world.fail("script.js".to_string(alloc)?, fails.input.to_vec(alloc)?)?;
+    world.fail("log".to_string(alloc)?, fails.log.to_vec(alloc)?)?;
+    let mut out = MemorySink::new(alloc, 2_000_000, fails.output.to_vec(alloc)?)?;
+    let status = command(rt, alloc, words, &mut world, &mut out);
+    Ok(Ran {
+        code: status.code,
+        note: status.note.as_str().to_string(alloc)?,
+        printed: out.written().to_vec(alloc)?,
+        log: world.held("log").unwrap_or(b"").to_vec(alloc)?,
+    })
 }
 
 /// Runs `bp` with the words that stand between the `|` of the line.
@@ -86,7 +66,10 @@ pub fn run_with<R: Threads + Wait + Sync>(
     script: &[u8],
     fails: Fails<'_>,
 ) -> Result<Ran, Fail> {
-    let words = words_of(alloc, line)?;
+    let mut words = Vec::new(alloc);
+    for word in line.split("|") {
+        words.push(word.to_string(alloc)?)?;
+    }
     run_words(rt, alloc, &words, script, fails)
 }
 

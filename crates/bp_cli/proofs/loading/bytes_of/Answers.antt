@@ -1,5 +1,5 @@
 use Rattle.bp_cli.proofs.Endings.{too_long}
-use Rattle.bp_cli.proofs.commands.bytes_of.Goals as goal
+use Rattle.bp_cli.proofs.loading.bytes_of.Goals as goal
 
 pub returns-clause-too_long : goal.returns-clause-too_long
 returns-clause-too_long g c =

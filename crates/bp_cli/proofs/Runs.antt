@@ -1,0 +1,71 @@
+-- How a run ends, and what is held of its log.
+use Rattle.std.proofs.Common.{◌≡◌, ℕ, ◌<◌, ◌≤◌, List, [], refl, sym, subst, arith, inl, inr, lit<, Option, Some, None, Ok, Err}
+use Rattle.std.specs.Prelude.{◌-◌, ◌^◌, Result, OnOk, OnErr, IfOk, IsErrOf, IfSome, IsSomeAnd}
+use Rattle.bp_base.specs.Counts.{Rose}
+use Rattle.bp_base.specs.Worlds.{Holdings, Sets, Keeps}
+use Rattle.bp_base.specs.Pieces.{Appends, AppendsFront}
+use Rattle.js_program.specs.PlainProgram.{PlainProgram}
+use Rattle.bp_log.specs.Options.{PlainOptions}
+use Rattle.bp_code.specs.Code.{text_alone}
+use Rattle.bp_serve.specs.declared.report.Report.{Report}
+use Rattle.bp_serve.specs.declared.fault.RunFault.{RunFault}
+use Rattle.bp_serve.specs.Ends.{verdict_alone}
+use Rattle.bp_serve.specs.Logging.{LogGets, LogGetsFront}
+use Rattle.bp_serve.proofs.Way.{front_alone, unprinted as let_go}
+use Rattle.bp_cli.specs.declared.conclusion.Conclusion.{Conclusion}
+use Rattle.bp_cli.specs.Conclusions.{ended_of}
+use Rattle.bp_cli.specs.Runs.{Holds, KeepsLogFront, RunEnds}
+
+-- what a run answers says how the command ends
+pub run_ends : (r : Result Report RunFault) (c : Conclusion) (program : PlainProgram) (o : PlainOptions) (unwritten whole partly : Type 0) (before after : Option (List ℕ)) → c ≡ ended_of r →
+    OnOk r (IsSomeAnd (text_alone program o) (λ t. Appends before t after)) → OnErr r (IsSomeAnd (text_alone program o) (λ t. AppendsFront before t after)) →
+    IfOk r (λ x. verdict_alone program o ≡ Some x.verdict) → (IsErrOf r RunFault.Write → unwritten) → (IsErrOf r RunFault.LogWrite → unwritten) → OnOk r whole → OnErr r partly →
+    RunEnds program o unwritten whole partly before after c
+run_ends (Ok x) c program o unwritten whole partly before after e p f v w l k n =
+    subst (λ (y : Conclusion). RunEnds program o unwritten whole partly before after y) (sym e) (v, p, k)
+run_ends (Err RunFault.Write) c program o unwritten whole partly before after e p f v w l k n =
+    subst (λ (y : Conclusion). RunEnds program o unwritten whole partly before after y) (sym e) (w refl, f, n)
+run_ends (Err RunFault.LogWrite) c program o unwritten whole partly before after e p f v w l k n =
+    subst (λ (y : Conclusion). RunEnds program o unwritten whole partly before after y) (sym e) (l refl, f, n)
+run_ends (Err RunFault.Memory) c program o unwritten whole partly before after e p f v w l k n =
+    subst (λ (y : Conclusion). RunEnds program o unwritten whole partly before after y) (sym e) (f, n)
+
+pub on_ok_all : {T E : Type 0} (r : Result T E) (P : Type 0) → P → OnOk r P
+on_ok_all (Ok x) P h = h
+on_ok_all (Err e) P h = tt
+
+pub on_err_all : {T E : Type 0} (r : Result T E) (P : Type 0) → P → OnErr r P
+on_err_all (Ok x) P h = tt
+on_err_all (Err e) P h = h
+
+-- nothing was printed of a run
+pub unprinted : (program : PlainProgram) (o : PlainOptions) (a : Option (List ℕ)) → o.injectors ≡ 0 → IsSomeAnd (text_alone program o) (λ t. AppendsFront a t a)
+unprinted program o a i = let_go (text_alone program o) a a [] (front_alone program o a [] i refl)
+
+-- an output to which the text was written is held under its name
+held : (before : Option Holdings) (name text : List ℕ) (first written : Option (List ℕ)) (after : Option Holdings) → IfSome before (λ h. first ≡ Some []) → Appends first text written →
+    Keeps before name written after → Holds before name text after
+held None name text first written after e w k = tt
+held (Some h) name text first written after e w k =
+    let told : written ≡ Some text = subst (λ (f : Option (List ℕ)). Appends f text written) e w in
+    subst (λ (x : Option (List ℕ)). IfSome x (λ bytes. IsSomeAnd after (λ holds. Sets h name bytes holds))) told k
+
+module _ {L : Type 0} (written : L → Option (List ℕ)) where
+  pub log_held : {T E : Type 0} (r : Result T E) (before : Option Holdings) (name text : List ℕ) (first last : L) (after : Option Holdings) → IfSome before (λ h. written first ≡ Some []) →
+      OnOk r (LogGets written (Some first) text (Some last)) → Keeps before name (written last) after → OnOk r (Holds before name text after)
+  log_held (Ok x) before name text first last after e w k = held before name text (written first) (written last) after e w k
+  log_held (Err x) before name text first last after e w k = tt
+
+  pub log_held_front : {T E : Type 0} (r : Result T E) (before : Option Holdings) (name text : List ℕ) (first last : L) (after : Option Holdings) → IfSome before (λ h. written first ≡ Some []) →
+      OnErr r (LogGetsFront written (Some first) text (Some last)) → Keeps before name (written last) after → OnErr r (KeepsLogFront (Some name) before text after)
+  log_held_front (Ok x) before name text first last after e w k = tt
+  log_held_front (Err x) before name text first last after e w k = inr (w.0, w.1, w.2, held before name w.0 (written first) (written last) after e w.3 k)
+
+-- a count that rose from nothing is more than nothing
+pub risen : (a b : ℕ) → a ≡ 0 → Rose a b → 0 < b
+risen a b e (inl h) = omega (arith, e, h)
+risen a b e (inr h) = let n : 0 < 2 ^ 64 - 1 = lit< tt in subst (λ (x : ℕ). 0 < x) (sym h) n
+
+pub rose_on : (a b c : ℕ) → a ≤ b → Rose b c → Rose a c
+rose_on a b c h (inl r) = inl (omega (arith, h, r))
+rose_on a b c h (inr r) = inr r

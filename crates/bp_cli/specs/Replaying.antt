@@ -1,0 +1,83 @@
+-- A log that is replayed.
+use Rattle.std.specs.Prelude.{◌≡◌, ◌⊎◌, ℕ, List, ◌++◌, decimal, codes, Option, Some, None, Result, Ok, Err, IfSome, IsSomeAnd, unwrap_or}
+use Rattle.bp_log.specs.Logs.{record_text}
+use Rattle.bp_log.specs.declared.record.Record.{Record}
+use Rattle.bp_log.specs.declared.verdict.Verdict.{Verdict}
+use Rattle.bp_reader.specs.declared.fault.LogFault.{LogFault}
+use Rattle.bp_reader.specs.declared.fault.LogFault.TheVariants as log
+use Rattle.bp_follow.specs.declared.fault.ReplayFault.{ReplayFault}
+use Rattle.bp_follow.specs.declared.fault.ReplayFault.TheVariants.{Log, Differs, Program, Write, Memory}
+use Rattle.bp_replay.specs.Replays as replays
+use Rattle.bp_cli.specs.declared.conclusion.Conclusion.{Conclusion}
+use Rattle.bp_cli.specs.declared.conclusion.Conclusion.TheVariants.{NoCommand, Refused, Accepted, Ran, NotRead, NotWritten, NoMemory, BadLog}
+use Rattle.bp_cli.specs.Outside.{Outside, IsAsBefore}
+
+-- the conclusion where reading or writing failed or memory was wanting; where it is none of these the log is bad
+abbrev pub trouble_of : ReplayFault → Option Conclusion
+trouble_of (Log log.Version) = None
+trouble_of (Log log.Header) = None
+trouble_of (Log (log.Line n)) = None
+trouble_of (Log log.Cut) = None
+trouble_of (Log log.Read) = Some NotRead
+trouble_of (Log log.Memory) = Some NoMemory
+trouble_of (Differs number expected other) = None
+trouble_of Program = None
+trouble_of Write = Some NotWritten
+trouble_of Memory = Some NoMemory
+
+-- how a command ends whose replay ended so
+abbrev pub replayed_of : Result Verdict ReplayFault → Conclusion
+replayed_of (Ok v) = Ran v
+replayed_of (Err fault) = unwrap_or (trouble_of fault) (BadLog fault)
+
+-- the command ends as a replay of the bytes that the world holds under the name, where it tells them, which printed what a replay that ends so prints
+pub record ReplaysTo (name : List ℕ) (before after : Outside) (conclusion : Conclusion) : Type 0 where
+  pub ended : Result Verdict ReplayFault
+  pub is_conclusion : conclusion ≡ replayed_of ended
+  pub ends : IfSome before.holds (λ held. IsSomeAnd (held name) (λ bytes. replays.Ends bytes before.printed after.printed ended))
+  pub holds : after.holds ≡ before.holds
+
+-- a failure has its cause
+abbrev pub IsCaused : Type 0 → Type 0 → Conclusion → Type 0
+IsCaused unread unwritten NotRead = unread
+IsCaused unread unwritten NotWritten = unwritten
+IsCaused unread unwritten NoMemory = Unit {0}
+IsCaused unread unwritten NoCommand = Unit {0}
+IsCaused unread unwritten (Refused refusal) = Unit {0}
+IsCaused unread unwritten Accepted = Unit {0}
+IsCaused unread unwritten (Ran verdict) = Unit {0}
+IsCaused unread unwritten (BadLog fault) = Unit {0}
+
+-- the log was not opened
+abbrev pub IsUnopened : Conclusion → Type 0
+IsUnopened c = (c ≡ NotRead) ⊎ (c ≡ NoMemory)
+
+-- why the command that replays the log of that name ends so
+abbrev pub ReplayEnds : List ℕ → Type 0 → Type 0 → Outside → Outside → Conclusion → Type 0
+ReplayEnds name unread unwritten before after c =
+    IsCaused unread unwritten c × ((IsUnopened c × IsAsBefore before after) ⊎ ReplaysTo name before after c)
+
+-- ---- what a bad log is told
+
+abbrev pub expected_text : Option Record → List ℕ
+expected_text None = codes "wait"
+expected_text (Some r) = record_text r
+
+abbrev pub log_detail : LogFault → List ℕ
+log_detail log.Version = codes "version"
+log_detail log.Header = codes "header"
+log_detail (log.Line n) = codes "line " ++ decimal n
+log_detail log.Cut = codes "cut"
+log_detail log.Read = codes "read fault"
+log_detail log.Memory = codes "memory"
+
+abbrev pub detail_of : ReplayFault → List ℕ
+detail_of (Log fault) = log_detail fault
+detail_of (Differs number expected other) =
+    codes "record " ++ (decimal number ++ (codes " expected " ++ (expected_text expected ++ (codes " found " ++ record_text other))))
+detail_of Program = codes "program"
+detail_of Write = codes "write fault"
+detail_of Memory = codes "memory"
+
+abbrev pub bad_log_note : ReplayFault → List ℕ
+bad_log_note fault = codes "bad log: " ++ detail_of fault

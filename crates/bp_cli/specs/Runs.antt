@@ -1,0 +1,81 @@
+-- A run that was asked for: its text, and its log.
+use Rattle.std.specs.Prelude.{◌≡◌, ◌⊎◌, ℕ, List, ◌++◌, Option, Some, None, IfSome, IsSomeAnd}
+use Rattle.bp_base.specs.Worlds.{Holdings, Sets}
+use Rattle.bp_base.specs.Pieces.{Appends, AppendsFront}
+use Rattle.js_program.specs.PlainProgram.{PlainProgram}
+use Rattle.bp_log.specs.Header.{PlainHeader}
+use Rattle.bp_log.specs.Options.{PlainOptions}
+use Rattle.bp_log.specs.Logs.{log_text}
+use Rattle.bp_log.specs.declared.verdict.Verdict.{Verdict}
+use Rattle.bp_code.specs.Code.{records_alone, text_alone}
+use Rattle.bp_script.specs.Programs.{IsProgram}
+use Rattle.bp_args.specs.declared.command.Command.{Command}
+use Rattle.bp_args.specs.declared.command.Command.TheVariants as command
+use Rattle.bp_args.specs.declared.command.Run.{Run}
+use Rattle.bp_serve.specs.Ends.{verdict_alone}
+use Rattle.bp_cli.specs.declared.conclusion.Conclusion.{Conclusion}
+use Rattle.bp_cli.specs.declared.conclusion.Conclusion.TheVariants.{NoCommand, Refused, Accepted, Ran, NotRead, NotWritten, NoMemory, BadLog}
+use Rattle.bp_cli.specs.Outside.{Outside}
+
+-- the text is now under the name, and under each other name what was there, where the world tells what it holds
+abbrev pub Holds : Option Holdings → List ℕ → List ℕ → Option Holdings → Type 0
+Holds before name text after = IfSome before (λ held. IsSomeAnd after (λ holds. Sets held name text holds))
+
+-- the same of a front of the text
+abbrev pub HoldsFront : Option Holdings → List ℕ → List ℕ → Option Holdings → Type 0
+HoldsFront before name text after =
+    (front : List ℕ) × (rest : List ℕ) × (text ≡ front ++ rest) × Holds before name front after
+
+-- the world holds the log, where one is kept, and else what it held
+abbrev pub KeepsLog : Option (List ℕ) → Option Holdings → List ℕ → Option Holdings → Type 0
+KeepsLog None before text after = after ≡ before
+KeepsLog (Some name) before text after = Holds before name text after
+
+-- a front of the log, or no more than it held
+abbrev pub KeepsLogFront : Option (List ℕ) → Option Holdings → List ℕ → Option Holdings → Type 0
+KeepsLogFront None before text after = after ≡ before
+KeepsLogFront (Some name) before text after = (after ≡ before) ⊎ HoldsFront before name text after
+
+-- the log of a run without injectors
+abbrev pub log_alone : PlainHeader → PlainProgram → List ℕ
+log_alone header program = log_text header (records_alone program header.options)
+
+abbrev pub header_of : Run → List ℕ → PlainHeader
+header_of asked bytes = record { options = asked.options; program = bytes }
+
+-- the bytes are a program whose run under the options that were asked for ends in this verdict; its text was printed, and its log is held
+pub record RunsTo (asked : Run) (bytes : List ℕ) (before after : Outside) (v : Verdict) : Type 0 where
+  pub program : PlainProgram
+  pub is_program : IsProgram bytes program
+  pub verdict : verdict_alone program asked.options ≡ Some v
+  pub prints : IsSomeAnd (text_alone program asked.options) (λ text. Appends before.printed text after.printed)
+  pub keeps : KeepsLog asked.log before.holds (log_alone (header_of asked bytes) program) after.holds
+
+-- the bytes are a program; a front of the text of its run was printed, and a front of its log is held or nothing of it
+pub record RunsPartly (asked : Run) (bytes : List ℕ) (before after : Outside) : Type 0 where
+  pub program : PlainProgram
+  pub is_program : IsProgram bytes program
+  pub prints : IsSomeAnd (text_alone program asked.options) (λ text. AppendsFront before.printed text after.printed)
+  pub keeps : KeepsLogFront asked.log before.holds (log_alone (header_of asked bytes) program) after.holds
+
+-- Why a run of this program ends so, where writing failed or not; how much of its text was printed; and what is whole or in part besides.
+abbrev pub RunEnds : PlainProgram → PlainOptions → Type 0 → Type 0 → Type 0 → Option (List ℕ) → Option (List ℕ) → Conclusion → Type 0
+RunEnds program options unwritten whole partly before after (Ran v) =
+    (verdict_alone program options ≡ Some v) × IsSomeAnd (text_alone program options) (λ text. Appends before text after) × whole
+RunEnds program options unwritten whole partly before after NotWritten =
+    unwritten × IsSomeAnd (text_alone program options) (λ text. AppendsFront before text after) × partly
+RunEnds program options unwritten whole partly before after NoMemory =
+    IsSomeAnd (text_alone program options) (λ text. AppendsFront before text after) × partly
+RunEnds program options unwritten whole partly before after NoCommand = ⊥
+RunEnds program options unwritten whole partly before after (Refused refusal) = ⊥
+RunEnds program options unwritten whole partly before after Accepted = ⊥
+RunEnds program options unwritten whole partly before after NotRead = ⊥
+RunEnds program options unwritten whole partly before after (BadLog fault) = ⊥
+
+-- a run that is asked for has no injectors
+abbrev pub IsAlone : Option Command → Type 0
+IsAlone None = Unit {0}
+IsAlone (Some (command.Run asked)) = asked.options.injectors ≡ 0
+IsAlone (Some (command.Replay log)) = Unit {0}
+IsAlone (Some (command.Accept program)) = Unit {0}
+IsAlone (Some (command.Large n)) = Unit {0}

@@ -1,0 +1,132 @@
+//! The large program, which the command makes itself, and whose run it measures.
+ghost use Rattle.std.specs.Prelude.{◌≡◌, ◌==◌, ◌≤◌, ◌++◌, Some, IfOk, codes, count_by, decimal, string_bytes};
+ghost use Rattle.bp_base.specs.Counts.{Rose};
+ghost use Rattle.bp_code.specs.Code.{records_alone, text_alone};
+ghost use Rattle.bp_log.specs.Options.{default_options};
+ghost use Rattle.bp_serve.specs.Ends.{verdict_alone};
+ghost use Rattle.bp_cli.specs.Large.{large_program as program_of, is_selection as selects, large_line, MeasureEnds};
+
+use crate::conclusion::Conclusion;
+use bp_base::{MemorySink, Sink, write_all};
+use bp_log::{Beside, Header, Memory, Options, Record};
+use bp_script::accept;
+use bp_serve::{Report, run};
+use js_program::Program;
+use std::alloc::{AllocError, Global};
+use std::sync::Wait;
+use std::thread::Threads;
+
+/// The program before the number of its b-threads.
+const FRONT: &str =
+    "const make = i => () => { for (let r = 0; r < 4; r++) bp.sync({request: bp.Event(\"e\", i)}) }\nfor (let i = 0; i < ";
+
+/// The program behind it.
+const REST: &str = "; i++) bp.registerBThread(\"t\" + i, make(i))\n";
+
+/// Room for the text of the largest run, in bytes.
+const ROOM: u64 = 400_000;
+
+/// The program of so many b-threads. Its only error is want of memory.
+#[tactic(auto, unfolding(crate::specs::Large::large_program))]
+fn large_program(alloc: Global, count: u32) -> Result<String, Memory>
+    ensures { IfOk result (λ s. string_bytes s ≡ program_of count) }
+{
+    format!(in alloc; "{FRONT}{count}{REST}")
+}
+
+/// Whether an event was selected.
+fn is_selection(entry: &Record) -> bool
+    ensures { result ≡ selects entry.now }
+{
+    matches!(entry, Record::Sel(_))
+}
+
+/// How many events were selected.
+fn selections(records: &[Record]) -> usize
+    ensures { result ≡ count_by selects records.now }
+{
+    let mut count = 0;
+    for entry in records {
+        if is_selection(entry) {
+            count += 1;
+        }
+    }
+    count
+}
+
+/// How many lines the text has.
+fn newlines(text: &[u8]) -> usize
+    ensures { result ≡ count_by (λ byte. byte == 10) text.now }
+{
+    text.iter().filter(|byte| **byte == b'\n').count()
+}
+
+/// How many lines and how many bytes. Its only error is want of memory.
+fn sizes_of(alloc: Global, lines: usize, bytes: usize) -> Result<String, Memory>
+    ensures { IfOk result (λ s. string_bytes s ≡ decimal lines ++ (codes " bytes " ++ (decimal bytes ++ codes "\n"))) }
+{
+    format!(in alloc; "{lines} bytes {bytes}\n")
+}
+
+/// The line of a run of the program of so many b-threads. Its only error is want of memory.
+#[tactic(auto, unfolding(crate::specs::Large::large_line))]
+fn line_of(alloc: Global, count: u32, records: &[Record], text: &[u8]) -> Result<String, Memory>
+    ensures { IfOk result (λ s. string_bytes s ≡ large_line count records.now text.now) }
+{
+    let events = selections(records);
+    let sizes = sizes_of(alloc, newlines(text), text.len())?;
+    let sizes = sizes.as_str();
+    format!(in alloc; "large {count} events {events} lines {sizes}")
+}
+
+/// What the run of the program under the default options came to, and its text. Want of room for the text is want of memory.
+fn run_aside<R: Threads + Wait + Sync>(
+    rt: &R,
+    alloc: Global,
+    program: Program,
+) -> Result<(Report, MemorySink), Memory>
+    ensures verdict { IfOk result (λ p. verdict_alone program default_options ≡ Some p.0.verdict) }
+    ensures records { IfOk result (λ p. p.0.records ≡ records_alone program default_options) }
+    ensures text { IfOk result (λ p. text_alone program default_options ≡ Some p.1.written) }
+{
+    let mut sink = MemorySink::new(alloc, ROOM, Vec::new(alloc))?;
+    let Some(header) = Header::new(Options::defaults(), Vec::new(alloc)) else {
+        unreachable!()
+    };
+    let mut log: Option<MemorySink> = None;
+    let beside = Beside::defaults();
+    match run(rt, alloc, program, &header, beside, &mut sink, &mut log) {
+        Ok(report) => Ok((report, sink)),
+        Err(_) => Err(AllocError),
+    }
+}
+
+/// Runs the program of so many b-threads, and prints one line of what its run comes to.
+pub(crate) fn measure_large<R: Threads + Wait + Sync, K: Sink>(
+    rt: &R,
+    alloc: Global,
+    count: u32,
+    out: &mut K,
+) -> Conclusion
+    ensures ends { MeasureEnds count (Rose (K.faults out.old) (K.faults out.new))
+        (K.written out.old) (K.written out.new) result }
+    ensures counts { K.faults out.old ≤ K.faults out.new }
+{
+    let Ok(bytes) = large_program(alloc, count) else {
+        return Conclusion::NoMemory;
+    };
+    let program = match accept(alloc, bytes.as_str().as_bytes()) {
+        Ok(program) => program,
+        Err(fault) => return Conclusion::from(fault),
+    };
+    let Ok((report, text)) = run_aside(rt, alloc, program) else {
+        return Conclusion::NoMemory;
+    };
+    let Ok(line) = line_of(alloc, count, report.records.as_slice(), text.written()) else {
+        return Conclusion::NoMemory;
+    };
+    match write_all(out, line.as_str().as_bytes()) {
+        Ok(()) => Conclusion::Ran(report.into_verdict()),
+        Err(_) => Conclusion::NotWritten,
+    }
+}

@@ -1,0 +1,88 @@
+//! Programs that are read and accepted.
+ghost use Rattle.std.specs.Prelude.{◌≡◌, ◌⊎◌, ◌≤◌, IsErrOf, IfOk, IfErr, OnOk, vec_len};
+ghost use Rattle.bp_base.specs.Counts.{Rose};
+ghost use Rattle.bp_base.specs.Worlds.{Asks};
+ghost use Rattle.bp_script.specs.Programs.{IsProgram};
+ghost use Rattle.bp_cli.specs.Loading.{IsUnloaded};
+ghost use Rattle.bp_cli.specs.Outside.{IsUnder};
+ghost use Rattle.bp_cli.specs.Refusing.{IsTooLong};
+
+use crate::conclusion::Conclusion;
+use bp_base::{ReadError, World, WorldError, read_all};
+use bp_log::limits::MOST_BYTES;
+use bp_script::{Refusal, accept};
+use js_program::Program;
+use std::alloc::Global;
+
+/// An accepted program and its bytes.
+pub(crate) struct Loaded {
+    program: Program,
+    bytes: Vec<u8>,
+}
+
+impl Drop for Loaded {
+    fn drop(self) {
+        let Loaded {
+            program: _,
+            bytes: _,
+        } = self;
+    }
+}
+
+impl Loaded {
+    /// The program and its bytes. Takes no memory.
+    pub(crate) fn into_parts(self) -> (Program, Vec<u8>)
+        ensures { result ≡ (self.program, self.bytes) }
+    {
+        let Loaded { program, bytes } = self;
+        (program, bytes)
+    }
+}
+
+/// The bytes of a program in the world, whose input is closed again.
+fn bytes_of<W: World>(alloc: Global, world: &mut W, name: &str) -> Result<Vec<u8>, ReadError>
+    ensures bytes { IfOk result (λ v. IsUnder (W.holds world.old) name.now v.items) }
+    ensures within { IfOk result (λ v. vec_len v ≤ MOST_BYTES) }
+    ensures too_long { IsErrOf result ReadError.TooLong → IsTooLong (W.holds world.old) name.now }
+    ensures cause { IsErrOf result ReadError.Fault
+        → Rose (W.read_faults world.old) (W.read_faults world.new) }
+    ensures asked { (IsErrOf result ReadError.Memory × (W.asked world.new ≡ W.asked world.old))
+        ⊎ Asks (W.asked world.old) name.now (W.asked world.new) }
+    ensures holds { W.holds world.new ≡ W.holds world.old }
+    ensures counts { W.read_faults world.old ≤ W.read_faults world.new }
+    ensures writes { W.write_faults world.new ≡ W.write_faults world.old }
+{
+    let mut input = match world.open(name) {
+        Ok(input) => input,
+        Err(WorldError::Failed) => return Err(ReadError::Fault),
+        Err(WorldError::Memory) => return Err(ReadError::Memory),
+    };
+    let read = read_all(alloc, &mut input, u64::from(MOST_BYTES));
+    world.close_input(input);
+    read
+}
+
+/// The accepted program of that name, or how a command ends that has none.
+pub(crate) fn load<W: World>(alloc: Global, world: &mut W, name: &str) -> Result<Loaded, Conclusion>
+    ensures program { IfOk result (λ l. IsProgram l.bytes.items l.program) }
+    ensures bytes { IfOk result (λ l. IsUnder (W.holds world.old) name.now l.bytes.items) }
+    ensures within { IfOk result (λ l. vec_len l.bytes ≤ MOST_BYTES) }
+    ensures unloaded { IfErr result (IsUnloaded (W.holds world.old) name.now
+        (Rose (W.read_faults world.old) (W.read_faults world.new))) }
+    ensures asked { (IsErrOf result Conclusion.NoMemory × (W.asked world.new ≡ W.asked world.old))
+        ⊎ Asks (W.asked world.old) name.now (W.asked world.new) }
+    ensures holds { W.holds world.new ≡ W.holds world.old }
+    ensures counts { W.read_faults world.old ≤ W.read_faults world.new }
+    ensures writes { W.write_faults world.new ≡ W.write_faults world.old }
+{
+    let bytes = match bytes_of(alloc, world, name) {
+        Ok(bytes) => bytes,
+        Err(ReadError::Fault) => return Err(Conclusion::NotRead),
+        Err(ReadError::TooLong) => return Err(Conclusion::Refused(Refusal::TooLong)),
+        Err(ReadError::Memory) => return Err(Conclusion::NoMemory),
+    };
+    match accept(alloc, &bytes) {
+        Ok(program) => Ok(Loaded { program, bytes }),
+        Err(fault) => Err(Conclusion::from(fault)),
+    }
+}

@@ -1,0 +1,68 @@
+//! Runs that words ask for.
+ghost use Rattle.std.specs.Prelude.{◌≡◌, ◌⊎◌, ◌≤◌, Some};
+ghost use Rattle.bp_base.specs.Counts.{Rose};
+ghost use Rattle.bp_base.specs.Worlds.{Asks};
+ghost use Rattle.bp_cli.specs.Runs.{Holds, KeepsLogFront, log_alone, RunEnds};
+
+use crate::conclusion::Conclusion;
+use bp_base::{MemorySink, Sink, World, WorldError};
+use bp_log::{Beside, Header};
+use bp_serve::run;
+use js_program::Program;
+use std::alloc::Global;
+use std::sync::Wait;
+use std::thread::Threads;
+
+/// Runs the program, and keeps no log.
+pub(crate) fn run_unlogged<R: Threads + Wait + Sync, K: Sink>(
+    rt: &R,
+    alloc: Global,
+    program: Program,
+    header: &Header,
+    beside: Beside,
+    out: &mut K,
+) -> Conclusion
+    requires alone { header.now.options.injectors ≡ 0 }
+    ensures ends { RunEnds program header.now.options (Rose (K.faults out.old) (K.faults out.new))
+        (Unit {0}) (Unit {0}) (K.written out.old) (K.written out.new) result }
+    ensures counts { K.faults out.old ≤ K.faults out.new }
+{
+    let mut log: Option<MemorySink> = None;
+    let ended = run(rt, alloc, program, header, beside, out, &mut log);
+    Conclusion::of(ended)
+}
+
+/// Runs the program, and keeps its log under the name.
+pub(crate) fn run_logged<R: Threads + Wait + Sync, W: World, K: Sink>(
+    rt: &R,
+    alloc: Global,
+    program: Program,
+    header: &Header,
+    beside: Beside,
+    name: &str,
+    world: &mut W,
+    out: &mut K,
+) -> Conclusion
+    requires alone { header.now.options.injectors ≡ 0 }
+    ensures ends { let log = log_alone header.now program in RunEnds program header.now.options
+        (Rose (K.faults out.old) (K.faults out.new) ⊎ Rose (W.write_faults world.old) (W.write_faults world.new))
+        (Holds (W.holds world.old) name.now log (W.holds world.new))
+        (KeepsLogFront (Some name.now) (W.holds world.old) log (W.holds world.new))
+        (K.written out.old) (K.written out.new) result }
+    ensures asked { ((result ≡ Conclusion.NoMemory) × (W.asked world.new ≡ W.asked world.old))
+        ⊎ Asks (W.asked world.old) name.now (W.asked world.new) }
+    ensures counts { K.faults out.old ≤ K.faults out.new }
+    ensures world_counts { W.write_faults world.old ≤ W.write_faults world.new }
+    ensures reads { W.read_faults world.new ≡ W.read_faults world.old }
+{
+    let output = match world.create(name) {
+        Ok(output) => output,
+        Err(WorldError::Failed) => return Conclusion::NotWritten,
+        Err(WorldError::Memory) => return Conclusion::NoMemory,
+    };
+    let mut log = Some(output);
+    let ended = run(rt, alloc, program, header, beside, out, &mut log);
+    let Some(output) = log else { unreachable!() };
+    world.close_output(name, output);
+    Conclusion::of(ended)
+}
