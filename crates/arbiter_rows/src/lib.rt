@@ -1,7 +1,9 @@
-//! Tests of the arbiter, as tables in which a line is a program, what is done with its arbiter by hand,
-//! and what is told of the run.
+//! Tests of the arbiter and of floors, as tables in which a line is a program, what is done with it by
+//! hand, and what is told of it.
 #![tactic(auto)]
 
+#[cfg(test)]
+mod floors;
 #[cfg(test)]
 mod rows;
 #[cfg(test)]

@@ -14,9 +14,9 @@ ghost use Rattle.bp_run.specs.Story as story;
 ghost use Rattle.bp_thread.specs.declared.job.Job.{Job as Lent};
 ghost use Rattle.bp_thread.specs.Carried.{HaveDistinctNumbers};
 ghost use Rattle.bp_floor.specs.declared.phase.Phase.TheVariants as phase;
-ghost use Rattle.bp_floor.specs.Floors.{is_idle, phase_of};
+ghost use Rattle.bp_floor.specs.Floors.{HadMemory, is_idle, phase_of};
 ghost use Rattle.bp_arbiter.specs.declared.picked.Picked.TheVariants as picked;
-ghost use Rattle.bp_arbiter.specs.Arbiters.{opened, code_in, options_in, stand_in, Recounts, coming, StandsFor, StandsSomewhere, Tells, is_lent, HadMemory, IsGivenUp, Keeps, Shows};
+ghost use Rattle.bp_arbiter.specs.Arbiters.{opened, code_in, options_in, stand_in, Recounts, coming, StandsFor, StandsSomewhere, Tells, is_lent, IsGivenUp, Keeps, Shows};
 ghost use Rattle.bp_arbiter.specs.Absorbing.{is_failed, fits, ComesBack, with_item, absorbed};
 ghost use Rattle.bp_arbiter.specs.Picking.{picked_of, after_pick, phase_after};
 ghost use Rattle.bp_arbiter.specs.Lending.{AreOut, AreBack, AreReturned};
@@ -260,7 +260,7 @@ impl Arbiter {
             (stand_in self.new).transitions ≡ (stand_in self.old).transitions + 1) }
         ensures ground { self.new.floor.base ≡ self.old.floor.base }
         ensures options { options_in self.new ≡ options_in self.old }
-        ensures memory { MatchResult result (λ _. HadMemory self.old self.new)
+        ensures memory { MatchResult result (λ _. HadMemory self.old.broken self.new.broken)
             (λ _. IsGivenUp (λ lent. lent ≡ []) self.old self.new) }
     {
         if self.broken {
@@ -288,7 +288,7 @@ impl Arbiter {
         ensures records { self.new.records ≡ self.old.records }
         ensures ground { self.new.floor.base ≡ self.old.floor.base }
         ensures options { options_in self.new ≡ options_in self.old }
-        ensures memory { MatchResult result (λ _. HadMemory self.old self.new)
+        ensures memory { MatchResult result (λ _. HadMemory self.old.broken self.new.broken)
             (λ _. IsGivenUp (λ lent. lent ≡ []) self.old self.new) }
     {
         if self.broken {
@@ -323,7 +323,7 @@ impl Arbiter {
             length (stand_in self.old).threads < length (stand_in self.new).threads) }
         ensures program { self.new.floor.base.program ≡ self.old.floor.base.program }
         ensures options { options_in self.new ≡ options_in self.old }
-        ensures memory { MatchResult result (λ _. HadMemory self.old self.new)
+        ensures memory { MatchResult result (λ _. HadMemory self.old.broken self.new.broken)
             (λ _. IsGivenUp (AreReturned self.old jobs.items) self.old self.new) }
     {
         if self.broken {

@@ -1,4 +1,5 @@
 pub mod Lists
+pub mod Sweeping
 pub mod Queue
 pub mod Places
 pub mod Forgetting

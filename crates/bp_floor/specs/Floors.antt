@@ -29,6 +29,7 @@ use Rattle.bp_floor.specs.declared.went.Went.TheVariants.{Moved, Stopped}
 use Rattle.bp_floor.specs.Programs.{code_of}
 use Rattle.bp_floor.specs.Seating.{is_waiting, is_ready, where_from, stated_from, AreOwn}
 use Rattle.bp_floor.specs.Boards.{pair_of}
+use Rattle.bp_floor.specs.Calls.{HandlersCall}
 use Rattle.bp_floor.specs.Forgetting.{forget, forgotten, AreGoing}
 use Rattle.bp_floor.specs.Kept.{Running, AreBelow, Rises, runs_in}
 use Rattle.bp_floor.specs.Lending.{AreDone, filled_pair, standing}
@@ -119,6 +120,7 @@ pub record IsPhased (f : PlainFloor) : Type 0 where
   pub grounded : f.base ≡ ground_at f.base.program f.options.budget f.pair.entries
   pub alone : RunsAlone f.pair.entries
   pub going : AreGoing f.pair.stand.threads f.pair.entries
+  pub handlers : HandlersCall f.pair.entries
   pub few : length f.pair.stand.threads ≤ MOST_THREADS
   pub room : length f.pair.stand.queue ≤ MOST_WAITING
   pub light : f.pair.stand.weight ≤ MOST_WEIGHT
@@ -130,9 +132,9 @@ pub record IsSealed (f : PlainFloor) (jobs : List Job) (g : PlainFloor) : Type 0
   pub phase_is : g.phase ≡ phase_of g.pair
 
 -- memory was not wanting before, and is not now
-pub record HadMemory (old new : PlainFloor) : Type 0 where
-  pub before : old.broken ≡ false
-  pub after : new.broken ≡ false
+pub record HadMemory (was is : Bool) : Type 0 where
+  pub before : was ≡ false
+  pub after : is ≡ false
 
 -- what stays after want of memory
 pub record IsGivenUp (old new : PlainFloor) : Type 0 where

@@ -1,5 +1,5 @@
 -- B-threads with their jobs.
-use Rattle.std.specs.Prelude.{◌≡◌, ℕ, suc, Bool, not, ◌&&◌, List, [], ◌∷◌, Option, Some, None, is_some, is_none, if◌then◌else◌}
+use Rattle.std.specs.Prelude.{◌≡◌, ◌≤◌, ℕ, suc, Bool, not, ◌&&◌, List, [], ◌∷◌, Option, Some, None, is_some, is_none, if◌then◌else◌, length, slice_get}
 use Rattle.std.specs.List.{cons_option}
 use Rattle.js_data.specs.Event.{PlainEvent}
 use Rattle.js_value.specs.Value.{PlainSet}
@@ -81,3 +81,8 @@ AreOwn program o n (s ∷ ss) = IsOwnIn program o n s.job × AreOwn program o (s
 -- one that has ended lets its job go
 abbrev pub swept : PlainSeat → PlainSeat
 swept s = if s.ended then record s { job = None } else s
+
+-- All but some of those from this first number on, below this end, have let their jobs go if they ended.
+pub record AreSweptBut (first end : ℕ) (ss : List PlainSeat) : Type 0 where
+  pub few : end ≤ length ss
+  pub swept_at : (i : ℕ) (s : PlainSeat) → slice_get ss i ≡ Some s → (first ≤ i → end ≤ i) → swept s ≡ s

@@ -26,6 +26,6 @@ pub(crate) use going::Outlook;
 pub(crate) use lines::LineList;
 pub(crate) use part::{Ending, Part, Ran, Rans};
 pub use phase::Phase;
-pub(crate) use seats::{Seat, Seats};
+pub(crate) use seats::Seats;
 pub(crate) use touching::Touch;
 pub use went::Went;

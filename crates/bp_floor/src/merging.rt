@@ -13,7 +13,7 @@ ghost use Rattle.bp_floor.specs.Parts.{ending_seen, part_seen};
 ghost use Rattle.bp_floor.specs.Boards.{stand_of, pair_of, retired};
 ghost use Rattle.bp_floor.specs.Kept.{IsBelow, IsKept, IsOn, Running};
 
-use crate::{Board, Ending, Entry, Part, Seat};
+use crate::{Board, Ending, Entry, Part};
 use bp_log::limits::{MOST_THREADS, MOST_WAITING};
 use bp_log::{Line, Memory, Options, Place, Verdict};
 use bp_thread::Job;
@@ -83,11 +83,7 @@ impl Board {
             Vec::new(alloc),
             budget,
         )?;
-        self.seats.push(Seat {
-            name,
-            job: Some(job),
-            ended: false,
-        })?;
+        self.seats.push(name, job)?;
         self.wave.push(Entry::Runs(number))
     }
 

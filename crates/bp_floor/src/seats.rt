@@ -1,7 +1,7 @@
 //! B-threads with their jobs.
-ghost use Rattle.std.specs.Prelude.{◌≡◌, ◌<◌, ◌^◌, ◌∷◌, ◌++◌, [], length, map, not, count_by, option_map, OnOk, Some, None, slice_get, true};
+ghost use Rattle.std.specs.Prelude.{◌≡◌, ◌<◌, ◌≤◌, ◌+◌, ◌^◌, ℕ, ◌∷◌, ◌++◌, [], length, map, not, count_by, option_map, OnOk, Some, None, slice_get, true, false};
 ghost use Rattle.bp_run.specs.Configuration.{change, name_in};
-ghost use Rattle.bp_floor.specs.Seating.{PlainSeat, seated, swept};
+ghost use Rattle.bp_floor.specs.Seating.{PlainSeat, seated, swept, AreSweptBut};
 ghost use Rattle.bp_floor.specs.Seated.{seat_seen, job_at};
 
 use bp_log::Memory;
@@ -30,14 +30,48 @@ impl Drop for Seat {
     }
 }
 
+/// Which b-threads may have ended since the last sweep: those from a first number on, below an end.
+#[derive(Clone, Copy)]
+struct Unswept {
+    first: usize,
+    end: usize,
+}
+
+impl Unswept {
+    /// None.
+    const NONE: Unswept = Unswept {
+        first: usize::MAX,
+        end: 0,
+    };
+
+    /// One more, if it has ended. Takes no memory.
+    fn mark(&mut self, number: usize, ended: bool)
+        requires { number + 1 < 2 ^ 64 }
+        ensures first { self.new.first ≤ self.old.first }
+        ensures end { self.old.end ≤ self.new.end }
+        ensures few { (most : ℕ) → self.old.end ≤ most → number < most → self.new.end ≤ most }
+        ensures among { ended ≡ true → (self.new.first ≤ number) × (number < self.new.end) }
+    {
+        if !ended {
+            return;
+        }
+        self.first = self.first.min(number);
+        self.end = self.end.max(number + 1);
+    }
+}
+
 /// The b-threads, in the order in which they registered. Contracts see the list.
 pub struct Seats {
     items: Vec<Seat>,
+    unswept: Unswept,
 }
 
 impl Drop for Seats {
     fn drop(self) {
-        let Seats { items: _ } = self;
+        let Seats {
+            items: _,
+            unswept: _,
+        } = self;
     }
 }
 
@@ -45,7 +79,7 @@ impl Model for Seats {
     ghost use Rattle.std.specs.Prelude.{List, map};
     ghost use Rattle.std.specs.Coded.{codes};
     ghost use Rattle.bp_thread.specs.contracts.job.Job as e;
-    ghost use Rattle.bp_floor.specs.Seating.{PlainSeat};
+    ghost use Rattle.bp_floor.specs.Seating.{PlainSeat, AreSweptBut};
     ghost use Rattle.bp_floor.specs.Seated.{seat_seen};
 
     ghost Value = { List PlainSeat };
@@ -53,6 +87,8 @@ impl Model for Seats {
     ghost coded = { Prim.hlevel (codes, e.the_row.coded) };
 
     ghost view = { λ l. map seat_seen l.items.items };
+
+    ghost invariant = { λ l. AreSweptBut l.unswept.first l.unswept.end (map seat_seen l.items.items) };
 }
 
 impl Seats {
@@ -62,6 +98,7 @@ impl Seats {
     {
         Seats {
             items: Vec::new(alloc),
+            unswept: Unswept::NONE,
         }
     }
 
@@ -72,11 +109,19 @@ impl Seats {
         self.items.len()
     }
 
-    /// Puts a b-thread at the end.
-    pub fn push(&mut self, seat: Seat) -> Result<(), Memory>
-        ensures { OnOk result (self.new ≡ self.old ++ seat_seen seat ∷ []) }
+    /// Puts a b-thread that goes on at the end, with its job.
+    pub fn push(&mut self, name: Text, job: Job) -> Result<(), Memory>
+        ensures { OnOk result (self.new ≡ self.old ++ record {
+          name = name;
+          job = Some job;
+          ended = false;
+        } ∷ []) }
     {
-        self.items.push(seat)?;
+        self.items.push(Seat {
+            name,
+            job: Some(job),
+            ended: false,
+        })?;
         Ok(())
     }
 
@@ -110,6 +155,7 @@ impl Seats {
         requires { number < length self.old }
         ensures { self.new ≡ change (λ s. record s { job = Some job }) number self.old }
     {
+        self.unswept.mark(number, self.items[number].ended);
         self.items[number].job = Some(job);
     }
 
@@ -118,6 +164,7 @@ impl Seats {
         requires { number < length self.old }
         ensures { self.new ≡ change (λ s. record s { ended = true }) number self.old }
     {
+        self.unswept.mark(number, true);
         self.items[number].ended = true;
     }
 
@@ -152,12 +199,22 @@ impl Seats {
         }
     }
 
-    /// Those that have ended let their jobs go. Takes no memory.
+    fn sweep_between(&mut self, first: usize, end: usize)
+        requires { AreSweptBut first end self.old }
+        ensures { self.new ≡ map swept self.old }
+    {
+        for number in first..end {
+            self.sweep_one(number);
+        }
+    }
+
+    /// Those that have ended let their jobs go. Takes no memory, and a constant for each number between
+    /// those that ended since the last sweep.
     pub fn sweep(&mut self)
         ensures { self.new ≡ map swept self.old }
     {
-        for number in 0..self.len() {
-            self.sweep_one(number);
-        }
+        let Unswept { first, end } = self.unswept;
+        self.sweep_between(first, end);
+        self.unswept = Unswept::NONE;
     }
 }

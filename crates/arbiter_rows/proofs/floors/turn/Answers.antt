@@ -1,0 +1,34 @@
+use Rattle.std.proofs.Common.{◌≡◌, ◌∙◌, ap, sym, arith}
+use Rattle.bp_log.specs.Options.{PlainOptions}
+use Rattle.bp_serve.proofs.Way.{can_run_here, carried_at}
+use Rattle.arbiter_rows.proofs.Floors.{IsOut, out, back, goes_on}
+use Rattle.arbiter_rows.proofs.floors.turn.Goals as goal
+
+pub carry_all-requires-clause-some_budget : goal.carry_all-requires-clause-some_budget
+carry_all-requires-clause-some_budget c =
+    let some = (c.budget-budget.ensures.within).some_budget in
+    let same = c.budget-budget.ensures.budget in
+    omega (arith, some, same)
+
+pub carry_all-requires-clause-can_run : goal.carry_all-requires-clause-can_run
+carry_all-requires-clause-can_run c =
+    let f = c.args.floor.now in
+    let g = c.lend.new.self in
+    let jobs = c.in_ok-jobs.jobs.items in
+    let goes = c.requires.goes in
+    let e = c.in_ok-jobs.ensures in
+    let i : IsOut f g jobs = record { phased = c.keeps.ensures goes.whole; goes = goes; lent = e.lent; filled = e.filled; base = c.lend.ensures.ground; options = c.lend.ensures.options } in
+    can_run_here g.base _ g.options.budget c.budget-budget.result jobs c.ground.ensures
+    (c.budget-budget.ensures.budget ∙ ap (λ (o : PlainOptions). o.budget) (c.options.ensures ∙ sym c.lend.ensures.options)) (out f g jobs i).can_run
+
+pub seal-requires-clause-back : goal.seal-requires-clause-back
+seal-requires-clause-back c = λ _.
+    let f = c.args.floor.now in
+    let g = c.lend.new.self in
+    let jobs = c.in_ok-jobs.jobs.items in
+    let goes = c.requires.goes in
+    let e = c.in_ok-jobs.ensures in
+    let i : IsOut f g jobs = record { phased = c.keeps.ensures goes.whole; goes = goes; lent = e.lent; filled = e.filled; base = c.lend.ensures.ground; options = c.lend.ensures.options } in
+    back f g jobs c.carry_all.new.jobs.items i
+    (carried_at g.base _ g.options.budget c.budget-budget.result jobs c.carry_all.new.jobs.items c.ground.ensures
+    (c.budget-budget.ensures.budget ∙ ap (λ (o : PlainOptions). o.budget) (c.options.ensures ∙ sym c.lend.ensures.options)) c.in_ok-carry_all.ensures)
