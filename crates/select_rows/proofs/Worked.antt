@@ -5,10 +5,11 @@ use Rattle.js_data.specs.Event.{PlainEvent}
 use Rattle.js_value.specs.Value.{PlainSet, nothing, only}
 use Rattle.js_meaning.specs.State.{Ground}
 use Rattle.bp_log.specs.declared.options.Strategy.{Strategy}
-use Rattle.bp_log.specs.declared.options.Strategy.TheVariants.{Ordered, Priority}
+use Rattle.bp_log.specs.declared.options.Strategy.TheVariants.{Simple, Ordered, Priority}
 use Rattle.bp_meaning.specs.Membership.{member}
 use Rattle.bp_run.specs.Selecting.{Live, Has, selectable}
 use Rattle.bp_run.specs.Choosing.{remaining, choice}
+use Rattle.bp_select.specs.Benches.{placed}
 
 abbrev event : List ℕ → PlainEvent
 event name = record { name = name; extra = None }
@@ -55,12 +56,18 @@ module _ (base : Ground) (budget : ℕ) (word : ℕ → ℕ) (drawn : ℕ) where
   unfolding choice selectable
   priority_draws_one = refl
 
-  -- with a and c in the queue
-
-  pub requests_come_before_the_queue : choice has word Ordered three (a ∷ c ∷ []) drawn ≡ Ok (Some (record { event = b; place = None; drawn = drawn }))
+  pub simple_draws_as_priority : choice has word Simple three [] drawn ≡ choice has word Priority three [] drawn
   unfolding choice selectable
-  requests_come_before_the_queue = refl
+  simple_draws_as_priority = refl
 
-  pub queue_without_requests : (s : Strategy) → choice has word s (blocks_a ∷ []) (a ∷ c ∷ []) drawn ≡ Ok (Some (record { event = c; place = Some 1; drawn = drawn }))
+  -- whatever stands in the queue
+  pub requests_come_before_the_queue : (s : Strategy) (queue : List PlainEvent) → choice has word s three queue drawn ≡ choice has word s three [] drawn
+  unfolding choice selectable
+  requests_come_before_the_queue s queue = refl
+
+  pub two_have_ended : placed 0 None (placed 1 None three) ≡ blocks_a ∷ []
+  two_have_ended = refl
+
+  pub queue_without_requests : (s : Strategy) → choice has word s (placed 0 None (placed 1 None three)) (a ∷ c ∷ []) drawn ≡ Ok (Some (record { event = c; place = Some 1; drawn = drawn }))
   unfolding choice selectable
   queue_without_requests s = refl

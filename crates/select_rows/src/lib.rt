@@ -1,9 +1,7 @@
-//! Tests of the bench and of the words of the random choice.
+//! Tests of the bench.
 #![tactic(auto)]
 
 #[cfg(test)]
 mod bench;
 #[cfg(test)]
 mod rows;
-#[cfg(test)]
-mod words;
