@@ -27,7 +27,8 @@ use Rattle.bp_cli.specs.Outside.{Outside, IsAsBefore, IsUnder}
 use Rattle.bp_cli.specs.Asking.{names_of, WasAsked, AsksFor, AsksIn}
 use Rattle.bp_cli.specs.Conclusions.{code_of, conclusion_of, IsStatusOf}
 use Rattle.bp_cli.specs.Endings.{EndsSo, IsGiven, TellsPartly, ComesTo, Accepts, EndsIn, Ends}
-use Rattle.bp_cli.specs.Large.{large_program, line_of, MeasureEnds}
+use Rattle.bp_large.specs.Large.{large_program}
+use Rattle.bp_cli.specs.Large.{line_of, MeasureEnds}
 use Rattle.bp_cli.specs.Loading.{IsUnloaded}
 use Rattle.bp_cli.specs.Replaying.{ReplayEnds, IsCaused, replayed_of}
 use Rattle.bp_cli.specs.Refusing.{IsTooLong, program_of, Refuses}
@@ -165,7 +166,7 @@ asks_logged asked name program o unwritten whole partly b a before mid after (Ba
 -- measuring the large program asks for nothing
 pub asks_measured : (n : ℕ) (unwritten : Type 0) (b a : Option (List ℕ)) (before : Option (List (List ℕ))) (conclusion : Conclusion) → MeasureEnds n unwritten b a conclusion → AsksIn (Some (command.Large n)) before before conclusion
 asks_measured n unwritten b a before (Ran v) m = ([], refl, asks_none before)
-asks_measured n unwritten b a before (Refused refusal) m = ([], refl, asks_none before)
+asks_measured n unwritten b a before (Refused refusal) m = absurd m
 asks_measured n unwritten b a before NotWritten m = ([], refl, asks_none before)
 asks_measured n unwritten b a before NoMemory m = ([], ([], refl), asks_none before)
 asks_measured n unwritten b a before NoCommand m = absurd m
@@ -297,7 +298,7 @@ logged_given asked program run bytes name log said header unread said_unwritten 
 pub measured : (n : ℕ) (unread unwritten : Type 0) (before after : Outside) (conclusion : Conclusion) → after.holds ≡ before.holds → MeasureEnds n unwritten before.printed after.printed conclusion →
     EndsIn (Some (command.Large n)) unread unwritten before after conclusion
 measured n unread unwritten before after (Ran v) h m = (large_program n, refl, (m, h))
-measured n unread unwritten before after (Refused refusal) h m = (large_program n, refl, (m.0, (m.1, h)))
+measured n unread unwritten before after (Refused refusal) h m = absurd m
 measured n unread unwritten before after NotWritten h m = (large_program n, refl, (m.0, (m.1, h)))
 measured n unread unwritten before after NoMemory h m = inl (m, h)
 measured n unread unwritten before after NoCommand h m = absurd m
@@ -307,7 +308,7 @@ measured n unread unwritten before after (BadLog fault) h m = absurd m
 
 weaker_measure : (n : ℕ) (unwritten more : Type 0) (b a : Option (List ℕ)) (conclusion : Conclusion) → MeasureEnds n unwritten b a conclusion → MeasureEnds n (unwritten ⊎ more) b a conclusion
 weaker_measure n unwritten more b a (Ran v) m = m
-weaker_measure n unwritten more b a (Refused refusal) m = m
+weaker_measure n unwritten more b a (Refused refusal) m = absurd m
 weaker_measure n unwritten more b a NotWritten m = (inl m.0, m.1)
 weaker_measure n unwritten more b a NoMemory m = m
 weaker_measure n unwritten more b a NoCommand m = absurd m

@@ -10,7 +10,8 @@ use Rattle.bp_cli.specs.declared.conclusion.Conclusion.TheVariants.{NoCommand, R
 use Rattle.bp_cli.specs.Outside.{Outside, IsAsBefore, IsUnder}
 use Rattle.bp_cli.specs.Texts.{SaysAccepted, SaysAcceptedPartly}
 use Rattle.bp_cli.specs.Runs.{RunsTo, RunsPartly}
-use Rattle.bp_cli.specs.Large.{large_program, MeasuresTo, MeasuresPartly}
+use Rattle.bp_large.specs.Large.{large_program}
+use Rattle.bp_cli.specs.Large.{MeasuresTo, MeasuresPartly}
 use Rattle.bp_cli.specs.Conclusions.{IsStatusOf}
 use Rattle.bp_cli.specs.Asking.{AsksIn}
 use Rattle.bp_cli.specs.Replaying.{ReplayEnds}

@@ -1,4 +1,4 @@
--- The large program, and what is printed of it.
+-- What is printed of the large program.
 use Rattle.std.specs.Prelude.{◌≡◌, ◌==◌, ℕ, Bool, true, false, List, ◌++◌, length, count_by, decimal, codes, Option, Some, IsSomeAnd}
 use Rattle.bp_base.specs.Pieces.{Appends, AppendsFront}
 use Rattle.js_program.specs.PlainProgram.{PlainProgram}
@@ -7,16 +7,11 @@ use Rattle.bp_log.specs.declared.record.Record.{Record}
 use Rattle.bp_log.specs.declared.record.Record.TheVariants.{In, Bad, Eof, Sel, End}
 use Rattle.bp_log.specs.declared.verdict.Verdict.{Verdict}
 use Rattle.bp_code.specs.Code.{records_alone, text_alone}
-use Rattle.bp_script.specs.Programs.{IsProgram, IsRefused}
+use Rattle.bp_script.specs.Programs.{IsProgram}
+use Rattle.bp_large.specs.Large.{large_program}
 use Rattle.bp_serve.specs.Ends.{verdict_alone}
 use Rattle.bp_cli.specs.declared.conclusion.Conclusion.{Conclusion}
 use Rattle.bp_cli.specs.declared.conclusion.Conclusion.TheVariants.{NoCommand, Refused, Accepted, Ran, NotRead, NotWritten, NoMemory, BadLog}
-
--- so many b-threads, of which each requests an event of its own four times
-unfoldable pub large_program : ℕ → List ℕ
-large_program n =
-    codes "const make = i => () => { for (let r = 0; r < 4; r++) bp.sync({request: bp.Event(\"e\", i)}) }\nfor (let i = 0; i < "
-    ++ decimal n ++ codes "; i++) bp.registerBThread(\"t\" + i, make(i))\n"
 
 abbrev pub is_selection : Record → Bool
 is_selection (Sel e) = true
@@ -48,13 +43,13 @@ pub record MeasuresPartly (n : ℕ) (before after : Option (List ℕ)) : Type 0 
   pub is_program : IsProgram (large_program n) program
   pub prints : IsSomeAnd (text_alone program default_options) (λ text. AppendsFront before (line_of n program text) after)
 
--- why measuring the program of so many b-threads ends so, where writing failed or not
+-- why measuring the program of so many b-threads ends so, where writing failed or not: it is never refused
 abbrev pub MeasureEnds : ℕ → Type 0 → Option (List ℕ) → Option (List ℕ) → Conclusion → Type 0
 MeasureEnds n unwritten before after (Ran v) = MeasuresTo n before after v
-MeasureEnds n unwritten before after (Refused refusal) = IsRefused (large_program n) refusal × (after ≡ before)
 MeasureEnds n unwritten before after NotWritten = unwritten × MeasuresPartly n before after
 MeasureEnds n unwritten before after NoMemory = after ≡ before
 MeasureEnds n unwritten before after NoCommand = ⊥
+MeasureEnds n unwritten before after (Refused refusal) = ⊥
 MeasureEnds n unwritten before after Accepted = ⊥
 MeasureEnds n unwritten before after NotRead = ⊥
 MeasureEnds n unwritten before after (BadLog fault) = ⊥

@@ -1,38 +1,23 @@
-//! The large program, which the command makes itself, and whose run it measures.
+//! The run of the large program, which the command measures.
 ghost use Rattle.std.specs.Prelude.{◌≡◌, ◌==◌, ◌≤◌, ◌++◌, Some, IfOk, codes, count_by, decimal, string_bytes};
 ghost use Rattle.bp_base.specs.Counts.{Rose};
 ghost use Rattle.bp_code.specs.Code.{records_alone, text_alone};
 ghost use Rattle.bp_log.specs.Options.{default_options};
 ghost use Rattle.bp_serve.specs.Ends.{verdict_alone};
-ghost use Rattle.bp_cli.specs.Large.{large_program as program_of, is_selection as selects, large_line, MeasureEnds};
+ghost use Rattle.bp_cli.specs.Large.{is_selection as selects, large_line, MeasureEnds};
 
 use crate::conclusion::Conclusion;
 use bp_base::{MemorySink, Sink, write_all};
+use bp_large::large_program;
 use bp_log::{Beside, Header, Memory, Options, Record};
-use bp_script::accept;
 use bp_serve::{Report, run};
 use js_program::Program;
 use std::alloc::{AllocError, Global};
 use std::sync::Wait;
 use std::thread::Threads;
 
-/// The program before the number of its b-threads.
-const FRONT: &str =
-    "const make = i => () => { for (let r = 0; r < 4; r++) bp.sync({request: bp.Event(\"e\", i)}) }\nfor (let i = 0; i < ";
-
-/// The program behind it.
-const REST: &str = "; i++) bp.registerBThread(\"t\" + i, make(i))\n";
-
 /// Room for the text of the largest run, in bytes.
 const ROOM: u64 = 400_000;
-
-/// The program of so many b-threads. Its only error is want of memory.
-#[tactic(auto, unfolding(crate::specs::Large::large_program))]
-fn large_program(alloc: Global, count: u32) -> Result<String, Memory>
-    ensures { IfOk result (λ s. string_bytes s ≡ program_of count) }
-{
-    format!(in alloc; "{FRONT}{count}{REST}")
-}
 
 /// Whether an event was selected.
 fn is_selection(entry: &Record) -> bool
@@ -112,12 +97,8 @@ pub(crate) fn measure_large<R: Threads + Wait + Sync, K: Sink>(
         (K.written out.old) (K.written out.new) result }
     ensures counts { K.faults out.old ≤ K.faults out.new }
 {
-    let Ok(bytes) = large_program(alloc, count) else {
+    let Ok(program) = large_program(alloc, count) else {
         return Conclusion::NoMemory;
-    };
-    let program = match accept(alloc, bytes.as_str().as_bytes()) {
-        Ok(program) => program,
-        Err(fault) => return Conclusion::from(fault),
     };
     let Ok((report, text)) = run_aside(rt, alloc, program) else {
         return Conclusion::NoMemory;

@@ -1,5 +1,5 @@
 //! Jobs that are carried on in the calling thread.
-ghost use Rattle.std.specs.Prelude.{◌≡◌, ◌↔◌, IfOk, OnOk, IsSome, IsTrue, None, is_some};
+ghost use Rattle.std.specs.Prelude.{◌≡◌, ◌<◌, ◌↔◌, IfOk, OnOk, IsSome, IsTrue, None, is_some};
 ghost use Rattle.js_frames.specs.Places.{plain_ground};
 ghost use Rattle.bp_thread.specs.Jobs.{plain_job, IsOf};
 ghost use Rattle.bp_pool.specs.Carrying.{AreOf, AreOpen, IsCarriedOn, IsDone, Each};
@@ -9,6 +9,10 @@ use bp_thread::Job;
 use js_data::Memory;
 use js_frames::Ground;
 use std::sync::Wait;
+
+/// The nodes that a job begins in a round by slices smaller than that, so that a round does not cost its threads more
+/// than its nodes.
+const ROUND: u64 = 10_000;
 
 /// Whether the job has its outcome.
 pub(crate) fn has_outcome(job: &Job) -> bool
@@ -30,7 +34,7 @@ pub(crate) fn look(ground: &Ground, jobs: &mut [Job], slice: u64) -> Result<(), 
 }
 
 /// One slice of the job, of which the gate is told. Its only error is want of memory.
-pub(crate) fn gated_slice<G: Gate>(
+fn gated_slice<G: Gate>(
     ground: &Ground,
     job: &mut Job,
     slice: u64,
@@ -47,6 +51,28 @@ pub(crate) fn gated_slice<G: Gate>(
     let sliced = job.slice(ground, slice);
     gate.after(number, matches!(sliced, Ok(false)));
     sliced
+}
+
+/// Carries the job on by a round: by one slice, or by as many small ones as begin a round's nodes, or by fewer to its
+/// outcome. Its only error is want of memory.
+pub(crate) fn carry_a_round<G: Gate>(
+    ground: &Ground,
+    job: &mut Job,
+    slice: u64,
+    gate: &G,
+) -> Result<(), Memory>
+    requires some_slice { 0 < slice }
+    requires program { IsOf (plain_ground ground.now).program job.old }
+    requires open { (plain_job job.old).outcome ≡ None }
+    ensures program { IsOf (plain_ground ground.now).program job.new }
+    ensures carried { OnOk result (IsCarriedOn (plain_ground ground.now) job.old job.new) }
+{
+    for _slices in 0..ROUND.div_ceil(slice) {
+        if gated_slice(ground, job, slice, gate)? {
+            return Ok(());
+        }
+    }
+    Ok(())
 }
 
 /// Carries the job to its outcome, unless it has one. Its only error is want of memory.

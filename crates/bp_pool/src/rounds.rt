@@ -1,10 +1,10 @@
-//! Rounds: in each every job without outcome gets one slice, by several threads.
+//! Rounds: in each every job without outcome gets some slices, by several threads.
 ghost use Rattle.std.specs.Prelude.{◌≡◌, ◌<◌, All, IfOk};
 ghost use Rattle.js_frames.specs.Places.{plain_ground};
 ghost use Rattle.bp_pool.specs.Carrying.{AreOf, IsDone, Each};
 ghost use Rattle.bp_pool.specs.Seats.{CanTurn, Turned};
 
-use crate::carrying::gated_slice;
+use crate::carrying::carry_a_round;
 use crate::gate::Gate;
 use crate::seat::Seat;
 use crate::seating::{all_of, put_back, take_out};
@@ -16,17 +16,18 @@ use std::sync::Wait;
 use std::thread;
 use std::thread::Threads;
 
-/// One slice of the seat's job.
+/// A round of the seat's job.
 fn turn<G: Gate>(ground: &Ground, seat: &mut Seat, slice: u64, gate: &G)
-    requires { CanTurn (plain_ground ground.now) seat.old }
+    requires some_slice { 0 < slice }
+    requires can_turn { CanTurn (plain_ground ground.now) seat.old }
     ensures { Turned (plain_ground ground.now) seat.old seat.new }
 {
-    if gated_slice(ground, &mut seat.job, slice, gate).is_err() {
+    if carry_a_round(ground, &mut seat.job, slice, gate).is_err() {
         seat.lost = true;
     }
 }
 
-/// One slice of the job of each seat, by so many threads at most, and by fewer where one can't be started.
+/// A round of the job of each seat, by so many threads at most, and by fewer where one can't be started.
 fn round<G: Gate + Sync, R: Threads + Sync>(
     rt: &R,
     ground: &Ground,
@@ -36,6 +37,7 @@ fn round<G: Gate + Sync, R: Threads + Sync>(
     gate: &G,
 )
     requires some_workers { 0 < workers }
+    requires some_slice { 0 < slice }
     requires can_turn { All (CanTurn (plain_ground ground.now)) seats.old }
     ensures { Each (Turned (plain_ground ground.now)) seats.old seats.new }
 {
@@ -44,7 +46,8 @@ fn round<G: Gate + Sync, R: Threads + Sync>(
         seats,
         workers as usize,
         &|_place: usize, seat: &mut Seat|
-            requires { CanTurn (plain_ground ground.now) seat.old }
+            requires some_slice { 0 < slice }
+            requires can_turn { CanTurn (plain_ground ground.now) seat.old }
             ensures { Turned (plain_ground ground.entry.now) seat.old seat.new }
         { turn(ground, seat, slice, gate) },
     );
@@ -61,6 +64,7 @@ pub(crate) fn by_rounds<G: Gate + Sync, R: Threads + Wait + Sync>(
     gate: &G,
 ) -> Result<Vec<Job>, Memory>
     requires some_workers { 0 < workers }
+    requires some_slice { 0 < slice }
     requires program { AreOf (plain_ground ground.now) jobs.items }
     ensures { IfOk result (λ all. Each (IsDone (plain_ground ground.now)) jobs.items all.items) }
 {
