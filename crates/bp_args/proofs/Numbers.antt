@@ -1,4 +1,4 @@
--- Numbers of at most 20 digits.
+-- Numbers of a word.
 use Rattle.std.proofs.Common.{◌≡◌, ◌≢◌, ℕ, ◌<◌, ◌≤◌, ◌^◌, Bool, true, false, List, length, get_or, Some, None, Result, Ok, Err, refl, arith}
 use Rattle.std.specs.Prelude.{◌&&◌, nat_lt, nat_le}
 use Rattle.std.specs.Str.{all_ascii_digits}
@@ -6,15 +6,16 @@ use Rattle.std.specs.Str.Parse.{ParsesUnsigned}
 use Rattle.std.proofs.lemmas.Bool.{and_parts, le-leb, leb-true, lt-ltb, ltb-true}
 use Rattle.bp_reading.specs.Words.{value_on}
 use Rattle.bp_lines.proofs.Decimals.{parsed, parses}
+use Rattle.bp_args.specs.declared.said.TheConstants.{MOST_DIGITS}
 use Rattle.bp_args.specs.Said.{number_word}
 
 pub is_false : (b : Bool) → (b ≡ true → ⊥) → b ≡ false
 is_false true h = absurd (h refl)
 is_false false h = refl
 
-word_none : (most : ℕ) (ds : List ℕ) → (all_ascii_digits ds ≡ true → 0 < length ds → value_on 0 ds ≤ most → length ds ≤ 20 → ⊥) → number_word most ds ≡ None
+word_none : (most : ℕ) (ds : List ℕ) → (all_ascii_digits ds ≡ true → 0 < length ds → value_on 0 ds ≤ most → length ds ≤ MOST_DIGITS → ⊥) → number_word most ds ≡ None
 word_none most ds h =
-    let no : (nat_lt 0 (length ds) && (nat_le (length ds) 20 && (all_ascii_digits ds && nat_le (value_on 0 ds) most))) ≡ false =
+    let no : (nat_lt 0 (length ds) && (nat_le (length ds) MOST_DIGITS && (all_ascii_digits ds && nat_le (value_on 0 ds) most))) ≡ false =
     is_false _ (λ t.
     let a = and_parts _ _ t in
     let b = and_parts _ _ a.1 in
@@ -22,7 +23,7 @@ word_none most ds h =
     h c.0 (ltb-true _ _ a.0) (leb-true _ _ c.1) (leb-true _ _ b.0)) in
     rw no refl
 
-pub too_long : (most : ℕ) (ds : List ℕ) → 20 < length ds → number_word most ds ≡ None
+pub too_long : (most : ℕ) (ds : List ℕ) → MOST_DIGITS < length ds → number_word most ds ≡ None
 too_long most ds h = word_none most ds (λ _ _ _ n. omega (arith, h, n))
 
 pub refused : {E : Type 0} (most : ℕ) (ds : List ℕ) (r : Result ℕ E) (e : E) → most < 2 ^ 64 → ParsesUnsigned 64 10 ds r → r ≡ Err e → get_or ds 0 0 ≢ 43 → number_word most ds ≡ None
@@ -35,7 +36,7 @@ too_great most n ds r h is p big =
     let read = parses ds r n h is p in
     word_none most ds (λ _ _ v _. omega (arith, v, big, read.value))
 
-pub read_word : {E : Type 0} (most n : ℕ) (ds : List ℕ) (r : Result ℕ E) → ParsesUnsigned 64 10 ds r → r ≡ Ok n → get_or ds 0 0 ≢ 43 → length ds ≤ 20 → n ≤ most → number_word most ds ≡ Some n
+pub read_word : {E : Type 0} (most n : ℕ) (ds : List ℕ) (r : Result ℕ E) → ParsesUnsigned 64 10 ds r → r ≡ Ok n → get_or ds 0 0 ≢ 43 → length ds ≤ MOST_DIGITS → n ≤ most → number_word most ds ≡ Some n
 read_word most n ds r h is p short fits =
     let read = parses ds r n h is p in
     rw (lt-ltb _ _ read.some, le-leb _ _ short, read.digits, ← read.value, le-leb n most fits) refl

@@ -3,7 +3,8 @@ use Rattle.std.specs.Prelude.{ℕ, ◌&&◌, ◌==◌, Bool, true, false, nat_le
 use Rattle.std.specs.List.{position_or_len, before_first, after_first}
 use Rattle.std.specs.Str.{all_ascii_digits, bytes_eq}
 use Rattle.bp_log.specs.Logs.{strategy_at}
-use Rattle.bp_reading.specs.Words.{value_on, most_32}
+use Rattle.bp_reading.specs.Words.{value_on, most_32, most_64}
+use Rattle.bp_args.specs.declared.said.TheConstants.{MOST_DIGITS}
 use Rattle.bp_args.specs.declared.said.Key.{Key}
 use Rattle.bp_args.specs.declared.said.Key.TheVariants.{Log, Strategy, Seed, Budget, Steps, Workers, Slice}
 use Rattle.bp_args.specs.declared.said.Waiting.{Waiting}
@@ -16,14 +17,10 @@ is_name [] = true
 is_name (b ∷ []) = true
 is_name (b ∷ c ∷ rest) = if b == 45 then false else true
 
--- a number is 1 to 20 digits, at most `most`
+-- a number is one digit or more, but not too many, and at most `most`
 abbrev pub number_word : ℕ → List ℕ → Option ℕ
 number_word most word =
-    if nat_lt 0 (length word) && (nat_le (length word) 20 && (all_ascii_digits word && nat_le (value_on 0 word) most)) then Some (value_on 0 word) else None
-
--- the greatest number of 64 bits
-abbrev pub most_64 : ℕ
-most_64 = 18_446_744_073_709_551_615
+    if nat_lt 0 (length word) && (nat_le (length word) MOST_DIGITS && (all_ascii_digits word && nat_le (value_on 0 word) most)) then Some (value_on 0 word) else None
 
 abbrev pub key_of : List ℕ → Option Key
 key_of word =

@@ -1,6 +1,6 @@
 //! What the words of a command say, word by word.
-ghost use Rattle.std.specs.Prelude.{◌≡◌, Some, None, IfOk, IsErrOf, option_map};
-ghost use Rattle.bp_args.specs.Said.{is_name as word_is_name, number_word, most_64, key_of as key_named, set as with_value, name as with_name, option_in, parts_at, free_word as with_free, step, nothing_said};
+ghost use Rattle.std.specs.Prelude.{◌≡◌, Some, None, IfOk, IsErrOf, OnErr, option_map};
+ghost use Rattle.bp_args.specs.Said.{is_name as word_is_name, number_word, key_of as key_named, once as said_once, some_text, set as with_value, name as with_name, option_in, parts_at, free_word as with_free, step, nothing_said};
 ghost use Rattle.bp_args.specs.Command.{is_bare as bare, is_whole as whole};
 ghost use Rattle.bp_reading.specs.Words.{most_32};
 
@@ -8,6 +8,9 @@ use crate::command::Usage;
 use bp_log::{Memory, Strategy};
 use js_data::Text;
 use std::alloc::Global;
+
+/// The most digits of a number.
+pub const MOST_DIGITS: usize = 20;
 
 /// An option of `run`.
 #[derive(Clone, Copy, Debug, PartialEq, Eq)]
@@ -111,7 +114,7 @@ fn key_of(word: &[u8]) -> Option<Key>
     }
 }
 
-/// The number of 1 to 20 digits, at most `most`.
+/// The number of 1 to `MOST_DIGITS` digits, at most `most`.
 pub(crate) fn number_of(word: &str, most: u64) -> Option<u64>
     ensures { result ≡ number_word most word.now }
 {
@@ -119,7 +122,7 @@ pub(crate) fn number_of(word: &str, most: u64) -> Option<u64>
     if digits.is_empty() {
         return None;
     }
-    if digits.len() > 20 {
+    if digits.len() > MOST_DIGITS {
         return None;
     }
     if digits[0] == b'+' {
@@ -134,11 +137,11 @@ pub(crate) fn number_of(word: &str, most: u64) -> Option<u64>
     Some(number)
 }
 
-/// The number of 1 to 20 digits, of 32 bits.
+/// The number of so many digits, of 32 bits.
 fn small_number_of(word: &str) -> Option<u32>
     ensures { result ≡ number_word most_32 word.now }
 {
-    let number = number_of(word, 4_294_967_295)?;
+    let number = number_of(word, u64::from(u32::MAX))?;
     Some(number as u32)
 }
 
@@ -154,6 +157,28 @@ fn text_of(alloc: Global, word: &str) -> Result<Text, Memory>
     ensures { IfOk result (λ t. t ≡ word.now) }
 {
     Ok(Text::new(String::from_str(alloc, word)?))
+}
+
+/// The text of a word, where it isn't empty.
+fn some_text_of(alloc: Global, word: &str) -> Result<Option<Text>, Memory>
+    ensures { IfOk result (λ t. t ≡ some_text word.now) }
+{
+    if word.is_empty() {
+        return Ok(None);
+    }
+    Ok(Some(text_of(alloc, word)?))
+}
+
+/// The value is said, and was not said before.
+fn once<T: Drop>(said: &mut Option<T>, value: Option<T>) -> Result<(), Usage>
+    ensures set { IfOk result (λ _. said_once said.old value ≡ Some said.new) }
+    ensures wrong { OnErr result (said_once said.old value ≡ None) }
+{
+    if said.is_some() || value.is_none() {
+        return Err(Usage::Wrong);
+    }
+    *said = value;
+    Ok(())
 }
 
 impl Said {
@@ -218,101 +243,7 @@ impl Said {
         ensures named { IfOk result (λ _. with_name self.old word.now ≡ Some self.new) }
         ensures wrong { IsErrOf result Usage.Wrong → with_name self.old word.now ≡ None }
     {
-        if self.name.is_some() {
-            return Err(Usage::Wrong);
-        }
-        self.name = Some(text_of(alloc, word)?);
-        Ok(())
-    }
-
-    fn set_log(&mut self, alloc: Global, value: &str) -> Result<(), Usage>
-        ensures set { IfOk result (λ _. with_value self.old Key.Log value.now ≡ Some self.new) }
-        ensures wrong { IsErrOf result Usage.Wrong → with_value self.old Key.Log value.now ≡ None }
-    {
-        if self.log.is_some() || value.is_empty() {
-            return Err(Usage::Wrong);
-        }
-        self.log = Some(text_of(alloc, value)?);
-        self.waiting = Waiting::Any;
-        Ok(())
-    }
-
-    fn set_strategy(&mut self, value: &str) -> Result<(), Usage>
-        ensures set { IfOk result (λ _. with_value self.old Key.Strategy value.now ≡ Some self.new) }
-        ensures wrong { IsErrOf result Usage.Wrong → with_value self.old Key.Strategy value.now ≡ None }
-    {
-        let strategy = Strategy::of_name(value.as_bytes());
-        if self.strategy.is_some() || strategy.is_none() {
-            return Err(Usage::Wrong);
-        }
-        self.strategy = strategy;
-        self.waiting = Waiting::Any;
-        Ok(())
-    }
-
-    fn set_seed(&mut self, value: &str) -> Result<(), Usage>
-        ensures set { IfOk result (λ _. with_value self.old Key.Seed value.now ≡ Some self.new) }
-        ensures wrong { IsErrOf result Usage.Wrong → with_value self.old Key.Seed value.now ≡ None }
-    {
-        let seed = number_of(value, u64::MAX);
-        if self.seed.is_some() || seed.is_none() {
-            return Err(Usage::Wrong);
-        }
-        self.seed = seed;
-        self.waiting = Waiting::Any;
-        Ok(())
-    }
-
-    fn set_budget(&mut self, value: &str) -> Result<(), Usage>
-        ensures set { IfOk result (λ _. with_value self.old Key.Budget value.now ≡ Some self.new) }
-        ensures wrong { IsErrOf result Usage.Wrong → with_value self.old Key.Budget value.now ≡ None }
-    {
-        let budget = number_of(value, u64::MAX);
-        if self.budget.is_some() || budget.is_none() {
-            return Err(Usage::Wrong);
-        }
-        self.budget = budget;
-        self.waiting = Waiting::Any;
-        Ok(())
-    }
-
-    fn set_steps(&mut self, value: &str) -> Result<(), Usage>
-        ensures set { IfOk result (λ _. with_value self.old Key.Steps value.now ≡ Some self.new) }
-        ensures wrong { IsErrOf result Usage.Wrong → with_value self.old Key.Steps value.now ≡ None }
-    {
-        let steps = small_number_of(value);
-        if self.steps.is_some() || steps.is_none() {
-            return Err(Usage::Wrong);
-        }
-        self.steps = steps;
-        self.waiting = Waiting::Any;
-        Ok(())
-    }
-
-    fn set_workers(&mut self, value: &str) -> Result<(), Usage>
-        ensures set { IfOk result (λ _. with_value self.old Key.Workers value.now ≡ Some self.new) }
-        ensures wrong { IsErrOf result Usage.Wrong → with_value self.old Key.Workers value.now ≡ None }
-    {
-        let workers = small_number_of(value);
-        if self.workers.is_some() || workers.is_none() {
-            return Err(Usage::Wrong);
-        }
-        self.workers = workers;
-        self.waiting = Waiting::Any;
-        Ok(())
-    }
-
-    fn set_slice(&mut self, value: &str) -> Result<(), Usage>
-        ensures set { IfOk result (λ _. with_value self.old Key.Slice value.now ≡ Some self.new) }
-        ensures wrong { IsErrOf result Usage.Wrong → with_value self.old Key.Slice value.now ≡ None }
-    {
-        let slice = number_of(value, u64::MAX);
-        if self.slice.is_some() || slice.is_none() {
-            return Err(Usage::Wrong);
-        }
-        self.slice = slice;
-        self.waiting = Waiting::Any;
-        Ok(())
+        once(&mut self.name, Some(text_of(alloc, word)?))
     }
 
     /// The option gets the value.
@@ -321,14 +252,16 @@ impl Said {
         ensures wrong { IsErrOf result Usage.Wrong → with_value self.old key value.now ≡ None }
     {
         match key {
-            Key::Log => self.set_log(alloc, value),
-            Key::Strategy => self.set_strategy(value),
-            Key::Seed => self.set_seed(value),
-            Key::Budget => self.set_budget(value),
-            Key::Steps => self.set_steps(value),
-            Key::Workers => self.set_workers(value),
-            Key::Slice => self.set_slice(value),
+            Key::Log => once(&mut self.log, some_text_of(alloc, value)?)?,
+            Key::Strategy => once(&mut self.strategy, Strategy::of_name(value.as_bytes()))?,
+            Key::Seed => once(&mut self.seed, number_of(value, u64::MAX))?,
+            Key::Budget => once(&mut self.budget, number_of(value, u64::MAX))?,
+            Key::Steps => once(&mut self.steps, small_number_of(value))?,
+            Key::Workers => once(&mut self.workers, small_number_of(value))?,
+            Key::Slice => once(&mut self.slice, number_of(value, u64::MAX))?,
         }
+        self.waiting = Waiting::Any;
+        Ok(())
     }
 
     /// The word is an option, which waits for its value or has it behind `=`.

@@ -32,7 +32,7 @@ use Rattle.bp_cli.specs.Large.{line_of, MeasureEnds}
 use Rattle.bp_cli.specs.Loading.{IsUnloaded}
 use Rattle.bp_cli.specs.Replaying.{ReplayEnds, IsCaused, replayed_of}
 use Rattle.bp_cli.specs.Refusing.{IsTooLong, program_of, Refuses}
-use Rattle.bp_cli.specs.Runs.{Holds, KeepsLog, KeepsLogFront, RunEnds, log_alone, header_of}
+use Rattle.bp_cli.specs.Runs.{Holds, HoldsFront, KeepsLog, KeepsLogFront, RunEnds, log_alone, header_of}
 use Rattle.bp_cli.specs.Texts.{accepted_line}
 
 -- ---- too long
@@ -225,7 +225,7 @@ unloaded_ends c name unread unwritten before after (BadLog fault) g u same = abs
 -- a run of an accepted program
 pub run_given : (asked : Run) (bytes : List ℕ) (program : PlainProgram) (unread unwritten whole partly : Type 0) (before after : Outside) (conclusion : Conclusion) →
     IsUnder before.holds asked.program bytes → IsProgram bytes program → (whole → KeepsLog asked.log before.holds (log_alone (header_of asked bytes) program) after.holds) →
-    (partly → KeepsLogFront asked.log before.holds (log_alone (header_of asked bytes) program) after.holds) →
+    (partly → KeepsLogFront asked.log before (log_alone (header_of asked bytes) program) after) →
     RunEnds program asked.options unwritten whole partly before.printed after.printed conclusion → EndsIn (Some (command.Run asked)) unread unwritten before after conclusion
 run_given asked bytes program unread unwritten whole partly before after (Ran v) u p k f r = (bytes, u, record { program = program; is_program = p; verdict = r.0; prints = r.1; keeps = k r.2 })
 run_given asked bytes program unread unwritten whole partly before after NotWritten u p k f r = (bytes, u, (r.0, record { program = program; is_program = p; prints = r.1; keeps = f r.2 }))
@@ -271,27 +271,33 @@ pub unlogged_given : (asked : Run) (program run : PlainProgram) (bytes name : Li
 unlogged_given asked program run bytes name header unread unwritten more before after conclusion n u p e h l same r =
     let keeps : KeepsLog asked.log before.holds (log_alone (header_of asked bytes) program) after.holds =
     subst (λ (o : Option (List ℕ)). KeepsLog o before.holds (log_alone (header_of asked bytes) program) after.holds) (sym l) same in
-    let partly : KeepsLogFront asked.log before.holds (log_alone (header_of asked bytes) program) after.holds =
-    subst (λ (o : Option (List ℕ)). KeepsLogFront o before.holds (log_alone (header_of asked bytes) program) after.holds) (sym l) same in
+    let partly : KeepsLogFront asked.log before (log_alone (header_of asked bytes) program) after =
+    subst (λ (o : Option (List ℕ)). KeepsLogFront o before (log_alone (header_of asked bytes) program) after) (sym l) same in
     run_given asked bytes program unread (unwritten ⊎ more) (Unit {0}) (Unit {0}) before after conclusion
     (subst (λ (x : List ℕ). IsUnder before.holds x bytes) n u) p (λ _. keeps) (λ _. partly)
     (weaker program asked.options unwritten more (Unit {0}) (Unit {0}) before.printed after.printed conclusion
     (runs_same asked program run bytes header unwritten (Unit {0}) (Unit {0}) before.printed after.printed conclusion e h r))
 
+-- what the world held and what was printed when the log was made are those of the beginning
+from_mid : (name text : List ℕ) (mid before after : Outside) → mid.holds ≡ before.holds → mid.printed ≡ before.printed →
+    KeepsLogFront (Some name) mid text after → KeepsLogFront (Some name) before text after
+from_mid name text mid before after m q (inl s) = inl (s.0 ∙ q, s.1 ∙ m)
+from_mid name text mid before after m q (inr s) = inr (subst (λ (x : Option Holdings). HoldsFront x name text after.holds) m s)
+
 -- a log is kept
-pub logged_given : (asked : Run) (program run : PlainProgram) (bytes name log said : List ℕ) (header : PlainHeader) (unread said_unwritten unwritten : Type 0) (mid : Option Holdings) (before after : Outside) (conclusion : Conclusion) → (said_unwritten → unwritten) → name ≡ asked.program →
-    IsUnder before.holds name bytes → IsProgram bytes program → run ≡ program → header ≡ header_of asked bytes → asked.log ≡ Some said → log ≡ said → mid ≡ before.holds →
-    RunEnds run header.options said_unwritten (Holds mid log (log_alone header run) after.holds) (KeepsLogFront (Some log) mid (log_alone header run) after.holds) before.printed after.printed conclusion →
+pub logged_given : (asked : Run) (program run : PlainProgram) (bytes name log said : List ℕ) (header : PlainHeader) (unread said_unwritten unwritten : Type 0) (mid before after : Outside) (conclusion : Conclusion) → (said_unwritten → unwritten) → name ≡ asked.program →
+    IsUnder before.holds name bytes → IsProgram bytes program → run ≡ program → header ≡ header_of asked bytes → asked.log ≡ Some said → log ≡ said → mid.holds ≡ before.holds → mid.printed ≡ before.printed →
+    RunEnds run header.options said_unwritten (Holds mid.holds log (log_alone header run) after.holds) (KeepsLogFront (Some log) mid (log_alone header run) after) before.printed after.printed conclusion →
     EndsIn (Some (command.Run asked)) unread unwritten before after conclusion
-logged_given asked program run bytes name log said header unread said_unwritten unwritten mid before after conclusion f n u p e h l k m r =
+logged_given asked program run bytes name log said header unread said_unwritten unwritten mid before after conclusion f n u p e h l k m q r =
     let text : log_alone header run ≡ log_alone (header_of asked bytes) program = λ i. log_alone (h i) (e i) in
     let named : Some log ≡ asked.log = ap (λ (x : List ℕ). Some x) k ∙ sym l in
-    run_given asked bytes program unread unwritten (Holds mid log (log_alone header run) after.holds) (KeepsLogFront (Some log) mid (log_alone header run) after.holds) before after conclusion
+    run_given asked bytes program unread unwritten (Holds mid.holds log (log_alone header run) after.holds) (KeepsLogFront (Some log) mid (log_alone header run) after) before after conclusion
     (subst (λ (x : List ℕ). IsUnder before.holds x bytes) n u) p
     (λ w. subst (λ (o : Option (List ℕ)). KeepsLog o before.holds (log_alone (header_of asked bytes) program) after.holds) named
     (subst (λ (t : List ℕ). Holds before.holds log t after.holds) text (subst (λ (x : Option Holdings). Holds x log (log_alone header run) after.holds) m w)))
-    (λ w. subst (λ (o : Option (List ℕ)). KeepsLogFront o before.holds (log_alone (header_of asked bytes) program) after.holds) named
-    (subst (λ (t : List ℕ). KeepsLogFront (Some log) before.holds t after.holds) text (subst (λ (x : Option Holdings). KeepsLogFront (Some log) x (log_alone header run) after.holds) m w)))
+    (λ w. subst (λ (o : Option (List ℕ)). KeepsLogFront o before (log_alone (header_of asked bytes) program) after) named
+    (subst (λ (t : List ℕ). KeepsLogFront (Some log) before t after) text (from_mid log (log_alone header run) mid before after m q w)))
     (caused_on program asked.options said_unwritten unwritten _ _ before.printed after.printed conclusion f (runs_same asked program run bytes header said_unwritten _ _ before.printed after.printed conclusion e h r))
 
 -- the large program
@@ -328,9 +334,9 @@ pub refuses_none : (holds : Option Holdings) (code : ℕ) → Refuses None holds
 refuses_none None code = tt
 refuses_none (Some held) code = tt
 
-keeps_front : (log : Option (List ℕ)) (before : Option Holdings) (text : List ℕ) (after : Option Holdings) → KeepsLog log before text after → KeepsLogFront log before text after
-keeps_front None before text after k = k
-keeps_front (Some name) before text after k = inr (text, [], sym (append-nil text), k)
+keeps_front : (log : Option (List ℕ)) (before after : Outside) (text : List ℕ) → KeepsLog log before.holds text after.holds → KeepsLogFront log before text after
+keeps_front None before after text k = k
+keeps_front (Some name) before after text k = inr (text, [], sym (append-nil text), k)
 
 -- whatever it comes to, a part of what is told came outside
 comes_partly : (c : Command) (bytes : List ℕ) (before after : Outside) (v : Verdict) → ComesTo c bytes before after v → TellsPartly c bytes before after
@@ -339,7 +345,7 @@ comes_partly (command.Run asked) bytes before after v r =
       program = r.program;
       is_program = r.is_program;
       prints = front_in (text_alone r.program asked.options) before.printed after.printed (λ text. text) r.prints;
-      keeps = keeps_front asked.log before.holds (log_alone (header_of asked bytes) r.program) after.holds r.keeps;
+      keeps = keeps_front asked.log before after (log_alone (header_of asked bytes) r.program) r.keeps;
     }
 comes_partly (command.Large n) bytes before after v r =
     let m = r.0 in

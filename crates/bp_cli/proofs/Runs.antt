@@ -14,6 +14,7 @@ use Rattle.bp_serve.specs.Logging.{LogGets, LogGetsFront}
 use Rattle.bp_serve.proofs.Way.{front_alone, unprinted as let_go}
 use Rattle.bp_cli.specs.declared.conclusion.Conclusion.{Conclusion}
 use Rattle.bp_cli.specs.Conclusions.{ended_of}
+use Rattle.bp_cli.specs.Outside.{Outside}
 use Rattle.bp_cli.specs.Runs.{Holds, KeepsLogFront, RunEnds}
 
 -- what a run answers says how the command ends
@@ -56,10 +57,10 @@ module _ {L : Type 0} (written : L → Option (List ℕ)) where
   log_held (Ok x) before name text first last after e w k = held before name text (written first) (written last) after e w k
   log_held (Err x) before name text first last after e w k = tt
 
-  pub log_held_front : {T E : Type 0} (r : Result T E) (before : Option Holdings) (name text : List ℕ) (first last : L) (after : Option Holdings) → IfSome before (λ h. written first ≡ Some []) →
-      OnErr r (LogGetsFront written (Some first) text (Some last)) → Keeps before name (written last) after → OnErr r (KeepsLogFront (Some name) before text after)
-  log_held_front (Ok x) before name text first last after e w k = tt
-  log_held_front (Err x) before name text first last after e w k = inr (w.0, w.1, w.2, held before name w.0 (written first) (written last) after e w.3 k)
+  pub log_held_front : {T E : Type 0} (r : Result T E) (before after : Outside) (name text : List ℕ) (first last : L) → IfSome before.holds (λ h. written first ≡ Some []) →
+      OnErr r (LogGetsFront written (Some first) text (Some last)) → Keeps before.holds name (written last) after.holds → OnErr r (KeepsLogFront (Some name) before text after)
+  log_held_front (Ok x) before after name text first last e w k = tt
+  log_held_front (Err x) before after name text first last e w k = inr (w.0, w.1, w.2, held before.holds name w.0 (written first) (written last) after.holds e w.3 k)
 
 -- a count that rose from nothing is more than nothing
 pub risen : (a b : ℕ) → a ≡ 0 → Rose a b → 0 < b

@@ -1,13 +1,12 @@
 -- A log that is replayed.
 use Rattle.std.specs.Prelude.{◌≡◌, ◌⊎◌, ℕ, List, ◌++◌, decimal, codes, Option, Some, None, Result, Ok, Err, IfSome, IsSomeAnd, unwrap_or}
-use Rattle.bp_log.specs.Logs.{record_text}
-use Rattle.bp_log.specs.declared.record.Record.{Record}
 use Rattle.bp_log.specs.declared.verdict.Verdict.{Verdict}
 use Rattle.bp_reader.specs.declared.fault.LogFault.{LogFault}
 use Rattle.bp_reader.specs.declared.fault.LogFault.TheVariants as log
 use Rattle.bp_follow.specs.declared.fault.ReplayFault.{ReplayFault}
 use Rattle.bp_follow.specs.declared.fault.ReplayFault.TheVariants.{Log, Differs, Program, Write, Memory}
 use Rattle.bp_replay.specs.Replays as replays
+use Rattle.bp_notes.specs.Notes.{differing}
 use Rattle.bp_cli.specs.declared.conclusion.Conclusion.{Conclusion}
 use Rattle.bp_cli.specs.declared.conclusion.Conclusion.TheVariants.{NoCommand, Refused, Accepted, Ran, NotRead, NotWritten, NoMemory, BadLog}
 use Rattle.bp_cli.specs.Outside.{Outside, IsAsBefore}
@@ -59,10 +58,6 @@ ReplayEnds name unread unwritten before after c =
 
 -- ---- what a bad log is told
 
-abbrev pub expected_text : Option Record → List ℕ
-expected_text None = codes "wait"
-expected_text (Some r) = record_text r
-
 abbrev pub log_detail : LogFault → List ℕ
 log_detail log.Version = codes "version"
 log_detail log.Header = codes "header"
@@ -73,8 +68,7 @@ log_detail log.Memory = codes "memory"
 
 abbrev pub detail_of : ReplayFault → List ℕ
 detail_of (Log fault) = log_detail fault
-detail_of (Differs number expected other) =
-    codes "record " ++ (decimal number ++ (codes " expected " ++ (expected_text expected ++ (codes " found " ++ record_text other))))
+detail_of (Differs number expected other) = differing number expected other
 detail_of Program = codes "program"
 detail_of Write = codes "write fault"
 detail_of Memory = codes "memory"

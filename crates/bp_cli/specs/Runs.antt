@@ -15,7 +15,7 @@ use Rattle.bp_args.specs.declared.command.Run.{Run}
 use Rattle.bp_serve.specs.Ends.{verdict_alone}
 use Rattle.bp_cli.specs.declared.conclusion.Conclusion.{Conclusion}
 use Rattle.bp_cli.specs.declared.conclusion.Conclusion.TheVariants.{NoCommand, Refused, Accepted, Ran, NotRead, NotWritten, NoMemory, BadLog}
-use Rattle.bp_cli.specs.Outside.{Outside}
+use Rattle.bp_cli.specs.Outside.{Outside, IsAsBefore}
 
 -- the text is now under the name, and under each other name what was there, where the world tells what it holds
 abbrev pub Holds : Option Holdings → List ℕ → List ℕ → Option Holdings → Type 0
@@ -31,10 +31,10 @@ abbrev pub KeepsLog : Option (List ℕ) → Option Holdings → List ℕ → Opt
 KeepsLog None before text after = after ≡ before
 KeepsLog (Some name) before text after = Holds before name text after
 
--- a front of the log, or no more than it held
-abbrev pub KeepsLogFront : Option (List ℕ) → Option Holdings → List ℕ → Option Holdings → Type 0
-KeepsLogFront None before text after = after ≡ before
-KeepsLogFront (Some name) before text after = (after ≡ before) ⊎ HoldsFront before name text after
+-- a front of the log; before there is one, nothing is printed either
+abbrev pub KeepsLogFront : Option (List ℕ) → Outside → List ℕ → Outside → Type 0
+KeepsLogFront None before text after = after.holds ≡ before.holds
+KeepsLogFront (Some name) before text after = IsAsBefore before after ⊎ HoldsFront before.holds name text after.holds
 
 -- the log of a run without injectors
 abbrev pub log_alone : PlainHeader → PlainProgram → List ℕ
@@ -51,12 +51,12 @@ pub record RunsTo (asked : Run) (bytes : List ℕ) (before after : Outside) (v :
   pub prints : IsSomeAnd (text_alone program asked.options) (λ text. Appends before.printed text after.printed)
   pub keeps : KeepsLog asked.log before.holds (log_alone (header_of asked bytes) program) after.holds
 
--- the bytes are a program; a front of the text of its run was printed, and a front of its log is held or nothing of it
+-- the bytes are a program; a front of the text of its run was printed, and a front of its log is held, or nothing was printed and none is held
 pub record RunsPartly (asked : Run) (bytes : List ℕ) (before after : Outside) : Type 0 where
   pub program : PlainProgram
   pub is_program : IsProgram bytes program
   pub prints : IsSomeAnd (text_alone program asked.options) (λ text. AppendsFront before.printed text after.printed)
-  pub keeps : KeepsLogFront asked.log before.holds (log_alone (header_of asked bytes) program) after.holds
+  pub keeps : KeepsLogFront asked.log before (log_alone (header_of asked bytes) program) after
 
 -- Why a run of this program ends so, where writing failed or not; how much of its text was printed; and what is whole or in part besides.
 abbrev pub RunEnds : PlainProgram → PlainOptions → Type 0 → Type 0 → Type 0 → Option (List ℕ) → Option (List ℕ) → Conclusion → Type 0

@@ -1,17 +1,16 @@
 //! How a command ends.
 ghost use Rattle.std.specs.Prelude.{◌≡◌, IfOk, string_bytes};
 ghost use Rattle.bp_cli.specs.Conclusions.{code_of, note_of, verdict_code, conclusion_of, ended_of};
-ghost use Rattle.bp_log.specs.Logs.{record_text};
-ghost use Rattle.bp_cli.specs.Replaying.{trouble_of as trouble_in, replayed_of, expected_text, log_detail as log_fault_text, detail_of, bad_log_note as bad_log_text};
+ghost use Rattle.bp_cli.specs.Replaying.{trouble_of as trouble_in, replayed_of, log_detail as log_fault_text, detail_of, bad_log_note as bad_log_text};
 
-use bp_base::MemorySink;
-use bp_log::{Memory, Record, Verdict, write_record};
+use bp_log::{Memory, Verdict};
+use bp_notes::differing;
 use bp_reader::LogFault;
 use bp_replay::ReplayFault;
 use bp_script::{Refusal, ScriptFault};
 use bp_serve::{Report, RunFault};
 use js_data::Text;
-use std::alloc::{AllocError, Global};
+use std::alloc::Global;
 
 /// The note of words that are no command.
 const USAGE: &str =
@@ -105,36 +104,6 @@ fn trouble_of(fault: &ReplayFault) -> Option<Conclusion>
     }
 }
 
-/// Room for the text of a record, in bytes.
-const ROOM: u64 = 500_000;
-
-/// The text of a record, without its line end. Its errors are want of memory and of room.
-fn text_of(alloc: Global, entry: &Record) -> Result<String, Memory>
-    ensures { IfOk result (λ s. string_bytes s ≡ record_text entry.now) }
-{
-    let mut sink = MemorySink::new(alloc, ROOM, Vec::new(alloc))?;
-    if write_record(alloc, entry, &mut sink).is_err() {
-        return Err(AllocError);
-    }
-    let Some((_, line)) = sink.written().split_last() else {
-        return Err(AllocError);
-    };
-    let Ok(text) = str::from_utf8(line) else {
-        return Err(AllocError);
-    };
-    text.to_string(alloc)
-}
-
-/// The text of the record that was expected. Its errors are want of memory and of room.
-fn expected_of(alloc: Global, expected: &Option<Record>) -> Result<String, Memory>
-    ensures { IfOk result (λ s. string_bytes s ≡ expected_text expected.now) }
-{
-    match expected {
-        None => "wait".to_string(alloc),
-        Some(entry) => text_of(alloc, entry),
-    }
-}
-
 /// Why bytes are no log. Its only error is want of memory.
 fn log_detail(alloc: Global, fault: LogFault) -> Result<String, Memory>
     ensures { IfOk result (λ s. string_bytes s ≡ log_fault_text fault) }
@@ -149,23 +118,7 @@ fn log_detail(alloc: Global, fault: LogFault) -> Result<String, Memory>
     }
 }
 
-/// How a record differs. Its errors are want of memory and of room.
-fn differs(
-    alloc: Global,
-    number: u32,
-    expected: &Option<Record>,
-    found: &Record,
-) -> Result<String, Memory>
-    ensures { IfOk result (λ s. string_bytes s ≡ detail_of (ReplayFault.Differs number expected.now found.now)) }
-{
-    let expected = expected_of(alloc, expected)?;
-    let expected = expected.as_str();
-    let found = text_of(alloc, found)?;
-    let found = found.as_str();
-    format!(in alloc; "record {number} expected {expected} found {found}")
-}
-
-/// Why a log is bad. Its errors are want of memory and of room.
+/// Why a log is bad. Its only error is want of memory.
 fn detail(alloc: Global, fault: &ReplayFault) -> Result<String, Memory>
     ensures { IfOk result (λ s. string_bytes s ≡ detail_of fault.now) }
 {
@@ -175,14 +128,14 @@ fn detail(alloc: Global, fault: &ReplayFault) -> Result<String, Memory>
             number,
             expected,
             found,
-        } => differs(alloc, *number, expected, found),
+        } => differing(alloc, *number, expected, found),
         ReplayFault::Program => "program".to_string(alloc),
         ReplayFault::Write => "write fault".to_string(alloc),
         ReplayFault::Memory => "memory".to_string(alloc),
     }
 }
 
-/// The note of a bad log. Its errors are want of memory and of room.
+/// The note of a bad log. Its only error is want of memory.
 fn bad_log_note(alloc: Global, fault: &ReplayFault) -> Result<Text, Memory>
     ensures { IfOk result (λ t. t ≡ bad_log_text fault.now) }
 {

@@ -2,6 +2,7 @@
 ghost use Rattle.std.specs.Prelude.{◌≡◌, ◌⊎◌, ◌≤◌, Some};
 ghost use Rattle.bp_base.specs.Counts.{Rose};
 ghost use Rattle.bp_base.specs.Worlds.{Asks};
+ghost use Rattle.bp_cli.specs.Outside.{Outside};
 ghost use Rattle.bp_cli.specs.Runs.{Holds, KeepsLogFront, log_alone, RunEnds};
 
 use crate::conclusion::Conclusion;
@@ -44,10 +45,13 @@ pub(crate) fn run_logged<R: Threads + Wait + Sync, W: World, K: Sink>(
     out: &mut K,
 ) -> Conclusion
     requires alone { header.now.options.injectors ≡ 0 }
-    ensures ends { let log = log_alone header.now program in RunEnds program header.now.options
+    ensures ends { let log = log_alone header.now program in
+        let before : Outside = record { holds = W.holds world.old; asked = W.asked world.old; printed = K.written out.old } in
+        let after : Outside = record { holds = W.holds world.new; asked = W.asked world.new; printed = K.written out.new } in
+        RunEnds program header.now.options
         (Rose (K.faults out.old) (K.faults out.new) ⊎ Rose (W.write_faults world.old) (W.write_faults world.new))
         (Holds (W.holds world.old) name.now log (W.holds world.new))
-        (KeepsLogFront (Some name.now) (W.holds world.old) log (W.holds world.new))
+        (KeepsLogFront (Some name.now) before log after)
         (K.written out.old) (K.written out.new) result }
     ensures asked { ((result ≡ Conclusion.NoMemory) × (W.asked world.new ≡ W.asked world.old))
         ⊎ Asks (W.asked world.old) name.now (W.asked world.new) }

@@ -46,7 +46,7 @@ pub fn number_of(bytes: &[u8], most: u64) -> Option<u64>
 pub(crate) fn small_number_of(bytes: &[u8]) -> Option<u32>
     ensures { result ≡ number_at most_32 bytes.now }
 {
-    let number = number_of(bytes, 4_294_967_295)?;
+    let number = number_of(bytes, u64::from(u32::MAX))?;
     Some(number as u32)
 }
 

@@ -1,7 +1,7 @@
 //! The header of a log.
 ghost use Rattle.std.specs.Prelude.{◌≡◌, ◌≤◌, IfOk, IfSome, IsErrOf, length};
 ghost use Rattle.bp_base.specs.Counts.{Rose};
-ghost use Rattle.bp_reading.specs.Heads.{version_at, strategy_behind, strategy_line_at, field, field_at, program_at, choice_at, limits_at, options_at, header_at, most_seed};
+ghost use Rattle.bp_reading.specs.Heads.{version_at, strategy_behind, strategy_line_at, field, field_at, program_at, choice_at, limits_at, options_at, header_at};
 ghost use Rattle.bp_reader.specs.Gets.{Gets};
 
 use crate::LogFault;

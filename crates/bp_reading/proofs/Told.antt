@@ -1,6 +1,6 @@
 -- What is read as a header and a complete list is their text.
-use Rattle.std.proofs.Common.{◌≡◌, ◌∙◌, ◌<◌, ◌-◌, ◌^◌, ℕ, zero, suc, sym, ap, ap₂, List, [], ◌++◌, ◌∷◌, length, Option, Some, None, Result, Ok, Err, refl, inl, inr, arith, append_assoc}
-use Rattle.std.specs.Prelude.{◌==◌, decimal, codes, nat_le, is_ok}
+use Rattle.std.proofs.Common.{◌≡◌, ◌∙◌, ◌<◌, ◌-◌, ◌^◌, ℕ, zero, suc, sym, ap, ap₂, true, false, List, [], ◌++◌, ◌∷◌, length, Option, Some, None, Result, Ok, Err, refl, inl, inr, arith, append_assoc}
+use Rattle.std.specs.Prelude.{◌==◌, decimal, codes, nat_le, is_ok, if◌then◌else◌}
 use Rattle.std.specs.Str.{bytes_eq}
 use Rattle.std.proofs.lemmas.Bool.Decides.{eqb_tells}
 use Rattle.std.proofs.lemmas.Bool.{false≢true}
@@ -9,13 +9,17 @@ use Rattle.bp_log.specs.Header.{PlainHeader}
 use Rattle.bp_log.specs.Logs.{record_text, records_text, log_text, strategy_name, strategy_at}
 use Rattle.bp_log.specs.declared.limits.TheConstants.{MOST_BYTES, MOST_BUDGET, MOST_STEPS, MOST_INJECTORS}
 use Rattle.bp_log.specs.declared.options.Strategy.{Strategy}
+use Rattle.bp_log.specs.Records.{is_complete}
 use Rattle.bp_log.specs.declared.record.Record.{Record}
+use Rattle.bp_log.specs.declared.record.Record.TheVariants.{In, Bad, Eof, Sel, End}
 use Rattle.bp_reading.specs.declared.limits.TheConstants.{MOST_LINE_BYTES, MOST_RECORDS}
-use Rattle.bp_reading.specs.Words.{behind, number_behind}
+use Rattle.bp_reading.specs.Words.{most_64, behind, number_behind}
 use Rattle.bp_reading.specs.Lines.{record_at}
-use Rattle.bp_reading.specs.Heads.{Front, nothing, partial, excess, whole, onto, line_at, Refusal, version, header, cut, ◌>>=◌, or_else, said, is_version, version_at, strategy_behind, strategy_line_at, from_least, field, field_at, program_at, choice_at, limits_at, options_at, header_at, most_seed}
+use Rattle.bp_reading.specs.Heads.{Front, nothing, partial, excess, whole, onto, line_at, Refusal, version, header, cut, ◌>>=◌, or_else, said, is_version, version_at, strategy_behind, strategy_line_at, from_least, field, field_at, program_at, choice_at, limits_at, options_at, header_at}
 use Rattle.bp_reading.specs.Reading.{Stage, first_stage, after, Says, if_stands, next_record, behind_end, too_many, front_at, Next, found, finished, refused, next_found, next_of, next_at}
-use Rattle.bp_reading.specs.Laws.{ReadLogsAreTexts}
+use Rattle.bp_reading.specs.Laws.{ReadLogsAreTexts, LinesAreTexts, Spells}
+use Rattle.bp_reading.proofs.Lines.{some_none}
+use Rattle.bp_reading.proofs.Back.{record_back}
 use Rattle.bp_reading.proofs.Spelled.{options_then}
 use Rattle.bp_reading.proofs.Law.{regrouped, header_then, header_regrouped}
 use Rattle.bp_reading.proofs.Again.{chained, chosen, tested, same_bytes, behind_spelled, word_spelled, strategy_spelled, record_again}
@@ -170,11 +174,11 @@ unfolding choice_at
 choice_again bytes rest c h =
     let v = bound (version_at bytes) _ (c, rest) h in
     let s = bound (strategy_line_at v.0.1) _ (c, rest) v.2 in
-    let n = bound (field_at (codes "seed ") 0 most_seed s.0.1) _ (c, rest) s.2 in
+    let n = bound (field_at (codes "seed ") 0 most_64 s.0.1) _ (c, rest) s.2 in
     let e = ok_is _ _ _ refl n.2 in
     version_again bytes v.0.1 v.0.0 v.1
     ∙ ap (λ (t : List ℕ). codes "bp-log 1" ++ (10 ∷ t)) (strategy_again v.0.1 s.0.1 s.0.0 s.1
-    ∙ ap (λ (t : List ℕ). codes "strategy " ++ (strategy_name s.0.0 ++ (10 ∷ t))) (field_again (codes "seed ") s.0.1 n.0.1 0 most_seed n.0.0 (omega arith) n.1))
+    ∙ ap (λ (t : List ℕ). codes "strategy " ++ (strategy_name s.0.0 ++ (10 ∷ t))) (field_again (codes "seed ") s.0.1 n.0.1 0 most_64 n.0.0 (omega arith) n.1))
     ∙ ap (λ (q : (Strategy × ℕ) × List ℕ). codes "bp-log 1" ++ (10 ∷ (codes "strategy " ++ (strategy_name q.0.0 ++ (10 ∷ (codes "seed " ++ (decimal q.0.1 ++ (10 ∷ q.1)))))))) e
 
 limits_again : (bytes rest : List ℕ) (l : ℕ × ℕ) → limits_at bytes ≡ Ok (l, rest)
@@ -259,14 +263,18 @@ unfolding kind
 many_something [] h = apart partial nothing 1 0 refl refl (λ d. omega arith) h
 many_something (b ∷ bytes) h = apart excess nothing 2 0 refl refl (λ d. omega arith) h
 
+-- before the end the bytes don't end well
+goes_on : (s : Stage) (bytes : List ℕ) → (if nat_le MOST_RECORDS s.lines then too_many bytes else line_at MOST_LINE_BYTES bytes) ≡ nothing → ⊥
+goes_on s bytes h = elim (chosen (nat_le MOST_RECORDS s.lines) _ _ _ h) [
+  | inl full ↦ many_something bytes full.1
+  | inr more ↦ line_some bytes MOST_LINE_BYTES more.1
+]
+
 finished_again : (s : Stage) (bytes : List ℕ) → next_at s bytes ≡ finished → bytes ≡ []
 unfolding next_at
 finished_again s bytes h = elim (chosen s.ended _ _ _ (front_finished s (front_at s bytes) h)) [
   | inl over ↦ ends_nothing bytes over.1
-  | inr going ↦ elim (chosen (nat_le MOST_RECORDS s.lines) _ _ _ going.1) [
-    | inl full ↦ absurd (many_something bytes full.1)
-    | inr more ↦ absurd (line_some bytes MOST_LINE_BYTES more.1)
-  ]
+  | inr going ↦ absurd (goes_on s bytes going.1)
 ]
 
 found_parts : (s : Stage) (rest other : List ℕ) (o : Option Record) (r : Record) → next_found s rest o ≡ found r other → (o ≡ Some r) × (rest ≡ other)
@@ -318,7 +326,40 @@ records_again [] s bytes h = finished_again s bytes h
 records_again (r ∷ rs) s bytes h =
     found_again s bytes h.0 r h.1 ∙ ap (λ (t : List ℕ). record_text r ++ (10 ∷ t)) (records_again rs (after s r) h.0 h.2) ∙ sym (regrouped r rs)
 
+never_stops : (s : Stage) (bytes : List ℕ) → s.ended ≡ false → next_at s bytes ≡ finished → ⊥
+unfolding next_at
+never_stops s bytes e h = elim (chosen s.ended _ _ _ (front_finished s (front_at s bytes) h)) [
+  | inl over ↦ false≢true (sym e ∙ over.0)
+  | inr going ↦ goes_on s bytes going.1
+]
+
+nothing_follows : (s : Stage) (bytes rest : List ℕ) (r : Record) → s.ended ≡ true → next_at s bytes ≡ found r rest → ⊥
+unfolding next_at
+nothing_follows s bytes rest r e h =
+    let p = front_found s (front_at s bytes) r rest h in
+    elim (chosen s.ended _ _ _ p.1) [
+      | inl over ↦ ends_no_line bytes p.0 rest over.1
+      | inr going ↦ false≢true (sym going.0 ∙ e)
+    ]
+
+complete_again : (rs : List Record) (s : Stage) (bytes : List ℕ) → s.ended ≡ false → Says s bytes rs None → is_complete rs ≡ true
+complete_again [] s bytes e h = absurd (never_stops s bytes e h)
+complete_again (In j x ∷ rs) s bytes e h = complete_again rs (after s (In j x)) h.0 e h.2
+complete_again (Bad j n ∷ rs) s bytes e h = complete_again rs (after s (Bad j n)) h.0 e h.2
+complete_again (Eof j ∷ rs) s bytes e h = complete_again rs (after s (Eof j)) h.0 e h.2
+complete_again (Sel x ∷ rs) s bytes e h = complete_again rs (after s (Sel x)) h.0 e h.2
+complete_again (End v ∷ []) s bytes e h = refl
+complete_again (End v ∷ (r ∷ rs)) s bytes e h = absurd (nothing_follows (after s (End v)) h.0 h.2.0 r refl h.2.1)
+
 pub read_logs_are_texts : ReadLogsAreTexts
 unfolding log_text
-read_logs_are_texts bytes rest h rs k l =
-    header_again bytes rest h k ∙ ap (header_then h) (records_again rs (first_stage h.options.injectors) rest l) ∙ sym (header_regrouped h (records_text rs))
+read_logs_are_texts bytes rest h rs k l = (
+    header_again bytes rest h k ∙ ap (header_then h) (records_again rs (first_stage h.options.injectors) rest l) ∙ sym (header_regrouped h (records_text rs)),
+    complete_again rs (first_stage h.options.injectors) rest refl l)
+
+spelled : (line : List ℕ) (o : Option Record) → record_at line ≡ o → Spells line o
+spelled line (Some r) h = record_again line r h
+spelled line None h = λ r k e. some_none (sym h ∙ ap record_at e ∙ record_back r k)
+
+pub lines_are_texts : LinesAreTexts
+lines_are_texts line = spelled line (record_at line) refl

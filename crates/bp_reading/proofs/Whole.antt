@@ -12,8 +12,8 @@ use Rattle.bp_log.specs.declared.options.Strategy.{Strategy}
 use Rattle.bp_log.specs.declared.options.Strategy.TheVariants.{Simple, Ordered, Priority}
 use Rattle.bp_log.specs.declared.record.Record.{Record}
 use Rattle.bp_reading.specs.declared.limits.TheConstants.{MOST_LINE_BYTES, MOST_RECORDS}
-use Rattle.bp_reading.specs.Words.{behind}
-use Rattle.bp_reading.specs.Heads.{◌>>=◌, version_at, strategy_line_at, field_at, program_at, choice_at, limits_at, options_at, header_at, most_seed}
+use Rattle.bp_reading.specs.Words.{most_64, behind}
+use Rattle.bp_reading.specs.Heads.{◌>>=◌, version_at, strategy_line_at, field_at, program_at, choice_at, limits_at, options_at, header_at}
 use Rattle.bp_reading.specs.Reading.{Stage, first_stage, after, can_stand, Says, next_at, found, finished}
 use Rattle.bp_reading.specs.Laws.{IsHeader, IsRecord, AreRecords, Stands, LogsAreRead}
 use Rattle.bp_reading.proofs.Lines.{lacks, lacks-append, line_is}
@@ -69,7 +69,7 @@ options_back o rest small k =
     rw (
       version_back _,
       strategy_back o.strategy _,
-      field_back (codes "seed ") 0 most_seed o.seed _ refl (omega arith) (omega arith) (omega arith) (omega (arith, small)),
+      field_back (codes "seed ") 0 most_64 o.seed _ refl (omega arith) (omega arith) (omega arith) (omega (arith, small)),
       field_back (codes "budget ") 1 MOST_BUDGET o.budget _ refl (omega arith) (omega arith) k.some_budget k.budget,
       field_back (codes "steps ") 1 MOST_STEPS o.steps _ refl (omega arith) (omega arith) k.some_steps k.steps,
       field_back (codes "injectors ") 0 MOST_INJECTORS o.injectors _ refl (omega arith) (omega arith) (omega arith) k.injectors,

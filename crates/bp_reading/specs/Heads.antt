@@ -7,7 +7,7 @@ use Rattle.bp_log.specs.Logs.{strategy_at}
 use Rattle.bp_log.specs.declared.limits.TheConstants.{MOST_BYTES, MOST_BUDGET, MOST_STEPS, MOST_INJECTORS}
 use Rattle.bp_log.specs.declared.options.Strategy.{Strategy}
 use Rattle.bp_reading.specs.declared.limits.TheConstants.{MOST_LINE_BYTES}
-use Rattle.bp_reading.specs.Words.{behind, number_behind}
+use Rattle.bp_reading.specs.Words.{most_64, behind, number_behind}
 
 -- what the bytes begin with
 pub data Front : Type 0 where
@@ -90,16 +90,12 @@ program_at zero (b ∷ bytes) = if b == 10 then Ok ([], bytes) else Err header
 program_at (suc n) [] = Err cut
 program_at (suc n) (b ∷ bytes) = program_at n bytes >>= λ p. Ok (b ∷ p.0, p.1)
 
--- the greatest seed
-abbrev pub most_seed : ℕ
-most_seed = 18_446_744_073_709_551_615
-
 -- the first line, the strategy and the seed
 unfoldable pub choice_at : List ℕ → Result ((Strategy × ℕ) × List ℕ) Refusal
 choice_at bytes = do
   v ← version_at bytes
   strategy ← strategy_line_at v.1
-  seed ← field_at (codes "seed ") 0 most_seed strategy.1
+  seed ← field_at (codes "seed ") 0 most_64 strategy.1
   Ok ((strategy.0, seed.0), seed.1)
 
 -- the budget and the steps

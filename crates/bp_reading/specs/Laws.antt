@@ -1,10 +1,11 @@
 -- What is true of the texts of logs.
-use Rattle.std.specs.Prelude.{◌≡◌, ℕ, ◌<◌, ◌≤◌, ◌^◌, true, false, List, [], ◌∷◌, length, Ok, None}
+use Rattle.std.specs.Prelude.{◌≡◌, ℕ, ◌<◌, ◌≤◌, ◌^◌, true, false, List, [], ◌∷◌, length, Ok, Option, Some, None}
 use Rattle.std.specs.Str.{is_utf8}
 use Rattle.js_data.specs.Event.{IsEvent}
 use Rattle.bp_log.specs.Options.{AreOptions}
 use Rattle.bp_log.specs.Header.{PlainHeader}
 use Rattle.bp_log.specs.Logs.{record_text, records_text, log_text}
+use Rattle.bp_log.specs.Records.{is_complete}
 use Rattle.bp_log.specs.declared.limits.TheConstants.{MOST_BYTES}
 use Rattle.bp_log.specs.declared.record.Record.{Record}
 use Rattle.bp_log.specs.declared.record.Record.TheVariants.{In, Bad, Eof, Sel, End}
@@ -14,6 +15,7 @@ use Rattle.bp_log.specs.declared.verdict.Verdict.{Verdict}
 use Rattle.bp_log.specs.declared.verdict.Verdict.TheVariants as verdict
 use Rattle.bp_reading.specs.declared.limits.TheConstants.{MOST_LINE_BYTES, MOST_RECORDS}
 use Rattle.bp_reading.specs.Heads.{header_at}
+use Rattle.bp_reading.specs.Lines.{record_at}
 use Rattle.bp_reading.specs.Reading.{Stage, first_stage, after, can_stand, Says}
 
 -- ---- what headers and records meet by their types
@@ -67,8 +69,17 @@ LogsAreRead =
     (h : PlainHeader) (rs : List Record) → IsHeader h → AreRecords rs → Stands (first_stage h.options.injectors) rs →
     (header_at (log_text h rs) ≡ Ok (h, records_text rs)) × Says (first_stage h.options.injectors) (records_text rs) rs None
 
--- bytes that say a header and a complete list are the text of these
+-- what bytes say as a header and records up to a good end is a complete list, and the bytes are their text
 abbrev pub ReadLogsAreTexts : Type 0
 ReadLogsAreTexts =
     (bytes rest : List ℕ) (h : PlainHeader) (rs : List Record) → header_at bytes ≡ Ok (h, rest) →
-    Says (first_stage h.options.injectors) rest rs None → bytes ≡ log_text h rs
+    Says (first_stage h.options.injectors) rest rs None → (bytes ≡ log_text h rs) × (is_complete rs ≡ true)
+
+-- the line is the text of the record, or of none
+abbrev pub Spells : List ℕ → Option Record → Type 0
+Spells line (Some r) = line ≡ record_text r
+Spells line None = (r : Record) → IsRecord r → ¬ (line ≡ record_text r)
+
+-- a line says the record whose text it is, and is refused where it is the text of none
+abbrev pub LinesAreTexts : Type 0
+LinesAreTexts = (line : List ℕ) → Spells line (record_at line)

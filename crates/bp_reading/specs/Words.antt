@@ -26,9 +26,12 @@ is_numeral (c ∷ cs) = all_ascii_digits (c ∷ cs) && not (is_front_zero (c ∷
 abbrev pub number_at : ℕ → List ℕ → Option ℕ
 number_at most bytes = if is_numeral bytes && nat_le (value_on 0 bytes) most then Some (value_on 0 bytes) else None
 
--- the greatest number of 32 bits
+-- the greatest numbers of 32 and of 64 bits
 abbrev pub most_32 : ℕ
 most_32 = 4_294_967_295
+
+abbrev pub most_64 : ℕ
+most_64 = 18_446_744_073_709_551_615
 
 -- ---- words
 

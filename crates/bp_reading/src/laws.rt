@@ -1,5 +1,5 @@
 //! The laws of logs, each as the contract of a function that does nothing.
-ghost use Rattle.bp_reading.specs.Laws.{OneReading, LogsAreRead, ReadLogsAreTexts};
+ghost use Rattle.bp_reading.specs.Laws.{OneReading, LogsAreRead, ReadLogsAreTexts, LinesAreTexts};
 
 /// No two pairs of a header and a list of records have one text.
 pub fn one_reading()
@@ -12,7 +12,13 @@ pub fn logs_are_read()
     ensures { LogsAreRead }
 {}
 
-/// Bytes that are read as a header and a complete list of records are the text of these.
+/// What bytes are read as, up to a good end, is a header and a complete list of records, and the bytes
+/// are the text of these.
 pub fn read_logs_are_texts()
     ensures { ReadLogsAreTexts }
+{}
+
+/// A line is read as the record whose text it is, and is refused where it is the text of none.
+pub fn lines_are_texts()
+    ensures { LinesAreTexts }
 {}

@@ -16,4 +16,4 @@ pub returns : goal.returns
 returns c =
     sym (read_word c.args.most c.in-Ok.number c.args.word.now c.parse.result c.parse.ensures.value.0 c.in-Ok.is
     (rw c.as_bytes-digits.ensures.value at c.if-digits-eq43.false)
-    (rw c.as_bytes-digits.ensures.value at c.if-digits-gt20.false) c.if-number-most.false)
+    (rw c.as_bytes-digits.ensures.value at c.if-digits-gt-MOST_DIGITS.false) c.if-number-most.false)

@@ -1,0 +1,6 @@
+//! What is said of a log that tells another story than its run.
+#![tactic(auto)]
+
+mod texts;
+
+pub use texts::differing;
