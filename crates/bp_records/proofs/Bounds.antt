@@ -1,27 +1,25 @@
 -- How long the texts of events, verdicts and records are at most.
-use Rattle.std.proofs.Common.{◌≡◌, ℕ, suc, ◌+◌, ◌*◌, ◌<◌, ◌≤◌, ◌^◌, Bool, true, false, List, [], ◌∷◌, ◌++◌, length, Option, Some, None, arith, ℤ, pos, negsuc, if◌then◌else◌, length-append}
-use Rattle.std.specs.Prelude.{decimal, flat_map, ◌==◌, ◌||◌, nat_lt, codes}
+use Rattle.std.proofs.Common.{ℕ, suc, ◌+◌, ◌*◌, ◌<◌, ◌≤◌, ◌^◌, Bool, true, false, List, [], ◌∷◌, ◌++◌, length, Option, Some, None, arith, ℤ, pos, negsuc, if◌then◌else◌, length-append}
+use Rattle.std.specs.Prelude.{decimal, flat_map, ◌==◌, ◌||◌, nat_lt}
 use Rattle.std.proofs.lemmas.Bool.{ltb-true}
 use Rattle.std.proofs.lemmas.Fmt.{length-decimal-le}
 use Rattle.js_data.specs.Whole.{IsWhole}
 use Rattle.js_data.specs.Data.{PlainData, null, truth, whole, words, list, fields, DataList, no_data, item, DataFields, no_fields, field, IsHeld, AreHeld, AreHeldFields, data_weight, data_list_weight, data_fields_weight}
-use Rattle.js_data.specs.Event.{PlainEvent, IsEvent, IsHeldExtra, extra_weight, event_weight}
+use Rattle.js_data.specs.Event.{PlainEvent, IsEvent, IsHeldExtra, extra_weight}
 use Rattle.js_data.specs.JsonText.{event_text, data_text, data_list_text, data_fields_text, extra_text, quoted_text, escaped_byte, comma}
 use Rattle.js_data.specs.Faults.{fault_name}
-use Rattle.js_data.specs.declared.event.TheConstants.Event as event
 use Rattle.js_data.specs.declared.fault.Fault.{Fault}
 use Rattle.js_data.specs.declared.fault.Fault.TheVariants as fault
 use Rattle.bp_log.specs.Texts.{place_text}
 use Rattle.bp_log.specs.Logs.{record_text}
-use Rattle.bp_log.specs.declared.record.Record.{Record}
-use Rattle.bp_log.specs.declared.record.Record.TheVariants.{In, Bad, Eof, Sel, End}
+use Rattle.bp_log.specs.declared.record.Record.TheVariants.{Sel, End}
 use Rattle.bp_log.specs.declared.verdict.Place.{Place}
 use Rattle.bp_log.specs.declared.verdict.Place.TheVariants.{Top, Thread}
 use Rattle.bp_log.specs.declared.verdict.Verdict.{Verdict}
 use Rattle.bp_log.specs.declared.verdict.Verdict.TheVariants as verdict
 use Rattle.bp_reading.specs.declared.limits.TheConstants.{MOST_LINE_BYTES}
-use Rattle.bp_reading.specs.Laws.{IsVerdict, IsRecord}
-use Rattle.bp_reading.proofs.Spelled.{spelled_verdict, spelled_record, record_is}
+use Rattle.bp_reading.specs.Laws.{IsVerdict}
+use Rattle.bp_reading.proofs.Spelled.{spelled_verdict, record_is}
 use Rattle.bp_records.proofs.Verdicts.{IsShortPlace, IsShortVerdict}
 
 -- ---- texts in quotation marks: at most six bytes for each byte

@@ -1,5 +1,5 @@
 -- What each form does with short values: its outcome is short.
-use Rattle.std.proofs.Common.{◌≡◌, ℕ, zero, suc, ◌+◌, ◌-◌, Bool, true, false, cond, List, [], ◌∷◌, ◌++◌, length, Option, Some, None, Ok, Err, map}
+use Rattle.std.proofs.Common.{ℕ, zero, suc, ◌+◌, ◌-◌, Bool, true, false, cond, List, [], ◌∷◌, ◌++◌, length, Option, Some, None, Ok, Err, map}
 use Rattle.std.specs.Prelude.{pos, unwrap_or, nat_lt, codes, drop, take, replicate, slice_get, slice_set, fold, option_map}
 use Rattle.std.specs.Str.{bytes_eq}
 use Rattle.js_data.specs.Event.{PlainEvent}
@@ -31,7 +31,7 @@ use Rattle.js_program.specs.declared.node.Variable.TheVariants.{Slot, Constant}
 use Rattle.js_program.specs.PlainProgram as p
 use Rattle.js_program.specs.PlainProgram.{PlainNode, PlainNodeForm, PlainBody, PlainContent, PlainDeclared, parts_of}
 use Rattle.js_meaning.specs.declared.limits.TheConstants.{MOST_CALLS}
-use Rattle.js_meaning.specs.State.{Setting, Effect, says, enqueues, registers, handles, State, Completion, normal, broke, continued, returned, left_of, Outcome, went, broken, violated, spent, stopped, spends, ◌>>=◌, gives, leaves, breaks, answered}
+use Rattle.js_meaning.specs.State.{Setting, Effect, says, enqueues, registers, handles, State, Completion, normal, broke, continued, returned, Outcome, went, broken, violated, spent, stopped, spends, ◌>>=◌, gives, leaves, breaks, answered}
 use Rattle.js_meaning.specs.Variables.{in_slot, held, set_slot, set_variable, undeclare, if_declared, padded, slots_of_call, captured}
 use Rattle.js_meaning.specs.Calls.{body_of, answer_of, after_call, applies, sequence, in_order, runs, enters, calls, for_each_from, for_each_call, calls_method}
 use Rattle.js_meaning.specs.Forms.{argument, does_to_run, registers_thread, asks, asserted, enqueues_event, sets_handler, log_text, logs, floors, takes_effect, applies_form}

@@ -1,5 +1,5 @@
 -- Operators, members, methods and makings of short values give short values.
-use Rattle.std.proofs.Common.{◌≡◌, ℕ, ◌≤◌, ◌+◌, Bool, true, false, List, [], ◌∷◌, ◌++◌, length, Option, Some, None, Ok, Err, arith, ℤ, pos, negsuc, if◌then◌else◌}
+use Rattle.std.proofs.Common.{◌≡◌, ℕ, ◌≤◌, Bool, true, false, List, [], ◌∷◌, ◌++◌, length, Option, Some, None, Ok, Err, arith, ℤ, pos, negsuc, if◌then◌else◌}
 use Rattle.std.specs.List.{starts_with, ends_with}
 use Rattle.std.specs.Prelude.{slice_get, flat_map, nat_eq, nat_lt, int_rem, int_div, int_lt, int_le, ◌+ℤ◌, ◌-ℤ◌, ◌*ℤ◌, neg_ℤ, codes}
 use Rattle.std.specs.Ordering.{nat_cmp, int_eq, match_ordering}
@@ -34,7 +34,7 @@ use Rattle.js_ops.specs.Rules.{rule_for}
 use Rattle.js_ops.specs.declared.rule.Rule.{Rule}
 use Rattle.js_ops.specs.declared.rule.Rule.TheVariants as rule
 use Rattle.js_ops.specs.Operators.{quotient, rounded_down, floor_quotient, remainder, of_wholes, join, by_rule, value_of, of_whole, unary_of}
-use Rattle.js_ops.specs.Members.{field_or_undefined, extra_value, list_member, event_member, member_of, place_of, index_of}
+use Rattle.js_ops.specs.Members.{field_or_undefined, extra_value, event_member, member_of, place_of, index_of}
 use Rattle.js_ops.specs.Making.{put, put_all, event_with, event_of, event_of_parts, predicate_of, predicate_of_parts, make_of, extra_of}
 use Rattle.js_ops.specs.Methods.{list_in, joined, concat_of, on_texts, of_texts, both_sets, of_sets, negate_of, first_set, called_on, method_of}
 use Rattle.bp_records.proofs.Lists.{Each, OfSome, each_append, each_get, each_flat_map, or_default}

@@ -1,5 +1,5 @@
 -- The code of every program gives short texts alone.
-use Rattle.std.proofs.Common.{◌≡◌, ℕ, zero, suc, ◌+◌, List, [], ◌∷◌, Option, Some, None, map, refl, arith, subst, sym, ap}
+use Rattle.std.proofs.Common.{ℕ, zero, suc, ◌+◌, List, [], ◌∷◌, Option, Some, None, map, refl, arith}
 use Rattle.std.specs.Prelude.{slice_get, fold, drop, option_map}
 use Rattle.js_data.specs.Event.{PlainEvent}
 use Rattle.js_value.specs.Value as v
@@ -12,14 +12,13 @@ use Rattle.js_meaning.specs.Variables.{constant_start}
 use Rattle.js_meaning.specs.Meaning.{does_node, begins_with, within, allowed, eval}
 use Rattle.js_meaning.specs.Statements.{turns}
 use Rattle.js_meaning.specs.Bodies.{Origin, the_top, function, bare, setting_of, own_constants, start_of, evaluation, constants_left, ground_of}
-use Rattle.bp_log.specs.Options.{PlainOptions, AreOptions}
-use Rattle.bp_log.specs.declared.limits.TheConstants.{MOST_STEPS}
-use Rattle.bp_reading.specs.Reading.{Stage, first_stage}
+use Rattle.bp_log.specs.Options.{PlainOptions}
+use Rattle.bp_reading.specs.Reading.{first_stage}
 use Rattle.bp_run.specs.Bodies.{Statement}
 use Rattle.bp_run.specs.Settling.{initial}
 use Rattle.bp_run.specs.Story.{alone}
 use Rattle.bp_run.proofs.Stories.{alone_is}
-use Rattle.bp_meaning.specs.After.{effect_of, stopped_with, outcome_of, part_of, handler_after, handler}
+use Rattle.bp_meaning.specs.After.{effect_of, stopped_with, outcome_of, part_of, handler_after}
 use Rattle.bp_code.specs.Code.{ground_for, code_of}
 use Rattle.bp_records.specs.Laws.{RecordsStand}
 use Rattle.bp_records.proofs.Lists.{Each, OfSome, each_drop, or_default}

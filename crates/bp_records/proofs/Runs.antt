@@ -1,5 +1,5 @@
 -- A run whose code gives short texts alone ends in a short verdict.
-use Rattle.std.proofs.Common.{◌≡◌, ℕ, zero, suc, ◌+◌, Bool, true, false, List, [], ◌∷◌, ◌++◌, length, Option, Some, None, Ok, Err, map, arith, if◌then◌else◌, ◌==◌, nat_lt}
+use Rattle.std.proofs.Common.{◌≡◌, ℕ, zero, suc, ◌+◌, Bool, true, false, List, [], ◌∷◌, length, Option, Some, None, Ok, Err, map, arith, if◌then◌else◌, ◌==◌, nat_lt}
 use Rattle.std.specs.Prelude.{slice_get, option_map}
 use Rattle.js_data.specs.Event.{PlainEvent}
 use Rattle.bp_log.specs.Options.{PlainOptions}

@@ -1,10 +1,10 @@
 -- The records of a run whose code gives short texts alone can stand in a log.
-use Rattle.std.proofs.Common.{◌≡◌, ℕ, zero, suc, ◌+◌, ◌≤◌, true, false, List, [], ◌∷◌, refl, arith, subst, sym}
+use Rattle.std.proofs.Common.{◌≡◌, ℕ, zero, suc, ◌+◌, ◌≤◌, true, false, List, refl, arith, subst, sym}
 use Rattle.std.proofs.lemmas.Bool.{false≢true}
 use Rattle.bp_log.specs.Options.{PlainOptions}
 use Rattle.bp_log.specs.Records.{is_complete}
 use Rattle.bp_log.specs.declared.record.Record.{Record}
-use Rattle.bp_log.specs.declared.record.Record.TheVariants.{Sel, End}
+use Rattle.bp_log.specs.declared.record.Record.TheVariants.{Sel}
 use Rattle.bp_reading.specs.declared.limits.TheConstants.{MOST_RECORDS}
 use Rattle.bp_reading.specs.Reading.{Stage, after}
 use Rattle.bp_reading.specs.Laws.{AreRecords, Stands}
