@@ -34,6 +34,8 @@ use Rattle.bp_cli.specs.Replaying.{ReplayEnds, IsCaused, replayed_of}
 use Rattle.bp_cli.specs.Refusing.{IsTooLong, program_of, Refuses}
 use Rattle.bp_cli.specs.Runs.{Holds, HoldsFront, KeepsLog, KeepsLogFront, RunEnds, log_alone, header_of}
 use Rattle.bp_cli.specs.Texts.{accepted_line}
+use Rattle.bp_reading.specs.Laws.{IsHeader}
+use Rattle.bp_cli.proofs.Runs.{run_replays}
 
 -- ---- too long
 
@@ -224,17 +226,18 @@ unloaded_ends c name unread unwritten before after (BadLog fault) g u same = abs
 
 -- a run of an accepted program
 pub run_given : (asked : Run) (bytes : List ℕ) (program : PlainProgram) (unread unwritten whole partly : Type 0) (before after : Outside) (conclusion : Conclusion) →
-    IsUnder before.holds asked.program bytes → IsProgram bytes program → (whole → KeepsLog asked.log before.holds (log_alone (header_of asked bytes) program) after.holds) →
+    IsHeader (header_of asked bytes) → asked.options.injectors ≡ 0 → IsUnder before.holds asked.program bytes → IsProgram bytes program → (whole → KeepsLog asked.log before.holds (log_alone (header_of asked bytes) program) after.holds) →
     (partly → KeepsLogFront asked.log before (log_alone (header_of asked bytes) program) after) →
     RunEnds program asked.options unwritten whole partly before.printed after.printed conclusion → EndsIn (Some (command.Run asked)) unread unwritten before after conclusion
-run_given asked bytes program unread unwritten whole partly before after (Ran v) u p k f r = (bytes, u, record { program = program; is_program = p; verdict = r.0; prints = r.1; keeps = k r.2 })
-run_given asked bytes program unread unwritten whole partly before after NotWritten u p k f r = (bytes, u, (r.0, record { program = program; is_program = p; prints = r.1; keeps = f r.2 }))
-run_given asked bytes program unread unwritten whole partly before after NoMemory u p k f r = inr (bytes, u, record { program = program; is_program = p; prints = r.0; keeps = f r.1 })
-run_given asked bytes program unread unwritten whole partly before after NoCommand u p k f r = absurd r
-run_given asked bytes program unread unwritten whole partly before after (Refused refusal) u p k f r = absurd r
-run_given asked bytes program unread unwritten whole partly before after Accepted u p k f r = absurd r
-run_given asked bytes program unread unwritten whole partly before after NotRead u p k f r = absurd r
-run_given asked bytes program unread unwritten whole partly before after (BadLog fault) u p k f r = absurd r
+run_given asked bytes program unread unwritten whole partly before after (Ran v) is none u p k f r =
+    (bytes, u, record { program = program; is_program = p; verdict = r.0; prints = r.1; keeps = k r.2; replays = run_replays (λ text. Appends before.printed text after.printed) (header_of asked bytes) program v is none p r.3 r.0 (text_alone program asked.options) refl r.1 })
+run_given asked bytes program unread unwritten whole partly before after NotWritten is none u p k f r = (bytes, u, (r.0, record { program = program; is_program = p; prints = r.1; keeps = f r.2 }))
+run_given asked bytes program unread unwritten whole partly before after NoMemory is none u p k f r = inr (bytes, u, record { program = program; is_program = p; prints = r.0; keeps = f r.1 })
+run_given asked bytes program unread unwritten whole partly before after NoCommand is none u p k f r = absurd r
+run_given asked bytes program unread unwritten whole partly before after (Refused refusal) is none u p k f r = absurd r
+run_given asked bytes program unread unwritten whole partly before after Accepted is none u p k f r = absurd r
+run_given asked bytes program unread unwritten whole partly before after NotRead is none u p k f r = absurd r
+run_given asked bytes program unread unwritten whole partly before after (BadLog fault) is none u p k f r = absurd r
 
 weaker : (program : PlainProgram) (o : PlainOptions) (unwritten more whole partly : Type 0) (b a : Option (List ℕ)) (conclusion : Conclusion) → RunEnds program o unwritten whole partly b a conclusion →
     RunEnds program o (unwritten ⊎ more) whole partly b a conclusion
@@ -265,15 +268,15 @@ runs_same asked program run bytes header unwritten whole partly b a conclusion e
     (subst (λ (p : PlainProgram). RunEnds p header.options unwritten whole partly b a conclusion) e r)
 
 -- no log is kept
-pub unlogged_given : (asked : Run) (program run : PlainProgram) (bytes name : List ℕ) (header : PlainHeader) (unread unwritten more : Type 0) (before after : Outside) (conclusion : Conclusion) → name ≡ asked.program →
+pub unlogged_given : (asked : Run) (program run : PlainProgram) (bytes name : List ℕ) (header : PlainHeader) (unread unwritten more : Type 0) (before after : Outside) (conclusion : Conclusion) → IsHeader header → asked.options.injectors ≡ 0 → name ≡ asked.program →
     IsUnder before.holds name bytes → IsProgram bytes program → run ≡ program → header ≡ header_of asked bytes → asked.log ≡ None → after.holds ≡ before.holds →
     RunEnds run header.options unwritten (Unit {0}) (Unit {0}) before.printed after.printed conclusion → EndsIn (Some (command.Run asked)) unread (unwritten ⊎ more) before after conclusion
-unlogged_given asked program run bytes name header unread unwritten more before after conclusion n u p e h l same r =
+unlogged_given asked program run bytes name header unread unwritten more before after conclusion is none n u p e h l same r =
     let keeps : KeepsLog asked.log before.holds (log_alone (header_of asked bytes) program) after.holds =
     subst (λ (o : Option (List ℕ)). KeepsLog o before.holds (log_alone (header_of asked bytes) program) after.holds) (sym l) same in
     let partly : KeepsLogFront asked.log before (log_alone (header_of asked bytes) program) after =
     subst (λ (o : Option (List ℕ)). KeepsLogFront o before (log_alone (header_of asked bytes) program) after) (sym l) same in
-    run_given asked bytes program unread (unwritten ⊎ more) (Unit {0}) (Unit {0}) before after conclusion
+    run_given asked bytes program unread (unwritten ⊎ more) (Unit {0}) (Unit {0}) before after conclusion (subst IsHeader h is) none
     (subst (λ (x : List ℕ). IsUnder before.holds x bytes) n u) p (λ _. keeps) (λ _. partly)
     (weaker program asked.options unwritten more (Unit {0}) (Unit {0}) before.printed after.printed conclusion
     (runs_same asked program run bytes header unwritten (Unit {0}) (Unit {0}) before.printed after.printed conclusion e h r))
@@ -285,14 +288,14 @@ from_mid name text mid before after m q (inl s) = inl (s.0 ∙ q, s.1 ∙ m)
 from_mid name text mid before after m q (inr s) = inr (subst (λ (x : Option Holdings). HoldsFront x name text after.holds) m s)
 
 -- a log is kept
-pub logged_given : (asked : Run) (program run : PlainProgram) (bytes name log said : List ℕ) (header : PlainHeader) (unread said_unwritten unwritten : Type 0) (mid before after : Outside) (conclusion : Conclusion) → (said_unwritten → unwritten) → name ≡ asked.program →
+pub logged_given : (asked : Run) (program run : PlainProgram) (bytes name log said : List ℕ) (header : PlainHeader) (unread said_unwritten unwritten : Type 0) (mid before after : Outside) (conclusion : Conclusion) → IsHeader header → asked.options.injectors ≡ 0 → (said_unwritten → unwritten) → name ≡ asked.program →
     IsUnder before.holds name bytes → IsProgram bytes program → run ≡ program → header ≡ header_of asked bytes → asked.log ≡ Some said → log ≡ said → mid.holds ≡ before.holds → mid.printed ≡ before.printed →
     RunEnds run header.options said_unwritten (Holds mid.holds log (log_alone header run) after.holds) (KeepsLogFront (Some log) mid (log_alone header run) after) before.printed after.printed conclusion →
     EndsIn (Some (command.Run asked)) unread unwritten before after conclusion
-logged_given asked program run bytes name log said header unread said_unwritten unwritten mid before after conclusion f n u p e h l k m q r =
+logged_given asked program run bytes name log said header unread said_unwritten unwritten mid before after conclusion is none f n u p e h l k m q r =
     let text : log_alone header run ≡ log_alone (header_of asked bytes) program = λ i. log_alone (h i) (e i) in
     let named : Some log ≡ asked.log = ap (λ (x : List ℕ). Some x) k ∙ sym l in
-    run_given asked bytes program unread unwritten (Holds mid.holds log (log_alone header run) after.holds) (KeepsLogFront (Some log) mid (log_alone header run) after) before after conclusion
+    run_given asked bytes program unread unwritten (Holds mid.holds log (log_alone header run) after.holds) (KeepsLogFront (Some log) mid (log_alone header run) after) before after conclusion (subst IsHeader h is) none
     (subst (λ (x : List ℕ). IsUnder before.holds x bytes) n u) p
     (λ w. subst (λ (o : Option (List ℕ)). KeepsLog o before.holds (log_alone (header_of asked bytes) program) after.holds) named
     (subst (λ (t : List ℕ). Holds before.holds log t after.holds) text (subst (λ (x : Option Holdings). Holds x log (log_alone header run) after.holds) m w)))

@@ -5,30 +5,36 @@ use Rattle.bp_base.specs.Counts.{Rose}
 use Rattle.bp_base.specs.Worlds.{Holdings, Sets, Keeps}
 use Rattle.bp_base.specs.Pieces.{Appends, AppendsFront}
 use Rattle.js_program.specs.PlainProgram.{PlainProgram}
+use Rattle.bp_log.specs.Header.{PlainHeader}
 use Rattle.bp_log.specs.Options.{PlainOptions}
-use Rattle.bp_code.specs.Code.{text_alone}
+use Rattle.bp_log.specs.declared.verdict.Verdict.{Verdict}
+use Rattle.bp_reading.specs.Laws.{IsHeader, AreRecords}
+use Rattle.bp_code.specs.Code.{records_alone, text_alone}
+use Rattle.bp_script.specs.Programs.{IsProgram}
 use Rattle.bp_serve.specs.declared.report.Report.{Report}
 use Rattle.bp_serve.specs.declared.fault.RunFault.{RunFault}
 use Rattle.bp_serve.specs.Ends.{verdict_alone}
 use Rattle.bp_serve.specs.Logging.{LogGets, LogGetsFront}
 use Rattle.bp_serve.proofs.Way.{front_alone, unprinted as let_go}
+use Rattle.bp_replay.specs.Laws.{ReplaysTo}
+use Rattle.bp_replay.proofs.RunLogs.{logs_of_runs_replay}
 use Rattle.bp_cli.specs.declared.conclusion.Conclusion.{Conclusion}
 use Rattle.bp_cli.specs.Conclusions.{ended_of}
 use Rattle.bp_cli.specs.Outside.{Outside}
-use Rattle.bp_cli.specs.Runs.{Holds, KeepsLogFront, RunEnds}
+use Rattle.bp_cli.specs.Runs.{Holds, KeepsLogFront, RunEnds, log_alone}
 
 -- what a run answers says how the command ends
 pub run_ends : (r : Result Report RunFault) (c : Conclusion) (program : PlainProgram) (o : PlainOptions) (unwritten whole partly : Type 0) (before after : Option (List ℕ)) → c ≡ ended_of r →
     OnOk r (IsSomeAnd (text_alone program o) (λ t. Appends before t after)) → OnErr r (IsSomeAnd (text_alone program o) (λ t. AppendsFront before t after)) →
     IfOk r (λ x. verdict_alone program o ≡ Some x.verdict) → (IsErrOf r RunFault.Write → unwritten) → (IsErrOf r RunFault.LogWrite → unwritten) → OnOk r whole → OnErr r partly →
-    RunEnds program o unwritten whole partly before after c
-run_ends (Ok x) c program o unwritten whole partly before after e p f v w l k n =
-    subst (λ (y : Conclusion). RunEnds program o unwritten whole partly before after y) (sym e) (v, p, k)
-run_ends (Err RunFault.Write) c program o unwritten whole partly before after e p f v w l k n =
+    IfOk r (λ x. x.records ≡ records_alone program o) → IfOk r (λ x. AreRecords x.records) → RunEnds program o unwritten whole partly before after c
+run_ends (Ok x) c program o unwritten whole partly before after e p f v w l k n m a =
+    subst (λ (y : Conclusion). RunEnds program o unwritten whole partly before after y) (sym e) (v, p, k, subst AreRecords m a)
+run_ends (Err RunFault.Write) c program o unwritten whole partly before after e p f v w l k n m a =
     subst (λ (y : Conclusion). RunEnds program o unwritten whole partly before after y) (sym e) (w refl, f, n)
-run_ends (Err RunFault.LogWrite) c program o unwritten whole partly before after e p f v w l k n =
+run_ends (Err RunFault.LogWrite) c program o unwritten whole partly before after e p f v w l k n m a =
     subst (λ (y : Conclusion). RunEnds program o unwritten whole partly before after y) (sym e) (l refl, f, n)
-run_ends (Err RunFault.Memory) c program o unwritten whole partly before after e p f v w l k n =
+run_ends (Err RunFault.Memory) c program o unwritten whole partly before after e p f v w l k n m a =
     subst (λ (y : Conclusion). RunEnds program o unwritten whole partly before after y) (sym e) (f, n)
 
 pub on_ok_all : {T E : Type 0} (r : Result T E) (P : Type 0) → P → OnOk r P
@@ -70,3 +76,10 @@ risen a b e (inr h) = let n : 0 < 2 ^ 64 - 1 = lit< tt in subst (λ (x : ℕ). 0
 pub rose_on : (a b c : ℕ) → a ≤ b → Rose b c → Rose a c
 rose_on a b c h (inl r) = inl (omega (arith, h, r))
 rose_on a b c h (inr r) = inr r
+
+-- each replay of the log of a run tells the run
+pub run_replays : (P : List ℕ → Type 0) (header : PlainHeader) (program : PlainProgram) (v : Verdict) → IsHeader header → header.options.injectors ≡ 0 → IsProgram header.program program →
+    AreRecords (records_alone program header.options) → verdict_alone program header.options ≡ Some v → (text : Option (List ℕ)) → text_alone program header.options ≡ text → IsSomeAnd text P →
+    IsSomeAnd text (λ t. ReplaysTo (log_alone header program) t v)
+run_replays P header program v is none p are ended None e h = h
+run_replays P header program v is none p are ended (Some t) e h = logs_of_runs_replay header program t v is none p are e ended

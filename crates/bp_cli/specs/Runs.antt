@@ -1,4 +1,4 @@
--- A run that was asked for: its text, and its log.
+-- A run that was asked for: its text, its log, and what replays of that log tell.
 use Rattle.std.specs.Prelude.{◌≡◌, ◌⊎◌, ℕ, List, ◌++◌, Option, Some, None, IfSome, IsSomeAnd}
 use Rattle.bp_base.specs.Worlds.{Holdings, Sets}
 use Rattle.bp_base.specs.Pieces.{Appends, AppendsFront}
@@ -7,12 +7,14 @@ use Rattle.bp_log.specs.Header.{PlainHeader}
 use Rattle.bp_log.specs.Options.{PlainOptions}
 use Rattle.bp_log.specs.Logs.{log_text}
 use Rattle.bp_log.specs.declared.verdict.Verdict.{Verdict}
+use Rattle.bp_reading.specs.Laws.{AreRecords}
 use Rattle.bp_code.specs.Code.{records_alone, text_alone}
 use Rattle.bp_script.specs.Programs.{IsProgram}
 use Rattle.bp_args.specs.declared.command.Command.{Command}
 use Rattle.bp_args.specs.declared.command.Command.TheVariants as command
 use Rattle.bp_args.specs.declared.command.Run.{Run}
 use Rattle.bp_serve.specs.Ends.{verdict_alone}
+use Rattle.bp_replay.specs.Laws.{ReplaysTo}
 use Rattle.bp_cli.specs.declared.conclusion.Conclusion.{Conclusion}
 use Rattle.bp_cli.specs.declared.conclusion.Conclusion.TheVariants.{NoCommand, Refused, Accepted, Ran, NotRead, NotWritten, NoMemory, BadLog}
 use Rattle.bp_cli.specs.Outside.{Outside, IsAsBefore}
@@ -43,13 +45,14 @@ log_alone header program = log_text header (records_alone program header.options
 abbrev pub header_of : Run → List ℕ → PlainHeader
 header_of asked bytes = record { options = asked.options; program = bytes }
 
--- the bytes are a program whose run under the options that were asked for ends in this verdict; its text was printed, and its log is held
+-- the bytes are a program whose run under the options that were asked for ends in this verdict; its text was printed, its log is held, and each replay of that log that meets no trouble prints the same text and comes to the same verdict
 pub record RunsTo (asked : Run) (bytes : List ℕ) (before after : Outside) (v : Verdict) : Type 0 where
   pub program : PlainProgram
   pub is_program : IsProgram bytes program
   pub verdict : verdict_alone program asked.options ≡ Some v
   pub prints : IsSomeAnd (text_alone program asked.options) (λ text. Appends before.printed text after.printed)
   pub keeps : KeepsLog asked.log before.holds (log_alone (header_of asked bytes) program) after.holds
+  pub replays : IsSomeAnd (text_alone program asked.options) (λ text. ReplaysTo (log_alone (header_of asked bytes) program) text v)
 
 -- the bytes are a program; a front of the text of its run was printed, and a front of its log is held, or nothing was printed and none is held
 pub record RunsPartly (asked : Run) (bytes : List ℕ) (before after : Outside) : Type 0 where
@@ -58,10 +61,11 @@ pub record RunsPartly (asked : Run) (bytes : List ℕ) (before after : Outside) 
   pub prints : IsSomeAnd (text_alone program asked.options) (λ text. AppendsFront before.printed text after.printed)
   pub keeps : KeepsLogFront asked.log before (log_alone (header_of asked bytes) program) after
 
--- Why a run of this program ends so, where writing failed or not; how much of its text was printed; and what is whole or in part besides.
+-- Why a run of this program ends so, where writing failed or not; how much of its text was printed; what is whole or in part besides; and what its records keep by their types.
 abbrev pub RunEnds : PlainProgram → PlainOptions → Type 0 → Type 0 → Type 0 → Option (List ℕ) → Option (List ℕ) → Conclusion → Type 0
 RunEnds program options unwritten whole partly before after (Ran v) =
     (verdict_alone program options ≡ Some v) × IsSomeAnd (text_alone program options) (λ text. Appends before text after) × whole
+    × AreRecords (records_alone program options)
 RunEnds program options unwritten whole partly before after NotWritten =
     unwritten × IsSomeAnd (text_alone program options) (λ text. AppendsFront before text after) × partly
 RunEnds program options unwritten whole partly before after NoMemory =

@@ -14,6 +14,7 @@ use crate::running::{run_logged, run_unlogged};
 use bp_args::Run;
 use bp_base::{Sink, World, write_all};
 use bp_log::Header;
+use bp_records::header_keeps;
 use js_data::Text;
 use std::alloc::Global;
 use std::sync::Wait;
@@ -50,6 +51,7 @@ pub(crate) fn run_program<R: Threads + Wait + Sync, W: World, K: Sink>(
     let Some(header) = Header::new(asked.options, bytes) else {
         unreachable!()
     };
+    header_keeps(&header);
     match &asked.log {
         None => run_unlogged(rt, alloc, program, &header, asked.beside, out),
         Some(name) => run_logged(

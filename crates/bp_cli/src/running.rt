@@ -1,18 +1,29 @@
 //! Runs that words ask for.
-ghost use Rattle.std.specs.Prelude.{◌≡◌, ◌⊎◌, ◌≤◌, Some};
+ghost use Rattle.std.specs.Prelude.{◌≡◌, ◌⊎◌, ◌≤◌, Some, IfOk};
 ghost use Rattle.bp_base.specs.Counts.{Rose};
 ghost use Rattle.bp_base.specs.Worlds.{Asks};
 ghost use Rattle.bp_cli.specs.Outside.{Outside};
+ghost use Rattle.bp_reading.specs.Laws.{AreRecords};
 ghost use Rattle.bp_cli.specs.Runs.{Holds, KeepsLogFront, log_alone, RunEnds};
 
 use crate::conclusion::Conclusion;
 use bp_base::{MemorySink, Sink, World, WorldError};
 use bp_log::{Beside, Header};
-use bp_serve::run;
+use bp_records::records_keep;
+use bp_serve::{Report, RunFault, run};
 use js_program::Program;
 use std::alloc::Global;
 use std::sync::Wait;
 use std::thread::Threads;
+
+/// What the records of a run keep by their types, as a fact for its callers. Does nothing else.
+fn keep(ended: &Result<Report, RunFault>)
+    ensures { IfOk ended.now (λ r. AreRecords r.records) }
+{
+    if let Ok(report) = ended {
+        records_keep(&report.records);
+    }
+}
 
 /// Runs the program, and keeps no log.
 pub(crate) fn run_unlogged<R: Threads + Wait + Sync, K: Sink>(
@@ -30,6 +41,7 @@ pub(crate) fn run_unlogged<R: Threads + Wait + Sync, K: Sink>(
 {
     let mut log: Option<MemorySink> = None;
     let ended = run(rt, alloc, program, header, beside, out, &mut log);
+    keep(&ended);
     Conclusion::of(ended)
 }
 
@@ -66,6 +78,7 @@ pub(crate) fn run_logged<R: Threads + Wait + Sync, W: World, K: Sink>(
     };
     let mut log = Some(output);
     let ended = run(rt, alloc, program, header, beside, out, &mut log);
+    keep(&ended);
     let Some(output) = log else { unreachable!() };
     world.close_output(name, output);
     Conclusion::of(ended)

@@ -103,7 +103,7 @@ text_told : (program : PlainProgram) (o : PlainOptions) (rs : List Record) (t : 
 unfolding text code_of
 text_told program o rs t h = told_of (story (code_of program o) o rs) t h
 
-same_some : {A : Type 0} (x : Option A) (c d : A) → x ≡ Some c → x ≡ Some d → c ≡ d
+pub same_some : {A : Type 0} (x : Option A) (c d : A) → x ≡ Some c → x ≡ Some d → c ≡ d
 same_some x c d h k = cc
 
 -- ---- how it ends

@@ -13,7 +13,7 @@ use Rattle.bp_reading.specs.Laws.{IsHeader, AreRecords, Stands}
 use Rattle.bp_reader.specs.declared.fault.LogFault.{LogFault}
 use Rattle.bp_reader.specs.declared.fault.LogFault.TheVariants as log
 use Rattle.bp_script.specs.Programs.{IsProgram}
-use Rattle.bp_code.specs.Code.{text_of}
+use Rattle.bp_code.specs.Code.{text_of, records_alone, text_alone}
 use Rattle.bp_follow.specs.declared.fault.ReplayFault.{ReplayFault}
 use Rattle.bp_follow.specs.declared.fault.ReplayFault.TheVariants.{Log, Differs, Program, Write, Memory}
 use Rattle.bp_replay.specs.Replays.{Ends}
@@ -53,3 +53,16 @@ abbrev pub ReplaysTellTheRun : Type 0
 ReplaysTellTheRun =
     (bytes : List ℕ) (header : PlainHeader) (records : List Record) (program : PlainProgram) (text : List ℕ) (before after : Option (List ℕ)) (ended : Result Verdict ReplayFault) →
     IsLogOf bytes header records program text → Ends bytes before after ended → IsTrouble ended ⊎ TellsAll records text before after ended
+
+-- each replay of these bytes prints this text and answers this verdict, unless reading or writing failed or memory was wanting
+abbrev pub ReplaysTo : List ℕ → List ℕ → Verdict → Type 0
+ReplaysTo bytes text verdict =
+    (before after : Option (List ℕ)) (ended : Result Verdict ReplayFault) → Ends bytes before after ended → IsTrouble ended ⊎ ((ended ≡ Ok verdict) × Appends before text after)
+
+-- The log of the run of an accepted program without injectors replays to the text and the verdict of that run. Of its records no more is asked than what records keep by their types.
+abbrev pub LogsOfRunsReplay : Type 0
+LogsOfRunsReplay =
+    (header : PlainHeader) (program : PlainProgram) (text : List ℕ) (verdict : Verdict) →
+    IsHeader header → header.options.injectors ≡ 0 → IsProgram header.program program → AreRecords (records_alone program header.options) →
+    text_alone program header.options ≡ Some text → verdict_of (records_alone program header.options) ≡ Some verdict →
+    ReplaysTo (log_text header (records_alone program header.options)) text verdict

@@ -29,7 +29,7 @@ returns-in-None-clause-ends g c =
     let before : Outside = record { holds = g.W.World.holds c.args.world.now; asked = g.W.World.asked c.args.world.now; printed = g.K.Sink.written c.args.out.now } in
     let after : Outside = record { holds = g.W.World.holds c.load.new.world; asked = g.W.World.asked c.load.new.world; printed = g.K.Sink.written c.run_unlogged.new.out } in
     unlogged_given c.args.asked.now c.in-Ok.loaded.program c.into_parts-program.result.0 c.in-Ok.loaded.bytes.items c.as_str.result.now c.in-Some.header _ _ _ before after c.run_unlogged.result
-    c.as_str.ensures c.in-Ok.ensures.bytes c.in-Ok.ensures.program (ap (λ x. x.0) c.into_parts-program.ensures) (c.in-Some.ensures.1 ∙ ap (λ x. header_of c.args.asked.now x.1.items) c.into_parts-program.ensures) c.in-None.is c.load.ensures.holds c.run_unlogged.ensures.ends
+    c.header_keeps.ensures c.requires.alone c.as_str.ensures c.in-Ok.ensures.bytes c.in-Ok.ensures.program (ap (λ x. x.0) c.into_parts-program.ensures) (c.in-Some.ensures.1 ∙ ap (λ x. header_of c.args.asked.now x.1.items) c.into_parts-program.ensures) c.in-None.is c.load.ensures.holds c.run_unlogged.ensures.ends
 
 pub returns-in-None-clause-asks : goal.returns-in-None-clause-asks
 returns-in-None-clause-asks g c =
@@ -45,7 +45,7 @@ returns-clause-ends g c =
     let before : Outside = record { holds = g.W.World.holds c.args.world.now; asked = g.W.World.asked c.args.world.now; printed = g.K.Sink.written c.args.out.now } in
     let after : Outside = record { holds = g.W.World.holds c.run_logged.new.world; asked = g.W.World.asked c.run_logged.new.world; printed = g.K.Sink.written c.run_logged.new.out } in
     let mid : Outside = record { holds = g.W.World.holds c.load.new.world; asked = g.W.World.asked c.load.new.world; printed = g.K.Sink.written c.args.out.now } in
-    logged_given c.args.asked.now c.in-Ok.loaded.program c.into_parts-program.result.0 c.in-Ok.loaded.bytes.items c.as_str.result.now c.as_str-in-Some-log.result.now c.in-Some-log.name c.in-Some.header _ _ _ mid before after c.run_logged.result
+    logged_given c.args.asked.now c.in-Ok.loaded.program c.into_parts-program.result.0 c.in-Ok.loaded.bytes.items c.as_str.result.now c.as_str-in-Some-log.result.now c.in-Some-log.name c.in-Some.header _ _ _ mid before after c.run_logged.result c.header_keeps.ensures c.requires.alone
     (λ w. subst (λ (n : ℕ). Rose (g.K.Sink.faults c.args.out.now) (g.K.Sink.faults c.run_logged.new.out) ⊎ Rose n (g.W.World.write_faults c.run_logged.new.world)) c.load.ensures.writes w)
     c.as_str.ensures c.in-Ok.ensures.bytes c.in-Ok.ensures.program (ap (λ x. x.0) c.into_parts-program.ensures) (c.in-Some.ensures.1 ∙ ap (λ x. header_of c.args.asked.now x.1.items) c.into_parts-program.ensures) c.in-Some-log.is c.as_str-in-Some-log.ensures c.load.ensures.holds refl c.run_logged.ensures.ends
 

@@ -25,4 +25,4 @@ returns-clause-ends g c =
     (log_held g.W.Output.Sink.written c.run-ended.result _ c.args.name.now _ c.in-Ok.output c.in-Some.output _ c.in-Ok.ensures.empty logs
     (subst (λ (h : Option Holdings). Keeps h c.args.name.now (g.W.Output.Sink.written c.in-Some.output) (g.W.World.holds c.close_output.new.self)) c.create.ensures.keeps c.close_output.ensures.sets))
     (log_held_front g.W.Output.Sink.written c.run-ended.result before after c.args.name.now _ c.in-Ok.output c.in-Some.output c.in-Ok.ensures.empty front
-    (subst (λ (h : Option Holdings). Keeps h c.args.name.now (g.W.Output.Sink.written c.in-Some.output) (g.W.World.holds c.close_output.new.self)) c.create.ensures.keeps c.close_output.ensures.sets))
+    (subst (λ (h : Option Holdings). Keeps h c.args.name.now (g.W.Output.Sink.written c.in-Some.output) (g.W.World.holds c.close_output.new.self)) c.create.ensures.keeps c.close_output.ensures.sets)) c.run-ended.ensures.records c.keep.ensures

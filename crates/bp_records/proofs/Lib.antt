@@ -1,0 +1,10 @@
+pub mod Lists
+pub mod Short
+pub mod Operators
+pub mod Outcomes
+pub mod Evaluation
+pub mod Verdicts
+pub mod Bounds
+pub mod Runs
+pub mod Standing
+pub mod Programs

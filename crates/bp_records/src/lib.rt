@@ -1,0 +1,8 @@
+//! The records of runs: that each of them can be read back from a log.
+#![tactic(auto)]
+
+mod keeping;
+mod laws;
+
+pub use keeping::{header_keeps, records_keep};
+pub use laws::records_stand;
