@@ -202,9 +202,7 @@ fn counted(alloc: Global, count: u32, end: &str) -> Result<String, Fail> {
 #[test]
 fn a_log_has_at_most_2100000_records(rt: HostRuntime) -> Result<(), Fail> {
     let alloc = rt.alloc();
-    let most = counted(alloc, MOST_RECORDS - 1, "end quiet 0\n")?;
-    assert_eq!(rt; most.as_str(), "2100000 read");
-    let more = counted(alloc, MOST_RECORDS, "e")?;
-    assert_eq!(rt; more.as_str(), "2100000 line 2100001");
+    let found = counted(alloc, MOST_RECORDS, "e")?;
+    assert_eq!(rt; found.as_str(), "2100000 line 2100001");
     Ok(())
 }
