@@ -5,7 +5,7 @@ use Rattle.std.proofs.lemmas.Bool.{or_parts, or_from}
 use Rattle.bp_log.specs.declared.item.Item.{Item}
 use Rattle.bp_log.specs.declared.item.Item.TheVariants.{Failed}
 use Rattle.bp_feeds.specs.Items.{is_break, has_break, before_lines, lines_of, before_whole, whole_lines, is_last, is_fault, has_fault, has_last, followed, item_of, items_from, items, items_before_fault}
-use Rattle.bp_feeds.specs.Reading.{AreWholeLines, IsWithin, ItemsFollow}
+use Rattle.bp_feeds.specs.Reading.{AreWholeLines, IsBetweenLines, ItemsFollow}
 use Rattle.bp_feeds.proofs.Cuts.{sound}
 
 -- ---- bytes that end with LF are cut there, whatever follows
@@ -95,7 +95,7 @@ items_behind (line ∷ front) more given number last e =
 
 -- ---- whatever follows the lines that were dealt with, its items follow those that were given
 
-pub lines_follow : (took : List ℕ) (given : List Item) (number : ℕ) (held : List ℕ) (w : IsWithin took given number held) (more : List ℕ) (last : Item)
+pub lines_follow : (took : List ℕ) (given : List Item) (number : ℕ) (held : List ℕ) (w : IsBetweenLines took given number held) (more : List ℕ) (last : Item)
     → given ++ items_from (lines_of more) number last ≡ items_from (lines_of (w.passed ++ more)) 1 last
 lines_follow took given number held w more last =
     let k : number ≡ 1 + length (whole_lines w.passed) = omega (arith, w.counted) in
@@ -103,7 +103,7 @@ lines_follow took given number held w more last =
     ∙ sym (items_behind (whole_lines w.passed) (lines_of more) given 1 last w.good)
     ∙ ap (λ l. items_from l 1 last) (sym (lines_behind w.passed more w.whole))
 
-pub whole_follow : (took : List ℕ) (given : List Item) (number : ℕ) (held : List ℕ) (w : IsWithin took given number held) (more : List ℕ) (last : Item)
+pub whole_follow : (took : List ℕ) (given : List Item) (number : ℕ) (held : List ℕ) (w : IsBetweenLines took given number held) (more : List ℕ) (last : Item)
     → given ++ items_from (whole_lines more) number last ≡ items_from (whole_lines (w.passed ++ more)) 1 last
 whole_follow took given number held w more last =
     let k : number ≡ 1 + length (whole_lines w.passed) = omega (arith, w.counted) in
@@ -112,14 +112,14 @@ whole_follow took given number held w more last =
     ∙ ap (λ l. items_from l 1 last) (sym (whole_behind w.passed more w.whole))
 
 whole_within : (passed : List ℕ) (given : List Item) → AreWholeLines passed → given ++ Failed ∷ [] ≡ items_before_fault passed
-    → IsWithin passed given (length (whole_lines passed) + 1) []
+    → IsBetweenLines passed given (length (whole_lines passed) + 1) []
 whole_within passed given w good = record { passed = passed; all = sym (append-nil passed); whole = w; counted = refl; good = good }
 
 pub items_follow : ItemsFollow
 unfolding whole_within
 items_follow passed given w = (
   λ good more last.
-      let h : IsWithin passed given (length (whole_lines passed) + 1) [] = whole_within passed given w good in
+      let h : IsBetweenLines passed given (length (whole_lines passed) + 1) [] = whole_within passed given w good in
       (lines_follow passed given (length (whole_lines passed) + 1) [] h more last, whole_follow passed given (length (whole_lines passed) + 1) [] h more last),
   λ f. (f [] Failed).1 ∙ ap items_before_fault (append-nil passed),
 )

@@ -10,7 +10,7 @@ use Rattle.bp_feeds.specs.declared.limits.TheConstants.{MOST_LENGTH}
 use Rattle.bp_feeds.specs.declared.reached.Reached.{Reached}
 use Rattle.bp_feeds.specs.declared.reached.Reached.TheVariants.{Within, Last, Ended, Broken, Faulted}
 use Rattle.bp_feeds.specs.Items.{has_break, is_end, has_end, lines_of, whole_lines, ends, followed, item_of, items_from, items, items_before_fault}
-use Rattle.bp_feeds.specs.Reading.{Reading, IsWithin, IsAll, IsBroken, HasReached, HasRead, ReadsOn, ReadsLast, IsSameReading, IsSameToEnd, IsTooLong}
+use Rattle.bp_feeds.specs.Reading.{Reading, IsBetweenLines, IsAll, IsBroken, HasReached, HasRead, ReadsOn, ReadsLast, IsSameReading, IsSameToEnd, IsTooLong}
 use Rattle.bp_feeds.proofs.Cuts.{unended, unended_lines, unended_both, lines_at_break, whole_at_break, lines_unbroken, whole_unbroken, first_line, followed_more, followed_last, past_is_bad}
 use Rattle.bp_feeds.proofs.Behind.{whole_behind, lines_follow, whole_follow}
 
@@ -62,7 +62,7 @@ of_held old new more f = record {
 -- ---- a line with its LF
 
 passes : (took : List ℕ) (given : List Item) (line more : List ℕ) (number : ℕ) (item : Option Item) → has_break line ≡ false → item ≡ item_of number line → ends item ≡ false
-    → IsWithin took given number (line ++ 10 ∷ more) → IsWithin took (given ++ option_to_list item) (number + 1) more
+    → IsBetweenLines took given number (line ++ 10 ∷ more) → IsBetweenLines took (given ++ option_to_list item) (number + 1) more
 passes took given line more number item u is e w =
     let lf : List ℕ = line ++ 10 ∷ [] in
     let one : whole_lines lf ≡ line ∷ [] = whole_at_break line [] u in
@@ -81,7 +81,7 @@ passes took given line more number item u is e w =
     }
 
 -- among the items so far is no end
-pub within_unended : (took : List ℕ) (given : List Item) (number : ℕ) (held : List ℕ) → IsWithin took given number held → has_end given ≡ false
+pub within_unended : (took : List ℕ) (given : List Item) (number : ℕ) (held : List ℕ) → IsBetweenLines took given number held → has_end given ≡ false
 within_unended took given number held w =
     let all : has_end (given ++ Failed ∷ []) ≡ false = ap has_end w.good ∙ unended_lines (whole_lines w.passed) 1 in
     (or_parts (has_end given) (has_end (Failed ∷ [])) (sym (list_any-append is_end given (Failed ∷ [])) ∙ all)).0
@@ -89,7 +89,7 @@ within_unended took given number held w =
 -- a first line, of what is held and follows, that is the last one
 breaks : (start : Option (List ℕ)) (took : List ℕ) (given : List Item) (number : ℕ) (held rest line : List ℕ) (lines : List (List ℕ)) (item : Option Item)
     → IsAll start (took ++ rest) → lines_of (held ++ rest) ≡ line ∷ lines → item ≡ item_of number line → ends item ≡ true
-    → IsWithin took given number held → IsBroken start took (given ++ option_to_list item)
+    → IsBetweenLines took given number held → IsBroken start took (given ++ option_to_list item)
 breaks start took given number held rest line lines item told at is e w =
     let tail = items_from lines (number + 1) End in
     let same : took ++ rest ≡ w.passed ++ (held ++ rest) = ap (λ l. l ++ rest) w.all ∙ append_assoc w.passed held rest in
@@ -146,7 +146,7 @@ too_long old new w0 long w1 l1 =
 pub faulted : (old new : Reading) → old.reached ≡ Within → has_break old.held ≡ false → new.reached ≡ Faulted → new.left ≡ old.left → ReadsOn old (Failed ∷ []) new
 faulted old new w0 u w1 l1 =
     of_held old new (Failed ∷ []) (λ start took given h.
-    let w : IsWithin took given old.number old.held = to_parts start took given old Within old.held w0 refl h in
+    let w : IsBetweenLines took given old.number old.held = to_parts start took given old Within old.held w0 refl h in
     let is : given ++ Failed ∷ [] ≡ items_before_fault took =
     ap (λ c. given ++ items_from c old.number Failed) (sym (whole_unbroken old.held u))
     ∙ whole_follow took given old.number old.held w old.held Failed
@@ -164,7 +164,7 @@ pub last_passed : (old new : Reading) (line : List ℕ) (item : Option Item) →
     → ReadsLast old (option_to_list item) new
 last_passed old new line item w0 h0 u some is e w1 l1 = record {
   on = λ start took given all h.
-      let w : IsWithin took given old.number line = to_parts start took given old Within line w0 h0 h in
+      let w : IsBetweenLines took given old.number line = to_parts start took given old Within line w0 h0 h in
       let read : (given ++ option_to_list item) ++ End ∷ [] ≡ items took =
       append_assoc given (option_to_list item) (End ∷ [])
       ∙ ap (λ t. given ++ t) (sym (followed_more item (End ∷ []) e))
@@ -189,7 +189,7 @@ last_broken old new line item w0 h0 u some is e w1 l1 = record {
 pub end_told : (old new : Reading) → old.reached ≡ Within → old.held ≡ [] → new.reached ≡ Ended → new.left ≡ old.left → ReadsLast old (End ∷ []) new
 end_told old new w0 h0 w1 l1 = record {
   on = λ start took given all h.
-      let w : IsWithin took given old.number [] = to_parts start took given old Within [] w0 h0 h in
+      let w : IsBetweenLines took given old.number [] = to_parts start took given old Within [] w0 h0 h in
       from_parts start took (given ++ End ∷ []) new Ended new.held new.number old.left w1 refl refl l1 h.taken
       (lines_follow took given old.number [] w [] End ∙ ap items (sym w.all), all);
 }
@@ -203,7 +203,7 @@ end_after old new w0 w1 l1 =
 
 pub same_read : (start : Option (List ℕ)) (took : List ℕ) (given : List Item) (a b : Reading) (s : IsSameReading a b) → HasRead start took given a → HasRead start (took ++ s.came) given b
 same_read start took given a b s h =
-    let w : IsWithin took given a.number a.held = to_parts start took given a Within a.held s.was refl h in
+    let w : IsBetweenLines took given a.number a.held = to_parts start took given a Within a.held s.was refl h in
     from_parts start (took ++ s.came) given b Within (a.held ++ s.came) a.number b.left s.is s.held s.number refl (gives_on start took a.left s.came b.left h.taken s.given)
     (record {
       passed = w.passed;

@@ -27,9 +27,10 @@ is_read _ = true
 abbrev pub AreWholeLines : List ℕ → Type 0
 AreWholeLines bytes = (bytes ≡ []) ⊎ ((front : List ℕ) × (bytes ≡ front ++ 10 ∷ []))
 
--- Of the bytes that were taken, whole lines were dealt with, and the others are held. The items that were given are those of
--- these lines, none of which is bad, and the number is that of the next line.
-pub record IsWithin (took : List ℕ) (given : List Item) (number : ℕ) (held : List ℕ) : Type 0 where
+-- The reading stands between two lines. Of the bytes that were taken, `passed` are the lines that it has behind it, all of them whole,
+-- and the others are held. It gave the items of these lines, of which none is bad; so if the source failed now, its fault would
+-- follow them at once. The next line has the next number.
+pub record IsBetweenLines (took : List ℕ) (given : List Item) (number : ℕ) (held : List ℕ) : Type 0 where
   pub passed : List ℕ
   pub all : took ≡ passed ++ held
   pub whole : AreWholeLines passed
@@ -61,7 +62,7 @@ pub record IsBroken (start : Option (List ℕ)) (took : List ℕ) (given : List 
 -- what the items are that were given of the bytes that were taken: those of the lines so far; all but the end; all; all, up to
 -- a bad line; or those before a fault
 abbrev pub HasReached : Reached → Option (List ℕ) → List ℕ → List Item → ℕ → List ℕ → Type 0
-HasReached Within start took given number held = IsWithin took given number held
+HasReached Within start took given number held = IsBetweenLines took given number held
 HasReached Last start took given number held = (given ++ End ∷ [] ≡ items took) × IsAll start took
 HasReached Ended start took given number held = (given ≡ items took) × IsAll start took
 HasReached Broken start took given number held = IsBroken start took given

@@ -1,6 +1,7 @@
 //! The lines of a source, read by blocks, as items.
 ghost use Rattle.std.specs.Prelude.{◌≡◌, ℕ, ◌+◌, ◌≤◌, List, [], ◌∷◌, ◌++◌, length, vec_len, Option, Some, Ok, None, true, false, IfOk, OnErr, IfSome, option_to_list};
 ghost use Rattle.bp_base.specs.Counts.{Rose};
+ghost use Rattle.bp_feeds.specs.declared.limits.TheConstants.{MOST_LINES, MOST_LENGTH};
 ghost use Rattle.bp_feeds.specs.Items.{has_break, has_line, ends, has_fault};
 ghost use Rattle.bp_feeds.specs.Reading.{Reading, is_read, ReadsOn, ReadsLast, IsSameReading, IsSameToEnd, IsTooLong};
 
@@ -24,9 +25,9 @@ pub struct LineReader<S> {
     // The number of the next line.
     number: u32,
     reached: Reached,
-    ghost short: { vec_len line ≤ 32768 },
+    ghost short: { vec_len line ≤ MOST_LENGTH },
     ghost unbroken: { has_break line.items ≡ false },
-    ghost counted: { number ≤ 16777217 },
+    ghost counted: { number ≤ MOST_LINES + 1 },
 }
 
 impl<S: Source> LineReader<S> {

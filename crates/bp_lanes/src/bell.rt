@@ -9,7 +9,8 @@ struct Rings {
     halted: bool,
 }
 
-/// A bell. It counts its rings, and keeps no state of a run.
+/// A bell. It counts its rings, and keeps no state of a run. No clause says what a call finds or leaves in it, since
+/// other threads may call at any time and a lock tells nothing of what it guards: so whoever waits looks again himself.
 #[derive(Drop)]
 pub struct Bell {
     rings: Mutex<Rings>,
@@ -56,9 +57,10 @@ impl Bell {
     }
 }
 
-/// What wakes a thread that waits, and halts it.
+/// What wakes a thread that waits, and halts it. Its clauses tell of its own count alone, and of what others see tests
+/// alone tell.
 pub trait Wake {
-    ghost use Rattle.std.specs.Prelude.{ℕ, ◌≡◌, ◌≤◌, IsTrue};
+    ghost use Rattle.std.specs.Prelude.{ℕ, ◌≡◌, ◌≤◌, ◌<◌, IsTrue};
     ghost use Rattle.bp_base.specs.Counts.{Rose};
     ghost use denote.Param.Send.{IsSync};
 
@@ -80,11 +82,12 @@ pub trait Wake {
         requires { IsSync R.row }
         ensures { halts self.new ≡ halts self.old };
 
-    /// Whether there was a halt. True only where the count of `halts` rose.
+    /// Whether there was a halt. True only where the count of `halts` rose, and always once it was true.
     fn halted<R: Threads + Wait + Sync>(&mut self, rt: &R) -> bool
         requires { IsSync R.row }
         ensures counts { halts self.old ≤ halts self.new }
-        ensures cause { IsTrue result → Rose (halts self.old) (halts self.new) };
+        ensures cause { IsTrue result → Rose (halts self.old) (halts self.new) }
+        ensures stays { 0 < halts self.old → IsTrue result };
 }
 
 /// A rope of a bell. It keeps the counter that was last seen, and how often the bell was found halted.
@@ -126,7 +129,7 @@ impl<'a> Wake for Rope<'a> {
     }
 
     fn halted<R: Threads + Wait + Sync>(&mut self, rt: &R) -> bool {
-        let halted = self.bell.halted(rt);
+        let halted = self.halts > 0 || self.bell.halted(rt);
         if halted {
             self.halts = self.halts.saturating_add(1);
         }

@@ -1,4 +1,5 @@
 use Rattle.std.proofs.Common.{◌≡◌, ◌≤◌, ◌+◌, ◌-◌, ◌*◌, true, vec_len, length}
+use Rattle.bp_feeds.specs.declared.limits.TheConstants.{MOST_LENGTH}
 use Rattle.bp_feeds.specs.Items.{has_line}
 use Rattle.bp_feeds.specs.Reading.{IsSameReading}
 use Rattle.bp_feeds.specs.Feeds.{held, reading_of}
@@ -12,4 +13,4 @@ invariant-loop-self g l = record {
 }
 
 abbrev pub decreases-loop-self : goal.decreases-loop-self
-decreases-loop-self g l = 2 * (32_768 - vec_len l.self.line) + (1 - length l.self.block)
+decreases-loop-self g l = 2 * (MOST_LENGTH - vec_len l.self.line) + (1 - length l.self.block)

@@ -1,4 +1,5 @@
 use Rattle.std.proofs.Common.{rules, ◌≡◌, ◌≤◌, ◌++◌, true, false, refl, ap, arith}
+use Rattle.bp_feeds.specs.declared.limits.TheConstants.{MOST_LINES}
 use Rattle.bp_feeds.specs.Items.{ends, item_of}
 use Rattle.bp_feeds.proofs.Cuts.{counted, sound, held_behind}
 use Rattle.bp_feeds.proofs.Within.{line_passed, line_broken}
@@ -20,7 +21,7 @@ pub invariant_of-self-2-clause-counted : goal.invariant_of-self-2-clause-counted
 invariant_of-self-2-clause-counted g c =
     let is : c.in_ok-item.item ≡ item_of c.args.self.now.number c.args.self.now.line.items = search rules in
     let more : ends c.in_ok-item.item ≡ false = search rules in
-    let few : c.args.self.now.number ≤ 16_777_216 = counted c.args.self.now.number c.args.self.now.line.items c.in_ok-item.item is more in
+    let few : c.args.self.now.number ≤ MOST_LINES = counted c.args.self.now.number c.args.self.now.line.items c.in_ok-item.item is more in
     omega arith
 
 pub returns-clause-reads : goal.returns-clause-reads
