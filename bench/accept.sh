@@ -3,6 +3,8 @@
 # functions that call one another, nested blocks, nested functions, variables that are copied into functions, and `var`s in
 # blocks; and then three of which the second and the third are to take at most six times the seconds of the first, and at most
 # 600 MB: uses of one name, the same under 180 nested functions that copy it, and `var`s under 190 nested blocks.
+#
+# The program is the one that `sh ./bp` builds, or the one at the path in BP.
 set -e
 top=$(cd "$(dirname "$0")/.." && pwd)
 texts=$(mktemp -d)
@@ -27,7 +29,10 @@ print("%.2f s, %d MB, %s" % (used.ru_utime + used.ru_stime, used.ru_maxrss // 10
 ' "$@"
 }
 
-sh "$top/bp" accept "$texts/declarations" > /dev/null
+if [ -z "$BP" ]; then
+    sh "$top/bp" accept "$texts/declarations" > /dev/null
+    BP=$top/crates/bp/out/bp
+fi
 for text in declarations functions blocks arrows captures vars uses deep_uses deep_vars; do
-    echo "$text: $(wc -c < "$texts/$text") bytes, $(measure sh "$top/bp" accept "$texts/$text")"
+    echo "$text: $(wc -c < "$texts/$text") bytes, $(measure "$BP" accept "$texts/$text")"
 done
