@@ -2,6 +2,8 @@
 #![tactic(auto)]
 
 #[cfg(test)]
+mod nestings;
+#[cfg(test)]
 mod tokens;
 #[cfg(test)]
 mod trees;

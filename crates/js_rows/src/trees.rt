@@ -10,6 +10,9 @@ use std::alloc::{AllocError, Global};
 use std::process::Abort;
 use std::test::Fail;
 
+/// How many levels of a tree are shown; a call of a member is two.
+const SHOWN: u32 = 512;
+
 fn sign_text(sign: Sign) -> &'static str {
     match sign {
         Sign::Not => "!",
@@ -392,7 +395,7 @@ fn stmt_form(out: &mut String, form: &StmtForm, room: u32) -> Result<(), AllocEr
 
 fn item(out: &mut String, tree: &Item) -> Result<(), AllocError> {
     match tree {
-        Item::Statement(tree) => stmt(out, "", tree, 256),
+        Item::Statement(tree) => stmt(out, "", tree, SHOWN),
         Item::Function(_, name, params, body) => {
             out.push_str("(function ")?;
             function_of(out, name, params, body)
@@ -408,7 +411,7 @@ fn function_of(
 ) -> Result<(), AllocError> {
     out.push_str(name.text.as_str())?;
     names(out, params)?;
-    stmts(out, " {", body, 256)?;
+    stmts(out, " {", body, SHOWN)?;
     out.push(')')
 }
 
@@ -425,7 +428,7 @@ fn shown_tree(alloc: Global, tree: &Tree) -> Result<String, AllocError> {
 
 /// The tree of a text, as lists in parentheses, each with its form first and a `'` for each pair round an expression;
 /// or the refusal.
-fn shown(alloc: Global, bytes: &[u8]) -> Result<String, AllocError> {
+pub fn shown(alloc: Global, bytes: &[u8]) -> Result<String, AllocError> {
     if bytes.len() > 1_048_576 {
         return format!(in alloc; "too long");
     }
@@ -729,61 +732,4 @@ fn texts_have_their_trees(rt: HostRuntime) -> Result<(), Fail> {
     agree(&rt, alloc, CALLS)?;
     agree(&rt, alloc, UNSUPPORTED)?;
     agree(&rt, alloc, SCRIPT)
-}
-
-/// A text between so many fronts and so many backs.
-fn nested(
-    alloc: Global,
-    front: &str,
-    times: usize,
-    middle: &str,
-    back: &str,
-) -> Result<String, AllocError> {
-    let mut text = String::new(alloc);
-    for _ in 0..times {
-        text.push_str(front)?;
-    }
-    text.push_str(middle)?;
-    for _ in 0..times {
-        text.push_str(back)?;
-    }
-    Ok(text)
-}
-
-// Fronts, how many, the middle and the backs: so many nest, and one more does not.
-const NESTINGS: &str = "
-{|200||}
-{|199|;|}
-(|198|a|)
-[|198|a|]
-f(|198|a|)
-|198|f|()
-|198|a|.b()
-|198|a|[b]
-|198|a|-b
-- |198|a|
-a=|198|a|
-a=>|198|a|
-b?c:|198|a|
-if(a)|199|;|
-";
-
-fn tree_of_nested(alloc: Global, line: &str, more: usize) -> Result<String, Fail> {
-    let (front, rest) = line.split_once("|").ok_or("no number")?;
-    let (times, rest) = rest.split_once("|").ok_or("no middle")?;
-    let (middle, back) = rest.split_once("|").ok_or("no back")?;
-    let count = times.parse::<usize>()?.saturating_add(more);
-    let text = nested(alloc, front, count, middle, back)?;
-    Ok(shown(alloc, text.as_str().as_bytes())?)
-}
-
-#[test]
-fn nesting_of_at_most_200(rt: HostRuntime) -> Result<(), Fail> {
-    for line in NESTINGS.trim().lines() {
-        let most = tree_of_nested(rt.alloc(), line, 0)?;
-        assert_ne!(rt; most.as_str(), "NoTree(1)", "{line}");
-        let past = tree_of_nested(rt.alloc(), line, 1)?;
-        assert_eq!(rt; past.as_str(), "NoTree(1)", "{line}");
-    }
-    Ok(())
 }

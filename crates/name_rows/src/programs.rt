@@ -125,3 +125,77 @@ Body { parameters: 0, slots: 1, captures: [], vars: [], content: Statements([11,
     );
     Ok(())
 }
+
+#[test]
+fn the_other_forms(rt: HostRuntime) -> Result<(), Fail> {
+    let program = program_of(
+        rt.alloc(),
+        "let o = {a: 1, b: true}, n = null
+n = undefined
+if (o.a) n = o[\"b\"]; else;
+while (!n) { n++; break }
+for (let i = 0; i < 3; i++) { if (i) continue; f(-i) }
+function f(x) { x ? 1 : 2; return }
+o.g(bp.all)
+",
+    )?;
+    assert_eq!(rt;
+        shown(rt.alloc(), &program)?.as_str(),
+        "1 Number(Whole { n: 1 })
+1 Truth(true)
+1 Fields([Text { text: \"a\" }, Text { text: \"b\" }], [0, 1])
+1 Null
+1 Declaration(Let, [Declared { variable: Constant(0), value: Some(2) }, Declared { variable: Slot(0), value: Some(3) }])
+2 Undefined
+2 Assign(Set, 0, 5)
+2 Expression(6)
+3 Read(Constant(0))
+3 Member(8, Text { text: \"a\" })
+3 Read(Constant(0))
+3 Words(Text { text: \"b\" })
+3 Index(10, 11)
+3 Assign(Set, 0, 12)
+3 Expression(13)
+3 Empty
+3 IfElse(9, 14, 15)
+4 Read(Slot(0))
+4 Unary(Not, 17)
+4 Update(Increment, After, 0)
+4 Expression(19)
+4 Break
+4 Block([], [20, 21])
+4 While(18, 22)
+5 Number(Whole { n: 0 })
+5 Declaration(Let, [Declared { variable: Slot(1), value: Some(24) }])
+5 Read(Slot(1))
+5 Number(Whole { n: 3 })
+5 Binary(Less, 26, 27)
+5 Update(Increment, After, 1)
+5 Read(Slot(1))
+5 Continue
+5 If(30, 31)
+5 Read(Constant(1))
+5 Read(Slot(1))
+5 Unary(Minus, 34)
+5 Call(33, [35])
+5 Expression(36)
+5 Block([], [32, 37])
+5 For([1], Some(25), Some(28), Some(29), 38)
+6 Read(Slot(0))
+6 Number(Whole { n: 1 })
+6 Number(Whole { n: 2 })
+6 Conditional(40, 41, 42)
+6 Expression(43)
+6 ReturnNothing
+7 Read(Constant(0))
+7 Builtin(All, [])
+7 Method(46, Text { text: \"g\" }, [47])
+7 Expression(48)
+Body { parameters: 1, slots: 1, captures: [], vars: [], content: Statements([44, 45]), line: 6 }
+Undeclared
+OfFunction(0)
+Body { parameters: 0, slots: 2, captures: [], vars: [], content: Statements([4, 7, 16, 23, 39, 49]), line: 1 }
+"
+    );
+    Ok(())
+}

@@ -81,6 +81,23 @@ const TOP_LEVEL: &str = r#"
 256 var a; var a; «{ let #; } » --> refused line 1: slots
 "#;
 
+// Of two breaches the one with the smaller place is told, and at one place that of the earlier rule. The place of slots
+// is the program's first token, and a name that cannot be declared takes a slot too.
+const TIES: &str = r#"
+257 zz; «{ let #; } » --> refused line 1: unknown zz
+257 (zz); «{ let #; } » --> refused line 1: slots
+257 ++zz; «{ let #; } » --> refused line 1: slots
+257 {zz} «{ let #; } » --> refused line 1: slots
+257 zz + 1; «{ let #; } » --> refused line 1: unknown zz
+257 bp.foo; «{ let #; } » --> refused line 1: unknown bp.foo
+257 return; «{ let #; } » --> refused line 1: return place
+257 undefined => 1; «{ let #; } » --> refused line 1: twice undefined
+255 (() => { «let #; »let bp }) --> refused line 1: twice bp
+256 (() => { «let #; »let bp }) --> refused line 1: slots
+257 (() => { «let #; »;\nzz }); --> refused line 1: slots
+257 zz;\n(() => { «let #; »}); --> refused line 1: unknown zz
+"#;
+
 // Captures are counted in the function that uses them, and in those through which they are handed; constants are no
 // captures.
 const CAPTURES: &str = r#"
@@ -102,5 +119,6 @@ const CAPTURES: &str = r#"
 fn at_most_256_slots(rt: HostRuntime) -> Result<(), Fail> {
     agree(&rt, rt.alloc(), VARIABLES)?;
     agree(&rt, rt.alloc(), TOP_LEVEL)?;
+    agree(&rt, rt.alloc(), TIES)?;
     agree(&rt, rt.alloc(), CAPTURES)
 }

@@ -1,0 +1,84 @@
+//! The edge of nesting: the deepest trees, and one level more.
+use crate::trees::shown;
+use std::alloc::Global;
+use std::test::Fail;
+
+/// The shape with what stands between `«` and `»` written out: its front so many times, its middle, and its back so
+/// many times.
+fn nested(alloc: Global, shape: &str, times: usize) -> Result<String, Fail> {
+    let (before, rest) = shape.split_once("«").ok_or("no front")?;
+    let (nest, behind) = rest.split_once("»").ok_or("no end")?;
+    let (front, rest) = nest.split_once("|").ok_or("no middle")?;
+    let (middle, back) = rest.split_once("|").ok_or("no back")?;
+    let mut text = String::from_str(alloc, before)?;
+    for _ in 0..times {
+        text.push_str(front)?;
+    }
+    text.push_str(middle)?;
+    for _ in 0..times {
+        text.push_str(back)?;
+    }
+    text.push_str(behind)?;
+    Ok(text)
+}
+
+// How many times, a text and its tree: so many nest, and with one more there is no tree. First each form that nests,
+// then what a form's head or list may hold, and then what is no level of its own: `bp`, `Math` and `bp.log` before a
+// dot, and a member that is called; parentheses round them are levels.
+const NESTINGS: &str = "
+200 «{||}» --> «{||}»
+199 «{|;|}» --> «{|;|}»
+199 «if(a)|;|» --> «(if a |;|)»
+199 «if(a);else |;|» --> «(if a ; |;|)»
+199 «while(a)|;|» --> «(while a |;|)»
+199 «for(;;)|;|» --> «(for _ _ _ |;|)»
+199 «for(const x of a)|;|» --> «(of const x a |;|)»
+198 «(|a|)» --> «'|a|»
+198 «[|a|]» --> «(list |a|)»
+198 «f(|a|)» --> «(call f |a|)»
+198 «|f|()» --> «(call |f|)»
+198 «|a|.b» --> «(. |a| b)»
+198 «|a|.b()» --> «(call (. |a| b))»
+198 «|a|[b]» --> «(at |a| b)»
+198 «|a|-b» --> «(- |a| b)»
+198 «- |a|» --> «(- |a|)»
+198 «a=|a|» --> «(= a |a|)»
+198 «a=>|a|» --> «(=> (a) |a|)»
+198 «b?c:|a|» --> «(? b c |a|)»
+198 let a=«[|b|]» --> (let (a «(list |b|)»))
+198 for(«[|a|]»;;); --> (for «(list |a|)» _ _ ;)
+197 for(let a=«[|b|]»;;); --> (for (let (a «(list |b|)»)) _ _ ;)
+199 function f(){«{||}»} --> (function f () {«{||}»})
+197 () => {«{|;|}»} --> (=> () {«{|;|}»})
+198 «[|bp.all|]» --> «(list |(. bp all)|)»
+197 «[|a.all|]» --> «(list |(. a all)|)»
+197 «[|(bp).all|]» --> «(list |(. 'bp all)|)»
+198 «[|bp.all()|]» --> «(list |(call (. bp all))|)»
+197 «[|a.b()|]» --> «(list |(call (. a b))|)»
+196 «[|(a.b)()|]» --> «(list |(call '(. a b))|)»
+198 «[|bp.log.info()|]» --> «(list |(call (. (. bp log) info))|)»
+197 «[|(bp.log).info()|]» --> «(list |(call (. '(. bp log) info))|)»
+198 «bp.Event(|a|)» --> «(call (. bp Event) |a|)»
+196 «[|Math.floor(a/b)|]» --> «(list |(call (. Math floor) (/ a b))|)»
+";
+
+#[test]
+fn nesting_of_at_most_200(rt: HostRuntime) -> Result<(), Fail> {
+    let alloc = rt.alloc();
+    for line in NESTINGS.trim().lines() {
+        let (left, tree) = line.split_once(" --> ").ok_or("no tree")?;
+        let (count, shape) = left.split_once(" ").ok_or("no number")?;
+        let count = count.parse::<usize>()?;
+        let most = shown(alloc, nested(alloc, shape, count)?.as_str().as_bytes())?;
+        let want = nested(alloc, tree, count)?;
+        assert_eq!(rt; most.as_str(), want.as_str(), "{line}");
+        let past = shown(
+            alloc,
+            nested(alloc, shape, count.saturating_add(1))?
+                .as_str()
+                .as_bytes(),
+        )?;
+        assert_eq!(rt; past.as_str(), "NoTree(1)", "{line}");
+    }
+    Ok(())
+}
