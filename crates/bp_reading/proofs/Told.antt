@@ -354,8 +354,9 @@ complete_again (End v ∷ (r ∷ rs)) s bytes e h = absurd (nothing_follows (aft
 pub read_logs_are_texts : ReadLogsAreTexts
 unfolding log_text
 read_logs_are_texts bytes rest h rs k l = (
-    header_again bytes rest h k ∙ ap (header_then h) (records_again rs (first_stage h.options.injectors) rest l) ∙ sym (header_regrouped h (records_text rs)),
-    complete_again rs (first_stage h.options.injectors) rest refl l)
+  header_again bytes rest h k ∙ ap (header_then h) (records_again rs (first_stage h.options.injectors) rest l) ∙ sym (header_regrouped h (records_text rs)),
+  complete_again rs (first_stage h.options.injectors) rest refl l,
+)
 
 spelled : (line : List ℕ) (o : Option Record) → record_at line ≡ o → Spells line o
 spelled line (Some r) h = record_again line r h

@@ -168,7 +168,8 @@ fn the_steps_are_those_of_the_header(rt: HostRuntime) -> Result<(), Fail> {
 }
 
 /// It asks for one of three events.
-const DRAWN: &str = r#"bp.registerBThread("A", () => { bp.sync({request: [bp.Event("a"), bp.Event("b"), bp.Event("c")]}) })"#;
+const DRAWN: &str =
+    r#"bp.registerBThread("A", () => { bp.sync({request: [bp.Event("a"), bp.Event("b"), bp.Event("c")]}) })"#;
 
 /// The first word of seed 7 is 2 modulo 3.
 const OF_SEVEN: &str = r#"
@@ -189,7 +190,8 @@ sel ["c"];end quiet 1; --> -->record 1 expected sel ["a"] found sel ["c"]
 "#;
 
 /// The same with another third event.
-const ALTERED: &str = r#"bp.registerBThread("A", () => { bp.sync({request: [bp.Event("a"), bp.Event("b"), bp.Event("d")]}) })"#;
+const ALTERED: &str =
+    r#"bp.registerBThread("A", () => { bp.sync({request: [bp.Event("a"), bp.Event("b"), bp.Event("d")]}) })"#;
 
 const OF_ALTERED: &str = r#"
 sel ["c"];end quiet 1; --> -->record 1 expected sel ["d"] found sel ["c"]
