@@ -112,7 +112,10 @@ fn budget_and_steps_are_as_asked(rt: HostRuntime) -> Result<(), Fail> {
     ] {
         tells(&rt, alloc, words, NODES.as_bytes(), (0, "", done))?;
     }
-    Ok(())
+    let mut many = "event [\"t\"]\n".repeat(alloc, 300_000)?;
+    many.push_str("verdict limit steps 300000\n")?;
+    let words = "run|--steps|300000|--workers=1|script.js";
+    tells(&rt, alloc, words, TURNS.as_bytes(), (6, "", many.as_str()))
 }
 
 #[test]

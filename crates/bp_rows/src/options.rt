@@ -48,10 +48,17 @@ fn turns_are_taken_under_all_options(rt: HostRuntime) -> Result<(), Fail> {
     Ok(())
 }
 
+// The first word of the random choice is 2 modulo 3 for seed 7, 1 for seed 1, and 0 for seed 0.
+//
 // A line has words, the mark `-->` with a status, a script, and behind `==>` the trace with `;` for each line end.
 const CASES: &str = r#"
 run|--strategy=ordered|script.js --> 0 bp.registerBThread("A", () => { bp.sync({request: [bp.Event("a"), bp.Event("b"), bp.Event("c")]}) }) ==> event ["a"];done "A";verdict quiet 1;
 run|--strategy=ordered|--seed|7|script.js --> 0 bp.registerBThread("A", () => { bp.sync({request: [bp.Event("a"), bp.Event("b"), bp.Event("c")]}) }) ==> event ["a"];done "A";verdict quiet 1;
+run|--seed=7|script.js --> 0 bp.registerBThread("A", () => { bp.sync({request: [bp.Event("a"), bp.Event("b"), bp.Event("c")]}) }) ==> event ["c"];done "A";verdict quiet 1;
+run|--seed|7|--strategy|simple|script.js --> 0 bp.registerBThread("A", () => { bp.sync({request: [bp.Event("a"), bp.Event("b"), bp.Event("c")]}) }) ==> event ["c"];done "A";verdict quiet 1;
+run|--seed=7|--strategy=priority|script.js --> 0 bp.registerBThread("A", () => { bp.sync({request: [bp.Event("a"), bp.Event("b"), bp.Event("c")]}) }) ==> event ["c"];done "A";verdict quiet 1;
+run|--seed=1|script.js --> 0 bp.registerBThread("A", () => { bp.sync({request: [bp.Event("a"), bp.Event("b"), bp.Event("c")]}) }) ==> event ["b"];done "A";verdict quiet 1;
+run|script.js --> 0 bp.registerBThread("A", () => { bp.sync({request: [bp.Event("a"), bp.Event("b"), bp.Event("c")]}) }) ==> event ["a"];done "A";verdict quiet 1;
 run|--steps|5|script.js --> 6 bp.registerBThread("A", () => { while (true) bp.sync({request: bp.Event("t")}) }) ==> event ["t"];event ["t"];event ["t"];event ["t"];event ["t"];verdict limit steps 5;
 run|--steps=5|script.js --> 0 bp.registerBThread("A", () => { for (let i = 0; i < 5; i++) bp.sync({request: bp.Event("t")}) }) ==> event ["t"];event ["t"];event ["t"];event ["t"];event ["t"];done "A";verdict quiet 5;
 run|--budget|10|script.js --> 5 bp.registerBThread("A", () => { while (true) {} }) ==> verdict spent "A";
@@ -61,6 +68,7 @@ run|--workers|1|--slice|1|script.js --> 3 bp.registerBThread("A", () => { for (l
 run|--workers|2|--slice|1|script.js --> 3 bp.registerBThread("A", () => { for (let i = 0; i < 1000; i++) {} bp.ASSERT(false, "first") }); bp.registerBThread("B", () => { bp.ASSERT(false, "second") }) ==> verdict violated "A" "first";
 run|--workers|2|--slice|1000|script.js --> 3 bp.registerBThread("A", () => { for (let i = 0; i < 1000; i++) {} bp.ASSERT(false, "first") }); bp.registerBThread("B", () => { bp.ASSERT(false, "second") }) ==> verdict violated "A" "first";
 large|2 --> 0 ==> large 2 events 8 lines 11 bytes 148;
+large|100 --> 0 ==> large 100 events 400 lines 501 bytes 7068;
 accept|--|script.js --> 0 bp.log.info(1) ==> accepted;
 "#;
 

@@ -22,12 +22,20 @@ run|a|--steps|1000001
 run|a|--workers|65
 run|a|--slice=
 run|a|--seed|1|--seed|2
+run|a|--seed=7|--seed|8
+run|a|1|2|3|4|5|6|7|8|9|10|11|12|13|14|15|16|17
 large
 large|0
 large|4001
 Run|script.js
 run |script.js
 --help
+-h
+help
+run|--help
+run|a|-h
+accept|--help
+replay|-h
 replay
 replay|script.js|script.js
 replay|--seed|1|script.js

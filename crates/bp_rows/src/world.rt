@@ -48,7 +48,7 @@ pub fn run_words<R: Threads + Wait + Sync>(
     world.hold("script.js".to_string(alloc)?, script.to_vec(alloc)?)?;
     world.fail("script.js".to_string(alloc)?, fails.input.to_vec(alloc)?)?;
     world.fail("log".to_string(alloc)?, fails.log.to_vec(alloc)?)?;
-    let mut out = MemorySink::new(alloc, 2_000_000, fails.output.to_vec(alloc)?)?;
+    let mut out = MemorySink::new(alloc, 4_000_000, fails.output.to_vec(alloc)?)?;
     let status = command(rt, alloc, words, &mut world, &mut out);
     Ok(Ran {
         code: status.code,

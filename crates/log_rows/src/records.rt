@@ -1,6 +1,8 @@
 //! Lines of records behind a good header.
 use crate::answers::{agree, answer};
-use bp_reading::limits::MOST_LINE_BYTES;
+use bp_base::MemorySource;
+use bp_reader::Reader;
+use bp_reading::limits::{MOST_LINE_BYTES, MOST_RECORDS};
 use std::alloc::Global;
 use std::test::Fail;
 
@@ -166,5 +168,41 @@ fn lines_and_events_have_limits(rt: HostRuntime) -> Result<(), Fail> {
         filled(alloc, "", MOST_LINE_BYTES + 1, "")?.as_str(),
         "line 1"
     );
+    let (start, end) = ("end violated top \"", "\"\n");
+    let room = MOST_LINE_BYTES - 19;
+    assert_eq!(rt; filled(alloc, start, room, end)?.as_str(), "read");
+    assert_eq!(rt; filled(alloc, start, room + 1, end)?.as_str(), "line 1");
+    Ok(())
+}
+
+/// How the reading of a log ends that has so many equal lines and then this, behind the number of its records.
+fn counted(alloc: Global, count: u32, end: &str) -> Result<String, Fail> {
+    let mut log = Vec::new(alloc);
+    log.extend_from_slice(
+        b"bp-log 1\nstrategy simple\nseed 0\nbudget 1\nsteps 1\ninjectors 0\nprogram 0\n\n",
+    )?;
+    for _ in 0..count {
+        log.extend_from_slice(b"sel [\"x\"]\n")?;
+    }
+    log.extend_from_slice(end.as_bytes())?;
+    let source = MemorySource::new(log, Vec::new(alloc));
+    let Ok((mut reader, _header)) = Reader::open(alloc, source) else {
+        return Err(Fail::from("refused"));
+    };
+    for number in 0..MOST_RECORDS + 1 {
+        match reader.next(alloc) {
+            Ok(Some(_)) => {}
+            Ok(None) => return Ok(format!(in alloc; "{number} read")?),
+            Err(fault) => return Ok(format!(in alloc; "{number} {fault}")?),
+        }
+    }
+    Ok(String::from_str(alloc, "too many")?)
+}
+
+#[test]
+fn a_log_has_at_most_2100000_records(rt: HostRuntime) -> Result<(), Fail> {
+    let alloc = rt.alloc();
+    let found = counted(alloc, MOST_RECORDS, "e")?;
+    assert_eq!(rt; found.as_str(), "2100000 line 2100001");
     Ok(())
 }

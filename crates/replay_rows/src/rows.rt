@@ -167,6 +167,51 @@ fn the_steps_are_those_of_the_header(rt: HostRuntime) -> Result<(), Fail> {
     agree(&rt, rt.alloc(), FOR_EVER, options(1_000_000, 5, 0)?, FIVE)
 }
 
+/// It asks for one of three events.
+const DRAWN: &str =
+    r#"bp.registerBThread("A", () => { bp.sync({request: [bp.Event("a"), bp.Event("b"), bp.Event("c")]}) })"#;
+
+/// The first word of seed 7 is 2 modulo 3.
+const OF_SEVEN: &str = r#"
+sel ["c"];end quiet 1; --> event ["c"];done "A";verdict quiet 1;-->verdict quiet 1
+sel ["a"];end quiet 1; --> -->record 1 expected sel ["c"] found sel ["a"]
+sel ["b"];end quiet 1; --> -->record 1 expected sel ["c"] found sel ["b"]
+"#;
+
+/// The first word of seed 1 is 1 modulo 3.
+const OF_ONE: &str = r#"
+sel ["b"];end quiet 1; --> event ["b"];done "A";verdict quiet 1;-->verdict quiet 1
+sel ["c"];end quiet 1; --> -->record 1 expected sel ["b"] found sel ["c"]
+"#;
+
+const IN_ORDER: &str = r#"
+sel ["a"];end quiet 1; --> event ["a"];done "A";verdict quiet 1;-->verdict quiet 1
+sel ["c"];end quiet 1; --> -->record 1 expected sel ["a"] found sel ["c"]
+"#;
+
+/// The same with another third event.
+const ALTERED: &str =
+    r#"bp.registerBThread("A", () => { bp.sync({request: [bp.Event("a"), bp.Event("b"), bp.Event("d")]}) })"#;
+
+const OF_ALTERED: &str = r#"
+sel ["c"];end quiet 1; --> -->record 1 expected sel ["d"] found sel ["c"]
+"#;
+
+fn drawn(strategy: Strategy, seed: u64) -> Result<Options, Fail> {
+    Ok(Options::new(strategy, seed, 1_000, 10, 0).ok_or("no options")?)
+}
+
+#[test]
+fn the_choice_is_that_of_the_header(rt: HostRuntime) -> Result<(), Fail> {
+    let alloc = rt.alloc();
+    let simple = drawn(Strategy::Simple, 7)?;
+    agree(&rt, alloc, DRAWN, simple, OF_SEVEN)?;
+    agree(&rt, alloc, ALTERED, simple, OF_ALTERED)?;
+    agree(&rt, alloc, DRAWN, drawn(Strategy::Priority, 7)?, OF_SEVEN)?;
+    agree(&rt, alloc, DRAWN, drawn(Strategy::Simple, 1)?, OF_ONE)?;
+    agree(&rt, alloc, DRAWN, drawn(Strategy::Ordered, 7)?, IN_ORDER)
+}
+
 const REFUSED: &str = r#"
 end quiet 0; --> -->program
  --> -->program

@@ -76,6 +76,19 @@ large 1 ==> large 1
 large 4000 ==> large 4000
 large 0002 ==> large 2
 large -- 3 ==> large 3
+run = ==> run = log none simple 0 1000000 100000 4 10000
+run -- --help ==> run --help log none simple 0 1000000 100000 4 10000
+run p --strategy simple ==> run p log none simple 0 1000000 100000 4 10000
+run p --strategy=ordered -- ==> run p log none ordered 0 1000000 100000 4 10000
+run --seed 0 -- p ==> run p log none simple 0 1000000 100000 4 10000
+run --budget 1000000000 p ==> run p log none simple 0 1000000000 100000 4 10000
+run p --budget=00000000000000000001 ==> run p log none simple 0 1 100000 4 10000
+run --steps 1000000 -- p ==> run p log none simple 0 1000000 1000000 4 10000
+run --steps=1 -- -p ==> run -p log none simple 0 1000000 1 4 10000
+run --workers 1 -- p ==> run p log none simple 0 1000000 100000 1 10000
+run --slice 1000000000 -- p ==> run p log none simple 0 1000000 100000 4 1000000000
+run --log=p= p ==> run p log p= simple 0 1000000 100000 4 10000
+run --log l --strategy ordered --seed 1 --budget 2 --steps 3 --workers 5 --slice 6 p ==> run p log l ordered 1 2 3 5 6
 run a=b ==> run a=b log none simple 0 1000000 100000 4 10000
 "#;
 
@@ -147,6 +160,88 @@ run p --seeds 1 ==> wrong
 accept --log l p ==> wrong
 replay --seed=1 l ==> wrong
 accept -- p q ==> wrong
+run -h ==> wrong
+run help --help ==> wrong
+run p --help ==> wrong
+accept --help ==> wrong
+accept -h p ==> wrong
+replay -h ==> wrong
+replay help l ==> wrong
+large --help ==> wrong
+large -h ==> wrong
+help run ==> wrong
+-h run p ==> wrong
+--help run p ==> wrong
+run p 1 2 3 4 5 6 7 8 9 10 11 12 13 14 15 16 17 ==> wrong
+run p --strategy <> ==> wrong
+run p --strategy - ==> wrong
+run p --strategy --seed 1 ==> wrong
+run p --strategy=Simple ==> wrong
+run p --strategy=simple --strategy=simple ==> wrong
+run p --strategy ==> wrong
+run p --seed <> ==> wrong
+run p --seed - ==> wrong
+run p --seed -1 ==> wrong
+run p --seed=0x1 ==> wrong
+run p --seed=1 --seed=1 ==> wrong
+run p --seed=7 --seed 8 ==> wrong
+run p --budget ==> wrong
+run p --budget= ==> wrong
+run p --budget <> ==> wrong
+run p --budget=0 ==> wrong
+run p --budget=1000000001 ==> wrong
+run p --budget 18446744073709551616 ==> wrong
+run p --budget 1 --budget 1 ==> wrong
+run p --budget=1 --budget 2 ==> wrong
+run p --steps ==> wrong
+run p --steps= ==> wrong
+run p --steps <> ==> wrong
+run p --steps=0 ==> wrong
+run p --steps=1000001 ==> wrong
+run p --steps 1 --steps=1 ==> wrong
+run p --workers ==> wrong
+run p --workers <> ==> wrong
+run p --workers=0 ==> wrong
+run p --workers=65 ==> wrong
+run p --workers 4294967297 ==> wrong
+run p --slice ==> wrong
+run p --slice= ==> wrong
+run p --slice <> ==> wrong
+run p --slice=1000000001 ==> wrong
+run p --slice=1 --slice 2 ==> wrong
+run p -- --log=l ==> wrong
+run p -- --strategy=simple ==> wrong
+run p -- --seed 1 ==> wrong
+run p -- --budget=1 ==> wrong
+run p -- --steps=1 ==> wrong
+run p -- --workers=1 ==> wrong
+run p -- --slice=1 ==> wrong
+run p -- -- ==> wrong
+run -- ==> wrong
+run p --log l -- p ==> wrong
+run p --log=p ==> wrong
+run -- --log --log=--log ==> wrong
+run p --SEED=1 ==> wrong
+run p --see=1 ==> wrong
+run p --no-log ==> wrong
+run p --seed:1 ==> wrong
+run p -s 1 ==> wrong
+run p --=1 ==> wrong
+run -=p ==> wrong
+accept --strategy=simple p ==> wrong
+accept --budget 1 p ==> wrong
+accept p --steps=1 ==> wrong
+accept --workers=1 p ==> wrong
+replay --log=m l ==> wrong
+replay l --strategy simple ==> wrong
+replay --budget=1 l ==> wrong
+replay --steps 1 l ==> wrong
+replay l --slice=1 ==> wrong
+large 4 --log l ==> wrong
+large --slice=1 4 ==> wrong
+large 4000 4000 ==> wrong
+large 00000000000000004000x ==> wrong
+large -- -1 ==> wrong
 "#;
 
 #[test]
