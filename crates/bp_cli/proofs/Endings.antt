@@ -26,7 +26,7 @@ use Rattle.bp_cli.specs.declared.conclusion.Conclusion.TheVariants.{NoCommand, R
 use Rattle.bp_cli.specs.Outside.{Outside, IsAsBefore, IsUnder}
 use Rattle.bp_cli.specs.Asking.{names_of, WasAsked, AsksFor, AsksIn}
 use Rattle.bp_cli.specs.Conclusions.{code_of, conclusion_of, IsStatusOf}
-use Rattle.bp_cli.specs.Endings.{EndsSo, IsGiven, TellsPartly, ComesTo, Accepts, EndsIn, Ends}
+use Rattle.bp_cli.specs.Endings.{EndsSo, IsGiven, IsRefusedAt, TellsPartly, ComesTo, Accepts, EndsIn, Ends}
 use Rattle.bp_large.specs.Large.{large_program}
 use Rattle.bp_cli.specs.Large.{line_of, MeasureEnds}
 use Rattle.bp_cli.specs.Loading.{IsUnloaded}
@@ -214,15 +214,15 @@ is_there c = search rules
 
 -- without an accepted program
 pub unloaded_ends : (c : Command) (name : List ℕ) (unread unwritten : Type 0) (before after : Outside) (conclusion : Conclusion) → ((bytes : List ℕ) → IsUnder before.holds name bytes → IsGiven before.holds c bytes) →
-    IsUnloaded before.holds name unread conclusion → IsAsBefore before after → EndsIn (Some c) unread unwritten before after conclusion
-unloaded_ends c name unread unwritten before after (Refused refusal) g u same = (u.0, g u.0 u.1, (u.2, same))
-unloaded_ends c name unread unwritten before after NotRead g u same = (is_there c, u, same)
-unloaded_ends c name unread unwritten before after NoMemory g u same = inl same
-unloaded_ends c name unread unwritten before after NoCommand g u same = absurd u
-unloaded_ends c name unread unwritten before after Accepted g u same = absurd u
-unloaded_ends c name unread unwritten before after (Ran verdict) g u same = absurd u
-unloaded_ends c name unread unwritten before after NotWritten g u same = absurd u
-unloaded_ends c name unread unwritten before after (BadLog fault) g u same = absurd u
+    ((bytes : List ℕ) (refusal : Refusal) → IsRefused bytes refusal → IsAsBefore before after → IsRefusedAt c bytes refusal before after) → IsUnloaded before.holds name unread conclusion → IsAsBefore before after → EndsIn (Some c) unread unwritten before after conclusion
+unloaded_ends c name unread unwritten before after (Refused refusal) g k u same = (u.0, g u.0 u.1, k u.0 refusal u.2 same)
+unloaded_ends c name unread unwritten before after NotRead g k u same = (is_there c, u, same)
+unloaded_ends c name unread unwritten before after NoMemory g k u same = inl same
+unloaded_ends c name unread unwritten before after NoCommand g k u same = absurd u
+unloaded_ends c name unread unwritten before after Accepted g k u same = absurd u
+unloaded_ends c name unread unwritten before after (Ran verdict) g k u same = absurd u
+unloaded_ends c name unread unwritten before after NotWritten g k u same = absurd u
+unloaded_ends c name unread unwritten before after (BadLog fault) g k u same = absurd u
 
 -- a run of an accepted program
 pub run_given : (asked : Run) (bytes : List ℕ) (program : PlainProgram) (unread unwritten whole partly : Type 0) (before after : Outside) (conclusion : Conclusion) →
@@ -362,13 +362,19 @@ accepts_partly (command.Run asked) bytes before after a = absurd a
 accepts_partly (command.Large n) bytes before after a = absurd a
 accepts_partly (command.Replay log) bytes before after a = absurd a
 
+refused_before : (c : Command) (bytes : List ℕ) (refusal : Refusal) (before after : Outside) → IsRefusedAt c bytes refusal before after → IsAsBefore before after
+refused_before (command.Run asked) bytes refusal before after r = r.1
+refused_before (command.Accept program) bytes refusal before after r = r.1
+refused_before (command.Large n) bytes refusal before after r = absurd r
+refused_before (command.Replay log) bytes refusal before after r = absurd r
+
 -- whatever a command ends in, nothing came outside or a part
 ends_partly : (c : Option Command) (unread unwritten : Type 0) (before after : Outside) (conclusion : Conclusion) → EndsIn c unread unwritten before after conclusion → EndsIn c unread unwritten before after NoMemory
 ends_partly c unread unwritten before after NoCommand e = inl e.1
 ends_partly c unread unwritten before after NotRead e = inl e.2
 ends_partly c unread unwritten before after NoMemory e = e
 ends_partly None unread unwritten before after (Refused refusal) e = absurd e
-ends_partly (Some c) unread unwritten before after (Refused refusal) e = inl (e.2).1
+ends_partly (Some c) unread unwritten before after (Refused refusal) e = inl (refused_before c e.0 refusal before after e.2)
 ends_partly None unread unwritten before after Accepted e = absurd e
 ends_partly (Some c) unread unwritten before after Accepted e = inr (e.0, e.1, accepts_partly c e.0 before after e.2)
 ends_partly None unread unwritten before after (Ran v) e = absurd e

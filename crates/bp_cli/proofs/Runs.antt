@@ -16,7 +16,7 @@ use Rattle.bp_serve.specs.declared.fault.RunFault.{RunFault}
 use Rattle.bp_serve.specs.Ends.{verdict_alone}
 use Rattle.bp_serve.specs.Logging.{LogGets, LogGetsFront}
 use Rattle.bp_serve.proofs.Way.{front_alone, unprinted as let_go}
-use Rattle.bp_replay.specs.Laws.{ReplaysTo}
+use Rattle.bp_replay.specs.Laws.{Retells}
 use Rattle.bp_replay.proofs.RunLogs.{logs_of_runs_replay}
 use Rattle.bp_cli.specs.declared.conclusion.Conclusion.{Conclusion}
 use Rattle.bp_cli.specs.Conclusions.{ended_of}
@@ -80,6 +80,6 @@ rose_on a b c h (inr r) = inr r
 -- each replay of the log of a run tells the run
 pub run_replays : (P : List ℕ → Type 0) (header : PlainHeader) (program : PlainProgram) (v : Verdict) → IsHeader header → header.options.injectors ≡ 0 → IsProgram header.program program →
     AreRecords (records_alone program header.options) → verdict_alone program header.options ≡ Some v → (text : Option (List ℕ)) → text_alone program header.options ≡ text → IsSomeAnd text P →
-    IsSomeAnd text (λ t. ReplaysTo (log_alone header program) t v)
+    IsSomeAnd text (λ t. Retells (log_alone header program) t v)
 run_replays P header program v is none p are ended None e h = h
 run_replays P header program v is none p are ended (Some t) e h = logs_of_runs_replay header program t v is none p are e ended

@@ -2,6 +2,7 @@
 use Rattle.std.specs.Prelude.{◌≡◌, ◌⊎◌, ℕ, List, Option, Some, None, IsSome, IsSomeAnd}
 use Rattle.bp_base.specs.Worlds.{Holdings}
 use Rattle.bp_log.specs.declared.verdict.Verdict.{Verdict}
+use Rattle.bp_script.specs.declared.refusal.Refusal.{Refusal}
 use Rattle.bp_script.specs.Programs.{IsRefused}
 use Rattle.bp_args.specs.declared.command.Command.{Command}
 use Rattle.bp_args.specs.declared.command.Command.TheVariants.{Run, Replay, Accept, Large}
@@ -48,11 +49,18 @@ Accepts (Run asked) bytes before after = ⊥
 Accepts (Large n) bytes before after = ⊥
 Accepts (Replay log) bytes before after = ⊥
 
+-- the bytes are refused so, and nothing came of it outside; the large program is never refused
+abbrev pub IsRefusedAt : Command → List ℕ → Refusal → Outside → Outside → Type 0
+IsRefusedAt (Run asked) bytes refusal before after = IsRefused bytes refusal × IsAsBefore before after
+IsRefusedAt (Accept program) bytes refusal before after = IsRefused bytes refusal × IsAsBefore before after
+IsRefusedAt (Large n) bytes refusal before after = ⊥
+IsRefusedAt (Replay log) bytes refusal before after = ⊥
+
 -- why what is done to these bytes ends so, where writing failed or not, and what came of it outside
 abbrev pub EndsOn : Command → List ℕ → Type 0 → Outside → Outside → Conclusion → Type 0
 EndsOn command bytes unwritten before after Accepted = Accepts command bytes before after
 EndsOn command bytes unwritten before after (Ran v) = ComesTo command bytes before after v
-EndsOn command bytes unwritten before after (Refused refusal) = IsRefused bytes refusal × IsAsBefore before after
+EndsOn command bytes unwritten before after (Refused refusal) = IsRefusedAt command bytes refusal before after
 EndsOn command bytes unwritten before after NotWritten = unwritten × TellsPartly command bytes before after
 EndsOn command bytes unwritten before after NoMemory = IsAsBefore before after ⊎ TellsPartly command bytes before after
 EndsOn command bytes unwritten before after NoCommand = ⊥

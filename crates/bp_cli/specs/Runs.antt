@@ -14,7 +14,7 @@ use Rattle.bp_args.specs.declared.command.Command.{Command}
 use Rattle.bp_args.specs.declared.command.Command.TheVariants as command
 use Rattle.bp_args.specs.declared.command.Run.{Run}
 use Rattle.bp_serve.specs.Ends.{verdict_alone}
-use Rattle.bp_replay.specs.Laws.{ReplaysTo}
+use Rattle.bp_replay.specs.Laws.{Retells}
 use Rattle.bp_cli.specs.declared.conclusion.Conclusion.{Conclusion}
 use Rattle.bp_cli.specs.declared.conclusion.Conclusion.TheVariants.{NoCommand, Refused, Accepted, Ran, NotRead, NotWritten, NoMemory, BadLog}
 use Rattle.bp_cli.specs.Outside.{Outside, IsAsBefore}
@@ -33,7 +33,7 @@ abbrev pub KeepsLog : Option (List ℕ) → Option Holdings → List ℕ → Opt
 KeepsLog None before text after = after ≡ before
 KeepsLog (Some name) before text after = Holds before name text after
 
--- a front of the log; before there is one, nothing is printed either
+-- a front of the log, or what was held, and then nothing was printed
 abbrev pub KeepsLogFront : Option (List ℕ) → Outside → List ℕ → Outside → Type 0
 KeepsLogFront None before text after = after.holds ≡ before.holds
 KeepsLogFront (Some name) before text after = IsAsBefore before after ⊎ HoldsFront before.holds name text after.holds
@@ -45,23 +45,26 @@ log_alone header program = log_text header (records_alone program header.options
 abbrev pub header_of : Run → List ℕ → PlainHeader
 header_of asked bytes = record { options = asked.options; program = bytes }
 
--- the bytes are a program whose run under the options that were asked for ends in this verdict; its text was printed, its log is held, and each replay of that log that meets no trouble prints the same text and comes to the same verdict
+-- the bytes are a program whose run under the options that were asked for ends in this verdict; its text was printed; where a log
+-- is kept, it is held; and each replay of the log of this run that meets no trouble prints the same text and comes to the same verdict
 pub record RunsTo (asked : Run) (bytes : List ℕ) (before after : Outside) (v : Verdict) : Type 0 where
   pub program : PlainProgram
   pub is_program : IsProgram bytes program
   pub verdict : verdict_alone program asked.options ≡ Some v
   pub prints : IsSomeAnd (text_alone program asked.options) (λ text. Appends before.printed text after.printed)
   pub keeps : KeepsLog asked.log before.holds (log_alone (header_of asked bytes) program) after.holds
-  pub replays : IsSomeAnd (text_alone program asked.options) (λ text. ReplaysTo (log_alone (header_of asked bytes) program) text v)
+  pub replays : IsSomeAnd (text_alone program asked.options) (λ text. Retells (log_alone (header_of asked bytes) program) text v)
 
--- the bytes are a program; a front of the text of its run was printed, and a front of its log is held, or nothing was printed and none is held
+-- the bytes are a program; a front of the text of its run was printed, and a front of its log is held, or nothing was printed and
+-- the world holds what it held
 pub record RunsPartly (asked : Run) (bytes : List ℕ) (before after : Outside) : Type 0 where
   pub program : PlainProgram
   pub is_program : IsProgram bytes program
   pub prints : IsSomeAnd (text_alone program asked.options) (λ text. AppendsFront before.printed text after.printed)
   pub keeps : KeepsLogFront asked.log before (log_alone (header_of asked bytes) program) after
 
--- Why a run of this program ends so, where writing failed or not; how much of its text was printed; what is whole or in part besides; and what its records keep by their types.
+-- Why a run of this program ends so (`unwritten`: writing failed); how much of its text was printed; what holds besides where all
+-- was told (`whole`) and where not (`partly`); and what its records keep by their types.
 abbrev pub RunEnds : PlainProgram → PlainOptions → Type 0 → Type 0 → Type 0 → Option (List ℕ) → Option (List ℕ) → Conclusion → Type 0
 RunEnds program options unwritten whole partly before after (Ran v) =
     (verdict_alone program options ≡ Some v) × IsSomeAnd (text_alone program options) (λ text. Appends before text after) × whole

@@ -58,8 +58,16 @@ pub(crate) fn run_logged<R: Threads + Wait + Sync, W: World, K: Sink>(
 ) -> Conclusion
     requires alone { header.now.options.injectors ≡ 0 }
     ensures ends { let log = log_alone header.now program in
-        let before : Outside = record { holds = W.holds world.old; asked = W.asked world.old; printed = K.written out.old } in
-        let after : Outside = record { holds = W.holds world.new; asked = W.asked world.new; printed = K.written out.new } in
+        let before : Outside = record {
+          holds = W.holds world.old;
+          asked = W.asked world.old;
+          printed = K.written out.old;
+        } in
+        let after : Outside = record {
+          holds = W.holds world.new;
+          asked = W.asked world.new;
+          printed = K.written out.new;
+        } in
         RunEnds program header.now.options
         (Rose (K.faults out.old) (K.faults out.new) ⊎ Rose (W.write_faults world.old) (W.write_faults world.new))
         (Holds (W.holds world.old) name.now log (W.holds world.new))

@@ -1,4 +1,4 @@
-//! The records of runs: that each of them can be read back from a log.
+//! The records of runs without injectors: that each of them can be read back from a log.
 #![tactic(auto)]
 
 mod keeping;

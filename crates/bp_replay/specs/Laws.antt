@@ -55,8 +55,8 @@ ReplaysTellTheRun =
     IsLogOf bytes header records program text → Ends bytes before after ended → IsTrouble ended ⊎ TellsAll records text before after ended
 
 -- each replay of these bytes prints this text and answers this verdict, unless reading or writing failed or memory was wanting
-abbrev pub ReplaysTo : List ℕ → List ℕ → Verdict → Type 0
-ReplaysTo bytes text verdict =
+abbrev pub Retells : List ℕ → List ℕ → Verdict → Type 0
+Retells bytes text verdict =
     (before after : Option (List ℕ)) (ended : Result Verdict ReplayFault) → Ends bytes before after ended → IsTrouble ended ⊎ ((ended ≡ Ok verdict) × Appends before text after)
 
 -- The log of the run of an accepted program without injectors replays to the text and the verdict of that run. Of its records no more is asked than what records keep by their types.
@@ -65,4 +65,4 @@ LogsOfRunsReplay =
     (header : PlainHeader) (program : PlainProgram) (text : List ℕ) (verdict : Verdict) →
     IsHeader header → header.options.injectors ≡ 0 → IsProgram header.program program → AreRecords (records_alone program header.options) →
     text_alone program header.options ≡ Some text → verdict_of (records_alone program header.options) ≡ Some verdict →
-    ReplaysTo (log_text header (records_alone program header.options)) text verdict
+    Retells (log_text header (records_alone program header.options)) text verdict

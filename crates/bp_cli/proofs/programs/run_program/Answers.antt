@@ -14,7 +14,7 @@ returns-in-Err-clause-ends g c =
     let before : Outside = record { holds = g.W.World.holds c.args.world.now; asked = g.W.World.asked c.args.world.now; printed = g.K.Sink.written c.args.out.now } in
     let after : Outside = record { holds = g.W.World.holds c.load.new.world; asked = g.W.World.asked c.load.new.world; printed = g.K.Sink.written c.args.out.now } in
     unloaded_ends (command.Run c.args.asked.now) c.as_str.result.now _ _ before after c.in-Err.conclusion
-    (λ bytes u. subst (λ (n : List ℕ). IsUnder (g.W.World.holds c.args.world.now) n bytes) c.as_str.ensures u) c.in-Err.ensures.unloaded (refl, c.load.ensures.holds)
+    (λ bytes u. subst (λ (n : List ℕ). IsUnder (g.W.World.holds c.args.world.now) n bytes) c.as_str.ensures u) (λ bytes refusal r s. (r, s)) c.in-Err.ensures.unloaded (refl, c.load.ensures.holds)
 
 pub returns-in-Err-clause-asks : goal.returns-in-Err-clause-asks
 returns-in-Err-clause-asks g c =
