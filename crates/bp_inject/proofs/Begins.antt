@@ -13,7 +13,7 @@ use Rattle.bp_feeds.specs.declared.reached.Reached.{Reached}
 use Rattle.bp_feeds.specs.declared.reached.Reached.TheVariants.{Within, Last, Ended, Broken, Faulted}
 use Rattle.bp_feeds.specs.declared.feed.Feed.{Feed}
 use Rattle.bp_feeds.specs.Items.{is_fault, is_end, is_last, has_fault, has_end, has_last, is_break, before_lines, before_whole, lines_of, whole_lines, followed, item_of, items_from, items, items_before_fault}
-use Rattle.bp_feeds.specs.Reading.{is_read, IsWithin, IsAll, IsBroken, HasReached, HasRead, EndsInFault, BeginsItems}
+use Rattle.bp_feeds.specs.Reading.{is_read, IsBetweenLines, IsAll, IsBroken, HasReached, HasRead, EndsInFault, BeginsItems}
 use Rattle.bp_feeds.specs.Feeds.{reading_of, is_over, StandsTo}
 use Rattle.bp_feeds.proofs.Cuts.{unended_lines}
 use Rattle.bp_feeds.proofs.Behind.{lines_follow, open_before}
@@ -79,7 +79,7 @@ closed : (lines : List (List ℕ)) (number : ℕ) (last : Item) → is_last last
 closed [] number last l = or_left (is_last last) false l
 closed (line ∷ lines) number last l = line_ended (item_of number line) (items_from lines (number + 1) last) (closed lines (number + 1) last l)
 
-not_both : (b : Bool) → b ≡ false → b ≡ true → ⊥
+pub not_both : (b : Bool) → b ≡ false → b ≡ true → ⊥
 not_both true f t = cc
 not_both false f t = cc
 
@@ -104,7 +104,7 @@ unended_front : (xs ks all : List Item) → xs ++ ks ≡ all → has_end all ≡
 unended_front xs ks all e u t = not_both (has_end all) u (ap has_end (sym e) ∙ list_any-append is_end xs ks ∙ or_left (has_end xs) (has_end ks) t)
 
 of_within : (start : Option (List ℕ)) (took : List ℕ) (all : List Item) (number : ℕ) (held : List ℕ) (left : Option (List ℕ)) (xs ks : List Item) → xs ++ ks ≡ all
-    → Gives start took left → IsWithin took all number held → BeginsItems start left xs
+    → Gives start took left → IsBetweenLines took all number held → BeginsItems start left xs
 of_within start took all number held left xs ks e g w =
     let rest = rest_of left in
     let tail = items_from (lines_of (held ++ rest)) number End in

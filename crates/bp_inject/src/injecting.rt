@@ -1,5 +1,5 @@
 //! A feed that makes its turns until it is over or there is a halt.
-ghost use Rattle.std.specs.Prelude.{◌≡◌, ◌≤◌, List, ℕ, Option, [], Ok, true, false, IsErr};
+ghost use Rattle.std.specs.Prelude.{◌≡◌, ◌<◌, ◌≤◌, ◌↔◌, List, ℕ, Option, [], Ok, true, false};
 ghost use Rattle.bp_base.specs.Counts.{Rose};
 ghost use Rattle.bp_lanes.specs.Lanes.{offered};
 ghost use Rattle.bp_feeds.specs.Items.{has_last};
@@ -22,7 +22,7 @@ pub enum Injected {
 }
 
 /// Makes turns of the feed until it is over or there is a halt, rings after each turn that went on, and waits while
-/// an item finds no place. Halted, it reads no further line.
+/// an item finds no place. Halted, it reads no further line: where its wake was found halted before, it reads nothing.
 ///
 /// # Errors
 ///
@@ -39,10 +39,9 @@ pub fn inject<S: Source, W: Wake, R: Threads + Wait + Sync>(
     ensures last { (start : Option (List ℕ)) → StandsTo S.left start [] feed.old
         → has_last (offered feed.new.mouth) ≡ is_over feed.new }
 
-    ensures over { result ≡ Ok Injected.Over → is_over feed.new ≡ true }
-    ensures halted { result ≡ Ok Injected.Halted → is_over feed.new ≡ false }
-    ensures cause { result ≡ Ok Injected.Halted → Rose (W.halts wake.old) (W.halts wake.new) }
-    ensures memory { IsErr result → is_over feed.new ≡ false }
+    ensures over { (result ≡ Ok Injected.Over) ↔ (is_over feed.new ≡ true) }
+    ensures halted { result ≡ Ok Injected.Halted → Rose (W.halts wake.old) (W.halts wake.new) }
+    ensures stays { 0 < W.halts wake.old → (result ≡ Ok Injected.Halted) × (feed.new ≡ feed.old) }
     ensures halts { W.halts wake.old ≤ W.halts wake.new }
 {
     for _ in rt.forever() {

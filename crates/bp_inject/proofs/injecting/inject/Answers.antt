@@ -1,6 +1,6 @@
-use Rattle.std.proofs.Common.{rules, ◌≡◌, ◌≤◌, [], false}
+use Rattle.std.proofs.Common.{rules, ◌≡◌, ◌<◌, ◌≤◌, [], true, false, refl, arith}
 use Rattle.bp_feeds.proofs.Going.{stands_on, goes_nowhere, goes_on}
-use Rattle.bp_inject.proofs.Begins.{begins, over_is_last}
+use Rattle.bp_inject.proofs.Begins.{begins, over_is_last, not_both}
 use Rattle.bp_feeds.specs.Feeds.{is_over}
 use Rattle.bp_inject.proofs.injecting.inject.Goals as goal
 
@@ -37,26 +37,31 @@ loop-init g c = record {
   goes_on = goes_nowhere g.S.Source.left g.S.Source.faults c.args.feed.now;
   going = search rules;
   halts = search rules;
+  stays = λ _. refl;
 }
 
 pub loop-preserved-in-Ok-Went : goal.loop-preserved-in-Ok-Went
 loop-preserved-in-Ok-Went g c =
     let going : is_over c.turn.new.self ≡ false = search rules in
     let halts : g.W.Wake.halts c.args.wake.now ≤ g.W.Wake.halts c.ring-in-Ok-Went.new.self = search rules in
+    let none : c.halted.result ≡ false = search rules in
     record {
       goes_on = goes_on g.S.Source.left g.S.Source.faults c.args.feed.now c.loop.feed c.turn.new.self c.loop.invariant.goes_on c.turn.ensures.goes_on;
       going = going;
       halts = halts;
+      stays = λ h. absurd (not_both c.halted.result none (c.halted.ensures.stays (omega (arith, h, c.loop.invariant.halts))));
     }
 
 pub loop-preserved : goal.loop-preserved
 loop-preserved g c =
     let going : is_over c.turn.new.self ≡ false = search rules in
     let halts : g.W.Wake.halts c.args.wake.now ≤ g.W.Wake.halts c.wait.new.self = search rules in
+    let none : c.halted.result ≡ false = search rules in
     record {
       goes_on = goes_on g.S.Source.left g.S.Source.faults c.args.feed.now c.loop.feed c.turn.new.self c.loop.invariant.goes_on c.turn.ensures.goes_on;
       going = going;
       halts = halts;
+      stays = λ h. absurd (not_both c.halted.result none (c.halted.ensures.stays (omega (arith, h, c.loop.invariant.halts))));
     }
 
 pub returns-in-Ok-Over-clause-goes_on : goal.returns-in-Ok-Over-clause-goes_on
@@ -64,3 +69,16 @@ returns-in-Ok-Over-clause-goes_on g c = goes_on g.S.Source.left g.S.Source.fault
 
 pub returns-in-Err-clause-goes_on : goal.returns-in-Err-clause-goes_on
 returns-in-Err-clause-goes_on g c = goes_on g.S.Source.left g.S.Source.faults c.args.feed.now c.loop.feed c.turn.new.self c.loop.invariant.goes_on c.turn.ensures.goes_on
+
+pub returns-in-Ok-Over-clause-stays : goal.returns-in-Ok-Over-clause-stays
+returns-in-Ok-Over-clause-stays g c = λ h.
+    let none : c.halted.result ≡ false = search rules in
+    absurd (not_both c.halted.result none (c.halted.ensures.stays (omega (arith, h, c.loop.invariant.halts))))
+
+pub returns-in-Err-clause-stays : goal.returns-in-Err-clause-stays
+returns-in-Err-clause-stays g c = λ h.
+    let none : c.halted.result ≡ false = search rules in
+    absurd (not_both c.halted.result none (c.halted.ensures.stays (omega (arith, h, c.loop.invariant.halts))))
+
+pub returns-then-halted-clause-stays : goal.returns-then-halted-clause-stays
+returns-then-halted-clause-stays g c = λ h. (refl, c.loop.invariant.stays h)

@@ -1,4 +1,4 @@
-use Rattle.std.proofs.Common.{◌≡◌, ◌≤◌, false}
+use Rattle.std.proofs.Common.{◌≡◌, ◌<◌, ◌≤◌, false}
 use Rattle.bp_feeds.specs.Feeds.{is_over, GoesOn}
 use Rattle.bp_inject.proofs.injecting.inject.Given as goal
 
@@ -7,4 +7,5 @@ invariant-loop g l = record {
   goes_on : GoesOn g.S.Source.left g.S.Source.faults l.fn.feed l.feed;
   going : is_over l.feed ≡ false;
   halts : g.W.Wake.halts l.fn.wake ≤ g.W.Wake.halts l.wake;
+  stays : 0 < g.W.Wake.halts l.fn.wake → l.feed ≡ l.fn.feed;
 }
