@@ -27,9 +27,10 @@ fn cars(alloc: Global, before: &str, behind: &str) -> Result<String, Fail> {
     for number in 0..LINES {
         let (count, from) = (number % 5, direction(number));
         text.push_str(before)?;
-        text.push_str(
-            format!(in alloc; "[\"car\",{{\"count\":{},\"from\":\"{}\"}}]", count, from)?.as_str(),
-        )?;
+        text.push_str(format!(in alloc;
+            "[\"car\",{{\"count\":{},\"from\":\"{}\"}}]",
+            count, from
+        )?.as_str())?;
         text.push_str(behind)?;
     }
     Ok(text)
@@ -47,10 +48,7 @@ fn lights(alloc: Global, before: &str, behind: &str) -> Result<String, Fail> {
 }
 
 fn source_of(alloc: Global, text: &str) -> Result<MemorySource, Fail> {
-    Ok(MemorySource::new(
-        text.as_bytes().to_vec(alloc)?,
-        Vec::new(alloc),
-    ))
+    Ok(MemorySource::new(text.as_bytes().to_vec(alloc)?, Vec::new(alloc)))
 }
 
 // Takes what is there and wakes the injectors, or waits for them, until the end of both was taken.
@@ -95,9 +93,12 @@ fn offered<R: Threads + Wait + Sync>(
             let (second, mut other) = start(rt, alloc, scope, bell, second)?;
             let taken = take_all(rt, alloc, bell, (&mut ear, &mut other));
             bell.halt(rt);
-            join(rt, first, &mut ear);
-            join(rt, second, &mut other);
-            taken
+            let (_, one) = join(rt, first, &mut ear);
+            let (_, two) = join(rt, second, &mut other);
+            let taken = taken?;
+            one?;
+            two?;
+            Ok(taken)
         },
     )
 }
@@ -110,8 +111,16 @@ fn all_lines_of_a_crossing_come(rt: HostRuntime) -> Result<(), Fail> {
     let (mut wanted, mut other) = (cars(alloc, "|", "")?, lights(alloc, "|", "")?);
     wanted.push_str("|end")?;
     other.push_str("|end")?;
-    assert!(rt; wanted.as_str().starts_with("|[\"car\",{\"count\":0,\"from\":\"north\"}]|[\"car\",{\"count\":1,\"from\":\"south\"}]"));
-    assert!(rt; other.as_str().ends_with("|[\"green\",\"east\"]|[\"green\",\"west\"]|end"));
+    assert!(rt;
+        wanted.as_str().starts_with(
+            "|[\"car\",{\"count\":0,\"from\":\"north\"}]|[\"car\",{\"count\":1,\"from\":\"south\"}]"
+        )
+    );
+    assert!(rt;
+        other
+            .as_str()
+            .ends_with("|[\"green\",\"east\"]|[\"green\",\"west\"]|end")
+    );
     assert!(rt; first == wanted);
     assert!(rt; second == other);
     Ok(())

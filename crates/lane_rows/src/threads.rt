@@ -37,9 +37,11 @@ fn both<R: Threads + Wait + Sync>(rt: &R, alloc: Global) -> Result<String, Fail>
             let (first, mut ear) = start(rt, alloc, scope, bell, first)?;
             let (second, mut other) = start(rt, alloc, scope, bell, second)?;
             let mut text = String::new(alloc);
-            join(rt, first, &mut ear);
+            let (_, answer) = join(rt, first, &mut ear);
+            answer?;
             add_taken(alloc, &mut ear, &mut text)?;
-            join(rt, second, &mut other);
+            let (_, answer) = join(rt, second, &mut other);
+            answer?;
             add_taken(alloc, &mut other, &mut text)?;
             Ok(text)
         },
