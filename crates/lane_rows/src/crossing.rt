@@ -1,4 +1,6 @@
 // Two injectors of 200 lines, of cars and of lights at a crossing. Their lanes fill up, so that each waits for its places.
+ghost use Rattle.bp_lanes.specs.Lanes.{IsSameEar};
+
 use crate::told::add_taken;
 use bp_base::MemorySource;
 use bp_inject::{join, start};
@@ -56,14 +58,18 @@ fn take_all<R: Threads + Wait + Sync>(
     rt: &R,
     alloc: Global,
     bell: &Bell,
-    ears: (&mut Ear, &mut Ear),
-) -> Result<(String, String), Fail> {
+    ear: &mut Ear,
+    other: &mut Ear,
+) -> Result<(String, String), Fail>
+    ensures one { IsSameEar ear.old ear.new }
+    ensures two { IsSameEar other.old other.new }
+{
     let mut rope = Rope::new(bell);
     let (mut first, mut second) = (String::new(alloc), String::new(alloc));
     for _ in rt.forever() {
         let before = (first.len(), second.len());
-        add_taken(alloc, ears.0, &mut first)?;
-        add_taken(alloc, ears.1, &mut second)?;
+        add_taken(alloc, ear, &mut first)?;
+        add_taken(alloc, other, &mut second)?;
         if first.as_str().ends_with("|end") && second.as_str().ends_with("|end") {
             break;
         }
@@ -91,7 +97,7 @@ fn offered<R: Threads + Wait + Sync>(
         move |scope| -> Result<(String, String), Fail> {
             let (first, mut ear) = start(rt, alloc, scope, bell, first)?;
             let (second, mut other) = start(rt, alloc, scope, bell, second)?;
-            let taken = take_all(rt, alloc, bell, (&mut ear, &mut other));
+            let taken = take_all(rt, alloc, bell, &mut ear, &mut other);
             bell.halt(rt);
             let (_, one) = join(rt, first, &mut ear);
             let (_, two) = join(rt, second, &mut other);
