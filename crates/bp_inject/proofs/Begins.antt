@@ -13,7 +13,7 @@ use Rattle.bp_feeds.specs.declared.reached.Reached.{Reached}
 use Rattle.bp_feeds.specs.declared.reached.Reached.TheVariants.{Within, Last, Ended, Broken, Faulted}
 use Rattle.bp_feeds.specs.declared.feed.Feed.{Feed}
 use Rattle.bp_feeds.specs.Items.{is_fault, is_end, is_last, has_fault, has_end, has_last, is_break, before_lines, before_whole, lines_of, whole_lines, followed, item_of, items_from, items, items_before_fault}
-use Rattle.bp_feeds.specs.Reading.{is_read, IsBetweenLines, IsAll, IsBroken, HasReached, HasRead, EndsInFault, BeginsItems}
+use Rattle.bp_feeds.specs.Reading.{is_read, IsBetweenLines, IsAll, IsBroken, HasReached, EndsInFault, BeginsItems}
 use Rattle.bp_feeds.specs.Feeds.{reading_of, is_over, StandsTo}
 use Rattle.bp_feeds.proofs.Cuts.{unended_lines}
 use Rattle.bp_feeds.proofs.Behind.{lines_follow, open_before}

@@ -1,5 +1,5 @@
 -- What holds of an injector once it was joined.
-use Rattle.std.proofs.Common.{◌≡◌, ◌⊎◌, ⊎_elim, ◌↔◌, ℕ, ◌≤◌, true, List, [], ◌++◌, Option, None, option_to_list, sym, ap, ◌∙◌, subst, arith}
+use Rattle.std.proofs.Common.{◌≡◌, ◌⊎◌, ⊎_elim, ◌↔◌, ℕ, true, List, [], ◌++◌, Option, None, option_to_list, sym, ap, ◌∙◌, subst, arith}
 use Rattle.std.proofs.lemmas.Bool.{or_cases, or_left}
 use Rattle.std.proofs.lemmas.List.Folds.{list_any-append}
 use Rattle.bp_base.specs.Counts.{Rose}
@@ -39,10 +39,6 @@ module _ {S : Type 0} (left : S → Option (List ℕ)) (faults : S → ℕ) wher
         cause = λ h. (let b : has_fault [] ≡ true = ap has_fault (sym nothing) ∙ h in cc);
         counts = omega (arith, ap faults e);
       }
-
-  pub is_from : (source : S) (mouth : Mouth) (feed end : Feed S) → feed.lines.source ≡ source → feed.mouth ≡ mouth → feed.kept ≡ None → offered mouth ≡ []
-      → StandsTo left (left source) (offered mouth) feed → GoesOn left faults feed end → IsFrom left faults source end
-  is_from source mouth feed end e m k none s g = from_on source feed end (from_new source mouth feed e m k none s) g
 
   -- a feed that came back, having offered these items
   pub came_back : (source : S) (feed end : Feed S) (back : S) (offers : List Item) (over : Type 0) → IsFrom left faults source feed → GoesOn left faults feed end

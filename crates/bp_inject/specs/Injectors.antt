@@ -1,19 +1,48 @@
 -- What is known of an injector that was started, and of one that was joined.
-use Rattle.std.specs.Prelude.{◌≡◌, ◌≤◌, ◌↔◌, ℕ, true, List, [], Option}
+use Rattle.std.specs.Prelude.{◌≡◌, ◌≤◌, ◌↔◌, ℕ, Bool, true, false, List, [], ◌∷◌, Option}
+use Rattle.rtrb.specs.Ring.{sent, received, IsPair}
 use Rattle.bp_base.specs.Counts.{Rose}
 use Rattle.bp_log.specs.declared.item.Item.{Item}
+use Rattle.bp_lanes.specs.declared.ends.Ear.{Ear}
+use Rattle.bp_lanes.specs.Lanes.{IsLane}
 use Rattle.bp_feeds.specs.declared.feed.Feed.{Feed}
 use Rattle.bp_feeds.specs.Items.{has_last, has_fault}
 use Rattle.bp_feeds.specs.Reading.{BeginsItems}
 use Rattle.bp_feeds.specs.Feeds.{given, StandsTo}
+use Rattle.bp_inject.specs.declared.started.Beside.{Beside}
 use Rattle.bp_inject.specs.declared.started.Started.{Started}
-use Rattle.bp_inject.specs.declared.started.Started.TheVariants.{Beside, Alone}
+use Rattle.bp_inject.specs.declared.started.Started.TheVariants as started
 
 module _ {S : Type 0} where
-  -- the feed that the thread was given, or the one that came back
+  -- the thread takes its feed from the ring into which this feed alone was put
+  pub record IsHanded (b : Beside S) : Type 0 where
+    pub pair : IsPair b.outlet b.thread.promise.0.value
+    pub fresh : received b.thread.promise.0.value ≡ []
+    pub handed : sent b.outlet ≡ b.feed.value ∷ []
+
+  -- the feed that the thread was handed, or the one that came back
   abbrev pub feed_of : Started S → Feed S
-  feed_of (Beside child) = child.promise.0.value
-  feed_of (Alone f) = f
+  feed_of (started.Beside b) = b.feed.value
+  feed_of (started.Alone f) = f
+
+  -- whether it has a thread
+  abbrev pub is_beside : Started S → Bool
+  is_beside (started.Beside b) = true
+  is_beside (started.Alone f) = false
+
+  abbrev pub IsStarted : Started S → Type 0
+  IsStarted (started.Beside b) = IsHanded b
+  IsStarted (started.Alone f) = Unit {0}
+
+  -- the ear belongs to the lane on which the injector offers
+  pub record IsTied (s : Started S) (ear : Ear) : Type 0 where
+    pub started : IsStarted s
+    pub lane : IsLane (feed_of s).mouth ear
+
+  -- nothing was read of this source, and nothing was given
+  pub record IsUnread (source : S) (feed : Feed S) : Type 0 where
+    pub source_is : feed.lines.source ≡ source
+    pub nothing : given feed ≡ []
 
   -- the feed gives the items of this source, and a fault among them came from it
   pub record IsFrom (left : S → Option (List ℕ)) (faults : S → ℕ) (source : S) (feed : Feed S) : Type 0 where

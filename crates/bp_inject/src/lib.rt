@@ -1,8 +1,9 @@
 //! Injectors on threads of their own: what such a thread runs, how it is started, and how it is joined.
 #![tactic(auto)]
 
+mod beside;
 mod injecting;
 mod started;
 
 pub use injecting::{Injected, inject};
-pub use started::{Outcome, Started, join, start};
+pub use started::{Beside, Started, join, start};

@@ -2,6 +2,10 @@
 #![tactic(auto)]
 
 #[cfg(test)]
+mod crossing;
+#[cfg(test)]
+mod halts;
+#[cfg(test)]
 mod lanes;
 #[cfg(test)]
 mod sources;

@@ -1,10 +1,8 @@
 // Injectors on threads of their own.
 use crate::sources::{Drip, Meeting};
 use crate::told::add_taken;
-use bp_base::MemorySource;
-use bp_feeds::Feed;
-use bp_inject::{Injected, inject, join, start};
-use bp_lanes::{Bell, Rope, lane};
+use bp_inject::{join, start};
+use bp_lanes::Bell;
 use std::alloc::Global;
 use std::sync::Wait;
 use std::sync::atomic::AtomicU64;
@@ -29,20 +27,21 @@ fn meeting<'a>(alloc: Global, bytes: &[u8], begun: &'a AtomicU64) -> Result<Meet
 // The items of two injectors, of which each waits for the first read of the other.
 fn both<R: Threads + Wait + Sync>(rt: &R, alloc: Global) -> Result<String, Fail> {
     let (begun, bell) = (AtomicU64::new(0), Bell::new());
-    let (one, two) = (AtomicU64::new(0), AtomicU64::new(0));
-    let (begun, bell, one, two) = (&begun, &bell, &one, &two);
+    let (begun, bell) = (&begun, &bell);
     thread::scope(
         thread::scope_env(),
         rt,
         move |scope| -> Result<String, Fail> {
             let first = meeting(alloc, FIRST, begun)?;
             let second = meeting(alloc, SECOND, begun)?;
-            let (first, mut ear) = start(rt, alloc, scope, bell, one, first)?;
-            let (second, mut other) = start(rt, alloc, scope, bell, two, second)?;
+            let (first, mut ear) = start(rt, alloc, scope, bell, first)?;
+            let (second, mut other) = start(rt, alloc, scope, bell, second)?;
             let mut text = String::new(alloc);
-            join(rt, first, &mut ear, one);
+            let (_, answer) = join(rt, first, &mut ear);
+            answer?;
             add_taken(alloc, &mut ear, &mut text)?;
-            join(rt, second, &mut other, two);
+            let (_, answer) = join(rt, second, &mut other);
+            answer?;
             add_taken(alloc, &mut other, &mut text)?;
             Ok(text)
         },
@@ -56,24 +55,5 @@ fn two_injectors_read_at_once(rt: HostRuntime) -> Result<(), Fail> {
         text.as_str(),
         "|[\"a\",1]|[\"a\",2]|[\"a\",3]|end|[\"b\",1]|[\"b\",2]|[\"b\",3]|end"
     );
-    Ok(())
-}
-
-#[test]
-fn a_halted_bell_ends_an_injector(rt: HostRuntime) -> Result<(), Fail> {
-    let alloc = rt.alloc();
-    let (mouth, mut ear) = lane(alloc)?;
-    let bell = Bell::new();
-    bell.ring(&rt);
-    assert_eq!(rt; bell.wait(&rt, 0), 1);
-    assert!(rt; !bell.halted(&rt));
-    bell.halt(&rt);
-    assert_eq!(rt; bell.wait(&rt, 1), 1);
-    let source = MemorySource::new(FIRST.to_vec(alloc)?, Vec::new(alloc));
-    let mut feed = Feed::new(alloc, source, mouth);
-    let mut rope = Rope::new(&bell);
-    let injected = inject(&rt, &mut feed, &mut rope)?;
-    assert_eq!(rt; injected, Injected::Halted);
-    assert!(rt; ear.take().is_none());
     Ok(())
 }

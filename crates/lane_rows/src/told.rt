@@ -1,4 +1,6 @@
 // The items of a feed as text.
+ghost use Rattle.bp_lanes.specs.Lanes.{IsSameEar};
+
 use bp_base::Source;
 use bp_feeds::Feed;
 use bp_lanes::{Ear, lane};
@@ -23,7 +25,9 @@ pub fn told<S: Source + Drop>(alloc: Global, source: S) -> Result<String, Fail> 
 }
 
 /// Adds the texts of the items that are there.
-pub fn add_taken(alloc: Global, ear: &mut Ear, text: &mut String) -> Result<(), Fail> {
+pub fn add_taken(alloc: Global, ear: &mut Ear, text: &mut String) -> Result<(), Fail>
+    ensures { IsSameEar ear.old ear.new }
+{
     for _ in 0..100 {
         match ear.take() {
             Some(item) => add(alloc, text, &item)?,

@@ -1,4 +1,4 @@
-use Rattle.std.proofs.Common.{rules, ◌≡◌, ◌<◌, ◌≤◌, [], true, false, refl, arith}
+use Rattle.std.proofs.Common.{rules, ◌≡◌, ◌≤◌, [], false, refl, arith}
 use Rattle.bp_feeds.proofs.Going.{stands_on, goes_nowhere, goes_on}
 use Rattle.bp_inject.proofs.Begins.{begins, over_is_last, not_both}
 use Rattle.bp_feeds.specs.Feeds.{is_over}
