@@ -21,13 +21,14 @@ use crate::engine::Engine;
 use crate::frame::{Frame, Part};
 use crate::ground::Ground;
 use crate::operators::{op_before, step_for};
+use crate::short::share;
 use crate::slots::Slots;
 use crate::step::{Step, answered, failed, give};
 use js_data::{Fault, Memory};
 use js_ops::{OpFault, apply_by, made, unary};
 use js_program::Variable;
 use js_tree::{AssignOp, Fix, Step as Change};
-use js_value::{Items, Op, Value, copy};
+use js_value::{Items, Op, Value};
 use std::alloc::Global;
 
 /// A function with these captured values.
@@ -74,7 +75,7 @@ impl Engine {
         match self.held(base, variable) {
             None => Ok(Step::Fail(Fault::Early, line)),
             Some(value) => {
-                let copied = copy(value)?;
+                let copied = share(value)?;
                 Ok(give(copied))
             }
         }
@@ -96,7 +97,7 @@ impl Engine {
         let Some(held) = self.slots.get(slot) else {
             return Ok(Step::Fail(Fault::Early, line));
         };
-        let old = copy(held)?;
+        let old = share(held)?;
         let new = unary(step_for(step), &old);
         self.change(base, fix, slot, old, new, line)
     }
@@ -137,7 +138,7 @@ impl Engine {
     {
         match answer {
             Ok(value) => {
-                let copied = copy(&value)?;
+                let copied = share(&value)?;
                 self.slots.set(slot, Some(copied));
                 Ok(give(value))
             }
@@ -207,7 +208,7 @@ impl Engine {
         let Some(held) = self.slots.get(slot) else {
             return Ok(Step::Fail(Fault::Early, line));
         };
-        let old = copy(held)?;
+        let old = share(held)?;
         self.wait(
             part,
             Frame::Waiting(Part::AssignedWith(op, old, slot, line)),

@@ -8,8 +8,9 @@ ghost use Rattle.js_meaning.specs.Meaning.{eval};
 ghost use Rattle.js_frames.specs.Fits.{IsNode};
 ghost use Rattle.js_frames.specs.Leads.{Picks};
 
+use crate::short::holds;
 use crate::step::{Step, give, leave};
-use js_value::{Value, truthy};
+use js_value::Value;
 
 /// The right side, where the left one is not true. Takes no memory.
 #[inline(always)]
@@ -18,7 +19,7 @@ pub fn or(right: u32, left: Value) -> Step
         Picks program (λ g. cond (is_truthy (plain_value left))
         (gives (plain_value left)) (eval g right)) result }
 {
-    if truthy(&left) {
+    if holds(&left) {
         give(left)
     } else {
         Step::Begin(right)
@@ -32,7 +33,7 @@ pub fn and(right: u32, left: Value) -> Step
         Picks program (λ g. cond (is_truthy (plain_value left))
         (eval g right) (gives (plain_value left))) result }
 {
-    if truthy(&left) {
+    if holds(&left) {
         Step::Begin(right)
     } else {
         give(left)
@@ -46,7 +47,7 @@ pub fn choose(yes: u32, no: u32, test: &Value) -> Step
         Picks program (λ g. cond (is_truthy (plain_value test.now)) (eval g yes) (eval g no))
         result }
 {
-    if truthy(test) {
+    if holds(test) {
         Step::Begin(yes)
     } else {
         Step::Begin(no)
@@ -59,7 +60,7 @@ pub fn when(body: u32, test: &Value) -> Step
     ensures { (program : PlainProgram) → IsNode program body →
         Picks program (λ g. cond (is_truthy (plain_value test.now)) (eval g body) leaves) result }
 {
-    if truthy(test) {
+    if holds(test) {
         Step::Begin(body)
     } else {
         leave()

@@ -15,7 +15,8 @@ use js_data::Memory;
 use js_value::Value;
 
 impl Engine {
-    /// What a frame does once what it waits for completes.
+    /// What a frame does once what it waits for completes. A function clears the room of all that it holds when it is
+    /// entered, so a part's value is handed on here, and all else in one function of its own.
     #[inline(always)]
     pub fn give(
         &mut self,
@@ -32,6 +33,32 @@ impl Engine {
         match frame {
             Frame::Waiting(part) => match completion {
                 Completion::Normal(value) => self.give_value(base, part, value),
+                other => Ok(Step::Give(other)),
+            },
+            other => {
+                let step = self.give_any(base, other, completion)?;
+                Ok(step)
+            }
+        }
+    }
+
+    /// What any frame does once what it waits for completes.
+    #[inline(never)]
+    fn give_any(
+        &mut self,
+        base: &Ground,
+        frame: Frame,
+        completion: Completion,
+    ) -> Result<Step, Memory>
+        requires frame { FrameFits base.now.program frame }
+        requires fits { StackFits base.now.program self.old.stack.items }
+        ensures { Goes base.now self.old
+            (λ s. resume (here base.now self.old) frame (went (plain_completion completion) s))
+            self.new result }
+    {
+        match frame {
+            Frame::Waiting(part) => match completion {
+                Completion::Normal(value) => self.give_part(base, part, value),
                 other => Ok(Step::Give(other)),
             },
             Frame::Turning(turn) => {
@@ -60,7 +87,7 @@ impl Engine {
             Part::Tested(turns) => self.tested(base, turns, value),
             Part::Between(turns) => self.test(base, turns),
             other => {
-                let step = self.give_any(base, other, value)?;
+                let step = self.give_part(base, other, value)?;
                 Ok(step)
             }
         }
@@ -68,7 +95,7 @@ impl Engine {
 
     /// What any node does that has the value of its part.
     #[inline(never)]
-    fn give_any(&mut self, base: &Ground, part: Part, value: Value) -> Result<Step, Memory>
+    fn give_part(&mut self, base: &Ground, part: Part, value: Value) -> Result<Step, Memory>
         requires part { PartFits base.now.program part }
         requires fits { StackFits base.now.program self.old.stack.items }
         ensures { Goes base.now self.old

@@ -21,6 +21,7 @@ mod nodes;
 mod operators;
 mod parts;
 mod settle;
+mod short;
 mod slots;
 mod step;
 mod values;

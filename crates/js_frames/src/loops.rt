@@ -14,10 +14,11 @@ ghost use Rattle.js_frames.specs.Leads.{Goes};
 use crate::engine::Engine;
 use crate::frame::{Frame, Part, Turn, Turns};
 use crate::ground::Ground;
+use crate::short::{holds, share};
 use crate::step::{Completion, Step, leave, mistyped};
 use crate::values::item_at;
 use js_data::Memory;
-use js_value::{Items, Value, copy, truthy};
+use js_value::{Items, Value};
 
 impl Engine {
     /// A `for`: its variables are not declared yet, and its first part begins, if it has one.
@@ -79,7 +80,7 @@ impl Engine {
             (rest (here base.now self.old) (Part.Tested turns) (plain_value value))
             self.new result }
     {
-        if truthy(&value) {
+        if holds(&value) {
             self.turn(base, turns)
         } else {
             Ok(leave())
@@ -163,7 +164,7 @@ impl Engine {
         let Some(item) = item_at(&items, place) else {
             return Ok(leave());
         };
-        let value = copy(item)?;
+        let value = share(item)?;
         self.slots.set(slot, Some(value));
         self.wait(
             body,

@@ -5,8 +5,8 @@ use Rattle.js_meaning.specs.Meaning.{eval}
 use Rattle.js_frames.proofs.Steps.{picks_begin, picks_give, if_true, if_false}
 use Rattle.js_frames.proofs.branches.or.Goals as goal
 
-pub returns-then-truthy : goal.returns-then-truthy
-returns-then-truthy c = λ program node. picks_give program _ _ c.args.left c.give.ensures (λ g s. if_true (is_truthy (plain_value c.args.left)) (gives (plain_value c.args.left)) (eval g c.args.right) s c.if-truthy.ensures)
+pub returns-then-holds : goal.returns-then-holds
+returns-then-holds c = λ program node. picks_give program _ _ c.args.left c.give.ensures (λ g s. if_true (is_truthy (plain_value c.args.left)) (gives (plain_value c.args.left)) (eval g c.args.right) s c.if-holds.ensures)
 
-pub returns-else-truthy : goal.returns-else-truthy
-returns-else-truthy c = λ program node. picks_begin program _ c.args.right node (λ g s. if_false (is_truthy (plain_value c.args.left)) (gives (plain_value c.args.left)) (eval g c.args.right) s c.if-truthy.ensures)
+pub returns-else-holds : goal.returns-else-holds
+returns-else-holds c = λ program node. picks_begin program _ c.args.right node (λ g s. if_false (is_truthy (plain_value c.args.left)) (gives (plain_value c.args.left)) (eval g c.args.right) s c.if-holds.ensures)

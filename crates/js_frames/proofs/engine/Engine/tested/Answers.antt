@@ -9,14 +9,14 @@ use Rattle.js_frames.specs.Frames.{rest, again}
 use Rattle.js_frames.proofs.Steps.{means_ok, left, if_true, if_false}
 use Rattle.js_frames.proofs.engine.Engine.tested.Goals as goal
 
-pub returns-then-truthy : goal.returns-then-truthy
+pub returns-then-holds : goal.returns-then-holds
 unfolding rest again
-returns-then-truthy c =
+returns-then-holds c =
     let g = here c.args.base.now c.args.self.now in
-    means_ok (plain_ground c.args.base.now) _ _ _ _ c.turn.result c.turn.ensures (λ s. if_true (is_truthy (plain_value c.args.value)) (λ now. after_turn (eval g (let t = c.args.turns in t.body) now) (again g (OfLoop c.args.turns))) leaves s c.if-truthy.ensures)
+    means_ok (plain_ground c.args.base.now) _ _ _ _ c.turn.result c.turn.ensures (λ s. if_true (is_truthy (plain_value c.args.value)) (λ now. after_turn (eval g (let t = c.args.turns in t.body) now) (again g (OfLoop c.args.turns))) leaves s c.if-holds.ensures)
 
 pub returns : goal.returns
 unfolding rest again
 returns c =
     let g = here c.args.base.now c.args.self.now in
-    left (plain_ground c.args.base.now) _ _ _ c.leave.ensures c.requires.fits (λ s. if_false (is_truthy (plain_value c.args.value)) (λ now. after_turn (eval g (let t = c.args.turns in t.body) now) (again g (OfLoop c.args.turns))) leaves s c.if-truthy.ensures)
+    left (plain_ground c.args.base.now) _ _ _ c.leave.ensures c.requires.fits (λ s. if_false (is_truthy (plain_value c.args.value)) (λ now. after_turn (eval g (let t = c.args.turns in t.body) now) (again g (OfLoop c.args.turns))) leaves s c.if-holds.ensures)
