@@ -9,3 +9,5 @@ pub mod Law
 pub mod Whole
 pub mod Again
 pub mod Told
+pub mod Ranges
+pub mod Fits

@@ -1,7 +1,8 @@
 -- What is true of the texts of logs.
 use Rattle.std.specs.Prelude.{◌≡◌, ℕ, ◌<◌, ◌≤◌, ◌^◌, true, false, List, [], ◌∷◌, length, Ok, Option, Some, None}
 use Rattle.std.specs.Str.{is_utf8}
-use Rattle.js_data.specs.Event.{IsEvent}
+use Rattle.js_data.specs.Event.{PlainEvent, IsEvent, event_weight, event_nesting}
+use Rattle.js_data.specs.declared.event.TheConstants.Event as event
 use Rattle.bp_log.specs.Options.{AreOptions}
 use Rattle.bp_log.specs.Header.{PlainHeader}
 use Rattle.bp_log.specs.Logs.{record_text, records_text, log_text}
@@ -49,6 +50,29 @@ abbrev pub AreRecords : List Record → Type 0
 AreRecords [] = Unit {0}
 AreRecords (r ∷ rs) = IsRecord r × AreRecords rs
 
+-- ---- of these, the ranges: of numbers, and of the weight and the nesting of events
+
+abbrev pub IsInLimits : PlainEvent → Type 0
+IsInLimits e = (event_weight e ≤ event.MOST_WEIGHT) × (event_nesting e ≤ event.MOST_NESTING)
+
+abbrev pub IsVerdictInRange : Verdict → Type 0
+IsVerdictInRange (verdict.Quiet n) = n < 2 ^ 32
+IsVerdictInRange (verdict.Fault place line f) = line < 2 ^ 32
+IsVerdictInRange (verdict.Steps n) = n < 2 ^ 32
+IsVerdictInRange (verdict.Bad j line) = (j < 2 ^ 32) × (line < 2 ^ 32)
+IsVerdictInRange _ = Unit {0}
+
+abbrev pub IsInRange : Record → Type 0
+IsInRange (In j e) = (j < 2 ^ 32) × IsInLimits e
+IsInRange (Bad j line) = (j < 2 ^ 32) × (line < 2 ^ 32)
+IsInRange (Eof j) = j < 2 ^ 32
+IsInRange (Sel e) = IsInLimits e
+IsInRange (End v) = IsVerdictInRange v
+
+abbrev pub AreInRange : List Record → Type 0
+AreInRange [] = Unit {0}
+AreInRange (r ∷ rs) = IsInRange r × AreInRange rs
+
 -- ---- the laws
 
 -- no two pairs of a header and a list of records have one text
@@ -69,15 +93,23 @@ LogsAreRead =
     (h : PlainHeader) (rs : List Record) → IsHeader h → AreRecords rs → Stands (first_stage h.options.injectors) rs →
     (header_at (log_text h rs) ≡ Ok (h, records_text rs)) × Says (first_stage h.options.injectors) (records_text rs) rs None
 
--- what bytes say as a header and records up to a good end is a complete list, and the bytes are their text
+-- the bytes are the text of the header and the records, which are complete and break no rule of lines
+pub record IsLog (bytes : List ℕ) (h : PlainHeader) (rs : List Record) : Type 0 where
+  pub text : bytes ≡ log_text h rs
+  pub complete : is_complete rs ≡ true
+  pub header : IsHeader h
+  pub records : AreInRange rs
+  pub stands : Stands (first_stage h.options.injectors) rs
+
+-- what bytes say as a header and records up to a good end is a log, and the bytes are its text
 abbrev pub ReadLogsAreTexts : Type 0
 ReadLogsAreTexts =
     (bytes rest : List ℕ) (h : PlainHeader) (rs : List Record) → header_at bytes ≡ Ok (h, rest) →
-    Says (first_stage h.options.injectors) rest rs None → (bytes ≡ log_text h rs) × (is_complete rs ≡ true)
+    Says (first_stage h.options.injectors) rest rs None → IsLog bytes h rs
 
 -- the line is the text of the record, or of none
 abbrev pub Spells : List ℕ → Option Record → Type 0
-Spells line (Some r) = line ≡ record_text r
+Spells line (Some r) = IsInRange r × (line ≡ record_text r)
 Spells line None = (r : Record) → IsRecord r → ¬ (line ≡ record_text r)
 
 -- a line says the record whose text it is, and is refused where it is the text of none
