@@ -4,7 +4,7 @@ use Rattle.std.specs.Prelude.{nat_le, codes}
 use Rattle.std.proofs.lemmas.Bool.{leb-true, leb-false}
 use Rattle.bp_log.specs.Options.{PlainOptions, AreOptions}
 use Rattle.bp_log.specs.Header.{PlainHeader}
-use Rattle.bp_log.specs.Logs.{record_text, records_text, log_text}
+use Rattle.bp_log.specs.Logs.{records_text, log_text}
 use Rattle.bp_log.specs.declared.limits.TheConstants.{MOST_BYTES, MOST_BUDGET, MOST_STEPS, MOST_INJECTORS}
 use Rattle.bp_log.specs.declared.options.Strategy.{Strategy}
 use Rattle.bp_log.specs.declared.record.Record.{Record}
@@ -13,7 +13,7 @@ use Rattle.bp_reading.specs.Words.{most_64, number_behind}
 use Rattle.bp_reading.specs.Lines.{record_at}
 use Rattle.bp_reading.specs.Heads.{whole, line_at, header, from_least, field, version_at, strategy_line_at, field_at, program_at, choice_at, limits_at, options_at, header_at}
 use Rattle.bp_reading.specs.Reading.{Stage, first_stage, after, can_stand, Says, if_stands, front_at, found, finished, next_at}
-use Rattle.bp_reading.specs.Laws.{IsHeader, IsRecord, AreInRange, Stands, ReadLogsAreTexts, LinesAreTexts, Spells}
+use Rattle.bp_reading.specs.Laws.{IsHeader, AreInRange, Stands, ReadLogsAreTexts, LinesAreTexts, Spells}
 use Rattle.bp_reading.proofs.Lines.{some_none}
 use Rattle.bp_reading.proofs.Back.{record_back}
 use Rattle.bp_reading.proofs.Law.{header_then, header_regrouped}

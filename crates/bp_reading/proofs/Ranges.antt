@@ -1,5 +1,5 @@
 -- The numbers of what is read are in their ranges, and its events within the limits.
-use Rattle.std.proofs.Common.{◌≡◌, ◌∙◌, ℕ, ◌<◌, ◌≤◌, ◌^◌, List, [], ◌∷◌, Option, Some, None, option_and_then, subst, inl, inr, arith}
+use Rattle.std.proofs.Common.{◌≡◌, ℕ, ◌<◌, ◌≤◌, ◌^◌, List, [], ◌∷◌, Some, option_and_then, subst, inl, inr, arith}
 use Rattle.std.specs.Prelude.{◌==◌, ◌&&◌, nat_le, codes}
 use Rattle.std.specs.Str.{bytes_eq, is_utf8}
 use Rattle.std.proofs.lemmas.Bool.{and_parts, leb-true}
@@ -8,6 +8,7 @@ use Rattle.js_data.specs.Event.{PlainEvent, event_weight, event_nesting}
 use Rattle.js_data.specs.JsonText.{event_text}
 use Rattle.js_data.specs.declared.event.TheConstants.Event as event
 use Rattle.js_json.specs.Json.{event_from, within_limits, event_at}
+use Rattle.js_json.proofs.Ordered.{sorted_read}
 use Rattle.bp_log.specs.declared.limits.TheConstants.{MOST_WAITING, MOST_THREADS, MOST_WEIGHT}
 use Rattle.bp_log.specs.declared.record.Record.{Record}
 use Rattle.bp_log.specs.declared.record.Record.TheVariants.{Eof, Sel, End}
@@ -46,7 +47,8 @@ event_low bytes e h = elim (chosen (is_utf8 bytes) _ _ _ h) [
       let a = chained within_limits (option_and_then event_from (read bytes)) e good.1 in
       let b = tested (nat_le (event_weight a.0) event.MOST_WEIGHT && nat_le (event_nesting a.0) event.MOST_NESTING) a.0 e a.2 in
       let c = and_parts _ _ b.0 in
-      subst IsInLimits b.1 (leb-true _ _ c.0, leb-true _ _ c.1)
+      let d = chained event_from (read bytes) a.0 a.1 in
+      subst IsInLimits b.1 (leb-true _ _ c.0, leb-true _ _ c.1, sorted_read bytes d.0 a.0 d.1 d.2)
   | inr bad ↦ absurd (some_none bad.1)
 ]
 

@@ -6,7 +6,7 @@ use Rattle.std.proofs.lemmas.Bool.Decides.{eqb_tells}
 use Rattle.std.proofs.lemmas.Bool.{false≢true}
 use Rattle.bp_log.specs.Options.{PlainOptions}
 use Rattle.bp_log.specs.Header.{PlainHeader}
-use Rattle.bp_log.specs.Logs.{record_text, records_text, log_text, strategy_name, strategy_at}
+use Rattle.bp_log.specs.Logs.{record_text, records_text, strategy_name, strategy_at}
 use Rattle.bp_log.specs.declared.limits.TheConstants.{MOST_BYTES, MOST_BUDGET, MOST_STEPS, MOST_INJECTORS}
 use Rattle.bp_log.specs.declared.options.Strategy.{Strategy}
 use Rattle.bp_log.specs.Records.{is_complete}
@@ -16,10 +16,9 @@ use Rattle.bp_reading.specs.declared.limits.TheConstants.{MOST_LINE_BYTES, MOST_
 use Rattle.bp_reading.specs.Words.{most_64, behind, number_behind}
 use Rattle.bp_reading.specs.Lines.{record_at}
 use Rattle.bp_reading.specs.Heads.{Front, nothing, partial, excess, whole, onto, line_at, Refusal, version, header, cut, ◌>>=◌, or_else, said, is_version, version_at, strategy_behind, strategy_line_at, from_least, field, field_at, program_at, choice_at, limits_at, options_at, header_at}
-use Rattle.bp_reading.specs.Reading.{Stage, first_stage, after, Says, if_stands, next_record, behind_end, too_many, front_at, Next, found, finished, refused, next_found, next_of, next_at}
-use Rattle.bp_reading.proofs.Lines.{some_none}
+use Rattle.bp_reading.specs.Reading.{Stage, after, Says, if_stands, next_record, behind_end, too_many, front_at, Next, found, finished, refused, next_found, next_of, next_at}
 use Rattle.bp_reading.proofs.Spelled.{options_then}
-use Rattle.bp_reading.proofs.Law.{regrouped, header_then, header_regrouped}
+use Rattle.bp_reading.proofs.Law.{regrouped, header_then}
 use Rattle.bp_reading.proofs.Again.{chained, chosen, tested, same_bytes, behind_spelled, word_spelled, strategy_spelled, record_again}
 
 -- ---- answers taken apart

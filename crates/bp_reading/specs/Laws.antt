@@ -1,7 +1,7 @@
 -- What is true of the texts of logs.
 use Rattle.std.specs.Prelude.{◌≡◌, ℕ, ◌<◌, ◌≤◌, ◌^◌, true, false, List, [], ◌∷◌, length, Ok, Option, Some, None}
 use Rattle.std.specs.Str.{is_utf8}
-use Rattle.js_data.specs.Event.{PlainEvent, IsEvent, event_weight, event_nesting}
+use Rattle.js_data.specs.Event.{PlainEvent, IsEvent, event_weight, event_nesting, IsSortedExtra}
 use Rattle.js_data.specs.declared.event.TheConstants.Event as event
 use Rattle.bp_log.specs.Options.{AreOptions}
 use Rattle.bp_log.specs.Header.{PlainHeader}
@@ -50,10 +50,10 @@ abbrev pub AreRecords : List Record → Type 0
 AreRecords [] = Unit {0}
 AreRecords (r ∷ rs) = IsRecord r × AreRecords rs
 
--- ---- of these, the ranges: of numbers, and of the weight and the nesting of events
+-- ---- of these, the ranges of numbers, and the limits and the order of events
 
 abbrev pub IsInLimits : PlainEvent → Type 0
-IsInLimits e = (event_weight e ≤ event.MOST_WEIGHT) × (event_nesting e ≤ event.MOST_NESTING)
+IsInLimits e = (event_weight e ≤ event.MOST_WEIGHT) × (event_nesting e ≤ event.MOST_NESTING) × IsSortedExtra e.extra
 
 abbrev pub IsVerdictInRange : Verdict → Type 0
 IsVerdictInRange (verdict.Quiet n) = n < 2 ^ 32
