@@ -112,7 +112,7 @@ event_spelled bytes e h =
     let b = tested (bytes_eq (event_text a.0) bytes) a.0 e a.2 in
     sym (same_bytes (event_text a.0) bytes b.0) ∙ ap (λ (x : PlainEvent). event_text x) b.1
 
-text_spelled : (bytes s : List ℕ) → text_at bytes ≡ Some s → bytes ≡ quoted_text s
+pub text_spelled : (bytes s : List ℕ) → text_at bytes ≡ Some s → bytes ≡ quoted_text s
 text_spelled bytes s h = elim (chosen (is_utf8 bytes) _ _ _ h) [
   | inl good ↦
       let a = chained (if_quoted bytes) (option_and_then as_str (read bytes)) s good.1 in

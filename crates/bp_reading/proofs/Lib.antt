@@ -9,5 +9,6 @@ pub mod Law
 pub mod Whole
 pub mod Again
 pub mod Told
+pub mod Unquoted
 pub mod Ranges
 pub mod Fits

@@ -50,24 +50,17 @@ abbrev pub AreRecords : List Record → Type 0
 AreRecords [] = Unit {0}
 AreRecords (r ∷ rs) = IsRecord r × AreRecords rs
 
--- ---- of these, the ranges of numbers, and the limits and the order of events
+-- ---- the same, but that the numbers and texts in the data of an event need not be held
 
 abbrev pub IsInLimits : PlainEvent → Type 0
-IsInLimits e = (event_weight e ≤ event.MOST_WEIGHT) × (event_nesting e ≤ event.MOST_NESTING) × IsSortedExtra e.extra
-
-abbrev pub IsVerdictInRange : Verdict → Type 0
-IsVerdictInRange (verdict.Quiet n) = n < 2 ^ 32
-IsVerdictInRange (verdict.Fault place line f) = line < 2 ^ 32
-IsVerdictInRange (verdict.Steps n) = n < 2 ^ 32
-IsVerdictInRange (verdict.Bad j line) = (j < 2 ^ 32) × (line < 2 ^ 32)
-IsVerdictInRange _ = Unit {0}
+IsInLimits e = (event_weight e ≤ event.MOST_WEIGHT) × (event_nesting e ≤ event.MOST_NESTING) × IsSortedExtra e.extra × (is_utf8 e.name ≡ true)
 
 abbrev pub IsInRange : Record → Type 0
 IsInRange (In j e) = (j < 2 ^ 32) × IsInLimits e
 IsInRange (Bad j line) = (j < 2 ^ 32) × (line < 2 ^ 32)
 IsInRange (Eof j) = j < 2 ^ 32
 IsInRange (Sel e) = IsInLimits e
-IsInRange (End v) = IsVerdictInRange v
+IsInRange (End v) = IsVerdict v
 
 abbrev pub AreInRange : List Record → Type 0
 AreInRange [] = Unit {0}
