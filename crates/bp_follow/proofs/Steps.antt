@@ -1,9 +1,9 @@
 -- One record of a log, followed.
-use Rattle.std.proofs.Common.{◌≡◌, ℕ, suc, ◌+◌, ◌<◌, ◌≤◌, Bool, true, false, not, ◌&&◌, nat_eq, nat_lt, List, [], ◌∷◌, ◌++◌, length, refl, ap, sym, ◌∙◌, subst, arith, Option, Some, None, Ok, Err, length-append}
-use Rattle.std.specs.Prelude.{Result, option_to_list, OnOk, IfOk}
+use Rattle.std.proofs.Common.{◌≡◌, ℕ, ◌<◌, Bool, true, false, not, ◌&&◌, nat_eq, nat_lt, List, [], ◌∷◌, ◌++◌, length, refl, ap, sym, ◌∙◌, subst, arith, Option, Some, None, Ok, Err, length-append}
+use Rattle.std.specs.Prelude.{Result, option_to_list}
 use Rattle.std.specs.List.{list_any}
 use Rattle.js_meaning.specs.Bodies.{Origin}
-use Rattle.bp_log.specs.Records.{is_complete, verdict_of}
+use Rattle.bp_log.specs.Records.{is_complete}
 use Rattle.bp_log.specs.declared.limits.TheConstants.{MOST_WAITING}
 use Rattle.bp_log.specs.declared.item.Item.{Item}
 use Rattle.bp_log.specs.declared.item.Item.TheVariants as item
@@ -11,27 +11,26 @@ use Rattle.bp_log.specs.declared.record.Record.{Record}
 use Rattle.bp_log.specs.declared.record.Record.TheVariants.{In, Bad, Eof, Sel, End}
 use Rattle.bp_log.specs.declared.trace.Line.{Line}
 use Rattle.bp_log.specs.declared.verdict.Verdict.{Verdict}
-use Rattle.bp_run.specs.Configuration.{Configuration, Stand}
+use Rattle.bp_run.specs.Configuration.{Configuration}
 use Rattle.bp_run.specs.Settling.{Entry, Pair}
-use Rattle.bp_run.specs.Story.{Next, next, has_room, over_with, record_of, after_record, story}
+use Rattle.bp_run.specs.Story.{Next, has_room, over_with, record_of, story}
 use Rattle.bp_run.specs.Story.Next.{Ends, Selects, Waits}
 use Rattle.bp_run.proofs.Stories.{story_end}
 use Rattle.bp_floor.specs.declared.phase.Phase.{Phase}
 use Rattle.bp_floor.specs.declared.phase.Phase.TheVariants.{Ready, Lent, Rest, Over}
-use Rattle.bp_floor.specs.declared.absorb.Absorb.{Absorb}
 use Rattle.bp_floor.specs.Floors.{is_idle}
 use Rattle.bp_arbiter.specs.declared.picked.Picked.{Picked}
 use Rattle.bp_arbiter.specs.declared.picked.Picked.TheVariants as picked
 use Rattle.bp_arbiter.specs.Arbiters as arbiter
 use Rattle.bp_arbiter.specs.Arbiters.{PlainArbiter, Recounts, StandsFor, Shows, options_in, stand_in, is_lent}
 use Rattle.bp_arbiter.specs.Absorbing.{is_failed, fits, with_item, absorbed}
-use Rattle.bp_arbiter.specs.Picking.{picked_of, after_pick, moved_phase, phase_after}
+use Rattle.bp_arbiter.specs.Picking.{picked_of, after_pick, phase_after}
 use Rattle.bp_serve.specs.Turning.{StandsAfter}
 use Rattle.bp_serve.proofs.Way.{same_code, recounts_at, recounts_in, coming_at}
 use Rattle.bp_follow.specs.declared.fault.ReplayFault.{ReplayFault}
 use Rattle.bp_follow.specs.declared.fault.ReplayFault.TheVariants as fault
-use Rattle.bp_follow.specs.Courses.{Course, code_in, coming, led, IsTold}
-use Rattle.bp_follow.specs.Following.{Runs, IsOnWay, StaysAt, IsThere, IsSomewhere, IsSaidBy, is_item, enters, enters_in, onto, GoesOn, Makes, Compared, Followed}
+use Rattle.bp_follow.specs.Courses.{Course, code_in, coming, led}
+use Rattle.bp_follow.specs.Following.{Runs, IsOnWay, StaysAt, IsThere, IsSomewhere, IsSaidBy, is_item, enters, enters_in, onto, Makes, Compared, Followed}
 use Rattle.bp_follow.proofs.Tales.{one_record, one_more, more_lines, MakesOther, leads_nowhere, leads_nowhere_over, verdict_next, reads_after}
 
 same_some : {A : Type 0} (x : Option A) (c d : A) → x ≡ Some c → x ≡ Some d → c ≡ d

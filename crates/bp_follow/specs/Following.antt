@@ -1,8 +1,7 @@
 -- An arbiter that follows a log.
-use Rattle.std.specs.Prelude.{◌≡◌, ℕ, ◌+◌, ◌<◌, Bool, true, false, ◌&&◌, nat_eq, List, [], ◌∷◌, ◌++◌, Option, Some, None, Result, Ok, Err, IsSome}
+use Rattle.std.specs.Prelude.{◌≡◌, ℕ, ◌<◌, Bool, true, false, ◌&&◌, nat_eq, List, [], ◌∷◌, ◌++◌, Option, Some, None, Result, Ok, Err, IsSome}
 use Rattle.std.specs.List.{list_any}
 use Rattle.bp_log.specs.Records.{is_complete, verdict_of}
-use Rattle.bp_log.specs.Texts.{lines_text}
 use Rattle.bp_log.specs.declared.item.Item.{Item}
 use Rattle.bp_log.specs.declared.item.Item.TheVariants as item
 use Rattle.bp_log.specs.declared.record.Record.{Record}
@@ -30,7 +29,7 @@ use Rattle.bp_follow.specs.Courses.{Course, code_in, coming, led, IsTold, text_i
 use Rattle.bp_follow.specs.Endings.{EndsAt}
 
 -- only injectors that are there are read
-abbrev pub ReadsBelow : ℕ → Configuration Origin → Type 0
+abbrev pub ReadsBelow : {O : Type 0} → ℕ → Configuration O → Type 0
 ReadsBelow n c = (j : ℕ) → list_any (nat_eq j) c.reading ≡ true → j < n
 
 -- the arbiter runs the program of the course, whose records are a story without an end
@@ -98,7 +97,7 @@ IsSaidBy (Sel e) k i = ⊥
 IsSaidBy (End v) k i = ⊥
 
 -- the record is that of an item which may enter, while there is no verdict
-abbrev pub enters : Configuration Origin → Record → Bool
+abbrev pub enters : {O : Type 0} → Configuration O → Record → Bool
 enters c (In j e) = list_any (nat_eq j) c.reading && has_room c.stand
 enters c (Bad j n) = list_any (nat_eq j) c.reading
 enters c (Eof j) = list_any (nat_eq j) c.reading

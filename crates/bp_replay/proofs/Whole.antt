@@ -1,5 +1,5 @@
 -- A replay from the first byte of the log to the last that is printed.
-use Rattle.std.proofs.Common.{◌≡◌, ◌⊎◌, inl, inr, ℕ, ◌<◌, ◌≤◌, ◌^◌, ◌-◌, List, [], ◌++◌, refl, ap, sym, ◌∙◌, subst, arith, Option, Some, None, Ok, Err, IsSomeAnd}
+use Rattle.std.proofs.Common.{◌≡◌, inl, inr, ℕ, ◌≤◌, List, refl, sym, subst, arith, Option, Some, None, Ok, Err, IsSomeAnd}
 use Rattle.std.specs.Prelude.{IfSome, Result}
 use Rattle.js_program.specs.PlainProgram.{PlainProgram}
 use Rattle.bp_base.specs.Counts.{Rose}
@@ -10,18 +10,16 @@ use Rattle.bp_reading.specs.Heads.{header_at}
 use Rattle.bp_reader.specs.Gets.{MeansRead}
 use Rattle.bp_reader.specs.declared.fault.LogFault.{LogFault}
 use Rattle.bp_reader.specs.declared.fault.LogFault.TheVariants as log
-use Rattle.bp_script.specs.Programs.{IsProgram, IsRefused}
-use Rattle.bp_script.specs.Faults.{IsScriptFault}
-use Rattle.bp_serve.specs.Pages.{Shows, ShowsFront}
+use Rattle.bp_script.specs.Programs.{IsProgram}
 use Rattle.bp_serve.proofs.Pieces.{written_all, written_front, written_part, written_front_part}
 use Rattle.bp_follow.specs.declared.fault.ReplayFault.{ReplayFault}
 use Rattle.bp_follow.specs.declared.fault.ReplayFault.TheVariants as fault
 use Rattle.bp_follow.specs.Faults.{fault_of_log}
 use Rattle.bp_follow.specs.Courses.{text_in}
 use Rattle.bp_follow.specs.Endings.{EndsAt}
-use Rattle.bp_replay.specs.Replays.{Prints, HasNoRun, Ends, Replays}
+use Rattle.bp_replay.specs.Replays.{Prints, HasNoRun, Ends}
 use Rattle.bp_follow.specs.Following.{first_course, Shown, Tells}
-use Rattle.bp_replay.specs.Behind.{HasNoProgram, Replayed, EndsBehind}
+use Rattle.bp_replay.specs.Behind.{HasNoProgram, EndsBehind}
 
 -- ---- the page is written
 
