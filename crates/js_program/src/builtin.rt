@@ -100,7 +100,7 @@ static ROWS: [FormRow; 11] = rows![
 
 /// The table of forms, a row for each in the order of the enum, of which no two have one word. Takes no memory.
 pub fn form_rows() -> &'static [FormRow; 11]
-    ensures rows { map form_row result.now.entry ≡ builtins }
+    ensures rows { map form_row result.now ≡ builtins }
     ensures distinct { IsTrue (have_distinct_words builtins) }
 {
     &ROWS
@@ -173,6 +173,7 @@ impl Modes {
 }
 
 /// Whether a form has its effect in this mode, by its row. Takes no memory.
+#[tactic(auto, using(crate::proofs::Forms::modes_at))]
 pub fn has_effect_in(mode: Mode, form: Builtin) -> bool
     ensures { result ≡ has_effect_in mode form }
 {
