@@ -1,8 +1,7 @@
 //! The forms of `bp` and `Math`.
-ghost use Rattle.std.specs.Prelude.{◌≡◌, ◌<◌, ◌&&◌, IsTrue, map};
+ghost use Rattle.std.specs.Prelude.{◌≡◌, ◌<◌, IsTrue, map, option_map};
 ghost use Rattle.std.specs.List.{list_any};
-ghost use Rattle.std.specs.Str.{bytes_eq};
-ghost use Rattle.js_program.specs.Builtins.{acting, builtin_of, builtins, form_number, form_row, has_effect_in, have_distinct_words, in_threads, is_met, modes_in_row, same, same_mode};
+ghost use Rattle.js_program.specs.Builtins.{acting, builtin_of, builtins, form_number, form_row, has_effect_in, have_distinct_words, in_threads, is_met, met, modes_in_row, row_named, same_mode};
 
 /// A form of `bp` or `Math`.
 #[derive(Clone, Copy, Debug, PartialEq, Eq)]
@@ -123,20 +122,39 @@ impl FormRow {
     }
 }
 
+// The first row with this word after the dot.
+fn row_named<'a>(rows: &'a [FormRow], word: &str) -> Option<&'a FormRow>
+    ensures { option_map (λ r. form_row r.now) result ≡ row_named (map form_row rows.now) word.now }
+{
+    for row in rows {
+        if row.word == word {
+            return Some(row);
+        }
+    }
+    None
+}
+
+// The form of the row, where its object and its call are met.
+fn met(row: Option<&FormRow>, object: &str, called: bool) -> Option<Builtin>
+    ensures { result ≡ met (option_map (λ r. form_row r.now) row.entry) object.now called }
+{
+    match row {
+        Some(row) => {
+            if row.is_met(object, called) {
+                Some(row.form)
+            } else {
+                None
+            }
+        }
+        None => None,
+    }
+}
+
 /// The form with this object before the dot and this word after it, called or not. Takes no memory.
 pub fn builtin_of(object: &str, word: &str, called: bool) -> Option<Builtin>
     ensures { result ≡ builtin_of object.now word.now called }
 {
-    for row in form_rows() {
-        if row.word == word {
-            return if row.is_met(object, called) {
-                Some(row.form)
-            } else {
-                None
-            };
-        }
-    }
-    None
+    met(row_named(form_rows(), word), object, called)
 }
 
 // Everywhere but in a predicate.
@@ -177,5 +195,5 @@ impl Modes {
 pub fn has_effect_in(mode: Mode, form: Builtin) -> bool
     ensures { result ≡ has_effect_in mode form }
 {
-    ROWS[place_of(form)].modes.contain(mode)
+    form_rows()[place_of(form)].modes.contain(mode)
 }
