@@ -1,8 +1,10 @@
 -- The forms of `bp` and `Math`: a table, and the modes in which each has its effect.
-use Rattle.std.specs.Prelude.{ℕ, ◌==◌, Bool, true, false, List, [], ◌∷◌, Option, Some, None, ◌&&◌, nat_eq, codes, map, if◌then◌else◌}
+use Rattle.std.specs.Prelude.{ℕ, Bool, true, false, not, List, [], ◌∷◌, Option, Some, None, ◌&&◌, nat_eq, codes, if◌then◌else◌}
 use Rattle.std.specs.List.{list_any}
 use Rattle.std.specs.Str.{bytes_eq}
 use Rattle.js_program.specs.declared.builtin.Builtin.{Builtin}
+use Rattle.js_program.specs.declared.builtin.FormRow.{FormRow}
+use Rattle.js_program.specs.declared.builtin.Modes.{Modes}
 use Rattle.js_program.specs.declared.builtin.Mode.{Mode}
 use Rattle.js_program.specs.declared.builtin.Mode.TheVariants.{Top, Thread, Handler, Predicate}
 
@@ -104,36 +106,22 @@ same_mode _ _ = false
 abbrev pub has_effect_in : Mode → Builtin → Bool
 has_effect_in mode form = list_any (same_mode mode) (modes_of form)
 
--- the rows as entries of a table: the word after the dot, and the number of the form
-abbrev pub form_entry : Row → List ℕ × ℕ
-form_entry r = (r.word, form_number r.builtin)
+-- no row has the word
+abbrev pub is_new_word : List ℕ → List Row → Bool
+is_new_word word [] = true
+is_new_word word (r ∷ rs) = not (bytes_eq r.word word) && is_new_word word rs
 
-abbrev pub form_entries : List (List ℕ × ℕ)
-form_entries = map form_entry builtins
+-- no two rows have one word
+abbrev pub have_distinct_words : List Row → Bool
+have_distinct_words [] = true
+have_distinct_words (r ∷ rs) = is_new_word r.word rs && have_distinct_words rs
 
-abbrev pub form_numbered : Option ℕ → Option Builtin
-form_numbered None = None
-form_numbered (Some n) =
-    if n == 0 then Some Builtin.RegisterBThread else (
-    if n == 1 then Some Builtin.Sync else (
-    if n == 2 then Some Builtin.Event else (
-    if n == 3 then Some Builtin.EventSet else (
-    if n == 4 then Some Builtin.All else (
-    if n == 5 then Some Builtin.Nothing else (
-    if n == 6 then Some Builtin.Assert else (
-    if n == 7 then Some Builtin.EnqueueExternalEvent else (
-    if n == 8 then Some Builtin.SetInterruptHandler else (
-    if n == 9 then Some Builtin.LogInfo else (
-    if n == 10 then Some Builtin.Floor else None))))))))))
+-- the modes that a row in memory names
+abbrev pub modes_in_row : Modes → List Mode
+modes_in_row Modes.Everywhere = everywhere
+modes_in_row Modes.Acting = acting
+modes_in_row Modes.InThreads = in_threads
 
--- whether a form has this object before its word, and is called or not
-abbrev has_met : Option Row → List ℕ → Bool → Bool
-has_met None object called = false
-has_met (Some r) object called = is_met r object called
-
-abbrev pub belongs : Builtin → List ℕ → Bool → Bool
-belongs form object called = has_met (row_of form) object called
-
-abbrev pub if_belongs : Option Builtin → List ℕ → Bool → Option Builtin
-if_belongs None object called = None
-if_belongs (Some form) object called = if belongs form object called then Some form else None
+-- what a row in memory says
+abbrev pub form_row : FormRow → Row
+form_row r = row r.form r.object.now r.word.now r.called (modes_in_row r.modes)

@@ -1,11 +1,7 @@
 //! The forms of `bp` and `Math`.
-ghost use Rattle.std.specs.Prelude.{◌≡◌, ◌&&◌, ℕ, Bool, List, IsTrue};
+ghost use Rattle.std.specs.Prelude.{◌≡◌, ◌<◌, IsTrue, map, option_map};
 ghost use Rattle.std.specs.List.{list_any};
-ghost use Rattle.std.specs.Str.{bytes_eq};
-ghost use Rattle.bp_tables.specs.Found.{find_in, have_distinct_keys};
-ghost use Rattle.js_program.specs.Builtins.{acting, belongs, builtin_of, form_entries, form_numbered, has_effect_in, if_belongs, in_threads, same, same_mode};
-
-use bp_tables::{Table, rows};
+ghost use Rattle.js_program.specs.Builtins.{acting, builtin_of, builtins, form_number, form_row, has_effect_in, have_distinct_words, in_threads, is_met, met, modes_in_row, row_named, same_mode};
 
 /// A form of `bp` or `Math`.
 #[derive(Clone, Copy, Debug, PartialEq, Eq)]
@@ -47,102 +43,105 @@ pub enum Mode {
     Predicate,
 }
 
-// The forms, by number.
-const REGISTER_B_THREAD: u16 = 0;
-
-const SYNC: u16 = 1;
-
-const EVENT: u16 = 2;
-
-const EVENT_SET: u16 = 3;
-
-const ALL: u16 = 4;
-
-const NOTHING: u16 = 5;
-
-const ASSERT: u16 = 6;
-
-const ENQUEUE_EXTERNAL_EVENT: u16 = 7;
-
-const SET_INTERRUPT_HANDLER: u16 = 8;
-
-const LOG_INFO: u16 = 9;
-
-const FLOOR: u16 = 10;
-
-/// The forms by the word after the dot, of which no two are one. Takes no memory.
-pub fn form_table() -> Table<11>
-    ensures rows { result ≡ form_entries }
-    ensures distinct { IsTrue (have_distinct_keys form_entries) }
-    ensures exact { (object : List ℕ) → (word : List ℕ) → (called : Bool)
-        → if_belongs (form_numbered (find_in form_entries word)) object called ≡ builtin_of object word called }
-{
-    Table::new(rows![
-        b"registerBThread" => REGISTER_B_THREAD,
-        b"sync" => SYNC,
-        b"Event" => EVENT,
-        b"EventSet" => EVENT_SET,
-        b"all" => ALL,
-        b"none" => NOTHING,
-        b"ASSERT" => ASSERT,
-        b"enqueueExternalEvent" => ENQUEUE_EXTERNAL_EVENT,
-        b"setInterruptHandler" => SET_INTERRUPT_HANDLER,
-        b"info" => LOG_INFO,
-        b"floor" => FLOOR,
-    ])
+/// The modes in which a form has its effect.
+#[derive(Clone, Copy, Debug, PartialEq, Eq)]
+pub enum Modes {
+    /// Every mode.
+    Everywhere,
+    /// Every mode but that of a predicate.
+    Acting,
+    /// That of a b-thread.
+    InThreads,
 }
 
-fn form_numbered(found: Option<u16>) -> Option<Builtin>
-    ensures { result ≡ form_numbered found }
+/// A row of the table of forms.
+#[derive(Clone, Copy, Debug)]
+pub struct FormRow {
+    /// The form.
+    pub form: Builtin,
+    /// The object before the dot.
+    pub object: &'static str,
+    /// The word after the dot.
+    pub word: &'static str,
+    /// Whether the form is called.
+    pub called: bool,
+    /// The modes in which it has its effect.
+    pub modes: Modes,
+}
+
+// Rows: the form, the object before the dot, the word after it, whether it is called, and its modes.
+macro_rules! rows {
+    ($($form:ident, $object:expr, $word:expr, $called:expr, $modes:ident;)*) => {
+        [$(FormRow {
+            form: Builtin::$form,
+            object: $object,
+            word: $word,
+            called: $called,
+            modes: Modes::$modes,
+        }),*]
+    };
+}
+
+// One row for each form, in the order of the enum.
+static ROWS: [FormRow; 11] = rows![
+    RegisterBThread, "bp", "registerBThread", true, Acting;
+    Sync, "bp", "sync", true, InThreads;
+    Event, "bp", "Event", true, Everywhere;
+    EventSet, "bp", "EventSet", true, Everywhere;
+    All, "bp", "all", false, Everywhere;
+    Nothing, "bp", "none", false, Everywhere;
+    Assert, "bp", "ASSERT", true, Acting;
+    EnqueueExternalEvent, "bp", "enqueueExternalEvent", true, Acting;
+    SetInterruptHandler, "bp", "setInterruptHandler", true, InThreads;
+    LogInfo, "bp.log", "info", true, Acting;
+    Floor, "Math", "floor", true, Everywhere;
+];
+
+/// The table of forms, a row for each in the order of the enum, of which no two have one word. Takes no memory.
+pub fn form_rows() -> &'static [FormRow; 11]
+    ensures rows { map form_row result.now ≡ builtins }
+    ensures distinct { IsTrue (have_distinct_words builtins) }
 {
-    match found {
-        Some(REGISTER_B_THREAD) => Some(Builtin::RegisterBThread),
-        Some(SYNC) => Some(Builtin::Sync),
-        Some(EVENT) => Some(Builtin::Event),
-        Some(EVENT_SET) => Some(Builtin::EventSet),
-        Some(ALL) => Some(Builtin::All),
-        Some(NOTHING) => Some(Builtin::Nothing),
-        Some(ASSERT) => Some(Builtin::Assert),
-        Some(ENQUEUE_EXTERNAL_EVENT) => Some(Builtin::EnqueueExternalEvent),
-        Some(SET_INTERRUPT_HANDLER) => Some(Builtin::SetInterruptHandler),
-        Some(LOG_INFO) => Some(Builtin::LogInfo),
-        Some(FLOOR) => Some(Builtin::Floor),
-        _ => None,
+    &ROWS
+}
+
+// The number of the row.
+fn place_of(form: Builtin) -> usize
+    ensures place { result ≡ form_number form }
+    ensures within { result < 11 }
+{
+    form as usize
+}
+
+impl FormRow {
+    // Whether the object and the call are those of the form.
+    fn is_met(&self, object: &str, called: bool) -> bool
+        ensures { result ≡ is_met (form_row self.now) object.now called }
+    {
+        object == self.object && called == self.called
     }
 }
 
-// Whether the object and the call are those of a form.
-fn is_met(object: &str, called: bool, form_object: &str, form_called: bool) -> bool
-    ensures { result ≡ (bytes_eq object.now form_object.now && same called form_called) }
+// The first row with this word after the dot.
+fn row_named<'a>(rows: &'a [FormRow], word: &str) -> Option<&'a FormRow>
+    ensures { option_map (λ r. form_row r.now) result ≡ row_named (map form_row rows.now) word.now }
 {
-    object == form_object && called == form_called
-}
-
-// Whether a form has this object before its word, and is called or not.
-fn belongs(form: Builtin, object: &str, called: bool) -> bool
-    ensures { result ≡ belongs form object.now called }
-{
-    match form {
-        Builtin::RegisterBThread
-        | Builtin::Sync
-        | Builtin::Event
-        | Builtin::EventSet
-        | Builtin::Assert
-        | Builtin::EnqueueExternalEvent
-        | Builtin::SetInterruptHandler => is_met(object, called, "bp", true),
-        Builtin::All | Builtin::Nothing => is_met(object, called, "bp", false),
-        Builtin::LogInfo => is_met(object, called, "bp.log", true),
-        Builtin::Floor => is_met(object, called, "Math", true),
+    for row in rows {
+        if row.word == word {
+            return Some(row);
+        }
     }
+    None
 }
 
-fn if_belongs(form: Option<Builtin>, object: &str, called: bool) -> Option<Builtin>
-    ensures { result ≡ if_belongs form object.now called }
+// The form of the row, where its object and its call are met.
+fn met(row: Option<&FormRow>, object: &str, called: bool) -> Option<Builtin>
+    ensures { result ≡ met (option_map (λ r. form_row r.now) row.entry) object.now called }
 {
-    match form {
-        Some(form) => {
-            if belongs(form, object, called) {
-                Some(form)
+    match row {
+        Some(row) => {
+            if row.is_met(object, called) {
+                Some(row.form)
             } else {
                 None
             }
@@ -155,9 +154,7 @@ fn if_belongs(form: Option<Builtin>, object: &str, called: bool) -> Option<Built
 pub fn builtin_of(object: &str, word: &str, called: bool) -> Option<Builtin>
     ensures { result ≡ builtin_of object.now word.now called }
 {
-    let table = form_table();
-    let form = form_numbered(table.find(word.as_bytes()));
-    if_belongs(form, object, called)
+    met(row_named(form_rows(), word), object, called)
 }
 
 // Everywhere but in a predicate.
@@ -179,18 +176,24 @@ fn is_thread(mode: Mode) -> bool
     }
 }
 
-/// Whether a form has its effect in this mode. Takes no memory.
-#[tactic(auto, using(crate::proofs::Forms::has_anywhere))]
+impl Modes {
+    // Whether the mode is one of them.
+    #[tactic(auto, using(crate::proofs::Forms::has_anywhere))]
+    fn contain(self, mode: Mode) -> bool
+        ensures { result ≡ list_any (same_mode mode) (modes_in_row self) }
+    {
+        match self {
+            Modes::Everywhere => true,
+            Modes::Acting => acts(mode),
+            Modes::InThreads => is_thread(mode),
+        }
+    }
+}
+
+/// Whether a form has its effect in this mode, by its row. Takes no memory.
+#[tactic(auto, using(crate::proofs::Forms::modes_at))]
 pub fn has_effect_in(mode: Mode, form: Builtin) -> bool
     ensures { result ≡ has_effect_in mode form }
 {
-    match form {
-        Builtin::Event | Builtin::EventSet | Builtin::All | Builtin::Nothing | Builtin::Floor =>
-            true,
-        Builtin::RegisterBThread
-        | Builtin::Assert
-        | Builtin::EnqueueExternalEvent
-        | Builtin::LogInfo => acts(mode),
-        Builtin::Sync | Builtin::SetInterruptHandler => is_thread(mode),
-    }
+    form_rows()[place_of(form)].modes.contain(mode)
 }

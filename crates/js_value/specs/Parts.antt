@@ -3,7 +3,7 @@ use Rattle.std.specs.Prelude.{ℕ, List, Option, Some, None, if◌then◌else◌
 use Rattle.std.specs.Str.{bytes_eq}
 use Rattle.js_data.specs.Event.{PlainEvent}
 use Rattle.js_value.specs.Value as v
-use Rattle.js_value.specs.Value.{PlainValue, PlainSet, ValueList, ValueFields}
+use Rattle.js_value.specs.Value.{PlainValue, ValueList, ValueFields}
 
 abbrev pub words_in : PlainValue → Option (List ℕ)
 words_in (v.words s) = Some s
@@ -13,21 +13,9 @@ abbrev pub list_in : PlainValue → Option ValueList
 list_in (v.list vs) = Some vs
 list_in _ = None
 
-abbrev pub fields_in_value : PlainValue → Option ValueFields
-fields_in_value (v.fields fs) = Some fs
-fields_in_value _ = None
-
 abbrev pub event_in : PlainValue → Option PlainEvent
 event_in (v.event e) = Some e
 event_in _ = None
-
-abbrev pub set_in_value : PlainValue → Option PlainSet
-set_in_value (v.set s) = Some s
-set_in_value _ = None
-
-abbrev pub function_in : PlainValue → Option (ℕ × ValueList)
-function_in (v.function c vs) = Some (c, vs)
-function_in _ = None
 
 -- the value under the key
 abbrev pub field_at : ValueFields → List ℕ → Option PlainValue

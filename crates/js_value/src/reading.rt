@@ -1,9 +1,10 @@
 //! Copies of values, values of texts and of events, and what a condition and `+` take a value for.
-ghost use Rattle.std.specs.Prelude.{◌≡◌, ◌++◌, [], IfOk, OnOk, is_some, unwrap_or, string_bytes};
+ghost use Rattle.std.specs.Prelude.{◌≡◌, IfOk, option_map};
 ghost use Rattle.js_value.specs.Value.{words as words_of, event as event_that_is, is_truthy, value_text};
 ghost use Rattle.js_value.specs.Views.{plain_value};
 
 use crate::value::Value;
+use itoa::Buffer;
 use js_data::{Event, Memory, Text};
 use std::alloc::Global;
 use std::sync::Arc;
@@ -26,7 +27,8 @@ pub fn truthy(v: &Value) -> bool
     }
 }
 
-/// An equal value, which shares what it holds. Its only error is a full count of owners; takes no memory.
+/// An equal value, which shares what it holds. Takes no memory. A count of owners that is full is answered
+/// `Memory`, and nothing changes; there is no other error.
 pub fn copy(v: &Value) -> Result<Value, Memory>
     ensures { IfOk result (λ w. plain_value w ≡ plain_value v.now) }
 {
@@ -47,44 +49,40 @@ pub fn copy(v: &Value) -> Result<Value, Memory>
     }
 }
 
-/// The value of this text. Its only error is want of memory.
+/// The value of this text. Its only error is want of memory: the value is the first owner of the text, so no
+/// count can be full.
 pub fn words(alloc: Global, text: Text) -> Result<Value, Memory>
     ensures { IfOk result (λ v. plain_value v ≡ words_of text) }
 {
     Ok(Value::Words(Arc::new(alloc, text)?))
 }
 
-/// The value of this event. Its only error is want of memory.
+/// The value of this event. Its only error is want of memory: the value is the first owner of the event, so
+/// no count can be full.
 pub fn event_value(alloc: Global, event: Event) -> Result<Value, Memory>
     ensures { IfOk result (λ v. plain_value v ≡ event_that_is event) }
 {
     Ok(Value::Event(Arc::new(alloc, event)?))
 }
 
-/// Puts the text that `+` joins at the end, and answers whether the kind of the value has one; where it has
-/// none nothing is put. Its only error is want of memory, after which the text is not known.
-pub fn push_text(text: &mut String, v: &Value) -> Result<bool, Memory>
-    ensures has { IfOk result (λ b. b ≡ is_some (value_text (plain_value v.now))) }
-    ensures text { OnOk result (string_bytes text.new
-        ≡ string_bytes text.old ++ unwrap_or (value_text (plain_value v.now)) []) }
+/// The text that `+` joins, lent by the value or written into the buffer; `None` exactly where the kind of the
+/// value has none. Takes no memory.
+pub fn text_in<'a>(v: &'a Value, buffer: &'a mut Buffer) -> Option<&'a str>
+    ensures { option_map (λ s. s.now) result ≡ value_text (plain_value v.now) }
 {
     match v {
-        Value::Undefined => text.push_str("undefined")?,
-        Value::Null => text.push_str("null")?,
-        Value::Truth(true) => text.push_str("true")?,
-        Value::Truth(false) => text.push_str("false")?,
-        Value::Whole(n) => {
-            let mut buffer = itoa::Buffer::new();
-            text.push_str(buffer.format(n.get()))?;
-        }
-        Value::Words(words) => text.push_str(words.as_str())?,
+        Value::Undefined => Some("undefined"),
+        Value::Null => Some("null"),
+        Value::Truth(true) => Some("true"),
+        Value::Truth(false) => Some("false"),
+        Value::Whole(n) => Some(buffer.format(n.get())),
+        Value::Words(text) => Some(text.as_str()),
         Value::List(_)
         | Value::Fields(_)
         | Value::Event(_)
         | Value::Set(_)
-        | Value::Function { .. } => return Ok(false),
+        | Value::Function { .. } => None,
     }
-    Ok(true)
 }
 
 /// The text that `+` joins; `None` exactly where the kind of the value has none. Its only error is want
@@ -92,10 +90,9 @@ pub fn push_text(text: &mut String, v: &Value) -> Result<bool, Memory>
 pub fn text_of(alloc: Global, v: &Value) -> Result<Option<Text>, Memory>
     ensures { IfOk result (λ o. o ≡ value_text (plain_value v.now)) }
 {
-    let mut text = String::new(alloc);
-    if push_text(&mut text, v)? {
-        Ok(Some(Text::new(text)))
-    } else {
-        Ok(None)
+    let mut buffer = Buffer::new();
+    match text_in(v, &mut buffer) {
+        Some(text) => Ok(Some(Text::new(String::from_str(alloc, text)?))),
+        None => Ok(None),
     }
 }
