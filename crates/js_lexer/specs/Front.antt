@@ -1,6 +1,7 @@
 -- What stands in front of a text.
 use Rattle.std.specs.Prelude.{ℕ, zero, suc, ◌+◌, nat_eq, nat_lt, Bool, false, ◌&&◌, ◌||◌, List, [], ◌∷◌, take, drop, codes, pos, Option, Some, None, is_some, if◌then◌else◌}
 use Rattle.bp_tables.specs.Found.{find_in, front_in}
+use Rattle.js_lexer.specs.declared.numbers.TheConstants.{GREATEST}
 use Rattle.js_lexer.specs.declared.token.Kind.{Kind}
 use Rattle.js_lexer.specs.declared.token.Kind.TheVariants.{Name, Word, Number, Words, Mark}
 use Rattle.js_lexer.specs.declared.token.Flaw.{Flaw}
@@ -36,7 +37,7 @@ number_before base value size (b ∷ bs) =
 
 abbrev pub number : List ℕ → Piece
 number bs =
-    if nat_lt 9_007_199_254_740_991 (number_value bs) then refused NumberRange 0
+    if nat_lt GREATEST (number_value bs) then refused NumberRange 0
     else number_before (base_of bs) (number_value bs) (number_size bs) (drop (number_size bs) bs)
 
 -- a text literal, with its first quote
