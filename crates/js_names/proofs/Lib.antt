@@ -1,7 +1,5 @@
 mod Build
-mod ExamplesNames
-mod ExamplesCaptures
-mod ExamplesSlots
+mod Examples
 pub mod Stacks
 pub mod Taking
 pub mod Trees

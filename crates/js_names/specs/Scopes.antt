@@ -9,6 +9,7 @@ use Rattle.js_tree.specs.Plain.{PlainPerhaps, absent, present, PlainDeclarators,
 use Rattle.js_names.specs.declared.place.Role.{Role}
 use Rattle.js_names.specs.declared.place.Role.TheVariants.{Parameter, Const, Let, Var, Function}
 use Rattle.js_names.specs.declared.place.Declared.{Declared}
+use Rattle.js_names.specs.declared.scope.TheConstants.{TOP}
 
 -- a name with its declaration
 pub record Entry : Type 0 where
@@ -24,7 +25,7 @@ pub record Scope : Type 0 where
 
 -- the place of the top level, as that of a function: a text is shorter, so no function begins there
 abbrev pub top : ℕ
-top = 4294967295
+top = TOP
 
 -- the declarations of a name
 abbrev pub named : List ℕ → List Entry → List Declared

@@ -6,7 +6,7 @@ ghost use Rattle.js_names.specs.Slots.{hold, holds_all, copies, inside, holdings
 ghost use Rattle.js_names.specs.Views.{Holds, IsMade, held_in, place_of};
 
 use crate::place::{Declared, Role, Seen, What};
-use crate::rules::{can_copy, is_constant};
+use crate::rules::{can_copy, is_constant, is_outer, variable_at};
 use indexmap::{IndexMap, IndexSet};
 use std::alloc::{AllocError, Global};
 
@@ -88,8 +88,7 @@ fn copies(assigned: &IndexSet<u32>, place: &Seen, declared: Declared) -> bool
 {
     match place.what {
         What::Reads | What::Assigns => {
-            declared.owner != place.around.owner
-                && !is_constant(assigned, declared)
+            is_outer(assigned, place, declared)
                 && can_copy(assigned, declared, place.around.owner)
         }
         _ => false,
@@ -174,14 +173,12 @@ fn hold_variable(
     ensures { OnOk result (Holds held.old held.new
         (variable_in assigned.now.keys (place_of place.now))) }
 {
-    if let What::Declares(_) = place.what
-        && let Some(declared) = place.declared
-        && declared.role != Role::Parameter
-        && !is_constant(assigned, declared)
-    {
-        return hold(alloc, held, declared.owner, declared.place);
+    match variable_at(place) {
+        Some(declared) if !is_constant(assigned, declared) => {
+            hold(alloc, held, declared.owner, declared.place)
+        }
+        _ => Ok(()),
     }
-    Ok(())
 }
 
 // The parameters of all functions.
@@ -292,14 +289,12 @@ fn hold_var(
     ensures { OnOk result (Holds held.old held.new
         (var_in assigned.now.keys (place_of place.now))) }
 {
-    if let What::Declares(_) = place.what
-        && let Some(declared) = place.declared
-        && declared.role == Role::Var
-        && !is_constant(assigned, declared)
-    {
-        return hold(alloc, held, declared.owner, declared.place);
+    match variable_at(place) {
+        Some(declared) if declared.role == Role::Var && !is_constant(assigned, declared) => {
+            hold(alloc, held, declared.owner, declared.place)
+        }
+        _ => Ok(()),
     }
-    Ok(())
 }
 
 // The `var`s of all functions.

@@ -540,7 +540,7 @@ fn emit_stmts(
 }
 
 // A function with this content, before the functions inside it. Each function moves those inside it by one place, so
-// that a function is moved as often as functions stand around it, which are at most 200.
+// that a function is moved as often as functions stand around it, which nesting keeps few.
 fn put_body(
     tables: &NameTables,
     emitter: &mut Emitter,

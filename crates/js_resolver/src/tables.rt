@@ -8,7 +8,7 @@ ghost use Rattle.js_names.specs.Scopes.{top};
 ghost use Rattle.js_resolver.specs.Variables.{index_in, second, variable_with, named_there, around_there, name_key, owner_key, known_in, slots_among};
 
 use indexmap::{IndexMap, IndexSet};
-use js_names::{Declared, Role, Seen, TOP, What, is_constant};
+use js_names::{Declared, Seen, TOP, What, is_constant, variable_at};
 use js_program::Variable;
 use std::alloc::{AllocError, Global};
 
@@ -116,14 +116,10 @@ pub fn named_places(
 fn constant_at(assigned: &IndexSet<u32>, place: &Seen) -> Option<u32>
     ensures { result ≡ constant_at assigned.now.keys (place_of place.now) }
 {
-    if let What::Declares(_) = place.what
-        && let Some(declared) = place.declared
-        && declared.role != Role::Parameter
-        && is_constant(assigned, declared)
-    {
-        return Some(declared.place);
+    match variable_at(place) {
+        Some(declared) if is_constant(assigned, declared) => Some(declared.place),
+        _ => None,
     }
-    None
 }
 
 /// The constants, in the order of their declarations.
