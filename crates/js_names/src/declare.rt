@@ -109,7 +109,7 @@ pub fn declare_own_stmts(
     Ok(())
 }
 
-// The variable of a `var`: the first one's, where there is one.
+/// The variable of a `var`: the first one's, where there is one.
 fn merged(map: &IndexMap<String, Declared>, text: &str, declared: Declared) -> Declared
     ensures { Some result ≡ merge (get_by_text map.now text.now) (Some declared) }
 {
@@ -123,7 +123,7 @@ fn merged(map: &IndexMap<String, Declared>, text: &str, declared: Declared) -> D
     }
 }
 
-// Whether a scope keeps a `var` of this name: a block keeps those that its own names can clash with.
+/// Whether a scope keeps a `var` of this name: a block keeps those that its own names can clash with.
 fn keeps(own: Option<&IndexMap<String, Declared>>, text: &str) -> bool
     ensures { result ≡ keeps (option_copied own.entry) text.now }
 {
@@ -154,7 +154,7 @@ pub fn declare_var(
     Ok(())
 }
 
-// The place from which on the value of a `var` stays that names a parameter: a nested one may run again.
+/// The place from which on the value of a `var` stays that names a parameter: a nested one may run again.
 fn given_at(direct: bool, declarator: &Declarator) -> u32
     ensures { result ≡ given_at direct (plain_declarator declarator.now).value
         (plain_declarator declarator.now).end }

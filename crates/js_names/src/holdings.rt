@@ -20,7 +20,7 @@ pub fn slot_count(held: &IndexMap<u32, IndexSet<u32>>, function: u32) -> usize
     }
 }
 
-// Takes the set of a function out of the map.
+/// Takes the set of a function out of the map.
 fn take_set(alloc: Global, held: &mut IndexMap<u32, IndexSet<u32>>, function: u32) -> IndexSet<u32>
     ensures set { result.keys ≡ held_in held.old function }
     ensures others { (q : _) → nat_eq function q ≡ false → get nat_eq held.new q
@@ -32,7 +32,7 @@ fn take_set(alloc: Global, held: &mut IndexMap<u32, IndexSet<u32>>, function: u3
     }
 }
 
-// One more variable that a function holds, unless it holds it.
+/// One more variable that a function holds, unless it holds it.
 fn hold(
     alloc: Global,
     held: &mut IndexMap<u32, IndexSet<u32>>,
@@ -47,7 +47,7 @@ fn hold(
     Ok(())
 }
 
-// A parameter.
+/// A parameter.
 fn hold_parameter(
     alloc: Global,
     held: &mut IndexMap<u32, IndexSet<u32>>,
@@ -63,7 +63,7 @@ fn hold_parameter(
     }
 }
 
-// A variable is copied into each of these functions up to its own.
+/// A variable is copied into each of these functions up to its own.
 fn hold_inside(
     alloc: Global,
     held: &mut IndexMap<u32, IndexSet<u32>>,
@@ -82,7 +82,7 @@ fn hold_inside(
     Ok(())
 }
 
-// Whether a place makes functions copy the variable that it mentions.
+/// Whether a place makes functions copy the variable that it mentions.
 fn copies(assigned: &IndexSet<u32>, place: &Seen, declared: Declared) -> bool
     ensures { result ≡ copies assigned.now.keys (place_of place.now) declared }
 {
@@ -95,7 +95,7 @@ fn copies(assigned: &IndexSet<u32>, place: &Seen, declared: Declared) -> bool
     }
 }
 
-// The captures that a place makes.
+/// The captures that a place makes.
 fn hold_captures(
     alloc: Global,
     held: &mut IndexMap<u32, IndexSet<u32>>,
@@ -113,7 +113,7 @@ fn hold_captures(
     }
 }
 
-// Whether a place makes the captures of this variable into these functions.
+/// Whether a place makes the captures of this variable into these functions.
 fn makes(assigned: &IndexSet<u32>, place: &Seen, declared: Declared, functions: &[u32]) -> bool
     ensures { IsTrue result → captures_in assigned.now.keys (place_of place.now)
         ≡ holds_all declared.place (inside declared.owner functions.now) }
@@ -129,7 +129,7 @@ fn makes(assigned: &IndexSet<u32>, place: &Seen, declared: Declared, functions: 
     }
 }
 
-// Whether a place before this one is known that makes the same captures.
+/// Whether a place before this one is known that makes the same captures.
 fn is_made(
     assigned: &IndexSet<u32>,
     known: &IndexMap<(u32, u32), usize>,
@@ -148,7 +148,7 @@ fn is_made(
     false
 }
 
-// Notes the place as one that makes captures. How fast later places are passed over is all that hangs on it.
+/// Notes the place as one that makes captures. How fast later places are passed over is all that hangs on it.
 fn note_captures(
     known: &mut IndexMap<(u32, u32), usize>,
     assigned: &IndexSet<u32>,
@@ -163,7 +163,7 @@ fn note_captures(
     Ok(())
 }
 
-// A variable that is no parameter and no constant.
+/// A variable that is no parameter and no constant.
 fn hold_variable(
     alloc: Global,
     held: &mut IndexMap<u32, IndexSet<u32>>,
@@ -181,7 +181,7 @@ fn hold_variable(
     }
 }
 
-// The parameters of all functions.
+/// The parameters of all functions.
 fn hold_parameters(
     alloc: Global,
     held: &mut IndexMap<u32, IndexSet<u32>>,
@@ -196,8 +196,8 @@ fn hold_parameters(
     Ok(())
 }
 
-// The captures of all functions. Those that a place before made are not held once more: a function that mentions a
-// variable a thousand times, far inside that of the variable, walks over the functions between them once.
+/// The captures of all functions. Those that a place before made are not held once more: a function that mentions a
+/// variable a thousand times, far inside that of the variable, walks over the functions between them once.
 fn hold_all_captures(
     alloc: Global,
     held: &mut IndexMap<u32, IndexSet<u32>>,
@@ -217,7 +217,7 @@ fn hold_all_captures(
     Ok(())
 }
 
-// The other variables of all functions.
+/// The other variables of all functions.
 fn hold_variables(
     alloc: Global,
     held: &mut IndexMap<u32, IndexSet<u32>>,
@@ -233,7 +233,7 @@ fn hold_variables(
     Ok(())
 }
 
-// All that the functions hold, in the order of their slots.
+/// All that the functions hold, in the order of their slots.
 fn hold_all(
     alloc: Global,
     held: &mut IndexMap<u32, IndexSet<u32>>,
@@ -279,7 +279,7 @@ pub fn captured(
     Ok(held)
 }
 
-// A `var` that is no parameter and no constant.
+/// A `var` that is no parameter and no constant.
 fn hold_var(
     alloc: Global,
     held: &mut IndexMap<u32, IndexSet<u32>>,
@@ -297,7 +297,7 @@ fn hold_var(
     }
 }
 
-// The `var`s of all functions.
+/// The `var`s of all functions.
 fn hold_vars(
     alloc: Global,
     held: &mut IndexMap<u32, IndexSet<u32>>,

@@ -51,7 +51,7 @@ pub fn for_scope(alloc: Global, owner: u32, start: &Start, body: &Stmt) -> Resul
     Ok(scope)
 }
 
-// Declares the name of a `for` over a list, which can be copied from this place on.
+/// Declares the name of a `for` over a list, which can be copied from this place on.
 fn declare_each(
     alloc: Global,
     own: &mut IndexMap<String, Declared>,
@@ -115,7 +115,7 @@ pub fn each_scope(
     Ok(scope)
 }
 
-// From where on the values of the `var`s of this name stay.
+/// From where on the values of the `var`s of this name stay.
 fn given_of(vars: &IndexMap<String, Declared>, text: &str) -> u32
     ensures { result ≡ given_of (get_by_text vars.now text.now) }
 {
@@ -125,7 +125,7 @@ fn given_of(vars: &IndexMap<String, Declared>, text: &str) -> u32
     }
 }
 
-// Declares a parameter of a function with these `var`s.
+/// Declares a parameter of a function with these `var`s.
 fn declare_parameter(
     alloc: Global,
     own: &mut IndexMap<String, Declared>,
@@ -148,7 +148,7 @@ fn declare_parameter(
     declare_own(alloc, own, name, declared)
 }
 
-// Declares the parameters of a function with these `var`s.
+/// Declares the parameters of a function with these `var`s.
 fn declare_parameters(
     alloc: Global,
     own: &mut IndexMap<String, Declared>,
@@ -187,7 +187,7 @@ pub fn function_scope(
     Ok(scope)
 }
 
-// Declares the `let`, `const` or function name of an item of the program.
+/// Declares the `let`, `const` or function name of an item of the program.
 fn declare_item(
     alloc: Global,
     own: &mut IndexMap<String, Declared>,
@@ -211,7 +211,7 @@ fn declare_item(
     }
 }
 
-// Declares the `var` names of an item of the program.
+/// Declares the `var` names of an item of the program.
 fn declare_item_vars(
     alloc: Global,
     vars: &mut IndexMap<String, Declared>,
@@ -225,7 +225,7 @@ fn declare_item_vars(
     }
 }
 
-// The own names of the program.
+/// The own names of the program.
 fn own_of_items(
     alloc: Global,
     own: &mut IndexMap<String, Declared>,
@@ -239,7 +239,7 @@ fn own_of_items(
     Ok(())
 }
 
-// The `var` names of the program.
+/// The `var` names of the program.
 fn vars_of_items(
     alloc: Global,
     vars: &mut IndexMap<String, Declared>,

@@ -14,7 +14,7 @@ use js_tree::{DeclareKind, Name, Spot};
 use std::alloc::{AllocError, Global};
 use std::sync::Arc;
 
-// Adds the function that begins with a scope.
+/// Adds the function that begins with a scope.
 fn push_owner(functions: &mut Vec<u32>, scope: &Scope) -> Result<(), AllocError>
     ensures { OnOk result (functions.new.items ≡ functions.old.items ++ owner_in
         (scope_of scope.now)) }
@@ -25,7 +25,7 @@ fn push_owner(functions: &mut Vec<u32>, scope: &Scope) -> Result<(), AllocError>
     Ok(())
 }
 
-// The functions around, the innermost first.
+/// The functions around, the innermost first.
 fn functions_of(alloc: Global, scopes: &[Scope]) -> Result<Vec<u32>, AllocError>
     ensures { IfOk result (λ fs. fs.items ≡ functions_of (scopes_of scopes.now)) }
 {
@@ -38,7 +38,7 @@ fn functions_of(alloc: Global, scopes: &[Scope]) -> Result<Vec<u32>, AllocError>
     Ok(functions)
 }
 
-// These functions, shared with the place before where they are those around it.
+/// These functions, shared with the place before where they are those around it.
 fn shared(
     alloc: Global,
     functions: Vec<u32>,
@@ -54,7 +54,7 @@ fn shared(
     Ok(Arc::new(alloc, functions)?)
 }
 
-// What the rules ask of a place, which stands behind another one.
+/// What the rules ask of a place, which stands behind another one.
 #[tactic(auto, unfolding(crate::specs::Places::see))]
 fn see(
     alloc: Global,

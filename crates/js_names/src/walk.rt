@@ -25,7 +25,7 @@ use js_tree::{
 };
 use std::alloc::{AllocError, Global};
 
-// A use of `bp` or `Math` that is no form, named by both words.
+/// A use of `bp` or `Math` that is no form, named by both words.
 fn put_misuse(walk: &mut Walk, around: Around, object: &Name, word: &str) -> Result<(), AllocError>
     ensures { OnOk result (Adds walk.old walk.new
         (site (scopes_in walk.old) around What.Misuses
@@ -35,7 +35,7 @@ fn put_misuse(walk: &mut Walk, around: Around, object: &Name, word: &str) -> Res
     put_word(walk, around, What::Misuses, text.as_str(), object.spot)
 }
 
-// Two words with a dot between them.
+/// Two words with a dot between them.
 fn member_name(alloc: Global, object: &str, word: &str) -> Result<String, AllocError>
     ensures { IfOk result (λ t. string_bytes t ≡ object.now ++ (codes "." ++ word.now)) }
 {
@@ -87,7 +87,7 @@ fn put_expr(walk: &mut Walk, around: Around, e: &Expr) -> Result<(), AllocError>
     }
 }
 
-// A member.
+/// A member.
 #[cycle(walk)]
 fn put_member(walk: &mut Walk, around: Around, e: &Expr, word: &Text) -> Result<(), AllocError>
     ensures { OnOk result (Adds walk.old walk.new
@@ -107,7 +107,7 @@ fn put_member(walk: &mut Walk, around: Around, e: &Expr, word: &Text) -> Result<
     }
 }
 
-// What is called, unless it is a form of the language.
+/// What is called, unless it is a form of the language.
 #[cycle(walk)]
 fn put_callee(walk: &mut Walk, around: Around, callee: &Expr) -> Result<(), AllocError>
     ensures { OnOk result (Adds walk.old walk.new
@@ -121,7 +121,7 @@ fn put_callee(walk: &mut Walk, around: Around, callee: &Expr) -> Result<(), Allo
     }
 }
 
-// An arrow function with a value.
+/// An arrow function with a value.
 #[cycle(walk)]
 fn put_arrow(walk: &mut Walk, spot: Spot, names: &[Name], value: &Expr) -> Result<(), AllocError>
     ensures { OnOk result (Adds walk.old walk.new
@@ -135,7 +135,7 @@ fn put_arrow(walk: &mut Walk, spot: Spot, names: &[Name], value: &Expr) -> Resul
     Ok(())
 }
 
-// A function with statements.
+/// A function with statements.
 #[cycle(walk)]
 fn put_function(
     walk: &mut Walk,
@@ -154,7 +154,7 @@ fn put_function(
     Ok(())
 }
 
-// Expressions.
+/// Expressions.
 #[cycle(walk)]
 fn put_exprs(walk: &mut Walk, around: Around, es: &[Expr]) -> Result<(), AllocError>
     ensures { OnOk result (Adds walk.old walk.new
@@ -166,7 +166,7 @@ fn put_exprs(walk: &mut Walk, around: Around, es: &[Expr]) -> Result<(), AllocEr
     Ok(())
 }
 
-// The values of fields.
+/// The values of fields.
 #[cycle(walk)]
 fn put_fields(walk: &mut Walk, around: Around, fields: &[Field]) -> Result<(), AllocError>
     ensures { OnOk result (Adds walk.old walk.new
@@ -178,7 +178,7 @@ fn put_fields(walk: &mut Walk, around: Around, fields: &[Field]) -> Result<(), A
     Ok(())
 }
 
-// An expression that may be absent.
+/// An expression that may be absent.
 #[cycle(walk)]
 fn put_perhaps(walk: &mut Walk, around: Around, e: &Option<Expr>) -> Result<(), AllocError>
     ensures { OnOk result (Adds walk.old walk.new
@@ -190,7 +190,7 @@ fn put_perhaps(walk: &mut Walk, around: Around, e: &Option<Expr>) -> Result<(), 
     }
 }
 
-// A declared name and its value.
+/// A declared name and its value.
 #[cycle(walk)]
 fn put_declarator(
     walk: &mut Walk,
@@ -210,7 +210,7 @@ fn put_declarator(
     put_perhaps(walk, around, &declarator.value)
 }
 
-// Declared names and their values.
+/// Declared names and their values.
 #[cycle(walk)]
 fn put_declarators(
     walk: &mut Walk,
@@ -227,7 +227,7 @@ fn put_declarators(
     Ok(())
 }
 
-// What a `for` begins with.
+/// What a `for` begins with.
 #[cycle(walk)]
 fn put_start(walk: &mut Walk, around: Around, start: &Start) -> Result<(), AllocError>
     ensures { OnOk result (Adds walk.old walk.new
@@ -288,7 +288,7 @@ fn put_stmt(walk: &mut Walk, around: Around, stmt: &Stmt) -> Result<(), AllocErr
     }
 }
 
-// The name of a `for` over a list, and the list.
+/// The name of a `for` over a list, and the list.
 #[cycle(walk)]
 fn put_listed(
     walk: &mut Walk,
@@ -306,7 +306,7 @@ fn put_listed(
     Ok(())
 }
 
-// The body of a `for` over a list.
+/// The body of a `for` over a list.
 #[cycle(walk)]
 fn put_turns(
     walk: &mut Walk,
@@ -325,7 +325,7 @@ fn put_turns(
     Ok(())
 }
 
-// A block.
+/// A block.
 #[cycle(walk)]
 fn put_block(walk: &mut Walk, around: Around, body: &[Stmt]) -> Result<(), AllocError>
     ensures { OnOk result (Adds walk.old walk.new
@@ -338,7 +338,7 @@ fn put_block(walk: &mut Walk, around: Around, body: &[Stmt]) -> Result<(), Alloc
     Ok(())
 }
 
-// Statements.
+/// Statements.
 #[cycle(walk)]
 fn put_stmts(walk: &mut Walk, around: Around, body: &[Stmt]) -> Result<(), AllocError>
     ensures { OnOk result (Adds walk.old walk.new
@@ -350,7 +350,7 @@ fn put_stmts(walk: &mut Walk, around: Around, body: &[Stmt]) -> Result<(), Alloc
     Ok(())
 }
 
-// The parameters of a function, behind its first token.
+/// The parameters of a function, behind its first token.
 fn put_head(walk: &mut Walk, spot: Spot, names: &[Name]) -> Result<(), AllocError>
     ensures { OnOk result (Adds walk.old walk.new
         (begin_site (scopes_in walk.old) spot.at spot ++ parameter_sites (scopes_in walk.old)
@@ -360,7 +360,7 @@ fn put_head(walk: &mut Walk, spot: Spot, names: &[Name]) -> Result<(), AllocErro
     put_parameters(walk, in_function(spot.at), names)
 }
 
-// The scope of a `for` with three parts.
+/// The scope of a `for` with three parts.
 fn enter_for(walk: &mut Walk, around: Around, start: &Start, body: &Stmt) -> Result<(), AllocError>
     ensures { OnOk result (Enters walk.old walk.new
         (for_scope around.owner (plain_start start.now) (plain_stmt body.now))) }
@@ -369,7 +369,7 @@ fn enter_for(walk: &mut Walk, around: Around, start: &Start, body: &Stmt) -> Res
     enter(walk, scope)
 }
 
-// The scope of the list of a `for`, and its name.
+/// The scope of the list of a `for`, and its name.
 fn enter_list(
     walk: &mut Walk,
     around: Around,
@@ -384,7 +384,7 @@ fn enter_list(
     put_name(walk, around, What::Declares(each_role(kind)), name)
 }
 
-// A function declaration.
+/// A function declaration.
 fn put_declared(
     walk: &mut Walk,
     spot: Spot,
@@ -399,7 +399,7 @@ fn put_declared(
     put_function(walk, spot, names, body)
 }
 
-// What a program lists.
+/// What a program lists.
 fn put_item(walk: &mut Walk, item: &Item) -> Result<(), AllocError>
     ensures { OnOk result (Adds walk.old walk.new (tree_item_sites (scopes_in walk.old) item.now)) }
 {
@@ -409,7 +409,7 @@ fn put_item(walk: &mut Walk, item: &Item) -> Result<(), AllocError>
     }
 }
 
-// All that a program lists.
+/// All that a program lists.
 fn put_items(walk: &mut Walk, items: &[Item]) -> Result<(), AllocError>
     ensures { OnOk result (Adds walk.old walk.new
         (flat_map (tree_item_sites (scopes_in walk.old)) items.now)) }

@@ -10,7 +10,7 @@ use crate::name_tables::NameTables;
 use js_tree::{Declarator, DeclareKind, Start, Stmt, StmtForm};
 use std::alloc::{AllocError, Global};
 
-// The slot of a declarator of `let` or `const`.
+/// The slot of a declarator of `let` or `const`.
 fn push_declarator(
     tables: &NameTables,
     slots: &mut Vec<u32>,
@@ -29,7 +29,7 @@ fn push_declarator(
     }
 }
 
-// The slots of some declarators.
+/// The slots of some declarators.
 fn push_declarators(
     tables: &NameTables,
     slots: &mut Vec<u32>,
@@ -46,7 +46,7 @@ fn push_declarators(
     Ok(())
 }
 
-// The slots of what a statement declares for its block.
+/// The slots of what a statement declares for its block.
 fn push_stmt(tables: &NameTables, slots: &mut Vec<u32>, stmt: &Stmt) -> Result<(), AllocError>
     ensures { OnOk result (slots.new.items ≡ slots.old.items
         ++ fresh tables.now (own_of 0 false (plain_stmt stmt.now))) }
@@ -89,7 +89,7 @@ pub fn start_slots(
     Ok(slots)
 }
 
-// The slots of what the head of a `for` declares.
+/// The slots of what the head of a `for` declares.
 fn push_start(tables: &NameTables, slots: &mut Vec<u32>, start: &Start) -> Result<(), AllocError>
     ensures { OnOk result (slots.new.items ≡ slots.old.items
         ++ fresh tables.now (own_of_start 0 (plain_start start.now))) }
