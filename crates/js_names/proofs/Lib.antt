@@ -2,7 +2,6 @@ mod Build
 mod Examples
 pub mod Stacks
 pub mod Taking
-pub mod Trees
 pub mod Making
 pub mod Holding
 pub mod Firsts

@@ -25,7 +25,7 @@ use Rattle.js_tree.specs.Plain.{declarators_of, stmts_of}
 use Rattle.js_tree.specs.Views.{plain_declarator, plain_stmt, plain_start}
 use Rattle.js_names.specs.Scopes.{Entry, first, named, one_var, merge, kept, parameter, parameters, own_declarators, var_declarators, own_of, own_of_all, vars_of, vars_of_all, own_of_start, vars_of_start}
 use Rattle.js_names.specs.Places.{or_else}
-use Rattle.js_names.proofs.Trees.{with_form, declaration_is, block_is, if_else_is, for_is, start_is, if_is, while_is, for_of_is}
+use Rattle.js_tree.proofs.Statements.{with_form, declaration_is, block_is, if_else_is, for_is, start_is, if_is, while_is, for_of_is}
 use Rattle.js_tree.specs.declared.tree.Expr.{Expr}
 use Rattle.js_tree.specs.declared.tree.Start.{Start, Declares}
 use Rattle.std.specs.declared.boxed.Box.{Box}

@@ -20,7 +20,8 @@ use Rattle.js_resolver.specs.Variables.{named_at}
 use Rattle.js_resolver.specs.Nodes.{Piece, none, beside, after, expr_piece, exprs_piece, fields_piece, keys_of, perhaps_piece, perhaps_part, parts_after, declarators_piece, declared_of, stmt_piece, stmts_piece, item_piece, items_piece}
 use Rattle.js_resolver.specs.Emits.{count, Adds, Emits, EmitsMore, EmitsDeclarators, EmitsPerhaps, Leaves, tree_perhaps}
 use Rattle.js_resolver.proofs.Emitting.{counts, leaves_all, leaves_none, leaves_more, numbers_more}
-use Rattle.js_resolver.proofs.TreeForms.{field_is, declarator_is}
+use Rattle.js_tree.proofs.Forms.{field_is}
+use Rattle.js_tree.proofs.Statements.{declarator_is}
 
 -- and the numbers so far
 pub record Remains (start now : Emitter) (numbers : List ℕ) (rest whole : Piece) : Type 0 where

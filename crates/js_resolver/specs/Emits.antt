@@ -5,9 +5,8 @@ use Rattle.js_tree.specs.declared.tree.Expr.{Expr}
 use Rattle.js_tree.specs.declared.tree.Declarator.{Declarator}
 use Rattle.js_tree.specs.declared.tree.Operator.{Operator}
 use Rattle.js_tree.specs.declared.tree.Operator.TheVariants.{Divide}
-use Rattle.js_tree.specs.declared.tree.StmtForm.{StmtForm, fold-StmtForm}
-use Rattle.js_tree.specs.Plain.{PlainExpr, PlainExprs, PlainForm, PlainField, PlainDeclarator, PlainPerhaps, PlainStart, PlainStmt, PlainStmtForm, declarators_of}
-use Rattle.js_tree.specs.Views.{perhaps, plain_expr, plain_declarator, form_step, start_step, stmt_form_step, declarator_step, expr_step, field_step, stmt_step}
+use Rattle.js_tree.specs.Plain.{PlainExpr, PlainExprs, PlainForm, PlainPerhaps, PlainStmtForm, declarators_of}
+use Rattle.js_tree.specs.Views.{perhaps, plain_expr, plain_declarator}
 use Rattle.js_program.specs.declared.builtin.Builtin.{Builtin}
 use Rattle.js_program.specs.declared.node.NodeForm.{NodeForm}
 use Rattle.js_program.specs.declared.node.Declared.{Declared}
@@ -75,9 +74,6 @@ tree_perhaps e = perhaps (option_map plain_expr e)
 pub record Leaves (start now : Emitter) (rest whole : Piece) : Type 0 where
   pub nodes : nodes_of now ++ rest.nodes ≡ nodes_of start ++ whole.nodes
   pub functions : functions_of now ++ rest.functions ≡ functions_of start ++ whole.functions
-
-abbrev pub plain_stmt_form : StmtForm → PlainStmtForm
-plain_stmt_form = fold-StmtForm PlainForm PlainStart PlainStmtForm PlainDeclarator PlainExpr PlainField PlainStmt form_step start_step stmt_form_step declarator_step expr_step field_step stmt_step
 
 abbrev pub is_divide : Operator → Bool
 is_divide Divide = true

@@ -5,14 +5,14 @@ ghost use Rattle.std.specs.Prelude.{◌≡◌, ◌∷◌, ◌≤◌, [], IfOk, O
 ghost use Rattle.std.specs.Arc.{arc_value};
 ghost use Rattle.js_tree.specs.Plain as t;
 ghost use Rattle.js_tree.specs.Plain.{exprs_of, fields_of, stmts_of};
-ghost use Rattle.js_tree.specs.Views.{plain_expr, plain_field, plain_form, plain_start, plain_stmt, plain_item};
+ghost use Rattle.js_tree.specs.Views.{plain_expr, plain_field, plain_form, plain_start, plain_stmt, plain_stmt_form, plain_item};
 ghost use Rattle.js_program.specs.declared.builtin.Builtin.TheVariants.{Floor};
 ghost use Rattle.js_program.specs.PlainProgram as n;
 ghost use Rattle.js_program.specs.Views.{plain_content, plain_node_form};
 ghost use Rattle.js_names.specs.Scopes.{is_present};
 ghost use Rattle.js_resolver.specs.Variables.{body_of};
 ghost use Rattle.js_resolver.specs.Nodes.{expr_node, expr_piece, exprs_piece, fields_piece, function_piece, has_start, item_piece, items_piece, keys_of, perhaps_piece, start_piece, stmt_piece, stmts_piece};
-ghost use Rattle.js_resolver.specs.Emits.{Adds, Emits, EmitsMore, EmitsDeclarators, EmitsPerhaps, EmitsCallee, EmitsCalled, FormsExpr, FormsStmt, FormsBuiltin, FormsCall, PutsBody, count, is_divide, plain_stmt_form, tree_perhaps};
+ghost use Rattle.js_resolver.specs.Emits.{Adds, Emits, EmitsMore, EmitsDeclarators, EmitsPerhaps, EmitsCallee, EmitsCalled, FormsExpr, FormsStmt, FormsBuiltin, FormsCall, PutsBody, count, is_divide, tree_perhaps};
 
 use crate::emitter::{Emitter, put_function, put_node};
 use crate::fresh::{block_slots, start_slots};

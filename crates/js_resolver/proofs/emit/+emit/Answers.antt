@@ -16,7 +16,8 @@ use Rattle.js_resolver.proofs.StmtArms as s
 use Rattle.js_resolver.proofs.FunctionArms as k
 use Rattle.js_resolver.proofs.CallArms as m
 use Rattle.js_resolver.proofs.Loops as l
-use Rattle.js_resolver.proofs.TreeForms.{expr_is, member_whole, binary_whole, not_member, not_binary}
+use Rattle.js_tree.proofs.Forms.{expr_is}
+use Rattle.js_resolver.proofs.TreeForms.{member_whole, binary_whole, not_member, not_binary}
 use Rattle.js_resolver.proofs.emit.+emit.Goals as goal
 use Rattle.js_resolver.proofs.emit.+emit.Goals.{emit_called-in_default-via-in-Member+else-is_none, emit_called-in_default-via-in_default, emit_floor-in_default-via-in-Binary+else-is_divide, emit_floor-in_default-via-in_default}
 
