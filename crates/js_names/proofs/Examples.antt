@@ -1,5 +1,5 @@
 -- The rules of names, worked out: at each edge a program that keeps the rule, and a neighbour that breaks it.
-use Rattle.std.proofs.Common.{◌≡◌, ℕ, zero, suc, ◌+◌, List, [], ◌∷◌, ◌×◌, map, refl, Option, Some, None}
+use Rattle.std.proofs.Common.{◌≡◌, ℕ, zero, suc, ◌+◌, List, [], ◌∷◌, map, refl, Option, Some, None}
 use Rattle.std.specs.Prelude.{codes}
 use Rattle.js_tree.specs.declared.tree.DeclareKind.TheVariants.{Const, Let, Var}
 use Rattle.js_tree.specs.declared.tree.Name.{Name}
