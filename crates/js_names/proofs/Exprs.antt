@@ -21,8 +21,9 @@ use Rattle.js_tree.specs.Views.{plain_expr, plain_form, plain_field, plain_stmt}
 use Rattle.js_tree.proofs.Forms.{expr_is, field_is, number_is, words_is, truth_is, null_is, use_is, list_is, fields_is, member_is, index_is, call_is, unary_is, update_is, binary_is, conditional_is, assign_is, arrow_value_is, arrow_block_is, function_is}
 use Rattle.js_names.specs.declared.place.Around.{Around}
 use Rattle.js_names.specs.Scopes.{Scope, function_scope}
-use Rattle.js_names.specs.Sites.{Site, expr_sites, form_sites, exprs_sites, fields_sites, stmts_sites, read_site, assign_site, member_sites, object_of, value_builtin, called_builtin, begin_site, parameter_sites, in_function}
-use Rattle.js_names.specs.Views.{tree_sites, field_sites, tree_stmt_sites, arrow_sites, body_sites}
+use Rattle.js_names.specs.Forms.{object_of, value_builtin, called_builtin}
+use Rattle.js_names.specs.Sites.{Site, expr_sites, form_sites, exprs_sites, fields_sites, stmts_sites, read_site, assign_site, member_sites, begin_site, parameter_sites, in_function}
+use Rattle.js_names.specs.TreeSites.{tree_sites, field_sites, tree_stmt_sites, arrow_sites, body_sites}
 
 -- the places of an expression are those of its form
 form_at : (s : List Scope) (a : Around) (e : Expr) (f : Form) (g : PlainForm) → e.form ≡ f → plain_form f ≡ g → form_sites s a g ≡ tree_sites s a e

@@ -7,7 +7,8 @@ use Rattle.js_names.specs.declared.place.Seen.{Seen}
 use Rattle.js_names.specs.declared.place.Declared.{Declared}
 use Rattle.js_names.specs.Places.{Place}
 use Rattle.js_names.specs.Slots.{Holding, hold, held_by, holds_all, inside, is_among, joins, copies, captures_of, holdings, slots_of, captures, captures_in, parameter_in, variable_in, var_in, vars_of}
-use Rattle.js_names.specs.Views.{Sets, keys_of, held_in, Holds, place_of}
+use Rattle.js_names.specs.Views.{place_of}
+use Rattle.js_names.specs.Held.{Sets, keys_of, held_in, Holds}
 use Rattle.js_names.proofs.Taking.{flat_map_take}
 
 held_by-append : (q : ℕ) (xs ys : List Holding) → held_by q (xs ++ ys) ≡ held_by q xs ++ held_by q ys

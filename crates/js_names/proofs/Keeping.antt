@@ -6,8 +6,9 @@ use Rattle.js_names.specs.declared.place.Declared.{Declared}
 use Rattle.js_names.specs.declared.place.Role.TheVariants.{Let, Var}
 use Rattle.js_names.specs.declared.place.What.{What}
 use Rattle.js_names.specs.declared.place.What.TheVariants.{Declares, Reads, Assigns, Misuses, LoopWord, Returns, Begins}
-use Rattle.js_names.specs.Scopes.{Entry, Scope, top, named, first, one_var, kept, inner_scope, scope_with}
-use Rattle.js_names.specs.Sites.{is_reserved}
+use Rattle.js_names.specs.Entries.{Entry, top}
+use Rattle.js_names.specs.Scopes.{Scope, named, first, one_var, kept, inner_scope, scope_with}
+use Rattle.js_names.specs.Forms.{is_reserved}
 use Rattle.js_names.specs.Places.{found, found_here, found_var, functions_of, owner_in, blocked, repeated, clashes, declared_at, is_earlier, is_parameter, is_var, or_else, test_of, see}
 use Rattle.js_names.specs.Kept.{IsOwn, KeepsEnough}
 

@@ -23,13 +23,14 @@ use Rattle.js_tree.specs.declared.tree.StmtForm.{Declaration, Block, IfElse, For
 use Rattle.std.specs.Prelude.{Vec, Result, Ok, Err, OnOk}
 use Rattle.js_tree.specs.Plain.{declarators_of, stmts_of}
 use Rattle.js_tree.specs.Views.{plain_declarator, plain_stmt, plain_start}
-use Rattle.js_names.specs.Scopes.{Entry, first, named, one_var, merge, kept, parameter, parameters, own_declarators, var_declarators, own_of, own_of_all, vars_of, vars_of_all, own_of_start, vars_of_start}
+use Rattle.js_names.specs.Entries.{Entry, own_declarators, var_declarators, own_of, own_of_all, vars_of, vars_of_all, own_of_start, vars_of_start}
+use Rattle.js_names.specs.Scopes.{first, named, one_var, merge, kept, parameter, parameters}
 use Rattle.js_names.specs.Places.{or_else}
 use Rattle.js_tree.proofs.Statements.{with_form, declaration_is, block_is, if_else_is, for_is, start_is, if_is, while_is, for_of_is}
 use Rattle.js_tree.specs.declared.tree.Expr.{Expr}
 use Rattle.js_tree.specs.declared.tree.Start.{Start, Declares}
 use Rattle.std.specs.declared.boxed.Box.{Box}
-use Rattle.js_names.specs.Views.{Names, alone, TakesOwn, TakesVars, own_of_declarator, vars_of_declarator, own_of_stmt, vars_of_stmt}
+use Rattle.js_names.specs.Taken.{Names, alone, TakesOwn, TakesVars, own_of_declarator, vars_of_declarator, own_of_stmt, vars_of_stmt}
 
 pub or_else_none : {A : Type 0} (a : Option A) → or_else a None ≡ a
 or_else_none None = refl

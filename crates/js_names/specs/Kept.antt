@@ -4,7 +4,8 @@ use Rattle.js_tree.specs.declared.tree.Name.{Name}
 use Rattle.js_names.specs.declared.place.What.{What}
 use Rattle.js_names.specs.declared.place.What.TheVariants.{Declares}
 use Rattle.js_names.specs.declared.place.Around.{Around}
-use Rattle.js_names.specs.Scopes.{Entry, Scope, named, first, inner_scope, scope_with}
+use Rattle.js_names.specs.Entries.{Entry}
+use Rattle.js_names.specs.Scopes.{Scope, named, first, inner_scope, scope_with}
 use Rattle.js_names.specs.Sites.{Site}
 use Rattle.js_names.specs.Places.{is_var, see}
 

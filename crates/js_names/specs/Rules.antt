@@ -5,7 +5,7 @@ use Rattle.js_names.specs.declared.limits.TheConstants.{MOST_SLOTS}
 use Rattle.js_names.specs.declared.place.What.{What}
 use Rattle.js_names.specs.declared.place.NameFault.{NameFault}
 use Rattle.js_names.specs.declared.place.NameFault.TheVariants.{Unknown, Twice, AssignConst, Capture, LoopWord, ReturnPlace, Slots, Memory}
-use Rattle.js_names.specs.Scopes.{top}
+use Rattle.js_names.specs.Entries.{top}
 use Rattle.js_names.specs.Places.{Place, test_of, is_const, is_function, places}
 use Rattle.js_names.specs.Slots.{is_assignment, is_mention, is_begin, assigned_in, is_outer, can_copy, slot_count}
 

@@ -2,9 +2,10 @@
 ghost use Rattle.std.specs.Prelude.{◌≡◌, OnOk, option_copied};
 ghost use Rattle.std.specs.List.{flat_map};
 ghost use Rattle.std.specs.HashMap.{get_by_text};
-ghost use Rattle.js_names.specs.Scopes.{merge, given_at, own_of_start, vars_of_start};
+ghost use Rattle.js_names.specs.Entries.{given_at, own_of_start, vars_of_start};
+ghost use Rattle.js_names.specs.Scopes.{merge};
 ghost use Rattle.js_tree.specs.Views.{plain_declarator, plain_start};
-ghost use Rattle.js_names.specs.Views.{TakesOwn, TakesVars, keeps, alone, own_of_declarator, vars_of_declarator, own_of_stmt, vars_of_stmt};
+ghost use Rattle.js_names.specs.Taken.{TakesOwn, TakesVars, keeps, alone, own_of_declarator, vars_of_declarator, own_of_stmt, vars_of_stmt};
 
 use crate::place::{Declared, Role};
 use crate::scope::TOP;

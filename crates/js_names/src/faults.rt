@@ -4,7 +4,8 @@ ghost use Rattle.js_tree.specs.Views.{plain_tree};
 ghost use Rattle.js_names.specs.Places.{places};
 ghost use Rattle.js_names.specs.Slots.{assigned_in, slots_of};
 ghost use Rattle.js_names.specs.Rules.{fault_at, number_of, spot_of, comes_before, sooner, soonest, name_fault};
-ghost use Rattle.js_names.specs.Views.{place_of, held_in};
+ghost use Rattle.js_names.specs.Views.{place_of};
+ghost use Rattle.js_names.specs.Held.{held_in};
 
 use crate::holdings::slots;
 use crate::place::{NameFault, Seen, copy_of};

@@ -1,7 +1,7 @@
 //! Where the text of a program begins.
 ghost use Rattle.std.specs.Prelude.{◌≡◌};
 ghost use Rattle.js_tree.specs.Views.{plain_expr, plain_stmt, plain_tree};
-ghost use Rattle.js_names.specs.Sites.{first_spot, spot_or, stmt_spot, program_spot};
+ghost use Rattle.js_names.specs.Spots.{first_spot, spot_or, stmt_spot, program_spot};
 
 use js_tree::{Expr, Fix, Form, Item, Spot, Stmt, StmtForm, Tree};
 

@@ -2,7 +2,7 @@
 ghost use Rattle.std.specs.Prelude.{◌≡◌, Some, None, option_copied, codes, if◌then◌else◌};
 ghost use Rattle.js_tree.specs.Nesting.{is_object, is_log_of};
 ghost use Rattle.js_tree.specs.Views.{plain_expr};
-ghost use Rattle.js_names.specs.Sites.{is_undefined, is_reserved, object_of, owner_of, builtin_at, called_builtin, value_builtin};
+ghost use Rattle.js_names.specs.Forms.{is_undefined, is_reserved, object_of, owner_of, builtin_at, called_builtin, value_builtin};
 
 use js_program::{Builtin, builtin_of};
 use js_tree::{Expr, Form, Name};

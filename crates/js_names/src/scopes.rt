@@ -4,8 +4,10 @@ ghost use Rattle.std.specs.List.{flat_map};
 ghost use Rattle.js_tree.specs.Plain.{stmts_of};
 ghost use Rattle.js_tree.specs.Views.{plain_stmt, plain_start, plain_tree};
 ghost use Rattle.std.specs.HashMap.{get_by_text};
-ghost use Rattle.js_names.specs.Scopes.{entry, given_of, parameter, parameters, function_scope, block_scope, for_scope, list_scope, each_scope, each_role, program_scope};
-ghost use Rattle.js_names.specs.Views.{TakesOwn, TakesVars, in_map, keeps, scope_of, own_of_tree_item, vars_of_tree_item};
+ghost use Rattle.js_names.specs.Entries.{entry};
+ghost use Rattle.js_names.specs.Scopes.{given_of, parameter, parameters, function_scope, block_scope, for_scope, list_scope, each_scope, each_role, program_scope};
+ghost use Rattle.js_names.specs.Views.{scope_of};
+ghost use Rattle.js_names.specs.Taken.{TakesOwn, TakesVars, in_map, keeps, own_of_tree_item, vars_of_tree_item};
 
 use crate::declare::{
     declare_list_vars, declare_own, declare_own_stmt, declare_own_stmts, declare_start_own,

@@ -4,7 +4,8 @@ ghost use Rattle.std.specs.Arc.{arc_value};
 ghost use Rattle.js_names.specs.Sites.{site, read_site, assign_site, begin_site, parameter_sites, in_function, in_loop, declared_role, word_at};
 ghost use Rattle.js_names.specs.Scopes.{each_role};
 ghost use Rattle.js_names.specs.Places.{see, functions_of, owner_in};
-ghost use Rattle.js_names.specs.Views.{Adds, Entered, Left, place_of, scope_of, scopes_in, scopes_of};
+ghost use Rattle.js_names.specs.Views.{place_of, scope_of, scopes_of};
+ghost use Rattle.js_names.specs.Walks.{Adds, Entered, Left, scopes_in};
 
 use crate::forms::{is_object, is_reserved, is_undefined};
 use crate::lookup::{clashes, declared_at};

@@ -3,10 +3,14 @@ ghost use Rattle.std.specs.Prelude.{◌≡◌, ◌++◌, IfOk, OnOk, is_some, st
 ghost use Rattle.std.specs.List.{flat_map};
 ghost use Rattle.js_tree.specs.Plain.{stmts_of};
 ghost use Rattle.js_tree.specs.Views.{perhaps, plain_expr, plain_start, plain_stmt, plain_tree};
-ghost use Rattle.js_names.specs.Scopes.{block_scope, for_scope, list_scope, each_role, function_scope, top};
-ghost use Rattle.js_names.specs.Sites.{site, assign_site, begin_site, parameter_sites, member_sites, object_of, value_builtin, called_builtin, in_function, in_loop, perhaps_sites, start_sites, stmts_sites, word_at};
+ghost use Rattle.js_names.specs.Entries.{top};
+ghost use Rattle.js_names.specs.Scopes.{block_scope, for_scope, list_scope, each_role, function_scope};
+ghost use Rattle.js_names.specs.Forms.{object_of, value_builtin, called_builtin};
+ghost use Rattle.js_names.specs.Sites.{site, assign_site, begin_site, parameter_sites, member_sites, in_function, in_loop, perhaps_sites, start_sites, stmts_sites, word_at};
 ghost use Rattle.js_names.specs.Places.{places};
-ghost use Rattle.js_names.specs.Views.{Adds, Enters, EntersEach, scopes_in, place_of, tree_sites, field_sites, declarator_sites, tree_stmt_sites, tree_item_sites, block_sites, arrow_sites, body_sites, declared_sites, listed_sites, turn_sites, perhaps_tree_sites, start_tree_sites};
+ghost use Rattle.js_names.specs.Views.{place_of};
+ghost use Rattle.js_names.specs.Walks.{Adds, Enters, EntersEach, scopes_in};
+ghost use Rattle.js_names.specs.TreeSites.{tree_sites, field_sites, declarator_sites, tree_stmt_sites, tree_item_sites, block_sites, arrow_sites, body_sites, declared_sites, listed_sites, turn_sites, perhaps_tree_sites, start_tree_sites};
 
 use crate::first::program_spot;
 use crate::forms::{called_builtin, object_of, value_builtin};

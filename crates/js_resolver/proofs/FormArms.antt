@@ -27,7 +27,9 @@ use Rattle.js_names.specs.Places.{Place}
 use Rattle.js_resolver.specs.declared.emit.Called.{Called}
 use Rattle.js_resolver.specs.declared.emitter.Emitter.{Emitter}
 use Rattle.js_resolver.specs.Variables.{slot_at}
-use Rattle.js_resolver.specs.Nodes.{beside, expr_node, expr_piece, form_parts, exprs_piece, fields_piece, keys_of}
+use Rattle.js_resolver.specs.Pieces.{beside}
+use Rattle.js_resolver.specs.NodeForms.{expr_node, keys_of}
+use Rattle.js_resolver.specs.Nodes.{expr_piece, form_parts, exprs_piece, fields_piece}
 use Rattle.js_resolver.specs.Emits.{count, Puts, Emits, EmitsCallee, FormsCall, FormsExpr}
 use Rattle.js_resolver.proofs.Emitting.{emits_none, emits_both, forms_expr, if_forms_expr, if_closes}
 use Rattle.js_resolver.proofs.CallArms.{call_whole}

@@ -11,7 +11,7 @@ use Rattle.js_names.specs.declared.place.Declared.{Declared}
 use Rattle.js_names.specs.declared.place.NameFault.{NameFault}
 use Rattle.js_names.specs.declared.place.Role.{Role}
 use Rattle.js_names.specs.declared.place.What.{What}
-use Rattle.js_names.specs.Scopes.{top}
+use Rattle.js_names.specs.Entries.{top}
 use Rattle.js_names.specs.Places.{Place, or_else, test_of, places}
 use Rattle.js_names.specs.Slots.{Holding, held_by, holds_all, inside, assigned_in, is_constant, is_outer, can_copy, copies, is_mention, is_begin, captures, captures_in, captures_of, constants_of, slots_of, slot_count}
 use Rattle.js_names.specs.Rules.{fails_unknown, fails_capture, fails_twice, fails_const, fault_at, sooner, comes_before, name_fault}

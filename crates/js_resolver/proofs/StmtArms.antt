@@ -19,10 +19,12 @@ use Rattle.js_program.specs.declared.node.NodeForm.{NodeForm}
 use Rattle.js_program.specs.declared.node.NodeForm.TheVariants as N
 use Rattle.js_program.specs.PlainProgram as n
 use Rattle.js_names.specs.Places.{Place}
-use Rattle.js_names.specs.Scopes.{own_of_all, own_of_start, is_present}
+use Rattle.js_names.specs.Entries.{own_of_all, own_of_start, is_present}
 use Rattle.js_resolver.specs.declared.emitter.Emitter.{Emitter}
 use Rattle.js_resolver.specs.Variables.{slot_at}
-use Rattle.js_resolver.specs.Nodes.{Piece, beside, after, declared_of, expr_piece, for_node, fresh, has_start, perhaps_piece, declarators_piece, start_piece, stmt_node, stmt_piece, stmt_parts, stmts_piece}
+use Rattle.js_resolver.specs.Pieces.{Piece, beside, after}
+use Rattle.js_resolver.specs.NodeForms.{declared_of, for_node, fresh, has_start, stmt_node}
+use Rattle.js_resolver.specs.Nodes.{expr_piece, perhaps_piece, declarators_piece, start_piece, stmt_piece, stmt_parts, stmts_piece}
 use Rattle.js_resolver.specs.Emits.{count, Puts, Emits, EmitsDeclarators, EmitsPerhaps, FormsStmt, tree_perhaps}
 use Rattle.js_resolver.proofs.Emitting.{adds_none, closes, emits_none, emits_both, forms_stmt, if_closes}
 use Rattle.js_tree.proofs.Statements.{nothing_is, start_is, evaluates_is, stmt_is, empty_is, expression_is, declaration_is, block_is, if_is, if_else_is, while_is, for_is, for_of_is, break_is, continue_is, return_nothing_is, return_is}

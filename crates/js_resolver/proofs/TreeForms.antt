@@ -15,7 +15,7 @@ use Rattle.js_tree.specs.Plain as p
 use Rattle.js_tree.specs.Plain.{PlainExpr, PlainForm, PlainField, PlainDeclarator, PlainStart, PlainStmt, PlainStmtForm}
 use Rattle.js_tree.specs.Views.{plain_expr, plain_form, form_step, start_step, stmt_form_step, declarator_step, expr_step, field_step, stmt_step}
 use Rattle.js_tree.proofs.Forms.{expr_is, member_is, binary_is}
-use Rattle.js_resolver.specs.Nodes.{is_division, method_of}
+use Rattle.js_resolver.specs.NodeForms.{is_division, method_of}
 
 pub member_whole : (e : Expr) (b : Box Expr Global) (w : List ℕ) (x : Expr) → e.form ≡ Member b w → x ≡ b.value → plain_expr e ≡ p.at e.parens e.line (p.member (plain_expr x) w)
 member_whole e b w x h d = expr_is e ∙ ap (p.at e.parens e.line) (ap plain_form h ∙ (member_is b w ∙ ap (λ z. p.member (plain_expr z) w) (sym d)))

@@ -13,11 +13,13 @@ use Rattle.js_program.specs.declared.node.Declared.{Declared}
 use Rattle.js_program.specs.PlainProgram.{PlainNode, PlainNodeForm, PlainBody}
 use Rattle.js_program.specs.Views.{plain_node, plain_node_form, plain_body, plain_declared}
 use Rattle.js_names.specs.Places.{Place}
-use Rattle.js_names.specs.Sites.{called_builtin}
+use Rattle.js_names.specs.Forms.{called_builtin}
 use Rattle.js_resolver.specs.declared.emit.Called.{Called}
 use Rattle.js_resolver.specs.declared.emit.Called.TheVariants as C
 use Rattle.js_resolver.specs.declared.emitter.Emitter.{Emitter}
-use Rattle.js_resolver.specs.Nodes.{Piece, none, arguments_piece, call_node, expr_node, stmt_node, expr_piece, expr_parts, form_parts, floors_division, method_of, declarators_piece, declared_of, stmt_parts}
+use Rattle.js_resolver.specs.Pieces.{Piece, none}
+use Rattle.js_resolver.specs.NodeForms.{call_node, expr_node, stmt_node, floors_division, method_of, declared_of}
+use Rattle.js_resolver.specs.Nodes.{arguments_piece, expr_piece, expr_parts, form_parts, declarators_piece, stmt_parts}
 
 abbrev pub nodes_of : Emitter → List PlainNode
 nodes_of e = map plain_node e.nodes.items

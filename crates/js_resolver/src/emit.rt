@@ -9,9 +9,11 @@ ghost use Rattle.js_tree.specs.Views.{plain_expr, plain_field, plain_form, plain
 ghost use Rattle.js_program.specs.declared.builtin.Builtin.TheVariants.{Floor};
 ghost use Rattle.js_program.specs.PlainProgram as n;
 ghost use Rattle.js_program.specs.Views.{plain_content, plain_node_form};
-ghost use Rattle.js_names.specs.Scopes.{is_present};
+ghost use Rattle.js_names.specs.Entries.{is_present};
 ghost use Rattle.js_resolver.specs.Variables.{body_of};
-ghost use Rattle.js_resolver.specs.Nodes.{expr_node, expr_piece, exprs_piece, fields_piece, function_piece, has_start, item_piece, items_piece, keys_of, perhaps_piece, start_piece, stmt_piece, stmts_piece};
+ghost use Rattle.js_resolver.specs.Pieces.{function_piece};
+ghost use Rattle.js_resolver.specs.NodeForms.{expr_node, has_start, keys_of};
+ghost use Rattle.js_resolver.specs.Nodes.{expr_piece, exprs_piece, fields_piece, item_piece, items_piece, perhaps_piece, start_piece, stmt_piece, stmts_piece};
 ghost use Rattle.js_resolver.specs.Emits.{Adds, Emits, EmitsMore, EmitsDeclarators, EmitsPerhaps, EmitsCallee, EmitsCalled, FormsExpr, FormsStmt, FormsBuiltin, FormsCall, PutsBody, count, is_divide, tree_perhaps};
 
 use crate::emitter::{Emitter, put_function, put_node};

@@ -2,9 +2,9 @@
 ghost use Rattle.std.specs.Prelude.{◌≡◌, ◌++◌, IfOk, OnOk, false, map};
 ghost use Rattle.js_tree.specs.Plain.{declarators_of, stmts_of};
 ghost use Rattle.js_tree.specs.Views.{plain_declarator, plain_start, plain_stmt};
-ghost use Rattle.js_names.specs.Scopes.{own_declarators, own_of, own_of_all, own_of_start};
-ghost use Rattle.js_names.specs.Views.{own_of_declarator};
-ghost use Rattle.js_resolver.specs.Nodes.{fresh};
+ghost use Rattle.js_names.specs.Entries.{own_declarators, own_of, own_of_all, own_of_start};
+ghost use Rattle.js_names.specs.Taken.{own_of_declarator};
+ghost use Rattle.js_resolver.specs.NodeForms.{fresh};
 
 use crate::name_tables::NameTables;
 use js_tree::{Declarator, DeclareKind, Start, Stmt, StmtForm};

@@ -2,9 +2,10 @@
 ghost use Rattle.std.specs.Prelude.{◌≡◌, ◌++◌, ◌∷◌, [], IfOk, OnOk, map, nat_eq};
 ghost use Rattle.indexmap.specs.IndexMap.{get};
 ghost use Rattle.js_names.specs.Slots.{constant_at, constants_of, function_at, functions_in};
-ghost use Rattle.js_names.specs.Views.{held_in, place_of};
+ghost use Rattle.js_names.specs.Views.{place_of};
+ghost use Rattle.js_names.specs.Held.{held_in};
 ghost use Rattle.js_resolver.specs.Tables.{Notes};
-ghost use Rattle.js_names.specs.Scopes.{top};
+ghost use Rattle.js_names.specs.Entries.{top};
 ghost use Rattle.js_resolver.specs.Variables.{index_in, second, variable_with, named_there, around_there, name_key, owner_key, known_in, slots_among};
 
 use indexmap::{IndexMap, IndexSet};
