@@ -20,7 +20,6 @@ pub use faults::{Names, check_names};
 pub use forms::{called_builtin, is_undefined, object_of, value_builtin};
 pub use holdings::{captured, slot_count, vars};
 pub use laws::blocks_keep_enough;
-pub use limits::MOST_SLOTS;
 pub use place::{Around, Declared, NameFault, Role, Seen, What};
 pub use rules::{is_constant, variable_at};
 pub use scope::TOP;
