@@ -95,10 +95,6 @@ begun-log scopes a name word None is_value = begun-read scopes a name
 begun-log scopes a name word (Some object) true = refl
 begun-log scopes a name word (Some object) false = refl
 
-log_of : (o : Bool) (word : List ℕ) (called : Bool) (name : List ℕ) → is_some (builtin_at (if o then Some name else None) word called) ≡ true → o ≡ true
-log_of true word called name h = refl
-log_of false word called name h = absurd (false≢true h)
-
 -- no function begins in the owner of a form
 begun-value : (scopes : List Scope) (a : Around) (e : PlainExpr) (word : List ℕ) → is_some (value_builtin e word) ≡ true → begun (expr_sites scopes a e) ≡ []
 unfolding expr_sites form_sites

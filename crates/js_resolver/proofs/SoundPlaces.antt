@@ -99,11 +99,6 @@ pub has_slot : (slots : ℕ) (v : Variable) → variable_fits slots 0 v ≡ true
 has_slot slots (Slot n) h = h
 has_slot slots (Constant n) h = absurd (omega (arith, ltb-true n 0 h))
 
--- and fits where there are some
-pub fits_more : (slots constants : ℕ) (v : Variable) → variable_fits slots 0 v ≡ true → variable_fits slots constants v ≡ true
-fits_more slots constants (Slot n) h = h
-fits_more slots constants (Constant n) h = absurd (omega (arith, ltb-true n 0 h))
-
 holds-in : (f v : ℕ) (fs : List ℕ) → In f fs → In v (held_by f (holds_all v fs))
 holds-in f v [] h = absurd h
 holds-in f v (g ∷ gs) h =
