@@ -11,6 +11,7 @@ use Rattle.js_names.specs.Scopes.{Scope, named, first, one_var, kept, inner_scop
 use Rattle.js_names.specs.Forms.{is_reserved}
 use Rattle.js_names.specs.Places.{found, found_here, found_var, functions_of, owner_in, blocked, repeated, clashes, declared_at, is_earlier, is_parameter, is_var, or_else, test_of, see}
 use Rattle.js_names.specs.Kept.{IsOwn, KeepsEnough}
+use Rattle.js_names.proofs.Making.{kept_all}
 
 module _ (own vars : List Entry) (owner : ℕ) (outside : List Scope) where
   abbrev less : Scope
@@ -39,15 +40,11 @@ module _ (own vars : List Entry) (owner : ℕ) (outside : List Scope) where
   same_blocked [] q p = refl
   same_blocked (x ∷ xs) q p = ap (λ b. test_of (x.own q) (λ d. nat_lt d.place p && not (is_parameter d.role)) || (not x.whole && b)) (same_blocked xs q p)
 
-  kept_whole : (o : Option Declared) → kept true o ≡ o
-  kept_whole None = refl
-  kept_whole (Some d) = refl
-
   same_repeated : (xs : List Scope) (q : List ℕ) (p : ℕ) → (xs ≡ [] → is_some (first (named q own)) ≡ true) → repeated (xs ++ less ∷ outside) q p ≡ repeated (xs ++ more ∷ outside) q p
   unfolding repeated
   same_repeated [] q p h =
       let o = one_var (named q vars) in
-      ap (λ z. is_earlier (first (named q own)) p || is_earlier z p) (ap (λ b. kept b o) (h refl) ∙ kept_whole o)
+      ap (λ z. is_earlier (first (named q own)) p || is_earlier z p) (ap (λ b. kept b o) (h refl) ∙ kept_all o)
   same_repeated (x ∷ xs) q p h = refl
 
   same_declared : (xs : List Scope) (what : What) (q : List ℕ) → declared_at what (xs ++ less ∷ outside) q ≡ declared_at what (xs ++ more ∷ outside) q

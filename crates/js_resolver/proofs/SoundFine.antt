@@ -16,7 +16,8 @@ use Rattle.js_names.specs.Rules.{name_fault, is_misuse}
 use Rattle.js_resolver.specs.Variables.{named_at, second, around_of, capture_slots}
 use Rattle.js_resolver.specs.Resolved.{constant_of, program_of_tree}
 use Rattle.js_resolver.proofs.SoundFunctions.{begun, captures_in_order, items_listed}
-use Rattle.js_resolver.proofs.SoundLists.{In, HasPlace, in-first_uses, held-append}
+use Rattle.js_names.proofs.Holding.{held-append}
+use Rattle.js_resolver.proofs.SoundLists.{In, HasPlace, in-first_uses}
 use Rattle.js_resolver.proofs.SoundFound.{AllHave, IsKept, IsFound, AllFound, in_whole}
 use Rattle.js_resolver.proofs.SoundScopes.{constant-from}
 use Rattle.js_resolver.proofs.SoundAlone.{declared_alone}
