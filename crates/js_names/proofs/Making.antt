@@ -23,7 +23,6 @@ pub vars_from_empty : (keep : List ℕ → Bool) (a b : Names) (xs : List Entry)
 vars_from_empty keep a b xs e t q = t q ∙ ap (λ es. merge (lookup (λ k. bytes_eq q (string_bytes k)) es) (kept (keep q) (one_var (named q xs)))) e
 
 -- where all are kept
--- a scope that keeps all
 pub kept_all : (o : Option Declared) → kept true o ≡ o
 kept_all None = refl
 kept_all (Some d) = refl
