@@ -93,7 +93,9 @@ impl Model for NameTables {
 
     ghost view = { λ t. map place_of t.names.places.items };
 
-    ghost invariant = { λ t. AreTablesOf t.meanings.variables t.meanings.constants.keys t.functions.codes.keys t.functions.around t.names.slots t.holdings.captured t.holdings.vars (map place_of t.names.places.items) };
+    ghost invariant = { λ t. AreTablesOf t.meanings.variables t.meanings.constants.keys
+        t.functions.codes.keys t.functions.around t.names.slots t.holdings.captured t.holdings.vars
+        (map place_of t.names.places.items) };
 }
 
 /// What a call of a function has room for.
