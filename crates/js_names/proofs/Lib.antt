@@ -10,3 +10,4 @@ pub mod Exprs
 pub mod Spots
 pub mod Stmts
 mod Keeping
+mod Homes

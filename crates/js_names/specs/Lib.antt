@@ -4,6 +4,7 @@ pub mod Forms
 pub mod Spots
 pub mod Sites
 pub mod Places
+pub mod Scoped
 pub mod Kept
 pub mod Slots
 pub mod Rules
