@@ -143,9 +143,11 @@ home_parameters scopes a o vars (n ∷ ns) w = (λ _. w.0, home_parameters scope
 home_function : (scopes : List Scope) (spot : Spot) (names : List Name) (ss : PlainStmts) (sites : List Site) → AreHome sites →
     AreHome (begin_site (function_scope spot.at names ss ∷ scopes) spot.at spot ++ (parameter_sites (function_scope spot.at names ss ∷ scopes) (in_function spot.at) names ++ sites))
 home_function scopes spot names ss sites h =
-    let inner = function_scope spot.at names ss ∷ scopes in
-    (tt, home_both (parameter_sites inner (in_function spot.at) names) sites
-    (home_parameters inner (in_function spot.at) spot.at (given_vars spot.at ss) names (parameters_own scopes spot.at names ss)) h)
+    let inner = function_scope spot.at names ss ∷ scopes in (
+      tt,
+      home_both (parameter_sites inner (in_function spot.at) names) sites
+          (home_parameters inner (in_function spot.at) spot.at (given_vars spot.at ss) names (parameters_own scopes spot.at names ss)) h,
+    )
 
 mutual
   unfolding expr_sites form_sites exprs_sites fields_sites perhaps_sites declarators_sites start_sites stmt_sites stmt_form_sites stmts_sites

@@ -89,8 +89,7 @@ fn copies(assigned: &IndexSet<u32>, place: &Seen, declared: Declared) -> bool
 {
     match place.what {
         What::Reads | What::Assigns => {
-            is_outer(assigned, place, declared)
-                && can_copy(assigned, declared, place.around.owner)
+            is_outer(assigned, place, declared) && can_copy(assigned, declared, place.around.owner)
         }
         _ => false,
     }
