@@ -1,8 +1,7 @@
 -- A block that keeps the `var`s of its own names shows the rules what one with all of them shows.
-use Rattle.std.proofs.Common.{◌≡◌, ℕ, List, [], ◌∷◌, ◌++◌, ◌∙◌, ap, refl, Bool, true, false, not, ◌&&◌, ◌||◌, nat_lt, Option, Some, None, if◌then◌else◌}
+use Rattle.std.proofs.Common.{◌≡◌, ℕ, List, [], ◌∷◌, ◌++◌, ◌∙◌, ap, refl, Bool, true, false, not, ◌&&◌, ◌||◌, nat_lt, if◌then◌else◌}
 use Rattle.std.specs.Prelude.{is_some, codes}
 use Rattle.js_tree.specs.declared.tree.Name.{Name}
-use Rattle.js_names.specs.declared.place.Declared.{Declared}
 use Rattle.js_names.specs.declared.place.Role.TheVariants.{Let, Var}
 use Rattle.js_names.specs.declared.place.What.{What}
 use Rattle.js_names.specs.declared.place.What.TheVariants.{Declares, Reads, Assigns, Misuses, LoopWord, Returns, Begins}

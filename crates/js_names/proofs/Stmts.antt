@@ -14,7 +14,6 @@ use Rattle.js_tree.specs.declared.tree.Start.{Start, Nothing, Declares, Evaluate
 use Rattle.js_tree.specs.declared.tree.StmtForm.{StmtForm, Empty, Block, Declaration, Expression, If, IfElse, While, For, ForOf, Break, Continue, ReturnNothing, Return}
 use Rattle.js_tree.specs.declared.tree.Item.{Item}
 use Rattle.js_tree.specs.declared.tree.Item.TheVariants.{Statement, Function}
-use Rattle.js_tree.specs.Plain as p
 use Rattle.js_tree.specs.Plain.{PlainDeclarator, PlainStmtForm, declarators_of}
 use Rattle.js_tree.specs.Views.{plain_start, plain_stmt, plain_stmt_form, plain_declarator}
 use Rattle.js_tree.proofs.Statements.{declarator_is, nothing_is, start_is, evaluates_is, with_form, empty_is, expression_is, declaration_is, block_is, if_is, if_else_is, while_is, for_is, for_of_is, break_is, continue_is, return_nothing_is, return_is}

@@ -13,7 +13,7 @@ use Rattle.js_tree.specs.Plain.{PlainExpr, PlainForm, PlainExprs, PlainFields, P
 use Rattle.js_tree.specs.Nesting.{is_object}
 use Rattle.js_program.specs.declared.builtin.Builtin.{Builtin}
 use Rattle.js_program.specs.PlainProgram as n
-use Rattle.js_program.specs.PlainProgram.{PlainNodeForm, PlainNode, PlainBody, PlainContent, PlainProgram, PlainDeclared, parts_of, content_parts}
+use Rattle.js_program.specs.PlainProgram.{PlainNodeForm, PlainNode, PlainBody, PlainContent, PlainProgram, parts_of, content_parts}
 use Rattle.js_program.specs.Sound.{variables_declared, all_below, variable_fits, function_fits, form_fits, found_fits, node_fits, body_fits}
 use Rattle.js_names.specs.declared.place.Around.{Around}
 use Rattle.js_names.specs.declared.place.Role.TheVariants.{Parameter}

@@ -1,5 +1,5 @@
 -- The plain form of each tree.
-use Rattle.std.specs.Prelude.{ℕ, List, [], ◌∷◌, Option, Some, None, map}
+use Rattle.std.specs.Prelude.{List, Option, Some, None, map}
 use Rattle.js_tree.specs.declared.tree.Form.{Form, Form-F, fold-Form}
 use Rattle.js_tree.specs.declared.tree.Start.{Start, Start-F, fold-Start}
 use Rattle.js_tree.specs.declared.tree.StmtForm.{StmtForm, StmtForm-F, fold-StmtForm}
