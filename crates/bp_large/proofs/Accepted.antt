@@ -6,6 +6,7 @@ use Rattle.std.proofs.lemmas.Str.{IsUtf8-from_ascii, IsAscii-append}
 use Rattle.std.proofs.lemmas.Fmt.{IsAscii-decimal, length-decimal-le}
 use Rattle.std.proofs.lemmas.Bool.Decides.{nat_tests}
 use Rattle.js_grammar.proofs.Unique.{tree_found}
+use Rattle.js_lexer.specs.declared.limits.TheConstants.{MOST_BYTES}
 use Rattle.js_lexer.specs.Cut.{Cut}
 use Rattle.bp_script.specs.declared.refusal.Refusal.{Refusal}
 use Rattle.bp_script.specs.Programs.{IsRefused}
@@ -37,7 +38,7 @@ utf8 n h =
 few : (n : ℕ) → n < 4294967296 → length (decimal n) ≤ 10
 few n h = length-decimal-le 10 n (omega arith) (omega arith) (omega arith)
 
-short : (n : ℕ) → n < 4294967296 → length (large.front ++ decimal n ++ large.rest) ≤ 1048576
+short : (n : ℕ) → n < 4294967296 → length (large.front ++ decimal n ++ large.rest) ≤ MOST_BYTES
 short n h =
     let a = length-append large.front (decimal n ++ large.rest) in
     let b = length-append (decimal n) large.rest in
@@ -46,7 +47,7 @@ short n h =
     omega (arith, a, b, c, d, few n h)
 
 -- the bytes with these digits
-of_cut : (bytes : List ℕ) (size v : ℕ) → length bytes ≤ 1048576 → IsUtf8 bytes → Cut bytes (tokens size v) → 0 < size → size ≤ 10 → IsAccepted bytes
+of_cut : (bytes : List ℕ) (size v : ℕ) → length bytes ≤ MOST_BYTES → IsUtf8 bytes → Cut bytes (tokens size v) → 0 < size → size ≤ 10 → IsAccepted bytes
 of_cut bytes size v s u c some h =
     let r = reads size some h v in
     let t = tree_found 20 (tokens size v) r.tree [] r.is in (
@@ -69,7 +70,7 @@ accepted n h =
     let f : length (d.first ∷ d.more) ≤ 10 = subst (λ (ds : List ℕ). length ds ≤ 10) d.is (few n h) in
     subst (λ (ds : List ℕ). IsAccepted (large.front ++ ds ++ large.rest)) (sym d.is)
     (of_cut (large.front ++ (d.first ∷ d.more) ++ large.rest) (length (d.first ∷ d.more)) d.amount
-    (subst (λ (ds : List ℕ). length (large.front ++ ds ++ large.rest) ≤ 1048576) d.is (short n h)) (subst (λ (ds : List ℕ). IsUtf8 (large.front ++ ds ++ large.rest)) d.is (utf8 n h))
+    (subst (λ (ds : List ℕ). length (large.front ++ ds ++ large.rest) ≤ MOST_BYTES) d.is (short n h)) (subst (λ (ds : List ℕ). IsUtf8 (large.front ++ ds ++ large.rest)) d.is (utf8 n h))
     (cut d.first d.more d.amount d.number d.line) (omega arith) f)
 
 pub never_refused : (n : ℕ) (bytes : List ℕ) (refusal : Refusal) → bytes ≡ large_program n → n < 4294967296 → IsRefused bytes refusal → ⊥

@@ -3,6 +3,7 @@ use Rattle.std.proofs.Common.{◌≡◌, ℕ, false, List, refl, ap, sym, ◌∙
 use Rattle.js_lexer.specs.declared.token.Token.{Token}
 use Rattle.js_lexer.specs.declared.token.Flaw.{Flaw}
 use Rattle.js_lexer.proofs.Cutting.{one_cutting, never_both}
+use Rattle.js_tree.specs.declared.limits.TheConstants.{MOST_NESTING}
 use Rattle.js_tree.specs.Plain.{PlainItem}
 use Rattle.js_grammar.specs.Trees.{IsTree}
 use Rattle.js_grammar.specs.Unsupported.{first_unsupported}
@@ -22,7 +23,7 @@ same_tokens bytes a b h k = one_cutting bytes a b h.cut k.cut
 pub same_tree : (bytes : List ℕ) (a b : List PlainItem) → AreSpelled bytes a → AreSpelled bytes b → a ≡ b
 same_tree bytes a b h k =
     let same = same_tokens bytes h.tokens k.tokens h.cut k.cut in
-    let t : IsTree 200 k.tokens a = subst (λ (ts : List Token). IsTree 200 ts a) same h.spelled in
+    let t : IsTree MOST_NESTING k.tokens a = subst (λ (ts : List Token). IsTree MOST_NESTING ts a) same h.spelled in
     tree_once k.tokens a b t.spelled (k.spelled).spelled
 
 some_none : {A : Type 0} (x : A) → Some x ≡ None → ⊥
@@ -51,7 +52,7 @@ not_wrong bytes tree line Kind.Unsupported s (inr h) = no_refused bytes tree lin
 not_wrong bytes tree line Kind.Utf8 s h = h.1 ((s.spelled).cut).utf8
 not_wrong bytes tree line Kind.NoTree s h =
     let same = same_tokens bytes (s.spelled).tokens h.0 (s.spelled).cut h.1 in
-    h.3 tree (subst (λ (ts : List Token). IsTree 200 ts tree) same (s.spelled).spelled)
+    h.3 tree (subst (λ (ts : List Token). IsTree MOST_NESTING ts tree) same (s.spelled).spelled)
 not_wrong bytes tree line Kind.LoopWord s h = no_breach bytes tree (NameFault.LoopWord h.0) s h.1
 not_wrong bytes tree line Kind.ReturnPlace s h = no_breach bytes tree (NameFault.ReturnPlace h.0) s h.1
 not_wrong bytes tree line Kind.Slots s h = no_breach bytes tree (NameFault.Slots h.0) s h.1

@@ -1,11 +1,13 @@
 -- What the bytes of a program are.
 use Rattle.std.specs.Prelude.{ℕ, ◌≡◌, ◌≤◌, ◌<◌, ◌⊎◌, false, List, length, Some, None}
 use Rattle.std.specs.Str.{IsUtf8, IsValidUpTo}
+use Rattle.js_lexer.specs.declared.limits.TheConstants.{MOST_BYTES}
 use Rattle.js_lexer.specs.declared.token.Token.{Token}
 use Rattle.js_lexer.specs.declared.token.Flaw.{Flaw}
 use Rattle.js_lexer.specs.declared.token.Flaw.TheVariants as flaw
 use Rattle.js_lexer.specs.Gaps.{line_of}
 use Rattle.js_lexer.specs.Cut.{Cut, Refused}
+use Rattle.js_tree.specs.declared.limits.TheConstants.{MOST_NESTING}
 use Rattle.js_tree.specs.declared.tree.Name.{Name}
 use Rattle.js_tree.specs.declared.tree.Spot.{Spot}
 use Rattle.js_tree.specs.Plain.{PlainItem}
@@ -22,16 +24,16 @@ use Rattle.bp_script.specs.declared.refusal.Refusal.{Refusal}
 
 -- they are text, cut into these tokens
 pub record AreCut (bytes : List ℕ) (tokens : List Token) : Type 0 where
-  pub short : length bytes ≤ 1048576
+  pub short : length bytes ≤ MOST_BYTES
   pub utf8 : IsUtf8 bytes
   pub cut : Cut bytes tokens
 
--- none of the tokens is refused, and they spell this tree, with nesting at most 200
+-- none of the tokens is refused, and they spell this tree, which is not nested too deep
 pub record AreSpelled (bytes : List ℕ) (tree : List PlainItem) : Type 0 where
   pub tokens : List Token
   pub cut : AreCut bytes tokens
   pub supported : first_unsupported false tokens ≡ None
-  pub spelled : IsTree 200 tokens tree
+  pub spelled : IsTree MOST_NESTING tokens tree
 
 -- no rule of names is broken in it: the program is accepted
 pub record AreAccepted (bytes : List ℕ) (tree : List PlainItem) : Type 0 where
@@ -46,7 +48,7 @@ pub record IsProgram (bytes : List ℕ) (program : PlainProgram) : Type 0 where
 
 -- the first place that is no token has this flaw, on this line
 abbrev pub HasFlaw : List ℕ → Flaw → ℕ → Type 0
-HasFlaw bytes what line = (length bytes ≤ 1048576) × IsUtf8 bytes × ((place : ℕ) × Refused bytes what place × (line ≡ line_of bytes place))
+HasFlaw bytes what line = (length bytes ≤ MOST_BYTES) × IsUtf8 bytes × ((place : ℕ) × Refused bytes what place × (line ≡ line_of bytes place))
 
 -- a token is refused, the first on this line
 abbrev pub HasRefusedToken : List ℕ → ℕ → Type 0
@@ -54,11 +56,12 @@ HasRefusedToken bytes line = (tokens : List Token) × AreCut bytes tokens × (fi
 
 -- the first byte that is no part of UTF-8 stands on this line
 abbrev pub IsNoText : List ℕ → ℕ → Type 0
-IsNoText bytes line = (length bytes ≤ 1048576) × ¬ (IsUtf8 bytes) × ((place : ℕ) × IsValidUpTo bytes place × (line ≡ line_of bytes place))
+IsNoText bytes line = (length bytes ≤ MOST_BYTES) × ¬ (IsUtf8 bytes) × ((place : ℕ) × IsValidUpTo bytes place × (line ≡ line_of bytes place))
 
--- none of the tokens is refused, and they spell no tree of nesting at most 200; the line is that of one of them, or 1 where there is none
+-- none of the tokens is refused, and they spell no tree that is not nested too deep; the line is that of one of
+-- them, or 1 where there is none
 abbrev pub HasNoSpelling : List ℕ → ℕ → Type 0
-HasNoSpelling bytes line = (tokens : List Token) × AreCut bytes tokens × (first_unsupported false tokens ≡ None) × HasNoTree 200 tokens × IsLineIn tokens line
+HasNoSpelling bytes line = (tokens : List Token) × AreCut bytes tokens × (first_unsupported false tokens ≡ None) × HasNoTree MOST_NESTING tokens × IsLineIn tokens line
 
 -- they spell a tree whose first breach of a rule of names is this one
 abbrev pub HasNameFault : List ℕ → NameFault → Type 0
@@ -92,7 +95,7 @@ IsBroken bytes line rule text = (name : Name) × HasNameFault bytes (fault_of ru
 
 -- the bytes are refused so
 abbrev pub IsRefused : List ℕ → Refusal → Type 0
-IsRefused bytes Refusal.TooLong = 1048576 < length bytes
+IsRefused bytes Refusal.TooLong = MOST_BYTES < length bytes
 IsRefused bytes (Refusal.OnLine line kind) = IsWrong bytes line kind
 IsRefused bytes (Refusal.OfName line rule text) = IsBroken bytes line rule text
 

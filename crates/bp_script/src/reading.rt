@@ -1,5 +1,6 @@
 //! Bytes read as a program.
 ghost use Rattle.std.specs.Prelude.{◌≡◌, ◌≤◌, ◌<◌, length, IfOk, IfErr};
+ghost use Rattle.js_lexer.specs.declared.limits.TheConstants.{MOST_BYTES};
 ghost use Rattle.js_lexer.specs.Gaps.{line_of};
 ghost use Rattle.js_lexer.specs.Lexed.{IsRefusal};
 ghost use Rattle.js_tree.specs.Views.{plain_tree};
@@ -7,7 +8,7 @@ ghost use Rattle.bp_script.specs.Programs.{AreSpelled, IsProgram};
 ghost use Rattle.bp_script.specs.Faults.{IsScriptFault, fault_of_parse, fault_of_names, of_name, of_line};
 
 use crate::refusal::{Kind, Refusal, Rule};
-use js_lexer::{LexFault, lex, line_at};
+use js_lexer::{LexFault, MOST_BYTES, lex, line_at};
 use js_names::NameFault;
 use js_parser::{ParseFault, parse};
 use js_program::Program;
@@ -40,7 +41,7 @@ impl From<AllocError> for ScriptFault {
 
 /// What is wrong on the line of a place.
 fn on_line(bytes: &[u8], place: u32, kind: Kind) -> ScriptFault
-    requires size { length bytes.now ≤ 1048576 }
+    requires size { length bytes.now ≤ MOST_BYTES }
     requires within { place ≤ length bytes.now }
     ensures { result ≡ ScriptFault.Refused (Refusal.OnLine (line_of bytes.now place) kind) }
 {
@@ -49,7 +50,7 @@ fn on_line(bytes: &[u8], place: u32, kind: Kind) -> ScriptFault
 
 /// The refusal of bytes that are not cut into tokens.
 fn no_tokens(bytes: &[u8], fault: LexFault) -> ScriptFault
-    requires size { length bytes.now ≤ 1048576 }
+    requires size { length bytes.now ≤ MOST_BYTES }
     requires refusal { IsRefusal bytes.now fault }
     ensures { IsScriptFault bytes.now result }
 {
@@ -107,9 +108,9 @@ fn no_names(fault: NameFault) -> ScriptFault
     }
 }
 
-/// The tree that the bytes spell, where they are at most 1,048,576.
+/// The tree that the bytes spell, where they are not too many.
 fn tree_of(alloc: Global, bytes: &[u8]) -> Result<Tree, ScriptFault>
-    requires { length bytes.now ≤ 1048576 }
+    requires { length bytes.now ≤ MOST_BYTES }
     ensures tree { IfOk result (λ t. AreSpelled bytes.now (plain_tree t)) }
     ensures refused { IfErr result (IsScriptFault bytes.now) }
 {
@@ -128,7 +129,7 @@ fn short_tree_of(alloc: Global, bytes: &[u8]) -> Result<Tree, ScriptFault>
     ensures tree { IfOk result (λ t. AreSpelled bytes.now (plain_tree t)) }
     ensures refused { IfErr result (IsScriptFault bytes.now) }
 {
-    if bytes.len() > 1_048_576 {
+    if bytes.len() > MOST_BYTES {
         return Err(ScriptFault::Refused(Refusal::TooLong));
     }
     tree_of(alloc, bytes)

@@ -20,13 +20,13 @@ pub enum Kind {
     Unsupported,
     /// A byte that is no part of UTF-8.
     Utf8,
-    /// The tokens spell no tree of nesting at most 200.
+    /// The tokens spell no tree, or one that is nested too deep.
     NoTree,
     /// `break` or `continue` outside a loop of its function.
     LoopWord,
     /// `return` at the top level.
     ReturnPlace,
-    /// More than 256 slots in a function.
+    /// More slots in a function than it may have.
     Slots,
 }
 
@@ -80,7 +80,7 @@ impl Rule {
 /// Why a program is refused.
 #[derive(Debug, Drop)]
 pub enum Refusal {
-    /// It has more than 1,048,576 bytes.
+    /// It has more bytes than a program may have.
     TooLong,
     /// What is wrong, on this line from 1.
     OnLine(u32, Kind),

@@ -4,6 +4,7 @@ use Rattle.std.proofs.lemmas.List.{length-take}
 use Rattle.std.proofs.lemmas.Bool.{eqb-true}
 use Rattle.std.proofs.lemmas.Bool.Decides.{nat_tests}
 use Rattle.bp_tables.specs.Found.{front_in}
+use Rattle.js_lexer.specs.declared.numbers.TheConstants.{GREATEST}
 use Rattle.js_lexer.specs.declared.token.Kind.TheVariants.{Number}
 use Rattle.js_lexer.specs.declared.token.Flaw.TheVariants.{Character, NumberRange, Unsupported}
 use Rattle.js_lexer.specs.Bytes.{begins, is_digit, is_name_start, is_name_byte, is_quote}
@@ -93,7 +94,7 @@ before-fits bs (c ∷ rest) base value size h =
 
 number-fits : (b : ℕ) (bs : List ℕ) → is_digit b ≡ true → PieceFits (b ∷ bs) (number (b ∷ bs))
 number-fits b bs h =
-    if-fits (b ∷ bs) (nat_lt 9_007_199_254_740_991 (number_value (b ∷ bs))) (refused NumberRange 0) _ (λ _. omega arith)
+    if-fits (b ∷ bs) (nat_lt GREATEST (number_value (b ∷ bs))) (refused NumberRange 0) _ (λ _. omega arith)
     (λ _. before-fits (b ∷ bs) (drop (number_size (b ∷ bs)) (b ∷ bs)) (base_of (b ∷ bs)) (number_value (b ∷ bs)) (number_size (b ∷ bs)) (number-sized b bs h))
 
 -- literals

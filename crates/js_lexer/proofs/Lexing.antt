@@ -1,6 +1,7 @@
 -- The loop over a text.
 use Rattle.std.proofs.Common.{◌≡◌, ℕ, ◌+◌, ◌<◌, ◌≤◌, Bool, List, length, drop, subst, arith, length-drop, Result, Ok, Err}
 use Rattle.std.specs.Str.{IsUtf8}
+use Rattle.js_lexer.specs.declared.limits.TheConstants.{MOST_BYTES}
 use Rattle.js_lexer.specs.declared.token.Found.{Found}
 use Rattle.js_lexer.specs.declared.token.Found.TheVariants.{Gap, Token}
 use Rattle.js_lexer.specs.declared.token.Stop.{Stop}
@@ -40,7 +41,7 @@ refusal_of bytes Escape place u h = (u, h)
 refusal_of bytes NumberRange place u h = (u, h)
 refusal_of bytes Unsupported place u h = (u, h)
 
-pub step_fits : (bytes : List ℕ) (place : ℕ) (stop : Stop) → length bytes ≤ 1_048_576 → IsStep bytes place (Err stop) → StopFits place stop
+pub step_fits : (bytes : List ℕ) (place : ℕ) (stop : Stop) → length bytes ≤ MOST_BYTES → IsStep bytes place (Err stop) → StopFits place stop
 step_fits bytes place (Refused' flaw n) l h = omega (arith, h.within)
 step_fits bytes place Memory l h = tt
 

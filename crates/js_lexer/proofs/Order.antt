@@ -3,6 +3,7 @@ use Rattle.std.proofs.Common.{◌≡◌, ℕ, zero, suc, ◌+◌, ◌-◌, ◌�
 use Rattle.std.specs.Str.{bytes_eq}
 use Rattle.std.proofs.lemmas.Bool.Decides.{nat_tests}
 use Rattle.bp_tables.specs.Found.{find_in, front_in}
+use Rattle.js_lexer.specs.declared.numbers.TheConstants.{GREATEST}
 use Rattle.js_lexer.specs.declared.token.Kind.{Kind}
 use Rattle.js_lexer.specs.declared.token.Kind.TheVariants.{Name, Word, Number}
 use Rattle.js_lexer.specs.declared.token.Flaw.TheVariants.{Character, NumberRange, Unsupported}
@@ -61,7 +62,7 @@ front-spelled [] = tt
 front-spelled (b ∷ bs) =
     if-spelled (b ∷ bs) (is_name_start b) _ _ (name-spelled (is_some (find_in all_words (take (name_size (b ∷ bs)) (b ∷ bs)))) (take (name_size (b ∷ bs)) (b ∷ bs))) (
     if-spelled (b ∷ bs) (is_digit b) _ _
-    (if-spelled (b ∷ bs) (nat_lt 9_007_199_254_740_991 (number_value (b ∷ bs))) (refused NumberRange 0) _ tt
+    (if-spelled (b ∷ bs) (nat_lt GREATEST (number_value (b ∷ bs))) (refused NumberRange 0) _ tt
     (before-spelled (b ∷ bs) (drop (number_size (b ∷ bs)) (b ∷ bs)) (base_of (b ∷ bs)) (number_value (b ∷ bs)) (number_size (b ∷ bs)))) (
     if-spelled (b ∷ bs) (is_quote b) _ _ (quoted-spelled (b ∷ bs) (literal b 0 bs)) (
     if-spelled (b ∷ bs) (nat_eq b 96 || is_dot_digit b bs) (refused Unsupported 0) (gap_or_mark (b ∷ bs)) tt (

@@ -76,9 +76,6 @@ plain_within quote (b ∷ bs) = plain_by_within quote b bs (nat_eq b quote) (is_
 pub plain_boundary : (quote : ℕ) (bs : List ℕ) → quote < 128 → IsCharBoundary bs (plain_size quote bs)
 plain_boundary quote bs h = (plain_within quote bs, λ l k. let m : slice_index bs (plain_size quote bs) < 128 = plain_at quote bs h l in absurd (omega arith))
 
-pub plain_some : (quote b : ℕ) (rest bs : List ℕ) → rest ≡ b ∷ bs → nat_eq b quote ≡ false → is_break b ≡ false → nat_eq b 92 ≡ false → 0 < plain_size quote rest
-plain_some quote b rest bs e h k l = rw (e, h, k, l) (omega arith)
-
 -- a run is read
 pub read_run : (quote n : ℕ) (rest before after : List ℕ) → quote < 128 → n ≡ plain_size quote rest → 0 < n → after ≡ before ++ take n rest →
     Read quote rest before after n

@@ -1,6 +1,8 @@
 -- What stands in front of a text.
 use Rattle.std.specs.Prelude.{ℕ, zero, suc, ◌+◌, nat_eq, nat_lt, Bool, false, ◌&&◌, ◌||◌, List, [], ◌∷◌, take, drop, codes, pos, Option, Some, None, is_some, if◌then◌else◌}
+use Rattle.js_lexer.specs.Characters.{dot, backtick}
 use Rattle.bp_tables.specs.Found.{find_in, front_in}
+use Rattle.js_lexer.specs.declared.numbers.TheConstants.{GREATEST}
 use Rattle.js_lexer.specs.declared.token.Kind.{Kind}
 use Rattle.js_lexer.specs.declared.token.Kind.TheVariants.{Name, Word, Number, Words, Mark}
 use Rattle.js_lexer.specs.declared.token.Flaw.{Flaw}
@@ -36,7 +38,7 @@ number_before base value size (b ∷ bs) =
 
 abbrev pub number : List ℕ → Piece
 number bs =
-    if nat_lt 9_007_199_254_740_991 (number_value bs) then refused NumberRange 0
+    if nat_lt GREATEST (number_value bs) then refused NumberRange 0
     else number_before (base_of bs) (number_value bs) (number_size bs) (drop (number_size bs) bs)
 
 -- a text literal, with its first quote
@@ -57,7 +59,7 @@ mark bs (Some n) = token (Mark (take n bs)) n
 -- a dot and a digit
 abbrev pub is_dot_digit : ℕ → List ℕ → Bool
 is_dot_digit b [] = false
-is_dot_digit b (d ∷ bs) = nat_eq b 46 && is_digit d
+is_dot_digit b (d ∷ bs) = nat_eq b dot && is_digit d
 
 -- a gap of so many bytes, where there are any
 abbrev pub gap_or : ℕ → Piece → Piece
@@ -81,4 +83,4 @@ front (b ∷ bs) =
     if is_name_start b then token (name_kind (take (name_size (b ∷ bs)) (b ∷ bs))) (name_size (b ∷ bs)) else (
     if is_digit b then number (b ∷ bs) else (
     if is_quote b then quoted (literal b 0 bs) else (
-    if nat_eq b 96 || is_dot_digit b bs then refused Unsupported 0 else gap_or_mark (b ∷ bs))))
+    if nat_eq b backtick || is_dot_digit b bs then refused Unsupported 0 else gap_or_mark (b ∷ bs))))

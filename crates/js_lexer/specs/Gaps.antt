@@ -1,5 +1,6 @@
 -- What stands between tokens: white space, line ends, comments; and how lines are counted.
 use Rattle.std.specs.Prelude.{ℕ, zero, suc, ◌+◌, nat_eq, Bool, not, ◌&&◌, ◌||◌, List, [], ◌∷◌, codes, Option, Some, None, option_map, if◌then◌else◌}
+use Rattle.js_lexer.specs.Characters.{tab, line_feed, vertical_tab, form_feed, carriage_return, space}
 use Rattle.js_lexer.specs.Bytes.{begins}
 
 -- U+2028 and U+2029
@@ -9,20 +10,23 @@ begins_separator bs = begins bs (226 ∷ (128 ∷ (168 ∷ []))) || begins bs (2
 -- how many bytes of white space stand in front: tab, vertical tab, form feed and space are 1, U+00A0 is 2, U+FEFF is 3
 abbrev pub blank_size : List ℕ → ℕ
 blank_size bs =
-    if begins bs (9 ∷ []) || begins bs (11 ∷ []) || begins bs (12 ∷ []) || begins bs (32 ∷ []) then 1 else (
+    if begins bs (tab ∷ []) || begins bs (vertical_tab ∷ []) || begins bs (form_feed ∷ []) || begins bs (space ∷ []) then 1 else (
     if begins bs (194 ∷ (160 ∷ [])) then 2 else (
     if begins bs (239 ∷ (187 ∷ (191 ∷ []))) then 3 else 0))
 
 -- how many bytes the line end in front has: CR LF is one line end
 abbrev pub line_end_size : List ℕ → ℕ
 line_end_size bs =
-    if begins bs (13 ∷ (10 ∷ [])) then 2 else (
-    if begins bs (10 ∷ []) || begins bs (13 ∷ []) then 1 else (
+    if begins bs (carriage_return ∷ (line_feed ∷ [])) then 2 else (
+    if begins bs (line_feed ∷ []) || begins bs (carriage_return ∷ []) then 1 else (
     if begins_separator bs then 3 else 0))
 
 -- a line ends with what stands in front; CR LF counts once, at its LF
 abbrev pub ends_line : List ℕ → Bool
-ends_line bs = begins bs (10 ∷ []) || (begins bs (13 ∷ []) && not (begins bs (13 ∷ (10 ∷ [])))) || begins_separator bs
+ends_line bs =
+    begins bs (line_feed ∷ [])
+    || (begins bs (carriage_return ∷ []) && not (begins bs (carriage_return ∷ (line_feed ∷ []))))
+    || begins_separator bs
 
 -- how many lines end in so many bytes
 abbrev pub line_ends : ℕ → List ℕ → ℕ

@@ -1,3 +1,4 @@
+pub mod Characters
 pub mod Bytes
 pub mod Gaps
 pub mod Words

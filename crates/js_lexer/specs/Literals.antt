@@ -1,12 +1,13 @@
 -- Text literals and their escapes.
 use Rattle.std.specs.Prelude.{ℕ, zero, suc, ◌+◌, ◌-◌, ◌*◌, nat_eq, nat_le, nat_lt, Bool, ◌&&◌, ◌||◌, List, [], ◌∷◌, ◌++◌, drop, encode_utf8, Option, Some, None, if◌then◌else◌}
+use Rattle.js_lexer.specs.Characters.{backspace, tab, line_feed, vertical_tab, form_feed, carriage_return, digit_0, backslash, small_b, small_f, small_n, small_r, small_t, small_u, small_v, small_x, open_brace, close_brace}
 use Rattle.js_lexer.specs.Bytes.{begins, is_digit}
 use Rattle.js_lexer.specs.Gaps.{begins_separator}
 use Rattle.js_lexer.specs.Numbers.{digit_value, is_digit_of, digits_size, digits_value}
 
 -- LF and CR, which don't stand inside
 abbrev pub is_break : ℕ → Bool
-is_break b = nat_eq b 10 || nat_eq b 13
+is_break b = nat_eq b line_feed || nat_eq b carriage_return
 
 -- the number that two and four hexadecimal digits in front are
 abbrev pub two_digits : List ℕ → Option ℕ
@@ -50,7 +51,7 @@ low_escape high None = None
 low_escape high (Some low) = if is_low low then character 11 (paired high low) else None
 
 abbrev pub second_half : ℕ → List ℕ → Option Escape
-second_half high bs = if begins bs (92 ∷ (117 ∷ [])) then low_escape high (four_digits (drop 2 bs)) else None
+second_half high bs = if begins bs (backslash ∷ (small_u ∷ [])) then low_escape high (four_digits (drop 2 bs)) else None
 
 -- behind u: four digits
 abbrev pub unit_escape : List ℕ → Option ℕ → Option Escape
@@ -60,12 +61,12 @@ unit_escape bs (Some n) = if is_high n then second_half n (drop 4 bs) else chara
 -- behind u{ : at least one digit, and }
 abbrev pub braced_escape : List ℕ → Option Escape
 braced_escape bs =
-    if nat_lt 0 (digits_size 16 bs) && begins (drop (digits_size 16 bs) bs) (125 ∷ []) then character (3 + digits_size 16 bs) (digits_value 16 0 bs)
+    if nat_lt 0 (digits_size 16 bs) && begins (drop (digits_size 16 bs) bs) (close_brace ∷ []) then character (3 + digits_size 16 bs) (digits_value 16 0 bs)
     else None
 
 -- behind u
 abbrev pub unicode_escape : List ℕ → Option Escape
-unicode_escape bs = if begins bs (123 ∷ []) then braced_escape (drop 1 bs) else unit_escape bs (four_digits bs)
+unicode_escape bs = if begins bs (open_brace ∷ []) then braced_escape (drop 1 bs) else unit_escape bs (four_digits bs)
 
 -- behind 0: no digit
 abbrev pub zero_escape : List ℕ → Option Escape
@@ -81,12 +82,12 @@ plain_escape b bs =
 -- what a letter stands for
 abbrev pub letter : ℕ → Option ℕ
 letter b =
-    if nat_eq b 110 then Some 10 else (
-    if nat_eq b 116 then Some 9 else (
-    if nat_eq b 114 then Some 13 else (
-    if nat_eq b 98 then Some 8 else (
-    if nat_eq b 102 then Some 12 else (
-    if nat_eq b 118 then Some 11 else None)))))
+    if nat_eq b small_n then Some line_feed else (
+    if nat_eq b small_t then Some tab else (
+    if nat_eq b small_r then Some carriage_return else (
+    if nat_eq b small_b then Some backspace else (
+    if nat_eq b small_f then Some form_feed else (
+    if nat_eq b small_v then Some vertical_tab else None)))))
 
 abbrev pub letter_or : Option ℕ → Option Escape → Option Escape
 letter_or None other = other
@@ -97,14 +98,14 @@ abbrev pub escape : List ℕ → Option Escape
 escape [] = None
 escape (b ∷ bs) =
     letter_or (letter b) (
-    if nat_eq b 48 then zero_escape bs else (
-    if nat_eq b 120 then byte_escape (two_digits bs) else (
-    if nat_eq b 117 then unicode_escape bs else plain_escape b bs)))
+    if nat_eq b digit_0 then zero_escape bs else (
+    if nat_eq b small_x then byte_escape (two_digits bs) else (
+    if nat_eq b small_u then unicode_escape bs else plain_escape b bs)))
 
 -- how many bytes that stand for themselves stand in front
 abbrev pub plain_size : ℕ → List ℕ → ℕ
 plain_size quote [] = 0
-plain_size quote (b ∷ bs) = if nat_eq b quote then 0 else (if is_break b then 0 else (if nat_eq b 92 then 0 else suc (plain_size quote bs)))
+plain_size quote (b ∷ bs) = if nat_eq b quote then 0 else (if is_break b then 0 else (if nat_eq b backslash then 0 else suc (plain_size quote bs)))
 
 -- a literal from behind its quote on: its content, and how many bytes it has with the other quote; without that quote; or how many bytes
 -- stand before the backslash of a wrong escape
@@ -136,6 +137,6 @@ literal quote skip [] = unclosed
 literal quote zero (b ∷ bs) =
     if nat_eq b quote then closed [] 1 else (
     if is_break b then unclosed else (
-    if nat_eq b 92 then if_escape bs (escape bs) (λ e. behind (spelled e.1) 1 (literal quote e.0 bs))
+    if nat_eq b backslash then if_escape bs (escape bs) (λ e. behind (spelled e.1) 1 (literal quote e.0 bs))
     else behind (b ∷ []) 1 (literal quote 0 bs)))
 literal quote (suc skip) (b ∷ bs) = behind [] 1 (literal quote skip bs)

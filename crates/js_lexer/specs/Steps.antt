@@ -1,5 +1,5 @@
 -- What a step of the lexer answers, within the text.
-use Rattle.std.specs.Prelude.{ℕ, ◌≡◌, ◌≤◌, ◌<◌, ◌+◌, List, length, drop, ⊤, Result, Ok, Err}
+use Rattle.std.specs.Prelude.{ℕ, ◌≡◌, ◌≤◌, ◌<◌, ◌+◌, ◌^◌, List, length, drop, ⊤, Result, Ok, Err}
 use Rattle.js_lexer.specs.declared.token.Kind.{Kind}
 use Rattle.js_lexer.specs.declared.token.Flaw.{Flaw}
 use Rattle.js_lexer.specs.declared.token.Found.{Found}
@@ -38,5 +38,5 @@ fault_of_stop place (Refused flaw n) = fault_of flaw (place + n)
 fault_of_stop place Memory = Memory'
 
 abbrev pub StopFits : ℕ → Stop → Type 0
-StopFits place (Refused flaw n) = place + n < 4_294_967_296
+StopFits place (Refused flaw n) = place + n < 2 ^ 32
 StopFits place Memory = ⊤

@@ -1,6 +1,7 @@
 //! What stands in front of a text.
-ghost use Rattle.std.specs.Prelude.{◌≡◌, ◌≤◌, ◌<◌, ◌+◌, ◌^◌, ◌∷◌, IsTrue, IfOk, List, ℕ, length, take, drop};
+ghost use Rattle.std.specs.Prelude.{◌≡◌, ◌≤◌, ◌<◌, ◌+◌, ◌∷◌, IsTrue, IfOk, List, ℕ, length, take, drop};
 ghost use Rattle.std.specs.Str.{IsUtf8};
+ghost use Rattle.js_lexer.specs.declared.limits.TheConstants.{MOST_BYTES};
 ghost use Rattle.js_lexer.specs.Bytes.{is_name_start, is_quote};
 ghost use Rattle.js_lexer.specs.Found.{IsFound};
 ghost use Rattle.js_lexer.specs.Front.{Piece, gap, token, name_size, name_kind, block, mark, quoted, is_dot_digit, front, comment_or_mark, gap_or_mark};
@@ -14,7 +15,7 @@ use crate::gaps::{blank_front, close_front, line_end_front, line_front};
 use crate::literals::literal_front;
 use crate::numbers::number_front;
 use crate::token::{Flaw, Found, Kind, Stop};
-use bp_tables::Table;
+use crate::words::{MarkTable, WordTable};
 use js_data::{Memory, Text};
 use std::alloc::Global;
 
@@ -43,10 +44,10 @@ fn name_extent(bytes: &[u8]) -> usize
 }
 
 /// The word or name in front.
-
-pub fn name_front(alloc: Global, words: &Table<39>, bytes: &[u8]) -> Result<Found, Stop>
+pub fn name_front(alloc: Global, words: &WordTable, bytes: &[u8]) -> Result<Found, Stop>
     requires { words.now ≡ all_words }
-    ensures { IsFound (token (name_kind (take (name_size bytes.now) bytes.now)) (name_size bytes.now)) result }
+    ensures { IsFound (token (name_kind (take (name_size bytes.now) bytes.now))
+        (name_size bytes.now)) result }
 {
     let size = name_extent(bytes);
     let text = text_of(alloc, &bytes[..size])?;
@@ -59,8 +60,7 @@ pub fn name_front(alloc: Global, words: &Table<39>, bytes: &[u8]) -> Result<Foun
 }
 
 /// The longest mark in front.
-
-pub fn mark_front(alloc: Global, marks: &Table<57>, bytes: &[u8]) -> Result<Found, Stop>
+pub fn mark_front(alloc: Global, marks: &MarkTable, bytes: &[u8]) -> Result<Found, Stop>
     requires { marks.now ≡ all_marks }
     ensures { IsFound (mark bytes.now (front_in all_marks bytes.now)) result }
 {
@@ -80,7 +80,7 @@ pub fn block_front(bytes: &[u8]) -> Result<Found, Stop>
     }
 }
 
-fn comment_or_mark_front(alloc: Global, marks: &Table<57>, bytes: &[u8]) -> Result<Found, Stop>
+fn comment_or_mark_front(alloc: Global, marks: &MarkTable, bytes: &[u8]) -> Result<Found, Stop>
     requires { marks.now ≡ all_marks }
     ensures { IsFound (comment_or_mark bytes.now) result }
 {
@@ -94,7 +94,7 @@ fn comment_or_mark_front(alloc: Global, marks: &Table<57>, bytes: &[u8]) -> Resu
 }
 
 #[tactic(auto, using(crate::proofs::Fronts::gap_or_some, crate::proofs::Fronts::gap_or_none))]
-fn gap_or_mark_front(alloc: Global, marks: &Table<57>, bytes: &[u8]) -> Result<Found, Stop>
+fn gap_or_mark_front(alloc: Global, marks: &MarkTable, bytes: &[u8]) -> Result<Found, Stop>
     requires { marks.now ≡ all_marks }
     ensures { IsFound (gap_or_mark bytes.now) result }
 {
@@ -127,7 +127,7 @@ fn quoted_front(
     place: usize,
 ) -> Result<Found, Stop>
     requires quote { IsTrue (is_quote quote) }
-    requires size { length text.now < 2 ^ 32 }
+    requires size { length text.now ≤ MOST_BYTES }
     requires place { drop place text.now ≡ quote ∷ behind.now }
     ensures { IsFound (quoted (literal quote 0 behind.now)) result }
 {
@@ -137,15 +137,15 @@ fn quoted_front(
 /// What stands in front of the bytes, which are the text's from the place on.
 pub fn front_at(
     alloc: Global,
-    words: &Table<39>,
-    marks: &Table<57>,
+    words: &WordTable,
+    marks: &MarkTable,
     bytes: &[u8],
     text: &str,
     place: usize,
 ) -> Result<Found, Stop>
     requires words { words.now ≡ all_words }
     requires marks { marks.now ≡ all_marks }
-    requires size { length text.now < 2 ^ 32 }
+    requires size { length text.now ≤ MOST_BYTES }
     requires place { bytes.now ≡ drop place text.now }
     requires some { 0 < length bytes.now }
     ensures { IsFound (front bytes.now) result }

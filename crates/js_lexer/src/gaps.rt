@@ -1,5 +1,6 @@
 //! White space, line ends and comments, and the count of lines.
 ghost use Rattle.std.specs.Prelude.{◌≡◌, ◌+◌, ◌≤◌, length, IsTrue, IfSome};
+ghost use Rattle.js_lexer.specs.declared.limits.TheConstants.{MOST_BYTES};
 ghost use Rattle.js_lexer.specs.Gaps.{begins_separator, blank_size, line_end_size, ends_line, line_ends, line_of, size_of_line, size_to_close};
 
 /// Whether U+2028 or U+2029 stands in front.
@@ -59,7 +60,7 @@ fn is_line_ended(bytes: &[u8]) -> bool
 /// How many lines end in the first n bytes.
 #[tactic(auto, using(crate::proofs::Lines::line_ends_step, crate::proofs::Lines::line_ends_none))]
 pub fn line_ends_in(bytes: &[u8], n: usize) -> u32
-    requires { length bytes.now ≤ 1048576 }
+    requires { length bytes.now ≤ MOST_BYTES }
     ensures ends { result ≡ line_ends n bytes.now }
     ensures few { result ≤ n }
 {
@@ -83,7 +84,7 @@ pub fn line_ends_in(bytes: &[u8], n: usize) -> u32
 ///
 /// A line end that begins before the place counts; CR LF counts at its LF.
 pub fn line_at(bytes: &[u8], place: u32) -> u32
-    requires size { length bytes.now ≤ 1048576 }
+    requires size { length bytes.now ≤ MOST_BYTES }
     requires within { place ≤ length bytes.now }
     ensures { result ≡ line_of bytes.now place }
 {

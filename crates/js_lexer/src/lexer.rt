@@ -1,6 +1,7 @@
 //! A program's bytes cut into tokens.
 ghost use Rattle.std.specs.Prelude.{◌≡◌, ◌≤◌, ◌<◌, ◌+◌, ◌^◌, IfOk, IfErr, ◌||◌, nat_lt, length, drop};
 ghost use Rattle.std.specs.Str.{IsUtf8};
+ghost use Rattle.js_lexer.specs.declared.limits.TheConstants.{MOST_BYTES};
 ghost use Rattle.js_lexer.specs.Cut.{Cut};
 ghost use Rattle.js_lexer.specs.Words.{all_words, all_marks};
 ghost use Rattle.js_lexer.specs.Lexed.{IsRefusal, fault_of};
@@ -10,8 +11,7 @@ ghost use Rattle.js_lexer.specs.Laws.{OneCutting, OneRefusal, NeverBoth, CutOrRe
 use crate::front::front_at;
 use crate::gaps::line_ends_in;
 use crate::token::{Flaw, Found, LexFault, Stop, Token};
-use crate::words::{mark_table, word_table};
-use bp_tables::Table;
+use crate::words::{MarkTable, WordTable, mark_table, word_table};
 use std::alloc::Global;
 
 /// The refusal of a flaw at a byte's place.
@@ -36,7 +36,7 @@ pub fn fault_at(flaw: Flaw, place: usize) -> LexFault
 /// `Utf8` exactly where the bytes are no UTF-8. Each other refusal, apart from want of memory, exactly
 /// where the first place that is no token is refused so.
 pub fn lex(alloc: Global, bytes: &[u8]) -> Result<Vec<Token>, LexFault>
-    requires { length bytes.now ≤ 1048576 }
+    requires { length bytes.now ≤ MOST_BYTES }
     ensures utf8 { IfOk result (λ _. IsUtf8 bytes.now) }
     ensures tokens { IfOk result (λ tokens. Cut bytes.now tokens.items) }
     ensures refused { IfErr result (IsRefusal bytes.now) }
@@ -67,14 +67,14 @@ fn rest_of(text: &str, place: usize) -> &[u8]
 
 fn step_at(
     alloc: Global,
-    words: &Table<39>,
-    marks: &Table<57>,
+    words: &WordTable,
+    marks: &MarkTable,
     text: &str,
     place: usize,
 ) -> Result<Found, Stop>
     requires words { words.now ≡ all_words }
     requires marks { marks.now ≡ all_marks }
-    requires size { length text.now ≤ 1048576 }
+    requires size { length text.now ≤ MOST_BYTES }
     requires place { place < length text.now }
     ensures { IsStep text.now place result }
 {
@@ -89,7 +89,7 @@ fn is_broken(new_line: bool, ends: u32) -> bool
 
 #[tactic(auto, using(crate::proofs::Cutting::so_far_start, crate::proofs::Cutting::so_far_end))]
 fn lex_text(alloc: Global, text: &str) -> Result<Vec<Token>, LexFault>
-    requires { length text.now ≤ 1048576 }
+    requires { length text.now ≤ MOST_BYTES }
     ensures tokens { IfOk result (λ tokens. Cut text.now tokens.items) }
     ensures refused { IfErr result (IsRefusal text.now) }
 {

@@ -5,6 +5,7 @@ mod bytes;
 mod front;
 mod gaps;
 mod lexer;
+mod limits;
 mod literals;
 mod numbers;
 mod token;
@@ -12,5 +13,6 @@ mod words;
 
 pub use gaps::line_at;
 pub use lexer::{lex, one_cutting, tokens_in_order};
+pub use limits::MOST_BYTES;
 pub use token::{Flaw, Kind, LexFault, Token};
-pub use words::{mark_table, word_table};
+pub use words::{MarkTable, WordTable, mark_table, word_table};

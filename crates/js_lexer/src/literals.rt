@@ -1,5 +1,6 @@
 //! Text literals and their escapes.
-ghost use Rattle.std.specs.Prelude.{◌≡◌, ◌≤◌, ◌<◌, ◌+◌, ◌*◌, ◌^◌, ◌++◌, IsTrue, OnOk, nat_eq, false, List, ℕ, ◌∷◌, drop, length, IfSome, IfOk, string_bytes};
+ghost use Rattle.std.specs.Prelude.{◌≡◌, ◌≤◌, ◌<◌, ◌+◌, ◌*◌, ◌++◌, IsTrue, OnOk, nat_eq, false, List, ℕ, ◌∷◌, drop, length, IfSome, IfOk, string_bytes};
+ghost use Rattle.js_lexer.specs.declared.limits.TheConstants.{MOST_BYTES};
 ghost use Rattle.js_lexer.specs.Found.{IsFound, IsRead, stuck};
 ghost use Rattle.js_lexer.specs.Bytes.{is_quote};
 ghost use Rattle.js_lexer.specs.Front.{quoted, refused};
@@ -208,7 +209,8 @@ fn plain_front(quote: u8, bytes: &[u8]) -> usize
 fn run_into(content: &mut String, quote: u8, rest: &str, size: usize) -> Result<usize, Stop>
     requires quote { quote < 128 }
     requires some { 0 < plain_size quote rest.now }
-    ensures { IsRead quote rest.now (string_bytes content.old) (string_bytes content.new) size result }
+    ensures { IsRead quote rest.now (string_bytes content.old) (string_bytes content.new)
+        size result }
 {
     let n = plain_front(quote, rest.as_bytes());
     let (run, _) = rest.split_at(n);
@@ -217,7 +219,8 @@ fn run_into(content: &mut String, quote: u8, rest: &str, size: usize) -> Result<
 }
 
 fn spell_into(content: &mut String, character: Option<char>) -> Result<(), Memory>
-    ensures { OnOk result (string_bytes content.new ≡ string_bytes content.old ++ spelled character) }
+    ensures { OnOk result (string_bytes content.new
+        ≡ string_bytes content.old ++ spelled character) }
 {
     match character {
         Some(c) => content.push(c),
@@ -226,7 +229,7 @@ fn spell_into(content: &mut String, character: Option<char>) -> Result<(), Memor
 }
 
 fn stop_at(bytes: &[u8], size: usize) -> (Flaw, usize)
-    requires { size < 2 ^ 63 }
+    requires { size ≤ MOST_BYTES }
     ensures { refused result.0 result.1 ≡ stuck size bytes.now }
 {
     match bytes {
@@ -239,8 +242,9 @@ fn stop_at(bytes: &[u8], size: usize) -> (Flaw, usize)
 fn escape_into(content: &mut String, quote: u8, rest: &str, size: usize) -> Result<usize, Stop>
     requires quote { nat_eq 92 quote ≡ false }
     requires backslash { rest.now ≡ 92 ∷ drop 1 rest.now }
-    requires size { size < 2 ^ 62 }
-    ensures { IsRead quote rest.now (string_bytes content.old) (string_bytes content.new) size result }
+    requires size { size ≤ MOST_BYTES }
+    ensures { IsRead quote rest.now (string_bytes content.old) (string_bytes content.new)
+        size result }
 {
     let behind = &rest.as_bytes()[1..];
     let Some((skipped, character)) = escape_front(behind) else {
@@ -254,7 +258,7 @@ fn escape_into(content: &mut String, quote: u8, rest: &str, size: usize) -> Resu
 /// The text literal from behind its quote: its content, and how many bytes it has with both quotes.
 pub fn literal_front(alloc: Global, quote: u8, text: &str) -> Result<Found, Stop>
     requires quote { IsTrue (is_quote quote) }
-    requires size { length text.now < 2 ^ 32 }
+    requires size { length text.now ≤ MOST_BYTES }
     ensures { IsFound (quoted (literal quote 0 text.now)) result }
 {
     let mut content = String::new(alloc);

@@ -54,7 +54,8 @@ pub fn digits_front(base: u8, bytes: &[u8]) -> usize
 pub fn digits_number(base: u8, bytes: &[u8]) -> Option<u64>
     requires base { base ≤ 16 }
     requires some { 1 ≤ base }
-    ensures { MatchOption result (GREATEST < digits_value base 0 bytes.now) (λ n. (n ≡ digits_value base 0 bytes.now) × (n ≤ GREATEST)) }
+    ensures { MatchOption result (GREATEST < digits_value base 0 bytes.now)
+        (λ n. (n ≡ digits_value base 0 bytes.now) × (n ≤ GREATEST)) }
 {
     let mut value: u64 = 0;
     for b in bytes {
@@ -120,7 +121,8 @@ fn number_amount(bytes: &[u8], base: u8) -> Option<u64>
     requires room { base ≢ 10 → 2 ≤ length bytes.now }
     requires within { base ≤ 16 }
     requires some { 1 ≤ base }
-    ensures { MatchOption result (GREATEST < number_value bytes.now) (λ n. (n ≡ number_value bytes.now) × (n ≤ GREATEST)) }
+    ensures { MatchOption result (GREATEST < number_value bytes.now)
+        (λ n. (n ≡ number_value bytes.now) × (n ≤ GREATEST)) }
 {
     if base != 10 {
         return digits_number(base, &bytes[2..]);

@@ -59,7 +59,7 @@ pub enum LexFault {
     /// A wrong escape; its backslash.
     #[error("a wrong escape, at byte {0}")]
     Escape(u32),
-    /// A number above 9007199254740991; its first byte.
+    /// A number above the greatest; its first byte.
     #[error("a number out of range, at byte {0}")]
     NumberRange(u32),
     /// A token that the language leaves out; its first byte.

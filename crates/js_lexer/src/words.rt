@@ -5,8 +5,14 @@ ghost use Rattle.js_lexer.specs.Words.{words, unsupported_words, all_marks};
 
 use bp_tables::{Table, rows};
 
+/// The words, each with its number.
+pub type WordTable = Table<39>;
+
+/// The marks, each with its number.
+pub type MarkTable = Table<57>;
+
 /// The words of the language, numbered from 1, and the words that it refuses, numbered from 101.
-pub fn word_table() -> Table<39>
+pub fn word_table() -> WordTable
     ensures rows { result ≡ words ++ unsupported_words }
     ensures distinct { IsTrue (have_distinct_keys (words ++ unsupported_words)) }
 {
@@ -55,7 +61,7 @@ pub fn word_table() -> Table<39>
 
 /// The marks, numbered from 1, and the marks that the language refuses, numbered from 101, the longest
 /// first.
-pub fn mark_table() -> Table<57>
+pub fn mark_table() -> MarkTable
     ensures rows { result ≡ all_marks }
     ensures distinct { IsTrue (have_distinct_keys all_marks) }
 {

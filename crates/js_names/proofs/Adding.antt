@@ -15,10 +15,14 @@ use Rattle.js_names.specs.declared.place.Role.{Role}
 use Rattle.js_tree.specs.declared.tree.Item.{Item}
 use Rattle.js_tree.specs.declared.tree.Tree.{Tree}
 use Rattle.js_tree.specs.Views.{plain_item, plain_tree}
-use Rattle.js_names.specs.Scopes.{Scope, top, each_role, program_scope}
-use Rattle.js_names.specs.Sites.{Site, site, begin_site, item_sites, program_spot, program_sites}
+use Rattle.js_names.specs.Entries.{top}
+use Rattle.js_names.specs.Scopes.{Scope, each_role, program_scope}
+use Rattle.js_names.specs.Spots.{program_spot}
+use Rattle.js_names.specs.Sites.{Site, site, begin_site, item_sites, program_sites}
 use Rattle.js_names.specs.Places.{Place, see, places}
-use Rattle.js_names.specs.Views.{Adds, Enters, EntersEach, Entered, Left, tree_item_sites, place_of, scope_of, scopes_of, scopes_onto, scopes_in}
+use Rattle.js_names.specs.Views.{place_of, scope_of, scopes_of, scopes_onto}
+use Rattle.js_names.specs.Walks.{Adds, Enters, EntersEach, Entered, Left, scopes_in}
+use Rattle.js_names.specs.TreeSites.{tree_item_sites}
 use Rattle.js_names.proofs.Taking.{flat_map_take}
 use Rattle.js_names.proofs.Stacks.{scopes_push}
 

@@ -7,7 +7,7 @@ use Rattle.js_tree.specs.declared.tree.AssignOp.{AssignOp}
 use Rattle.js_tree.specs.declared.tree.Step.{Step}
 use Rattle.js_tree.specs.declared.tree.Fix.{Fix}
 use Rattle.js_tree.specs.declared.tree.DeclareKind.{DeclareKind}
-use Rattle.js_tree.specs.Plain.{PlainExpr, PlainForm, at, number, use_of, member, call, update, assign, arrow_value, function, absent, present, declarator_in, no_declarators, declared, PlainStmt, on, block, declaration, expression, while_of, for_of_three, for_each, break_of, continue_of, return_nothing, return_of, PlainItem, statement, function_of, exprs_of, stmts_of}
+use Rattle.js_tree.specs.Plain.{PlainExpr, PlainForm, at, number, use_of, member, call, update, assign, arrow_value, function, absent, present, declarator_in, no_declarators, declared, PlainStmt, on, block, declaration, expression, while_of, for_of_three, for_each, break_of, return_nothing, PlainItem, statement, function_of, exprs_of, stmts_of}
 
 abbrev pub spot : ℕ → Spot
 spot p = record { at = p; line = 1 }
@@ -61,14 +61,8 @@ loop s = on 1 (while_of one s)
 abbrev pub breaks : ℕ → PlainStmt
 breaks p = on 1 (break_of (spot p))
 
-abbrev pub goes_on : ℕ → PlainStmt
-goes_on p = on 1 (continue_of (spot p))
-
 abbrev pub returns : ℕ → PlainStmt
 returns p = on 1 (return_nothing (spot p))
-
-abbrev pub returns_value : ℕ → PlainExpr → PlainStmt
-returns_value p e = on 1 (return_of (spot p) e)
 
 -- `for (KIND name = 1; ; ) body`
 abbrev pub counted : DeclareKind → List ℕ → ℕ → PlainStmt → PlainStmt
@@ -77,9 +71,6 @@ counted kind text p s = on 1 (for_of_three (declared 1 kind (declarator_in (name
 -- `for (KIND name of list) body`
 abbrev pub each : DeclareKind → List ℕ → ℕ → PlainExpr → PlainStmt → PlainStmt
 each kind text p e s = on 1 (for_each kind (name text p) e s)
-
-abbrev pub item : PlainStmt → PlainItem
-item s = statement s
 
 abbrev pub items : List PlainStmt → List PlainItem
 items [] = []

@@ -1,5 +1,5 @@
 -- The places of each form of an expression, from those of its parts.
-use Rattle.std.proofs.Common.{◌≡◌, ℕ, rules, List, [], ◌∷◌, ◌++◌, ◌∙◌, ap, refl, sym, map, append_assoc, if◌then◌else◌}
+use Rattle.std.proofs.Common.{◌≡◌, ℕ, List, [], ◌∷◌, ◌++◌, ◌∙◌, ap, refl, sym, map, append_assoc, if◌then◌else◌}
 use Rattle.std.specs.Prelude.{Vec, is_some}
 use Rattle.std.specs.List.{flat_map}
 use Rattle.std.specs.declared.alloc.Global.{Global}
@@ -11,24 +11,19 @@ use Rattle.js_tree.specs.declared.tree.Step.{Step}
 use Rattle.js_tree.specs.declared.tree.Fix.{Fix}
 use Rattle.js_tree.specs.declared.tree.Operator.{Operator}
 use Rattle.js_tree.specs.declared.tree.AssignOp.{AssignOp}
-use Rattle.js_tree.specs.declared.tree.Expr.{Expr, fold_out-Expr}
-use Rattle.js_tree.specs.declared.tree.Field.{Field, fold_out-Field}
+use Rattle.js_tree.specs.declared.tree.Expr.{Expr}
+use Rattle.js_tree.specs.declared.tree.Field.{Field}
 use Rattle.js_tree.specs.declared.tree.Stmt.{Stmt}
-use Rattle.js_tree.specs.declared.tree.Form.{Form, Number, Words, Truth, Null, Use, List as ListOf, Fields, Member, Index, Call, Unary, Update, Binary, Conditional, Assign, ArrowValue, ArrowBlock, Function, fold-roll-Form}
-use Rattle.js_tree.specs.declared.tree.Form.TheVariants.{rolls-Number, rolls-Words, rolls-Truth, rolls-Null, rolls-Use, rolls-List, rolls-Fields, rolls-Member, rolls-Index, rolls-Call, rolls-Unary, rolls-Update, rolls-Binary, rolls-Conditional, rolls-Assign, rolls-ArrowValue, rolls-ArrowBlock, rolls-Function}
+use Rattle.js_tree.specs.declared.tree.Form.{Form, Number, Words, Truth, Null, Use, List as ListOf, Fields, Member, Index, Call, Unary, Update, Binary, Conditional, Assign, ArrowValue, ArrowBlock, Function}
 use Rattle.js_tree.specs.Plain as p
-use Rattle.js_tree.specs.Plain.{PlainExpr, PlainForm, PlainField, PlainDeclarator, PlainPerhaps, PlainStart, PlainStmt, PlainStmtForm, exprs_of, fields_of, declarators_of, stmts_of}
-use Rattle.js_tree.specs.Views.{plain_expr, plain_form, plain_field, plain_stmt, form_step, start_step, stmt_form_step, declarator_step, expr_step, field_step, stmt_step}
+use Rattle.js_tree.specs.Plain.{PlainForm, PlainField, exprs_of, fields_of, stmts_of}
+use Rattle.js_tree.specs.Views.{plain_expr, plain_form, plain_field, plain_stmt}
+use Rattle.js_tree.proofs.Forms.{expr_is, field_is, number_is, words_is, truth_is, null_is, use_is, list_is, fields_is, member_is, index_is, call_is, unary_is, update_is, binary_is, conditional_is, assign_is, arrow_value_is, arrow_block_is, function_is}
 use Rattle.js_names.specs.declared.place.Around.{Around}
 use Rattle.js_names.specs.Scopes.{Scope, function_scope}
-use Rattle.js_names.specs.Sites.{Site, expr_sites, form_sites, exprs_sites, fields_sites, stmts_sites, read_site, assign_site, member_sites, object_of, value_builtin, called_builtin, begin_site, parameter_sites, in_function}
-use Rattle.js_names.specs.Views.{tree_sites, field_sites, tree_stmt_sites, arrow_sites, body_sites}
-
-pub expr_is : (e : Expr) → plain_expr e ≡ p.at e.parens e.line (plain_form e.form)
-expr_is e = search (rules, fold_out-Expr)
-
-field_is : (f : Field) → plain_field f ≡ record { key = f.key; value = plain_expr f.value }
-field_is f = search (rules, fold_out-Field)
+use Rattle.js_names.specs.Forms.{object_of, value_builtin, called_builtin}
+use Rattle.js_names.specs.Sites.{Site, expr_sites, form_sites, exprs_sites, fields_sites, stmts_sites, read_site, assign_site, member_sites, begin_site, parameter_sites, in_function}
+use Rattle.js_names.specs.TreeSites.{tree_sites, field_sites, tree_stmt_sites, arrow_sites, body_sites}
 
 -- the places of an expression are those of its form
 form_at : (s : List Scope) (a : Around) (e : Expr) (f : Form) (g : PlainForm) → e.form ≡ f → plain_form f ≡ g → form_sites s a g ≡ tree_sites s a e
@@ -53,106 +48,61 @@ unfolding stmts_sites
 stmts_flat s a [] = refl
 stmts_flat s a (x ∷ xs) = ap (λ z. tree_stmt_sites s a x ++ z) (stmts_flat s a xs)
 
-number_is : (n : _) → plain_form (Number n) ≡ p.number n
-number_is n = ap plain_form (sym (rolls-Number n)) ∙ fold-roll-Form PlainForm PlainStart PlainStmtForm PlainDeclarator PlainExpr PlainField PlainStmt form_step start_step stmt_form_step declarator_step expr_step field_step stmt_step _
-
 pub number_sites : (s : List Scope) (a : Around) (e : Expr) (n : _) → e.form ≡ (Number n) → [] ≡ tree_sites s a e
 unfolding form_sites
 number_sites s a e n h = form_at s a e (Number n) _ h (number_is n)
-
-words_is : (n : _) → plain_form (Words n) ≡ p.words n
-words_is n = ap plain_form (sym (rolls-Words n)) ∙ fold-roll-Form PlainForm PlainStart PlainStmtForm PlainDeclarator PlainExpr PlainField PlainStmt form_step start_step stmt_form_step declarator_step expr_step field_step stmt_step _
 
 pub words_sites : (s : List Scope) (a : Around) (e : Expr) (n : _) → e.form ≡ (Words n) → [] ≡ tree_sites s a e
 unfolding form_sites
 words_sites s a e n h = form_at s a e (Words n) _ h (words_is n)
 
-truth_is : (n : _) → plain_form (Truth n) ≡ p.truth n
-truth_is n = ap plain_form (sym (rolls-Truth n)) ∙ fold-roll-Form PlainForm PlainStart PlainStmtForm PlainDeclarator PlainExpr PlainField PlainStmt form_step start_step stmt_form_step declarator_step expr_step field_step stmt_step _
-
 pub truth_sites : (s : List Scope) (a : Around) (e : Expr) (n : _) → e.form ≡ (Truth n) → [] ≡ tree_sites s a e
 unfolding form_sites
 truth_sites s a e n h = form_at s a e (Truth n) _ h (truth_is n)
-
-null_is : plain_form Null ≡ p.null
-null_is = ap plain_form (sym rolls-Null) ∙ fold-roll-Form PlainForm PlainStart PlainStmtForm PlainDeclarator PlainExpr PlainField PlainStmt form_step start_step stmt_form_step declarator_step expr_step field_step stmt_step _
 
 pub null_sites : (s : List Scope) (a : Around) (e : Expr) → e.form ≡ Null → [] ≡ tree_sites s a e
 unfolding form_sites
 null_sites s a e h = form_at s a e Null _ h (null_is)
 
-pub use_is : (n : Name) → plain_form (Use n) ≡ p.use_of n
-use_is n = ap plain_form (sym (rolls-Use n)) ∙ fold-roll-Form PlainForm PlainStart PlainStmtForm PlainDeclarator PlainExpr PlainField PlainStmt form_step start_step stmt_form_step declarator_step expr_step field_step stmt_step _
-
 pub use_sites : (s : List Scope) (a : Around) (e : Expr) (n : Name) → e.form ≡ (Use n) → read_site s a n ≡ tree_sites s a e
 unfolding form_sites
 use_sites s a e n h = form_at s a e (Use n) _ h (use_is n)
-
-list_is : (v : Vec Expr Global) → plain_form (ListOf v) ≡ p.list (exprs_of (map plain_expr v.items))
-list_is v = ap plain_form (sym (rolls-List v)) ∙ fold-roll-Form PlainForm PlainStart PlainStmtForm PlainDeclarator PlainExpr PlainField PlainStmt form_step start_step stmt_form_step declarator_step expr_step field_step stmt_step _
 
 pub list_sites : (s : List Scope) (a : Around) (e : Expr) (v : Vec Expr Global) (xs : List Expr) → e.form ≡ (ListOf v) → xs ≡ v.items → flat_map (tree_sites s a) xs ≡ tree_sites s a e
 unfolding form_sites
 list_sites s a e v xs h h1 = ap (flat_map (tree_sites s a)) h1 ∙ (exprs_flat s a v.items ∙ form_at s a e (ListOf v) _ h (list_is v))
 
-fields_is : (v : Vec Field Global) → plain_form (Fields v) ≡ p.fields (fields_of (map plain_field v.items))
-fields_is v = ap plain_form (sym (rolls-Fields v)) ∙ fold-roll-Form PlainForm PlainStart PlainStmtForm PlainDeclarator PlainExpr PlainField PlainStmt form_step start_step stmt_form_step declarator_step expr_step field_step stmt_step _
-
 pub in_fields_sites : (s : List Scope) (a : Around) (e : Expr) (v : Vec Field Global) (xs : List Field) → e.form ≡ (Fields v) → xs ≡ v.items → flat_map (field_sites s a) xs ≡ tree_sites s a e
 unfolding form_sites
 in_fields_sites s a e v xs h h1 = ap (flat_map (field_sites s a)) h1 ∙ (fields_flat s a v.items ∙ form_at s a e (Fields v) _ h (fields_is v))
-
-pub member_is : (b : Box Expr Global) (w : List ℕ) → plain_form (Member b w) ≡ p.member (plain_expr b.value) w
-member_is b w = ap plain_form (sym (rolls-Member b w)) ∙ fold-roll-Form PlainForm PlainStart PlainStmtForm PlainDeclarator PlainExpr PlainField PlainStmt form_step start_step stmt_form_step declarator_step expr_step field_step stmt_step _
 
 pub in_member_sites : (s : List Scope) (a : Around) (e : Expr) (b : Box Expr Global) (w : List ℕ) (x : Expr) → e.form ≡ (Member b w) → x ≡ b.value → member_sites s a (object_of (plain_expr x)) w (is_some (value_builtin (plain_expr x) w)) (tree_sites s a x) ≡ tree_sites s a e
 unfolding form_sites
 in_member_sites s a e b w x h h1 = ap (λ z. member_sites s a (object_of (plain_expr z)) w (is_some (value_builtin (plain_expr z) w)) (tree_sites s a z)) h1 ∙ form_at s a e (Member b w) _ h (member_is b w)
 
-pub index_is : (b : Box Expr Global) (d : Box Expr Global) → plain_form (Index b d) ≡ p.index (plain_expr b.value) (plain_expr d.value)
-index_is b d = ap plain_form (sym (rolls-Index b d)) ∙ fold-roll-Form PlainForm PlainStart PlainStmtForm PlainDeclarator PlainExpr PlainField PlainStmt form_step start_step stmt_form_step declarator_step expr_step field_step stmt_step _
-
 pub index_sites : (s : List Scope) (a : Around) (e : Expr) (b : Box Expr Global) (d : Box Expr Global) (x : Expr) (y : Expr) → e.form ≡ (Index b d) → x ≡ b.value → y ≡ d.value → tree_sites s a x ++ tree_sites s a y ≡ tree_sites s a e
 unfolding form_sites
 index_sites s a e b d x y h h1 h2 = ap (λ z. tree_sites s a z ++ tree_sites s a y) h1 ∙ (ap (λ z. tree_sites s a b.value ++ tree_sites s a z) h2 ∙ form_at s a e (Index b d) _ h (index_is b d))
-
-pub call_is : (b : Box Expr Global) (v : Vec Expr Global) → plain_form (Call b v) ≡ p.call (plain_expr b.value) (exprs_of (map plain_expr v.items))
-call_is b v = ap plain_form (sym (rolls-Call b v)) ∙ fold-roll-Form PlainForm PlainStart PlainStmtForm PlainDeclarator PlainExpr PlainField PlainStmt form_step start_step stmt_form_step declarator_step expr_step field_step stmt_step _
 
 pub call_sites : (s : List Scope) (a : Around) (e : Expr) (b : Box Expr Global) (v : Vec Expr Global) (x : Expr) (xs : List Expr) → e.form ≡ (Call b v) → x ≡ b.value → xs ≡ v.items → (if is_some (called_builtin (plain_expr x)) then [] else tree_sites s a x) ++ flat_map (tree_sites s a) xs ≡ tree_sites s a e
 unfolding form_sites
 call_sites s a e b v x xs h h1 h2 = ap (λ z. (if is_some (called_builtin (plain_expr z)) then [] else tree_sites s a z) ++ flat_map (tree_sites s a) xs) h1 ∙ (ap (λ z. (if is_some (called_builtin (plain_expr b.value)) then [] else tree_sites s a b.value) ++ z) (ap (flat_map (tree_sites s a)) h2 ∙ exprs_flat s a v.items) ∙ form_at s a e (Call b v) _ h (call_is b v))
 
-unary_is : (k : Sign) (b : Box Expr Global) → plain_form (Unary k b) ≡ p.unary k (plain_expr b.value)
-unary_is k b = ap plain_form (sym (rolls-Unary k b)) ∙ fold-roll-Form PlainForm PlainStart PlainStmtForm PlainDeclarator PlainExpr PlainField PlainStmt form_step start_step stmt_form_step declarator_step expr_step field_step stmt_step _
-
 pub unary_sites : (s : List Scope) (a : Around) (e : Expr) (k : Sign) (b : Box Expr Global) (x : Expr) → e.form ≡ (Unary k b) → x ≡ b.value → tree_sites s a x ≡ tree_sites s a e
 unfolding form_sites
 unary_sites s a e k b x h h1 = ap (tree_sites s a) h1 ∙ form_at s a e (Unary k b) _ h (unary_is k b)
-
-update_is : (k : Step) (f : Fix) (n : Name) → plain_form (Update k f n) ≡ p.update k f n
-update_is k f n = ap plain_form (sym (rolls-Update k f n)) ∙ fold-roll-Form PlainForm PlainStart PlainStmtForm PlainDeclarator PlainExpr PlainField PlainStmt form_step start_step stmt_form_step declarator_step expr_step field_step stmt_step _
 
 pub update_sites : (s : List Scope) (a : Around) (e : Expr) (k : Step) (f : Fix) (n : Name) → e.form ≡ (Update k f n) → assign_site s a n ≡ tree_sites s a e
 unfolding form_sites
 update_sites s a e k f n h = form_at s a e (Update k f n) _ h (update_is k f n)
 
-pub binary_is : (k : Operator) (b : Box Expr Global) (d : Box Expr Global) → plain_form (Binary k b d) ≡ p.binary k (plain_expr b.value) (plain_expr d.value)
-binary_is k b d = ap plain_form (sym (rolls-Binary k b d)) ∙ fold-roll-Form PlainForm PlainStart PlainStmtForm PlainDeclarator PlainExpr PlainField PlainStmt form_step start_step stmt_form_step declarator_step expr_step field_step stmt_step _
-
 pub binary_sites : (s : List Scope) (a : Around) (e : Expr) (k : Operator) (b : Box Expr Global) (d : Box Expr Global) (x : Expr) (y : Expr) → e.form ≡ (Binary k b d) → x ≡ b.value → y ≡ d.value → tree_sites s a x ++ tree_sites s a y ≡ tree_sites s a e
 unfolding form_sites
 binary_sites s a e k b d x y h h1 h2 = ap (λ z. tree_sites s a z ++ tree_sites s a y) h1 ∙ (ap (λ z. tree_sites s a b.value ++ tree_sites s a z) h2 ∙ form_at s a e (Binary k b d) _ h (binary_is k b d))
 
-pub conditional_is : (b : Box Expr Global) (d : Box Expr Global) (f : Box Expr Global) → plain_form (Conditional b d f) ≡ p.conditional (plain_expr b.value) (plain_expr d.value) (plain_expr f.value)
-conditional_is b d f = ap plain_form (sym (rolls-Conditional b d f)) ∙ fold-roll-Form PlainForm PlainStart PlainStmtForm PlainDeclarator PlainExpr PlainField PlainStmt form_step start_step stmt_form_step declarator_step expr_step field_step stmt_step _
-
 pub conditional_sites : (s : List Scope) (a : Around) (e : Expr) (b : Box Expr Global) (d : Box Expr Global) (f : Box Expr Global) (x : Expr) (y : Expr) (w : Expr) → e.form ≡ (Conditional b d f) → x ≡ b.value → y ≡ d.value → w ≡ f.value → tree_sites s a x ++ (tree_sites s a y ++ tree_sites s a w) ≡ tree_sites s a e
 unfolding form_sites
 conditional_sites s a e b d f x y w h h1 h2 h3 = ap (λ z. tree_sites s a z ++ (tree_sites s a y ++ tree_sites s a w)) h1 ∙ (ap (λ z. tree_sites s a b.value ++ (tree_sites s a z ++ tree_sites s a w)) h2 ∙ (ap (λ z. tree_sites s a b.value ++ (tree_sites s a d.value ++ tree_sites s a z)) h3 ∙ form_at s a e (Conditional b d f) _ h (conditional_is b d f)))
-
-pub assign_is : (k : AssignOp) (n : Name) (b : Box Expr Global) → plain_form (Assign k n b) ≡ p.assign k n (plain_expr b.value)
-assign_is k n b = ap plain_form (sym (rolls-Assign k n b)) ∙ fold-roll-Form PlainForm PlainStart PlainStmtForm PlainDeclarator PlainExpr PlainField PlainStmt form_step start_step stmt_form_step declarator_step expr_step field_step stmt_step _
 
 pub assign_sites : (s : List Scope) (a : Around) (e : Expr) (k : AssignOp) (n : Name) (b : Box Expr Global) (x : Expr) → e.form ≡ (Assign k n b) → x ≡ b.value → assign_site s a n ++ tree_sites s a x ≡ tree_sites s a e
 unfolding form_sites
@@ -170,9 +120,6 @@ arrow_is s k ns x =
     let inner = function_scope k.at ns (stmts_of []) ∷ s in
     head_first (begin_site inner k.at k) (parameter_sites inner (in_function k.at) ns) (tree_sites inner (in_function k.at) x)
 
-pub arrow_value_is : (k : Spot) (n : Vec Name Global) (b : Box Expr Global) → plain_form (ArrowValue k n b) ≡ p.arrow_value k n.items (plain_expr b.value)
-arrow_value_is k n b = ap plain_form (sym (rolls-ArrowValue k n b)) ∙ fold-roll-Form PlainForm PlainStart PlainStmtForm PlainDeclarator PlainExpr PlainField PlainStmt form_step start_step stmt_form_step declarator_step expr_step field_step stmt_step _
-
 pub arrow_value_sites : (s : List Scope) (a : Around) (e : Expr) (k : Spot) (n : Vec Name Global) (b : Box Expr Global) (ns : List Name) (x : Expr) → e.form ≡ (ArrowValue k n b) → ns ≡ n.items → x ≡ b.value → arrow_sites s k ns x ≡ tree_sites s a e
 unfolding form_sites
 arrow_value_sites s a e k n b ns x h h1 h2 = ap (λ z. arrow_sites s k z x) h1 ∙ (ap (λ z. arrow_sites s k n.items z) h2 ∙ (arrow_is s k n.items b.value ∙ form_at s a e (ArrowValue k n b) _ h (arrow_value_is k n b)))
@@ -188,15 +135,9 @@ body_is s k ns ss =
     head_first (begin_site inner k.at k) (parameter_sites inner (in_function k.at) ns) (flat_map (tree_stmt_sites inner (in_function k.at)) ss)
     ∙ ap (λ z. begin_site inner k.at k ++ (parameter_sites inner (in_function k.at) ns ++ z)) (stmts_flat inner (in_function k.at) ss)
 
-pub arrow_block_is : (k : Spot) (n : Vec Name Global) (v : Vec Stmt Global) → plain_form (ArrowBlock k n v) ≡ p.arrow_block k n.items (stmts_of (map plain_stmt v.items))
-arrow_block_is k n v = ap plain_form (sym (rolls-ArrowBlock k n v)) ∙ fold-roll-Form PlainForm PlainStart PlainStmtForm PlainDeclarator PlainExpr PlainField PlainStmt form_step start_step stmt_form_step declarator_step expr_step field_step stmt_step _
-
 pub arrow_block_sites : (s : List Scope) (a : Around) (e : Expr) (k : Spot) (n : Vec Name Global) (v : Vec Stmt Global) (ns : List Name) (ss : List Stmt) → e.form ≡ (ArrowBlock k n v) → ns ≡ n.items → ss ≡ v.items → body_sites s k ns ss ≡ tree_sites s a e
 unfolding form_sites
 arrow_block_sites s a e k n v ns ss h h1 h2 = ap (λ z. body_sites s k z ss) h1 ∙ (ap (λ z. body_sites s k n.items z) h2 ∙ (body_is s k n.items v.items ∙ form_at s a e (ArrowBlock k n v) _ h (arrow_block_is k n v)))
-
-pub function_is : (k : Spot) (n : Vec Name Global) (v : Vec Stmt Global) → plain_form (Function k n v) ≡ p.function k n.items (stmts_of (map plain_stmt v.items))
-function_is k n v = ap plain_form (sym (rolls-Function k n v)) ∙ fold-roll-Form PlainForm PlainStart PlainStmtForm PlainDeclarator PlainExpr PlainField PlainStmt form_step start_step stmt_form_step declarator_step expr_step field_step stmt_step _
 
 pub function_sites : (s : List Scope) (a : Around) (e : Expr) (k : Spot) (n : Vec Name Global) (v : Vec Stmt Global) (ns : List Name) (ss : List Stmt) → e.form ≡ (Function k n v) → ns ≡ n.items → ss ≡ v.items → body_sites s k ns ss ≡ tree_sites s a e
 unfolding form_sites

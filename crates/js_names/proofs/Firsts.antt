@@ -7,7 +7,8 @@ use Rattle.js_tree.specs.Plain.{PlainItem}
 use Rattle.js_names.specs.Places.{Place, places}
 use Rattle.js_names.specs.Slots.{assigned_in, slots_of, slot_count}
 use Rattle.js_names.specs.Rules.{fault_at, sooner, soonest, name_fault}
-use Rattle.js_names.specs.Views.{Sets, held_in, place_of}
+use Rattle.js_names.specs.Views.{place_of}
+use Rattle.js_names.specs.Held.{Sets, held_in}
 
 pub soonest_more : (F : Place → Option NameFault) (xs : List Seen) (i : ℕ) (x : Seen) (a b fault all : Option NameFault) → i < length xs → x ≡ get_or xs i x → fault ≡ F (place_of x) → b ≡ sooner a fault
     → fold (λ f p. sooner f (F p)) a (map place_of (drop i xs)) ≡ all → fold (λ f p. sooner f (F p)) b (map place_of (drop (i + 1) xs)) ≡ all

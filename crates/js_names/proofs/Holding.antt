@@ -7,14 +7,16 @@ use Rattle.js_names.specs.declared.place.Seen.{Seen}
 use Rattle.js_names.specs.declared.place.Declared.{Declared}
 use Rattle.js_names.specs.Places.{Place}
 use Rattle.js_names.specs.Slots.{Holding, hold, held_by, holds_all, inside, is_among, joins, copies, captures_of, holdings, slots_of, captures, captures_in, parameter_in, variable_in, var_in, vars_of}
-use Rattle.js_names.specs.Views.{Sets, keys_of, held_in, Holds, place_of}
+use Rattle.js_names.specs.Views.{place_of}
+use Rattle.js_names.specs.Held.{Sets, keys_of, held_in, Holds}
 use Rattle.js_names.proofs.Taking.{flat_map_take}
 
-held_by-append : (q : ℕ) (xs ys : List Holding) → held_by q (xs ++ ys) ≡ held_by q xs ++ held_by q ys
-held_by-append q [] ys = refl
-held_by-append q (x ∷ xs) ys =
+-- what a function holds by two lists
+pub held-append : (q : ℕ) (xs ys : List Holding) → held_by q (xs ++ ys) ≡ held_by q xs ++ held_by q ys
+held-append q [] ys = refl
+held-append q (x ∷ xs) ys =
     elim (nat_eq x.function q) as (λ b. (if b then x.variable ∷ held_by q (xs ++ ys) else held_by q (xs ++ ys)) ≡ (if b then x.variable ∷ held_by q xs else held_by q xs) ++ held_by q ys)
-    [ true ↦ ap (λ z. x.variable ∷ z) (held_by-append q xs ys) | false ↦ held_by-append q xs ys ]
+    [ true ↦ ap (λ z. x.variable ∷ z) (held-append q xs ys) | false ↦ held-append q xs ys ]
 
 fold-both : (h xs ys : List ℕ) → fold joins h (xs ++ ys) ≡ fold joins (fold joins h xs) ys
 fold-both h [] ys = refl
@@ -23,7 +25,7 @@ fold-both h (x ∷ xs) ys = fold-both (joins h x) xs ys
 -- a map that took in two lists in turn took in both
 pub holds_both : (a b c : Sets) (xs ys : List Holding) → Holds a b xs → Holds b c ys → Holds a c (xs ++ ys)
 holds_both a b c xs ys h k = λ q.
-    k q ∙ (ap (λ z. fold joins z (held_by q ys)) (h q) ∙ (sym (fold-both (held_in a q) (held_by q xs) (held_by q ys)) ∙ ap (fold joins (held_in a q)) (sym (held_by-append q xs ys))))
+    k q ∙ (ap (λ z. fold joins z (held_by q ys)) (h q) ∙ (sym (fold-both (held_in a q) (held_by q xs) (held_by q ys)) ∙ ap (fold joins (held_in a q)) (sym (held-append q xs ys))))
 
 -- one more turn of a loop
 pub holds_more : {X : Type 0} (f : X → List Holding) (xs : List X) (i : ℕ) (d x : X) (a b c : Sets) → i < length xs → x ≡ get_or xs i d
@@ -74,10 +76,10 @@ has_of : {X : Type 0} (q : ℕ) (f : X → List Holding) (xs : List X) (at : ℕ
 has_of q f [] at d x h l e = absurd (omega arith)
 has_of q f (y ∷ ys) zero d x h l e =
     subst (λ z. Has (fold joins h (held_by q (f z ++ flat_map f ys))) (held_by q (f x))) e
-    (subst (λ z. Has z (held_by q (f x))) (sym (ap (fold joins h) (held_by-append q (f x) (flat_map f ys)) ∙ fold-both h (held_by q (f x)) (held_by q (flat_map f ys))))
+    (subst (λ z. Has z (held_by q (f x))) (sym (ap (fold joins h) (held-append q (f x) (flat_map f ys)) ∙ fold-both h (held_by q (f x)) (held_by q (flat_map f ys))))
     (has_folded (fold joins h (held_by q (f x))) (held_by q (f x)) (held_by q (flat_map f ys)) (has_all h (held_by q (f x)))))
 has_of q f (y ∷ ys) (suc n) d x h l e =
-    subst (λ z. Has z (held_by q (f x))) (sym (ap (fold joins h) (held_by-append q (f y) (flat_map f ys)) ∙ fold-both h (held_by q (f y)) (held_by q (flat_map f ys))))
+    subst (λ z. Has z (held_by q (f x))) (sym (ap (fold joins h) (held-append q (f y) (flat_map f ys)) ∙ fold-both h (held_by q (f y)) (held_by q (flat_map f ys))))
     (has_of q f ys n d x (fold joins h (held_by q (f y))) (omega arith) e)
 
 -- a turn of a loop that takes nothing in, since an element before holds the same
@@ -86,7 +88,7 @@ pub holds_again : {X : Type 0} (f : X → List Holding) (xs : List X) (i : ℕ) 
 holds_again f xs i d x a b at y h e l g s t = λ q.
     let before = held_by q (flat_map f (take i xs)) in
     let more : held_by q (flat_map f (take (i + 1) xs)) ≡ before ++ held_by q (f x) =
-    ap (held_by q) (flat_map_take f xs i d h ∙ ap (λ z. flat_map f (take i xs) ++ f z) (sym e)) ∙ held_by-append q (flat_map f (take i xs)) (f x)
+    ap (held_by q) (flat_map_take f xs i d h ∙ ap (λ z. flat_map f (take i xs) ++ f z) (sym e)) ∙ held-append q (flat_map f (take i xs)) (f x)
     in
     let has : Has (fold joins (held_in a q) before) (held_by q (f x)) = subst (λ z. Has (fold joins (held_in a q) before) (held_by q z)) s (has_of q f (take i xs) at y y (held_in a q) l g) in
     t q ∙ sym (ap (fold joins (held_in a q)) more ∙ (fold-both (held_in a q) before (held_by q (f x)) ∙ has_same (fold joins (held_in a q) before) (held_by q (f x)) has))

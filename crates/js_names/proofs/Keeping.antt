@@ -1,14 +1,16 @@
 -- A block that keeps the `var`s of its own names shows the rules what one with all of them shows.
-use Rattle.std.proofs.Common.{◌≡◌, ℕ, List, [], ◌∷◌, ◌++◌, ◌∙◌, ap, refl, Bool, true, false, not, ◌&&◌, ◌||◌, nat_lt, Option, Some, None, if◌then◌else◌}
-use Rattle.std.specs.Prelude.{is_some}
+use Rattle.std.proofs.Common.{◌≡◌, ℕ, List, [], ◌∷◌, ◌++◌, ◌∙◌, ap, refl, Bool, true, false, not, ◌&&◌, ◌||◌, nat_lt, if◌then◌else◌}
+use Rattle.std.specs.Prelude.{is_some, codes}
 use Rattle.js_tree.specs.declared.tree.Name.{Name}
-use Rattle.js_names.specs.declared.place.Declared.{Declared}
+use Rattle.js_names.specs.declared.place.Role.TheVariants.{Let, Var}
 use Rattle.js_names.specs.declared.place.What.{What}
 use Rattle.js_names.specs.declared.place.What.TheVariants.{Declares, Reads, Assigns, Misuses, LoopWord, Returns, Begins}
-use Rattle.js_names.specs.Scopes.{Entry, Scope, named, first, one_var, kept, inner_scope, scope_with}
-use Rattle.js_names.specs.Sites.{is_reserved}
+use Rattle.js_names.specs.Entries.{Entry, top}
+use Rattle.js_names.specs.Scopes.{Scope, named, first, one_var, kept, inner_scope, scope_with}
+use Rattle.js_names.specs.Forms.{is_reserved}
 use Rattle.js_names.specs.Places.{found, found_here, found_var, functions_of, owner_in, blocked, repeated, clashes, declared_at, is_earlier, is_parameter, is_var, or_else, test_of, see}
 use Rattle.js_names.specs.Kept.{IsOwn, KeepsEnough}
+use Rattle.js_names.proofs.Making.{kept_all}
 
 module _ (own vars : List Entry) (owner : ℕ) (outside : List Scope) where
   abbrev less : Scope
@@ -37,15 +39,11 @@ module _ (own vars : List Entry) (owner : ℕ) (outside : List Scope) where
   same_blocked [] q p = refl
   same_blocked (x ∷ xs) q p = ap (λ b. test_of (x.own q) (λ d. nat_lt d.place p && not (is_parameter d.role)) || (not x.whole && b)) (same_blocked xs q p)
 
-  kept_whole : (o : Option Declared) → kept true o ≡ o
-  kept_whole None = refl
-  kept_whole (Some d) = refl
-
   same_repeated : (xs : List Scope) (q : List ℕ) (p : ℕ) → (xs ≡ [] → is_some (first (named q own)) ≡ true) → repeated (xs ++ less ∷ outside) q p ≡ repeated (xs ++ more ∷ outside) q p
   unfolding repeated
   same_repeated [] q p h =
       let o = one_var (named q vars) in
-      ap (λ z. is_earlier (first (named q own)) p || is_earlier z p) (ap (λ b. kept b o) (h refl) ∙ kept_whole o)
+      ap (λ z. is_earlier (first (named q own)) p || is_earlier z p) (ap (λ b. kept b o) (h refl) ∙ kept_all o)
   same_repeated (x ∷ xs) q p h = refl
 
   same_declared : (xs : List Scope) (what : What) (q : List ℕ) → declared_at what (xs ++ less ∷ outside) q ≡ declared_at what (xs ++ more ∷ outside) q
@@ -87,3 +85,19 @@ keeps_enough own vars owner inside outside around what name h = λ i. record {
   functions = same_functions own vars owner outside inside i;
   clashes = same_clashes own vars owner outside inside what name h i;
 }
+
+-- The law's premise is no law of trees: { var x; if (1) let x }. The `let` stands directly in the block, and is none of its names.
+
+abbrev lone : Scope → Bool
+lone s = clashes (Declares Let) (s ∷ []) (record { text = codes "x"; spot = record { at = 20; line = 1 } })
+
+abbrev var_before : List Entry
+var_before = record { name = codes "x"; declared = record { role = Var; place = 6; end = 7; owner = top; direct = false; given = 0 } } ∷ []
+
+lone_less : lone (inner_scope [] var_before top) ≡ false
+unfolding repeated
+lone_less = refl
+
+lone_more : lone (scope_with [] var_before false top) ≡ true
+unfolding repeated
+lone_more = refl

@@ -1,10 +1,7 @@
 mod Build
-mod ExamplesNames
-mod ExamplesCaptures
-mod ExamplesSlots
+mod Examples
 pub mod Stacks
 pub mod Taking
-pub mod Trees
 pub mod Making
 pub mod Holding
 pub mod Firsts
@@ -13,3 +10,4 @@ pub mod Exprs
 pub mod Spots
 pub mod Stmts
 mod Keeping
+mod Homes

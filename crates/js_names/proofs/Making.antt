@@ -9,9 +9,11 @@ use Rattle.js_tree.specs.declared.tree.Item.{Item}
 use Rattle.js_tree.specs.Views.{plain_item}
 use Rattle.js_names.specs.declared.place.Declared.{Declared}
 use Rattle.std.specs.Prelude.{is_some}
-use Rattle.js_names.specs.Scopes.{Entry, first, named, one_var, merge, kept, inner_scope, scope_with, own_of_item, vars_of_item}
+use Rattle.js_names.specs.Entries.{Entry, own_of_item, vars_of_item}
+use Rattle.js_names.specs.Scopes.{first, named, one_var, merge, kept, inner_scope, scope_with}
 use Rattle.js_names.specs.Places.{or_else}
-use Rattle.js_names.specs.Views.{Names, keeps, in_map, TakesOwn, TakesVars, scope_of, own_of_tree_item, vars_of_tree_item}
+use Rattle.js_names.specs.Views.{scope_of}
+use Rattle.js_names.specs.Taken.{Names, keeps, in_map, TakesOwn, TakesVars, own_of_tree_item, vars_of_tree_item}
 
 -- a map that was empty has what it took in
 pub own_from_empty : (a b : Names) (xs : List Entry) → a.entries ≡ [] → TakesOwn a b xs → (q : List ℕ) → get_by_text b q ≡ first (named q xs)
@@ -21,7 +23,7 @@ pub vars_from_empty : (keep : List ℕ → Bool) (a b : Names) (xs : List Entry)
 vars_from_empty keep a b xs e t q = t q ∙ ap (λ es. merge (lookup (λ k. bytes_eq q (string_bytes k)) es) (kept (keep q) (one_var (named q xs)))) e
 
 -- where all are kept
-kept_all : (o : Option Declared) → kept true o ≡ o
+pub kept_all : (o : Option Declared) → kept true o ≡ o
 kept_all None = refl
 kept_all (Some d) = refl
 

@@ -5,8 +5,8 @@ use Rattle.js_tree.specs.declared.tree.Form.{Form}
 use Rattle.js_tree.specs.Plain as p
 use Rattle.js_tree.specs.Plain.{PlainForm}
 use Rattle.js_tree.specs.Views.{plain_expr, plain_form}
-use Rattle.js_names.specs.Sites.{first_spot, first_spot_of}
-use Rattle.js_names.proofs.Exprs.{expr_is}
+use Rattle.js_names.specs.Spots.{first_spot, first_spot_of}
+use Rattle.js_tree.proofs.Forms.{expr_is}
 
 -- with no parentheses around it, it is that of its form
 pub first_at : (e : Expr) (f : Form) (g : PlainForm) → e.parens ≡ 0 → e.form ≡ f → plain_form f ≡ g → first_spot_of g ≡ first_spot (plain_expr e)

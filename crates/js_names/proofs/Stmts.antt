@@ -1,6 +1,6 @@
 -- The places of each form of a statement, from those of its parts.
-use Rattle.std.proofs.Common.{◌≡◌, ℕ, rules, List, [], ◌∷◌, ◌++◌, ◌∙◌, ap, refl, sym, map, Option, Some, None, append_assoc}
-use Rattle.std.specs.Prelude.{Vec, option_map, codes}
+use Rattle.std.proofs.Common.{◌≡◌, ℕ, List, [], ◌∷◌, ◌++◌, ◌∙◌, ap, refl, sym, map, Option, Some, None, append_assoc}
+use Rattle.std.specs.Prelude.{Vec, codes}
 use Rattle.std.specs.List.{flat_map}
 use Rattle.std.specs.declared.alloc.Global.{Global}
 use Rattle.std.specs.declared.boxed.Box.{Box}
@@ -8,24 +8,22 @@ use Rattle.js_tree.specs.declared.tree.Name.{Name}
 use Rattle.js_tree.specs.declared.tree.Spot.{Spot}
 use Rattle.js_tree.specs.declared.tree.DeclareKind.{DeclareKind}
 use Rattle.js_tree.specs.declared.tree.Expr.{Expr}
-use Rattle.js_tree.specs.declared.tree.Declarator.{Declarator, out-Declarator, fold_out-Declarator}
+use Rattle.js_tree.specs.declared.tree.Declarator.{Declarator, out-Declarator}
 use Rattle.js_tree.specs.declared.tree.Stmt.{Stmt}
-use Rattle.js_tree.specs.declared.tree.Start.{Start, Nothing, Declares, Evaluates, fold-roll-Start}
-use Rattle.js_tree.specs.declared.tree.Start.TheVariants.{rolls-Nothing, rolls-Evaluates}
-use Rattle.js_tree.specs.declared.tree.StmtForm.{StmtForm, Empty, Block, Declaration, Expression, If, IfElse, While, For, ForOf, Break, Continue, ReturnNothing, Return, fold-roll-StmtForm}
-use Rattle.js_tree.specs.declared.tree.StmtForm.TheVariants.{rolls-Empty, rolls-Expression, rolls-Break, rolls-Continue, rolls-ReturnNothing, rolls-Return}
+use Rattle.js_tree.specs.declared.tree.Start.{Start, Nothing, Declares, Evaluates}
+use Rattle.js_tree.specs.declared.tree.StmtForm.{StmtForm, Empty, Block, Declaration, Expression, If, IfElse, While, For, ForOf, Break, Continue, ReturnNothing, Return}
 use Rattle.js_tree.specs.declared.tree.Item.{Item}
 use Rattle.js_tree.specs.declared.tree.Item.TheVariants.{Statement, Function}
-use Rattle.js_tree.specs.Plain as p
-use Rattle.js_tree.specs.Plain.{PlainExpr, PlainForm, PlainField, PlainDeclarator, PlainPerhaps, PlainStart, PlainStmt, PlainStmtForm, declarators_of, stmts_of}
-use Rattle.js_tree.specs.Views.{perhaps, plain_expr, plain_start, plain_stmt, plain_declarator, form_step, start_step, stmt_form_step, declarator_step, expr_step, field_step, stmt_step}
+use Rattle.js_tree.specs.Plain.{PlainDeclarator, PlainStmtForm, declarators_of}
+use Rattle.js_tree.specs.Views.{plain_start, plain_stmt, plain_stmt_form, plain_declarator}
+use Rattle.js_tree.proofs.Statements.{declarator_is, nothing_is, start_is, evaluates_is, with_form, empty_is, expression_is, declaration_is, block_is, if_is, if_else_is, while_is, for_is, for_of_is, break_is, continue_is, return_nothing_is, return_is}
 use Rattle.js_names.specs.declared.place.Around.{Around}
 use Rattle.js_names.specs.declared.place.What.{What}
 use Rattle.js_names.specs.declared.place.Role.{Role}
-use Rattle.js_names.specs.Scopes.{Scope, top, for_scope}
+use Rattle.js_names.specs.Entries.{top}
+use Rattle.js_names.specs.Scopes.{Scope, for_scope}
 use Rattle.js_names.specs.Sites.{site, word_at, perhaps_sites, declarators_sites, start_sites, stmt_sites, stmt_form_sites, item_sites, declared_role, in_loop, in_function}
-use Rattle.js_names.specs.Views.{tree_sites, declarator_sites, perhaps_tree_sites, start_tree_sites, tree_stmt_sites, block_sites, for_sites, listed_sites, turn_sites, declared_sites, tree_item_sites}
-use Rattle.js_names.proofs.Trees.{plain_stmt_form, with_form, declaration_is, block_is, if_is, if_else_is, while_is, for_is, for_of_is, start_is}
+use Rattle.js_names.specs.TreeSites.{tree_sites, declarator_sites, perhaps_tree_sites, start_tree_sites, tree_stmt_sites, block_sites, for_sites, listed_sites, turn_sites, declared_sites, tree_item_sites}
 use Rattle.js_names.proofs.Exprs.{stmts_flat, body_is}
 
 -- the places of a statement are those of its form
@@ -39,9 +37,6 @@ declarators_flat s a k [] = refl
 declarators_flat s a k (d ∷ ds) =
     append_assoc (site s a (What.Declares (declared_role k)) (plain_declarator d).name) (perhaps_sites s a (plain_declarator d).value) (flat_map (declarator_sites s a k) ds)
     ∙ ap (λ z. site s a (What.Declares (declared_role k)) (plain_declarator d).name ++ (perhaps_sites s a (plain_declarator d).value ++ z)) (declarators_flat s a k ds)
-
-declarator_is : (d : Declarator) → plain_declarator d ≡ record { name = (out-Declarator d).name; value = perhaps (option_map plain_expr (out-Declarator d).value); end = (out-Declarator d).end }
-declarator_is d = search (rules, fold_out-Declarator)
 
 pub declarator_parts : (s : List Scope) (a : Around) (k : DeclareKind) (d : Declarator)
     → site s a (What.Declares (declared_role k)) (out-Declarator d).name ++ perhaps_tree_sites s a (out-Declarator d).value ≡ declarator_sites s a k d
@@ -57,12 +52,6 @@ absent_sites s a e h = sym (ap (perhaps_tree_sites s a) h)
 
 -- what a `for` begins with
 
-nothing_is : plain_start Nothing ≡ p.nothing
-nothing_is = ap plain_start (sym rolls-Nothing) ∙ fold-roll-Start PlainForm PlainStart PlainStmtForm PlainDeclarator PlainExpr PlainField PlainStmt form_step start_step stmt_form_step declarator_step expr_step field_step stmt_step _
-
-evaluates_is : (e : Expr) → plain_start (Evaluates e) ≡ p.started (plain_expr e)
-evaluates_is e = ap plain_start (sym (rolls-Evaluates e)) ∙ fold-roll-Start PlainForm PlainStart PlainStmtForm PlainDeclarator PlainExpr PlainField PlainStmt form_step start_step stmt_form_step declarator_step expr_step field_step stmt_step _
-
 pub nothing_sites : (s : List Scope) (a : Around) (b : Start) → b ≡ Nothing → [] ≡ start_tree_sites s a b
 unfolding start_sites
 nothing_sites s a b h = sym (ap (start_sites s a) (ap plain_start h ∙ nothing_is))
@@ -77,24 +66,6 @@ unfolding start_sites
 evaluates_sites s a b e h = sym (ap (start_sites s a) (ap plain_start h ∙ evaluates_is e))
 
 -- statements
-
-empty_is : plain_stmt_form Empty ≡ p.empty
-empty_is = ap plain_stmt_form (sym rolls-Empty) ∙ fold-roll-StmtForm PlainForm PlainStart PlainStmtForm PlainDeclarator PlainExpr PlainField PlainStmt form_step start_step stmt_form_step declarator_step expr_step field_step stmt_step _
-
-expression_is : (e : Expr) → plain_stmt_form (Expression e) ≡ p.expression (plain_expr e)
-expression_is e = ap plain_stmt_form (sym (rolls-Expression e)) ∙ fold-roll-StmtForm PlainForm PlainStart PlainStmtForm PlainDeclarator PlainExpr PlainField PlainStmt form_step start_step stmt_form_step declarator_step expr_step field_step stmt_step _
-
-break_is : (k : Spot) → plain_stmt_form (Break k) ≡ p.break_of k
-break_is k = ap plain_stmt_form (sym (rolls-Break k)) ∙ fold-roll-StmtForm PlainForm PlainStart PlainStmtForm PlainDeclarator PlainExpr PlainField PlainStmt form_step start_step stmt_form_step declarator_step expr_step field_step stmt_step _
-
-continue_is : (k : Spot) → plain_stmt_form (Continue k) ≡ p.continue_of k
-continue_is k = ap plain_stmt_form (sym (rolls-Continue k)) ∙ fold-roll-StmtForm PlainForm PlainStart PlainStmtForm PlainDeclarator PlainExpr PlainField PlainStmt form_step start_step stmt_form_step declarator_step expr_step field_step stmt_step _
-
-return_nothing_is : (k : Spot) → plain_stmt_form (ReturnNothing k) ≡ p.return_nothing k
-return_nothing_is k = ap plain_stmt_form (sym (rolls-ReturnNothing k)) ∙ fold-roll-StmtForm PlainForm PlainStart PlainStmtForm PlainDeclarator PlainExpr PlainField PlainStmt form_step start_step stmt_form_step declarator_step expr_step field_step stmt_step _
-
-return_is : (k : Spot) (e : Expr) → plain_stmt_form (Return k e) ≡ p.return_of k (plain_expr e)
-return_is k e = ap plain_stmt_form (sym (rolls-Return k e)) ∙ fold-roll-StmtForm PlainForm PlainStart PlainStmtForm PlainDeclarator PlainExpr PlainField PlainStmt form_step start_step stmt_form_step declarator_step expr_step field_step stmt_step _
 
 pub empty_sites : (s : List Scope) (a : Around) (x : Stmt) → x.form ≡ Empty → [] ≡ tree_stmt_sites s a x
 unfolding stmt_form_sites

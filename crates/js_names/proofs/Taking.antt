@@ -1,5 +1,5 @@
 -- Maps that take in declarations.
-use Rattle.std.proofs.Common.{◌≡◌, ℕ, ◌+◌, ◌<◌, List, [], ◌∷◌, ◌++◌, ◌∙◌, ap, refl, sym, subst, map, length, take, get_or, Option, Some, None, Bool, true, false, ⊎_elim, if◌then◌else◌}
+use Rattle.std.proofs.Common.{◌≡◌, ℕ, ◌+◌, ◌<◌, List, [], ◌∷◌, ◌++◌, ◌∙◌, ap, refl, sym, subst, map, length, take, get_or, append-nil, Option, Some, None, Bool, true, false, ⊎_elim, if◌then◌else◌}
 use Rattle.std.proofs.Math.Bool.{cond}
 use Rattle.std.proofs.lemmas.Bool.{cases_Bool, cond-true, cond-false, true≢false}
 use Rattle.std.proofs.lemmas.Slice.Eq.{bytes_eq-Decides as bytes_decides}
@@ -23,13 +23,14 @@ use Rattle.js_tree.specs.declared.tree.StmtForm.{Declaration, Block, IfElse, For
 use Rattle.std.specs.Prelude.{Vec, Result, Ok, Err, OnOk}
 use Rattle.js_tree.specs.Plain.{declarators_of, stmts_of}
 use Rattle.js_tree.specs.Views.{plain_declarator, plain_stmt, plain_start}
-use Rattle.js_names.specs.Scopes.{Entry, first, named, one_var, merge, kept, parameter, parameters, own_declarators, var_declarators, own_of, own_of_all, vars_of, vars_of_all, own_of_start, vars_of_start}
+use Rattle.js_names.specs.Entries.{Entry, own_declarators, var_declarators, own_of, own_of_all, vars_of, vars_of_all, own_of_start, vars_of_start}
+use Rattle.js_names.specs.Scopes.{first, named, one_var, merge, kept, parameter, parameters}
 use Rattle.js_names.specs.Places.{or_else}
-use Rattle.js_names.proofs.Trees.{with_form, declaration_is, block_is, if_else_is, for_is, start_is, if_is, while_is, for_of_is}
+use Rattle.js_tree.proofs.Statements.{with_form, declaration_is, block_is, if_else_is, for_is, start_is, if_is, while_is, for_of_is}
 use Rattle.js_tree.specs.declared.tree.Expr.{Expr}
 use Rattle.js_tree.specs.declared.tree.Start.{Start, Declares}
 use Rattle.std.specs.declared.boxed.Box.{Box}
-use Rattle.js_names.specs.Views.{Names, alone, TakesOwn, TakesVars, own_of_declarator, vars_of_declarator, own_of_stmt, vars_of_stmt}
+use Rattle.js_names.specs.Taken.{Names, alone, TakesOwn, TakesVars, own_of_declarator, vars_of_declarator, own_of_stmt, vars_of_stmt}
 
 pub or_else_none : {A : Type 0} (a : Option A) → or_else a None ≡ a
 or_else_none None = refl
@@ -124,20 +125,10 @@ vars_both keep a b c xs ys h k = λ q.
     k q ∙ ap (λ o. merge o (kept (keep q) y)) (h q) ∙ merge_assoc (get_by_text a q) (kept (keep q) x) (kept (keep q) y)
     ∙ ap (merge (get_by_text a q)) (sym (ap (kept (keep q)) (ap one_var (named-append q xs ys) ∙ one_var-append (named q xs) (named q ys)) ∙ kept_merge (keep q) x y))
 
-pub own_none : (a : Names) → TakesOwn a a []
-own_none a = λ q. sym (or_else_none (get_by_text a q))
-
-pub vars_none : (keep : List ℕ → Bool) (a : Names) → TakesVars keep a a []
-vars_none keep a = λ q. sym (merge_none (get_by_text a q))
-
-append_nil : {A : Type 0} (xs : List A) → xs ++ [] ≡ xs
-append_nil [] = refl
-append_nil (x ∷ xs) = ap (λ ys. x ∷ ys) (append_nil xs)
-
 -- one more element at the end of what a loop has done
 pub flat_map_take : {X A : Type 0} (f : X → List A) (xs : List X) (i : ℕ) (d : X) → i < length xs → flat_map f (take (i + 1) xs) ≡ flat_map f (take i xs) ++ f (get_or xs i d)
 flat_map_take f xs i d h =
-    ap (flat_map f) (take_more xs i d h) ∙ (flat_map-append f (take i xs) (get_or xs i d ∷ []) ∙ ap (λ ys. flat_map f (take i xs) ++ ys) (append_nil (f (get_or xs i d))))
+    ap (flat_map f) (take_more xs i d h) ∙ (flat_map-append f (take i xs) (get_or xs i d ∷ []) ∙ ap (λ ys. flat_map f (take i xs) ++ ys) (append-nil (f (get_or xs i d))))
 
 -- one more turn of a loop that takes in what each element declares
 pub own_more : {X : Type 0} (f : X → List Entry) (xs : List X) (i : ℕ) (d x : X) (a b c : Names) → i < length xs → x ≡ get_or xs i d

@@ -1,7 +1,15 @@
+pub mod Entries
 pub mod Scopes
+pub mod Forms
+pub mod Spots
 pub mod Sites
 pub mod Places
+pub mod Scoped
 pub mod Kept
 pub mod Slots
 pub mod Rules
 pub mod Views
+pub mod Taken
+pub mod Held
+pub mod Walks
+pub mod TreeSites

@@ -9,7 +9,8 @@ use Rattle.js_names.specs.declared.place.What.{What}
 use Rattle.js_names.specs.declared.place.What.TheVariants.{Declares, Reads, Assigns}
 use Rattle.js_names.specs.declared.place.Around.{Around}
 use Rattle.js_names.specs.Scopes.{Scope}
-use Rattle.js_names.specs.Sites.{Site, is_reserved, program_sites}
+use Rattle.js_names.specs.Forms.{is_reserved}
+use Rattle.js_names.specs.Sites.{Site, program_sites}
 
 pub record Place : Type 0 where
   pub what : What

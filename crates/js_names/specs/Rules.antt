@@ -1,10 +1,11 @@
 -- The rules of names: each is a test of a place. The answer is the least place at which one fails, and of the rules that fail there the first one.
 use Rattle.std.specs.Prelude.{ℕ, Bool, true, false, not, ◌&&◌, ◌||◌, nat_eq, nat_lt, List, Option, Some, None, is_some, fold, if◌then◌else◌}
 use Rattle.js_tree.specs.Plain.{PlainItem}
+use Rattle.js_names.specs.declared.limits.TheConstants.{MOST_SLOTS}
 use Rattle.js_names.specs.declared.place.What.{What}
 use Rattle.js_names.specs.declared.place.NameFault.{NameFault}
 use Rattle.js_names.specs.declared.place.NameFault.TheVariants.{Unknown, Twice, AssignConst, Capture, LoopWord, ReturnPlace, Slots, Memory}
-use Rattle.js_names.specs.Scopes.{top}
+use Rattle.js_names.specs.Entries.{top}
 use Rattle.js_names.specs.Places.{Place, test_of, is_const, is_function, places}
 use Rattle.js_names.specs.Slots.{is_assignment, is_mention, is_begin, assigned_in, is_outer, can_copy, slot_count}
 
@@ -44,9 +45,9 @@ fails_loop_word p = is_loop_word p.what && not p.around.looped
 abbrev pub fails_return : Place → Bool
 fails_return p = is_return p.what && nat_eq p.around.owner top
 
--- more than 256 slots
+-- more slots than a function may have
 abbrev pub fails_slots : (ℕ → ℕ) → Place → Bool
-fails_slots count p = is_begin p.what && nat_lt 256 (count p.around.owner)
+fails_slots count p = is_begin p.what && nat_lt MOST_SLOTS (count p.around.owner)
 
 -- the first rule that a place breaks
 unfoldable pub fault_at : List ℕ → (ℕ → ℕ) → Place → Option NameFault

@@ -1,21 +1,20 @@
 -- The places of a program in text order, each with the scopes around it.
-use Rattle.std.specs.Prelude.{ℕ, zero, suc, Bool, true, false, ◌||◌, List, [], ◌∷◌, ◌++◌, Option, Some, None, is_some, codes, if◌then◌else◌}
-use Rattle.std.specs.Str.{bytes_eq}
+use Rattle.std.specs.Prelude.{ℕ, Bool, true, false, List, [], ◌∷◌, ◌++◌, Option, Some, None, is_some, codes, if◌then◌else◌}
 use Rattle.std.specs.List.{flat_map}
 use Rattle.js_tree.specs.declared.tree.Name.{Name}
 use Rattle.js_tree.specs.declared.tree.Spot.{Spot}
-use Rattle.js_tree.specs.declared.tree.Fix.TheVariants.{After}
 use Rattle.js_tree.specs.declared.tree.DeclareKind.{DeclareKind}
 use Rattle.js_tree.specs.declared.tree.DeclareKind.TheVariants.{Const as const_word, Let as let_word, Var as var_word}
 use Rattle.js_tree.specs.Plain.{PlainExpr, at, PlainForm, number, words, truth, null, use_of, list, fields, member, index, call, unary, update, binary, conditional, assign, arrow_value, arrow_block, function, PlainExprs, no_exprs, expr_in, PlainFields, no_fields, field_in, PlainPerhaps, absent, present, PlainDeclarators, no_declarators, declarator_in, PlainStart, nothing, declared, started, PlainStmt, on, PlainStmtForm, empty, block, declaration, expression, if_alone, if_else, while_of, for_of_three, for_each, break_of, continue_of, return_nothing, return_of, PlainStmts, no_stmts, stmt_in, PlainItem, statement, function_of}
-use Rattle.js_tree.specs.Nesting.{is_object, is_log_of}
-use Rattle.js_program.specs.declared.builtin.Builtin.{Builtin}
-use Rattle.js_program.specs.Builtins.{builtin_of}
+use Rattle.js_tree.specs.Nesting.{is_object}
 use Rattle.js_names.specs.declared.place.Role.{Role}
 use Rattle.js_names.specs.declared.place.Role.TheVariants.{Parameter, Const, Let, Var, Function}
 use Rattle.js_names.specs.declared.place.What.{What}
 use Rattle.js_names.specs.declared.place.Around.{Around}
-use Rattle.js_names.specs.Scopes.{Scope, top, block_scope, for_scope, list_scope, each_scope, each_role, function_scope, program_scope}
+use Rattle.js_names.specs.Entries.{top}
+use Rattle.js_names.specs.Scopes.{Scope, block_scope, for_scope, list_scope, each_scope, each_role, function_scope, program_scope}
+use Rattle.js_names.specs.Forms.{is_undefined, is_reserved, object_of, called_builtin, value_builtin}
+use Rattle.js_names.specs.Spots.{program_spot}
 
 -- a place: what stands there, its name, the scopes around it from the innermost, the function around it, and whether a loop of that function is
 pub record Site : Type 0 where
@@ -30,13 +29,6 @@ site scopes around what name = record { what = what; name = name; scopes = scope
 abbrev pub word_at : List ℕ → Spot → Name
 word_at text spot = record { text = text; spot = spot }
 
-abbrev pub is_undefined : List ℕ → Bool
-is_undefined text = bytes_eq text (codes "undefined")
-
--- the names that can't be declared
-abbrev pub is_reserved : List ℕ → Bool
-is_reserved text = is_object text || is_undefined text
-
 -- a name that is read: `bp` or `Math` alone is no form, and `undefined` is a value
 abbrev pub read_site : List Scope → Around → Name → List Site
 read_site scopes a name = if is_object name.text then site scopes a What.Misuses name else (if is_undefined name.text then [] else site scopes a What.Reads name)
@@ -44,30 +36,6 @@ read_site scopes a name = if is_object name.text then site scopes a What.Misuses
 -- a name that is assigned or updated
 abbrev pub assign_site : List Scope → Around → Name → List Site
 assign_site scopes a name = if is_reserved name.text then site scopes a What.Misuses name else site scopes a What.Assigns name
-
--- `bp` or `Math`
-abbrev pub object_of : PlainExpr → Option Name
-object_of (at parens line (use_of name)) = if is_object name.text then Some name else None
-object_of _ = None
-
--- what stands before the dot of a form: `bp`, `Math` or `bp.log`
-abbrev pub owner_of : PlainExpr → Option (List ℕ)
-owner_of (at parens line (use_of name)) = if is_object name.text then Some name.text else None
-owner_of (at parens line (member e word)) = if is_log_of e word then Some (codes "bp.log") else None
-owner_of _ = None
-
-abbrev pub builtin_at : Option (List ℕ) → List ℕ → Bool → Option Builtin
-builtin_at None word called = None
-builtin_at (Some object) word called = builtin_of object word called
-
--- the form that a call of this expression is
-abbrev pub called_builtin : PlainExpr → Option Builtin
-called_builtin (at parens line (member e word)) = builtin_at (owner_of e) word true
-called_builtin _ = None
-
--- the form that a member is without a call
-abbrev pub value_builtin : PlainExpr → List ℕ → Option Builtin
-value_builtin e word = builtin_at (owner_of e) word false
 
 -- a member: no form of `bp` or `Math` is `Unknown` by both names
 abbrev pub member_sites : List Scope → Around → Option Name → List ℕ → Bool → List Site → List Site
@@ -181,45 +149,6 @@ item_sites scopes (function_of spot name names ss) =
     let inner = function_scope spot.at names ss ∷ scopes in
     site scopes (in_function top) (What.Declares Function) name
     ++ (begin_site inner spot.at spot ++ (parameter_sites inner (in_function spot.at) names ++ stmts_sites inner (in_function spot.at) ss))
-
--- the place of an expression's first token, where that is a place of its own
-abbrev mutual
-  pub first_spot : PlainExpr → Option Spot
-  first_spot (at zero line form) = first_spot_of form
-  first_spot (at (suc n) line form) = None
-
-  pub first_spot_of : PlainForm → Option Spot
-  first_spot_of (use_of name) = Some name.spot
-  first_spot_of (member e word) = first_spot e
-  first_spot_of (index e i) = first_spot e
-  first_spot_of (call e es) = first_spot e
-  first_spot_of (update s After name) = Some name.spot
-  first_spot_of (binary op l r) = first_spot l
-  first_spot_of (conditional l m r) = first_spot l
-  first_spot_of (assign op name e) = Some name.spot
-  first_spot_of (arrow_value spot names e) = Some spot
-  first_spot_of (arrow_block spot names ss) = Some spot
-  first_spot_of (function spot names ss) = Some spot
-  first_spot_of _ = None
-
--- any other first token of a program lies before all places, so 0 stands for its place
-abbrev pub spot_or : Option Spot → ℕ → Spot
-spot_or None line = record { at = 0; line = line }
-spot_or (Some spot) line = spot
-
-abbrev pub stmt_spot : PlainStmt → Spot
-stmt_spot (on line (expression e)) = spot_or (first_spot e) line
-stmt_spot (on line (break_of spot)) = spot
-stmt_spot (on line (continue_of spot)) = spot
-stmt_spot (on line (return_nothing spot)) = spot
-stmt_spot (on line (return_of spot e)) = spot
-stmt_spot (on line _) = spot_or None line
-
--- the first token of a program
-abbrev pub program_spot : List PlainItem → Spot
-program_spot [] = spot_or None 1
-program_spot (statement s ∷ items) = stmt_spot s
-program_spot (function_of spot name names ss ∷ items) = spot
 
 -- the places of a program
 unfoldable pub program_sites : List PlainItem → List Site

@@ -5,7 +5,7 @@ use Rattle.js_names.specs.declared.place.Role.TheVariants.{Parameter}
 use Rattle.js_names.specs.declared.place.Declared.{Declared}
 use Rattle.js_names.specs.declared.place.What.{What}
 use Rattle.js_names.specs.declared.place.What.TheVariants.{Declares, Reads, Assigns, Begins}
-use Rattle.js_names.specs.Scopes.{top}
+use Rattle.js_names.specs.Entries.{top}
 use Rattle.js_names.specs.Places.{Place, is_parameter, is_var, is_function}
 
 abbrev pub is_assignment : What → Bool

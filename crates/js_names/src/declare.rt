@@ -2,9 +2,10 @@
 ghost use Rattle.std.specs.Prelude.{◌≡◌, OnOk, option_copied};
 ghost use Rattle.std.specs.List.{flat_map};
 ghost use Rattle.std.specs.HashMap.{get_by_text};
-ghost use Rattle.js_names.specs.Scopes.{merge, given_at, own_of_start, vars_of_start};
+ghost use Rattle.js_names.specs.Entries.{given_at, own_of_start, vars_of_start};
+ghost use Rattle.js_names.specs.Scopes.{merge};
 ghost use Rattle.js_tree.specs.Views.{plain_declarator, plain_start};
-ghost use Rattle.js_names.specs.Views.{TakesOwn, TakesVars, keeps, alone, own_of_declarator, vars_of_declarator, own_of_stmt, vars_of_stmt};
+ghost use Rattle.js_names.specs.Taken.{TakesOwn, TakesVars, keeps, alone, own_of_declarator, vars_of_declarator, own_of_stmt, vars_of_stmt};
 
 use crate::place::{Declared, Role};
 use crate::scope::TOP;
@@ -109,7 +110,7 @@ pub fn declare_own_stmts(
     Ok(())
 }
 
-// The variable of a `var`: the first one's, where there is one.
+/// The variable of a `var`: the first one's, where there is one.
 fn merged(map: &IndexMap<String, Declared>, text: &str, declared: Declared) -> Declared
     ensures { Some result ≡ merge (get_by_text map.now text.now) (Some declared) }
 {
@@ -123,7 +124,7 @@ fn merged(map: &IndexMap<String, Declared>, text: &str, declared: Declared) -> D
     }
 }
 
-// Whether a scope keeps a `var` of this name: a block keeps those that its own names can clash with.
+/// Whether a scope keeps a `var` of this name: a block keeps those that its own names can clash with.
 fn keeps(own: Option<&IndexMap<String, Declared>>, text: &str) -> bool
     ensures { result ≡ keeps (option_copied own.entry) text.now }
 {
@@ -154,7 +155,7 @@ pub fn declare_var(
     Ok(())
 }
 
-// The place from which on the value of a `var` stays that names a parameter: a nested one may run again.
+/// The place from which on the value of a `var` stays that names a parameter: a nested one may run again.
 fn given_at(direct: bool, declarator: &Declarator) -> u32
     ensures { result ≡ given_at direct (plain_declarator declarator.now).value
         (plain_declarator declarator.now).end }

@@ -4,7 +4,8 @@ ghost use Rattle.js_tree.specs.Views.{plain_tree};
 ghost use Rattle.js_names.specs.Places.{places};
 ghost use Rattle.js_names.specs.Slots.{assigned_in, slots_of};
 ghost use Rattle.js_names.specs.Rules.{fault_at, number_of, spot_of, comes_before, sooner, soonest, name_fault};
-ghost use Rattle.js_names.specs.Views.{place_of, held_in};
+ghost use Rattle.js_names.specs.Views.{place_of};
+ghost use Rattle.js_names.specs.Held.{held_in};
 
 use crate::holdings::slots;
 use crate::place::{NameFault, Seen, copy_of};
@@ -17,7 +18,7 @@ use indexmap::{IndexMap, IndexSet};
 use js_tree::Tree;
 use std::alloc::{AllocError, Global};
 
-// The first rule that a place breaks.
+/// The first rule that a place breaks.
 #[tactic(auto, unfolding(crate::specs::Rules::fault_at))]
 fn fault_at(
     assigned: &IndexSet<u32>,
@@ -47,7 +48,7 @@ fn fault_at(
 }
 
 impl NameFault {
-    // The number of the rule, which decides where two are broken at one place.
+    /// The number of the rule, which decides where two are broken at one place.
     fn number(&self) -> u8
         ensures { result ≡ number_of self.now }
     {
@@ -63,7 +64,7 @@ impl NameFault {
         }
     }
 
-    // The place.
+    /// The place.
     fn at(&self) -> u32
         ensures { result ≡ spot_of self.now }
     {
@@ -80,14 +81,14 @@ impl NameFault {
     }
 }
 
-// Whether a fault is answered rather than another.
+/// Whether a fault is answered rather than another.
 fn comes_before(fault: &NameFault, other: &NameFault) -> bool
     ensures { result ≡ comes_before fault.now other.now }
 {
     fault.at() < other.at() || fault.at() == other.at() && fault.number() < other.number()
 }
 
-// The fault that is answered.
+/// The fault that is answered.
 fn sooner(first: Option<NameFault>, fault: Option<NameFault>) -> Option<NameFault>
     ensures { result ≡ sooner first fault }
 {
@@ -97,7 +98,7 @@ fn sooner(first: Option<NameFault>, fault: Option<NameFault>) -> Option<NameFaul
     }
 }
 
-// The fault that is answered, where there is one.
+/// The fault that is answered, where there is one.
 fn sooner_than(first: NameFault, fault: Option<NameFault>) -> NameFault
     ensures { Some result ≡ sooner (Some first) fault }
 {
@@ -113,7 +114,7 @@ fn sooner_than(first: NameFault, fault: Option<NameFault>) -> NameFault
     }
 }
 
-// The fault of the first place that breaks a rule.
+/// The fault of the first place that breaks a rule.
 fn soonest(
     assigned: &IndexSet<u32>,
     held: &IndexMap<u32, IndexSet<u32>>,
@@ -151,7 +152,7 @@ impl Drop for Names {
     }
 }
 
-// The places of a tree, and what each function holds, whether or not a rule is broken.
+/// The places of a tree, and what each function holds, whether or not a rule is broken.
 fn names_of(alloc: Global, tree: &Tree) -> Result<Names, AllocError>
     ensures places { IfOk result (λ n. map place_of n.places.items ≡ places (plain_tree tree.now)) }
     ensures assigned { IfOk result (λ n. n.assigned.keys ≡ assigned_in

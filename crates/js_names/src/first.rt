@@ -1,11 +1,11 @@
 //! Where the text of a program begins.
 ghost use Rattle.std.specs.Prelude.{◌≡◌};
 ghost use Rattle.js_tree.specs.Views.{plain_expr, plain_stmt, plain_tree};
-ghost use Rattle.js_names.specs.Sites.{first_spot, spot_or, stmt_spot, program_spot};
+ghost use Rattle.js_names.specs.Spots.{first_spot, spot_or, stmt_spot, program_spot};
 
 use js_tree::{Expr, Fix, Form, Item, Spot, Stmt, StmtForm, Tree};
 
-// The place of an expression's first token, where that is a place of its own.
+/// The place of an expression's first token, where that is a place of its own.
 fn first_spot(e: &Expr) -> Option<Spot>
     ensures { result ≡ first_spot (plain_expr e.now) }
 {
@@ -37,7 +37,7 @@ fn first_spot(e: &Expr) -> Option<Spot>
     }
 }
 
-// The place, or the first one of the text, on this line.
+/// The place, or the first one of the text, on this line.
 fn spot_or(spot: Option<Spot>, line: u32) -> Spot
     ensures { result ≡ spot_or spot line }
 {
@@ -47,7 +47,7 @@ fn spot_or(spot: Option<Spot>, line: u32) -> Spot
     }
 }
 
-// The first token of a statement.
+/// The first token of a statement.
 fn stmt_spot(stmt: &Stmt) -> Spot
     ensures { result ≡ stmt_spot (plain_stmt stmt.now) }
 {

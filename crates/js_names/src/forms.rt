@@ -2,7 +2,7 @@
 ghost use Rattle.std.specs.Prelude.{◌≡◌, Some, None, option_copied, codes, if◌then◌else◌};
 ghost use Rattle.js_tree.specs.Nesting.{is_object, is_log_of};
 ghost use Rattle.js_tree.specs.Views.{plain_expr};
-ghost use Rattle.js_names.specs.Sites.{is_undefined, is_reserved, object_of, owner_of, builtin_at, called_builtin, value_builtin};
+ghost use Rattle.js_names.specs.Forms.{is_undefined, is_reserved, object_of, owner_of, builtin_at, called_builtin, value_builtin};
 
 use js_program::{Builtin, builtin_of};
 use js_tree::{Expr, Form, Name};
@@ -44,7 +44,7 @@ pub fn object_of(e: &Expr) -> Option<&Name>
     }
 }
 
-// Whether the member is `bp.log`.
+/// Whether the member is `bp.log`.
 fn is_log(object: &Expr, word: &str) -> bool
     ensures { result ≡ is_log_of (plain_expr object.now) word.now }
 {
@@ -54,7 +54,7 @@ fn is_log(object: &Expr, word: &str) -> bool
     }
 }
 
-// The form with this word after the dot, where what stands before it is `bp`, `Math` or `bp.log`.
+/// The form with this word after the dot, where what stands before it is `bp`, `Math` or `bp.log`.
 fn builtin_at(object: &Expr, word: &str, called: bool) -> Option<Builtin>
     ensures { result ≡ builtin_at (owner_of (plain_expr object.now)) word.now called }
 {
@@ -65,7 +65,7 @@ fn builtin_at(object: &Expr, word: &str, called: bool) -> Option<Builtin>
     }
 }
 
-// The form of a name's member.
+/// The form of a name's member.
 fn builtin_of_name(object: &str, word: &str, called: bool) -> Option<Builtin>
     ensures { result ≡ builtin_at
         (if is_object object.now then Some object.now else None) word.now called }
@@ -77,7 +77,7 @@ fn builtin_of_name(object: &str, word: &str, called: bool) -> Option<Builtin>
     }
 }
 
-// The form of a member's member.
+/// The form of a member's member.
 fn builtin_of_log(e: &Expr, member: &str, word: &str, called: bool) -> Option<Builtin>
     ensures { result ≡ builtin_at (if is_log_of (plain_expr e.now) member.now then Some
         (codes "bp.log") else None) word.now called }

@@ -3,10 +3,11 @@ ghost use Rattle.std.specs.Prelude.{◌≡◌, ◌∷◌, [], ◌++◌, false, I
 ghost use Rattle.std.specs.List.{flat_map};
 ghost use Rattle.indexmap.specs.IndexMap.{get};
 ghost use Rattle.js_names.specs.Slots.{hold, holds_all, copies, inside, holdings, slots_of, captures, captures_in, parameter_in, variable_in, var_in, vars_of};
-ghost use Rattle.js_names.specs.Views.{Holds, IsMade, held_in, place_of};
+ghost use Rattle.js_names.specs.Views.{place_of};
+ghost use Rattle.js_names.specs.Held.{Holds, IsMade, held_in};
 
 use crate::place::{Declared, Role, Seen, What};
-use crate::rules::{can_copy, is_constant};
+use crate::rules::{can_copy, is_constant, is_outer, variable_at};
 use indexmap::{IndexMap, IndexSet};
 use std::alloc::{AllocError, Global};
 
@@ -20,7 +21,7 @@ pub fn slot_count(held: &IndexMap<u32, IndexSet<u32>>, function: u32) -> usize
     }
 }
 
-// Takes the set of a function out of the map.
+/// Takes the set of a function out of the map.
 fn take_set(alloc: Global, held: &mut IndexMap<u32, IndexSet<u32>>, function: u32) -> IndexSet<u32>
     ensures set { result.keys ≡ held_in held.old function }
     ensures others { (q : _) → nat_eq function q ≡ false → get nat_eq held.new q
@@ -32,7 +33,7 @@ fn take_set(alloc: Global, held: &mut IndexMap<u32, IndexSet<u32>>, function: u3
     }
 }
 
-// One more variable that a function holds, unless it holds it.
+/// One more variable that a function holds, unless it holds it.
 fn hold(
     alloc: Global,
     held: &mut IndexMap<u32, IndexSet<u32>>,
@@ -47,7 +48,7 @@ fn hold(
     Ok(())
 }
 
-// A parameter.
+/// A parameter.
 fn hold_parameter(
     alloc: Global,
     held: &mut IndexMap<u32, IndexSet<u32>>,
@@ -63,7 +64,7 @@ fn hold_parameter(
     }
 }
 
-// A variable is copied into each of these functions up to its own.
+/// A variable is copied into each of these functions up to its own.
 fn hold_inside(
     alloc: Global,
     held: &mut IndexMap<u32, IndexSet<u32>>,
@@ -82,21 +83,19 @@ fn hold_inside(
     Ok(())
 }
 
-// Whether a place makes functions copy the variable that it mentions.
+/// Whether a place makes functions copy the variable that it mentions.
 fn copies(assigned: &IndexSet<u32>, place: &Seen, declared: Declared) -> bool
     ensures { result ≡ copies assigned.now.keys (place_of place.now) declared }
 {
     match place.what {
         What::Reads | What::Assigns => {
-            declared.owner != place.around.owner
-                && !is_constant(assigned, declared)
-                && can_copy(assigned, declared, place.around.owner)
+            is_outer(assigned, place, declared) && can_copy(assigned, declared, place.around.owner)
         }
         _ => false,
     }
 }
 
-// The captures that a place makes.
+/// The captures that a place makes.
 fn hold_captures(
     alloc: Global,
     held: &mut IndexMap<u32, IndexSet<u32>>,
@@ -114,7 +113,7 @@ fn hold_captures(
     }
 }
 
-// Whether a place makes the captures of this variable into these functions.
+/// Whether a place makes the captures of this variable into these functions.
 fn makes(assigned: &IndexSet<u32>, place: &Seen, declared: Declared, functions: &[u32]) -> bool
     ensures { IsTrue result → captures_in assigned.now.keys (place_of place.now)
         ≡ holds_all declared.place (inside declared.owner functions.now) }
@@ -130,7 +129,7 @@ fn makes(assigned: &IndexSet<u32>, place: &Seen, declared: Declared, functions: 
     }
 }
 
-// Whether a place before this one is known that makes the same captures.
+/// Whether a place before this one is known that makes the same captures.
 fn is_made(
     assigned: &IndexSet<u32>,
     known: &IndexMap<(u32, u32), usize>,
@@ -149,7 +148,7 @@ fn is_made(
     false
 }
 
-// Notes the place as one that makes captures. How fast later places are passed over is all that hangs on it.
+/// Notes the place as one that makes captures. How fast later places are passed over is all that hangs on it.
 fn note_captures(
     known: &mut IndexMap<(u32, u32), usize>,
     assigned: &IndexSet<u32>,
@@ -164,7 +163,7 @@ fn note_captures(
     Ok(())
 }
 
-// A variable that is no parameter and no constant.
+/// A variable that is no parameter and no constant.
 fn hold_variable(
     alloc: Global,
     held: &mut IndexMap<u32, IndexSet<u32>>,
@@ -174,17 +173,15 @@ fn hold_variable(
     ensures { OnOk result (Holds held.old held.new
         (variable_in assigned.now.keys (place_of place.now))) }
 {
-    if let What::Declares(_) = place.what
-        && let Some(declared) = place.declared
-        && declared.role != Role::Parameter
-        && !is_constant(assigned, declared)
-    {
-        return hold(alloc, held, declared.owner, declared.place);
+    match variable_at(place) {
+        Some(declared) if !is_constant(assigned, declared) => {
+            hold(alloc, held, declared.owner, declared.place)
+        }
+        _ => Ok(()),
     }
-    Ok(())
 }
 
-// The parameters of all functions.
+/// The parameters of all functions.
 fn hold_parameters(
     alloc: Global,
     held: &mut IndexMap<u32, IndexSet<u32>>,
@@ -199,8 +196,8 @@ fn hold_parameters(
     Ok(())
 }
 
-// The captures of all functions. Those that a place before made are not held once more: a function that mentions a
-// variable a thousand times, far inside that of the variable, walks over the functions between them once.
+/// The captures of all functions. Those that a place before made are not held once more: a function that mentions a
+/// variable a thousand times, far inside that of the variable, walks over the functions between them once.
 fn hold_all_captures(
     alloc: Global,
     held: &mut IndexMap<u32, IndexSet<u32>>,
@@ -220,7 +217,7 @@ fn hold_all_captures(
     Ok(())
 }
 
-// The other variables of all functions.
+/// The other variables of all functions.
 fn hold_variables(
     alloc: Global,
     held: &mut IndexMap<u32, IndexSet<u32>>,
@@ -236,7 +233,7 @@ fn hold_variables(
     Ok(())
 }
 
-// All that the functions hold, in the order of their slots.
+/// All that the functions hold, in the order of their slots.
 fn hold_all(
     alloc: Global,
     held: &mut IndexMap<u32, IndexSet<u32>>,
@@ -282,7 +279,7 @@ pub fn captured(
     Ok(held)
 }
 
-// A `var` that is no parameter and no constant.
+/// A `var` that is no parameter and no constant.
 fn hold_var(
     alloc: Global,
     held: &mut IndexMap<u32, IndexSet<u32>>,
@@ -292,17 +289,15 @@ fn hold_var(
     ensures { OnOk result (Holds held.old held.new
         (var_in assigned.now.keys (place_of place.now))) }
 {
-    if let What::Declares(_) = place.what
-        && let Some(declared) = place.declared
-        && declared.role == Role::Var
-        && !is_constant(assigned, declared)
-    {
-        return hold(alloc, held, declared.owner, declared.place);
+    match variable_at(place) {
+        Some(declared) if declared.role == Role::Var && !is_constant(assigned, declared) => {
+            hold(alloc, held, declared.owner, declared.place)
+        }
+        _ => Ok(()),
     }
-    Ok(())
 }
 
-// The `var`s of all functions.
+/// The `var`s of all functions.
 fn hold_vars(
     alloc: Global,
     held: &mut IndexMap<u32, IndexSet<u32>>,

@@ -108,8 +108,8 @@ pub enum NameFault {
     /// `return` outside functions.
     #[error("return outside functions")]
     ReturnPlace(Name),
-    /// A function needs more than 256 slots; the name is empty.
-    #[error("a function needs more than 256 slots")]
+    /// A function needs more slots than it may have; the name is empty.
+    #[error("a function needs more slots than it may have")]
     Slots(Name),
     /// Want of memory.
     #[error("want of memory")]

@@ -1,10 +1,12 @@
-//! The rules that a place alone answers.
+//! The rules of names, each a test of a place.
 ghost use Rattle.std.specs.Prelude.{◌≡◌, IfOk, map, length};
-ghost use Rattle.js_names.specs.Slots.{assigned_in, assigned_at, is_constant, can_copy, is_outer};
+ghost use Rattle.js_names.specs.Slots.{assigned_in, assigned_at, is_constant, can_copy, is_outer, variable_at};
 ghost use Rattle.js_names.specs.Rules.{fails_unknown, fails_twice, fails_const, fails_capture, fails_loop_word, fails_return, fails_slots};
-ghost use Rattle.js_names.specs.Views.{place_of, held_in};
+ghost use Rattle.js_names.specs.Views.{place_of};
+ghost use Rattle.js_names.specs.Held.{held_in};
 
 use crate::holdings::slot_count;
+use crate::limits::MOST_SLOTS;
 use crate::place::{Declared, Role, Seen, What};
 use crate::scope::TOP;
 use indexmap::{IndexMap, IndexSet};
@@ -50,7 +52,28 @@ pub fn can_copy(assigned: &IndexSet<u32>, declared: Declared, begins: u32) -> bo
         && declared.end <= begins
 }
 
-/// A variable of an outer function or of the top level, no constant, whose value can't be copied as the inner function begins.
+/// Whether a variable belongs to an outer function or to the top level, and is no constant.
+pub fn is_outer(assigned: &IndexSet<u32>, place: &Seen, declared: Declared) -> bool
+    ensures { result ≡ is_outer assigned.now.keys (place_of place.now) declared }
+{
+    declared.owner != place.around.owner && !is_constant(assigned, declared)
+}
+
+/// The variable that a place declares: a `var` may name a parameter, and then it declares none.
+pub fn variable_at(place: &Seen) -> Option<Declared>
+    ensures { result ≡ variable_at place.now.what place.now.declared }
+{
+    if let What::Declares(_) = place.what
+        && let Some(declared) = place.declared
+        && declared.role != Role::Parameter
+    {
+        return Some(declared);
+    }
+    None
+}
+
+/// A variable of an outer function or of the top level, no constant, whose value can't be copied as the
+/// inner function begins.
 pub fn fails_capture(assigned: &IndexSet<u32>, place: &Seen) -> bool
     ensures { result ≡ fails_capture assigned.now.keys (place_of place.now) }
 {
@@ -58,8 +81,7 @@ pub fn fails_capture(assigned: &IndexSet<u32>, place: &Seen) -> bool
         What::Reads | What::Assigns => match place.declared {
             None => false,
             Some(declared) => {
-                declared.owner != place.around.owner
-                    && !is_constant(assigned, declared)
+                is_outer(assigned, place, declared)
                     && !can_copy(assigned, declared, place.around.owner)
             }
         },
@@ -87,12 +109,12 @@ pub fn fails_return(place: &Seen) -> bool
     }
 }
 
-/// More than 256 slots.
+/// More slots than a function may have.
 pub fn fails_slots(held: &IndexMap<u32, IndexSet<u32>>, place: &Seen) -> bool
     ensures { result ≡ fails_slots (λ f. length (held_in held.now f)) (place_of place.now) }
 {
     match place.what {
-        What::Begins => slot_count(held, place.around.owner) > 256,
+        What::Begins => slot_count(held, place.around.owner) > MOST_SLOTS,
         _ => false,
     }
 }

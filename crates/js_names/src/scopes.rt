@@ -4,8 +4,10 @@ ghost use Rattle.std.specs.List.{flat_map};
 ghost use Rattle.js_tree.specs.Plain.{stmts_of};
 ghost use Rattle.js_tree.specs.Views.{plain_stmt, plain_start, plain_tree};
 ghost use Rattle.std.specs.HashMap.{get_by_text};
-ghost use Rattle.js_names.specs.Scopes.{entry, given_of, parameter, parameters, function_scope, block_scope, for_scope, list_scope, each_scope, each_role, program_scope};
-ghost use Rattle.js_names.specs.Views.{TakesOwn, TakesVars, in_map, keeps, scope_of, own_of_tree_item, vars_of_tree_item};
+ghost use Rattle.js_names.specs.Entries.{entry};
+ghost use Rattle.js_names.specs.Scopes.{given_of, parameter, parameters, function_scope, block_scope, for_scope, list_scope, each_scope, each_role, program_scope};
+ghost use Rattle.js_names.specs.Views.{scope_of};
+ghost use Rattle.js_names.specs.Taken.{TakesOwn, TakesVars, in_map, keeps, own_of_tree_item, vars_of_tree_item};
 
 use crate::declare::{
     declare_list_vars, declare_own, declare_own_stmt, declare_own_stmts, declare_start_own,
@@ -51,7 +53,7 @@ pub fn for_scope(alloc: Global, owner: u32, start: &Start, body: &Stmt) -> Resul
     Ok(scope)
 }
 
-// Declares the name of a `for` over a list, which can be copied from this place on.
+/// Declares the name of a `for` over a list, which can be copied from this place on.
 fn declare_each(
     alloc: Global,
     own: &mut IndexMap<String, Declared>,
@@ -115,7 +117,7 @@ pub fn each_scope(
     Ok(scope)
 }
 
-// From where on the values of the `var`s of this name stay.
+/// From where on the values of the `var`s of this name stay.
 fn given_of(vars: &IndexMap<String, Declared>, text: &str) -> u32
     ensures { result ≡ given_of (get_by_text vars.now text.now) }
 {
@@ -125,7 +127,7 @@ fn given_of(vars: &IndexMap<String, Declared>, text: &str) -> u32
     }
 }
 
-// Declares a parameter of a function with these `var`s.
+/// Declares a parameter of a function with these `var`s.
 fn declare_parameter(
     alloc: Global,
     own: &mut IndexMap<String, Declared>,
@@ -148,7 +150,7 @@ fn declare_parameter(
     declare_own(alloc, own, name, declared)
 }
 
-// Declares the parameters of a function with these `var`s.
+/// Declares the parameters of a function with these `var`s.
 fn declare_parameters(
     alloc: Global,
     own: &mut IndexMap<String, Declared>,
@@ -187,7 +189,7 @@ pub fn function_scope(
     Ok(scope)
 }
 
-// Declares the `let`, `const` or function name of an item of the program.
+/// Declares the `let`, `const` or function name of an item of the program.
 fn declare_item(
     alloc: Global,
     own: &mut IndexMap<String, Declared>,
@@ -211,7 +213,7 @@ fn declare_item(
     }
 }
 
-// Declares the `var` names of an item of the program.
+/// Declares the `var` names of an item of the program.
 fn declare_item_vars(
     alloc: Global,
     vars: &mut IndexMap<String, Declared>,
@@ -225,7 +227,7 @@ fn declare_item_vars(
     }
 }
 
-// The own names of the program.
+/// The own names of the program.
 fn own_of_items(
     alloc: Global,
     own: &mut IndexMap<String, Declared>,
@@ -239,7 +241,7 @@ fn own_of_items(
     Ok(())
 }
 
-// The `var` names of the program.
+/// The `var` names of the program.
 fn vars_of_items(
     alloc: Global,
     vars: &mut IndexMap<String, Declared>,

@@ -4,7 +4,8 @@ ghost use Rattle.std.specs.Arc.{arc_value};
 ghost use Rattle.js_names.specs.Sites.{site, read_site, assign_site, begin_site, parameter_sites, in_function, in_loop, declared_role, word_at};
 ghost use Rattle.js_names.specs.Scopes.{each_role};
 ghost use Rattle.js_names.specs.Places.{see, functions_of, owner_in};
-ghost use Rattle.js_names.specs.Views.{Adds, Entered, Left, place_of, scope_of, scopes_in, scopes_of};
+ghost use Rattle.js_names.specs.Views.{place_of, scope_of, scopes_of};
+ghost use Rattle.js_names.specs.Walks.{Adds, Entered, Left, scopes_in};
 
 use crate::forms::{is_object, is_reserved, is_undefined};
 use crate::lookup::{clashes, declared_at};
@@ -14,7 +15,7 @@ use js_tree::{DeclareKind, Name, Spot};
 use std::alloc::{AllocError, Global};
 use std::sync::Arc;
 
-// Adds the function that begins with a scope.
+/// Adds the function that begins with a scope.
 fn push_owner(functions: &mut Vec<u32>, scope: &Scope) -> Result<(), AllocError>
     ensures { OnOk result (functions.new.items ≡ functions.old.items ++ owner_in
         (scope_of scope.now)) }
@@ -25,7 +26,7 @@ fn push_owner(functions: &mut Vec<u32>, scope: &Scope) -> Result<(), AllocError>
     Ok(())
 }
 
-// The functions around, the innermost first.
+/// The functions around, the innermost first.
 fn functions_of(alloc: Global, scopes: &[Scope]) -> Result<Vec<u32>, AllocError>
     ensures { IfOk result (λ fs. fs.items ≡ functions_of (scopes_of scopes.now)) }
 {
@@ -38,7 +39,7 @@ fn functions_of(alloc: Global, scopes: &[Scope]) -> Result<Vec<u32>, AllocError>
     Ok(functions)
 }
 
-// These functions, shared with the place before where they are those around it.
+/// These functions, shared with the place before where they are those around it.
 fn shared(
     alloc: Global,
     functions: Vec<u32>,
@@ -54,7 +55,7 @@ fn shared(
     Ok(Arc::new(alloc, functions)?)
 }
 
-// What the rules ask of a place, which stands behind another one.
+/// What the rules ask of a place, which stands behind another one.
 #[tactic(auto, unfolding(crate::specs::Places::see))]
 fn see(
     alloc: Global,

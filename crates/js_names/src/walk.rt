@@ -3,10 +3,14 @@ ghost use Rattle.std.specs.Prelude.{◌≡◌, ◌++◌, IfOk, OnOk, is_some, st
 ghost use Rattle.std.specs.List.{flat_map};
 ghost use Rattle.js_tree.specs.Plain.{stmts_of};
 ghost use Rattle.js_tree.specs.Views.{perhaps, plain_expr, plain_start, plain_stmt, plain_tree};
-ghost use Rattle.js_names.specs.Scopes.{block_scope, for_scope, list_scope, each_role, function_scope, top};
-ghost use Rattle.js_names.specs.Sites.{site, assign_site, begin_site, parameter_sites, member_sites, object_of, value_builtin, called_builtin, in_function, in_loop, perhaps_sites, start_sites, stmts_sites, word_at};
+ghost use Rattle.js_names.specs.Entries.{top};
+ghost use Rattle.js_names.specs.Scopes.{block_scope, for_scope, list_scope, each_role, function_scope};
+ghost use Rattle.js_names.specs.Forms.{object_of, value_builtin, called_builtin};
+ghost use Rattle.js_names.specs.Sites.{site, assign_site, begin_site, parameter_sites, member_sites, in_function, in_loop, perhaps_sites, start_sites, stmts_sites, word_at};
 ghost use Rattle.js_names.specs.Places.{places};
-ghost use Rattle.js_names.specs.Views.{Adds, Enters, EntersEach, scopes_in, place_of, tree_sites, field_sites, declarator_sites, tree_stmt_sites, tree_item_sites, block_sites, arrow_sites, body_sites, declared_sites, listed_sites, turn_sites, perhaps_tree_sites, start_tree_sites};
+ghost use Rattle.js_names.specs.Views.{place_of};
+ghost use Rattle.js_names.specs.Walks.{Adds, Enters, EntersEach, scopes_in};
+ghost use Rattle.js_names.specs.TreeSites.{tree_sites, field_sites, declarator_sites, tree_stmt_sites, tree_item_sites, block_sites, arrow_sites, body_sites, declared_sites, listed_sites, turn_sites, perhaps_tree_sites, start_tree_sites};
 
 use crate::first::program_spot;
 use crate::forms::{called_builtin, object_of, value_builtin};
@@ -25,7 +29,7 @@ use js_tree::{
 };
 use std::alloc::{AllocError, Global};
 
-// A use of `bp` or `Math` that is no form, named by both words.
+/// A use of `bp` or `Math` that is no form, named by both words.
 fn put_misuse(walk: &mut Walk, around: Around, object: &Name, word: &str) -> Result<(), AllocError>
     ensures { OnOk result (Adds walk.old walk.new
         (site (scopes_in walk.old) around What.Misuses
@@ -35,7 +39,7 @@ fn put_misuse(walk: &mut Walk, around: Around, object: &Name, word: &str) -> Res
     put_word(walk, around, What::Misuses, text.as_str(), object.spot)
 }
 
-// Two words with a dot between them.
+/// Two words with a dot between them.
 fn member_name(alloc: Global, object: &str, word: &str) -> Result<String, AllocError>
     ensures { IfOk result (λ t. string_bytes t ≡ object.now ++ (codes "." ++ word.now)) }
 {
@@ -87,7 +91,7 @@ fn put_expr(walk: &mut Walk, around: Around, e: &Expr) -> Result<(), AllocError>
     }
 }
 
-// A member.
+/// A member.
 #[cycle(walk)]
 fn put_member(walk: &mut Walk, around: Around, e: &Expr, word: &Text) -> Result<(), AllocError>
     ensures { OnOk result (Adds walk.old walk.new
@@ -107,7 +111,7 @@ fn put_member(walk: &mut Walk, around: Around, e: &Expr, word: &Text) -> Result<
     }
 }
 
-// What is called, unless it is a form of the language.
+/// What is called, unless it is a form of the language.
 #[cycle(walk)]
 fn put_callee(walk: &mut Walk, around: Around, callee: &Expr) -> Result<(), AllocError>
     ensures { OnOk result (Adds walk.old walk.new
@@ -121,7 +125,7 @@ fn put_callee(walk: &mut Walk, around: Around, callee: &Expr) -> Result<(), Allo
     }
 }
 
-// An arrow function with a value.
+/// An arrow function with a value.
 #[cycle(walk)]
 fn put_arrow(walk: &mut Walk, spot: Spot, names: &[Name], value: &Expr) -> Result<(), AllocError>
     ensures { OnOk result (Adds walk.old walk.new
@@ -135,7 +139,7 @@ fn put_arrow(walk: &mut Walk, spot: Spot, names: &[Name], value: &Expr) -> Resul
     Ok(())
 }
 
-// A function with statements.
+/// A function with statements.
 #[cycle(walk)]
 fn put_function(
     walk: &mut Walk,
@@ -154,7 +158,7 @@ fn put_function(
     Ok(())
 }
 
-// Expressions.
+/// Expressions.
 #[cycle(walk)]
 fn put_exprs(walk: &mut Walk, around: Around, es: &[Expr]) -> Result<(), AllocError>
     ensures { OnOk result (Adds walk.old walk.new
@@ -166,7 +170,7 @@ fn put_exprs(walk: &mut Walk, around: Around, es: &[Expr]) -> Result<(), AllocEr
     Ok(())
 }
 
-// The values of fields.
+/// The values of fields.
 #[cycle(walk)]
 fn put_fields(walk: &mut Walk, around: Around, fields: &[Field]) -> Result<(), AllocError>
     ensures { OnOk result (Adds walk.old walk.new
@@ -178,7 +182,7 @@ fn put_fields(walk: &mut Walk, around: Around, fields: &[Field]) -> Result<(), A
     Ok(())
 }
 
-// An expression that may be absent.
+/// An expression that may be absent.
 #[cycle(walk)]
 fn put_perhaps(walk: &mut Walk, around: Around, e: &Option<Expr>) -> Result<(), AllocError>
     ensures { OnOk result (Adds walk.old walk.new
@@ -190,7 +194,7 @@ fn put_perhaps(walk: &mut Walk, around: Around, e: &Option<Expr>) -> Result<(), 
     }
 }
 
-// A declared name and its value.
+/// A declared name and its value.
 #[cycle(walk)]
 fn put_declarator(
     walk: &mut Walk,
@@ -210,7 +214,7 @@ fn put_declarator(
     put_perhaps(walk, around, &declarator.value)
 }
 
-// Declared names and their values.
+/// Declared names and their values.
 #[cycle(walk)]
 fn put_declarators(
     walk: &mut Walk,
@@ -227,7 +231,7 @@ fn put_declarators(
     Ok(())
 }
 
-// What a `for` begins with.
+/// What a `for` begins with.
 #[cycle(walk)]
 fn put_start(walk: &mut Walk, around: Around, start: &Start) -> Result<(), AllocError>
     ensures { OnOk result (Adds walk.old walk.new
@@ -288,7 +292,7 @@ fn put_stmt(walk: &mut Walk, around: Around, stmt: &Stmt) -> Result<(), AllocErr
     }
 }
 
-// The name of a `for` over a list, and the list.
+/// The name of a `for` over a list, and the list.
 #[cycle(walk)]
 fn put_listed(
     walk: &mut Walk,
@@ -306,7 +310,7 @@ fn put_listed(
     Ok(())
 }
 
-// The body of a `for` over a list.
+/// The body of a `for` over a list.
 #[cycle(walk)]
 fn put_turns(
     walk: &mut Walk,
@@ -325,7 +329,7 @@ fn put_turns(
     Ok(())
 }
 
-// A block.
+/// A block.
 #[cycle(walk)]
 fn put_block(walk: &mut Walk, around: Around, body: &[Stmt]) -> Result<(), AllocError>
     ensures { OnOk result (Adds walk.old walk.new
@@ -338,7 +342,7 @@ fn put_block(walk: &mut Walk, around: Around, body: &[Stmt]) -> Result<(), Alloc
     Ok(())
 }
 
-// Statements.
+/// Statements.
 #[cycle(walk)]
 fn put_stmts(walk: &mut Walk, around: Around, body: &[Stmt]) -> Result<(), AllocError>
     ensures { OnOk result (Adds walk.old walk.new
@@ -350,7 +354,7 @@ fn put_stmts(walk: &mut Walk, around: Around, body: &[Stmt]) -> Result<(), Alloc
     Ok(())
 }
 
-// The parameters of a function, behind its first token.
+/// The parameters of a function, behind its first token.
 fn put_head(walk: &mut Walk, spot: Spot, names: &[Name]) -> Result<(), AllocError>
     ensures { OnOk result (Adds walk.old walk.new
         (begin_site (scopes_in walk.old) spot.at spot ++ parameter_sites (scopes_in walk.old)
@@ -360,7 +364,7 @@ fn put_head(walk: &mut Walk, spot: Spot, names: &[Name]) -> Result<(), AllocErro
     put_parameters(walk, in_function(spot.at), names)
 }
 
-// The scope of a `for` with three parts.
+/// The scope of a `for` with three parts.
 fn enter_for(walk: &mut Walk, around: Around, start: &Start, body: &Stmt) -> Result<(), AllocError>
     ensures { OnOk result (Enters walk.old walk.new
         (for_scope around.owner (plain_start start.now) (plain_stmt body.now))) }
@@ -369,7 +373,7 @@ fn enter_for(walk: &mut Walk, around: Around, start: &Start, body: &Stmt) -> Res
     enter(walk, scope)
 }
 
-// The scope of the list of a `for`, and its name.
+/// The scope of the list of a `for`, and its name.
 fn enter_list(
     walk: &mut Walk,
     around: Around,
@@ -384,7 +388,7 @@ fn enter_list(
     put_name(walk, around, What::Declares(each_role(kind)), name)
 }
 
-// A function declaration.
+/// A function declaration.
 fn put_declared(
     walk: &mut Walk,
     spot: Spot,
@@ -399,7 +403,7 @@ fn put_declared(
     put_function(walk, spot, names, body)
 }
 
-// What a program lists.
+/// What a program lists.
 fn put_item(walk: &mut Walk, item: &Item) -> Result<(), AllocError>
     ensures { OnOk result (Adds walk.old walk.new (tree_item_sites (scopes_in walk.old) item.now)) }
 {
@@ -409,7 +413,7 @@ fn put_item(walk: &mut Walk, item: &Item) -> Result<(), AllocError>
     }
 }
 
-// All that a program lists.
+/// All that a program lists.
 fn put_items(walk: &mut Walk, items: &[Item]) -> Result<(), AllocError>
     ensures { OnOk result (Adds walk.old walk.new
         (flat_map (tree_item_sites (scopes_in walk.old)) items.now)) }

@@ -8,8 +8,9 @@ use Rattle.js_program.specs.PlainProgram.{PlainBody}
 use Rattle.js_grammar.specs.Grammar.{SpellsTree}
 use Rattle.js_names.specs.declared.place.Declared.{Declared}
 use Rattle.js_names.specs.declared.place.What.{What}
-use Rattle.js_names.specs.Scopes.{top}
-use Rattle.js_names.specs.Sites.{Site, begin_site, program_spot, item_sites, program_sites}
+use Rattle.js_names.specs.Entries.{top}
+use Rattle.js_names.specs.Spots.{program_spot}
+use Rattle.js_names.specs.Sites.{Site, begin_site, item_sites, program_sites}
 use Rattle.js_names.specs.Places.{Place, see, places}
 use Rattle.js_names.specs.Slots.{is_among, joins, assigned_in, constant_at, constant_in, variable_at, constants_of}
 use Rattle.js_resolver.specs.Variables.{capture_slots}

@@ -10,7 +10,8 @@ use Rattle.js_tree.specs.Plain.{PlainPerhaps, PlainDeclarators, PlainStart, Plai
 use Rattle.js_names.specs.declared.place.Declared.{Declared}
 use Rattle.js_names.specs.declared.place.Around.{Around}
 use Rattle.js_names.specs.declared.place.What.{What}
-use Rattle.js_names.specs.Scopes.{Scope, top, named, first, one_var, entry, own_declarator, own_declarators, own_of, own_of_all, own_of_start, own_of_item, var_declarator, var_declarators, vars_of, vars_of_form, vars_of_all, vars_of_start, vars_of_item, parameters, block_scope, for_scope, list_scope, each_scope, each_role, function_scope, program_scope}
+use Rattle.js_names.specs.Entries.{top, entry, own_declarator, own_declarators, own_of, own_of_all, own_of_start, own_of_item, var_declarator, var_declarators, vars_of, vars_of_form, vars_of_all, vars_of_start, vars_of_item}
+use Rattle.js_names.specs.Scopes.{Scope, named, first, one_var, parameters, block_scope, for_scope, list_scope, each_scope, each_role, function_scope, program_scope}
 use Rattle.js_names.specs.Sites.{Site, site, in_function, parameter_sites, declared_role}
 use Rattle.js_names.specs.Places.{found, found_var, found_here}
 use Rattle.js_resolver.proofs.SoundFound.{in_whole, IsKept, There, AllFound}

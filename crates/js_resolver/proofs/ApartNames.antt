@@ -10,8 +10,9 @@ use Rattle.js_names.specs.declared.place.Declared.{Declared}
 use Rattle.js_names.specs.declared.place.Role.{Role}
 use Rattle.js_names.specs.declared.place.Role.TheVariants.{Parameter, Const, Let, Var, Function}
 use Rattle.js_names.specs.declared.place.What.{What}
-use Rattle.js_names.specs.Scopes.{top}
-use Rattle.js_names.specs.Sites.{Site, begin_site, program_spot, item_sites, program_sites}
+use Rattle.js_names.specs.Entries.{top}
+use Rattle.js_names.specs.Spots.{program_spot}
+use Rattle.js_names.specs.Sites.{Site, begin_site, item_sites, program_sites}
 use Rattle.js_names.specs.Places.{Place, see, places, declared_at}
 use Rattle.js_names.specs.Slots.{held_by, parameter_in, parameter_at, is_begin}
 use Rattle.js_resolver.specs.Variables.{second}

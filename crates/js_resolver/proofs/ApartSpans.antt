@@ -9,7 +9,8 @@ use Rattle.js_grammar.specs.Grammar.{Params, params_none, params_last, params_mo
 use Rattle.js_names.specs.declared.place.Around.{Around}
 use Rattle.js_names.specs.declared.place.What.{What}
 use Rattle.js_names.specs.Scopes.{Scope}
-use Rattle.js_names.specs.Sites.{Site, site, read_site, assign_site, is_undefined, is_reserved, member_sites, in_function, begin_site, parameter_sites}
+use Rattle.js_names.specs.Forms.{is_undefined, is_reserved}
+use Rattle.js_names.specs.Sites.{Site, site, read_site, assign_site, member_sites, in_function, begin_site, parameter_sites}
 use Rattle.js_names.specs.Slots.{is_begin}
 use Rattle.js_resolver.specs.Spelled.{next, InOrder}
 use Rattle.js_resolver.proofs.SoundFunctions.{begun, begun-append}

@@ -13,8 +13,10 @@ use Rattle.js_grammar.specs.Grammar.{Level, Spells, number_of, words_of, true_of
 use Rattle.js_names.specs.declared.place.Around.{Around}
 use Rattle.js_names.specs.declared.place.Declared.{Declared}
 use Rattle.js_names.specs.declared.place.What.{What}
-use Rattle.js_names.specs.Scopes.{Scope, top, own_declarator, own_declarators, own_of, own_of_all, own_of_start, own_of_item, var_declarator, var_declarators, vars_of, vars_of_all, vars_of_start, vars_of_item, block_scope, for_scope, list_scope, each_scope, function_scope}
-use Rattle.js_names.specs.Sites.{site, declared_role, object_of, called_builtin, value_builtin, in_function, in_loop, expr_sites, form_sites, exprs_sites, fields_sites, perhaps_sites, declarators_sites, start_sites, stmt_sites, stmt_form_sites, stmts_sites, item_sites}
+use Rattle.js_names.specs.Entries.{top, own_declarator, own_declarators, own_of, own_of_all, own_of_start, own_of_item, var_declarator, var_declarators, vars_of, vars_of_all, vars_of_start, vars_of_item}
+use Rattle.js_names.specs.Scopes.{Scope, block_scope, for_scope, list_scope, each_scope, function_scope}
+use Rattle.js_names.specs.Forms.{object_of, called_builtin, value_builtin}
+use Rattle.js_names.specs.Sites.{site, declared_role, in_function, in_loop, expr_sites, form_sites, exprs_sites, fields_sites, perhaps_sites, declarators_sites, start_sites, stmt_sites, stmt_form_sites, stmts_sites, item_sites}
 use Rattle.js_names.specs.Places.{found, found_var}
 use Rattle.js_resolver.proofs.ApartOrder.{name_place}
 use Rattle.js_resolver.proofs.SoundFound.{in_whole, AllFound}

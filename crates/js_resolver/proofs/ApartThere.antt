@@ -5,7 +5,8 @@ use Rattle.std.proofs.lemmas.Slice.Eq.{bytes_eq-Decides}
 use Rattle.std.specs.Prelude.{is_some, max, nat_lt}
 use Rattle.std.specs.Str.{bytes_eq}
 use Rattle.js_names.specs.declared.place.Declared.{Declared}
-use Rattle.js_names.specs.Scopes.{Scope, Entry, named, first, one_var, merge, scope_with}
+use Rattle.js_names.specs.Entries.{Entry}
+use Rattle.js_names.specs.Scopes.{Scope, named, first, one_var, merge, scope_with}
 use Rattle.js_names.specs.Places.{found, found_var, earlier}
 use Rattle.js_resolver.proofs.SoundFound.{IsKept, There}
 use Rattle.js_resolver.proofs.SoundKnown.{here_look, here_look_var}

@@ -15,11 +15,13 @@ use Rattle.js_program.specs.declared.node.NodeForm.{NodeForm}
 use Rattle.js_program.specs.declared.node.NodeForm.TheVariants as N
 use Rattle.js_program.specs.PlainProgram as n
 use Rattle.js_names.specs.Places.{Place}
-use Rattle.js_names.specs.Sites.{called_builtin, value_builtin}
+use Rattle.js_names.specs.Forms.{called_builtin, value_builtin}
 use Rattle.js_resolver.specs.declared.emit.Called.{Called}
 use Rattle.js_resolver.specs.declared.emit.Called.TheVariants as C
 use Rattle.js_resolver.specs.declared.emitter.Emitter.{Emitter}
-use Rattle.js_resolver.specs.Nodes.{none, after, arguments_piece, begins_with_division, beside, call_node, expr_parts, expr_piece, exprs_piece, form_parts, floors_division, is_division, member_node, method_of}
+use Rattle.js_resolver.specs.Pieces.{none, after, beside}
+use Rattle.js_resolver.specs.NodeForms.{begins_with_division, call_node, floors_division, is_division, member_node, method_of}
+use Rattle.js_resolver.specs.Nodes.{arguments_piece, expr_parts, expr_piece, exprs_piece, form_parts}
 use Rattle.js_resolver.specs.Emits.{count, is_divide, Emits, EmitsCallee, EmitsCalled, Forms, FormsCall, FormsExpr, FormsBuiltin, builtin_in, word_in, parts_in, called_piece, callee_piece}
 use Rattle.js_resolver.proofs.Emitting.{adds_both, adds_none, counts, emits_both, emits_none}
 

@@ -8,7 +8,9 @@ use Rattle.js_program.specs.PlainProgram.{PlainNodeForm}
 use Rattle.js_program.specs.Views.{plain_node, plain_node_form}
 use Rattle.js_names.specs.Places.{Place}
 use Rattle.js_resolver.specs.declared.emitter.Emitter.{Emitter}
-use Rattle.js_resolver.specs.Nodes.{Piece, none, beside, after, closed, expr_node, stmt_node, form_parts, stmt_parts}
+use Rattle.js_resolver.specs.Pieces.{Piece, none, beside, after, closed}
+use Rattle.js_resolver.specs.NodeForms.{expr_node, stmt_node}
+use Rattle.js_resolver.specs.Nodes.{form_parts, stmt_parts}
 use Rattle.js_resolver.specs.Emits.{nodes_of, functions_of, count, Puts, Adds, Emits, Forms, FormsExpr, FormsStmt, Leaves}
 
 -- how many nodes there are now

@@ -6,12 +6,12 @@ use Rattle.js_tree.specs.declared.tree.Spot.{Spot}
 use Rattle.js_tree.specs.declared.tree.DeclareKind.{DeclareKind}
 use Rattle.js_tree.specs.declared.tree.Operator.{Operator}
 use Rattle.js_tree.specs.Plain as t
-use Rattle.js_tree.specs.Plain.{PlainExpr, PlainForm, PlainStmt, PlainStmtForm, PlainItem, exprs_of, stmts_of}
+use Rattle.js_tree.specs.Plain.{PlainExpr, PlainForm, PlainStmt, PlainItem, exprs_of, stmts_of}
 use Rattle.js_program.specs.declared.builtin.Builtin.{Builtin}
 use Rattle.js_program.specs.declared.node.Variable.{Variable}
 use Rattle.js_program.specs.declared.node.Variable.TheVariants.{Slot, Constant}
 use Rattle.js_program.specs.PlainProgram as n
-use Rattle.js_program.specs.PlainProgram.{PlainNode, PlainNodeForm, PlainBody, PlainContent, PlainProgram, PlainDeclared}
+use Rattle.js_program.specs.PlainProgram.{PlainNode, PlainNodeForm, PlainBody, PlainContent, PlainDeclared}
 use Rattle.js_names.specs.Scopes.{program_scope, function_scope, block_scope, for_scope, list_scope, each_scope}
 use Rattle.js_names.specs.Sites.{expr_sites, form_sites, exprs_sites, fields_sites, perhaps_sites, declarators_sites, start_sites, stmt_sites, stmt_form_sites, stmts_sites, item_sites, program_sites}
 use Rattle.js_names.specs.Places.{found, found_var, functions_of, repeated, blocked, see, places}

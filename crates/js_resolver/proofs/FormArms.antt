@@ -27,11 +27,13 @@ use Rattle.js_names.specs.Places.{Place}
 use Rattle.js_resolver.specs.declared.emit.Called.{Called}
 use Rattle.js_resolver.specs.declared.emitter.Emitter.{Emitter}
 use Rattle.js_resolver.specs.Variables.{slot_at}
-use Rattle.js_resolver.specs.Nodes.{beside, expr_node, expr_piece, form_parts, exprs_piece, fields_piece, keys_of}
+use Rattle.js_resolver.specs.Pieces.{beside}
+use Rattle.js_resolver.specs.NodeForms.{expr_node, keys_of}
+use Rattle.js_resolver.specs.Nodes.{expr_piece, form_parts, exprs_piece, fields_piece}
 use Rattle.js_resolver.specs.Emits.{count, Puts, Emits, EmitsCallee, FormsCall, FormsExpr}
 use Rattle.js_resolver.proofs.Emitting.{emits_none, emits_both, forms_expr, if_forms_expr, if_closes}
 use Rattle.js_resolver.proofs.CallArms.{call_whole}
-use Rattle.js_resolver.proofs.TreeForms.{expr_is, number_is, words_is, truth_is, null_is, use_is, list_is, fields_is, member_is, index_is, call_is, unary_is, update_is, binary_is, conditional_is, assign_is, arrow_value_is, arrow_block_is, function_is}
+use Rattle.js_tree.proofs.Forms.{expr_is, number_is, words_is, truth_is, null_is, use_is, list_is, fields_is, member_is, index_is, call_is, unary_is, update_is, binary_is, conditional_is, assign_is, arrow_value_is, arrow_block_is, function_is}
 
 pub number_arm : (ps : List Place) (a : Emitter) (f : Form) (k : _) → f ≡ Number k
     → FormsExpr ps a a (N.Number k) (plain_form f)

@@ -1,10 +1,10 @@
 -- The slots of a block, one declaration after the other.
 use Rattle.std.proofs.Common.{◌≡◌, ℕ, ◌+◌, ◌<◌, ◌≤◌, List, [], ◌∷◌, ◌++◌, ◌∙◌, ap, sym, length, drop, get_or, append_assoc, append-nil}
 use Rattle.std.proofs.lemmas.List.{drop_more, drop_all, map-append}
-use Rattle.js_names.specs.Scopes.{Entry}
+use Rattle.js_names.specs.Entries.{Entry}
 use Rattle.js_names.specs.Places.{Place}
 use Rattle.js_resolver.specs.Variables.{slot_at}
-use Rattle.js_resolver.specs.Nodes.{fresh}
+use Rattle.js_resolver.specs.NodeForms.{fresh}
 
 -- one more turn of a loop: all : what is declared by a list, one : by its first element
 pub fresh_more : {X : Type 0} (ps : List Place) (one : X → List Entry) (all : List X → List Entry) (xs : List X) (i : ℕ) (d x : X) (a b w : List ℕ)

@@ -23,7 +23,8 @@ use Rattle.js_program.specs.Views.{plain_body, plain_node}
 use Rattle.js_names.specs.Places.{Place}
 use Rattle.js_resolver.specs.declared.emitter.Emitter.{Emitter}
 use Rattle.js_resolver.specs.Variables.{body_of, code_at}
-use Rattle.js_resolver.specs.Nodes.{Piece, expr_piece, form_parts, function_piece, item_piece, one_value, stmt_piece, stmts_piece}
+use Rattle.js_resolver.specs.Pieces.{Piece, function_piece, one_value}
+use Rattle.js_resolver.specs.Nodes.{expr_piece, form_parts, item_piece, stmt_piece, stmts_piece}
 use Rattle.js_resolver.specs.Emits.{functions_of, count, Adds, Emits, EmitsMore, FormsExpr, PutsBody}
 
 inserted : {A : Type 0} (xs ys : List A) (y : A) → insert (xs ++ ys) (length xs) y ≡ xs ++ y ∷ ys

@@ -14,13 +14,16 @@ use Rattle.js_program.specs.declared.node.Variable.{Variable}
 use Rattle.js_program.specs.PlainProgram.{PlainDeclared}
 use Rattle.js_program.specs.Views.{plain_declared}
 use Rattle.js_names.specs.Places.{Place}
-use Rattle.js_names.specs.Scopes.{is_present}
+use Rattle.js_names.specs.Entries.{is_present}
 use Rattle.js_resolver.specs.declared.emitter.Emitter.{Emitter}
 use Rattle.js_resolver.specs.Variables.{named_at}
-use Rattle.js_resolver.specs.Nodes.{Piece, none, beside, after, expr_piece, exprs_piece, fields_piece, keys_of, perhaps_piece, perhaps_part, parts_after, declarators_piece, declared_of, stmt_piece, stmts_piece, item_piece, items_piece}
+use Rattle.js_resolver.specs.Pieces.{Piece, none, beside, after}
+use Rattle.js_resolver.specs.NodeForms.{keys_of, perhaps_part, parts_after, declared_of}
+use Rattle.js_resolver.specs.Nodes.{expr_piece, exprs_piece, fields_piece, perhaps_piece, declarators_piece, stmt_piece, stmts_piece, item_piece, items_piece}
 use Rattle.js_resolver.specs.Emits.{count, Adds, Emits, EmitsMore, EmitsDeclarators, EmitsPerhaps, Leaves, tree_perhaps}
 use Rattle.js_resolver.proofs.Emitting.{counts, leaves_all, leaves_none, leaves_more, numbers_more}
-use Rattle.js_resolver.proofs.TreeForms.{field_is, declarator_is}
+use Rattle.js_tree.proofs.Forms.{field_is}
+use Rattle.js_tree.proofs.Statements.{declarator_is}
 
 -- and the numbers so far
 pub record Remains (start now : Emitter) (numbers : List ℕ) (rest whole : Piece) : Type 0 where

@@ -3,8 +3,9 @@ use Rattle.std.proofs.Common.{◌≡◌, List, ◌∙◌, ap, refl, sym, map, So
 use Rattle.js_tree.specs.Plain.{PlainItem}
 use Rattle.js_program.specs.PlainProgram.{PlainProgram, statements}
 use Rattle.js_program.specs.Views as v
-use Rattle.js_names.specs.Scopes.{top}
-use Rattle.js_names.specs.Sites.{program_spot, program_sites}
+use Rattle.js_names.specs.Entries.{top}
+use Rattle.js_names.specs.Spots.{program_spot}
+use Rattle.js_names.specs.Sites.{program_sites}
 use Rattle.js_names.specs.Places.{Place, places, see}
 use Rattle.js_names.specs.Rules.{name_fault}
 use Rattle.js_names.specs.Slots.{assigned_in, constants_of}

@@ -9,12 +9,14 @@ use Rattle.js_tree.specs.declared.tree.Spot.{Spot}
 use Rattle.js_tree.specs.declared.tree.DeclareKind.{DeclareKind}
 use Rattle.js_tree.specs.declared.tree.DeclareKind.TheVariants.{Const as const_word, Let as let_word, Var as var_word}
 use Rattle.js_tree.specs.Plain as t
-use Rattle.js_tree.specs.Plain.{PlainPerhaps, PlainDeclarators, PlainStart, PlainStmt, PlainStmtForm, PlainStmts, PlainItem}
+use Rattle.js_tree.specs.Plain.{PlainDeclarators, PlainStart, PlainStmt, PlainStmtForm, PlainStmts, PlainItem}
 use Rattle.js_names.specs.declared.place.Declared.{Declared}
 use Rattle.js_names.specs.declared.place.Role.TheVariants.{Function}
 use Rattle.js_names.specs.declared.place.What.{What}
-use Rattle.js_names.specs.Scopes.{Scope, Entry, top, named, first, one_var, merge, own_declarators, own_of, own_of_item, var_declarators, vars_of, vars_of_form, vars_of_all, vars_of_start, vars_of_item, block_scope, for_scope, list_scope, each_scope, function_scope, program_scope}
-use Rattle.js_names.specs.Sites.{Site, site, begin_site, parameter_sites, in_function, program_spot, program_sites, stmts_sites, item_sites}
+use Rattle.js_names.specs.Entries.{Entry, top, own_declarators, own_of, own_of_item, var_declarators, vars_of, vars_of_form, vars_of_all, vars_of_start, vars_of_item}
+use Rattle.js_names.specs.Scopes.{Scope, named, first, one_var, merge, block_scope, for_scope, list_scope, each_scope, function_scope, program_scope}
+use Rattle.js_names.specs.Spots.{program_spot}
+use Rattle.js_names.specs.Sites.{Site, site, begin_site, parameter_sites, in_function, program_sites, stmts_sites, item_sites}
 use Rattle.js_names.specs.Places.{Place, see, places, found, found_here, or_else, functions_of, declared_at, is_var, is_function}
 use Rattle.js_names.specs.Slots.{assigned_in, captures, copies, is_mention, is_constant, is_outer, is_among, inside}
 use Rattle.js_resolver.proofs.SoundFunctions.{begun, begun-append, begun-parameters}

@@ -8,7 +8,7 @@ use Rattle.js_program.specs.Sound.{variable_fits, all_below, IsSound}
 use Rattle.js_names.specs.declared.place.Declared.{Declared}
 use Rattle.js_names.specs.declared.place.Role.TheVariants.{Parameter}
 use Rattle.js_names.specs.declared.place.What.{What}
-use Rattle.js_names.specs.Scopes.{top}
+use Rattle.js_names.specs.Entries.{top}
 use Rattle.js_names.specs.Sites.{Site, item_sites, program_sites}
 use Rattle.js_names.specs.Places.{Place, see, places, functions_of, declared_at, test_of, is_const, is_function, is_var}
 use Rattle.js_names.specs.Slots.{held_by, parameter_in, parameter_at, assigned_in, constants_of, assigned_at, place_in, is_among, is_constant, is_begin, is_mention, is_assignment, first_uses, functions_in, function_at}
@@ -16,7 +16,8 @@ use Rattle.js_names.specs.Rules.{name_fault, is_misuse}
 use Rattle.js_resolver.specs.Variables.{named_at, second, around_of, capture_slots}
 use Rattle.js_resolver.specs.Resolved.{constant_of, program_of_tree}
 use Rattle.js_resolver.proofs.SoundFunctions.{begun, captures_in_order, items_listed}
-use Rattle.js_resolver.proofs.SoundLists.{In, HasPlace, in-first_uses, held-append}
+use Rattle.js_names.proofs.Holding.{held-append}
+use Rattle.js_resolver.proofs.SoundLists.{In, HasPlace, in-first_uses}
 use Rattle.js_resolver.proofs.SoundFound.{AllHave, IsKept, IsFound, AllFound, in_whole}
 use Rattle.js_resolver.proofs.SoundScopes.{constant-from}
 use Rattle.js_resolver.proofs.SoundAlone.{declared_alone}

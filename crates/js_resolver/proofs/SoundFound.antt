@@ -2,7 +2,8 @@
 use Rattle.std.proofs.Common.{◌≡◌, ℕ, List, [], ◌∷◌, Option, Some, Bool, true, false, ◌||◌}
 use Rattle.js_names.specs.declared.place.Declared.{Declared}
 use Rattle.js_names.specs.declared.place.What.{What}
-use Rattle.js_names.specs.Scopes.{Scope, top}
+use Rattle.js_names.specs.Entries.{top}
+use Rattle.js_names.specs.Scopes.{Scope}
 use Rattle.js_names.specs.Sites.{Site}
 use Rattle.js_names.specs.Places.{Place, see, declared_at, is_function, is_var}
 use Rattle.js_resolver.proofs.SoundLists.{HasPlace}

@@ -15,12 +15,16 @@ use Rattle.js_program.specs.PlainProgram as n
 use Rattle.js_program.specs.PlainProgram.{PlainBody, PlainContent}
 use Rattle.js_names.specs.declared.place.Around.{Around}
 use Rattle.js_names.specs.declared.place.What.{What}
-use Rattle.js_names.specs.Scopes.{Scope, top, block_scope, for_scope, list_scope, each_scope, function_scope}
-use Rattle.js_names.specs.Sites.{Site, site, read_site, assign_site, is_undefined, is_reserved, object_of, called_builtin, value_builtin, builtin_at, member_sites, in_function, in_loop, begin_site, parameter_sites, expr_sites, form_sites, exprs_sites, fields_sites, perhaps_sites, declarators_sites, start_sites, stmt_sites, stmt_form_sites, stmts_sites, item_sites}
+use Rattle.js_names.specs.Entries.{top}
+use Rattle.js_names.specs.Scopes.{Scope, block_scope, for_scope, list_scope, each_scope, function_scope}
+use Rattle.js_names.specs.Forms.{is_undefined, is_reserved, object_of, called_builtin, value_builtin}
+use Rattle.js_names.specs.Sites.{Site, site, read_site, assign_site, member_sites, in_function, in_loop, begin_site, parameter_sites, expr_sites, form_sites, exprs_sites, fields_sites, perhaps_sites, declarators_sites, start_sites, stmt_sites, stmt_form_sites, stmts_sites, item_sites}
 use Rattle.js_names.specs.Places.{Place}
 use Rattle.js_names.specs.Slots.{is_begin}
 use Rattle.js_resolver.specs.Variables.{capture_slots, body_of}
-use Rattle.js_resolver.specs.Nodes.{Piece, none, beside, after, function_piece, one_value, method_of, floors_division, expr_piece, expr_parts, form_parts, exprs_piece, arguments_piece, fields_piece, perhaps_piece, declarators_piece, start_piece, stmt_piece, stmt_parts, stmts_piece, item_piece, items_piece}
+use Rattle.js_resolver.specs.Pieces.{Piece, none, beside, after, function_piece, one_value}
+use Rattle.js_resolver.specs.NodeForms.{method_of, floors_division}
+use Rattle.js_resolver.specs.Nodes.{expr_piece, expr_parts, form_parts, exprs_piece, arguments_piece, fields_piece, perhaps_piece, declarators_piece, start_piece, stmt_piece, stmt_parts, stmts_piece, item_piece, items_piece}
 
 -- the functions that begin at some places
 abbrev pub begun : List Site → List ℕ
@@ -90,10 +94,6 @@ begun-log : (scopes : List Scope) (a : Around) (name : Name) (word : List ℕ) (
 begun-log scopes a name word None is_value = begun-read scopes a name
 begun-log scopes a name word (Some object) true = refl
 begun-log scopes a name word (Some object) false = refl
-
-log_of : (o : Bool) (word : List ℕ) (called : Bool) (name : List ℕ) → is_some (builtin_at (if o then Some name else None) word called) ≡ true → o ≡ true
-log_of true word called name h = refl
-log_of false word called name h = absurd (false≢true h)
 
 -- no function begins in the owner of a form
 begun-value : (scopes : List Scope) (a : Around) (e : PlainExpr) (word : List ℕ) → is_some (value_builtin e word) ≡ true → begun (expr_sites scopes a e) ≡ []

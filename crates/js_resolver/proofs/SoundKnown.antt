@@ -10,7 +10,8 @@ use Rattle.js_names.specs.declared.place.Around.{Around}
 use Rattle.js_names.specs.declared.place.Declared.{Declared}
 use Rattle.js_names.specs.declared.place.Role.{Role}
 use Rattle.js_names.specs.declared.place.What.{What}
-use Rattle.js_names.specs.Scopes.{Scope, top, named, first, one_var, entry, own_of_all, own_of_start, vars_of_all, parameters, block_scope, for_scope, list_scope, each_scope, each_role, function_scope}
+use Rattle.js_names.specs.Entries.{top, entry, own_of_all, own_of_start, vars_of_all}
+use Rattle.js_names.specs.Scopes.{Scope, named, first, one_var, parameters, block_scope, for_scope, list_scope, each_scope, each_role, function_scope}
 use Rattle.js_names.specs.Sites.{site, in_function, begin_site, parameter_sites, start_sites, stmts_sites}
 use Rattle.js_names.specs.Places.{Place, see, earlier, found, found_var, found_here, or_else, functions_of}
 use Rattle.js_names.specs.Slots.{is_begin}

@@ -1,5 +1,5 @@
 -- What a function holds has a number below that of its slots.
-use Rattle.std.proofs.Common.{◌≡◌, ◌⊎◌, inl, inr, ℕ, ◌<◌, List, [], ◌∷◌, ◌++◌, refl, ap, sym, subst, length, fold, arith, Option, Some, None, Bool, true, false, if◌then◌else◌, nat_eq}
+use Rattle.std.proofs.Common.{◌≡◌, ◌⊎◌, inl, inr, ℕ, ◌<◌, List, [], ◌∷◌, ◌++◌, refl, sym, subst, length, fold, arith, Option, Some, None, Bool, true, false, if◌then◌else◌, nat_eq}
 use Rattle.std.proofs.lemmas.Bool.{lt-ltb, ltb-true, eqb-true, or_cases, false≢true}
 use Rattle.std.specs.Prelude.{unwrap_or, nat_lt, not}
 use Rattle.std.specs.List.{flat_map, prefix_len}
@@ -7,6 +7,7 @@ use Rattle.js_program.specs.Sound.{all_below}
 use Rattle.js_names.specs.declared.place.Declared.{Declared}
 use Rattle.js_names.specs.Places.{Place, is_var}
 use Rattle.js_names.specs.Slots.{Holding, held_by, is_among, joins, first_uses, assigned_in, holdings, slots_of, vars_of, parameter_in, captures_in, variable_in, variable_at, variable_of, var_of, var_in}
+use Rattle.js_names.proofs.Holding.{held-append}
 use Rattle.js_resolver.specs.Variables.{index_in, slots_among, var_slots}
 use Rattle.js_resolver.proofs.SoundParts.{Every, every_all}
 
@@ -92,12 +93,6 @@ every-indices slots (v ∷ vs) h = (lt-ltb (index_in slots v) (length slots) (in
 -- variables that are among the slots have numbers below that of the slots
 pub slots_below : (slots vs : List ℕ) → ((v : ℕ) → In v vs → In v slots) → all_below (length slots) (slots_among slots vs) ≡ true
 slots_below slots vs f = every_all (λ k. nat_lt k (length slots)) (slots_among slots vs) (every-indices slots vs (every_in (λ v. In v slots) vs f))
-
-pub held-append : (q : ℕ) (xs ys : List Holding) → held_by q (xs ++ ys) ≡ held_by q xs ++ held_by q ys
-held-append q [] ys = refl
-held-append q (x ∷ xs) ys =
-    elim (nat_eq x.function q) as (λ b. (if b then x.variable ∷ held_by q (xs ++ ys) else held_by q (xs ++ ys)) ≡ (if b then x.variable ∷ held_by q xs else held_by q xs) ++ held_by q ys)
-    [ true ↦ ap (λ z. x.variable ∷ z) (held-append q xs ys) | false ↦ held-append q xs ys ]
 
 held-left : (q v : ℕ) (xs ys : List Holding) → In v (held_by q xs) → In v (held_by q (xs ++ ys))
 held-left q v xs ys h = subst (In v) (sym (held-append q xs ys)) (in-left v (held_by q xs) (held_by q ys) h)

@@ -13,17 +13,21 @@ use Rattle.js_tree.specs.Plain.{PlainExpr, PlainForm, PlainExprs, PlainFields, P
 use Rattle.js_tree.specs.Nesting.{is_object}
 use Rattle.js_program.specs.declared.builtin.Builtin.{Builtin}
 use Rattle.js_program.specs.PlainProgram as n
-use Rattle.js_program.specs.PlainProgram.{PlainNodeForm, PlainNode, PlainBody, PlainContent, PlainProgram, PlainDeclared, parts_of, content_parts}
+use Rattle.js_program.specs.PlainProgram.{PlainNodeForm, PlainNode, PlainBody, PlainContent, PlainProgram, parts_of, content_parts}
 use Rattle.js_program.specs.Sound.{variables_declared, all_below, variable_fits, function_fits, form_fits, found_fits, node_fits, body_fits}
 use Rattle.js_names.specs.declared.place.Around.{Around}
 use Rattle.js_names.specs.declared.place.Role.TheVariants.{Parameter}
 use Rattle.js_names.specs.declared.place.What.{What}
-use Rattle.js_names.specs.Scopes.{Scope, Entry, top, is_present, own_of_all, own_of, own_of_start, own_declarators, own_declarator, each_role, block_scope, for_scope, list_scope, each_scope, function_scope}
-use Rattle.js_names.specs.Sites.{Site, site, read_site, assign_site, is_undefined, is_reserved, declared_role, object_of, called_builtin, value_builtin, member_sites, in_function, in_loop, begin_site, parameter_sites, expr_sites, form_sites, exprs_sites, fields_sites, perhaps_sites, declarators_sites, start_sites, stmt_sites, stmt_form_sites, stmts_sites, item_sites}
+use Rattle.js_names.specs.Entries.{Entry, top, is_present, own_of_all, own_of, own_of_start, own_declarators, own_declarator}
+use Rattle.js_names.specs.Scopes.{Scope, each_role, block_scope, for_scope, list_scope, each_scope, function_scope}
+use Rattle.js_names.specs.Forms.{is_undefined, is_reserved, object_of, called_builtin, value_builtin}
+use Rattle.js_names.specs.Sites.{Site, site, read_site, assign_site, declared_role, member_sites, in_function, in_loop, begin_site, parameter_sites, expr_sites, form_sites, exprs_sites, fields_sites, perhaps_sites, declarators_sites, start_sites, stmt_sites, stmt_form_sites, stmts_sites, item_sites}
 use Rattle.js_names.specs.Places.{Place, functions_of, is_var}
 use Rattle.js_names.specs.Slots.{assigned_in, slots_of, captures, held_by, parameter_in}
 use Rattle.js_resolver.specs.Variables.{around_of, named_at, slot_at, code_at, second, capture_slots, slots_among, body_of}
-use Rattle.js_resolver.specs.Nodes.{Piece, none, beside, after, closed, function_piece, one_value, fresh, keys_of, method_of, floors_division, call_node, member_node, expr_node, declared_of, parts_after, stmt_node, expr_piece, expr_parts, form_parts, exprs_piece, arguments_piece, fields_piece, perhaps_piece, declarators_piece, start_piece, stmt_piece, stmt_parts, stmts_piece, item_piece, items_piece}
+use Rattle.js_resolver.specs.Pieces.{Piece, none, beside, after, closed, function_piece, one_value}
+use Rattle.js_resolver.specs.NodeForms.{fresh, keys_of, method_of, floors_division, call_node, member_node, expr_node, declared_of, parts_after, stmt_node}
+use Rattle.js_resolver.specs.Nodes.{expr_piece, expr_parts, form_parts, exprs_piece, arguments_piece, fields_piece, perhaps_piece, declarators_piece, start_piece, stmt_piece, stmt_parts, stmts_piece, item_piece, items_piece}
 use Rattle.js_resolver.proofs.SoundFound.{in_whole}
 use Rattle.js_resolver.proofs.SoundParts.{Every, every_append, every_more, every_all, every_part, kept_expr, kept_declared, kept_stmt}
 use Rattle.js_resolver.proofs.SoundLists.{vars_fit}

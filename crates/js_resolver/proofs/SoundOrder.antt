@@ -10,10 +10,12 @@ use Rattle.js_program.specs.declared.builtin.Builtin.{Builtin}
 use Rattle.js_program.specs.PlainProgram as n
 use Rattle.js_program.specs.PlainProgram.{PlainNodeForm, PlainNode, PlainContent, parts_of}
 use Rattle.js_program.specs.Sound.{ordered}
-use Rattle.js_names.specs.Scopes.{is_present}
-use Rattle.js_names.specs.Sites.{called_builtin, value_builtin}
+use Rattle.js_names.specs.Entries.{is_present}
+use Rattle.js_names.specs.Forms.{called_builtin, value_builtin}
 use Rattle.js_names.specs.Places.{Place, places}
-use Rattle.js_resolver.specs.Nodes.{Piece, none, beside, after, closed, function_piece, one_value, method_of, is_division, begins_with_division, is_floor, floors_division, expr_node, declared_of, has_start, stmt_node, expr_piece, expr_parts, form_parts, exprs_piece, arguments_piece, fields_piece, perhaps_piece, declarators_piece, start_piece, stmt_piece, stmt_parts, stmts_piece, item_piece, items_piece}
+use Rattle.js_resolver.specs.Pieces.{Piece, none, beside, after, closed, function_piece, one_value}
+use Rattle.js_resolver.specs.NodeForms.{method_of, is_division, begins_with_division, is_floor, floors_division, expr_node, declared_of, has_start, stmt_node}
+use Rattle.js_resolver.specs.Nodes.{expr_piece, expr_parts, form_parts, exprs_piece, arguments_piece, fields_piece, perhaps_piece, declarators_piece, start_piece, stmt_piece, stmt_parts, stmts_piece, item_piece, items_piece}
 use Rattle.js_resolver.specs.Resolved.{program_of_tree}
 use Rattle.js_resolver.proofs.SoundParts.{Every, every_append, every_more, every_all, form_need, expr_need, truth_need, declared_need, stmt_need, kept_expr, kept_declared, kept_stmt}
 

@@ -3,15 +3,16 @@ use Rattle.std.proofs.Common.{◌≡◌, ℕ, zero, suc, ◌+◌, ◌<◌, ◌�
 use Rattle.std.specs.Prelude.{is_some, option_to_list}
 use Rattle.std.specs.List.{filter_map, list_all}
 use Rattle.js_tree.specs.Plain as t
-use Rattle.js_tree.specs.Plain.{PlainExpr, PlainForm, PlainExprs, PlainFields, PlainPerhaps, PlainDeclarators, PlainStart, PlainStmt, PlainStmtForm, PlainStmts}
+use Rattle.js_tree.specs.Plain.{PlainExpr, PlainForm, PlainDeclarators, PlainStmtForm}
 use Rattle.js_program.specs.declared.builtin.Builtin.{Builtin}
 use Rattle.js_program.specs.declared.node.Variable.{Variable}
 use Rattle.js_program.specs.PlainProgram.{PlainDeclared, undefined, read, parts_of}
-use Rattle.js_names.specs.Scopes.{is_present, own_of_start}
-use Rattle.js_names.specs.Sites.{called_builtin, value_builtin, is_undefined}
+use Rattle.js_names.specs.Entries.{is_present, own_of_start}
+use Rattle.js_names.specs.Forms.{called_builtin, value_builtin, is_undefined}
 use Rattle.js_names.specs.Places.{Place}
 use Rattle.js_resolver.specs.Variables.{named_at}
-use Rattle.js_resolver.specs.Nodes.{fresh, part, method_of, floors_division, call_node, member_node, expr_node, perhaps_part, parts_after, declared_of, has_start, for_node, stmt_node}
+use Rattle.js_resolver.specs.Pieces.{part}
+use Rattle.js_resolver.specs.NodeForms.{fresh, method_of, floors_division, call_node, member_node, expr_node, perhaps_part, parts_after, declared_of, has_start, for_node, stmt_node}
 
 abbrev pub Every : (ℕ → Type 0) → List ℕ → Type 0
 Every P [] = Unit {0}

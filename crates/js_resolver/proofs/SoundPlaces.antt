@@ -11,7 +11,7 @@ use Rattle.js_names.specs.declared.place.Declared.{Declared}
 use Rattle.js_names.specs.declared.place.NameFault.{NameFault}
 use Rattle.js_names.specs.declared.place.Role.{Role}
 use Rattle.js_names.specs.declared.place.What.{What}
-use Rattle.js_names.specs.Scopes.{top}
+use Rattle.js_names.specs.Entries.{top}
 use Rattle.js_names.specs.Places.{Place, or_else, test_of, places}
 use Rattle.js_names.specs.Slots.{Holding, held_by, holds_all, inside, assigned_in, is_constant, is_outer, can_copy, copies, is_mention, is_begin, captures, captures_in, captures_of, constants_of, slots_of, slot_count}
 use Rattle.js_names.specs.Rules.{fails_unknown, fails_capture, fails_twice, fails_const, fault_at, sooner, comes_before, name_fault}
@@ -98,11 +98,6 @@ slot_fits assigned constants slots d e h =
 pub has_slot : (slots : ℕ) (v : Variable) → variable_fits slots 0 v ≡ true → nat_lt (slot_of v) slots ≡ true
 has_slot slots (Slot n) h = h
 has_slot slots (Constant n) h = absurd (omega (arith, ltb-true n 0 h))
-
--- and fits where there are some
-pub fits_more : (slots constants : ℕ) (v : Variable) → variable_fits slots 0 v ≡ true → variable_fits slots constants v ≡ true
-fits_more slots constants (Slot n) h = h
-fits_more slots constants (Constant n) h = absurd (omega (arith, ltb-true n 0 h))
 
 holds-in : (f v : ℕ) (fs : List ℕ) → In f fs → In v (held_by f (holds_all v fs))
 holds-in f v [] h = absurd h

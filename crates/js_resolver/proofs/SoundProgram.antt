@@ -7,7 +7,8 @@ use Rattle.js_tree.specs.Plain.{PlainItem, statement, function_of}
 use Rattle.js_program.specs.PlainProgram.{PlainNode, PlainBody, PlainProgram, PlainConstant, of_function, undeclared, unset}
 use Rattle.js_program.specs.Sound.{node_fits, captures_nothing, constant_fits, IsSound}
 use Rattle.js_names.specs.declared.place.Declared.{Declared}
-use Rattle.js_names.specs.Scopes.{Scope, top, program_scope}
+use Rattle.js_names.specs.Entries.{top}
+use Rattle.js_names.specs.Scopes.{Scope, program_scope}
 use Rattle.js_names.specs.Sites.{item_sites}
 use Rattle.js_names.specs.Places.{Place, places, functions_of, is_var}
 use Rattle.js_names.specs.Slots.{assigned_in, captures, constants_of, slots_of}

@@ -14,7 +14,8 @@ use Rattle.js_names.specs.Slots.{held_by, inside, is_among, joins, first_uses, a
 use Rattle.js_resolver.specs.Variables.{index_in, code_at, capture_slots}
 use Rattle.js_names.specs.Slots.{functions_in}
 use Rattle.js_resolver.proofs.SoundFunctions.{captures_in_order}
-use Rattle.js_resolver.proofs.SoundLists.{In, held-append, in-first_uses}
+use Rattle.js_names.proofs.Holding.{held-append}
+use Rattle.js_resolver.proofs.SoundLists.{In, in-first_uses}
 use Rattle.js_resolver.proofs.SoundPlaces.{IsDeclared, ArePlaced, IsCopied, captured, held-place}
 use Rattle.js_resolver.proofs.SoundNodes.{slots_in, parameter_count}
 

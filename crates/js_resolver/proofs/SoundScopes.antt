@@ -9,13 +9,14 @@ use Rattle.js_tree.specs.declared.tree.Name.{Name}
 use Rattle.js_tree.specs.declared.tree.DeclareKind.{DeclareKind}
 use Rattle.js_tree.specs.declared.tree.DeclareKind.TheVariants.{Const as const_word, Let as let_word, Var as var_word}
 use Rattle.js_tree.specs.Plain as t
-use Rattle.js_tree.specs.Plain.{PlainPerhaps, PlainDeclarators, PlainStart, PlainStmt, PlainStmtForm, PlainStmts, PlainItem}
+use Rattle.js_tree.specs.Plain.{PlainPerhaps, PlainDeclarators, PlainStart, PlainStmt, PlainStmtForm, PlainStmts}
 use Rattle.js_names.specs.declared.place.Around.{Around}
 use Rattle.js_names.specs.declared.place.Declared.{Declared}
 use Rattle.js_names.specs.declared.place.Role.{Role}
 use Rattle.js_names.specs.declared.place.Role.TheVariants.{Parameter, Const, Let, Var, Function}
 use Rattle.js_names.specs.declared.place.What.{What}
-use Rattle.js_names.specs.Scopes.{Scope, Entry, top, named, first, one_var, merge, entry, own_declarator, own_declarators, var_declarator, var_declarators, own_of, own_of_all, own_of_start, vars_of, vars_of_form, vars_of_all, vars_of_start, parameters, block_scope, for_scope, list_scope, each_scope, each_role}
+use Rattle.js_names.specs.Entries.{Entry, top, entry, own_declarator, own_declarators, var_declarator, var_declarators, own_of, own_of_all, own_of_start, vars_of, vars_of_form, vars_of_all, vars_of_start}
+use Rattle.js_names.specs.Scopes.{Scope, named, first, one_var, merge, parameters, block_scope, for_scope, list_scope, each_scope, each_role}
 use Rattle.js_names.specs.Sites.{Site, site, in_function, in_loop, parameter_sites, declared_role, expr_sites, perhaps_sites, declarators_sites, start_sites, stmt_sites, stmt_form_sites, stmts_sites}
 use Rattle.js_names.specs.Places.{Place, see, found, found_var, is_parameter, is_function}
 use Rattle.js_names.specs.Slots.{held_by, is_among, hold, assigned_in, is_constant, constants_of, constant_at, constant_in, slots_of, parameter_in, parameter_at, variable_in, variable_at, variable_of}

@@ -10,7 +10,8 @@ use Rattle.js_tree.specs.Nesting.{is_object}
 use Rattle.js_names.specs.declared.place.Around.{Around}
 use Rattle.js_names.specs.declared.place.What.{What}
 use Rattle.js_names.specs.Scopes.{Scope, block_scope, for_scope, list_scope, each_scope, each_role, function_scope}
-use Rattle.js_names.specs.Sites.{Site, site, read_site, assign_site, is_undefined, is_reserved, object_of, called_builtin, value_builtin, member_sites, in_function, in_loop, begin_site, parameter_sites, declared_role, expr_sites, form_sites, exprs_sites, fields_sites, perhaps_sites, declarators_sites, start_sites, stmt_sites, stmt_form_sites, stmts_sites}
+use Rattle.js_names.specs.Forms.{is_undefined, is_reserved, object_of, called_builtin, value_builtin}
+use Rattle.js_names.specs.Sites.{Site, site, read_site, assign_site, member_sites, in_function, in_loop, begin_site, parameter_sites, declared_role, expr_sites, form_sites, exprs_sites, fields_sites, perhaps_sites, declarators_sites, start_sites, stmt_sites, stmt_form_sites, stmts_sites}
 use Rattle.js_resolver.proofs.SoundFunctions.{begun, begun-append}
 use Rattle.js_resolver.proofs.SoundLists.{In, in-left, in-right}
 use Rattle.std.proofs.Common.{inl, inr}

@@ -4,10 +4,10 @@ use Rattle.std.specs.Prelude.{unwrap_or}
 use Rattle.indexmap.specs.IndexMap.{get}
 use Rattle.js_program.specs.declared.node.Variable.{Variable}
 use Rattle.js_program.specs.declared.node.Variable.TheVariants.{Slot}
-use Rattle.js_names.specs.Scopes.{top}
+use Rattle.js_names.specs.Entries.{top}
 use Rattle.js_names.specs.Places.{Place}
 use Rattle.js_names.specs.Slots.{assigned_in, slots_of, captures, vars_of, constants_of, functions_in}
-use Rattle.js_names.specs.Views.{Sets, held_in}
+use Rattle.js_names.specs.Held.{Sets, held_in}
 use Rattle.js_resolver.specs.Tables.{Known}
 use Rattle.js_resolver.specs.Variables.{named_there, around_there, name_key, owner_key, known_in, named_at, code_at, around_of, index_in}
 use Rattle.js_resolver.specs.TablesOf.{AreTablesOf}

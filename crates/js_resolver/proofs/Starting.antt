@@ -31,9 +31,6 @@ map_map : {A B C : Type 0} (f : B → C) (g : A → B) (xs : List A) → map f (
 map_map f g [] = refl
 map_map f g (x ∷ xs) = ap (λ z. f (g x) ∷ z) (map_map f g xs)
 
-pub notes_none : (a : Known ConstantStart) → NotesStart a a (λ q. None)
-notes_none a q = sym (or_else_none (start_in a q))
-
 -- one more turn of a loop
 pub notes_more : {X : Type 0} (k : ℕ → X → Option PlainConstant) (xs : List X) (i : ℕ) (d x : X) (a b c : Known ConstantStart) → i < length xs → x ≡ get_or xs i d
     → NotesStart a b (λ q. first_of (map (k q) (take i xs))) → NotesStart b c (λ q. k q x) → NotesStart a c (λ q. first_of (map (k q) (take (i + 1) xs)))

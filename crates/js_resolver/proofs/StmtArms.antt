@@ -13,20 +13,21 @@ use Rattle.js_tree.specs.declared.tree.Stmt.{Stmt}
 use Rattle.js_tree.specs.declared.tree.StmtForm.{StmtForm, Empty, Block, Declaration, Expression, If, IfElse, While, For, ForOf, Break, Continue, ReturnNothing, Return}
 use Rattle.js_tree.specs.Plain as p
 use Rattle.js_tree.specs.Plain.{declarators_of, stmts_of}
-use Rattle.js_tree.specs.Views.{plain_expr, plain_declarator, plain_start, plain_stmt}
+use Rattle.js_tree.specs.Views.{plain_expr, plain_declarator, plain_start, plain_stmt, plain_stmt_form}
 use Rattle.js_program.specs.declared.node.Declared.{Declared}
 use Rattle.js_program.specs.declared.node.NodeForm.{NodeForm}
 use Rattle.js_program.specs.declared.node.NodeForm.TheVariants as N
 use Rattle.js_program.specs.PlainProgram as n
 use Rattle.js_names.specs.Places.{Place}
-use Rattle.js_names.specs.Scopes.{own_of_all, own_of_start, is_present}
-use Rattle.js_names.proofs.Trees.{stmt_is, declaration_is, block_is, if_is, if_else_is, while_is, for_is, for_of_is, start_is}
+use Rattle.js_names.specs.Entries.{own_of_all, own_of_start, is_present}
 use Rattle.js_resolver.specs.declared.emitter.Emitter.{Emitter}
 use Rattle.js_resolver.specs.Variables.{slot_at}
-use Rattle.js_resolver.specs.Nodes.{Piece, beside, after, declared_of, expr_piece, for_node, fresh, has_start, perhaps_piece, declarators_piece, start_piece, stmt_node, stmt_piece, stmt_parts, stmts_piece}
-use Rattle.js_resolver.specs.Emits.{count, Puts, Emits, EmitsDeclarators, EmitsPerhaps, FormsStmt, plain_stmt_form, tree_perhaps}
+use Rattle.js_resolver.specs.Pieces.{Piece, beside, after}
+use Rattle.js_resolver.specs.NodeForms.{declared_of, for_node, fresh, has_start, stmt_node}
+use Rattle.js_resolver.specs.Nodes.{expr_piece, perhaps_piece, declarators_piece, start_piece, stmt_piece, stmt_parts, stmts_piece}
+use Rattle.js_resolver.specs.Emits.{count, Puts, Emits, EmitsDeclarators, EmitsPerhaps, FormsStmt, tree_perhaps}
 use Rattle.js_resolver.proofs.Emitting.{adds_none, closes, emits_none, emits_both, forms_stmt, if_closes}
-use Rattle.js_resolver.proofs.TreeForms.{empty_is, expression_is, break_is, continue_is, return_nothing_is, return_is, nothing_is, evaluates_is}
+use Rattle.js_tree.proofs.Statements.{nothing_is, start_is, evaluates_is, stmt_is, empty_is, expression_is, declaration_is, block_is, if_is, if_else_is, while_is, for_is, for_of_is, break_is, continue_is, return_nothing_is, return_is}
 
 pub empty_arm : (ps : List Place) (a : Emitter) (f : StmtForm) → f ≡ Empty
     → FormsStmt ps a a N.Empty (plain_stmt_form f)

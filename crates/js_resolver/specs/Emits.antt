@@ -5,20 +5,21 @@ use Rattle.js_tree.specs.declared.tree.Expr.{Expr}
 use Rattle.js_tree.specs.declared.tree.Declarator.{Declarator}
 use Rattle.js_tree.specs.declared.tree.Operator.{Operator}
 use Rattle.js_tree.specs.declared.tree.Operator.TheVariants.{Divide}
-use Rattle.js_tree.specs.declared.tree.StmtForm.{StmtForm, fold-StmtForm}
-use Rattle.js_tree.specs.Plain.{PlainExpr, PlainExprs, PlainForm, PlainField, PlainDeclarator, PlainPerhaps, PlainStart, PlainStmt, PlainStmtForm, declarators_of}
-use Rattle.js_tree.specs.Views.{perhaps, plain_expr, plain_declarator, form_step, start_step, stmt_form_step, declarator_step, expr_step, field_step, stmt_step}
+use Rattle.js_tree.specs.Plain.{PlainExpr, PlainExprs, PlainForm, PlainPerhaps, PlainStmtForm, declarators_of}
+use Rattle.js_tree.specs.Views.{perhaps, plain_expr, plain_declarator}
 use Rattle.js_program.specs.declared.builtin.Builtin.{Builtin}
 use Rattle.js_program.specs.declared.node.NodeForm.{NodeForm}
 use Rattle.js_program.specs.declared.node.Declared.{Declared}
 use Rattle.js_program.specs.PlainProgram.{PlainNode, PlainNodeForm, PlainBody}
 use Rattle.js_program.specs.Views.{plain_node, plain_node_form, plain_body, plain_declared}
 use Rattle.js_names.specs.Places.{Place}
-use Rattle.js_names.specs.Sites.{called_builtin}
+use Rattle.js_names.specs.Forms.{called_builtin}
 use Rattle.js_resolver.specs.declared.emit.Called.{Called}
 use Rattle.js_resolver.specs.declared.emit.Called.TheVariants as C
 use Rattle.js_resolver.specs.declared.emitter.Emitter.{Emitter}
-use Rattle.js_resolver.specs.Nodes.{Piece, none, arguments_piece, call_node, expr_node, stmt_node, expr_piece, expr_parts, form_parts, floors_division, method_of, declarators_piece, declared_of, stmt_parts}
+use Rattle.js_resolver.specs.Pieces.{Piece, none}
+use Rattle.js_resolver.specs.NodeForms.{call_node, expr_node, stmt_node, floors_division, method_of, declared_of}
+use Rattle.js_resolver.specs.Nodes.{arguments_piece, expr_piece, expr_parts, form_parts, declarators_piece, stmt_parts}
 
 abbrev pub nodes_of : Emitter → List PlainNode
 nodes_of e = map plain_node e.nodes.items
@@ -75,9 +76,6 @@ tree_perhaps e = perhaps (option_map plain_expr e)
 pub record Leaves (start now : Emitter) (rest whole : Piece) : Type 0 where
   pub nodes : nodes_of now ++ rest.nodes ≡ nodes_of start ++ whole.nodes
   pub functions : functions_of now ++ rest.functions ≡ functions_of start ++ whole.functions
-
-abbrev pub plain_stmt_form : StmtForm → PlainStmtForm
-plain_stmt_form = fold-StmtForm PlainForm PlainStart PlainStmtForm PlainDeclarator PlainExpr PlainField PlainStmt form_step start_step stmt_form_step declarator_step expr_step field_step stmt_step
 
 abbrev pub is_divide : Operator → Bool
 is_divide Divide = true

@@ -1,6 +1,8 @@
 pub mod Tables
 pub mod Variables
 pub mod TablesOf
+pub mod Pieces
+pub mod NodeForms
 pub mod Nodes
 pub mod Emits
 pub mod Resolved

@@ -4,7 +4,7 @@ use Rattle.js_tree.specs.Plain.{PlainItem}
 use Rattle.js_program.specs.PlainProgram.{PlainProgram, statements}
 use Rattle.js_program.specs.Views.{plain_node, plain_body, plain_constant}
 use Rattle.js_program.specs.Views as v
-use Rattle.js_names.specs.Scopes.{top}
+use Rattle.js_names.specs.Entries.{top}
 use Rattle.js_names.specs.Places.{Place}
 use Rattle.js_names.specs.Slots.{assigned_in, constants_of}
 use Rattle.js_resolver.specs.declared.program.Parts.{Parts}

@@ -4,13 +4,14 @@ use Rattle.js_tree.specs.Plain.{PlainItem, statement, function_of}
 use Rattle.js_program.specs.PlainProgram.{PlainProgram, PlainConstant, of_function, undeclared, unset, statements}
 use Rattle.js_names.specs.declared.place.Declared.{Declared}
 use Rattle.js_names.specs.declared.place.NameFault.{NameFault}
-use Rattle.js_names.specs.Scopes.{top}
-use Rattle.js_names.specs.Sites.{program_spot}
+use Rattle.js_names.specs.Entries.{top}
+use Rattle.js_names.specs.Spots.{program_spot}
 use Rattle.js_names.specs.Places.{Place, places, is_var}
 use Rattle.js_names.specs.Slots.{assigned_in, constants_of}
 use Rattle.js_names.specs.Rules.{name_fault}
 use Rattle.js_resolver.specs.Variables.{code_at, body_of, first_some}
-use Rattle.js_resolver.specs.Nodes.{Piece, items_piece}
+use Rattle.js_resolver.specs.Pieces.{Piece}
+use Rattle.js_resolver.specs.Nodes.{items_piece}
 
 -- a function declaration whose name stands at a place is a constant with its value from the start
 abbrev pub function_named : List Place → ℕ → PlainItem → Option PlainConstant

@@ -1,6 +1,8 @@
 -- Trees that tokens spell.
 use Rattle.std.specs.Prelude.{ℕ, ◌<◌, List, [], ◌∷◌}
+use Rattle.js_lexer.specs.declared.limits.TheConstants.{MOST_BYTES}
 use Rattle.js_lexer.specs.declared.token.Token.{Token}
+use Rattle.js_tree.specs.declared.limits.TheConstants.{MOST_NESTING}
 use Rattle.js_tree.specs.Plain.{PlainItem}
 use Rattle.js_grammar.specs.Trees.{IsTree}
 
@@ -14,8 +16,8 @@ abbrev pub InOrder : ℕ → List Token → Type 0
 InOrder end [] = Unit {0}
 InOrder end (t ∷ ts) = (t.from < next end ts) × InOrder end ts
 
--- tokens in order, of which 1,048,576 places allow no more, spell the tree, with nesting at most 200
+-- tokens in order, of which the places of a text allow no more, spell the tree, which is not nested too deep
 pub record IsSpelled (items : List PlainItem) : Type 0 where
   pub tokens : List Token
-  pub order : InOrder 1048576 tokens
-  pub tree : IsTree 200 tokens items
+  pub order : InOrder MOST_BYTES tokens
+  pub tree : IsTree MOST_NESTING tokens items

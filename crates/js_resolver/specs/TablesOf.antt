@@ -3,10 +3,10 @@ use Rattle.std.specs.Prelude.{◌≡◌, ℕ, nat_eq, List, unwrap_or}
 use Rattle.indexmap.specs.IndexMap.{get}
 use Rattle.js_program.specs.declared.node.Variable.{Variable}
 use Rattle.js_program.specs.declared.node.Variable.TheVariants.{Slot}
-use Rattle.js_names.specs.Scopes.{top}
+use Rattle.js_names.specs.Entries.{top}
 use Rattle.js_names.specs.Places.{Place}
 use Rattle.js_names.specs.Slots.{assigned_in, slots_of, captures, vars_of, constants_of}
-use Rattle.js_names.specs.Views.{Sets, held_in}
+use Rattle.js_names.specs.Held.{Sets, held_in}
 use Rattle.js_resolver.specs.Tables.{Known}
 use Rattle.js_resolver.specs.Variables.{named_at, code_at, around_of, index_in}
 

@@ -4,7 +4,7 @@ use Rattle.js_program.specs.declared.node.Variable.{Variable}
 use Rattle.js_program.specs.declared.node.Variable.TheVariants.{Slot, Constant}
 use Rattle.js_program.specs.PlainProgram.{PlainBody, PlainContent}
 use Rattle.js_names.specs.declared.place.Declared.{Declared}
-use Rattle.js_names.specs.Scopes.{top}
+use Rattle.js_names.specs.Entries.{top}
 use Rattle.js_names.specs.Places.{Place, or_else}
 use Rattle.js_names.specs.Slots.{assigned_in, is_constant, is_begin, captures, vars_of, slots_of, constants_of, functions_in}
 

@@ -16,7 +16,7 @@ use js_program::ConstantStart;
 use js_tree::Item;
 use std::alloc::{AllocError, Global};
 
-// Notes what a constant is, unless that is known.
+/// Notes what a constant is, unless that is known.
 fn note_start(
     starts: &mut IndexMap<u32, ConstantStart>,
     constant: u32,
@@ -31,7 +31,7 @@ fn note_start(
     Ok(())
 }
 
-// What a variable is before it is declared.
+/// What a variable is before it is declared.
 fn before(role: Role) -> ConstantStart
     ensures { plain_constant result ≡ (if is_var role then unset else undeclared) }
 {
@@ -41,7 +41,7 @@ fn before(role: Role) -> ConstantStart
     }
 }
 
-// Notes what a place says of the variable that it names.
+/// Notes what a place says of the variable that it names.
 fn note_place(starts: &mut IndexMap<u32, ConstantStart>, place: &Seen) -> Result<(), AllocError>
     ensures { OnOk result (NotesStart starts.old starts.new
         (λ q. constant_there q (place_of place.now).declared)) }
@@ -52,7 +52,7 @@ fn note_place(starts: &mut IndexMap<u32, ConstantStart>, place: &Seen) -> Result
     }
 }
 
-// Notes what all places say.
+/// Notes what all places say.
 fn note_places(starts: &mut IndexMap<u32, ConstantStart>, places: &[Seen]) -> Result<(), AllocError>
     ensures { OnOk result (NotesStart starts.old starts.new
         (λ q. first_of (map (λ p. constant_there q (place_of p).declared) places.now))) }
@@ -63,7 +63,7 @@ fn note_places(starts: &mut IndexMap<u32, ConstantStart>, places: &[Seen]) -> Re
     Ok(())
 }
 
-// Notes the function that an item declares.
+/// Notes the function that an item declares.
 fn note_item(
     tables: &NameTables,
     starts: &mut IndexMap<u32, ConstantStart>,
@@ -81,7 +81,7 @@ fn note_item(
     }
 }
 
-// Notes the functions that all items declare.
+/// Notes the functions that all items declare.
 fn note_items(
     tables: &NameTables,
     starts: &mut IndexMap<u32, ConstantStart>,
@@ -96,7 +96,7 @@ fn note_items(
     Ok(())
 }
 
-// What is known of a constant.
+/// What is known of a constant.
 fn start_of(starts: &IndexMap<u32, ConstantStart>, constant: u32) -> ConstantStart
     ensures { plain_constant result ≡ unwrap_or (start_in starts.now constant) undeclared }
 {
@@ -106,7 +106,7 @@ fn start_of(starts: &IndexMap<u32, ConstantStart>, constant: u32) -> ConstantSta
     }
 }
 
-// What is known of some constants.
+/// What is known of some constants.
 fn starts_of(
     alloc: Global,
     starts: &IndexMap<u32, ConstantStart>,

@@ -5,14 +5,16 @@ ghost use Rattle.std.specs.Prelude.{◌≡◌, ◌∷◌, ◌≤◌, [], IfOk, O
 ghost use Rattle.std.specs.Arc.{arc_value};
 ghost use Rattle.js_tree.specs.Plain as t;
 ghost use Rattle.js_tree.specs.Plain.{exprs_of, fields_of, stmts_of};
-ghost use Rattle.js_tree.specs.Views.{plain_expr, plain_field, plain_form, plain_start, plain_stmt, plain_item};
+ghost use Rattle.js_tree.specs.Views.{plain_expr, plain_field, plain_form, plain_start, plain_stmt, plain_stmt_form, plain_item};
 ghost use Rattle.js_program.specs.declared.builtin.Builtin.TheVariants.{Floor};
 ghost use Rattle.js_program.specs.PlainProgram as n;
 ghost use Rattle.js_program.specs.Views.{plain_content, plain_node_form};
-ghost use Rattle.js_names.specs.Scopes.{is_present};
+ghost use Rattle.js_names.specs.Entries.{is_present};
 ghost use Rattle.js_resolver.specs.Variables.{body_of};
-ghost use Rattle.js_resolver.specs.Nodes.{expr_node, expr_piece, exprs_piece, fields_piece, function_piece, has_start, item_piece, items_piece, keys_of, perhaps_piece, start_piece, stmt_piece, stmts_piece};
-ghost use Rattle.js_resolver.specs.Emits.{Adds, Emits, EmitsMore, EmitsDeclarators, EmitsPerhaps, EmitsCallee, EmitsCalled, FormsExpr, FormsStmt, FormsBuiltin, FormsCall, PutsBody, count, is_divide, plain_stmt_form, tree_perhaps};
+ghost use Rattle.js_resolver.specs.Pieces.{function_piece};
+ghost use Rattle.js_resolver.specs.NodeForms.{expr_node, has_start, keys_of};
+ghost use Rattle.js_resolver.specs.Nodes.{expr_piece, exprs_piece, fields_piece, item_piece, items_piece, perhaps_piece, start_piece, stmt_piece, stmts_piece};
+ghost use Rattle.js_resolver.specs.Emits.{Adds, Emits, EmitsMore, EmitsDeclarators, EmitsPerhaps, EmitsCallee, EmitsCalled, FormsExpr, FormsStmt, FormsBuiltin, FormsCall, PutsBody, count, is_divide, tree_perhaps};
 
 use crate::emitter::{Emitter, put_function, put_node};
 use crate::fresh::{block_slots, start_slots};
@@ -24,7 +26,7 @@ use js_tree::{Declarator, Expr, Field, Form, Item, Name, Operator, Spot, Start, 
 use std::alloc::{AllocError, Global};
 use std::sync::Arc;
 
-// The form of a name that is read.
+/// The form of a name that is read.
 fn read_form(tables: &NameTables, name: &Name) -> NodeForm
     ensures { plain_node_form result ≡ expr_node tables.now (t.use_of name.now) [] }
 {
@@ -35,7 +37,7 @@ fn read_form(tables: &NameTables, name: &Name) -> NodeForm
     }
 }
 
-// The text of a literal or of a key, to be shared with values.
+/// The text of a literal or of a key, to be shared with values.
 fn shared_text(alloc: Global, text: &Text) -> Result<Arc<Text>, AllocError>
     ensures { IfOk result (λ s. arc_value s ≡ text.now) }
 {
@@ -43,7 +45,7 @@ fn shared_text(alloc: Global, text: &Text) -> Result<Arc<Text>, AllocError>
     Ok(Arc::new(alloc, copied)?)
 }
 
-// An expression, and its number.
+/// An expression, and its number.
 #[cycle(emit)]
 fn emit_expr(tables: &NameTables, emitter: &mut Emitter, e: &Expr) -> Result<u32, AllocError>
     ensures { IfOk result (λ x. Emits emitter.old emitter.new (x ∷ [])
@@ -53,7 +55,7 @@ fn emit_expr(tables: &NameTables, emitter: &mut Emitter, e: &Expr) -> Result<u32
     put_node(emitter, e.line, form)
 }
 
-// The parts of an expression, and its form.
+/// The parts of an expression, and its form.
 #[cycle(emit)]
 fn emit_form(
     tables: &NameTables,
@@ -121,7 +123,7 @@ fn emit_form(
     }
 }
 
-// A member.
+/// A member.
 #[cycle(emit)]
 fn emit_member(
     tables: &NameTables,
@@ -141,7 +143,7 @@ fn emit_member(
     }
 }
 
-// What is called, with the numbers of its parts.
+/// What is called, with the numbers of its parts.
 #[derive(Drop)]
 enum Called {
     Builtin(Builtin),
@@ -149,7 +151,7 @@ enum Called {
     Other(u32),
 }
 
-// What a call calls.
+/// What a call calls.
 #[cycle(emit)]
 fn emit_callee(
     tables: &NameTables,
@@ -165,7 +167,7 @@ fn emit_callee(
     }
 }
 
-// A function or a method that is called.
+/// A function or a method that is called.
 #[cycle(emit)]
 fn emit_called(
     tables: &NameTables,
@@ -187,7 +189,7 @@ fn emit_called(
     }
 }
 
-// The arguments of a call, and the form of the call.
+/// The arguments of a call, and the form of the call.
 #[cycle(emit)]
 fn emit_arguments(
     tables: &NameTables,
@@ -211,7 +213,7 @@ fn emit_arguments(
     }
 }
 
-// A call of a form of the language.
+/// A call of a form of the language.
 #[cycle(emit)]
 fn emit_builtin(
     tables: &NameTables,
@@ -231,14 +233,14 @@ fn emit_builtin(
     }
 }
 
-// Whether the operator divides.
+/// Whether the operator divides.
 fn is_divide(operator: Operator) -> bool
     ensures { result ≡ is_divide operator }
 {
     matches!(operator, Operator::Divide)
 }
 
-// A call of `Math.floor`: a division is not rounded first.
+/// A call of `Math.floor`: a division is not rounded first.
 #[cycle(emit)]
 fn emit_floor(
     tables: &NameTables,
@@ -265,7 +267,7 @@ fn emit_floor(
     }
 }
 
-// An arrow function with a value.
+/// An arrow function with a value.
 #[cycle(emit)]
 fn emit_arrow(
     tables: &NameTables,
@@ -291,7 +293,7 @@ fn emit_arrow(
     Ok(NodeForm::Function(code))
 }
 
-// A function with statements.
+/// A function with statements.
 #[cycle(emit)]
 fn emit_function(
     tables: &NameTables,
@@ -308,7 +310,7 @@ fn emit_function(
     Ok(NodeForm::Function(code))
 }
 
-// What a call of a function runs.
+/// What a call of a function runs.
 #[cycle(emit)]
 fn emit_body(
     tables: &NameTables,
@@ -333,7 +335,7 @@ fn emit_body(
     )
 }
 
-// Expressions.
+/// Expressions.
 #[cycle(emit)]
 fn emit_exprs(
     tables: &NameTables,
@@ -351,7 +353,7 @@ fn emit_exprs(
     Ok(numbers)
 }
 
-// The values of fields.
+/// The values of fields.
 #[cycle(emit)]
 fn emit_fields(
     tables: &NameTables,
@@ -369,7 +371,7 @@ fn emit_fields(
     Ok(numbers)
 }
 
-// The keys of fields, to be shared with values.
+/// The keys of fields, to be shared with values.
 fn keys_of(alloc: Global, fields: &[Field]) -> Result<Vec<Arc<Text>>, AllocError>
     ensures { IfOk result (λ v. map arc_value v.items
         ≡ keys_of (fields_of (map plain_field fields.now))) }
@@ -382,7 +384,7 @@ fn keys_of(alloc: Global, fields: &[Field]) -> Result<Vec<Arc<Text>>, AllocError
     Ok(keys)
 }
 
-// An expression that may be absent.
+/// An expression that may be absent.
 #[cycle(emit)]
 fn emit_perhaps(
     tables: &NameTables,
@@ -402,7 +404,7 @@ fn emit_perhaps(
     }
 }
 
-// Declared variables with the numbers of their values.
+/// Declared variables with the numbers of their values.
 #[cycle(emit)]
 fn emit_declarators(
     tables: &NameTables,
@@ -421,7 +423,7 @@ fn emit_declarators(
     Ok(declared)
 }
 
-// What a `for` begins with.
+/// What a `for` begins with.
 #[cycle(emit)]
 fn emit_start(
     tables: &NameTables,
@@ -446,7 +448,7 @@ fn emit_start(
     }
 }
 
-// A statement, and its number.
+/// A statement, and its number.
 #[cycle(emit)]
 fn emit_stmt(tables: &NameTables, emitter: &mut Emitter, stmt: &Stmt) -> Result<u32, AllocError>
     ensures { IfOk result (λ x. Emits emitter.old emitter.new (x ∷ [])
@@ -456,7 +458,7 @@ fn emit_stmt(tables: &NameTables, emitter: &mut Emitter, stmt: &Stmt) -> Result<
     put_node(emitter, stmt.line, form)
 }
 
-// The parts of a statement, and its form.
+/// The parts of a statement, and its form.
 #[cycle(emit)]
 fn emit_stmt_form(
     tables: &NameTables,
@@ -521,7 +523,7 @@ fn emit_stmt_form(
     }
 }
 
-// Statements.
+/// Statements.
 #[cycle(emit)]
 fn emit_stmts(
     tables: &NameTables,
@@ -539,8 +541,8 @@ fn emit_stmts(
     Ok(numbers)
 }
 
-// A function with this content, before the functions inside it. Each function moves those inside it by one place, so
-// that a function is moved as often as functions stand around it, which are at most 200.
+/// A function with this content, before the functions inside it. Each function moves those inside it by one place, so
+/// that a function is moved as often as functions stand around it, which nesting keeps few.
 fn put_body(
     tables: &NameTables,
     emitter: &mut Emitter,
@@ -557,7 +559,7 @@ fn put_body(
     put_function(emitter, place, body)
 }
 
-// What a program lists, and the number of a statement.
+/// What a program lists, and the number of a statement.
 fn emit_item(
     tables: &NameTables,
     emitter: &mut Emitter,

@@ -2,15 +2,15 @@
 ghost use Rattle.std.specs.Prelude.{◌≡◌, ◌++◌, IfOk, OnOk, false, map};
 ghost use Rattle.js_tree.specs.Plain.{declarators_of, stmts_of};
 ghost use Rattle.js_tree.specs.Views.{plain_declarator, plain_start, plain_stmt};
-ghost use Rattle.js_names.specs.Scopes.{own_declarators, own_of, own_of_all, own_of_start};
-ghost use Rattle.js_names.specs.Views.{own_of_declarator};
-ghost use Rattle.js_resolver.specs.Nodes.{fresh};
+ghost use Rattle.js_names.specs.Entries.{own_declarators, own_of, own_of_all, own_of_start};
+ghost use Rattle.js_names.specs.Taken.{own_of_declarator};
+ghost use Rattle.js_resolver.specs.NodeForms.{fresh};
 
 use crate::name_tables::NameTables;
 use js_tree::{Declarator, DeclareKind, Start, Stmt, StmtForm};
 use std::alloc::{AllocError, Global};
 
-// The slot of a declarator of `let` or `const`.
+/// The slot of a declarator of `let` or `const`.
 fn push_declarator(
     tables: &NameTables,
     slots: &mut Vec<u32>,
@@ -29,7 +29,7 @@ fn push_declarator(
     }
 }
 
-// The slots of some declarators.
+/// The slots of some declarators.
 fn push_declarators(
     tables: &NameTables,
     slots: &mut Vec<u32>,
@@ -46,7 +46,7 @@ fn push_declarators(
     Ok(())
 }
 
-// The slots of what a statement declares for its block.
+/// The slots of what a statement declares for its block.
 fn push_stmt(tables: &NameTables, slots: &mut Vec<u32>, stmt: &Stmt) -> Result<(), AllocError>
     ensures { OnOk result (slots.new.items ≡ slots.old.items
         ++ fresh tables.now (own_of 0 false (plain_stmt stmt.now))) }
@@ -89,7 +89,7 @@ pub fn start_slots(
     Ok(slots)
 }
 
-// The slots of what the head of a `for` declares.
+/// The slots of what the head of a `for` declares.
 fn push_start(tables: &NameTables, slots: &mut Vec<u32>, start: &Start) -> Result<(), AllocError>
     ensures { OnOk result (slots.new.items ≡ slots.old.items
         ++ fresh tables.now (own_of_start 0 (plain_start start.now))) }

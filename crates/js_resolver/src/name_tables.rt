@@ -3,7 +3,8 @@ ghost use Rattle.std.specs.Prelude.{◌≡◌, IfOk, map, length, nat_eq};
 ghost use Rattle.indexmap.specs.IndexMap.{get};
 ghost use Rattle.js_program.specs.Views.{plain_body, plain_content};
 ghost use Rattle.js_names.specs.Slots.{assigned_in, captures, constants_of, functions_in, slots_of, vars_of};
-ghost use Rattle.js_names.specs.Views.{held_in, place_of};
+ghost use Rattle.js_names.specs.Views.{place_of};
+ghost use Rattle.js_names.specs.Held.{held_in};
 ghost use Rattle.js_resolver.specs.Tables.{first_line};
 ghost use Rattle.js_resolver.specs.Variables.{around_of, around_there, body_of, capture_slots, code_at, known_in, name_key, named_at, named_there, owner_key, slot_at, var_slots};
 
@@ -92,10 +93,12 @@ impl Model for NameTables {
 
     ghost view = { λ t. map place_of t.names.places.items };
 
-    ghost invariant = { λ t. AreTablesOf t.meanings.variables t.meanings.constants.keys t.functions.codes.keys t.functions.around t.names.slots t.holdings.captured t.holdings.vars (map place_of t.names.places.items) };
+    ghost invariant = { λ t. AreTablesOf t.meanings.variables t.meanings.constants.keys
+        t.functions.codes.keys t.functions.around t.names.slots t.holdings.captured t.holdings.vars
+        (map place_of t.names.places.items) };
 }
 
-// What a call of a function has room for.
+/// What a call of a function has room for.
 #[derive(Drop)]
 struct Room {
     parameters: u32,
@@ -104,7 +107,7 @@ struct Room {
     vars: Vec<u32>,
 }
 
-// A number of 32 bits; a greater one is more than memory holds.
+/// A number of 32 bits; a greater one is more than memory holds.
 fn counted(number: usize) -> Result<u32, AllocError>
     ensures { IfOk result (λ n. n ≡ number) }
 {
@@ -114,7 +117,7 @@ fn counted(number: usize) -> Result<u32, AllocError>
     Ok(number as u32)
 }
 
-// The constants, and what the name at each place of the text stands for.
+/// The constants, and what the name at each place of the text stands for.
 fn meanings_of(
     alloc: Global,
     assigned: &IndexSet<u32>,
@@ -135,7 +138,7 @@ fn meanings_of(
     })
 }
 
-// The functions, and the function around each of them.
+/// The functions, and the function around each of them.
 fn functions_of(alloc: Global, places: &[Seen]) -> Result<Functions, AllocError>
     ensures codes { IfOk result (λ t. t.codes.keys ≡ functions_in (map place_of places.now)) }
     ensures around { IfOk result (λ t. (q : _) → get nat_eq t.around q
@@ -146,7 +149,7 @@ fn functions_of(alloc: Global, places: &[Seen]) -> Result<Functions, AllocError>
     Ok(Functions { codes, around })
 }
 
-// The captures and the `var`s of each function.
+/// The captures and the `var`s of each function.
 fn holdings_of(
     alloc: Global,
     assigned: &IndexSet<u32>,
@@ -234,7 +237,7 @@ impl NameTables {
         }
     }
 
-    // The function around a function.
+    /// The function around a function.
     fn outer(&self, function: u32) -> u32
         ensures { result ≡ around_of self.now function }
     {
@@ -244,7 +247,7 @@ impl NameTables {
         }
     }
 
-    // For each captured value of a function, its slot in the function around.
+    /// For each captured value of a function, its slot in the function around.
     fn capture_slots(&self, alloc: Global, function: u32) -> Result<Vec<u32>, AllocError>
         ensures { IfOk result (λ v. v.items ≡ capture_slots self.now function) }
     {
@@ -255,7 +258,7 @@ impl NameTables {
         }
     }
 
-    // The slots of a function's `var`s.
+    /// The slots of a function's `var`s.
     fn var_slots(&self, alloc: Global, function: u32) -> Result<Vec<u32>, AllocError>
         ensures { IfOk result (λ v. v.items ≡ var_slots self.now function) }
     {
@@ -270,14 +273,14 @@ impl NameTables {
         }
     }
 
-    // How many slots a function needs.
+    /// How many slots a function needs.
     fn slot_total(&self, function: u32) -> usize
         ensures { result ≡ length (slots_of (assigned_in self.now) function self.now) }
     {
         slot_count(&self.names.slots, function)
     }
 
-    // What a call of a function has room for.
+    /// What a call of a function has room for.
     fn room(&self, alloc: Global, function: u32, parameters: usize) -> Result<Room, AllocError>
         ensures parameters { IfOk result (λ r. r.parameters ≡ parameters) }
         ensures slots { IfOk result (λ r. r.slots

@@ -4,10 +4,11 @@ ghost use Rattle.js_tree.specs.Views.{plain_item, plain_tree};
 ghost use Rattle.js_program.specs.PlainProgram.{statements};
 ghost use Rattle.js_program.specs.Sound.{IsSound};
 ghost use Rattle.js_program.specs.Views.{plain_body};
-ghost use Rattle.js_names.specs.Scopes.{top};
+ghost use Rattle.js_names.specs.Entries.{top};
 ghost use Rattle.js_names.specs.Rules.{name_fault};
 ghost use Rattle.js_names.specs.Slots.{assigned_in, slots_of};
-ghost use Rattle.js_names.specs.Views.{held_in, place_of};
+ghost use Rattle.js_names.specs.Views.{place_of};
+ghost use Rattle.js_names.specs.Held.{held_in};
 ghost use Rattle.js_resolver.specs.Emits.{Adds, count};
 ghost use Rattle.js_resolver.specs.Nodes.{items_piece};
 ghost use Rattle.js_resolver.specs.Parts.{parts_from, plain_parts};
@@ -34,7 +35,7 @@ struct Parts {
     top: Body,
 }
 
-// The nodes and functions of these items, and what the top level runs.
+/// The nodes and functions of these items, and what the top level runs.
 fn emit_top(tables: &NameTables, emitter: &mut Emitter, items: &[Item]) -> Result<Body, AllocError>
     ensures emitted { OnOk result (Adds emitter.old emitter.new
         (items_piece tables.now (count emitter.old) (map plain_item items.now))) }
@@ -48,7 +49,7 @@ fn emit_top(tables: &NameTables, emitter: &mut Emitter, items: &[Item]) -> Resul
     Ok(top)
 }
 
-// The parts of the program that these items are, from the tables of its names.
+/// The parts of the program that these items are, from the tables of its names.
 fn parts_of(alloc: Global, tables: &NameTables, items: &[Item]) -> Result<Parts, AllocError>
     ensures { IfOk result (λ p. plain_parts p ≡ parts_from (map plain_item items.now) tables.now) }
 {
@@ -72,7 +73,7 @@ fn parts_of(alloc: Global, tables: &NameTables, items: &[Item]) -> Result<Parts,
     })
 }
 
-// The program of these parts. Takes no memory.
+/// The program of these parts. Takes no memory.
 fn program_of(parts: Parts) -> Program
     requires { IsSound (plain_parts parts) }
     ensures { result ≡ plain_parts parts }
@@ -80,7 +81,7 @@ fn program_of(parts: Parts) -> Program
     Program::new(parts.nodes, parts.functions, parts.constants, parts.top)
 }
 
-// The program of these items, from what the check of names answers of their places.
+/// The program of these items, from what the check of names answers of their places.
 fn program_of_names(alloc: Global, names: Names, items: &[Item]) -> Result<Program, AllocError>
     requires assigned { names.assigned.keys ≡ assigned_in (map place_of names.places.items) }
     requires slots { (f : _) → held_in names.slots f

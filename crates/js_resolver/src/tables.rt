@@ -2,13 +2,14 @@
 ghost use Rattle.std.specs.Prelude.{◌≡◌, ◌++◌, ◌∷◌, [], IfOk, OnOk, map, nat_eq};
 ghost use Rattle.indexmap.specs.IndexMap.{get};
 ghost use Rattle.js_names.specs.Slots.{constant_at, constants_of, function_at, functions_in};
-ghost use Rattle.js_names.specs.Views.{held_in, place_of};
+ghost use Rattle.js_names.specs.Views.{place_of};
+ghost use Rattle.js_names.specs.Held.{held_in};
 ghost use Rattle.js_resolver.specs.Tables.{Notes};
-ghost use Rattle.js_names.specs.Scopes.{top};
+ghost use Rattle.js_names.specs.Entries.{top};
 ghost use Rattle.js_resolver.specs.Variables.{index_in, second, variable_with, named_there, around_there, name_key, owner_key, known_in, slots_among};
 
 use indexmap::{IndexMap, IndexSet};
-use js_names::{Declared, Role, Seen, TOP, What, is_constant};
+use js_names::{Declared, Seen, TOP, What, is_constant, variable_at};
 use js_program::Variable;
 use std::alloc::{AllocError, Global};
 
@@ -23,7 +24,7 @@ pub fn index_in(set: &IndexSet<u32>, number: u32) -> Result<u32, AllocError>
     Ok(index as u32)
 }
 
-// The slot of a variable in a function.
+/// The slot of a variable in a function.
 fn slot_in(
     held: &IndexMap<u32, IndexSet<u32>>,
     function: u32,
@@ -37,7 +38,7 @@ fn slot_in(
     }
 }
 
-// A variable as a function names it.
+/// A variable as a function names it.
 fn variable_with(
     assigned: &IndexSet<u32>,
     constants: &IndexSet<u32>,
@@ -57,7 +58,7 @@ fn variable_with(
     }
 }
 
-// What the name of a place stands for.
+/// What the name of a place stands for.
 fn named_there(
     assigned: &IndexSet<u32>,
     constants: &IndexSet<u32>,
@@ -76,7 +77,7 @@ fn named_there(
     }
 }
 
-// Notes what the name at a place of the text stands for, unless that is known.
+/// Notes what the name at a place of the text stands for, unless that is known.
 fn note(
     named: &mut IndexMap<u32, Variable>,
     at: u32,
@@ -112,18 +113,14 @@ pub fn named_places(
     Ok(named)
 }
 
-// The constant that a place declares.
+/// The constant that a place declares.
 fn constant_at(assigned: &IndexSet<u32>, place: &Seen) -> Option<u32>
     ensures { result ≡ constant_at assigned.now.keys (place_of place.now) }
 {
-    if let What::Declares(_) = place.what
-        && let Some(declared) = place.declared
-        && declared.role != Role::Parameter
-        && is_constant(assigned, declared)
-    {
-        return Some(declared.place);
+    match variable_at(place) {
+        Some(declared) if is_constant(assigned, declared) => Some(declared.place),
+        _ => None,
     }
-    None
 }
 
 /// The constants, in the order of their declarations.
@@ -143,7 +140,7 @@ pub fn constants_of(
     Ok(constants)
 }
 
-// The function that begins at a place.
+/// The function that begins at a place.
 fn function_at(place: &Seen) -> Option<u32>
     ensures { result ≡ function_at (place_of place.now) }
 {
@@ -172,7 +169,7 @@ pub fn functions_in(alloc: Global, places: &[Seen]) -> Result<IndexSet<u32>, All
     Ok(functions)
 }
 
-// The function around the one that begins at a place.
+/// The function around the one that begins at a place.
 fn around_there(place: &Seen) -> Option<u32>
     ensures { result ≡ around_there (place_of place.now) }
 {
@@ -182,7 +179,7 @@ fn around_there(place: &Seen) -> Option<u32>
     }
 }
 
-// The second of some functions, or the top level.
+/// The second of some functions, or the top level.
 fn second(functions: &[u32]) -> u32
     ensures { result ≡ second top functions.now }
 {
@@ -192,7 +189,7 @@ fn second(functions: &[u32]) -> u32
     }
 }
 
-// Notes the function around a function, unless that is known.
+/// Notes the function around a function, unless that is known.
 fn note_around(
     around: &mut IndexMap<u32, u32>,
     function: u32,
@@ -221,7 +218,7 @@ pub fn functions_around(alloc: Global, places: &[Seen]) -> Result<IndexMap<u32, 
     Ok(around)
 }
 
-// One more slot.
+/// One more slot.
 fn push_slot(
     slots: &mut Vec<u32>,
     held: &IndexMap<u32, IndexSet<u32>>,

@@ -1,5 +1,5 @@
 -- What the last part of a statement ends in.
-use Rattle.std.specs.Prelude.{ℕ, zero, suc, List, fold}
+use Rattle.std.specs.Prelude.{zero, suc, List, fold}
 use Rattle.js_tree.specs.declared.ending.Ending.{Ending}
 use Rattle.js_tree.specs.declared.ending.Ending.TheVariants.{Value, Update, Closed}
 use Rattle.js_tree.specs.declared.tree.Fix.{Fix}

@@ -1,5 +1,5 @@
 -- The plain form of each tree.
-use Rattle.std.specs.Prelude.{ℕ, List, [], ◌∷◌, Option, Some, None, map}
+use Rattle.std.specs.Prelude.{List, Option, Some, None, map}
 use Rattle.js_tree.specs.declared.tree.Form.{Form, Form-F, fold-Form}
 use Rattle.js_tree.specs.declared.tree.Start.{Start, Start-F, fold-Start}
 use Rattle.js_tree.specs.declared.tree.StmtForm.{StmtForm, StmtForm-F, fold-StmtForm}
@@ -83,6 +83,9 @@ plain_declarator = fold-Declarator PlainForm PlainStart PlainStmtForm PlainDecla
 
 abbrev pub plain_field : Field → PlainField
 plain_field = fold-Field PlainForm PlainStart PlainStmtForm PlainDeclarator PlainExpr PlainField PlainStmt form_step start_step stmt_form_step declarator_step expr_step field_step stmt_step
+
+abbrev pub plain_stmt_form : StmtForm → PlainStmtForm
+plain_stmt_form = fold-StmtForm PlainForm PlainStart PlainStmtForm PlainDeclarator PlainExpr PlainField PlainStmt form_step start_step stmt_form_step declarator_step expr_step field_step stmt_step
 
 abbrev pub plain_stmt : Stmt → PlainStmt
 plain_stmt = fold-Stmt PlainForm PlainStart PlainStmtForm PlainDeclarator PlainExpr PlainField PlainStmt form_step start_step stmt_form_step declarator_step expr_step field_step stmt_step

@@ -1,6 +1,6 @@
 use Rattle.std.specs.Prelude.{option_copied}
 use Rattle.std.proofs.Common.{arith}
-use Rattle.js_names.specs.Views.{keeps, vars_of_stmt}
+use Rattle.js_names.specs.Taken.{keeps, vars_of_stmt}
 use Rattle.js_names.proofs.Taking.{vars_more, vars_on_ok, vars_on_ok_both, vars_of_block, vars_of_declaration, vars_of_if, vars_of_if_else, vars_of_while, vars_of_for, vars_of_each}
 use Rattle.js_names.proofs.declare.+vars.Goals as goal
 

@@ -1,5 +1,5 @@
 use Rattle.std.proofs.Common.{arith}
-use Rattle.js_names.specs.Views.{own_of_declarator}
+use Rattle.js_names.specs.Taken.{own_of_declarator}
 use Rattle.js_names.proofs.Taking.{own_more}
 use Rattle.js_names.proofs.declare.declare_own_declarators.Goals as goal
 

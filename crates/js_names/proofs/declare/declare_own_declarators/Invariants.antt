@@ -1,6 +1,6 @@
 use Rattle.std.proofs.Common.{take}
 use Rattle.std.specs.List.{flat_map}
-use Rattle.js_names.specs.Views.{TakesOwn, own_of_declarator}
+use Rattle.js_names.specs.Taken.{TakesOwn, own_of_declarator}
 use Rattle.js_names.proofs.declare.declare_own_declarators.Given as goal
 
 abbrev pub invariant-loop-declarator : goal.invariant-loop-declarator

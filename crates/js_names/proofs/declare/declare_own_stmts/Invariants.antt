@@ -1,6 +1,6 @@
 use Rattle.std.proofs.Common.{take}
 use Rattle.std.specs.List.{flat_map}
-use Rattle.js_names.specs.Views.{TakesOwn, own_of_stmt}
+use Rattle.js_names.specs.Taken.{TakesOwn, own_of_stmt}
 use Rattle.js_names.proofs.declare.declare_own_stmts.Given as goal
 
 abbrev pub invariant-loop-stmt : goal.invariant-loop-stmt

@@ -1,5 +1,5 @@
 use Rattle.std.specs.Prelude.{option_copied}
-use Rattle.js_names.specs.Views.{keeps}
+use Rattle.js_names.specs.Taken.{keeps}
 use Rattle.js_names.proofs.Taking.{vars_on_ok, vars_of_head}
 use Rattle.js_names.proofs.declare.declare_start_vars.Goals as goal
 

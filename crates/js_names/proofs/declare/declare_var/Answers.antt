@@ -1,6 +1,6 @@
 use Rattle.std.proofs.Common.{sym, ◌∙◌, ap}
 use Rattle.std.specs.Prelude.{option_copied}
-use Rattle.js_names.specs.Views.{keeps}
+use Rattle.js_names.specs.Taken.{keeps}
 use Rattle.js_names.proofs.Taking.{var_inserted, var_passed}
 use Rattle.js_names.proofs.declare.declare_var.Goals as goal
 

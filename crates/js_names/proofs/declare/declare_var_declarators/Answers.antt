@@ -1,6 +1,6 @@
 use Rattle.std.specs.Prelude.{option_copied}
 use Rattle.std.proofs.Common.{arith}
-use Rattle.js_names.specs.Views.{keeps, vars_of_declarator}
+use Rattle.js_names.specs.Taken.{keeps, vars_of_declarator}
 use Rattle.js_names.proofs.Taking.{vars_more}
 use Rattle.js_names.proofs.declare.declare_var_declarators.Goals as goal
 

@@ -1,6 +1,6 @@
 use Rattle.std.proofs.Common.{◌∙◌, refl, arith}
 use Rattle.js_tree.specs.declared.tree.Form.{Use, Member, Index, Call, Binary, Conditional, Assign, ArrowValue, ArrowBlock, Function}
-use Rattle.js_names.proofs.Exprs.{use_is, member_is, index_is, call_is, binary_is, conditional_is, assign_is, arrow_value_is, arrow_block_is, function_is}
+use Rattle.js_tree.proofs.Forms.{use_is, member_is, index_is, call_is, binary_is, conditional_is, assign_is, arrow_value_is, arrow_block_is, function_is}
 use Rattle.js_names.proofs.Spots.{first_at, first_in}
 use Rattle.js_names.proofs.first.+first_spot.Goals as goal
 

@@ -1,7 +1,8 @@
 use Rattle.std.proofs.Common.{take}
 use Rattle.std.specs.List.{flat_map}
 use Rattle.js_names.specs.Slots.{captures_in}
-use Rattle.js_names.specs.Views.{Holds, place_of}
+use Rattle.js_names.specs.Views.{place_of}
+use Rattle.js_names.specs.Held.{Holds}
 use Rattle.js_names.proofs.holdings.hold_all_captures.Given as goal
 
 abbrev pub invariant-loop-at : goal.invariant-loop-at

@@ -1,6 +1,6 @@
 use Rattle.std.proofs.Common.{◌≡◌, ℕ, drop, fold}
 use Rattle.js_names.specs.Slots.{joins, held_by, holds_all, inside}
-use Rattle.js_names.specs.Views.{held_in}
+use Rattle.js_names.specs.Held.{held_in}
 use Rattle.js_names.proofs.holdings.hold_inside.Given as goal
 
 abbrev pub invariant-loop-function : goal.invariant-loop-function

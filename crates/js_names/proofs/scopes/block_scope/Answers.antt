@@ -2,8 +2,9 @@ use Rattle.std.proofs.Common.{◌∙◌, ap, sym, false, map}
 use Rattle.js_tree.specs.Plain.{stmts_of}
 use Rattle.js_tree.specs.Views.{plain_stmt}
 use Rattle.std.specs.List.{flat_map}
-use Rattle.js_names.specs.Scopes.{block_scope, inner_scope, vars_of_all}
-use Rattle.js_names.specs.Views.{own_of_stmt, vars_of_stmt}
+use Rattle.js_names.specs.Entries.{vars_of_all}
+use Rattle.js_names.specs.Scopes.{block_scope, inner_scope}
+use Rattle.js_names.specs.Taken.{own_of_stmt, vars_of_stmt}
 use Rattle.js_names.proofs.Making.{inner_made}
 use Rattle.js_names.proofs.Taking.{own_of_stmts, vars_of_stmts}
 use Rattle.js_names.proofs.scopes.block_scope.Goals as goal

@@ -1,7 +1,7 @@
 use Rattle.std.proofs.Common.{false, subst, ◌∷◌, []}
 use Rattle.std.specs.Prelude.{OnOk}
-use Rattle.js_names.specs.Scopes.{entry}
-use Rattle.js_names.specs.Views.{TakesOwn}
+use Rattle.js_names.specs.Entries.{entry}
+use Rattle.js_names.specs.Taken.{TakesOwn}
 use Rattle.js_names.proofs.scopes.declare_each.Goals as goal
 
 pub returns : goal.returns

@@ -1,5 +1,5 @@
 use Rattle.std.proofs.Common.{arith}
-use Rattle.js_names.specs.Views.{in_map}
+use Rattle.js_names.specs.Taken.{in_map}
 use Rattle.js_names.proofs.Taking.{parameters_more}
 use Rattle.js_names.proofs.scopes.declare_parameters.Goals as goal
 

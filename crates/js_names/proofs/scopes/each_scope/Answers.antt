@@ -1,6 +1,7 @@
 use Rattle.std.proofs.Common.{false, ◌∷◌, []}
 use Rattle.js_tree.specs.Views.{plain_stmt}
-use Rattle.js_names.specs.Scopes.{each_scope, each_role, entry, vars_of}
+use Rattle.js_names.specs.Entries.{entry, vars_of}
+use Rattle.js_names.specs.Scopes.{each_scope, each_role}
 use Rattle.js_names.proofs.Making.{inner_made}
 use Rattle.js_names.proofs.scopes.each_scope.Goals as goal
 

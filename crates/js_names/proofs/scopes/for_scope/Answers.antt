@@ -1,7 +1,8 @@
 use Rattle.std.proofs.Common.{false, ◌++◌, Some}
-use Rattle.js_names.specs.Views.{keeps}
+use Rattle.js_names.specs.Taken.{keeps}
 use Rattle.js_tree.specs.Views.{plain_stmt, plain_start}
-use Rattle.js_names.specs.Scopes.{for_scope, own_of_start, vars_of_start, vars_of}
+use Rattle.js_names.specs.Entries.{own_of_start, vars_of_start, vars_of}
+use Rattle.js_names.specs.Scopes.{for_scope}
 use Rattle.js_names.proofs.Making.{inner_made}
 use Rattle.js_names.proofs.Taking.{vars_both}
 use Rattle.js_names.proofs.scopes.for_scope.Goals as goal

@@ -2,8 +2,9 @@ use Rattle.std.proofs.Common.{◌∙◌, ap, sym, true, map, ◌++◌}
 use Rattle.std.specs.List.{flat_map}
 use Rattle.js_tree.specs.Plain.{stmts_of}
 use Rattle.js_tree.specs.Views.{plain_stmt}
-use Rattle.js_names.specs.Scopes.{function_scope, scope_with, parameters, vars_of_all, one_var, named}
-use Rattle.js_names.specs.Views.{in_map, own_of_stmt, vars_of_stmt}
+use Rattle.js_names.specs.Entries.{vars_of_all}
+use Rattle.js_names.specs.Scopes.{function_scope, scope_with, parameters, one_var, named}
+use Rattle.js_names.specs.Taken.{in_map, own_of_stmt, vars_of_stmt}
 use Rattle.js_names.proofs.Making.{scope_made, in_map_is}
 use Rattle.js_names.proofs.Taking.{own_both, own_of_stmts, vars_of_stmts}
 use Rattle.js_names.proofs.scopes.function_scope.Goals as goal

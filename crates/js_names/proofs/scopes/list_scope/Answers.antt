@@ -1,5 +1,6 @@
 use Rattle.std.proofs.Common.{false, ◌∷◌, []}
-use Rattle.js_names.specs.Scopes.{list_scope, each_role, entry, top}
+use Rattle.js_names.specs.Entries.{entry, top}
+use Rattle.js_names.specs.Scopes.{list_scope, each_role}
 use Rattle.js_names.proofs.Making.{scope_made, takes_none}
 use Rattle.js_names.proofs.scopes.list_scope.Goals as goal
 

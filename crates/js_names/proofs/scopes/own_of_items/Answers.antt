@@ -1,5 +1,5 @@
 use Rattle.std.proofs.Common.{arith}
-use Rattle.js_names.specs.Views.{own_of_tree_item}
+use Rattle.js_names.specs.Taken.{own_of_tree_item}
 use Rattle.js_names.proofs.Taking.{own_more}
 use Rattle.js_names.proofs.scopes.own_of_items.Goals as goal
 

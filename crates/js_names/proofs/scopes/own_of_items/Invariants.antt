@@ -1,6 +1,6 @@
 use Rattle.std.proofs.Common.{take}
 use Rattle.std.specs.List.{flat_map}
-use Rattle.js_names.specs.Views.{TakesOwn, own_of_tree_item}
+use Rattle.js_names.specs.Taken.{TakesOwn, own_of_tree_item}
 use Rattle.js_names.proofs.scopes.own_of_items.Given as goal
 
 abbrev pub invariant-loop-item : goal.invariant-loop-item

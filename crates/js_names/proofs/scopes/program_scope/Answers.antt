@@ -1,8 +1,9 @@
 use Rattle.std.proofs.Common.{◌∙◌, ap, true, map}
 use Rattle.std.specs.List.{flat_map}
 use Rattle.js_tree.specs.Views.{plain_item}
-use Rattle.js_names.specs.Scopes.{program_scope, scope_with, own_of_item, top}
-use Rattle.js_names.specs.Views.{own_of_tree_item, vars_of_tree_item}
+use Rattle.js_names.specs.Entries.{own_of_item, top}
+use Rattle.js_names.specs.Scopes.{program_scope, scope_with}
+use Rattle.js_names.specs.Taken.{own_of_tree_item, vars_of_tree_item}
 use Rattle.js_names.proofs.Making.{scope_made, own_of_tree, vars_of_tree}
 use Rattle.js_names.proofs.scopes.program_scope.Goals as goal
 

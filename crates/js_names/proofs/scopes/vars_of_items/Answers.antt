@@ -1,5 +1,5 @@
 use Rattle.std.proofs.Common.{arith, None}
-use Rattle.js_names.specs.Views.{keeps, vars_of_tree_item}
+use Rattle.js_names.specs.Taken.{keeps, vars_of_tree_item}
 use Rattle.js_names.proofs.Taking.{vars_more}
 use Rattle.js_names.proofs.scopes.vars_of_items.Goals as goal
 

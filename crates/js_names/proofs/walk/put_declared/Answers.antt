@@ -1,9 +1,10 @@
 use Rattle.std.proofs.Common.{subst}
 use Rattle.js_names.specs.declared.place.What.{What}
 use Rattle.js_names.specs.declared.place.Role.{Role}
-use Rattle.js_names.specs.Scopes.{top}
+use Rattle.js_names.specs.Entries.{top}
 use Rattle.js_names.specs.Sites.{site, in_function}
-use Rattle.js_names.specs.Views.{Adds, scopes_in, body_sites}
+use Rattle.js_names.specs.Walks.{Adds, scopes_in}
+use Rattle.js_names.specs.TreeSites.{body_sites}
 use Rattle.js_names.proofs.Adding.{adds_then}
 use Rattle.js_names.proofs.walk.put_declared.Goals as goal
 

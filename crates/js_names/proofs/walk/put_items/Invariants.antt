@@ -1,6 +1,7 @@
 use Rattle.std.proofs.Common.{take}
 use Rattle.std.specs.List.{flat_map}
-use Rattle.js_names.specs.Views.{Adds, scopes_in, tree_item_sites}
+use Rattle.js_names.specs.Walks.{Adds, scopes_in}
+use Rattle.js_names.specs.TreeSites.{tree_item_sites}
 use Rattle.js_names.proofs.walk.put_items.Given as goal
 
 abbrev pub invariant-loop-item : goal.invariant-loop-item

@@ -6,17 +6,19 @@ use Rattle.js_tree.specs.Plain.{exprs_of, fields_of, stmts_of}
 use Rattle.js_tree.specs.Views.{plain_expr, plain_field, plain_stmt}
 use Rattle.js_program.specs.declared.builtin.Builtin.TheVariants.{Floor}
 use Rattle.js_program.specs.PlainProgram as n
-use Rattle.js_names.specs.Sites.{value_builtin}
+use Rattle.js_names.specs.Forms.{value_builtin}
 use Rattle.js_program.specs.declared.node.NodeForm.TheVariants as N
 use Rattle.js_resolver.specs.declared.emit.Called.TheVariants as C
-use Rattle.js_resolver.specs.Nodes.{is_division, method_of, exprs_piece, expr_piece, fields_piece, stmts_piece}
+use Rattle.js_resolver.specs.NodeForms.{is_division, method_of}
+use Rattle.js_resolver.specs.Nodes.{exprs_piece, expr_piece, fields_piece, stmts_piece}
 use Rattle.js_resolver.specs.Emits.{count, EmitsCalled, FormsExpr, FormsBuiltin, FormsCall}
 use Rattle.js_resolver.proofs.FormArms as f
 use Rattle.js_resolver.proofs.StmtArms as s
 use Rattle.js_resolver.proofs.FunctionArms as k
 use Rattle.js_resolver.proofs.CallArms as m
 use Rattle.js_resolver.proofs.Loops as l
-use Rattle.js_resolver.proofs.TreeForms.{expr_is, member_whole, binary_whole, not_member, not_binary}
+use Rattle.js_tree.proofs.Forms.{expr_is}
+use Rattle.js_resolver.proofs.TreeForms.{member_whole, binary_whole, not_member, not_binary}
 use Rattle.js_resolver.proofs.emit.+emit.Goals as goal
 use Rattle.js_resolver.proofs.emit.+emit.Goals.{emit_called-in_default-via-in-Member+else-is_none, emit_called-in_default-via-in_default, emit_floor-in_default-via-in-Binary+else-is_divide, emit_floor-in_default-via-in_default}
 

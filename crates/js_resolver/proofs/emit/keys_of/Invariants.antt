@@ -2,7 +2,7 @@ use Rattle.std.proofs.Common.{◌≡◌, ◌++◌, map, drop}
 use Rattle.std.specs.Arc.{arc_value}
 use Rattle.js_tree.specs.Plain.{fields_of}
 use Rattle.js_tree.specs.Views.{plain_field}
-use Rattle.js_resolver.specs.Nodes.{keys_of}
+use Rattle.js_resolver.specs.NodeForms.{keys_of}
 use Rattle.js_resolver.proofs.emit.keys_of.Given as goal
 
 abbrev pub invariant-loop-field : goal.invariant-loop-field

@@ -1,7 +1,7 @@
 use Rattle.std.proofs.Common.{arith, refl, map, false}
 use Rattle.js_tree.specs.Plain.{stmts_of}
 use Rattle.js_tree.specs.Views.{plain_stmt}
-use Rattle.js_names.specs.Scopes.{own_of, own_of_all}
+use Rattle.js_names.specs.Entries.{own_of, own_of_all}
 use Rattle.js_resolver.proofs.Freshness.{fresh_more, fresh_none}
 use Rattle.js_resolver.proofs.fresh.block_slots.Goals as goal
 

@@ -1,8 +1,8 @@
 use Rattle.std.proofs.Common.{◌≡◌, ◌++◌, map, drop, false}
 use Rattle.js_tree.specs.Plain.{stmts_of}
 use Rattle.js_tree.specs.Views.{plain_stmt}
-use Rattle.js_names.specs.Scopes.{own_of_all}
-use Rattle.js_resolver.specs.Nodes.{fresh}
+use Rattle.js_names.specs.Entries.{own_of_all}
+use Rattle.js_resolver.specs.NodeForms.{fresh}
 use Rattle.js_resolver.proofs.fresh.block_slots.Given as goal
 
 abbrev pub invariant-loop-stmt : goal.invariant-loop-stmt

@@ -1,8 +1,8 @@
 use Rattle.std.proofs.Common.{arith, refl, map, false}
 use Rattle.js_tree.specs.Plain.{declarators_of}
 use Rattle.js_tree.specs.Views.{plain_declarator}
-use Rattle.js_names.specs.Scopes.{own_declarators}
-use Rattle.js_names.specs.Views.{own_of_declarator}
+use Rattle.js_names.specs.Entries.{own_declarators}
+use Rattle.js_names.specs.Taken.{own_of_declarator}
 use Rattle.js_resolver.proofs.Freshness.{fresh_more, fresh_none}
 use Rattle.js_resolver.proofs.fresh.push_declarators.Goals as goal
 

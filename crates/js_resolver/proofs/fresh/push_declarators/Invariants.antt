@@ -1,8 +1,8 @@
 use Rattle.std.proofs.Common.{◌≡◌, ◌++◌, map, drop, false}
 use Rattle.js_tree.specs.Plain.{declarators_of}
 use Rattle.js_tree.specs.Views.{plain_declarator}
-use Rattle.js_names.specs.Scopes.{own_declarators}
-use Rattle.js_resolver.specs.Nodes.{fresh}
+use Rattle.js_names.specs.Entries.{own_declarators}
+use Rattle.js_resolver.specs.NodeForms.{fresh}
 use Rattle.js_resolver.proofs.fresh.push_declarators.Given as goal
 
 abbrev pub invariant-loop-declarator : goal.invariant-loop-declarator

@@ -1,5 +1,5 @@
 use Rattle.std.proofs.Common.{arith}
-use Rattle.js_names.specs.Views.{held_in}
+use Rattle.js_names.specs.Held.{held_in}
 use Rattle.js_resolver.specs.Variables.{named_there, name_key}
 use Rattle.js_resolver.proofs.Naming.{known_more}
 use Rattle.js_resolver.proofs.tables.named_places.Goals as goal

@@ -1,6 +1,7 @@
 use Rattle.std.proofs.Common.{◌≡◌, ℕ, map, take, nat_eq}
 use Rattle.indexmap.specs.IndexMap.{get}
-use Rattle.js_names.specs.Views.{held_in, place_of}
+use Rattle.js_names.specs.Views.{place_of}
+use Rattle.js_names.specs.Held.{held_in}
 use Rattle.js_resolver.specs.Variables.{named_there, name_key, known_in}
 use Rattle.js_resolver.proofs.tables.named_places.Given as goal
 

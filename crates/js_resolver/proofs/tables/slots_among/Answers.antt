@@ -1,6 +1,6 @@
 use Rattle.std.proofs.Common.{◌∙◌, ap, arith}
 use Rattle.std.proofs.lemmas.List.{take_all}
-use Rattle.js_names.specs.Views.{held_in}
+use Rattle.js_names.specs.Held.{held_in}
 use Rattle.js_resolver.specs.Variables.{index_in, slots_among}
 use Rattle.js_resolver.proofs.Naming.{slots_more}
 use Rattle.js_resolver.proofs.tables.slots_among.Goals as goal

@@ -1,5 +1,5 @@
 use Rattle.std.proofs.Common.{◌≡◌, take}
-use Rattle.js_names.specs.Views.{held_in}
+use Rattle.js_names.specs.Held.{held_in}
 use Rattle.js_resolver.specs.Variables.{slots_among}
 use Rattle.js_resolver.proofs.tables.slots_among.Given as goal
 

@@ -1,6 +1,7 @@
 use Rattle.std.proofs.Common.{◌∙◌, ap, map}
 use Rattle.js_names.specs.Slots.{constants_of, functions_in, captures, vars_of}
-use Rattle.js_names.specs.Views.{held_in, place_of}
+use Rattle.js_names.specs.Views.{place_of}
+use Rattle.js_names.specs.Held.{held_in}
 use Rattle.js_resolver.specs.Variables.{named_there, around_there, name_key, owner_key, known_in}
 use Rattle.js_resolver.proofs.Standing.{stands}
 use Rattle.js_resolver.proofs.name_tables.NameTables.new.Goals as goal
