@@ -84,6 +84,9 @@ plain_declarator = fold-Declarator PlainForm PlainStart PlainStmtForm PlainDecla
 abbrev pub plain_field : Field → PlainField
 plain_field = fold-Field PlainForm PlainStart PlainStmtForm PlainDeclarator PlainExpr PlainField PlainStmt form_step start_step stmt_form_step declarator_step expr_step field_step stmt_step
 
+abbrev pub plain_stmt_form : StmtForm → PlainStmtForm
+plain_stmt_form = fold-StmtForm PlainForm PlainStart PlainStmtForm PlainDeclarator PlainExpr PlainField PlainStmt form_step start_step stmt_form_step declarator_step expr_step field_step stmt_step
+
 abbrev pub plain_stmt : Stmt → PlainStmt
 plain_stmt = fold-Stmt PlainForm PlainStart PlainStmtForm PlainDeclarator PlainExpr PlainField PlainStmt form_step start_step stmt_form_step declarator_step expr_step field_step stmt_step
 
