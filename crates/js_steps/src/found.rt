@@ -1,9 +1,10 @@
 //! What a reader finds: a tree and its nesting.
-ghost use Rattle.std.specs.Prelude.{◌≡◌, ◌<◌, ◌+◌, max, IfOk};
+ghost use Rattle.std.specs.Prelude.{◌≡◌, ◌<◌, ◌+◌, max, IfOk, IfErr};
 ghost use Rattle.js_tree.specs.Plain as p;
 ghost use Rattle.js_tree.specs.Plain.{at, on};
 ghost use Rattle.js_tree.specs.Views.{plain_expr, plain_form, plain_stmt, plain_stmt_form};
 ghost use Rattle.js_tree.specs.Nesting.{one_less_if, is_object_name, is_member};
+ghost use Rattle.js_steps.specs.declared.stop.Stop.TheVariants.{Memory};
 
 use crate::Stop;
 use js_tree::{Expr, Form, Operator, Stmt, StmtForm, is_member, is_object_name};
@@ -54,6 +55,7 @@ pub fn binary(
     ensures tree { IfOk result (λ found. plain_expr found.tree ≡
         at 0 line (p.binary operator (plain_expr left.tree) (plain_expr right.tree))) }
     ensures depth { IfOk result (λ found. found.depth ≡ max left.depth right.depth + 1) }
+    ensures memory { IfErr result (λ e. e ≡ Memory) }
 {
     let depth = left.depth.max(right.depth) + 1;
     let form = Form::Binary(
