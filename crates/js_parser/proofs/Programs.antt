@@ -26,10 +26,13 @@ pub item_function : (ts : List Token) → starts Sort.Function ts ≡ true → n
 item_function [] h = refl
 item_function (t ∷ ts) h = rw h refl
 
-pub item_statement : (ts : List Token) → starts Sort.Function ts ≡ false → next_item ts ≡ and_then ((readers MOST_NESTING).stmt ts) (λ s r. Some (p.statement s, r))
+item_is : (n : ℕ) (ts : List Token) → starts Sort.Function ts ≡ false → stmts.item n (readers n) ts ≡ and_then ((readers (suc n)).stmt ts) (λ s r. Some (p.statement s, r))
 unfolding readers
-item_statement [] h = refl
-item_statement (t ∷ ts) h = rw h refl
+item_is n [] h = refl
+item_is n (t ∷ ts) h = rw h refl
+
+pub item_statement : (ts : List Token) → starts Sort.Function ts ≡ false → next_item ts ≡ and_then ((readers MOST_NESTING).stmt ts) (λ s r. Some (p.statement s, r))
+item_statement ts h = item_is (MOST_NESTING - 1) ts h
 
 pub items_turn : (is : List PlainItem) (ts : List Token) →
     run (stmts.items_step (MOST_NESTING - 1) (readers (MOST_NESTING - 1))) is ts ≡
