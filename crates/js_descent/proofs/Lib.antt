@@ -1,2 +1,3 @@
 pub mod Using
 pub mod Chains
+pub mod Stated

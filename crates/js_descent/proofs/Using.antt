@@ -1,5 +1,5 @@
 -- What the readers do at one step.
-use Rattle.std.proofs.Common.{◌≡◌, ℕ, zero, suc, ◌+◌, ◌-◌, ◌<◌, ◌≤◌, ◌∙◌, add-one, subst, inl, inr, Err, true, false, List, [], ◌∷◌, ◌++◌, map, Option, Some, None, refl, sub-one, arith}
+use Rattle.std.proofs.Common.{◌≡◌, ℕ, zero, suc, ◌+◌, ◌-◌, ◌<◌, ◌≤◌, max, ◌∙◌, add-one, subst, inl, inr, true, false, List, [], ◌∷◌, ◌++◌, map, Option, Some, None, refl, sub-one, arith}
 use Rattle.std.proofs.Math.Nat.{eq-or-lt_of_le}
 use Rattle.js_lexer.specs.declared.token.Token.{Token}
 use Rattle.js_tree.specs.declared.tree.Name.{Name}
@@ -9,22 +9,24 @@ use Rattle.js_tree.specs.declared.tree.Declarator.{Declarator}
 use Rattle.js_tree.specs.declared.tree.Stmt.{Stmt}
 use Rattle.js_tree.specs.declared.tree.DeclareKind.{DeclareKind}
 use Rattle.js_tree.specs.Plain as p
-use Rattle.js_tree.specs.Plain.{PlainExpr, at, on, PlainField, PlainDeclarator, PlainStmt}
+use Rattle.js_tree.specs.Plain.{PlainExpr, at, on, PlainField, PlainDeclarator, PlainStmt, exprs_of, fields_of, declarators_of, stmts_of}
+use Rattle.js_tree.specs.Nesting.{nesting, deepest, deepest_field, deepest_declarator, perhaps_nesting, stmt_nesting, deepest_stmt}
+use Rattle.js_tree.specs.Endings.{ending}
 use Rattle.js_tree.specs.Views.{plain_expr, plain_field, plain_declarator, plain_stmt}
 use Rattle.js_grammar.specs.declared.sort.Sort.{Sort}
-use Rattle.js_grammar.specs.Sorts.{spot, numbered, kind_number}
-use Rattle.js_grammar.specs.Tokens.{starts, line_of, is_const}
+use Rattle.js_grammar.specs.Sorts.{spot}
+use Rattle.js_grammar.specs.Arrows.{starts_function}
+use Rattle.js_grammar.specs.Tokens.{starts, line_of, is_const, starts_assign}
 use Rattle.js_grammar.specs.Grammar.{Level, Operators, Assignment}
-use Rattle.js_grammar.specs.Reader as read
-use Rattle.js_grammar.specs.Reader.{next_turn, run, readers, and_then, after, after_some, done}
-use Rattle.js_steps.specs.Skipped.{first}
-use Rattle.js_steps.specs.Parsed.{IsExpr}
-use Rattle.js_steps.specs.declared.stop.Stop.{Stop}
-use Rattle.js_steps.specs.declared.stop.Stop.TheVariants.{NoTree, Memory}
+use Rattle.js_grammar.specs.Reading as read
+use Rattle.js_grammar.specs.Expressions as exprs
+use Rattle.js_grammar.specs.Statements as stmts
+use Rattle.js_grammar.specs.Reading.{next_turn, run, and_then, after, after_some, done}
+use Rattle.js_grammar.specs.Reader.{readers}
+use Rattle.js_steps.specs.Passed.{first, at_first}
 use Rattle.js_steps.proofs.Loops as loops
 use Rattle.js_steps.proofs.Using as using
-use Rattle.js_steps.proofs.Rows as rows
-use Rattle.js_descent.specs.First.{at_first}
+use Rattle.js_tree.proofs.Rows as rows
 
 -- room
 
@@ -40,30 +42,59 @@ pub no_room_declarators : (k : DeclareKind) (ts : List Token) → (readers 0).de
 unfolding readers
 no_room_declarators k ts = refl
 
-pub assignment_in : (room : ℕ) (ts : List Token) → 0 < room → (readers room).expr Assignment ts ≡ read.assignment (room - 1) (readers (room - 1)) ts
-unfolding readers
-assignment_in zero ts h = absurd (omega arith)
-assignment_in (suc n) ts h = rw sub-one refl
-
-pub operators_in : (room k : ℕ) (ts : List Token) → 0 < room → (readers room).expr (Operators k) ts ≡ read.operators (room - 1) (readers (room - 1)) k ts
-unfolding readers
-operators_in zero k ts h = absurd (omega arith)
-operators_in (suc n) k ts h = rw sub-one refl
-
-pub declarators_in : (room : ℕ) (k : DeclareKind) (ts : List Token) → 0 < room → (readers room).declarators k ts ≡ read.declarators_of_kind (room - 1) (readers (room - 1)) k ts
-unfolding readers
-declarators_in zero k ts h = absurd (omega arith)
-declarators_in (suc n) k ts h = rw sub-one refl
-
-pub statement_in : (room : ℕ) (ts : List Token) → 0 < room → (readers room).stmt ts ≡ read.statement (room - 1) (readers (room - 1)) ts
-unfolding readers
-statement_in zero ts h = absurd (omega arith)
-statement_in (suc n) ts h = rw sub-one refl
-
 pub nothing_read : (n : ℕ) → (readers n).expr Assignment [] ≡ None
 unfolding readers
 nothing_read zero = refl
 nothing_read (suc n) = refl
+
+in_room : (room : ℕ) (ts : List Token) → 0 < room → (readers room).expr Assignment ts ≡ exprs.assignment (room - 1) (readers (room - 1)) ts
+unfolding readers
+in_room zero ts h = absurd (omega arith)
+in_room (suc n) ts h = rw sub-one refl
+
+is_arrow : (n : ℕ) (ts : List Token) → starts_function ts ≡ true → exprs.assignment n (readers n) ts ≡ at_first (exprs.arrow n (readers n)) ts
+is_arrow n [] h = refl
+is_arrow n (t ∷ ts) h = rw h refl
+
+is_assign : (n : ℕ) (ts : List Token) → starts_function ts ≡ false → starts_assign ts ≡ true → exprs.assignment n (readers n) ts ≡ at_first (exprs.assign_at n (readers n)) ts
+is_assign n [] h k = refl
+is_assign n (t ∷ ts) h k = rw (h, k) refl
+
+is_choice : (n : ℕ) (ts : List Token) → starts_function ts ≡ false → starts_assign ts ≡ false → exprs.assignment n (readers n) ts ≡ exprs.choice n (readers n) ts
+is_choice n [] h k = refl
+is_choice n (t ∷ ts) h k = rw (h, k) refl
+
+pub arrow_in : (room : ℕ) (ts : List Token) → 0 < room → starts_function ts ≡ true →
+    (readers room).expr Assignment ts ≡ at_first (exprs.arrow (room - 1) (readers (room - 1))) ts
+arrow_in room ts h k = in_room room ts h ∙ is_arrow (room - 1) ts k
+
+pub assign_in : (room : ℕ) (ts : List Token) → 0 < room → starts_function ts ≡ false → starts_assign ts ≡ true →
+    (readers room).expr Assignment ts ≡ at_first (exprs.assign_at (room - 1) (readers (room - 1))) ts
+assign_in room ts h k l = in_room room ts h ∙ is_assign (room - 1) ts k l
+
+pub choice_in : (room : ℕ) (ts : List Token) → 0 < room → starts_function ts ≡ false → starts_assign ts ≡ false →
+    (readers room).expr Assignment ts ≡ exprs.choice (room - 1) (readers (room - 1)) ts
+choice_in room ts h k l = in_room room ts h ∙ is_choice (room - 1) ts k l
+
+pub evaluated : (n : ℕ) (ts : List Token) →
+    at_first (stmts.expression_at n (readers n)) ts ≡ and_then ((readers n).expr Assignment ts) (λ e l. read.ended (ending e) l (λ z. Some (on (line_of ts) (p.expression e), z)))
+evaluated n [] = rw (nothing_read n) refl
+evaluated n (t ∷ ts) = refl
+
+pub operators_in : (room k : ℕ) (ts : List Token) → 0 < room → (readers room).expr (Operators k) ts ≡ exprs.operators (room - 1) (readers (room - 1)) k ts
+unfolding readers
+operators_in zero k ts h = absurd (omega arith)
+operators_in (suc n) k ts h = rw sub-one refl
+
+pub declarators_in : (room : ℕ) (k : DeclareKind) (ts : List Token) → 0 < room → (readers room).declarators k ts ≡ exprs.declarators_of_kind (room - 1) (readers (room - 1)) k ts
+unfolding readers
+declarators_in zero k ts h = absurd (omega arith)
+declarators_in (suc n) k ts h = rw sub-one refl
+
+pub statement_in : (room : ℕ) (ts : List Token) → 0 < room → (readers room).stmt ts ≡ stmts.statement (room - 1) (readers (room - 1)) ts
+unfolding readers
+statement_in zero ts h = absurd (omega arith)
+statement_in (suc n) ts h = rw sub-one refl
 
 -- tokens that are wanting
 
@@ -73,99 +104,88 @@ after_none = using.after_none
 pub held_none : {A B : Type 0} (g : Token → Option A) (ts : List Token) (f : A → List Token → Option B) → first g ts ≡ None → after_some g ts f ≡ None
 held_none = using.held_none
 
-pub choice_alone : (n line : ℕ) (a : PlainExpr) (ts : List Token) → starts Sort.Question ts ≡ false → read.choice_after n (readers n) line a ts ≡ Some (a, ts)
+pub choice_alone : (n line : ℕ) (a : PlainExpr) (ts : List Token) → starts Sort.Question ts ≡ false → exprs.choice_after n (readers n) line a ts ≡ Some (a, ts)
 choice_alone n line a [] h = refl
 choice_alone n line a (t ∷ ts) h = rw h refl
 
-pub else_alone : (n line : ℕ) (e : PlainExpr) (s : PlainStmt) (ts : List Token) → starts Sort.Else ts ≡ false → read.else_after n (readers n) line e s ts ≡ Some (on line (p.if_alone e s), ts)
+pub else_alone : (n line : ℕ) (e : PlainExpr) (s : PlainStmt) (ts : List Token) → starts Sort.Else ts ≡ false → stmts.else_after n (readers n) line e s ts ≡ Some (on line (p.if_alone e s), ts)
 else_alone n line e s [] h = refl
 else_alone n line e s (t ∷ ts) h = rw h refl
 
 pub body_value : (n : ℕ) (t : Token) (xs : List Name) (ts : List Token) → starts Sort.LeftBrace ts ≡ false →
-    read.body n (readers n) t xs ts ≡ and_then ((readers n).expr Assignment ts) (λ e r. Some (at 0 t.line (p.arrow_value (spot t) xs e), r))
+    exprs.body n (readers n) t xs ts ≡ and_then ((readers n).expr Assignment ts) (λ e r. Some (at 0 t.line (p.arrow_value (spot t) xs e), r))
 body_value n t xs [] h = rw (nothing_read n) refl
 body_value n t xs (u ∷ ts) h = rw h refl
 
 pub value_alone : (n : ℕ) (alone : PlainDeclarator) (k : DeclareKind) (x : Name) (ts : List Token) → starts Sort.Set ts ≡ false → is_const k ≡ false →
-    read.value_at n (readers n) alone k x ts ≡ Some (alone, ts)
+    exprs.value_at n (readers n) alone k x ts ≡ Some (alone, ts)
 value_alone n alone k x [] h c = rw c refl
 value_alone n alone k x (t ∷ ts) h c = rw (h, c) refl
 
 pub value_none : (n : ℕ) (alone : PlainDeclarator) (k : DeclareKind) (x : Name) (ts : List Token) → starts Sort.Set ts ≡ false → is_const k ≡ true →
-    read.value_at n (readers n) alone k x ts ≡ None
+    exprs.value_at n (readers n) alone k x ts ≡ None
 value_none n alone k x [] h c = rw c refl
 value_none n alone k x (t ∷ ts) h c = rw (h, c) refl
-
-pub each_none : (n line : ℕ) (k : DeclareKind) (x : Name) → read.each_at n (readers n) line k x [] ≡ None
-each_none n line k x = rw (nothing_read n) refl
-
-pub numbered_is : (t : Token) → numbered t ≡ kind_number t.kind
-numbered_is = using.numbered_is
 
 -- lists
 
 pub elements_turn : (n : ℕ) (c : Sort) (es : List PlainExpr) (ts : List Token) →
-    run (read.elements_step n (readers n) c) es ts ≡ next_turn (run (read.elements_step n (readers n) c)) (read.elements_step n (readers n) c es ts)
+    run (exprs.elements_step n (readers n) c) es ts ≡ next_turn (run (exprs.elements_step n (readers n) c)) (exprs.elements_step n (readers n) c es ts)
 elements_turn = loops.elements_turn
 
 pub elements_begin : (n : ℕ) (c : Sort) (es : List PlainExpr) (ts : List Token) → starts c ts ≡ false →
-    read.elements_step n (readers n) c es ts ≡ and_then ((readers n).expr Assignment ts) (λ e r. read.next_element n (readers n) c (es ++ e ∷ []) r)
+    exprs.elements_step n (readers n) c es ts ≡ and_then ((readers n).expr Assignment ts) (λ e r. exprs.next_element n (readers n) c (es ++ e ∷ []) r)
 elements_begin n c es [] h = rw (nothing_read n) refl
 elements_begin n c es (t ∷ ts) h = rw h refl
 
-pub next_element_none : (n : ℕ) (c : Sort) (es : List PlainExpr) (ts : List Token) → starts c ts ≡ false → starts Sort.Comma ts ≡ false → read.next_element n (readers n) c es ts ≡ None
+pub next_element_none : (n : ℕ) (c : Sort) (es : List PlainExpr) (ts : List Token) → starts c ts ≡ false → starts Sort.Comma ts ≡ false → exprs.next_element n (readers n) c es ts ≡ None
 next_element_none n c es [] h k = refl
 next_element_none n c es (t ∷ ts) h k = rw (h, k) refl
 
 pub fields_turn : (n : ℕ) (fs : List PlainField) (ts : List Token) →
-    run (read.fields_step n (readers n)) fs ts ≡ next_turn (run (read.fields_step n (readers n))) (read.fields_step n (readers n) fs ts)
+    run (exprs.fields_step n (readers n)) fs ts ≡ next_turn (run (exprs.fields_step n (readers n))) (exprs.fields_step n (readers n) fs ts)
 fields_turn = loops.fields_turn
 
 pub fields_begin : (n : ℕ) (fs : List PlainField) (ts : List Token) → starts Sort.RightBrace ts ≡ false →
-    read.fields_step n (readers n) fs ts ≡ and_then (at_first (read.field_at n (readers n)) ts) (λ f r. read.next_field n (readers n) (fs ++ f ∷ []) r)
+    exprs.fields_step n (readers n) fs ts ≡ and_then (at_first (exprs.field_at n (readers n)) ts) (λ f r. exprs.next_field n (readers n) (fs ++ f ∷ []) r)
 fields_begin n fs [] h = refl
 fields_begin n fs (t ∷ ts) h = rw h refl
 
-pub next_field_none : (n : ℕ) (fs : List PlainField) (ts : List Token) → starts Sort.RightBrace ts ≡ false → starts Sort.Comma ts ≡ false → read.next_field n (readers n) fs ts ≡ None
+pub next_field_none : (n : ℕ) (fs : List PlainField) (ts : List Token) → starts Sort.RightBrace ts ≡ false → starts Sort.Comma ts ≡ false → exprs.next_field n (readers n) fs ts ≡ None
 next_field_none n fs [] h k = refl
 next_field_none n fs (t ∷ ts) h k = rw (h, k) refl
 
 pub declarators_turn : (n : ℕ) (k : DeclareKind) (ds : List PlainDeclarator) (ts : List Token) →
-    run (read.declarators_step n (readers n) k) ds ts ≡ next_turn (run (read.declarators_step n (readers n) k)) (read.declarators_step n (readers n) k ds ts)
+    run (exprs.declarators_step n (readers n) k) ds ts ≡ next_turn (run (exprs.declarators_step n (readers n) k)) (exprs.declarators_step n (readers n) k ds ts)
 declarators_turn = loops.declarators_turn
 
-pub next_declarator_stop : (n : ℕ) (ds : List PlainDeclarator) (ts : List Token) → starts Sort.Comma ts ≡ false → read.next_declarator n (readers n) ds ts ≡ Some (done ds ts)
+pub next_declarator_stop : (n : ℕ) (ds : List PlainDeclarator) (ts : List Token) → starts Sort.Comma ts ≡ false → exprs.next_declarator n (readers n) ds ts ≡ Some (done ds ts)
 next_declarator_stop n ds [] h = refl
 next_declarator_stop n ds (t ∷ ts) h = rw h refl
 
 pub statements_turn : (n : ℕ) (ss : List PlainStmt) (ts : List Token) →
-    run (read.statements_step n (readers n)) ss ts ≡ next_turn (run (read.statements_step n (readers n))) (read.statements_step n (readers n) ss ts)
+    run (exprs.statements_step n (readers n)) ss ts ≡ next_turn (run (exprs.statements_step n (readers n))) (exprs.statements_step n (readers n) ss ts)
 statements_turn = loops.statements_turn
 
 pub called_turn : (n line : ℕ) (e : PlainExpr) (ts : List Token) →
-    run (read.called_step n (readers n) line) e ts ≡ next_turn (run (read.called_step n (readers n) line)) (read.called_step n (readers n) line e ts)
+    run (exprs.called_step n (readers n) line) e ts ≡ next_turn (run (exprs.called_step n (readers n) line)) (exprs.called_step n (readers n) line e ts)
 called_turn = loops.called_turn
 
 pub operated_turn : (n line k : ℕ) (e : PlainExpr) (ts : List Token) →
-    run (read.operated_step n (readers n) line k) e ts ≡ next_turn (run (read.operated_step n (readers n) line k)) (read.operated_step n (readers n) line k e ts)
+    run (exprs.operated_step n (readers n) line k) e ts ≡ next_turn (run (exprs.operated_step n (readers n) line k)) (exprs.operated_step n (readers n) line k e ts)
 operated_turn = loops.operated_turn
 
-pub operators_next : (n k : ℕ) (ts : List Token) (e : PlainExpr) (r : List Token) → read.operators n (readers n) k ts ≡ Some (e, r) →
-    read.operators n (readers n) (k + 1) ts ≡ run (read.operated_step n (readers n) (line_of ts) k) e r
+pub operators_next : (n k : ℕ) (ts : List Token) (e : PlainExpr) (r : List Token) → exprs.operators n (readers n) k ts ≡ Some (e, r) →
+    exprs.operators n (readers n) (k + 1) ts ≡ run (exprs.operated_step n (readers n) (line_of ts) k) e r
 operators_next n k ts e r h = rw (add-one, h) refl
 
 -- where the tighter operands are not spelled, the looser are not
-pub operators_none : (n k level : ℕ) (ts : List Token) → k ≤ level → read.operators n (readers n) k ts ≡ None → read.operators n (readers n) level ts ≡ None
-operators_none n k zero ts h e = subst (λ (x : ℕ). read.operators n (readers n) x ts ≡ None) (let z : k ≡ 0 = omega arith in z) e
-operators_none n k (suc m) ts h e = elim (eq-or-lt_of_le h) as (λ s. read.operators n (readers n) (suc m) ts ≡ None) [
-  | inl z ↦ subst (λ (x : ℕ). read.operators n (readers n) x ts ≡ None) z e
+pub operators_none : (n k level : ℕ) (ts : List Token) → k ≤ level → exprs.operators n (readers n) k ts ≡ None → exprs.operators n (readers n) level ts ≡ None
+operators_none n k zero ts h e = subst (λ (x : ℕ). exprs.operators n (readers n) x ts ≡ None) (let z : k ≡ 0 = omega arith in z) e
+operators_none n k (suc m) ts h e = elim (eq-or-lt_of_le h) as (λ s. exprs.operators n (readers n) (suc m) ts ≡ None) [
+  | inl z ↦ subst (λ (x : ℕ). exprs.operators n (readers n) x ts ≡ None) z e
   | inr l ↦ rw (operators_none n k m ts (omega arith) e) refl
 ]
-
-pub operators_refused : (n k level : ℕ) (ts : List Token) (a : PlainExpr) (r : List Token) (e : Stop) → k < level → read.operators n (readers n) k ts ≡ Some (a, r) →
-    IsExpr (run (read.operated_step n (readers n) (line_of ts) k) a r) (Err e) → IsExpr (read.operators n (readers n) level ts) (Err e)
-operators_refused n k level ts a r (NoTree left) h s i = operators_none n (k + 1) level ts (omega arith) (operators_next n k ts a r s ∙ i)
-operators_refused n k level ts a r Memory h s i = tt
 
 pub map_push : (es : List Expr) (e : Expr) → map plain_expr (es ++ e ∷ []) ≡ map plain_expr es ++ plain_expr e ∷ []
 map_push = rows.map_push
@@ -178,3 +198,15 @@ map_push_declarator = rows.map_push_declarator
 
 pub map_push_stmt : (es : List Stmt) (e : Stmt) → map plain_stmt (es ++ e ∷ []) ≡ map plain_stmt es ++ plain_stmt e ∷ []
 map_push_stmt = rows.map_push_stmt
+
+pub deepest_push : (es : List PlainExpr) (e : PlainExpr) → deepest (exprs_of (es ++ e ∷ [])) ≡ max (deepest (exprs_of es)) (nesting e)
+deepest_push = rows.deepest_push
+
+pub deepest_push_field : (fs : List PlainField) (f : PlainField) → deepest_field (fields_of (fs ++ f ∷ [])) ≡ max (deepest_field (fields_of fs)) (nesting f.value)
+deepest_push_field = rows.deepest_push_field
+
+pub deepest_push_declarator : (ds : List PlainDeclarator) (d : PlainDeclarator) → deepest_declarator (declarators_of (ds ++ d ∷ [])) ≡ max (deepest_declarator (declarators_of ds)) (perhaps_nesting d.value)
+deepest_push_declarator = rows.deepest_push_declarator
+
+pub deepest_push_stmt : (ss : List PlainStmt) (s : PlainStmt) → deepest_stmt (stmts_of (ss ++ s ∷ [])) ≡ max (deepest_stmt (stmts_of ss)) (stmt_nesting s)
+deepest_push_stmt = rows.deepest_push_stmt

@@ -1,1146 +1,754 @@
-//! The readers of forms.
-ghost use Rattle.std.specs.Prelude.{◌≡◌, ◌<◌, ◌≤◌, ◌+◌, ◌∷◌, length, option_map, IfOk};
-ghost use Rattle.js_tree.specs.Views.{plain_expr, plain_start, plain_stmt};
-ghost use Rattle.js_tree.specs.Views.{perhaps as perhaps_tree};
-ghost use Rattle.js_grammar.specs.Tokens.{step, is_const};
-ghost use Rattle.js_descent.specs.First.{at_first};
-ghost use Rattle.js_descent.specs.Behind.{second_at, branches_at, otherwise_at, looped_at, stepped_at, tested_at};
+//! The readers of forms. `room` is the nesting that a form may have, `inner` that of its parts.
+ghost use Rattle.std.specs.Prelude.{◌≡◌, ◌<◌, ◌≤◌, ◌+◌, map, option_map};
+ghost use Rattle.js_tree.specs.Plain.{exprs_of, fields_of, declarators_of, stmts_of};
+ghost use Rattle.js_tree.specs.Views.{plain_expr, plain_field, plain_declarator, plain_start, plain_stmt, perhaps as perhaps_tree};
+ghost use Rattle.js_tree.specs.Nesting.{nesting, deepest, deepest_field, deepest_declarator, perhaps_nesting, start_nesting, deepest_stmt};
 ghost use Rattle.js_grammar.specs.Grammar.{Assignment, Operators};
-ghost use Rattle.js_grammar.specs.Reader.{readers, run, operated_step, postfix_at, break_at, continue_at, round_at, function_at, assign_at as assign_read, assignment as assignment_read, statement as statement_read, primary, primary_at, elements, field_at, fields, declarator, declarators_of_kind, statements as statements_read, closed_statements, called, member_turn, index_turn, call_turn, signed, step_at as step_read, operators, choice, arrow, body_at, test, else_after, block_at, declaration_at, if_at, while_at, start, perhaps, for_three_at, each_at, for_each_at, for_at, return_at, expression_at};
-ghost use Rattle.js_steps.specs.Seen.{seen};
-ghost use Rattle.js_steps.specs.Parsed.{IsExpr, IsExprs, IsPerhaps, IsField, IsFields, IsDeclarator, IsDeclarators, IsStart, IsStmt, IsStmts, IsTurn};
+ghost use Rattle.js_grammar.specs.Reading.{run};
+ghost use Rattle.js_grammar.specs.Expressions.{operated_step, round_at, function_at, assign_at as assign_read, primary as primary_read, elements as elements_read, field_at, fields as fields_read, declarator as declarator_read, declarators_of_kind, statements as statements_read, closed_statements, called as called_read, index_turn, call_turn, signed as signed_read, operators as operators_read, choice as choice_read, arrow as arrow_read};
+ghost use Rattle.js_grammar.specs.Statements.{body_at, test as test_read, declaration_at, if_at, while_at, start as start_read, perhaps as perhaps_read, for_three_at, for_of_at, for_at, return_at, expression_at};
+ghost use Rattle.js_grammar.specs.Reader.{readers};
+ghost use Rattle.js_steps.specs.Passed.{at_first};
+ghost use Rattle.js_steps.specs.Read.{IsRead, IsExpr, IsStmt, IsTurn};
 
+use crate::leaves::{break_of, continue_of, member, number, postfix, used, words};
 use js_grammar::Sort;
-use js_lexer::Kind;
-use js_steps::cursor::{
-    begins, is_sort, key_of, line_at, member, name, next, no_tree, skip, spot_of, words,
-};
-use js_steps::ends::{end_behind, ending_of, is_return_end};
-use js_steps::names::{arrow_header, opening_of};
+use js_steps::cursor::{begins, is_sort, next, spot_of};
+use js_steps::ends::{end_of, is_return_end};
 use js_steps::peek::{
-    assign_at, begins_assign, begins_end, begins_for_of, begins_function, begins_lexical,
-    begins_update, declares_at, lexical_at, operator_in, sign_at, step_at,
+    begins_assign, begins_end, begins_for_of, begins_function, begins_lexical, begins_update,
+    declares_at, is_constant, operator_in, sign_at, step_at,
 };
-use js_steps::read::{
-    ReadDeclarator, ReadDeclarators, ReadExpr, ReadExprs, ReadField, ReadFields, ReadPerhaps,
-    ReadStart, ReadStmt, ReadStmts,
+use js_steps::{Answer, Cursor, Found, binary, callee_depth, expr_at, stmt_at};
+use js_tree::{
+    Declarator, DeclareKind, Ending, Expr, Field, Fix, Form, Start, Stmt, StmtForm, ending_of,
+    ending_of_last,
 };
-use js_steps::{Lexeme, Stop, build, parts, statements};
-use js_tree::{DeclareKind, Ending, Fix, Name};
-use std::alloc::Global;
 
-/// A number.
-#[tactic(auto, using(crate::proofs::Using::numbered_is))]
-fn number_at<'a>(tokens: &'a [Lexeme]) -> Result<ReadExpr<'a>, Stop>
-    ensures read { IsExpr (at_first (primary_at 0 (readers 0) Sort.Number) (seen tokens.now)) result }
-    ensures depth { IfOk result (λ found. found.depth ≡ 1) }
-    ensures shorter { IfOk result (λ found. length found.rest.now < length tokens.now) }
-{
-    let Some((token, rest)) = next(tokens) else {
-        return Err(no_tree(tokens));
-    };
-    match &token.token.kind {
-        Kind::Number(n) => Ok(build::number(token.token.line, *n, rest)),
-        _ => Err(no_tree(tokens)),
-    }
-}
-
-/// The content of a text literal.
-fn words_at<'a>(tokens: &'a [Lexeme]) -> Result<ReadExpr<'a>, Stop>
-    ensures read { IsExpr (at_first (primary_at 0 (readers 0) Sort.Words) (seen tokens.now)) result }
-    ensures depth { IfOk result (λ found. found.depth ≡ 1) }
-    ensures shorter { IfOk result (λ found. length found.rest.now < length tokens.now) }
-{
-    let line = line_at(tokens);
-    let (text, rest) = words(tokens)?;
-    Ok(build::words(line, text, rest))
-}
-
-/// A name that is used.
-fn name_at<'a>(tokens: &'a [Lexeme]) -> Result<ReadExpr<'a>, Stop>
-    ensures read { IsExpr (at_first (primary_at 0 (readers 0) Sort.Name) (seen tokens.now)) result }
-    ensures depth { IfOk result (λ found. found.depth ≡ 1) }
-    ensures shorter { IfOk result (λ found. length found.rest.now < length tokens.now) }
-{
-    let line = line_at(tokens);
-    let (name, rest) = name(tokens)?;
-    Ok(build::use_of(line, name, rest))
-}
-
-/// Whether the word is `const`.
-fn is_constant(kind: DeclareKind) -> bool
-    ensures { result ≡ is_const kind }
-{
-    match kind {
-        DeclareKind::Const => true,
-        DeclareKind::Let => false,
-        DeclareKind::Var => false,
-    }
-}
-
-/// `++` or `--` behind a name.
-fn postfix_of<'a>(tokens: &'a [Lexeme]) -> Result<ReadExpr<'a>, Stop>
-    ensures read { IsExpr (at_first (postfix_at 0 (readers 0)) (seen tokens.now)) result }
-    ensures depth { IfOk result (λ found. found.depth ≡ 1) }
-    ensures shorter { IfOk result (λ found. length found.rest.now < length tokens.now) }
-{
-    let line = line_at(tokens);
-    let (name, rest) = name(tokens)?;
-    let Some((token, rest)) = next(rest) else {
-        return Err(no_tree(rest));
-    };
-    let Some(step) = step_at(token) else {
-        return Err(no_tree(rest));
-    };
-    Ok(build::update_of(line, step, Fix::After, name, rest))
-}
-
-fn break_behind<'a>(token: &Lexeme, tokens: &'a [Lexeme]) -> Result<ReadStmt<'a>, Stop>
-    ensures read { IsStmt (break_at 0 (readers 0) token.now.token (seen tokens.now)) result }
-    ensures depth { IfOk result (λ found. found.depth ≡ 1) }
-    ensures shorter { IfOk result (λ found. length found.rest.now ≤ length tokens.now) }
-{
-    let rest = end_behind(tokens, Ending::Closed)?;
-    Ok(statements::break_of(spot_of(&token.token), rest))
-}
-
-fn continue_behind<'a>(token: &Lexeme, tokens: &'a [Lexeme]) -> Result<ReadStmt<'a>, Stop>
-    ensures read { IsStmt (continue_at 0 (readers 0) token.now.token (seen tokens.now)) result }
-    ensures depth { IfOk result (λ found. found.depth ≡ 1) }
-    ensures shorter { IfOk result (λ found. length found.rest.now ≤ length tokens.now) }
-{
-    let rest = end_behind(tokens, Ending::Closed)?;
-    Ok(statements::continue_of(spot_of(&token.token), rest))
-}
-
-/// An expression within the room.
+/// An expression.
 #[cycle(descent)]
-#[tactic(auto, using(crate::proofs::Using::no_room, crate::proofs::Using::assignment_in))]
-pub fn assignment<'a>(alloc: Global, tokens: &'a [Lexeme], room: u32) -> Result<ReadExpr<'a>, Stop>
-    requires { room ≤ 200 }
-    ensures read { IsExpr ((readers room).expr Assignment (seen tokens.now)) result }
-    ensures within { IfOk result (λ found. found.depth ≤ room) }
-    ensures shorter { IfOk result (λ found. length found.rest.now < length tokens.now) }
+#[tactic(auto, using(crate::proofs::Using::no_room, crate::proofs::Using::arrow_in, crate::proofs::Using::assign_in, crate::proofs::Using::choice_in))]
+fn assignment(cursor: &mut Cursor<'_>, room: u32) -> Answer<Expr>
+    ensures { IsExpr ((readers room).expr Assignment) room cursor.old cursor.new result }
 {
     if room == 0 {
-        return Err(no_tree(tokens));
+        return Err(cursor.no_tree());
     }
-    assignment_of(alloc, tokens, room - 1)
+    if begins_function(cursor.rest) {
+        arrow(cursor, room - 1)
+    } else if begins_assign(cursor.rest) {
+        assign(cursor, room - 1)
+    } else {
+        choice(cursor, room - 1)
+    }
 }
 
-/// An operand within the room.
+/// An operand.
 #[cycle(descent)]
 #[tactic(auto, using(crate::proofs::Using::no_room, crate::proofs::Using::operators_in))]
-pub fn operand<'a>(
-    alloc: Global,
-    level: u8,
-    tokens: &'a [Lexeme],
-    room: u32,
-) -> Result<ReadExpr<'a>, Stop>
-    requires room { room ≤ 200 }
+fn operand(cursor: &mut Cursor<'_>, level: u8, room: u32) -> Answer<Expr>
+    requires { level ≤ 6 }
+    ensures { IsExpr ((readers room).expr (Operators level)) room cursor.old cursor.new result }
+{
+    if room == 0 {
+        return Err(cursor.no_tree());
+    }
+    operators(cursor, level, room - 1)
+}
+
+/// An arrow function.
+#[cycle(descent)]
+#[tactic(auto, using(crate::proofs::Using::body_value))]
+fn arrow(cursor: &mut Cursor<'_>, inner: u32) -> Answer<Expr>
+    requires { inner < u32.MAX }
+    ensures { IsExpr (at_first (arrow_read inner (readers inner))) (inner + 1)
+        cursor.old cursor.new result }
+{
+    let Some((token, _)) = next(cursor.rest) else {
+        return Err(cursor.no_tree());
+    };
+    let spot = spot_of(&token.token);
+    let names = cursor.arrow_header()?;
+    if cursor.skips(Sort::LeftBrace) {
+        let found = closed(cursor, inner)?;
+        let form = Form::ArrowBlock(spot, names, found.tree);
+        return Ok(expr_at(spot.line, form, found.depth + 1));
+    }
+    let found = assignment(cursor, inner)?;
+    let form = Form::ArrowValue(spot, names, Box::new(cursor.alloc, found.tree)?);
+    Ok(expr_at(spot.line, form, found.depth + 1))
+}
+
+/// An assignment to a name.
+#[cycle(descent)]
+#[tactic(auto, using(crate::proofs::Using::held_none))]
+fn assign(cursor: &mut Cursor<'_>, inner: u32) -> Answer<Expr>
+    requires { inner < u32.MAX }
+    ensures { IsExpr (at_first (assign_read inner (readers inner))) (inner + 1)
+        cursor.old cursor.new result }
+{
+    let line = cursor.line();
+    let name = cursor.name()?;
+    let operator = cursor.assign_op()?;
+    let found = assignment(cursor, inner)?;
+    let form = Form::Assign(operator, name, Box::new(cursor.alloc, found.tree)?);
+    Ok(expr_at(line, form, found.depth + 1))
+}
+
+/// A test and two branches, or the test alone.
+#[cycle(descent)]
+#[tactic(auto, using(crate::proofs::Using::after_none, crate::proofs::Using::choice_alone))]
+fn choice(cursor: &mut Cursor<'_>, inner: u32) -> Answer<Expr>
+    requires { inner < u32.MAX }
+    ensures { IsExpr (choice_read inner (readers inner)) (inner + 1) cursor.old cursor.new result }
+{
+    let line = cursor.line();
+    let test = operators(cursor, 6, inner)?;
+    if !cursor.skips(Sort::Question) {
+        return Ok(test);
+    }
+    if test.depth > inner {
+        return Err(cursor.no_tree());
+    }
+    let first = assignment(cursor, inner)?;
+    cursor.pass(Sort::Colon)?;
+    let second = assignment(cursor, inner)?;
+    let depth = test.depth.max(first.depth.max(second.depth)) + 1;
+    let form = Form::Conditional(
+        Box::new(cursor.alloc, test.tree)?,
+        Box::new(cursor.alloc, first.tree)?,
+        Box::new(cursor.alloc, second.tree)?,
+    );
+    Ok(expr_at(line, form, depth))
+}
+
+/// Operands with operators tighter than the level between them.
+#[cycle(descent)]
+#[tactic(auto, using(crate::proofs::Using::operators_next, crate::proofs::Chains::operators_stopped))]
+fn operators(cursor: &mut Cursor<'_>, level: u8, inner: u32) -> Answer<Expr>
+    requires room { inner < u32.MAX }
     requires level { level ≤ 6 }
-    ensures read { IsExpr ((readers room).expr (Operators level) (seen tokens.now)) result }
-    ensures within { IfOk result (λ found. found.depth ≤ room) }
-    ensures shorter { IfOk result (λ found. length found.rest.now < length tokens.now) }
+    ensures { IsExpr (operators_read inner (readers inner) level) (inner + 1)
+        cursor.old cursor.new result }
 {
-    if room == 0 {
-        return Err(no_tree(tokens));
+    let line = cursor.line();
+    let mut left = signed(cursor, inner)?;
+    'tighter: for tight in 0..level {
+        left = chain(cursor, line, tight, left, inner)?;
     }
-    operators_of(alloc, level, tokens, room - 1)
+    Ok(left)
 }
 
-/// Declarators within the room.
+/// So many operators of the level with their operands, behind the first, to the left.
 #[cycle(descent)]
-#[tactic(auto, using(crate::proofs::Using::no_room_declarators, crate::proofs::Using::declarators_in))]
-pub fn declarators<'a>(
-    alloc: Global,
-    kind: DeclareKind,
-    tokens: &'a [Lexeme],
-    room: u32,
-) -> Result<ReadDeclarators<'a>, Stop>
-    requires { room ≤ 200 }
-    ensures read { IsDeclarators ((readers room).declarators kind (seen tokens.now)) result }
-    ensures within { IfOk result (λ found. found.depth + 1 ≤ room) }
-    ensures shorter { IfOk result (λ found. length found.rest.now < length tokens.now) }
-{
-    if room == 0 {
-        return Err(no_tree(tokens));
-    }
-    declarators_of(alloc, kind, tokens, room - 1)
-}
-
-/// A statement within the room.
-#[cycle(descent)]
-#[tactic(auto, using(crate::proofs::Using::no_room_stmt, crate::proofs::Using::statement_in))]
-pub fn statement<'a>(alloc: Global, tokens: &'a [Lexeme], room: u32) -> Result<ReadStmt<'a>, Stop>
-    requires { room ≤ 200 }
-    ensures read { IsStmt ((readers room).stmt (seen tokens.now)) result }
-    ensures within { IfOk result (λ found. found.depth ≤ room) }
-    ensures shorter { IfOk result (λ found. length found.rest.now < length tokens.now) }
-{
-    if room == 0 {
-        return Err(no_tree(tokens));
-    }
-    statement_of(alloc, tokens, room - 1)
-}
-
-/// An expression in parentheses, behind the first.
-#[cycle(descent)]
-#[tactic(auto, using(crate::proofs::Using::after_none))]
-pub fn round_of<'a>(alloc: Global, tokens: &'a [Lexeme], inner: u32) -> Result<ReadExpr<'a>, Stop>
-    requires { inner < 200 }
-    ensures read { IsExpr (round_at inner (readers inner) (seen tokens.now)) result }
-    ensures within { IfOk result (λ found. found.depth ≤ inner + 1) }
-    ensures shorter { IfOk result (λ found. length found.rest.now < length tokens.now) }
-{
-    let found = assignment(alloc, tokens, inner)?;
-    let rest = skip(found.rest, Sort::RightParen)?;
-    Ok(build::in_parens(found, rest))
-}
-
-/// Statements and `}`.
-#[cycle(descent)]
-#[tactic(auto, using(crate::proofs::Using::after_none))]
-pub fn closed_of<'a>(alloc: Global, tokens: &'a [Lexeme], inner: u32) -> Result<ReadStmts<'a>, Stop>
-    requires { inner ≤ 200 }
-    ensures read { IsStmts (closed_statements inner (readers inner) (seen tokens.now)) result }
-    ensures within { IfOk result (λ found. found.depth ≤ inner) }
-    ensures shorter { IfOk result (λ found. length found.rest.now < length tokens.now) }
-{
-    let found = statements_of(alloc, tokens, inner)?;
-    let rest = skip(found.rest, Sort::RightBrace)?;
-    Ok(statements::behind_stmts(found, rest))
-}
-
-/// A function expression, behind its word.
-#[cycle(descent)]
-pub fn function_of<'a>(
-    alloc: Global,
-    token: &Lexeme,
-    tokens: &'a [Lexeme],
-    inner: u32,
-) -> Result<ReadExpr<'a>, Stop>
-    requires { inner < 200 }
-    ensures read { IsExpr (function_at inner (readers inner) token.now.token (seen tokens.now)) result }
-    ensures within { IfOk result (λ found. found.depth ≤ inner + 1) }
-    ensures shorter { IfOk result (λ found. length found.rest.now < length tokens.now) }
-{
-    let head = opening_of(alloc, tokens)?;
-    let found = closed_of(alloc, head.rest, inner)?;
-    Ok(build::function_of(spot_of(&token.token), head.names, found))
-}
-
-/// A primary expression.
-#[cycle(descent)]
-pub fn primary_of<'a>(alloc: Global, tokens: &'a [Lexeme], inner: u32) -> Result<ReadExpr<'a>, Stop>
-    requires { inner < 200 }
-    ensures read { IsExpr (primary inner (readers inner) (seen tokens.now)) result }
-    ensures within { IfOk result (λ found. found.depth ≤ inner + 1) }
-    ensures shorter { IfOk result (λ found. length found.rest.now < length tokens.now) }
-{
-    let Some((token, rest)) = next(tokens) else {
-        return Err(no_tree(tokens));
-    };
-    match token.sort {
-        Sort::Number => number_at(tokens),
-        Sort::Words => words_at(tokens),
-        Sort::Name => name_at(tokens),
-        Sort::True => Ok(build::truth(token.token.line, true, rest)),
-        Sort::False => Ok(build::truth(token.token.line, false, rest)),
-        Sort::Null => Ok(build::null(token.token.line, rest)),
-        Sort::LeftParen => round_of(alloc, rest, inner),
-        Sort::LeftBracket => {
-            let found = elements_to(alloc, rest, Sort::RightBracket, inner)?;
-            Ok(build::list_of(token.token.line, found))
-        }
-        Sort::LeftBrace => {
-            let found = fields_of(alloc, rest, inner)?;
-            Ok(build::fields_in(token.token.line, found))
-        }
-        Sort::Function => function_of(alloc, token, rest, inner),
-        _ => Err(no_tree(tokens)),
-    }
-}
-
-/// Expressions separated by commas, and the mark that closes them.
-#[cycle(descent)]
-#[tactic(auto, using(crate::proofs::Using::elements_turn, crate::proofs::Using::map_push, crate::proofs::Using::next_element_none, crate::proofs::Using::elements_begin))]
-pub fn elements_to<'a>(
-    alloc: Global,
-    tokens: &'a [Lexeme],
-    close: Sort,
-    inner: u32,
-) -> Result<ReadExprs<'a>, Stop>
-    requires { inner < 200 }
-    ensures read { IsExprs (elements inner (readers inner) close (seen tokens.now)) result }
-    ensures within { IfOk result (λ found. found.depth ≤ inner) }
-    ensures shorter { IfOk result (λ found. length found.rest.now < length tokens.now) }
-{
-    let mut all = build::no_exprs(alloc, tokens);
-    'more: loop {
-        if let Ok(rest) = skip(all.rest, close) {
-            return Ok(build::behind_exprs(all, rest));
-        }
-        let found = assignment(alloc, all.rest, inner)?;
-        all = build::add(all, found)?;
-        if let Ok(rest) = skip(all.rest, close) {
-            return Ok(build::behind_exprs(all, rest));
-        }
-        let rest = skip(all.rest, Sort::Comma)?;
-        all = build::behind_exprs(all, rest);
-    }
-}
-
-/// A field.
-#[cycle(descent)]
-pub fn field_of<'a>(alloc: Global, tokens: &'a [Lexeme], inner: u32) -> Result<ReadField<'a>, Stop>
-    requires { inner < 200 }
-    ensures read { IsField (at_first (field_at inner (readers inner)) (seen tokens.now)) result }
-    ensures within { IfOk result (λ found. found.depth ≤ inner) }
-    ensures shorter { IfOk result (λ found. length found.rest.now < length tokens.now) }
-{
-    let Some((token, rest)) = next(tokens) else {
-        return Err(no_tree(tokens));
-    };
-    if let Ok(behind) = skip(rest, Sort::Colon) {
-        let (key, _) = key_of(tokens)?;
-        let found = assignment(alloc, behind, inner)?;
-        return Ok(parts::pair_of(key, found));
-    }
-    if inner == 0 {
-        return Err(no_tree(tokens));
-    }
-    let (name, rest) = name(tokens)?;
-    parts::field_alone(token.token.line, name, rest)
-}
-
-/// Fields and `}`, behind the `{`.
-#[cycle(descent)]
-#[tactic(auto, using(crate::proofs::Using::fields_turn, crate::proofs::Using::map_push_field, crate::proofs::Using::next_field_none, crate::proofs::Using::fields_begin))]
-pub fn fields_of<'a>(
-    alloc: Global,
-    tokens: &'a [Lexeme],
-    inner: u32,
-) -> Result<ReadFields<'a>, Stop>
-    requires { inner < 200 }
-    ensures read { IsFields (fields inner (readers inner) (seen tokens.now)) result }
-    ensures within { IfOk result (λ found. found.depth ≤ inner) }
-    ensures shorter { IfOk result (λ found. length found.rest.now < length tokens.now) }
-{
-    let mut all = parts::no_fields(alloc, tokens);
-    'more: loop {
-        if let Ok(rest) = skip(all.rest, Sort::RightBrace) {
-            return Ok(parts::behind_fields(all, rest));
-        }
-        let found = field_of(alloc, all.rest, inner)?;
-        all = parts::add_field(all, found)?;
-        if let Ok(rest) = skip(all.rest, Sort::RightBrace) {
-            return Ok(parts::behind_fields(all, rest));
-        }
-        let rest = skip(all.rest, Sort::Comma)?;
-        all = parts::behind_fields(all, rest);
-    }
-}
-
-/// A member, behind its dot.
-#[tactic(auto, using(crate::proofs::Using::held_none))]
-pub fn member_at<'a>(
-    alloc: Global,
-    line: u32,
-    left: ReadExpr<'a>,
-    tokens: &'a [Lexeme],
-    inner: u32,
-) -> Result<ReadExpr<'a>, Stop>
-    requires room { inner < 200 }
-    requires left { left.depth ≤ inner + 1 }
-    ensures read { IsTurn (member_turn inner (readers inner) line (plain_expr left.entry.tree) (seen tokens.now)) result }
-    ensures within { IfOk result (λ found. found.depth ≤ inner + 1) }
-    ensures shorter { IfOk result (λ found. length found.rest.now < length tokens.now) }
-{
-    if build::object_depth(&left) > inner {
-        return Err(no_tree(tokens));
-    }
-    let (word, rest) = member(tokens)?;
-    build::member_of(alloc, line, left, word, rest)
-}
-
-/// An element, behind its bracket.
-#[cycle(descent)]
-#[tactic(auto, using(crate::proofs::Using::after_none))]
-pub fn index_at<'a>(
-    alloc: Global,
-    line: u32,
-    left: ReadExpr<'a>,
-    tokens: &'a [Lexeme],
-    inner: u32,
-) -> Result<ReadExpr<'a>, Stop>
-    requires { inner < 200 }
-    ensures read { IsTurn (index_turn inner (readers inner) line (plain_expr left.entry.tree) (seen tokens.now)) result }
-    ensures within { IfOk result (λ found. found.depth ≤ inner + 1) }
-    ensures shorter { IfOk result (λ found. length found.rest.now < length tokens.now) }
-{
-    if left.depth > inner {
-        return Err(no_tree(tokens));
-    }
-    let found = assignment(alloc, tokens, inner)?;
-    let rest = skip(found.rest, Sort::RightBracket)?;
-    build::index_of(alloc, line, left, found, rest)
-}
-
-/// A call, behind its parenthesis.
-#[cycle(descent)]
-pub fn call_at<'a>(
-    alloc: Global,
-    line: u32,
-    left: ReadExpr<'a>,
-    tokens: &'a [Lexeme],
-    inner: u32,
-) -> Result<ReadExpr<'a>, Stop>
-    requires room { inner < 200 }
-    requires left { left.depth ≤ inner + 1 }
-    ensures read { IsTurn (call_turn inner (readers inner) line (plain_expr left.entry.tree) (seen tokens.now)) result }
-    ensures within { IfOk result (λ found. found.depth ≤ inner + 1) }
-    ensures shorter { IfOk result (λ found. length found.rest.now < length tokens.now) }
-{
-    if build::callee_depth(&left) > inner {
-        return Err(no_tree(tokens));
-    }
-    let found = elements_to(alloc, tokens, Sort::RightParen, inner)?;
-    build::call_of(alloc, line, left, found)
-}
-
-/// A primary, and so many of `.word`, `[ expression ]` and `( arguments )`.
-#[cycle(descent)]
-#[tactic(auto, using(crate::proofs::Using::called_turn))]
-pub fn called_of<'a>(alloc: Global, tokens: &'a [Lexeme], inner: u32) -> Result<ReadExpr<'a>, Stop>
-    requires { inner < 200 }
-    ensures read { IsExpr (called inner (readers inner) (seen tokens.now)) result }
-    ensures within { IfOk result (λ found. found.depth ≤ inner + 1) }
-    ensures shorter { IfOk result (λ found. length found.rest.now < length tokens.now) }
-{
-    let line = line_at(tokens);
-    let mut left = primary_of(alloc, tokens, inner)?;
-    'more: loop {
-        let Some((token, rest)) = next(left.rest) else {
-            return Ok(left);
-        };
-        left = match token.sort {
-            Sort::Dot => member_at(alloc, line, left, rest, inner)?,
-            Sort::LeftBracket => index_at(alloc, line, left, rest, inner)?,
-            Sort::LeftParen => call_at(alloc, line, left, rest, inner)?,
-            _ => return Ok(left),
-        };
-    }
-}
-
-/// A postfix or a call, where no unary operator stands; or `++` or `--` and a name.
-#[cycle(descent)]
-#[tactic(auto, using(crate::proofs::Using::held_none))]
-pub fn unsigned_of<'a>(
-    alloc: Global,
-    token: &Lexeme,
-    rest: &'a [Lexeme],
-    tokens: &'a [Lexeme],
-    inner: u32,
-) -> Result<ReadExpr<'a>, Stop>
-    requires room { inner < 200 }
-    requires first { tokens.now ≡ token.now ∷ rest.now }
-    ensures read { IsExpr (step_read inner (readers inner) (step token.now.token) token.now.token (seen rest.now)) result }
-    ensures within { IfOk result (λ found. found.depth ≤ inner + 1) }
-    ensures shorter { IfOk result (λ found. length found.rest.now < length tokens.now) }
-{
-    if let Some(step) = step_at(token) {
-        let (name, rest) = name(rest)?;
-        return Ok(build::update_of(token.token.line, step, Fix::Before, name, rest));
-    }
-    if begins_update(tokens) {
-        return postfix_of(tokens);
-    }
-    called_of(alloc, tokens, inner)
-}
-
-/// A unary operator and its operand, or none.
-#[cycle(descent)]
-pub fn signed_of<'a>(alloc: Global, tokens: &'a [Lexeme], inner: u32) -> Result<ReadExpr<'a>, Stop>
-    requires { inner < 200 }
-    ensures read { IsExpr (signed inner (readers inner) (seen tokens.now)) result }
-    ensures within { IfOk result (λ found. found.depth ≤ inner + 1) }
-    ensures shorter { IfOk result (λ found. length found.rest.now < length tokens.now) }
-{
-    let Some((token, rest)) = next(tokens) else {
-        return Err(no_tree(tokens));
-    };
-    let Some(sign) = sign_at(token) else {
-        return unsigned_of(alloc, token, rest, tokens, inner);
-    };
-    let found = operand(alloc, 0, rest, inner)?;
-    build::unary_of(alloc, token.token.line, sign, found)
-}
-
-/// An operand and so many operators of the level with their operands, to the left.
-#[cycle(descent)]
-#[tactic(auto, using(crate::proofs::Using::operated_turn))]
-pub fn chain_of<'a>(
-    alloc: Global,
+#[tactic(auto, using(crate::proofs::Using::operated_turn, crate::proofs::Chains::chain_deep, crate::proofs::Chains::chain_more, crate::proofs::Chains::chain_broken))]
+fn chain(
+    cursor: &mut Cursor<'_>,
     line: u32,
     level: u8,
-    first: ReadExpr<'a>,
+    first: Found<Expr>,
     inner: u32,
-) -> Result<ReadExpr<'a>, Stop>
-    requires room { inner < 200 }
+) -> Answer<Expr>
+    requires room { inner < u32.MAX }
     requires level { level < 6 }
-    requires first { first.depth ≤ inner + 1 }
-    ensures read { IsExpr (run (operated_step inner (readers inner) line level) (plain_expr first.entry.tree) (seen first.entry.rest.now)) result }
-    ensures within { IfOk result (λ found. found.depth ≤ inner + 1) }
-    ensures shorter { IfOk result (λ found. length found.rest.now ≤ length first.entry.rest.now) }
+    requires measured { first.depth ≡ nesting (plain_expr first.tree) }
+    requires within { first.depth ≤ inner + 1 }
+    ensures { IsRead plain_expr nesting
+        (run (operated_step inner (readers inner) line level) (plain_expr first.tree)) (inner + 1) 0 cursor.old cursor.new result }
 {
     let mut left = first;
     'more: loop {
-        let Some((token, rest)) = next(left.rest) else {
+        let Some((token, rest)) = next(cursor.rest) else {
             return Ok(left);
         };
         let Some(operator) = operator_in(level, token) else {
             return Ok(left);
         };
         if left.depth > inner {
-            return Err(no_tree(left.rest));
+            return Err(cursor.no_tree());
         }
-        let right = operand(alloc, level, rest, inner)?;
-        left = build::binary_of(alloc, line, operator, left, right)?;
+        cursor.rest = rest;
+        let right = operand(cursor, level, inner)?;
+        left = binary(cursor.alloc, line, operator, left, right)?;
     }
 }
 
-/// Operands with operators tighter than the level between them.
+/// A unary operator and its operand; `++` or `--` and a name; or what has none of these in front.
 #[cycle(descent)]
-#[tactic(auto, using(crate::proofs::Using::operators_next, crate::proofs::Using::operators_refused, crate::proofs::Using::operators_none))]
-pub fn operators_of<'a>(
-    alloc: Global,
-    level: u8,
-    tokens: &'a [Lexeme],
-    inner: u32,
-) -> Result<ReadExpr<'a>, Stop>
-    requires room { inner < 200 }
-    requires level { level ≤ 6 }
-    ensures read { IsExpr (operators inner (readers inner) level (seen tokens.now)) result }
-    ensures within { IfOk result (λ found. found.depth ≤ inner + 1) }
-    ensures shorter { IfOk result (λ found. length found.rest.now < length tokens.now) }
+#[tactic(auto, using(crate::proofs::Using::held_none))]
+fn signed(cursor: &mut Cursor<'_>, inner: u32) -> Answer<Expr>
+    requires { inner < u32.MAX }
+    ensures { IsExpr (signed_read inner (readers inner)) (inner + 1) cursor.old cursor.new result }
 {
-    let line = line_at(tokens);
-    let mut left = signed_of(alloc, tokens, inner)?;
-    'tighter: for tight in 0..level {
-        left = chain_of(alloc, line, tight, left, inner)?;
+    let Some((token, rest)) = next(cursor.rest) else {
+        return Err(cursor.no_tree());
+    };
+    let line = token.token.line;
+    if let Some(sign) = sign_at(token) {
+        cursor.rest = rest;
+        let found = operand(cursor, 0, inner)?;
+        let form = Form::Unary(sign, Box::new(cursor.alloc, found.tree)?);
+        return Ok(expr_at(line, form, found.depth + 1));
     }
-    Ok(left)
+    if let Some(step) = step_at(token) {
+        cursor.rest = rest;
+        let name = cursor.name()?;
+        return Ok(expr_at(line, Form::Update(step, Fix::Before, name), 1));
+    }
+    if begins_update(cursor.rest) {
+        return postfix(cursor);
+    }
+    called(cursor, inner)
 }
 
-/// A test and two branches, or the test alone.
+/// A primary, and so many of `.word`, `[ expression ]` and `( arguments )`.
 #[cycle(descent)]
-#[tactic(auto, using(crate::proofs::Using::after_none, crate::proofs::Using::choice_alone))]
-pub fn choice_of<'a>(alloc: Global, tokens: &'a [Lexeme], inner: u32) -> Result<ReadExpr<'a>, Stop>
-    requires { inner < 200 }
-    ensures read { IsExpr (choice inner (readers inner) (seen tokens.now)) result }
-    ensures within { IfOk result (λ found. found.depth ≤ inner + 1) }
-    ensures shorter { IfOk result (λ found. length found.rest.now < length tokens.now) }
+#[tactic(auto, using(crate::proofs::Using::called_turn))]
+fn called(cursor: &mut Cursor<'_>, inner: u32) -> Answer<Expr>
+    requires { inner < u32.MAX }
+    ensures { IsExpr (called_read inner (readers inner)) (inner + 1) cursor.old cursor.new result }
 {
-    let line = line_at(tokens);
-    let test = operators_of(alloc, 6, tokens, inner)?;
-    match skip(test.rest, Sort::Question) {
-        Ok(rest) => branches_of(alloc, line, test, rest, inner),
-        Err(_) => Ok(test),
+    let line = cursor.line();
+    let mut left = primary(cursor, inner)?;
+    'more: loop {
+        let Some((token, rest)) = next(cursor.rest) else {
+            return Ok(left);
+        };
+        left = match token.sort {
+            Sort::Dot => {
+                cursor.rest = rest;
+                member(cursor, line, left, inner)?
+            }
+            Sort::LeftBracket => {
+                cursor.rest = rest;
+                index(cursor, line, left, inner)?
+            }
+            Sort::LeftParen => {
+                cursor.rest = rest;
+                call(cursor, line, left, inner)?
+            }
+            _ => return Ok(left),
+        };
     }
 }
 
-/// A test and two branches, behind its `?`.
+/// An element, behind its bracket.
 #[cycle(descent)]
 #[tactic(auto, using(crate::proofs::Using::after_none))]
-pub fn branches_of<'a>(
-    alloc: Global,
-    line: u32,
-    test: ReadExpr<'_>,
-    tokens: &'a [Lexeme],
-    inner: u32,
-) -> Result<ReadExpr<'a>, Stop>
-    requires { inner < 200 }
-    ensures read { IsExpr (branches_at inner line (plain_expr test.entry.tree) (seen tokens.now)) result }
-    ensures within { IfOk result (λ found. found.depth ≤ inner + 1) }
-    ensures shorter { IfOk result (λ found. length found.rest.now < length tokens.now) }
+fn index(cursor: &mut Cursor<'_>, line: u32, list: Found<Expr>, inner: u32) -> Answer<Expr>
+    requires room { inner < u32.MAX }
+    requires measured { list.depth ≡ nesting (plain_expr list.tree) }
+    ensures { IsTurn (index_turn inner (readers inner) line (plain_expr list.tree)) (inner + 1)
+        cursor.old cursor.new result }
 {
-    if test.depth > inner {
-        return Err(no_tree(tokens));
+    if list.depth > inner {
+        return Err(cursor.no_tree());
     }
-    let first = assignment(alloc, tokens, inner)?;
-    let rest = skip(first.rest, Sort::Colon)?;
-    second_of(alloc, line, test, first, rest, inner)
+    let found = assignment(cursor, inner)?;
+    cursor.pass(Sort::RightBracket)?;
+    let depth = list.depth.max(found.depth) + 1;
+    let form = Form::Index(
+        Box::new(cursor.alloc, list.tree)?,
+        Box::new(cursor.alloc, found.tree)?,
+    );
+    Ok(expr_at(line, form, depth))
 }
 
-/// The second branch, behind its `:`.
+/// A call, behind its parenthesis.
 #[cycle(descent)]
-pub fn second_of<'a>(
-    alloc: Global,
-    line: u32,
-    test: ReadExpr<'_>,
-    first: ReadExpr<'_>,
-    tokens: &'a [Lexeme],
-    inner: u32,
-) -> Result<ReadExpr<'a>, Stop>
-    requires room { inner < 200 }
-    requires test { test.depth ≤ inner }
-    requires first { first.depth ≤ inner }
-    ensures read { IsExpr (second_at inner line (plain_expr test.entry.tree) (plain_expr first.entry.tree) (seen tokens.now)) result }
-    ensures within { IfOk result (λ found. found.depth ≤ inner + 1) }
-    ensures shorter { IfOk result (λ found. length found.rest.now < length tokens.now) }
+fn call(cursor: &mut Cursor<'_>, line: u32, callee: Found<Expr>, inner: u32) -> Answer<Expr>
+    requires room { inner < u32.MAX }
+    requires measured { callee.depth ≡ nesting (plain_expr callee.tree) }
+    ensures { IsTurn (call_turn inner (readers inner) line (plain_expr callee.tree)) (inner + 1)
+        cursor.old cursor.new result }
 {
-    let second = assignment(alloc, tokens, inner)?;
-    build::conditional_of(alloc, line, test, first, second)
-}
-
-/// An arrow function.
-#[cycle(descent)]
-#[tactic(auto, using(crate::proofs::Using::body_value))]
-pub fn arrow_of<'a>(
-    alloc: Global,
-    token: &Lexeme,
-    rest: &'a [Lexeme],
-    tokens: &'a [Lexeme],
-    inner: u32,
-) -> Result<ReadExpr<'a>, Stop>
-    requires room { inner < 200 }
-    requires first { tokens.now ≡ token.now ∷ rest.now }
-    ensures read { IsExpr (arrow inner (readers inner) token.now.token (seen rest.now)) result }
-    ensures within { IfOk result (λ found. found.depth ≤ inner + 1) }
-    ensures shorter { IfOk result (λ found. length found.rest.now < length tokens.now) }
-{
-    let head = arrow_header(alloc, tokens)?;
-    let spot = spot_of(&token.token);
-    if let Ok(rest) = skip(head.rest, Sort::LeftBrace) {
-        let found = closed_of(alloc, rest, inner)?;
-        return Ok(build::arrow_block_of(spot, head.names, found));
+    let depth = callee_depth(&callee);
+    if depth > inner {
+        return Err(cursor.no_tree());
     }
-    let found = assignment(alloc, head.rest, inner)?;
-    build::arrow_value_of(alloc, spot, head.names, found)
+    let found = elements(cursor, Sort::RightParen, inner)?;
+    let form = Form::Call(Box::new(cursor.alloc, callee.tree)?, found.tree);
+    Ok(expr_at(line, form, depth.max(found.depth) + 1))
 }
 
-/// An assignment to a name.
+/// A primary expression.
 #[cycle(descent)]
-pub fn assign_of<'a>(alloc: Global, tokens: &'a [Lexeme], inner: u32) -> Result<ReadExpr<'a>, Stop>
-    requires { inner < 200 }
-    ensures read { IsExpr (at_first (assign_read inner (readers inner)) (seen tokens.now)) result }
-    ensures within { IfOk result (λ found. found.depth ≤ inner + 1) }
-    ensures shorter { IfOk result (λ found. length found.rest.now < length tokens.now) }
+#[tactic(auto, using(crate::proofs::Using::after_none))]
+fn primary(cursor: &mut Cursor<'_>, inner: u32) -> Answer<Expr>
+    requires { inner < u32.MAX }
+    ensures { IsExpr (primary_read inner (readers inner)) (inner + 1) cursor.old cursor.new result }
 {
-    let line = line_at(tokens);
-    let (name, rest) = name(tokens)?;
-    let Some((token, rest)) = next(rest) else {
-        return Err(no_tree(rest));
+    let Some((token, rest)) = next(cursor.rest) else {
+        return Err(cursor.no_tree());
     };
-    let Some(operator) = assign_at(token) else {
-        return Err(no_tree(rest));
-    };
-    let found = assignment(alloc, rest, inner)?;
-    build::assign_of(alloc, operator, name, line, found)
+    let line = token.token.line;
+    match token.sort {
+        Sort::Number => number(cursor),
+        Sort::Words => words(cursor),
+        Sort::Name => used(cursor),
+        Sort::True => {
+            cursor.rest = rest;
+            Ok(expr_at(line, Form::Truth(true), 1))
+        }
+        Sort::False => {
+            cursor.rest = rest;
+            Ok(expr_at(line, Form::Truth(false), 1))
+        }
+        Sort::Null => {
+            cursor.rest = rest;
+            Ok(expr_at(line, Form::Null, 1))
+        }
+        Sort::LeftParen => {
+            cursor.rest = rest;
+            round(cursor, inner)
+        }
+        Sort::LeftBracket => {
+            cursor.rest = rest;
+            let found = elements(cursor, Sort::RightBracket, inner)?;
+            Ok(expr_at(line, Form::List(found.tree), found.depth + 1))
+        }
+        Sort::LeftBrace => {
+            cursor.rest = rest;
+            let found = fields(cursor, inner)?;
+            Ok(expr_at(line, Form::Fields(found.tree), found.depth + 1))
+        }
+        Sort::Function => function(cursor, inner),
+        _ => Err(cursor.no_tree()),
+    }
 }
 
-/// An expression.
+/// An expression in parentheses, behind the first.
 #[cycle(descent)]
-pub fn assignment_of<'a>(
-    alloc: Global,
-    tokens: &'a [Lexeme],
-    inner: u32,
-) -> Result<ReadExpr<'a>, Stop>
-    requires { inner < 200 }
-    ensures read { IsExpr (assignment_read inner (readers inner) (seen tokens.now)) result }
-    ensures within { IfOk result (λ found. found.depth ≤ inner + 1) }
-    ensures shorter { IfOk result (λ found. length found.rest.now < length tokens.now) }
+#[tactic(auto, using(crate::proofs::Using::after_none))]
+fn round(cursor: &mut Cursor<'_>, inner: u32) -> Answer<Expr>
+    requires { inner < u32.MAX }
+    ensures { IsExpr (round_at inner (readers inner)) (inner + 1) cursor.old cursor.new result }
 {
-    let Some((token, rest)) = next(tokens) else {
-        return Err(no_tree(tokens));
+    let Found {
+        tree: Expr { parens, line, form },
+        depth,
+    } = assignment(cursor, inner)?;
+    cursor.pass(Sort::RightParen)?;
+    let tree = Expr {
+        parens: parens + 1,
+        line,
+        form,
     };
-    if begins_function(tokens) {
-        arrow_of(alloc, token, rest, tokens, inner)
-    } else if begins_assign(tokens) {
-        assign_of(alloc, tokens, inner)
-    } else {
-        choice_of(alloc, tokens, inner)
+    Ok(Found {
+        tree,
+        depth: depth + 1,
+    })
+}
+
+/// A function expression.
+#[cycle(descent)]
+fn function(cursor: &mut Cursor<'_>, inner: u32) -> Answer<Expr>
+    requires { inner < u32.MAX }
+    ensures { IsExpr (at_first (function_at inner (readers inner))) (inner + 1)
+        cursor.old cursor.new result }
+{
+    let spot = cursor.bump()?;
+    let names = cursor.opening()?;
+    let found = closed(cursor, inner)?;
+    let form = Form::Function(spot, names, found.tree);
+    Ok(expr_at(spot.line, form, found.depth + 1))
+}
+
+/// Expressions separated by commas, and the mark that closes them.
+#[cycle(descent)]
+#[tactic(auto, using(crate::proofs::Using::elements_turn, crate::proofs::Using::map_push, crate::proofs::Using::deepest_push, crate::proofs::Using::next_element_none, crate::proofs::Using::elements_begin))]
+fn elements(cursor: &mut Cursor<'_>, close: Sort, inner: u32) -> Answer<Vec<Expr>>
+    ensures { IsRead (λ es. map plain_expr es.items) (λ es. deepest (exprs_of es))
+        (elements_read inner (readers inner) close) inner 1 cursor.old cursor.new result }
+{
+    let tree = Vec::new(cursor.alloc);
+    let mut all = Found { tree, depth: 0 };
+    'more: loop {
+        if cursor.skips(close) {
+            return Ok(all);
+        }
+        let found = assignment(cursor, inner)?;
+        all.depth = all.depth.max(found.depth);
+        all.tree.push(found.tree)?;
+        if cursor.skips(close) {
+            return Ok(all);
+        }
+        cursor.pass(Sort::Comma)?;
+    }
+}
+
+/// A field.
+#[cycle(descent)]
+fn field(cursor: &mut Cursor<'_>, inner: u32) -> Answer<Field>
+    ensures { IsRead plain_field (λ f. nesting f.value)
+        (at_first (field_at inner (readers inner))) inner 1 cursor.old cursor.new result }
+{
+    let Some((token, rest)) = next(cursor.rest) else {
+        return Err(cursor.no_tree());
+    };
+    if begins(rest, Sort::Colon) {
+        let key = cursor.key()?;
+        cursor.advance();
+        let Found { tree: value, depth } = assignment(cursor, inner)?;
+        let tree = Field { key, value };
+        return Ok(Found { tree, depth });
+    }
+    if inner == 0 {
+        return Err(cursor.no_tree());
+    }
+    let name = cursor.name()?;
+    let key = name.text.copy()?;
+    let Found { tree: value, depth } = expr_at(token.token.line, Form::Use(name), 1);
+    let tree = Field { key, value };
+    Ok(Found { tree, depth })
+}
+
+/// Fields and `}`, behind the `{`.
+#[cycle(descent)]
+#[tactic(auto, using(crate::proofs::Using::fields_turn, crate::proofs::Using::map_push_field, crate::proofs::Using::deepest_push_field, crate::proofs::Using::next_field_none, crate::proofs::Using::fields_begin))]
+fn fields(cursor: &mut Cursor<'_>, inner: u32) -> Answer<Vec<Field>>
+    ensures { IsRead (λ fs. map plain_field fs.items) (λ fs. deepest_field (fields_of fs))
+        (fields_read inner (readers inner)) inner 1 cursor.old cursor.new result }
+{
+    let tree = Vec::new(cursor.alloc);
+    let mut all = Found { tree, depth: 0 };
+    'more: loop {
+        if cursor.skips(Sort::RightBrace) {
+            return Ok(all);
+        }
+        let found = field(cursor, inner)?;
+        all.depth = all.depth.max(found.depth);
+        all.tree.push(found.tree)?;
+        if cursor.skips(Sort::RightBrace) {
+            return Ok(all);
+        }
+        cursor.pass(Sort::Comma)?;
     }
 }
 
 /// A declared name and its value, if it has one.
 #[cycle(descent)]
 #[tactic(auto, using(crate::proofs::Using::value_alone, crate::proofs::Using::value_none))]
-pub fn declarator_of<'a>(
-    alloc: Global,
-    kind: DeclareKind,
-    tokens: &'a [Lexeme],
-    inner: u32,
-) -> Result<ReadDeclarator<'a>, Stop>
-    requires { inner < 200 }
-    ensures read { IsDeclarator (declarator inner (readers inner) kind (seen tokens.now)) result }
-    ensures within { IfOk result (λ found. found.depth ≤ inner) }
-    ensures shorter { IfOk result (λ found. length found.rest.now < length tokens.now) }
+fn declarator(cursor: &mut Cursor<'_>, kind: DeclareKind, inner: u32) -> Answer<Declarator>
+    ensures { IsRead plain_declarator (λ d. perhaps_nesting d.value)
+        (declarator_read inner (readers inner) kind) inner 1 cursor.old cursor.new result }
 {
-    let Some((token, _)) = next(tokens) else {
-        return Err(no_tree(tokens));
+    let Some((token, _)) = next(cursor.rest) else {
+        return Err(cursor.no_tree());
     };
-    let (name, rest) = name(tokens)?;
-    if let Ok(rest) = skip(rest, Sort::Set) {
-        let found = assignment(alloc, rest, inner)?;
-        let end = parts::end_of(rest, found.rest);
-        return Ok(parts::declarator_of(name, end, found));
+    let name = cursor.name()?;
+    if cursor.skips(Sort::Set) {
+        let before = cursor.rest;
+        let Found { tree, depth } = assignment(cursor, inner)?;
+        let end = end_of(before, cursor.rest);
+        let value = Some(tree);
+        let tree = Declarator { name, value, end };
+        return Ok(Found { tree, depth });
     }
     if is_constant(kind) {
-        return Err(no_tree(rest));
+        return Err(cursor.no_tree());
     }
-    Ok(parts::declarator_alone(name, token.token.to, rest))
+    let end = token.token.to;
+    let value = None;
+    let tree = Declarator { name, value, end };
+    Ok(Found { tree, depth: 0 })
 }
 
 /// Declarators separated by commas.
 #[cycle(descent)]
-#[tactic(auto, using(crate::proofs::Using::declarators_turn, crate::proofs::Using::map_push_declarator, crate::proofs::Using::next_declarator_stop))]
-pub fn declarators_of<'a>(
-    alloc: Global,
+#[tactic(auto, using(crate::proofs::Using::declarators_turn, crate::proofs::Using::map_push_declarator, crate::proofs::Using::deepest_push_declarator, crate::proofs::Using::next_declarator_stop))]
+fn declarators(
+    cursor: &mut Cursor<'_>,
     kind: DeclareKind,
-    tokens: &'a [Lexeme],
     inner: u32,
-) -> Result<ReadDeclarators<'a>, Stop>
-    requires { inner < 200 }
-    ensures read { IsDeclarators (declarators_of_kind inner (readers inner) kind (seen tokens.now)) result }
-    ensures within { IfOk result (λ found. found.depth ≤ inner) }
-    ensures shorter { IfOk result (λ found. length found.rest.now < length tokens.now) }
+) -> Answer<Vec<Declarator>>
+    ensures { IsRead (λ ds. map plain_declarator ds.items) (λ ds. deepest_declarator (declarators_of ds))
+        (declarators_of_kind inner (readers inner) kind) inner 1 cursor.old cursor.new result }
 {
-    let mut all = parts::no_declarators(alloc, tokens);
+    let tree = Vec::new(cursor.alloc);
+    let mut all = Found { tree, depth: 0 };
     'more: loop {
-        let found = declarator_of(alloc, kind, all.rest, inner)?;
-        all = parts::add_declarator(all, found)?;
-        let Ok(rest) = skip(all.rest, Sort::Comma) else {
+        let found = declarator(cursor, kind, inner)?;
+        all.depth = all.depth.max(found.depth);
+        all.tree.push(found.tree)?;
+        if !cursor.skips(Sort::Comma) {
             return Ok(all);
-        };
-        all = parts::behind_declarators(all, rest);
+        }
     }
 }
 
 /// Statements up to `}` or the end of the text.
 #[cycle(descent)]
-#[tactic(auto, using(crate::proofs::Using::statements_turn, crate::proofs::Using::map_push_stmt))]
-pub fn statements_of<'a>(
-    alloc: Global,
-    tokens: &'a [Lexeme],
-    inner: u32,
-) -> Result<ReadStmts<'a>, Stop>
-    requires { inner ≤ 200 }
-    ensures read { IsStmts (statements_read inner (readers inner) (seen tokens.now)) result }
-    ensures within { IfOk result (λ found. found.depth ≤ inner) }
-    ensures shorter { IfOk result (λ found. length found.rest.now ≤ length tokens.now) }
+#[tactic(auto, using(crate::proofs::Using::statements_turn, crate::proofs::Using::map_push_stmt, crate::proofs::Using::deepest_push_stmt))]
+fn statements(cursor: &mut Cursor<'_>, inner: u32) -> Answer<Vec<Stmt>>
+    ensures { IsRead (λ ss. map plain_stmt ss.items) (λ ss. deepest_stmt (stmts_of ss))
+        (statements_read inner (readers inner)) inner 0 cursor.old cursor.new result }
 {
-    let mut all = statements::no_stmts(alloc, tokens);
-    'more: loop {
-        if begins_end(all.rest) {
-            return Ok(all);
-        }
-        let found = statement(alloc, all.rest, inner)?;
-        all = statements::add_stmt(all, found)?;
+    let tree = Vec::new(cursor.alloc);
+    let mut all = Found { tree, depth: 0 };
+    'more: while !begins_end(cursor.rest) {
+        let found = statement(cursor, inner)?;
+        all.depth = all.depth.max(found.depth);
+        all.tree.push(found.tree)?;
     }
+    Ok(all)
+}
+
+/// Statements and `}`.
+#[cycle(descent)]
+#[tactic(auto, using(crate::proofs::Using::after_none))]
+pub fn closed(cursor: &mut Cursor<'_>, inner: u32) -> Answer<Vec<Stmt>>
+    ensures { IsRead (λ ss. map plain_stmt ss.items) (λ ss. deepest_stmt (stmts_of ss))
+        (closed_statements inner (readers inner)) inner 1 cursor.old cursor.new result }
+{
+    let found = statements(cursor, inner)?;
+    cursor.pass(Sort::RightBrace)?;
+    Ok(found)
 }
 
 /// Any statement but a `const` or `let` declaration.
 #[cycle(descent)]
-pub fn body_of<'a>(alloc: Global, tokens: &'a [Lexeme], inner: u32) -> Result<ReadStmt<'a>, Stop>
-    requires { inner ≤ 200 }
-    ensures read { IsStmt (body_at inner (readers inner) (seen tokens.now)) result }
-    ensures within { IfOk result (λ found. found.depth ≤ inner) }
-    ensures shorter { IfOk result (λ found. length found.rest.now < length tokens.now) }
+fn body(cursor: &mut Cursor<'_>, inner: u32) -> Answer<Stmt>
+    ensures { IsStmt (body_at inner (readers inner)) inner cursor.old cursor.new result }
 {
-    if begins_lexical(tokens) {
-        return Err(no_tree(tokens));
+    if begins_lexical(cursor.rest) {
+        return Err(cursor.no_tree());
     }
-    statement(alloc, tokens, inner)
+    statement(cursor, inner)
 }
 
 /// An expression in parentheses.
 #[cycle(descent)]
 #[tactic(auto, using(crate::proofs::Using::after_none))]
-pub fn test_of<'a>(alloc: Global, tokens: &'a [Lexeme], inner: u32) -> Result<ReadExpr<'a>, Stop>
-    requires { inner ≤ 200 }
-    ensures read { IsExpr (test inner (readers inner) (seen tokens.now)) result }
-    ensures within { IfOk result (λ found. found.depth ≤ inner) }
-    ensures shorter { IfOk result (λ found. length found.rest.now < length tokens.now) }
+fn test(cursor: &mut Cursor<'_>, inner: u32) -> Answer<Expr>
+    ensures { IsExpr (test_read inner (readers inner)) inner cursor.old cursor.new result }
 {
-    let rest = skip(tokens, Sort::LeftParen)?;
-    let found = assignment(alloc, rest, inner)?;
-    let rest = skip(found.rest, Sort::RightParen)?;
-    Ok(build::behind(found, rest))
+    cursor.pass(Sort::LeftParen)?;
+    let found = assignment(cursor, inner)?;
+    cursor.pass(Sort::RightParen)?;
+    Ok(found)
 }
 
-/// A declaration, behind its word.
+/// A declaration.
 #[cycle(descent)]
-pub fn declaration_of<'a>(
-    alloc: Global,
-    line: u32,
-    kind: DeclareKind,
-    tokens: &'a [Lexeme],
-    inner: u32,
-) -> Result<ReadStmt<'a>, Stop>
-    requires { inner < 200 }
-    ensures read { IsStmt (declaration_at inner (readers inner) line kind (seen tokens.now)) result }
-    ensures within { IfOk result (λ found. found.depth ≤ inner + 1) }
-    ensures shorter { IfOk result (λ found. length found.rest.now < length tokens.now) }
+fn declaration(cursor: &mut Cursor<'_>, kind: DeclareKind, inner: u32) -> Answer<Stmt>
+    requires { inner < u32.MAX }
+    ensures { IsStmt (at_first (λ t. declaration_at inner (readers inner) t.line kind)) (inner + 1)
+        cursor.old cursor.new result }
 {
-    let found = declarators_of(alloc, kind, tokens, inner)?;
-    let rest = end_behind(found.rest, found.ending)?;
-    Ok(statements::declaration_of(line, kind, found, rest))
+    let line = cursor.bump()?.line;
+    let found = declarators(cursor, kind, inner)?;
+    cursor.end(ending_of_last(&found.tree))?;
+    let form = StmtForm::Declaration(kind, found.tree);
+    Ok(stmt_at(line, form, found.depth + 1))
 }
 
-/// A condition, behind its word.
-#[cycle(descent)]
-pub fn if_of<'a>(
-    alloc: Global,
-    line: u32,
-    tokens: &'a [Lexeme],
-    inner: u32,
-) -> Result<ReadStmt<'a>, Stop>
-    requires { inner < 200 }
-    ensures read { IsStmt (if_at inner (readers inner) line (seen tokens.now)) result }
-    ensures within { IfOk result (λ found. found.depth ≤ inner + 1) }
-    ensures shorter { IfOk result (λ found. length found.rest.now < length tokens.now) }
-{
-    let test = test_of(alloc, tokens, inner)?;
-    let found = body_of(alloc, test.rest, inner)?;
-    else_of(alloc, line, test, found, inner)
-}
-
-/// What stands behind a test and a body: `else` and another body, or nothing of the condition.
+/// A condition.
 #[cycle(descent)]
 #[tactic(auto, using(crate::proofs::Using::else_alone))]
-pub fn else_of<'a>(
-    alloc: Global,
-    line: u32,
-    test: ReadExpr<'_>,
-    found: ReadStmt<'a>,
-    inner: u32,
-) -> Result<ReadStmt<'a>, Stop>
-    requires room { inner < 200 }
-    requires test { test.depth ≤ inner }
-    requires body { found.depth ≤ inner }
-    ensures read { IsStmt (else_after inner (readers inner) line (plain_expr test.entry.tree) (plain_stmt found.entry.tree) (seen found.entry.rest.now)) result }
-    ensures within { IfOk result (λ whole. whole.depth ≤ inner + 1) }
-    ensures shorter { IfOk result (λ whole. length whole.rest.now ≤ length found.entry.rest.now) }
+fn if_of(cursor: &mut Cursor<'_>, inner: u32) -> Answer<Stmt>
+    requires { inner < u32.MAX }
+    ensures { IsStmt (at_first (λ t. if_at inner (readers inner) t.line)) (inner + 1)
+        cursor.old cursor.new result }
 {
-    match skip(found.rest, Sort::Else) {
-        Ok(rest) => otherwise_of(alloc, line, test, found, rest, inner),
-        Err(_) => statements::if_of(alloc, line, test, found),
+    let line = cursor.bump()?.line;
+    let test = test(cursor, inner)?;
+    let first = body(cursor, inner)?;
+    let depth = test.depth.max(first.depth);
+    let first = Box::new(cursor.alloc, first.tree)?;
+    if !cursor.skips(Sort::Else) {
+        let form = StmtForm::If(test.tree, first);
+        return Ok(stmt_at(line, form, depth + 1));
     }
+    let other = body(cursor, inner)?;
+    let depth = depth.max(other.depth);
+    let form = StmtForm::IfElse(test.tree, first, Box::new(cursor.alloc, other.tree)?);
+    Ok(stmt_at(line, form, depth + 1))
 }
 
-/// A condition with an `else`, behind that word.
+/// A `while`.
 #[cycle(descent)]
-pub fn otherwise_of<'a>(
-    alloc: Global,
-    line: u32,
-    test: ReadExpr<'_>,
-    found: ReadStmt<'_>,
-    tokens: &'a [Lexeme],
-    inner: u32,
-) -> Result<ReadStmt<'a>, Stop>
-    requires room { inner < 200 }
-    requires test { test.depth ≤ inner }
-    requires body { found.depth ≤ inner }
-    ensures read { IsStmt (otherwise_at inner line (plain_expr test.entry.tree) (plain_stmt found.entry.tree) (seen tokens.now)) result }
-    ensures within { IfOk result (λ whole. whole.depth ≤ inner + 1) }
-    ensures shorter { IfOk result (λ whole. length whole.rest.now < length tokens.now) }
+fn while_of(cursor: &mut Cursor<'_>, inner: u32) -> Answer<Stmt>
+    requires { inner < u32.MAX }
+    ensures { IsStmt (at_first (λ t. while_at inner (readers inner) t.line)) (inner + 1)
+        cursor.old cursor.new result }
 {
-    let other = body_of(alloc, tokens, inner)?;
-    statements::if_else_of(alloc, line, test, found, other)
-}
-
-/// A loop, behind its word.
-#[cycle(descent)]
-pub fn while_of<'a>(
-    alloc: Global,
-    line: u32,
-    tokens: &'a [Lexeme],
-    inner: u32,
-) -> Result<ReadStmt<'a>, Stop>
-    requires { inner < 200 }
-    ensures read { IsStmt (while_at inner (readers inner) line (seen tokens.now)) result }
-    ensures within { IfOk result (λ found. found.depth ≤ inner + 1) }
-    ensures shorter { IfOk result (λ found. length found.rest.now < length tokens.now) }
-{
-    let test = test_of(alloc, tokens, inner)?;
-    let found = body_of(alloc, test.rest, inner)?;
-    statements::while_of(alloc, line, test, found)
+    let line = cursor.bump()?.line;
+    let test = test(cursor, inner)?;
+    let body = body(cursor, inner)?;
+    let depth = test.depth.max(body.depth) + 1;
+    let form = StmtForm::While(test.tree, Box::new(cursor.alloc, body.tree)?);
+    Ok(stmt_at(line, form, depth))
 }
 
 /// What a `for` begins with.
 #[cycle(descent)]
-pub fn start_of<'a>(alloc: Global, tokens: &'a [Lexeme], inner: u32) -> Result<ReadStart<'a>, Stop>
-    requires { inner < 200 }
-    ensures read { IsStart (start inner (readers inner) (seen tokens.now)) result }
-    ensures within { IfOk result (λ found. found.depth ≤ inner) }
-    ensures shorter { IfOk result (λ found. length found.rest.now ≤ length tokens.now) }
+#[tactic(auto, using(crate::proofs::Using::no_room_declarators, crate::proofs::Using::declarators_in))]
+fn start(cursor: &mut Cursor<'_>, inner: u32) -> Answer<Start>
+    ensures { IsRead plain_start start_nesting
+        (start_read inner (readers inner)) inner 0 cursor.old cursor.new result }
 {
-    let Some((token, rest)) = next(tokens) else {
-        return Err(no_tree(tokens));
+    let Some((token, rest)) = next(cursor.rest) else {
+        return Err(cursor.no_tree());
     };
     if is_sort(token, Sort::Semicolon) {
-        return Ok(parts::start_nothing(tokens));
+        let tree = Start::Nothing;
+        return Ok(Found { tree, depth: 0 });
     }
     if let Some(kind) = declares_at(token) {
-        let found = declarators(alloc, kind, rest, inner)?;
-        return Ok(parts::start_declares(token.token.line, kind, found));
+        cursor.rest = rest;
+        if inner == 0 {
+            return Err(cursor.no_tree());
+        }
+        let Found { tree, depth } = declarators(cursor, kind, inner - 1)?;
+        let tree = Start::Declares(token.token.line, kind, tree);
+        let depth = depth + 1;
+        return Ok(Found { tree, depth });
     }
-    let found = assignment(alloc, tokens, inner)?;
-    Ok(parts::start_value(found))
+    let Found { tree, depth } = assignment(cursor, inner)?;
+    let tree = Start::Evaluates(tree);
+    Ok(Found { tree, depth })
 }
 
 /// An expression that may be absent before a mark.
 #[cycle(descent)]
-pub fn perhaps_of<'a>(
-    alloc: Global,
-    tokens: &'a [Lexeme],
-    close: Sort,
-    inner: u32,
-) -> Result<ReadPerhaps<'a>, Stop>
-    requires { inner < 200 }
-    ensures read { IsPerhaps (perhaps inner (readers inner) close (seen tokens.now)) result }
-    ensures within { IfOk result (λ found. found.depth ≤ inner) }
-    ensures shorter { IfOk result (λ found. length found.rest.now ≤ length tokens.now) }
+fn perhaps(cursor: &mut Cursor<'_>, close: Sort, inner: u32) -> Answer<Option<Expr>>
+    ensures { IsRead (λ e. perhaps_tree (option_map plain_expr e)) perhaps_nesting
+        (perhaps_read inner (readers inner) close) inner 0 cursor.old cursor.new result }
 {
-    if begins(tokens, close) {
-        return Ok(parts::none_of(tokens));
+    if begins(cursor.rest, close) {
+        let tree = None;
+        return Ok(Found { tree, depth: 0 });
     }
-    let found = assignment(alloc, tokens, inner)?;
-    Ok(parts::some_of(found))
+    let Found { tree, depth } = assignment(cursor, inner)?;
+    let tree = Some(tree);
+    Ok(Found { tree, depth })
 }
 
 /// A loop with three parts, behind its parenthesis.
 #[cycle(descent)]
 #[tactic(auto, using(crate::proofs::Using::after_none))]
-pub fn three_of<'a>(
-    alloc: Global,
-    line: u32,
-    tokens: &'a [Lexeme],
-    inner: u32,
-) -> Result<ReadStmt<'a>, Stop>
-    requires { inner < 200 }
-    ensures read { IsStmt (for_three_at inner (readers inner) line (seen tokens.now)) result }
-    ensures within { IfOk result (λ found. found.depth ≤ inner + 1) }
-    ensures shorter { IfOk result (λ found. length found.rest.now < length tokens.now) }
+fn for_three(cursor: &mut Cursor<'_>, line: u32, inner: u32) -> Answer<Stmt>
+    requires { inner < u32.MAX }
+    ensures { IsStmt (for_three_at inner (readers inner) line) (inner + 1)
+        cursor.old cursor.new result }
 {
-    let first = start_of(alloc, tokens, inner)?;
-    let rest = skip(first.rest, Sort::Semicolon)?;
-    tested_of(alloc, line, first, rest, inner)
-}
-
-/// A loop with three parts, behind its first `;`.
-#[cycle(descent)]
-#[tactic(auto, using(crate::proofs::Using::after_none))]
-pub fn tested_of<'a>(
-    alloc: Global,
-    line: u32,
-    first: ReadStart<'_>,
-    tokens: &'a [Lexeme],
-    inner: u32,
-) -> Result<ReadStmt<'a>, Stop>
-    requires room { inner < 200 }
-    requires first { first.depth ≤ inner }
-    ensures read { IsStmt (tested_at inner line (plain_start first.entry.tree) (seen tokens.now)) result }
-    ensures within { IfOk result (λ found. found.depth ≤ inner + 1) }
-    ensures shorter { IfOk result (λ found. length found.rest.now < length tokens.now) }
-{
-    let test = perhaps_of(alloc, tokens, Sort::Semicolon, inner)?;
-    let rest = skip(test.rest, Sort::Semicolon)?;
-    stepped_of(alloc, line, first, test, rest, inner)
-}
-
-/// A loop with three parts, behind its second `;`.
-#[cycle(descent)]
-#[tactic(auto, using(crate::proofs::Using::after_none))]
-pub fn stepped_of<'a>(
-    alloc: Global,
-    line: u32,
-    first: ReadStart<'_>,
-    test: ReadPerhaps<'_>,
-    tokens: &'a [Lexeme],
-    inner: u32,
-) -> Result<ReadStmt<'a>, Stop>
-    requires room { inner < 200 }
-    requires first { first.depth ≤ inner }
-    requires test { test.depth ≤ inner }
-    ensures read { IsStmt (stepped_at inner line (plain_start first.entry.tree) (perhaps_tree (option_map plain_expr test.entry.tree)) (seen tokens.now)) result }
-    ensures within { IfOk result (λ found. found.depth ≤ inner + 1) }
-    ensures shorter { IfOk result (λ found. length found.rest.now < length tokens.now) }
-{
-    let last = perhaps_of(alloc, tokens, Sort::RightParen, inner)?;
-    let rest = skip(last.rest, Sort::RightParen)?;
-    looped_of(alloc, line, first, test, last, rest, inner)
-}
-
-/// The body of a loop with three parts.
-#[cycle(descent)]
-pub fn looped_of<'a>(
-    alloc: Global,
-    line: u32,
-    first: ReadStart<'_>,
-    test: ReadPerhaps<'_>,
-    last: ReadPerhaps<'_>,
-    tokens: &'a [Lexeme],
-    inner: u32,
-) -> Result<ReadStmt<'a>, Stop>
-    requires room { inner < 200 }
-    requires first { first.depth ≤ inner }
-    requires test { test.depth ≤ inner }
-    requires last { last.depth ≤ inner }
-    ensures read { IsStmt (looped_at inner line (plain_start first.entry.tree) (perhaps_tree (option_map plain_expr test.entry.tree)) (perhaps_tree (option_map plain_expr last.entry.tree)) (seen tokens.now)) result }
-    ensures within { IfOk result (λ found. found.depth ≤ inner + 1) }
-    ensures shorter { IfOk result (λ found. length found.rest.now < length tokens.now) }
-{
-    let found = body_of(alloc, tokens, inner)?;
-    statements::for_of(alloc, line, first, test, last, found)
-}
-
-/// A loop over a list, behind `of`.
-#[cycle(descent)]
-#[tactic(auto, using(crate::proofs::Using::after_none))]
-pub fn each_of<'a>(
-    alloc: Global,
-    line: u32,
-    kind: DeclareKind,
-    name: Name,
-    tokens: &'a [Lexeme],
-    inner: u32,
-) -> Result<ReadStmt<'a>, Stop>
-    requires { inner < 200 }
-    ensures read { IsStmt (each_at inner (readers inner) line kind name (seen tokens.now)) result }
-    ensures within { IfOk result (λ found. found.depth ≤ inner + 1) }
-    ensures shorter { IfOk result (λ found. length found.rest.now < length tokens.now) }
-{
-    let list = assignment(alloc, tokens, inner)?;
-    let rest = skip(list.rest, Sort::RightParen)?;
-    let found = body_of(alloc, rest, inner)?;
-    statements::for_each_of(alloc, line, kind, name, list, found)
+    let first = start(cursor, inner)?;
+    cursor.pass(Sort::Semicolon)?;
+    let test = perhaps(cursor, Sort::Semicolon, inner)?;
+    cursor.pass(Sort::Semicolon)?;
+    let last = perhaps(cursor, Sort::RightParen, inner)?;
+    cursor.pass(Sort::RightParen)?;
+    let body = body(cursor, inner)?;
+    let depth = first.depth.max(test.depth.max(last.depth.max(body.depth))) + 1;
+    let body = Box::new(cursor.alloc, body.tree)?;
+    let form = StmtForm::For(first.tree, test.tree, last.tree, body);
+    Ok(stmt_at(line, form, depth))
 }
 
 /// A loop over a list, behind its parenthesis.
 #[cycle(descent)]
-#[tactic(auto, using(crate::proofs::Using::held_none, crate::proofs::Using::each_none))]
-pub fn for_each_of<'a>(
-    alloc: Global,
-    line: u32,
-    tokens: &'a [Lexeme],
-    inner: u32,
-) -> Result<ReadStmt<'a>, Stop>
-    requires { inner < 200 }
-    ensures read { IsStmt (for_each_at inner (readers inner) line (seen tokens.now)) result }
-    ensures within { IfOk result (λ found. found.depth ≤ inner + 1) }
-    ensures shorter { IfOk result (λ found. length found.rest.now < length tokens.now) }
+#[tactic(auto, using(crate::proofs::Using::after_none, crate::proofs::Using::held_none))]
+fn for_of(cursor: &mut Cursor<'_>, line: u32, inner: u32) -> Answer<Stmt>
+    requires { inner < u32.MAX }
+    ensures { IsStmt (for_of_at inner (readers inner) line) (inner + 1)
+        cursor.old cursor.new result }
 {
-    let Some((token, rest)) = next(tokens) else {
-        return Err(no_tree(tokens));
-    };
-    let Some(kind) = lexical_at(token) else {
-        return Err(no_tree(tokens));
-    };
-    let (name, rest) = name(rest)?;
-    let Some((_, rest)) = next(rest) else {
-        return Err(no_tree(rest));
-    };
-    each_of(alloc, line, kind, name, rest, inner)
+    let kind = cursor.lexical()?;
+    let name = cursor.name()?;
+    cursor.advance();
+    let list = assignment(cursor, inner)?;
+    cursor.pass(Sort::RightParen)?;
+    let body = body(cursor, inner)?;
+    let depth = list.depth.max(body.depth) + 1;
+    let form = StmtForm::ForOf(kind, name, list.tree, Box::new(cursor.alloc, body.tree)?);
+    Ok(stmt_at(line, form, depth))
 }
 
-/// A `for`, behind its word.
+/// A `for`.
 #[cycle(descent)]
 #[tactic(auto, using(crate::proofs::Using::after_none))]
-pub fn for_of<'a>(
-    alloc: Global,
-    line: u32,
-    tokens: &'a [Lexeme],
-    inner: u32,
-) -> Result<ReadStmt<'a>, Stop>
-    requires { inner < 200 }
-    ensures read { IsStmt (for_at inner (readers inner) line (seen tokens.now)) result }
-    ensures within { IfOk result (λ found. found.depth ≤ inner + 1) }
-    ensures shorter { IfOk result (λ found. length found.rest.now < length tokens.now) }
+fn for_any(cursor: &mut Cursor<'_>, inner: u32) -> Answer<Stmt>
+    requires { inner < u32.MAX }
+    ensures { IsStmt (at_first (λ t. for_at inner (readers inner) t.line)) (inner + 1)
+        cursor.old cursor.new result }
 {
-    let rest = skip(tokens, Sort::LeftParen)?;
-    if begins_for_of(rest) {
-        for_each_of(alloc, line, rest, inner)
+    let line = cursor.bump()?.line;
+    cursor.pass(Sort::LeftParen)?;
+    if begins_for_of(cursor.rest) {
+        for_of(cursor, line, inner)
     } else {
-        three_of(alloc, line, rest, inner)
+        for_three(cursor, line, inner)
     }
 }
 
-/// A `return`, behind its word.
+/// A `return`.
 #[cycle(descent)]
-pub fn return_of<'a>(
-    alloc: Global,
-    token: &Lexeme,
-    tokens: &'a [Lexeme],
-    inner: u32,
-) -> Result<ReadStmt<'a>, Stop>
-    requires { inner < 200 }
-    ensures read { IsStmt (return_at inner (readers inner) token.now.token (seen tokens.now)) result }
-    ensures within { IfOk result (λ found. found.depth ≤ inner + 1) }
-    ensures shorter { IfOk result (λ found. length found.rest.now ≤ length tokens.now) }
+fn return_of(cursor: &mut Cursor<'_>, inner: u32) -> Answer<Stmt>
+    requires { inner < u32.MAX }
+    ensures { IsStmt (at_first (return_at inner (readers inner))) (inner + 1)
+        cursor.old cursor.new result }
 {
-    let spot = spot_of(&token.token);
-    if is_return_end(tokens) {
-        let rest = end_behind(tokens, Ending::Closed)?;
-        return Ok(statements::return_nothing(spot, rest));
+    let spot = cursor.bump()?;
+    if is_return_end(cursor.rest) {
+        cursor.end(Ending::Closed)?;
+        return Ok(stmt_at(spot.line, StmtForm::ReturnNothing(spot), 1));
     }
-    let found = assignment(alloc, tokens, inner)?;
-    let rest = end_behind(found.rest, ending_of(&found.tree))?;
-    Ok(statements::return_of(spot, found, rest))
+    let found = assignment(cursor, inner)?;
+    cursor.end(ending_of(&found.tree))?;
+    let form = StmtForm::Return(spot, found.tree);
+    Ok(stmt_at(spot.line, form, found.depth + 1))
 }
 
 /// An expression as a statement.
 #[cycle(descent)]
-pub fn expression_of<'a>(
-    alloc: Global,
-    tokens: &'a [Lexeme],
-    inner: u32,
-) -> Result<ReadStmt<'a>, Stop>
-    requires { inner < 200 }
-    ensures read { IsStmt (at_first (expression_at inner (readers inner)) (seen tokens.now)) result }
-    ensures within { IfOk result (λ found. found.depth ≤ inner + 1) }
-    ensures shorter { IfOk result (λ found. length found.rest.now < length tokens.now) }
+#[tactic(auto, using(crate::proofs::Using::evaluated))]
+fn evaluation(cursor: &mut Cursor<'_>, inner: u32) -> Answer<Stmt>
+    requires { inner < u32.MAX }
+    ensures { IsStmt (at_first (expression_at inner (readers inner))) (inner + 1)
+        cursor.old cursor.new result }
 {
-    let line = line_at(tokens);
-    let found = assignment(alloc, tokens, inner)?;
-    let rest = end_behind(found.rest, ending_of(&found.tree))?;
-    Ok(statements::expression_of(line, found, rest))
+    let line = cursor.line();
+    let found = assignment(cursor, inner)?;
+    cursor.end(ending_of(&found.tree))?;
+    let form = StmtForm::Expression(found.tree);
+    Ok(stmt_at(line, form, found.depth + 1))
 }
 
 /// A statement.
 #[cycle(descent)]
-pub fn statement_of<'a>(
-    alloc: Global,
-    tokens: &'a [Lexeme],
-    inner: u32,
-) -> Result<ReadStmt<'a>, Stop>
-    requires { inner < 200 }
-    ensures read { IsStmt (statement_read inner (readers inner) (seen tokens.now)) result }
-    ensures within { IfOk result (λ found. found.depth ≤ inner + 1) }
-    ensures shorter { IfOk result (λ found. length found.rest.now < length tokens.now) }
+#[tactic(auto, using(crate::proofs::Using::no_room_stmt, crate::proofs::Using::statement_in))]
+pub fn statement(cursor: &mut Cursor<'_>, room: u32) -> Answer<Stmt>
+    ensures { IsStmt ((readers room).stmt) room cursor.old cursor.new result }
 {
-    let Some((token, rest)) = next(tokens) else {
-        return Err(no_tree(tokens));
+    let Some((token, rest)) = next(cursor.rest) else {
+        return Err(cursor.no_tree());
     };
+    if room == 0 {
+        return Err(cursor.no_tree());
+    }
+    let inner = room - 1;
     let line = token.token.line;
     match token.sort {
-        Sort::Semicolon => Ok(statements::empty_of(line, rest)),
-        Sort::LeftBrace => {
-            let found = closed_of(alloc, rest, inner)?;
-            Ok(statements::block_of(line, found))
+        Sort::Semicolon => {
+            cursor.rest = rest;
+            Ok(stmt_at(line, StmtForm::Empty, 1))
         }
-        Sort::Function => Err(no_tree(tokens)),
-        Sort::Const => declaration_of(alloc, line, DeclareKind::Const, rest, inner),
-        Sort::Let => declaration_of(alloc, line, DeclareKind::Let, rest, inner),
-        Sort::Var => declaration_of(alloc, line, DeclareKind::Var, rest, inner),
-        Sort::If => if_of(alloc, line, rest, inner),
-        Sort::While => while_of(alloc, line, rest, inner),
-        Sort::For => for_of(alloc, line, rest, inner),
-        Sort::Break => break_behind(token, rest),
-        Sort::Continue => continue_behind(token, rest),
-        Sort::Return => return_of(alloc, token, rest, inner),
-        _ => expression_of(alloc, tokens, inner),
+        Sort::LeftBrace => {
+            cursor.rest = rest;
+            let found = closed(cursor, inner)?;
+            Ok(stmt_at(line, StmtForm::Block(found.tree), found.depth + 1))
+        }
+        Sort::Function => Err(cursor.no_tree()),
+        Sort::Const => declaration(cursor, DeclareKind::Const, inner),
+        Sort::Let => declaration(cursor, DeclareKind::Let, inner),
+        Sort::Var => declaration(cursor, DeclareKind::Var, inner),
+        Sort::If => if_of(cursor, inner),
+        Sort::While => while_of(cursor, inner),
+        Sort::For => for_any(cursor, inner),
+        Sort::Break => break_of(cursor),
+        Sort::Continue => continue_of(cursor),
+        Sort::Return => return_of(cursor, inner),
+        _ => evaluation(cursor, inner),
     }
 }

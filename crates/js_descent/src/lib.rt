@@ -1,6 +1,7 @@
-//! Trees read by recursive descent: a function for each form of the grammar, within the room that nesting leaves.
+//! A reader for each form of the grammar, within the room that nesting leaves.
 #![tactic(auto)]
 
 mod descent;
+mod leaves;
 
-pub use descent::{closed_of, statement_of};
+pub use descent::{closed, statement};

@@ -6,9 +6,10 @@ use Rattle.js_tree.specs.declared.ending.Ending.{Ending}
 use Rattle.js_grammar.specs.declared.sort.Sort.{Sort}
 use Rattle.js_grammar.specs.declared.sort.Sort.TheVariants.{Semicolon}
 use Rattle.js_grammar.specs.Sorts.{is, sort}
-use Rattle.js_grammar.specs.Tokens.{starts, end_absent}
+use Rattle.js_grammar.specs.Ends.{end_absent}
+use Rattle.js_grammar.specs.Tokens.{starts}
 use Rattle.js_grammar.specs.Grammar.{End, end_mark, end_none}
-use Rattle.js_grammar.specs.Reader.{Found, and_then, after, if_some, after_some, within, Turn, again, done, next_turn, turns, run, tail, ended_rest, ended}
+use Rattle.js_grammar.specs.Reading.{Found, and_then, after, if_some, after_some, within, Turn, again, done, next_turn, turns, run, tail, ended_rest, ended}
 use Rattle.js_grammar.proofs.Marks.{is-true}
 
 -- P of what is given, if anything is

@@ -5,8 +5,9 @@ use Rattle.js_tree.specs.Plain.{PlainExpr, PlainItem}
 use Rattle.js_tree.specs.Nesting.{nesting, deepest_item}
 use Rattle.js_grammar.specs.Grammar.{Level, Spells, SpellsTree}
 use Rattle.js_grammar.specs.Trees.{IsTree, HasNoTree}
-use Rattle.js_grammar.specs.Reader as read
-use Rattle.js_grammar.specs.Reader.{Found, readers}
+use Rattle.js_grammar.specs.Statements as stmts
+use Rattle.js_grammar.specs.Reading.{Found}
+use Rattle.js_grammar.specs.Reader.{readers}
 use Rattle.js_grammar.proofs.Steps.{Gives}
 use Rattle.js_grammar.proofs.Sound.{AreSound, readers-sound, items-sound, AllItems}
 use Rattle.js_grammar.proofs.Complete.{spells-read, items-read}
@@ -27,12 +28,12 @@ tree_once ts is is' d d' =
     let same : ◌≡◌ {A = List PlainItem × List Token} (is, []) (is', []) = cc in
     ap (λ (x : List PlainItem × List Token). x.0) same
 
-pub tree_found : (n : ℕ) (ts : List Token) (is : List PlainItem) (r : List Token) → read.items n (readers n) ts ≡ Some (is, r) → IsTree (suc n) ts is
+pub tree_found : (n : ℕ) (ts : List Token) (is : List PlainItem) (r : List Token) → stmts.items n (readers n) ts ≡ Some (is, r) → IsTree (suc n) ts is
 tree_found n ts is r e =
     let s = readers-sound n in
-    let all : Gives (λ x. AllItems n (readers n) s.expr s.declarators s.stmt ts x.0 x.1) (read.items n (readers n) ts) = items-sound n (readers n) s.expr s.declarators s.stmt ts in
+    let all : Gives (λ x. AllItems n (readers n) s.expr s.declarators s.stmt ts x.0 x.1) (stmts.items n (readers n) ts) = items-sound n (readers n) s.expr s.declarators s.stmt ts in
     let found = subst (λ (o : Found (List PlainItem)). Gives (λ x. AllItems n (readers n) s.expr s.declarators s.stmt ts x.0 x.1) o) e all in
     record { spelled = found.spelled; within = found.fits }
 
-pub tree_missed : (n : ℕ) (ts : List Token) → read.items n (readers n) ts ≡ None → HasNoTree (suc n) ts
+pub tree_missed : (n : ℕ) (ts : List Token) → stmts.items n (readers n) ts ≡ None → HasNoTree (suc n) ts
 tree_missed n ts e is t = let f = items-read t.spelled n t.within [] in cc

@@ -16,7 +16,10 @@ use Rattle.js_tree.specs.Endings.{ending, declarators_ending}
 use Rattle.js_grammar.specs.declared.sort.Sort.{Sort}
 use Rattle.js_grammar.specs.declared.sort.Sort.TheVariants.{LeftBrace, RightBrace, LeftParen, RightParen, LeftBracket, RightBracket, Dot, Semicolon, Comma, Question, Colon, Set, Function, Return, If, Else, While, For, Break, Continue, True, False, Null}
 use Rattle.js_grammar.specs.Sorts.{sort, spot, named, numbered, quoted, member_word, key}
-use Rattle.js_grammar.specs.Tokens.{starts, line_of, end_before, operator_at, starts_operator, sign, step, assign_op, declares, is_const, lexical, starts_sign, starts_update, starts_call, starts_arrow, starts_function, starts_assign, starts_end, end_absent, ends_return, starts_other, starts_lexical, starts_declaration, is_of, starts_for_of}
+use Rattle.js_grammar.specs.Operators.{operator_at, starts_operator, sign, step, assign_op}
+use Rattle.js_grammar.specs.Arrows.{starts_arrow, starts_function}
+use Rattle.js_grammar.specs.Ends.{starts_end, end_absent, ends_return, starts_other}
+use Rattle.js_grammar.specs.Tokens.{starts, line_of, end_before, declares, is_const, lexical, starts_sign, starts_update, starts_call, starts_assign, starts_lexical, starts_declaration, is_of, starts_for_of}
 
 -- the levels of precedence; `Operators 0` is what stands between the tightest binary operators, `Operators 6` has the loosest ones
 pub data Level : Type 0 where
@@ -202,7 +205,7 @@ mutual
         sort t ≡ For → sort u ≡ LeftParen → starts_for_of ts ≡ false → Start ts start (v ∷ ms) → sort v ≡ Semicolon →
         Perhaps Semicolon ms test (w ∷ ns) → sort w ≡ Semicolon → Perhaps RightParen ns next (x ∷ ls) → sort x ≡ RightParen → Body ls s rest →
         Statement (t ∷ (u ∷ ts)) (on t.line (p.for_of_three start test next s)) rest
-    for_list : {t u v w x y : Token} {ts ms rest : List Token} {k : DeclareKind} {n : Name} {e : PlainExpr} {s : PlainStmt} →
+    for_of : {t u v w x y : Token} {ts ms rest : List Token} {k : DeclareKind} {n : Name} {e : PlainExpr} {s : PlainStmt} →
         sort t ≡ For → sort u ≡ LeftParen → lexical v ≡ Some k → named w ≡ Some n → is_of x ≡ true →
         Spells Assignment ts e (y ∷ ms) → sort y ≡ RightParen → Body ms s rest →
         Statement (t ∷ (u ∷ (v ∷ (w ∷ (x ∷ ts))))) (on t.line (p.for_each k n e s)) rest

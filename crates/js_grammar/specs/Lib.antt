@@ -1,6 +1,12 @@
 pub mod Sorts
+pub mod Operators
+pub mod Arrows
+pub mod Ends
 pub mod Tokens
 pub mod Grammar
 pub mod Trees
 pub mod Unsupported
+pub mod Reading
+pub mod Expressions
+pub mod Statements
 pub mod Reader

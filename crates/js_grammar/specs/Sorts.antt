@@ -6,6 +6,8 @@ use Rattle.js_lexer.specs.declared.token.Token.{Token}
 use Rattle.js_lexer.specs.Words.{all_words, all_marks}
 use Rattle.js_tree.specs.declared.tree.Name.{Name}
 use Rattle.js_tree.specs.declared.tree.Spot.{Spot}
+use denote.Enum.Bare.{sameb}
+use Rattle.js_grammar.specs.contracts.sort.Sort.{the_type}
 use Rattle.js_grammar.specs.declared.sort.Sort.{Sort}
 
 -- the sort of a numbered word or mark
@@ -91,63 +93,10 @@ kind_key _ = None
 unfoldable pub key : Token → Option (List ℕ)
 key t = kind_key t.kind
 
--- a number for each sort
-abbrev pub code : Sort → ℕ
-code Sort.Name = 0
-code Sort.Number = 1
-code Sort.Words = 2
-code Sort.Unsupported = 3
-code Sort.Same = 4
-code Sort.NotSame = 5
-code Sort.Arrow = 6
-code Sort.Equal = 7
-code Sort.NotEqual = 8
-code Sort.LessOrEqual = 9
-code Sort.GreaterOrEqual = 10
-code Sort.And = 11
-code Sort.Or = 12
-code Sort.Increment = 13
-code Sort.Decrement = 14
-code Sort.AddSet = 15
-code Sort.SubtractSet = 16
-code Sort.MultiplySet = 17
-code Sort.DivideSet = 18
-code Sort.RemainderSet = 19
-code Sort.LeftBrace = 20
-code Sort.RightBrace = 21
-code Sort.LeftParen = 22
-code Sort.RightParen = 23
-code Sort.LeftBracket = 24
-code Sort.RightBracket = 25
-code Sort.Dot = 26
-code Sort.Semicolon = 27
-code Sort.Comma = 28
-code Sort.Less = 29
-code Sort.Greater = 30
-code Sort.Plus = 31
-code Sort.Minus = 32
-code Sort.Star = 33
-code Sort.Slash = 34
-code Sort.Percent = 35
-code Sort.Not = 36
-code Sort.Question = 37
-code Sort.Colon = 38
-code Sort.Set = 39
-code Sort.Const = 40
-code Sort.Let = 41
-code Sort.Var = 42
-code Sort.Function = 43
-code Sort.Return = 44
-code Sort.If = 45
-code Sort.Else = 46
-code Sort.While = 47
-code Sort.For = 48
-code Sort.Break = 49
-code Sort.Continue = 50
-code Sort.True = 51
-code Sort.False = 52
-code Sort.Null = 53
+-- whether two sorts are one
+abbrev pub same : Sort → Sort → Bool
+same = sameb the_type
 
 -- the token is of the sort
 abbrev pub is : Sort → Token → Bool
-is k t = nat_eq (code k) (code (sort t))
+is k t = same k (sort t)

@@ -8,7 +8,7 @@ pub enum ParseFault {
     /// A token that the language refuses; the line of the first.
     #[error("an unsupported token, on line {0}")]
     Unsupported(u32),
-    /// The tokens spell no tree of nesting at most 200; a line of the text.
+    /// The tokens spell no tree of nesting at most `MOST_NESTING`; a line of the text.
     #[error("no tree, on line {0}")]
     NoTree(u32),
     /// Want of memory.

@@ -1,56 +1,45 @@
 //! Trees of programs.
-ghost use Rattle.std.specs.Prelude.{◌≡◌, ◌<◌, ◌≤◌, ◌∷◌, length, false, IfOk, IfErr, None};
-ghost use Rattle.js_tree.specs.Views.{plain_tree};
-ghost use Rattle.js_grammar.specs.Reader.{readers, item, item_function_at};
+ghost use Rattle.std.specs.Prelude.{◌≡◌, false, IfOk, IfErr, None};
+ghost use Rattle.js_tree.specs.Views.{plain_item, plain_tree};
 ghost use Rattle.js_grammar.specs.Trees.{IsTree};
 ghost use Rattle.js_grammar.specs.Unsupported.{first_unsupported};
+ghost use Rattle.js_steps.specs.Passed.{at_first};
+ghost use Rattle.js_steps.specs.Read.{IsGiven};
 ghost use Rattle.js_steps.specs.Seen.{seen};
-ghost use Rattle.js_steps.specs.Parsed.{IsItem};
-ghost use Rattle.js_parser.specs.Parse.{IsItems, IsLineIn, IsParseFault, IsFault};
+ghost use Rattle.js_parser.specs.Parse.{next_item, next_function, IsItems, IsLineIn, IsParseFault, IsFault};
 
 use crate::fault::ParseFault;
 use crate::refused::unsupported_line;
-use js_descent::{closed_of, statement_of};
+use js_descent::{closed, statement};
 use js_grammar::Sort;
 use js_lexer::Token;
-use js_steps::cursor::{is_sort, name, next, spot_of};
-use js_steps::names::opening_of;
-use js_steps::read::ReadItem;
-use js_steps::statements::{item_function, item_statement};
-use js_steps::{Lexeme, Stop, lexemes};
-use js_tree::Tree;
+use js_steps::cursor::{begins, next};
+use js_steps::{Cursor, Lexeme, Stop, lexemes};
+use js_tree::{Item, MOST_NESTING, Tree};
 use std::alloc::Global;
 
-/// A function declaration, behind its word.
-fn function_item<'a>(
-    alloc: Global,
-    token: &Lexeme,
-    tokens: &'a [Lexeme],
-) -> Result<ReadItem<'a>, Stop>
-    ensures read { IsItem (item_function_at 199 (readers 199) token.now.token (seen tokens.now)) result }
-    ensures shorter { IfOk result (λ found. length found.rest.now < length tokens.now) }
+/// A function declaration.
+#[tactic(auto, using(crate::proofs::Programs::held_none))]
+fn function(cursor: &mut Cursor<'_>) -> Result<Item, Stop>
+    ensures { IsGiven plain_item (at_first next_function) cursor.old cursor.new result }
 {
-    let (name, rest) = name(tokens)?;
-    let head = opening_of(alloc, rest)?;
-    let found = closed_of(alloc, head.rest, 199)?;
-    Ok(item_function(spot_of(&token.token), name, head.names, found))
+    let spot = cursor.bump()?;
+    let name = cursor.name()?;
+    let names = cursor.opening()?;
+    let found = closed(cursor, MOST_NESTING - 1)?;
+    Ok(Item::Function(spot, name, names, found.tree))
 }
 
 /// What the program lists next.
-fn item_of<'a>(
-    alloc: Global,
-    token: &Lexeme,
-    rest: &'a [Lexeme],
-    tokens: &'a [Lexeme],
-) -> Result<ReadItem<'a>, Stop>
-    requires { tokens.now ≡ token.now ∷ rest.now }
-    ensures read { IsItem (item 199 (readers 199) (seen tokens.now)) result }
-    ensures shorter { IfOk result (λ found. length found.rest.now < length tokens.now) }
+#[tactic(auto, using(crate::proofs::Programs::item_function, crate::proofs::Programs::item_statement))]
+fn item(cursor: &mut Cursor<'_>) -> Result<Item, Stop>
+    ensures { IsGiven plain_item next_item cursor.old cursor.new result }
 {
-    if is_sort(token, Sort::Function) {
-        return function_item(alloc, token, rest);
+    if begins(cursor.rest, Sort::Function) {
+        return function(cursor);
     }
-    Ok(item_statement(statement_of(alloc, tokens, 199)?))
+    let found = statement(cursor, MOST_NESTING)?;
+    Ok(Item::Statement(found.tree))
 }
 
 /// All that the program lists.
@@ -58,12 +47,13 @@ fn item_of<'a>(
 fn tree_of(alloc: Global, tokens: &[Lexeme]) -> Result<Tree, Stop>
     ensures { IsItems (seen tokens.now) result }
 {
+    let mut cursor = Cursor {
+        alloc,
+        rest: tokens,
+    };
     let mut items = Vec::new(alloc);
-    let mut rest = tokens;
-    'more: while let Some((token, behind)) = next(rest) {
-        let ReadItem { tree, rest: left } = item_of(alloc, token, behind, rest)?;
-        items.push(tree)?;
-        rest = left;
+    'more: while let Some(_) = next(cursor.rest) {
+        items.push(item(&mut cursor)?)?;
     }
     Ok(Tree { items })
 }
@@ -97,7 +87,7 @@ fn fault_of(stop: Stop, tokens: &[Token]) -> ParseFault
     }
 }
 
-/// The tree that tokens spell with nesting at most 200.
+/// The tree that tokens spell with nesting at most `MOST_NESTING`.
 ///
 /// # Errors
 ///
@@ -106,7 +96,7 @@ fn fault_of(stop: Stop, tokens: &[Token]) -> ParseFault
 #[tactic(auto, using(crate::proofs::Programs::tree_found, crate::proofs::Programs::tree_missed))]
 pub fn parse(alloc: Global, tokens: &[Token]) -> Result<Tree, ParseFault>
     ensures supported { IfOk result (λ tree. first_unsupported false tokens.now ≡ None) }
-    ensures tree { IfOk result (λ tree. IsTree 200 tokens.now (plain_tree tree)) }
+    ensures tree { IfOk result (λ tree. IsTree MOST_NESTING tokens.now (plain_tree tree)) }
     ensures refused { IfErr result (IsParseFault tokens.now) }
 {
     let Ok(all) = lexemes(alloc, tokens) else {

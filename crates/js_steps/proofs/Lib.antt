@@ -1,3 +1,2 @@
 pub mod Using
-pub mod Rows
 pub mod Loops

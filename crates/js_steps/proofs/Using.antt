@@ -1,14 +1,15 @@
 -- Facts on what is skipped and held, and what the tests on tokens are.
-use Rattle.std.proofs.Common.{◌≡◌, ℕ, zero, suc, ◌-◌, sub-one, false, List, [], ◌∷◌, Option, Some, None, Ok, refl}
+use Rattle.std.proofs.Common.{◌≡◌, ◌⊎◌, inl, inr, ℕ, zero, suc, ◌-◌, sub-one, false, List, [], ◌∷◌, Option, Some, None, refl}
+use Rattle.js_lexer.specs.declared.token.Kind.{Kind}
 use Rattle.js_lexer.specs.declared.token.Token.{Token}
 use Rattle.js_grammar.specs.declared.sort.Sort.{Sort}
 use Rattle.js_tree.specs.declared.tree.Spot.{Spot}
 use Rattle.js_grammar.specs.Sorts.{sort, named, numbered, quoted, member_word, key, kind_sort, kind_name, kind_number, kind_words, kind_member, kind_key, name_at, spot}
-use Rattle.js_grammar.specs.Tokens.{starts, arrow_follows, operator_at, at_level, operator, sign, sort_sign, step, sort_step, assign_op, sort_assign, declares, sort_declare, lexical, if_lexical, is_of, is_of_name}
-use Rattle.js_grammar.specs.Reader.{after, after_some}
-use Rattle.js_steps.specs.Skipped.{first, IsHeld}
-use Rattle.js_steps.specs.declared.lexeme.Lexeme.{Lexeme}
-use Rattle.std.specs.Borrow.{Bor}
+use Rattle.js_grammar.specs.Operators.{operator_at, at_level, operator, sign, sort_sign, step, sort_step, assign_op, sort_assign}
+use Rattle.js_grammar.specs.Arrows.{arrow_follows}
+use Rattle.js_grammar.specs.Tokens.{starts, declares, sort_declare, lexical, if_lexical, is_of, is_of_name}
+use Rattle.js_grammar.specs.Reading.{after, after_some}
+use Rattle.js_steps.specs.Passed.{first}
 
 pub after_none : {B : Type 0} (k : Sort) (ts : List Token) (f : List Token → Option B) → starts k ts ≡ false → after k ts f ≡ None
 after_none k [] f h = refl
@@ -42,6 +43,15 @@ pub key_is : (t : Token) → key t ≡ kind_key t.kind
 unfolding key
 key_is t = refl
 
+pub member_among : (k : Kind) (x y : List ℕ) → (k ≡ Kind.Name x) ⊎ (k ≡ Kind.Word x) → y ≡ x → kind_member k ≡ Some y
+member_among k x y (inl e) h = rw (e, h) refl
+member_among k x y (inr e) h = rw (e, h) refl
+
+pub key_among : (k : Kind) (x y : List ℕ) → (k ≡ Kind.Name x) ⊎ ((k ≡ Kind.Word x) ⊎ (k ≡ Kind.Words x)) → y ≡ x → kind_key k ≡ Some y
+key_among k x y (inl e) h = rw (e, h) refl
+key_among k x y (inr (inl e)) h = rw (e, h) refl
+key_among k x y (inr (inr e)) h = rw (e, h) refl
+
 pub operator_at_is : (k : ℕ) (t : Token) → operator_at k t ≡ at_level k (operator (sort t))
 unfolding operator_at
 operator_at_is k t = refl
@@ -69,10 +79,6 @@ lexical_is t = refl
 pub is_of_is : (t : Token) → is_of t ≡ is_of_name (named t)
 unfolding is_of
 is_of_is t = refl
-
-pub held_here : {A : Type 0} (g : Token → Option A) (ts : List Lexeme) (x : Lexeme) (rest : Bor (List Lexeme)) (a : A) →
-    ts ≡ x ∷ rest.now → g x.token ≡ Some a → IsHeld g ts (Ok (a, rest))
-held_here g ts x rest a e h = (x, e, h)
 
 pub name_same : (a b : List ℕ) (s r : Spot) → b ≡ a → r ≡ s → name_at (Some a) s ≡ Some (record { text = b; spot = r })
 name_same a b s r h k = rw (h, k) refl

@@ -1,3 +1,3 @@
 pub mod Seen
-pub mod Skipped
-pub mod Parsed
+pub mod Passed
+pub mod Read

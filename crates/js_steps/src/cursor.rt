@@ -1,17 +1,27 @@
-//! Steps over tokens.
-ghost use Rattle.std.specs.Prelude.{◌≡◌, ◌∷◌, ◌<◌, [], MatchOption, IfOk, length};
-ghost use Rattle.js_grammar.specs.Tokens.{starts, line_of};
-ghost use Rattle.js_grammar.specs.Sorts.{code, is, named, numbered, quoted, member_word, key, spot as place};
+//! A cursor over tokens.
+ghost use Rattle.std.specs.Prelude.{◌≡◌, ◌∷◌, ◌≤◌, [], MatchOption, length};
+ghost use Rattle.js_grammar.specs.Operators.{step, assign_op};
+ghost use Rattle.js_grammar.specs.Tokens.{starts, line_of, lexical};
+ghost use Rattle.js_grammar.specs.Sorts.{is, named, numbered, quoted, member_word, key, spot as place};
+ghost use Rattle.js_grammar.specs.Reading.{tail};
 ghost use Rattle.js_steps.specs.declared.stop.Stop.TheVariants.{NoTree};
-ghost use Rattle.js_steps.specs.Seen.{seen};
-ghost use Rattle.js_steps.specs.Skipped.{IsSkipped, IsHeld};
+ghost use Rattle.js_steps.specs.Seen.{seen, left};
+ghost use Rattle.js_steps.specs.Passed.{Skips, IsPassed, IsBumped, IsTaken};
 
+use crate::peek::{assign_at, lexical_at, step_at};
 use crate::{Lexeme, Stop};
 use js_data::{Text, Whole};
 use js_grammar::Sort;
 use js_lexer::{Kind, Token};
-use js_tree::{Name, Spot};
+use js_tree::{AssignOp, DeclareKind, Name, Spot, Step};
 use std::alloc::Global;
+
+/// The tokens that are left, and what trees are allocated from.
+#[derive(Clone, Copy)]
+pub struct Cursor<'a> {
+    pub alloc: Global,
+    pub rest: &'a [Lexeme],
+}
 
 /// The first token and those behind it.
 pub fn next<'a>(tokens: &'a [Lexeme]) -> Option<(&'a Lexeme, &'a [Lexeme])>
@@ -23,44 +33,11 @@ pub fn next<'a>(tokens: &'a [Lexeme]) -> Option<(&'a Lexeme, &'a [Lexeme])>
     }
 }
 
-/// The line of the first token, or 0.
-pub fn line_at(tokens: &[Lexeme]) -> u32
-    ensures { result ≡ line_of (seen tokens.now) }
-{
-    match next(tokens) {
-        Some((token, _)) => token.token.line,
-        None => 0,
-    }
-}
-
-/// No tree is spelled here.
-pub fn no_tree(tokens: &[Lexeme]) -> Stop
-    ensures { result ≡ NoTree (length tokens.now) }
-{
-    Stop::NoTree(tokens.len())
-}
-
-fn number_of(sort: Sort) -> u8
-    ensures { result ≡ code sort }
-{
-    sort as u8
-}
-
 /// Whether a token is of the sort.
 pub fn is_sort(token: &Lexeme, sort: Sort) -> bool
     ensures { result ≡ is sort token.now.token }
 {
-    number_of(sort) == number_of(token.sort)
-}
-
-/// The tokens behind a mark or word.
-pub fn skip<'a>(tokens: &'a [Lexeme], sort: Sort) -> Result<&'a [Lexeme], Stop>
-    ensures { IsSkipped sort tokens.now result }
-{
-    match next(tokens) {
-        Some((token, rest)) if is_sort(token, sort) => Ok(rest),
-        _ => Err(no_tree(tokens)),
-    }
+    sort == token.sort
 }
 
 /// Whether the list begins with the mark or word.
@@ -83,81 +60,196 @@ pub fn spot_of(token: &Token) -> Spot
     }
 }
 
-/// A name, and the tokens behind it.
-#[tactic(auto, using(crate::proofs::Using::named_is, crate::proofs::Using::held_here))]
-pub fn name<'a>(tokens: &'a [Lexeme]) -> Result<(Name, &'a [Lexeme]), Stop>
-    ensures { IsHeld named tokens.now result }
-{
-    let Some((token, rest)) = next(tokens) else {
-        return Err(no_tree(tokens));
-    };
-    match &token.token.kind {
-        Kind::Name(text) => Ok((
-            Name {
-                text: text.copy()?,
-                spot: spot_of(&token.token),
-            },
-            rest,
-        )),
-        _ => Err(no_tree(tokens)),
+impl<'a> Cursor<'a> {
+    /// No tree is spelled here.
+    pub fn no_tree(&self) -> Stop
+        ensures { result ≡ NoTree (length self.now.rest.now) }
+    {
+        Stop::NoTree(self.rest.len())
     }
-}
 
-/// A number, and the tokens behind it.
-#[tactic(auto, using(crate::proofs::Using::numbered_is, crate::proofs::Using::held_here))]
-pub fn number<'a>(tokens: &'a [Lexeme]) -> Result<(Whole, &'a [Lexeme]), Stop>
-    ensures { IsHeld numbered tokens.now result }
-{
-    let Some((token, rest)) = next(tokens) else {
-        return Err(no_tree(tokens));
-    };
-    match &token.token.kind {
-        Kind::Number(number) => Ok((*number, rest)),
-        _ => Err(no_tree(tokens)),
+    /// The line of the next token, or 0.
+    pub fn line(&self) -> u32
+        ensures { result ≡ line_of (left self.now) }
+    {
+        match next(self.rest) {
+            Some((token, _)) => token.token.line,
+            None => 0,
+        }
     }
-}
 
-/// The content of a text literal, and the tokens behind it.
-#[tactic(auto, using(crate::proofs::Using::quoted_is, crate::proofs::Using::held_here))]
-pub fn words<'a>(tokens: &'a [Lexeme]) -> Result<(Text, &'a [Lexeme]), Stop>
-    ensures { IsHeld quoted tokens.now result }
-{
-    let Some((token, rest)) = next(tokens) else {
-        return Err(no_tree(tokens));
-    };
-    match &token.token.kind {
-        Kind::Words(text) => Ok((text.copy()?, rest)),
-        _ => Err(no_tree(tokens)),
+    /// Goes behind the mark or word, if it stands here.
+    pub fn skips(&mut self, sort: Sort) -> bool
+        ensures { Skips sort self.old.rest.now self.new.rest.now result }
+    {
+        match next(self.rest) {
+            Some((token, rest)) if is_sort(token, sort) => {
+                self.rest = rest;
+                true
+            }
+            _ => false,
+        }
     }
-}
 
-/// A word of any kind, and the tokens behind it.
-#[tactic(auto, using(crate::proofs::Using::member_word_is, crate::proofs::Using::held_here))]
-pub fn member<'a>(tokens: &'a [Lexeme]) -> Result<(Text, &'a [Lexeme]), Stop>
-    ensures { IsHeld member_word tokens.now result }
-{
-    let Some((token, rest)) = next(tokens) else {
-        return Err(no_tree(tokens));
-    };
-    match &token.token.kind {
-        Kind::Name(text) => Ok((text.copy()?, rest)),
-        Kind::Word(text) => Ok((text.copy()?, rest)),
-        _ => Err(no_tree(tokens)),
+    /// Goes behind the mark or word.
+    pub fn pass(&mut self, sort: Sort) -> Result<(), Stop>
+        ensures { IsPassed sort self.old.rest.now self.new.rest.now result }
+    {
+        if self.skips(sort) {
+            Ok(())
+        } else {
+            Err(self.no_tree())
+        }
     }
-}
 
-/// The key of a field, and the tokens behind it.
-#[tactic(auto, using(crate::proofs::Using::key_is, crate::proofs::Using::held_here))]
-pub fn key_of<'a>(tokens: &'a [Lexeme]) -> Result<(Text, &'a [Lexeme]), Stop>
-    ensures { IsHeld key tokens.now result }
-{
-    let Some((token, rest)) = next(tokens) else {
-        return Err(no_tree(tokens));
-    };
-    match &token.token.kind {
-        Kind::Name(text) => Ok((text.copy()?, rest)),
-        Kind::Word(text) => Ok((text.copy()?, rest)),
-        Kind::Words(text) => Ok((text.copy()?, rest)),
-        _ => Err(no_tree(tokens)),
+    /// Goes behind the next token, for its place.
+    pub fn bump(&mut self) -> Result<Spot, Stop>
+        ensures { IsBumped self.old.rest.now self.new.rest.now result }
+    {
+        let Some((token, rest)) = next(self.rest) else {
+            return Err(self.no_tree());
+        };
+        self.rest = rest;
+        Ok(spot_of(&token.token))
+    }
+
+    /// Goes behind the next token, if there is one.
+    pub fn advance(&mut self)
+        ensures tail { left self.new ≡ tail (left self.old) }
+        ensures shorter { length self.new.rest.now ≤ length self.old.rest.now }
+    {
+        if let Some((_, rest)) = next(self.rest) {
+            self.rest = rest;
+        }
+    }
+
+    /// Goes behind a name.
+    #[tactic(auto, using(crate::proofs::Using::named_is))]
+    pub fn name(&mut self) -> Result<Name, Stop>
+        ensures { IsTaken named self.old.rest.now self.new.rest.now result }
+    {
+        let Some((token, rest)) = next(self.rest) else {
+            return Err(self.no_tree());
+        };
+        match &token.token.kind {
+            Kind::Name(text) => {
+                self.rest = rest;
+                Ok(Name {
+                    text: text.copy()?,
+                    spot: spot_of(&token.token),
+                })
+            }
+            _ => Err(self.no_tree()),
+        }
+    }
+
+    /// Goes behind a number.
+    #[tactic(auto, using(crate::proofs::Using::numbered_is))]
+    pub fn number(&mut self) -> Result<Whole, Stop>
+        ensures { IsTaken numbered self.old.rest.now self.new.rest.now result }
+    {
+        let Some((token, rest)) = next(self.rest) else {
+            return Err(self.no_tree());
+        };
+        match &token.token.kind {
+            Kind::Number(number) => {
+                self.rest = rest;
+                Ok(*number)
+            }
+            _ => Err(self.no_tree()),
+        }
+    }
+
+    /// Goes behind a text literal, for its content.
+    #[tactic(auto, using(crate::proofs::Using::quoted_is))]
+    pub fn words(&mut self) -> Result<Text, Stop>
+        ensures { IsTaken quoted self.old.rest.now self.new.rest.now result }
+    {
+        let Some((token, rest)) = next(self.rest) else {
+            return Err(self.no_tree());
+        };
+        match &token.token.kind {
+            Kind::Words(text) => {
+                self.rest = rest;
+                Ok(text.copy()?)
+            }
+            _ => Err(self.no_tree()),
+        }
+    }
+
+    /// Goes behind a word of any kind.
+    #[tactic(auto, using(crate::proofs::Using::member_word_is))]
+    pub fn member(&mut self) -> Result<Text, Stop>
+        ensures { IsTaken member_word self.old.rest.now self.new.rest.now result }
+    {
+        let Some((token, rest)) = next(self.rest) else {
+            return Err(self.no_tree());
+        };
+        match &token.token.kind {
+            Kind::Name(text) | Kind::Word(text) => {
+                self.rest = rest;
+                Ok(text.copy()?)
+            }
+            _ => Err(self.no_tree()),
+        }
+    }
+
+    /// Goes behind the key of a field.
+    #[tactic(auto, using(crate::proofs::Using::key_is))]
+    pub fn key(&mut self) -> Result<Text, Stop>
+        ensures { IsTaken key self.old.rest.now self.new.rest.now result }
+    {
+        let Some((token, rest)) = next(self.rest) else {
+            return Err(self.no_tree());
+        };
+        match &token.token.kind {
+            Kind::Name(text) | Kind::Word(text) | Kind::Words(text) => {
+                self.rest = rest;
+                Ok(text.copy()?)
+            }
+            _ => Err(self.no_tree()),
+        }
+    }
+
+    /// Goes behind `++` or `--`.
+    pub fn step(&mut self) -> Result<Step, Stop>
+        ensures { IsTaken step self.old.rest.now self.new.rest.now result }
+    {
+        let Some((token, rest)) = next(self.rest) else {
+            return Err(self.no_tree());
+        };
+        let Some(step) = step_at(token) else {
+            return Err(self.no_tree());
+        };
+        self.rest = rest;
+        Ok(step)
+    }
+
+    /// Goes behind the operator of an assignment.
+    pub fn assign_op(&mut self) -> Result<AssignOp, Stop>
+        ensures { IsTaken assign_op self.old.rest.now self.new.rest.now result }
+    {
+        let Some((token, rest)) = next(self.rest) else {
+            return Err(self.no_tree());
+        };
+        let Some(operator) = assign_at(token) else {
+            return Err(self.no_tree());
+        };
+        self.rest = rest;
+        Ok(operator)
+    }
+
+    /// Goes behind `const` or `let`.
+    pub fn lexical(&mut self) -> Result<DeclareKind, Stop>
+        ensures { IsTaken lexical self.old.rest.now self.new.rest.now result }
+    {
+        let Some((token, rest)) = next(self.rest) else {
+            return Err(self.no_tree());
+        };
+        let Some(kind) = lexical_at(token) else {
+            return Err(self.no_tree());
+        };
+        self.rest = rest;
+        Ok(kind)
     }
 }

@@ -1,41 +1,23 @@
 //! Where a statement ends.
 ghost use Rattle.std.specs.Prelude.{◌≡◌, ◌≤◌, length, IfOk};
-ghost use Rattle.js_tree.specs.Views.{plain_expr};
-ghost use Rattle.js_tree.specs.Endings.{ending, update_ending};
-ghost use Rattle.js_grammar.specs.Tokens.{can_continue, ends_return};
+ghost use Rattle.js_grammar.specs.Ends.{can_continue, ends_return};
+ghost use Rattle.js_grammar.specs.Tokens.{end_before};
 ghost use Rattle.js_steps.specs.Seen.{seen};
-ghost use Rattle.js_steps.specs.Skipped.{IsEnded};
+ghost use Rattle.js_steps.specs.Passed.{IsOver};
 
-use crate::cursor::{is_sort, next, no_tree};
-use crate::{Lexeme, Stop};
+use crate::cursor::{is_sort, next};
+use crate::{Cursor, Lexeme, Stop};
 use js_grammar::Sort;
-use js_tree::{Ending, Expr, Fix, Form};
+use js_tree::Ending;
 
-fn update_ends(fix: Fix) -> Ending
-    ensures { result ≡ update_ending fix }
+/// The place behind the last token before the rest.
+pub fn end_of(tokens: &[Lexeme], rest: &[Lexeme]) -> u32
+    ensures { result ≡ end_before (seen tokens.now) (seen rest.now) }
 {
-    match fix {
-        Fix::Before => Ending::Value,
-        Fix::After => Ending::Update,
-    }
-}
-
-/// What an expression ends in.
-pub fn ending_of(tree: &Expr) -> Ending
-    ensures { result ≡ ending (plain_expr tree.now) }
-{
-    if tree.parens > 0 {
-        return Ending::Value;
-    }
-    match &tree.form {
-        Form::Unary(_, last) => ending_of(last),
-        Form::Update(_, fix, _) => update_ends(*fix),
-        Form::Binary(_, _, last) => ending_of(last),
-        Form::Conditional(_, _, last) => ending_of(last),
-        Form::Assign(_, _, last) => ending_of(last),
-        Form::ArrowValue(_, _, last) => ending_of(last),
-        Form::ArrowBlock(_, _, _) => Ending::Closed,
-        _ => Ending::Value,
+    let last = tokens.len().saturating_sub(rest.len()).saturating_sub(1);
+    match tokens.get(last) {
+        Some(token) => token.token.to,
+        None => 0,
     }
 }
 
@@ -54,23 +36,6 @@ fn continues(ending: Ending, sort: Sort) -> bool
     }
 }
 
-/// The tokens behind the end of a statement.
-pub fn end_behind<'a>(tokens: &'a [Lexeme], ends: Ending) -> Result<&'a [Lexeme], Stop>
-    ensures read { IsEnded ends tokens.now result }
-    ensures shorter { IfOk result (λ rest. length rest.now ≤ length tokens.now) }
-{
-    let Some((token, rest)) = next(tokens) else {
-        return Ok(tokens);
-    };
-    if is_sort(token, Sort::Semicolon) {
-        return Ok(rest);
-    }
-    if is_sort(token, Sort::RightBrace) || token.token.new_line && !continues(ends, token.sort) {
-        return Ok(tokens);
-    }
-    Err(no_tree(tokens))
-}
-
 /// Whether a `return` ends here without a value.
 pub fn is_return_end(tokens: &[Lexeme]) -> bool
     ensures { result ≡ ends_return (seen tokens.now) }
@@ -80,5 +45,27 @@ pub fn is_return_end(tokens: &[Lexeme]) -> bool
             || is_sort(token, Sort::Semicolon)
             || is_sort(token, Sort::RightBrace),
         None => true,
+    }
+}
+
+impl<'a> Cursor<'a> {
+    /// Goes behind the end of a statement that ends so.
+    pub fn end(&mut self, ends: Ending) -> Result<(), Stop>
+        ensures over { IsOver ends self.old.rest.now self.new.rest.now result }
+        ensures shorter { IfOk result (λ _. length self.new.rest.now ≤ length self.old.rest.now) }
+    {
+        let Some((token, rest)) = next(self.rest) else {
+            return Ok(());
+        };
+        if is_sort(token, Sort::Semicolon) {
+            self.rest = rest;
+            return Ok(());
+        }
+        if is_sort(token, Sort::RightBrace)
+            || token.token.new_line && !continues(ends, token.sort)
+        {
+            return Ok(());
+        }
+        Err(self.no_tree())
     }
 }

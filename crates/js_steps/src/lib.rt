@@ -1,18 +1,17 @@
-//! Steps over tokens, and trees made from their parts.
+//! A cursor over tokens and its steps, and what a reader finds.
 #![tactic(auto)]
 
-pub mod build;
 pub mod cursor;
 pub mod ends;
+mod found;
 mod lexeme;
-pub mod names;
-pub mod parts;
+mod names;
 pub mod peek;
-pub mod read;
 mod sorting;
-pub mod statements;
 mod stop;
 
+pub use cursor::Cursor;
+pub use found::{Answer, Found, binary, callee_depth, expr_at, object_depth, stmt_at};
 pub use lexeme::Lexeme;
 pub use sorting::lexemes;
 pub use stop::Stop;

@@ -1,38 +1,14 @@
 //! The parameters of functions.
-ghost use Rattle.std.specs.Prelude.{◌≡◌, ◌<◌, ◌∷◌, [], length, IfOk, MatchResult};
-ghost use Rattle.js_grammar.specs.Reader.{params, header, opening, arrow_after as then_arrow};
+ghost use Rattle.std.specs.Prelude.{◌≡◌, ◌∷◌, [], MatchResult};
+ghost use Rattle.js_grammar.specs.Reading.{params, header, opening, arrow_after as then_arrow};
 ghost use Rattle.js_steps.specs.declared.stop.Stop.TheVariants.{Memory};
-ghost use Rattle.js_steps.specs.Seen.{seen};
-ghost use Rattle.js_steps.specs.Parsed.{IsNames};
+ghost use Rattle.js_steps.specs.Read.{IsGiven};
 
-use crate::cursor::{name, no_tree, skip};
 use crate::peek::begins_arrow;
-use crate::read::ReadNames;
-use crate::{Lexeme, Stop};
+use crate::{Cursor, Stop};
 use js_grammar::Sort;
 use js_tree::Name;
 use std::alloc::Global;
-
-/// Names separated by commas, and `)`.
-#[tactic(auto, using(crate::proofs::Loops::params_turn, crate::proofs::Loops::next_param_none))]
-pub fn parameters<'a>(alloc: Global, tokens: &'a [Lexeme]) -> Result<ReadNames<'a>, Stop>
-    ensures read { IsNames (params (seen tokens.now)) result }
-    ensures shorter { IfOk result (λ found. length found.rest.now < length tokens.now) }
-{
-    let mut names = Vec::new(alloc);
-    let mut rest = tokens;
-    'more: loop {
-        if let Ok(rest) = skip(rest, Sort::RightParen) {
-            return Ok(ReadNames { names, rest });
-        }
-        let (x, behind) = name(rest)?;
-        names.push(x)?;
-        if let Ok(rest) = skip(behind, Sort::RightParen) {
-            return Ok(ReadNames { names, rest });
-        }
-        rest = skip(behind, Sort::Comma)?;
-    }
-}
 
 fn one_name(alloc: Global, name: Name) -> Result<Vec<Name>, Stop>
     ensures { MatchResult result (λ names. names.items ≡ name ∷ []) (λ e. e ≡ Memory) }
@@ -42,46 +18,59 @@ fn one_name(alloc: Global, name: Name) -> Result<Vec<Name>, Stop>
     Ok(names)
 }
 
-fn arrow_after<'a>(found: ReadNames<'a>) -> Result<ReadNames<'a>, Stop>
-    ensures read { IsNames (then_arrow found.entry.names.items (seen found.entry.rest.now)) result }
-    ensures shorter { IfOk result (λ after. length after.rest.now < length found.entry.rest.now) }
-{
-    if !begins_arrow(found.rest) {
-        return Err(no_tree(found.rest));
+impl<'a> Cursor<'a> {
+    /// Names separated by commas, and `)`.
+    #[tactic(auto, using(crate::proofs::Loops::params_turn, crate::proofs::Loops::next_param_none))]
+    pub fn parameters(&mut self) -> Result<Vec<Name>, Stop>
+        ensures { IsGiven (λ names. names.items) params self.old self.new result }
+    {
+        let mut names = Vec::new(self.alloc);
+        'more: loop {
+            if self.skips(Sort::RightParen) {
+                return Ok(names);
+            }
+            names.push(self.name()?)?;
+            if self.skips(Sort::RightParen) {
+                return Ok(names);
+            }
+            self.pass(Sort::Comma)?;
+        }
     }
-    let rest = skip(found.rest, Sort::Arrow)?;
-    Ok(ReadNames {
-        names: found.names,
-        rest,
-    })
-}
 
-/// The parameters of an arrow function, and `=>`.
-#[tactic(auto, using(crate::proofs::Loops::header_paren, crate::proofs::Loops::header_name, crate::proofs::Loops::header_none))]
-pub fn arrow_header<'a>(alloc: Global, tokens: &'a [Lexeme]) -> Result<ReadNames<'a>, Stop>
-    ensures read { IsNames (header (seen tokens.now)) result }
-    ensures shorter { IfOk result (λ found. length found.rest.now < length tokens.now) }
-{
-    if let Ok(rest) = skip(tokens, Sort::LeftParen) {
-        return arrow_after(parameters(alloc, rest)?);
+    /// `=>` behind the parameters.
+    #[tactic(auto, using(crate::proofs::Loops::no_arrow))]
+    fn arrow_after(&mut self, names: Vec<Name>) -> Result<Vec<Name>, Stop>
+        ensures { IsGiven (λ xs. xs.items) (then_arrow names.items) self.old self.new result }
+    {
+        if !begins_arrow(self.rest) {
+            return Err(self.no_tree());
+        }
+        self.pass(Sort::Arrow)?;
+        Ok(names)
     }
-    let (x, rest) = name(tokens)?;
-    arrow_after(ReadNames {
-        names: one_name(alloc, x)?,
-        rest,
-    })
-}
 
-/// The parameters of a function, and `{`.
-pub fn opening_of<'a>(alloc: Global, tokens: &'a [Lexeme]) -> Result<ReadNames<'a>, Stop>
-    ensures read { IsNames (opening (seen tokens.now)) result }
-    ensures shorter { IfOk result (λ found. length found.rest.now < length tokens.now) }
-{
-    let rest = skip(tokens, Sort::LeftParen)?;
-    let found = parameters(alloc, rest)?;
-    let rest = skip(found.rest, Sort::LeftBrace)?;
-    Ok(ReadNames {
-        names: found.names,
-        rest,
-    })
+    /// The parameters of an arrow function, and `=>`.
+    #[tactic(auto, using(crate::proofs::Loops::header_paren, crate::proofs::Loops::header_name, crate::proofs::Loops::header_none))]
+    pub fn arrow_header(&mut self) -> Result<Vec<Name>, Stop>
+        ensures { IsGiven (λ names. names.items) header self.old self.new result }
+    {
+        if self.skips(Sort::LeftParen) {
+            let names = self.parameters()?;
+            return self.arrow_after(names);
+        }
+        let name = self.name()?;
+        let names = one_name(self.alloc, name)?;
+        self.arrow_after(names)
+    }
+
+    /// The parameters of a function, and `{`.
+    #[tactic(auto, using(crate::proofs::Using::after_none))]
+    pub fn opening(&mut self) -> Result<Vec<Name>, Stop>
+        ensures { IsGiven (λ names. names.items) opening self.old self.new result }
+    {
+        self.pass(Sort::LeftParen)?;
+        let names = self.parameters()?;
+        self.pass(Sort::LeftBrace)?;
+        Ok(names)
+    }
 }

@@ -1,7 +1,10 @@
 //! Tests on the first tokens.
 ghost use Rattle.std.specs.Prelude.{◌≡◌, is_some};
 ghost use Rattle.js_grammar.specs.Sorts.{named};
-ghost use Rattle.js_grammar.specs.Tokens.{operator, level_of, at_level, operator_at, sort_sign, sign, sort_step, step, sort_assign, assign_op, sort_declare, declares, lexical, is_of, starts_step, starts_update, starts_arrow, arrow_follows, starts_function, starts_set, starts_assign, starts_end, starts_lexical, starts_of, starts_name_of, starts_for_of};
+ghost use Rattle.js_grammar.specs.Operators.{operator, level_of, at_level, operator_at, sort_sign, sign, sort_step, step, sort_assign, assign_op};
+ghost use Rattle.js_grammar.specs.Arrows.{starts_arrow, arrow_follows, starts_function};
+ghost use Rattle.js_grammar.specs.Ends.{starts_end};
+ghost use Rattle.js_grammar.specs.Tokens.{sort_declare, declares, lexical, is_of, starts_step, starts_update, starts_set, starts_assign, starts_lexical, starts_of, starts_name_of, starts_for_of, is_const};
 ghost use Rattle.js_steps.specs.Seen.{seen};
 
 use crate::Lexeme;
@@ -308,5 +311,16 @@ pub fn begins_for_of(tokens: &[Lexeme]) -> bool
     match next(tokens) {
         Some((token, rest)) => lexical_at(token).is_some() && begins_name_of(rest),
         None => false,
+    }
+}
+
+/// Whether the word is `const`.
+pub fn is_constant(kind: DeclareKind) -> bool
+    ensures { result ≡ is_const kind }
+{
+    match kind {
+        DeclareKind::Const => true,
+        DeclareKind::Let => false,
+        DeclareKind::Var => false,
     }
 }

@@ -1,2 +1,3 @@
 pub mod Forms
 pub mod Statements
+pub mod Rows

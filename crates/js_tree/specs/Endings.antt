@@ -1,5 +1,5 @@
 -- What the last part of a statement ends in.
-use Rattle.std.specs.Prelude.{zero, suc, List, fold}
+use Rattle.std.specs.Prelude.{List, fold}
 use Rattle.js_tree.specs.declared.ending.Ending.{Ending}
 use Rattle.js_tree.specs.declared.ending.Ending.TheVariants.{Value, Update, Closed}
 use Rattle.js_tree.specs.declared.tree.Fix.{Fix}
@@ -10,11 +10,10 @@ abbrev pub update_ending : Fix → Ending
 update_ending Before = Value
 update_ending After = Update
 
--- by its last token: an expression in parentheses ends in a value
+-- by its last part
 abbrev mutual
   pub ending : PlainExpr → Ending
-  ending (at zero line form) = form_ending form
-  ending (at (suc n) line form) = Value
+  ending (at parens line form) = form_ending form
 
   pub form_ending : PlainForm → Ending
   form_ending (unary s e) = ending e

@@ -1,5 +1,5 @@
 use Rattle.std.proofs.Common.{◌∙◌, ap, sym, arith, length}
-use Rattle.js_grammar.specs.Tokens.{arrow_follows}
+use Rattle.js_grammar.specs.Arrows.{arrow_follows}
 use Rattle.js_steps.specs.Seen.{seen}
 use Rattle.js_steps.proofs.Using.{past_close}
 use Rattle.js_steps.proofs.peek.arrow_behind.Goals as goal

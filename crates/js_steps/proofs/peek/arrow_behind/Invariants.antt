@@ -1,5 +1,5 @@
 use Rattle.std.proofs.Common.{◌≡◌, ◌≤◌, ◌+◌, length}
-use Rattle.js_grammar.specs.Tokens.{arrow_follows}
+use Rattle.js_grammar.specs.Arrows.{arrow_follows}
 use Rattle.js_steps.specs.Seen.{seen}
 use Rattle.js_steps.proofs.peek.arrow_behind.Given as goal
 

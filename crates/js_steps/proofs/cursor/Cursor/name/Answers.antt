@@ -1,7 +1,7 @@
 use Rattle.std.proofs.Common.{◌∙◌, ap}
 use Rattle.js_grammar.specs.Sorts.{kind_name, name_at, spot}
 use Rattle.js_steps.proofs.Using.{named_is, name_same}
-use Rattle.js_steps.proofs.cursor.name.Goals as goal
+use Rattle.js_steps.proofs.cursor.Cursor.name.Goals as goal
 
 pub returns-in_ok-copy-in-Name : goal.returns-in_ok-copy-in-Name
 returns-in_ok-copy-in-Name c = (

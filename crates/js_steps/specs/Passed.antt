@@ -1,0 +1,52 @@
+-- Where a cursor stands behind a mark, a word, or a token that holds something.
+use Rattle.std.specs.Prelude.{◌≡◌, Bool, true, false, List, [], ◌∷◌, Option, Some, None, Result, Ok, Err}
+use Rattle.js_lexer.specs.declared.token.Token.{Token}
+use Rattle.js_tree.specs.declared.ending.Ending.{Ending}
+use Rattle.js_tree.specs.declared.tree.Spot.{Spot}
+use Rattle.js_grammar.specs.declared.sort.Sort.{Sort}
+use Rattle.js_grammar.specs.Sorts.{sort, spot}
+use Rattle.js_grammar.specs.Tokens.{starts}
+use Rattle.js_grammar.specs.Reading.{Found, ended_rest}
+use Rattle.js_steps.specs.declared.lexeme.Lexeme.{Lexeme}
+use Rattle.js_steps.specs.declared.stop.Stop.{Stop}
+use Rattle.js_steps.specs.declared.stop.Stop.TheVariants.{NoTree, Memory}
+use Rattle.js_steps.specs.Seen.{seen}
+
+-- behind it, if it stood there, and else where it was
+abbrev pub Skips : Sort → List Lexeme → List Lexeme → Bool → Type 0
+Skips k before behind true = (x : Lexeme) × (before ≡ x ∷ behind) × (sort x.token ≡ k)
+Skips k before behind false = (before ≡ behind) × (starts k (seen before) ≡ false)
+
+-- behind it; else there is no tree
+abbrev pub IsPassed : Sort → List Lexeme → List Lexeme → Result (Unit {0}) Stop → Type 0
+IsPassed k before behind (Ok u) = (x : Lexeme) × (before ≡ x ∷ behind) × (sort x.token ≡ k)
+IsPassed k before behind (Err (NoTree left)) = starts k (seen before) ≡ false
+IsPassed k before behind (Err Memory) = ⊥
+
+-- behind the first token, which stands there; else there is none
+abbrev pub IsBumped : List Lexeme → List Lexeme → Result Spot Stop → Type 0
+IsBumped before behind (Ok s) = (x : Lexeme) × (before ≡ x ∷ behind) × (s ≡ spot x.token)
+IsBumped before behind (Err (NoTree left)) = before ≡ []
+IsBumped before behind (Err Memory) = ⊥
+
+-- what the first token holds
+abbrev pub first : {A : Type 0} → (Token → Option A) → List Token → Option A
+first g [] = None
+first g (t ∷ ts) = g t
+
+-- what is read at the first token and those behind it
+abbrev pub at_first : {A : Type 0} → (Token → List Token → Found A) → List Token → Found A
+at_first reads [] = None
+at_first reads (t ∷ ts) = reads t ts
+
+-- behind the first token, which holds this; else there is no tree
+abbrev pub IsTaken : {A : Type 0} → (Token → Option A) → List Lexeme → List Lexeme → Result A Stop → Type 0
+IsTaken g before behind (Ok a) = (x : Lexeme) × (before ≡ x ∷ behind) × (g x.token ≡ Some a)
+IsTaken g before behind (Err (NoTree left)) = first g (seen before) ≡ None
+IsTaken g before behind (Err Memory) = Unit {0}
+
+-- behind the end of a statement; else there is no tree
+abbrev pub IsOver : Ending → List Lexeme → List Lexeme → Result (Unit {0}) Stop → Type 0
+IsOver ends before behind (Ok u) = ended_rest ends (seen before) ≡ Some (seen behind)
+IsOver ends before behind (Err (NoTree left)) = ended_rest ends (seen before) ≡ None
+IsOver ends before behind (Err Memory) = ⊥
