@@ -40,7 +40,7 @@ use Rattle.js_program.specs.declared.node.Content.TheVariants as content
 use Rattle.js_frames.specs.Leads.{IsBegin, Rests, Leads, pushed, entered, first_of}
 use Rattle.js_frames.proofs.InOrder.{bind_same}
 use Rattle.js_frames.proofs.Lists.{drop_at, drop_past}
-use Rattle.js_frames.proofs.Steps.{plug_pushed, fits_pushed, on_ok, ok_both, wait_leads, completes_at, fails_at, moves}
+use Rattle.js_frames.proofs.Steps.{within_after, plug_pushed, fits_pushed, on_ok, ok_both, wait_leads, completes_at, fails_at, moves}
 
 -- what a body does after it was entered, with the frame that waits for its first part
 abbrev pub body_frame : PlainContent → Sequence → Frame
@@ -88,7 +88,7 @@ module _ (base : js.Ground) (old : Place) (body : PlainBody) (active : ℕ) (cap
             ∙ ap (λ ss. plug (setting_at base old) old.stack (after_call old.slots old.calls (runs (eval (setting_at base old)) body.content (record (state_at old beside) { slots = ss; calls = active })))) made;
         same_mode = l.same_mode;
         same_budget = l.same_budget;
-        same_fuel = l.same_fuel;
+        within = within_after old there new refl l.within;
         stack_fits = l.stack_fits;
         step_fits = l.step_fits;
         rests = subst (λ q. Rests q old.stack new.stack) (sym both.0) tt;
@@ -178,7 +178,7 @@ module _ (base : js.Ground) (old new : Place) (w further : Walk) (body : PlainBo
             ∙ ap (plug (setting_at base old) old.stack) (element beside);
         same_mode = l.same_mode;
         same_budget = l.same_budget;
-        same_fuel = l.same_fuel;
+        within = within_after old (pushed old (Waiting (Walked further))) new refl l.within;
         stack_fits = l.stack_fits;
         step_fits = l.step_fits;
         rests = begun_rests step old.stack new.stack both.0;

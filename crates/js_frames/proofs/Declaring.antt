@@ -24,7 +24,7 @@ use Rattle.js_frames.specs.declared.frame.Frame.TheVariants.{Waiting}
 use Rattle.js_frames.specs.Fits.{IsNode, FrameFits, StackFits}
 use Rattle.js_frames.proofs.InOrder.{bind_twice}
 use Rattle.js_frames.proofs.Lists.{drop_at, drop_past}
-use Rattle.js_frames.proofs.Steps.{moves, moves_ok, on_ok, wait_leads}
+use Rattle.js_frames.proofs.Steps.{limits, moves, moves_ok, on_ok, wait_leads}
 use Rattle.js_frames.specs.Places.{Place, Beside, setting_at, state_at, put_at, undefined_at, held_at}
 
 -- where a declared variable has its value
@@ -44,6 +44,11 @@ pub held_here : (base : js.Ground) (x : Variable) (old : Place) (b : Beside) →
 held_here base (Slot k) old b = refl
 held_here base (Constant k) old b = refl
 
+-- the same, with any fuel
+pub held_with : (base : js.Ground) (x : Variable) (m : Place) (fuel : ℕ) (b : Beside) → held base x (state_at (record m { fuel = fuel }) b) ≡ held_at base x m
+held_with base (Slot k) m fuel b = refl
+held_with base (Constant k) m fuel b = refl
+
 -- a place after a variable was put has the same stack, mode, budget and fuel
 pub put_stack : (x : Variable) (y : PlainValue) (m : Place) → (let q = put_at x y m in q.stack) ≡ m.stack
 put_stack (Slot k) y m = refl
@@ -57,9 +62,9 @@ pub put_budget : (x : Variable) (y : PlainValue) (m : Place) → (let q = put_at
 put_budget (Slot k) y m = refl
 put_budget (Constant k) y m = refl
 
-pub put_fuel : (x : Variable) (y : PlainValue) (m : Place) → (let q = put_at x y m in q.fuel) ≡ m.fuel
-put_fuel (Slot k) y m = refl
-put_fuel (Constant k) y m = refl
+pub put_limits : (x : Variable) (y : PlainValue) (m : Place) → limits (put_at x y m) ≡ limits m
+put_limits (Slot k) y m = refl
+put_limits (Constant k) y m = refl
 
 -- a place with a variable put leads on as before, from the variable's value on
 pub declared_on : (base : js.Ground) (old mid new : Place) (n : ℕ) (x : Variable) (place : ℕ) (y : PlainValue) (r : Result Step AllocError) → mid ≡ put_at x y old → IfOk r (λ step. Leads base mid (declaring_from (setting_at base mid) (slice_get base.program.nodes n) place) new step) → IfOk r (λ step. Leads base old (λ s. declaring_from (setting_at base old) (slice_get base.program.nodes n) place (set_variable x y s)) new step)
@@ -73,11 +78,11 @@ pub record Onward (base : js.Ground) (old : Place) (n place : ℕ) (mid : Place)
   pub stack_same : mid.stack ≡ old.stack
   pub mode_same : mid.mode ≡ old.mode
   pub budget_same : mid.budget ≡ old.budget
-  pub fuel_same : mid.fuel ≡ old.fuel
+  pub limits_same : limits mid ≡ limits old
   pub same : (b : Beside) → declaring_from (setting_at base old) (slice_get base.program.nodes n) at (state_at mid b) ≡ declaring_from (setting_at base old) (slice_get base.program.nodes n) place (state_at old b)
 
 pub onward_first : (base : js.Ground) (old : Place) (n place : ℕ) → Onward base old n place old place
-onward_first base old n place = record { stack_same = refl; mode_same = refl; budget_same = refl; fuel_same = refl; same = λ b. refl }
+onward_first base old n place = record { stack_same = refl; mode_same = refl; budget_same = refl; limits_same = refl; same = λ b. refl }
 
 -- what is left of the declarators from one without a value
 skips : (g : Setting) (kind : DeclareKind) (ds : List PlainDeclared) (at : ℕ) (d : PlainDeclared) (s : State) → slice_get ds at ≡ Some d → d.value ≡ None → does_declaration (eval g) kind (drop (at + 1) ds) (without_value kind d.variable s) ≡ does_declaration (eval g) kind (drop at ds) s
@@ -93,7 +98,7 @@ onward_next base old n place mid new at next node kind ds d found is h e get non
       stack_same = ap (λ (q : Place). q.stack) put ∙ kept_stack kind d.variable mid ∙ h.stack_same;
       mode_same = ap (λ (q : Place). q.mode) put ∙ kept_mode kind d.variable mid ∙ h.mode_same;
       budget_same = ap (λ (q : Place). q.budget) put ∙ kept_budget kind d.variable mid ∙ h.budget_same;
-      fuel_same = ap (λ (q : Place). q.fuel) put ∙ kept_fuel kind d.variable mid ∙ h.fuel_same;
+      limits_same = ap limits put ∙ kept_limits kind d.variable mid ∙ h.limits_same;
       same = λ b.
           ap (λ k. declaring_from g (slice_get base.program.nodes n) k (state_at new b)) e
           ∙ ap (λ q. declaring_from g (slice_get base.program.nodes n) (at + 1) (state_at q b)) put
@@ -121,15 +126,15 @@ onward_next base old n place mid new at next node kind ds d found is h e get non
     kept_budget Let x m = put_budget x undefined m
     kept_budget Var x m = refl
 
-    kept_fuel : (kind : DeclareKind) (x : Variable) (m : Place) → (let q = undefined_at kind x m in q.fuel) ≡ m.fuel
-    kept_fuel Const x m = put_fuel x undefined m
-    kept_fuel Let x m = put_fuel x undefined m
-    kept_fuel Var x m = refl
+    kept_limits : (kind : DeclareKind) (x : Variable) (m : Place) → limits (undefined_at kind x m) ≡ limits m
+    kept_limits Const x m = put_limits x undefined m
+    kept_limits Let x m = put_limits x undefined m
+    kept_limits Var x m = refl
 
 -- what leads on from there leads on from the first place
 pub onward_leads : (base : js.Ground) (old : Place) (n place : ℕ) (mid new : Place) (at : ℕ) (step : Step) → Onward base old n place mid at → Leads base mid (declaring_from (setting_at base old) (slice_get base.program.nodes n) at) new step → Leads base old (declaring_from (setting_at base old) (slice_get base.program.nodes n) place) new step
 onward_leads base old n place mid new at step h l =
-    moves base old mid new _ (declaring_from (setting_at base old) (slice_get base.program.nodes n) at) step h.stack_same h.mode_same h.budget_same h.fuel_same h.same l
+    moves base old mid new _ (declaring_from (setting_at base old) (slice_get base.program.nodes n) at) step h.stack_same h.mode_same h.budget_same h.limits_same h.same l
 
 onward_setting : (base : js.Ground) (old : Place) (n place : ℕ) (mid : Place) (at : ℕ) → Onward base old n place mid at → setting_at base mid ≡ setting_at base old
 onward_setting base old n place mid at h =

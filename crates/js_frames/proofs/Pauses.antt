@@ -233,7 +233,8 @@ unfolding Stands future plug evaluation
 started base budget o engine new step e l0 =
     let l = subst (λ q. Leads base q (runs_body (setting_at base q) (eval (setting_at base q)) o) (place_of new) step) e l0 in
     let b = l.same_budget in
-    let f = l.same_fuel in
+    let less : new.fuel ≤ budget = l.within.less in
+    let least : budget ≤ new.fuel = l.within.above (omega arith) in
     record {
       next = Next step;
       is_next = refl;

@@ -1,5 +1,5 @@
 -- Steps of the machine, over its frames.
-use Rattle.std.proofs.Common.{◌≡◌, ℕ, zero, suc, ◌+◌, ◌-◌, ◌<◌, Bool, true, false, cond, List, [], ◌∷◌, ◌++◌, Option, Some, Result, Ok, Err, refl, sym, ap, ◌∙◌, subst, arith, inl, inr, ◌⊎◌}
+use Rattle.std.proofs.Common.{◌≡◌, ℕ, zero, suc, ◌+◌, ◌-◌, ◌≤◌, ◌<◌, Bool, true, false, cond, List, [], ◌∷◌, ◌++◌, Option, Some, Result, Ok, Err, refl, sym, ap, ◌∙◌, subst, arith, inl, inr, ◌⊎◌}
 use Rattle.std.specs.Prelude.{IfOk, slice_get}
 use Rattle.std.specs.declared.alloc.AllocError.{AllocError}
 use Rattle.js_data.specs.declared.fault.Fault.{Fault}
@@ -23,10 +23,11 @@ use Rattle.js_frames.specs.declared.step.Step.{Step}
 use Rattle.js_frames.specs.declared.step.Step.TheVariants.{Begin, Give, Ask, Fail, Violate}
 use Rattle.js_frames.specs.declared.frame.Part.{Part}
 use Rattle.js_frames.specs.declared.frame.Frame.{Frame}
+use Rattle.js_frames.specs.declared.frame.Frame.TheVariants.{Waiting}
 use Rattle.js_frames.specs.Places.{Place, Beside, setting_at, state_at}
 use Rattle.js_frames.specs.Frames.{plain_completion, rest, resume, plug, step_outcome, future}
 use Rattle.js_frames.specs.Fits.{IsNode, AreNodes, HasForm, FrameFits, StackFits, StepFits}
-use Rattle.js_frames.specs.Leads.{Rests, Leads, pushed, Keeps, IsSettled, Ran, Becomes, Picks, Gives, node_does}
+use Rattle.js_frames.specs.Leads.{Rests, Within, Leads, pushed, Keeps, IsSettled, Becomes, Picks, Gives, Gave, node_does, waits_for}
 
 -- the last frame takes the outcome first
 pub plug_pushed : (g : Setting) (st : List Frame) (f : Frame) (o : Outcome) → plug g (st ++ f ∷ []) o ≡ plug g st (resume g f o)
@@ -57,12 +58,62 @@ pub ok_both : (P Q : Step → Type 0) (r : Result Step AllocError) → IfOk r P 
 ok_both P Q (Ok x) f g = (f, g)
 ok_both P Q (Err e) f g = tt
 
+-- the fuel, and what is left of it at the end of the slice
+abbrev pub limits : Place → ℕ × ℕ
+limits m = (m.fuel, m.floor)
+
+pub within_after : (old mid new : Place) → limits mid ≡ limits old → Within mid new → Within old new
+within_after old mid new e w =
+    let fuel : mid.fuel ≡ old.fuel = ap (λ (q : ℕ × ℕ). q.0) e in
+    let floor : mid.floor ≡ old.floor = ap (λ (q : ℕ × ℕ). q.1) e in
+    let less = w.less in
+    record {
+      same_floor = w.same_floor ∙ floor;
+      less = omega arith;
+      above = λ h. let high : mid.floor ≤ new.fuel = w.above (omega arith) in omega arith;
+    }
+
+pub within_like : (old new : Place) → limits new ≡ limits old → Within old new
+within_like old new e = within_after old new new e (record { same_floor = refl; less = omega arith; above = λ h. h })
+
+pub within_trans : (a b c : Place) → Within a b → Within b c → Within a c
+within_trans a b c v w =
+    let floor = v.same_floor in
+    let first = v.less in
+    let second = w.less in
+    record {
+      same_floor = w.same_floor ∙ floor;
+      less = omega arith;
+      above = λ h. let mid = v.above h in let high : b.floor ≤ c.fuel = w.above (omega arith) in omega arith;
+    }
+
+-- one more node began, above the end of the slice
+pub within_begun : (first at new : Place) → Within first at → at.floor < at.fuel → Within (record at { fuel = at.fuel - 1 }) new → Within first new
+within_begun first at new v room w =
+    let floor = v.same_floor in
+    let before = v.less in
+    let after : new.fuel ≤ at.fuel - 1 = w.less in
+    record {
+      same_floor = w.same_floor ∙ floor;
+      less = omega arith;
+      above = λ h. let high : at.floor ≤ new.fuel = w.above (omega arith) in omega arith;
+    }
+
+pub begins_one : (fuel : ℕ) (go : State → Outcome) (s : State) → 0 < fuel → begins_with fuel go s ≡ go (record s { fuel = fuel - 1 })
+begins_one zero go s h = absurd (omega arith)
+begins_one (suc f) go s h = let e : f ≡ suc f - 1 = omega arith in ap (λ k. go (record s { fuel = k })) e
+
 rests_same : (step : Step) (st : List Frame) → Rests step st st
 rests_same (Begin n) st = tt
 rests_same (Give c) st = refl
 rests_same (Ask s p l) st = tt
 rests_same (Fail f l) st = tt
 rests_same (Violate t) st = tt
+
+-- the node only gives this value where the machine stands, however much fuel there is
+abbrev pub OnlyGives : js.Ground → Place → ℕ → PlainValue → Type 0
+OnlyGives base m n x =
+    (fuel : ℕ) → (beside : Beside) → let at = state_at (record m { fuel = fuel }) beside in node_does (setting_at base m) n at ≡ gives x at
 
 module _ (base : js.Ground) where
   -- a part begins, and a frame waits for it
@@ -72,7 +123,7 @@ module _ (base : js.Ground) where
     same = λ beside. plug_pushed (setting_at base old) old.stack frame _ ∙ ap (plug (setting_at base old) old.stack) (h (state_at old beside));
     same_mode = refl;
     same_budget = refl;
-    same_fuel = refl;
+    within = within_like old (pushed old frame) refl;
     stack_fits = fits_pushed base.program old.stack frame fits frame_fits;
     step_fits = part_fits;
     rests = tt;
@@ -90,7 +141,7 @@ module _ (base : js.Ground) where
     same = λ beside. ap (plug (setting_at base old) old.stack) (h beside);
     same_mode = refl;
     same_budget = refl;
-    same_fuel = refl;
+    within = within_like old old refl;
     stack_fits = fits;
     step_fits = step_fits;
     rests = rests_same step old.stack;
@@ -125,7 +176,7 @@ module _ (base : js.Ground) where
   left old o step e fits h = subst (Leads base old o old) (sym e) (completes old o (Normal Undefined) fits h)
 
   -- from a place that differs in the slots, the constants, the calls and the effects
-  pub moves : (old mid new : Place) (o o' : State → Outcome) (step : Step) → mid.stack ≡ old.stack → mid.mode ≡ old.mode → mid.budget ≡ old.budget → mid.fuel ≡ old.fuel → ((beside : Beside) → o' (state_at mid beside) ≡ o (state_at old beside)) → Leads base mid o' new step → Leads base old o new step
+  pub moves : (old mid new : Place) (o o' : State → Outcome) (step : Step) → mid.stack ≡ old.stack → mid.mode ≡ old.mode → mid.budget ≡ old.budget → limits mid ≡ limits old → ((beside : Beside) → o' (state_at mid beside) ≡ o (state_at old beside)) → Leads base mid o' new step → Leads base old o new step
   moves old mid new o o' step st m b f h l = record {
     same = λ beside. l.same beside
         ∙ ap (λ q. plug (record { base = base; mode = mid.mode; budget = q }) mid.stack (o' (state_at mid beside))) b
@@ -134,7 +185,7 @@ module _ (base : js.Ground) where
         ∙ ap (plug (setting_at base old) old.stack) (h beside);
     same_mode = l.same_mode ∙ m;
     same_budget = l.same_budget ∙ b;
-    same_fuel = l.same_fuel ∙ f;
+    within = within_after old mid new f l.within;
     stack_fits = l.stack_fits;
     step_fits = l.step_fits;
     rests = subst (λ fs. Rests step fs new.stack) st l.rests;
@@ -147,18 +198,57 @@ module _ (base : js.Ground) where
   pub means_ok : (old new : Place) (o o' : State → Outcome) (r : Result Step AllocError) → IfOk r (λ step. Leads base old o' new step) → ((s : State) → o' s ≡ o s) → IfOk r (λ step. Leads base old o new step)
   means_ok old new o o' r w h = on_ok r (λ step l. means old new o o' step h l) w
 
-  pub moves_ok : (old mid new : Place) (o o' : State → Outcome) (r : Result Step AllocError) → mid.stack ≡ old.stack → mid.mode ≡ old.mode → mid.budget ≡ old.budget → mid.fuel ≡ old.fuel → ((beside : Beside) → o' (state_at mid beside) ≡ o (state_at old beside)) → IfOk r (λ step. Leads base mid o' new step) → IfOk r (λ step. Leads base old o new step)
+  pub moves_ok : (old mid new : Place) (o o' : State → Outcome) (r : Result Step AllocError) → mid.stack ≡ old.stack → mid.mode ≡ old.mode → mid.budget ≡ old.budget → limits mid ≡ limits old → ((beside : Beside) → o' (state_at mid beside) ≡ o (state_at old beside)) → IfOk r (λ step. Leads base mid o' new step) → IfOk r (λ step. Leads base old o new step)
   moves_ok old mid new o o' r st m b f h w = on_ok r (λ step l. moves old mid new o o' step st m b f h l) w
 
   pub becomes_ok : (old : Place) (o : State → Outcome) (q : Setting → State → Outcome) (r : Result Step AllocError) → StackFits base.program old.stack → IfOk r (Becomes q) → ((s : State) → q (setting_at base old) s ≡ o s) → IfOk r (λ step. Leads base old o old step)
   becomes_ok old o q r fits w h = on_ok r (λ step b. becomes old o q step fits b h) w
+
+  -- a part that only gives a value begins
+  pub gave_one : (old new : Place) (n : ℕ) (x : PlainValue) → OnlyGives base old n x → old.floor < old.fuel → new ≡ record old { fuel = old.fuel - 1 } → Gave base old n x new
+  gave_one old new n x h room e =
+      let some : 0 < old.fuel = omega arith in record {
+        same = λ beside. eval_begins (setting_at base old) n (state_at old beside)
+            ∙ begins_one old.fuel (node_does (setting_at base old) n) (state_at old beside) some
+            ∙ h (old.fuel - 1) beside
+            ∙ ap (λ q. gives x (state_at q beside)) (sym e);
+        one_less = e;
+        room = room;
+      }
+
+  pub gave_fits : (old mid : Place) (n : ℕ) (x : PlainValue) → Gave base old n x mid → StackFits base.program old.stack → StackFits base.program mid.stack
+  gave_fits old mid n x v fits = subst (λ (q : Place). StackFits base.program q.stack) (sym v.one_less) fits
+
+  -- what would wait for it goes on with the value
+  pub gave_leads : (old mid new : Place) (part : Part) (n : ℕ) (x : PlainValue) (step : Step) → Gave base old n x mid → Leads base mid (rest (setting_at base mid) part x) new step → Leads base old (waits_for (setting_at base old) (Waiting part) n) new step
+  unfolding resume
+  gave_leads old mid new part n x step v l0 =
+      let g = setting_at base old in
+      let there = record old { fuel = old.fuel - 1 } in
+      let l = subst (λ q. Leads base q (rest (setting_at base q) part x) new step) v.one_less l0 in record {
+        same = λ beside. l.same beside ∙ ap (λ o. plug g old.stack (resume g (Waiting part) o)) (sym (v.same beside ∙ ap (λ q. gives x (state_at q beside)) v.one_less));
+        same_mode = l.same_mode;
+        same_budget = l.same_budget;
+        within = within_begun old old new (within_like old old refl) v.room l.within;
+        stack_fits = l.stack_fits;
+        step_fits = l.step_fits;
+        rests = l.rests;
+      }
+
+  pub gave_on : (old mid new : Place) (part : Part) (n : ℕ) (x : PlainValue) (r : Result Step AllocError) → Gave base old n x mid → IfOk r (λ step. Leads base mid (rest (setting_at base mid) part x) new step) → IfOk r (λ step. Leads base old (waits_for (setting_at base old) (Waiting part) n) new step)
+  gave_on old mid new part n x r v w = on_ok r (λ step l. gave_leads old mid new part n x step v l) w
+
+  -- what has to wait
+  pub waits_still : (old mid new : Place) (frame : Frame) (part : ℕ) (r : Result Step AllocError) → StackFits base.program old.stack → mid ≡ old → IfOk r (λ step. (step ≡ Begin part) × (new ≡ pushed mid frame)) → FrameFits base.program frame → IsNode base.program part → IfOk r (λ step. Leads base old (waits_for (setting_at base old) frame part) new step)
+  waits_still old mid new frame part r fits e w frame_fits part_fits =
+      wait_leads old new _ r frame part fits (subst (λ q. IfOk r (λ step. (step ≡ Begin part) × (new ≡ pushed q frame))) e w) frame_fits part_fits (λ s. refl)
 
   -- what `begin` answers for a node of this form
   module _ (old : Place) (n : ℕ) (found : Node) (at : slice_get base.program.nodes n ≡ Some (plain_node found)) (form : NodeForm) (is : found.form ≡ form) where
     abbrev node_at : State → Outcome
     node_at s = does (setting_at base old) (eval (setting_at base old)) (turns_of (setting_at base old)) found.line (plain_node_form form) s
 
-    at_node : (s : State) → node_at s ≡ node_does (setting_at base old) n s
+    pub at_node : (s : State) → node_at s ≡ node_does (setting_at base old) n s
     at_node s =
         ap (λ f. does (setting_at base old) (eval (setting_at base old)) (turns_of (setting_at base old)) found.line (plain_node_form f) s) (sym is)
         ∙ ap (λ o. does_node (setting_at base old) (eval (setting_at base old)) (turns_of (setting_at base old)) o s) (sym at)
@@ -213,7 +303,7 @@ gives_step base old slots n x (Give (Normal y)) e fits = record {
   same = λ beside. ap (λ v. plug (setting_at base old) old.stack (gives v (record (state_at old beside) { slots = slots; calls = n }))) e;
   same_mode = refl;
   same_budget = refl;
-  same_fuel = refl;
+  within = within_like old (record old { slots = slots; calls = n }) refl;
   stack_fits = fits;
   step_fits = tt;
   rests = refl;
@@ -239,7 +329,7 @@ gives_on base first at mid new before step f c e k0 l =
       same = λ beside. l.same beside ∙ sym (plug_pushed (setting_at base mid) mid.stack f _) ∙ k.same beside;
       same_mode = l.same_mode ∙ k.same_mode;
       same_budget = l.same_budget ∙ k.same_budget;
-      same_fuel = l.same_fuel ∙ k.same_fuel;
+      within = within_trans first mid new (record { same_floor = k.within.same_floor; less = k.within.less; above = k.within.above }) l.within;
       stack_fits = l.stack_fits;
       step_fits = l.step_fits;
     }
@@ -252,29 +342,23 @@ settled_unless (Ask s p l) st h = tt
 settled_unless (Fail f l) st h = tt
 settled_unless (Violate t) st h = tt
 
-begins_one : (fuel : ℕ) (go : State → Outcome) (s : State) → 0 < fuel → begins_with fuel go s ≡ go (record s { fuel = fuel - 1 })
-begins_one zero go s h = absurd (omega arith)
-begins_one (suc f) go s h = let e : f ≡ suc f - 1 = omega arith in ap (λ k. go (record s { fuel = k })) e
-
 -- one more node begins
-pub begun_one : (base : js.Ground) (first at next new : Place) (before at_step step last : Step) (n begun : ℕ) → Ran base first before at at_step begun → at_step ≡ Begin n → 0 < at.fuel → Leads base (record at { fuel = at.fuel - 1 }) (node_does (setting_at base at) n) next step → Keeps base next step new last → Ran base first before new last (begun + 1)
+pub begun_one : (base : js.Ground) (first at next new : Place) (before step last : Step) (n : ℕ) → Keeps base first before at (Begin n) → at.floor < at.fuel → Leads base (record at { fuel = at.fuel - 1 }) (node_does (setting_at base at) n) next step → Keeps base next step new last → Keeps base first before new last
 unfolding future step_outcome
-begun_one base first at next new before at_step step last n begun r0 e fuel l k =
-    let r = subst (λ q. Ran base first before at q begun) e r0 in
-    let a = r.fuel in
-    let b = k.same_fuel ∙ l.same_fuel in record {
+begun_one base first at next new before step last n r room l k =
+    let some : 0 < at.fuel = omega arith in record {
       same = λ beside. k.same beside ∙ l.same beside
-          ∙ sym (ap (plug (setting_at base at) at.stack) (eval_begins (setting_at base at) n (state_at at beside) ∙ begins_one at.fuel (node_does (setting_at base at) n) (state_at at beside) fuel))
+          ∙ sym (ap (plug (setting_at base at) at.stack) (eval_begins (setting_at base at) n (state_at at beside) ∙ begins_one at.fuel (node_does (setting_at base at) n) (state_at at beside) some))
           ∙ r.same beside;
       same_mode = k.same_mode ∙ l.same_mode ∙ r.same_mode;
       same_budget = k.same_budget ∙ l.same_budget ∙ r.same_budget;
-      fuel = omega arith;
+      within = within_begun first at new r.within room (within_trans (record at { fuel = at.fuel - 1 }) next new l.within k.within);
       stack_fits = k.stack_fits;
       step_fits = k.step_fits;
     }
 
 pub keeps_same : (base : js.Ground) (m : Place) (step : Step) → StackFits base.program m.stack → StepFits base.program step → Keeps base m step m step
-keeps_same base m step fits step_fits = record { same = λ beside. refl; same_mode = refl; same_budget = refl; same_fuel = refl; stack_fits = fits; step_fits = step_fits }
+keeps_same base m step fits step_fits = record { same = λ beside. refl; same_mode = refl; same_budget = refl; within = within_like m m refl; stack_fits = fits; step_fits = step_fits }
 
 pub keeps_given : (base : js.Ground) (old new : Place) (step : Step) (c : Completion) (r : Result Step AllocError) → step ≡ Give c → IfOk r (λ last. Keeps base old (Give c) new last) → IfOk r (λ last. Keeps base old step new last)
 keeps_given base old new step c r e w = subst (λ q. IfOk r (λ last. Keeps base old q new last)) (sym e) w

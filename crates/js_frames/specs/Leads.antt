@@ -1,5 +1,5 @@
 -- What one step of a machine, and many, keep.
-use Rattle.std.specs.Prelude.{◌⊎◌, ◌≡◌, ℕ, ◌+◌, ◌≤◌, List, [], ◌∷◌, ◌++◌, slice_get, pos, IfOk, Option, Some, Result}
+use Rattle.std.specs.Prelude.{◌⊎◌, ◌≡◌, ℕ, ◌+◌, ◌-◌, ◌≤◌, ◌<◌, List, [], ◌∷◌, ◌++◌, slice_get, pos, IfOk, Option, Some, None, Result}
 use Rattle.std.specs.declared.alloc.AllocError.{AllocError}
 use Rattle.js_ops.specs.declared.op_fault.OpFault.{OpFault}
 use Rattle.js_ops.specs.declared.op_fault.OpFault.TheVariants as op_fault
@@ -11,8 +11,8 @@ use Rattle.js_meaning.specs.Variables.{padded}
 use Rattle.js_frames.specs.declared.frame.Walk.{Walk}
 use Rattle.js_value.specs.Views.{plain_value}
 use Rattle.js_program.specs.PlainProgram as p
-use Rattle.js_program.specs.PlainProgram.{PlainContent, PlainProgram}
-use Rattle.js_meaning.specs.State.{Setting, State, Outcome}
+use Rattle.js_program.specs.PlainProgram.{PlainNodeForm, PlainNode, PlainContent, PlainProgram}
+use Rattle.js_meaning.specs.State.{Setting, State, Outcome, gives}
 use Rattle.js_meaning.specs.Meaning.{does_node, eval, turns_of}
 use Rattle.js_frames.specs.declared.step.Completion.TheVariants.{Normal}
 use Rattle.js_frames.specs.declared.step.Step.{Step}
@@ -24,8 +24,8 @@ use Rattle.js_tree.specs.declared.tree.Operator.{Operator}
 use Rattle.js_tree.specs.declared.tree.Operator.TheVariants as operator
 use Rattle.js_frames.specs.declared.ground.Ground.{Ground}
 use Rattle.js_frames.specs.declared.engine.Engine.{Engine}
-use Rattle.js_frames.specs.Places.{Place, Beside, plain_ground, place_of, setting_at, state_at}
-use Rattle.js_frames.specs.Frames.{plug, step_outcome, future}
+use Rattle.js_frames.specs.Places.{Place, Beside, plain_ground, place_of, setting_at, state_at, held_at}
+use Rattle.js_frames.specs.Frames.{resume, plug, step_outcome, future}
 use Rattle.js_frames.specs.Fits.{StackFits, StepFits}
 
 -- what completes without a node that begins leaves the stack as it was
@@ -33,12 +33,18 @@ abbrev pub Rests : Step → List Frame → List Frame → Type 0
 Rests (Give c) old new = new ≡ old
 Rests step old new = Unit {0}
 
+-- no more begins than the slice allows, whose end stays
+pub record Within (old new : Place) : Type 0 where
+  pub same_floor : new.floor ≡ old.floor
+  pub less : new.fuel ≤ old.fuel
+  pub above : old.floor ≤ old.fuel → old.floor ≤ new.fuel
+
 -- From old, the code that does this goes on to new, with this step to come.
 pub record Leads (base : js.Ground) (old : Place) (o : State → Outcome) (new : Place) (step : Step) : Type 0 where
   pub same : (beside : Beside) → future base new step beside ≡ plug (setting_at base old) old.stack (o (state_at old beside))
   pub same_mode : new.mode ≡ old.mode
   pub same_budget : new.budget ≡ old.budget
-  pub same_fuel : new.fuel ≡ old.fuel
+  pub within : Within old new
   pub stack_fits : StackFits base.program new.stack
   pub step_fits : StepFits base.program step
   pub rests : Rests step old.stack new.stack
@@ -56,7 +62,7 @@ pub record Keeps (base : js.Ground) (old : Place) (before : Step) (new : Place) 
   pub same : (beside : Beside) → future base new after beside ≡ future base old before beside
   pub same_mode : new.mode ≡ old.mode
   pub same_budget : new.budget ≡ old.budget
-  pub same_fuel : new.fuel ≡ old.fuel
+  pub within : Within old new
   pub stack_fits : StackFits base.program new.stack
   pub step_fits : StepFits base.program after
 
@@ -113,6 +119,26 @@ first_of (p.one_value n) = Some n
 -- what a node does that has begun
 abbrev pub node_does : Setting → ℕ → State → Outcome
 node_does g n s = does_node g (eval g) (turns_of g) (slice_get g.base.program.nodes n) s
+
+-- the value that a node of this form only gives, where the machine stands
+abbrev pub leaf_at : js.Ground → Place → PlainNodeForm → Option PlainValue
+leaf_at base m (p.number n) = Some (v.whole n)
+leaf_at base m (p.read variable) = held_at base variable m
+leaf_at base m _ = None
+
+abbrev pub leaf_of : js.Ground → Place → Option PlainNode → Option PlainValue
+leaf_of base m None = None
+leaf_of base m (Some node) = leaf_at base m node.form
+
+-- The part began, within the slice, and gave this value; nothing but the fuel is another.
+pub record Gave (base : js.Ground) (old : Place) (part : ℕ) (x : PlainValue) (new : Place) : Type 0 where
+  pub same : (beside : Beside) → eval (setting_at base old) part (state_at old beside) ≡ gives x (state_at new beside)
+  pub one_less : new ≡ record old { fuel = old.fuel - 1 }
+  pub room : old.floor < old.fuel
+
+-- what a part does, and then the frame that waits for it
+abbrev pub waits_for : Setting → Frame → ℕ → State → Outcome
+waits_for g frame part s = resume g frame (eval g part s)
 
 -- what waits for the left side of an operator
 abbrev pub operand_frame : Operator → ℕ → ℕ → Frame

@@ -37,6 +37,8 @@ pub record Place : Type 0 where
   pub calls : ℕ
   pub mode : Mode
   pub fuel : ℕ
+  -- what is left of it at the end of the slice
+  pub floor : ℕ
   pub budget : ℕ
   pub effects : List js.Effect
 
@@ -48,6 +50,7 @@ place_of m = record {
   calls = m.calls;
   mode = m.mode;
   fuel = m.fuel;
+  floor = m.floor;
   budget = m.budget;
   effects = plain_effects m.effects;
 }
@@ -75,7 +78,7 @@ state_at m b = record {
 -- before anything has begun
 abbrev pub fresh : Mode → ℕ → Option (List (Option PlainValue)) → Place
 fresh mode budget constants =
-    record { stack = []; slots = []; constants = constants; calls = 0; mode = mode; fuel = budget; budget = budget; effects = [] }
+    record { stack = []; slots = []; constants = constants; calls = 0; mode = mode; fuel = budget; floor = budget; budget = budget; effects = [] }
 
 abbrev pub here : Ground → Engine → Setting
 here base m = setting_at (plain_ground base) (place_of m)

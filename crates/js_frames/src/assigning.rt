@@ -42,7 +42,7 @@ fn made_function(alloc: Global, code: u32, values: Vec<Value>, line: u32) -> Res
 impl Engine {
     /// The value of a variable, if it is declared. Takes no memory.
     #[inline(always)]
-    fn held<'a>(&'a self, base: &'a Ground, variable: Variable) -> Option<&'a Value>
+    pub fn held<'a>(&'a self, base: &'a Ground, variable: Variable) -> Option<&'a Value>
         ensures { option_map (λ v. plain_value v.now) result
             ≡ held_at (plain_ground base.now) variable (place_of self.now) }
     {

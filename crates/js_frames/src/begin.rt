@@ -4,8 +4,8 @@ ghost use Rattle.js_value.specs.Value.{words};
 ghost use Rattle.js_ops.specs.Made.{made};
 ghost use Rattle.js_meaning.specs.State.{answered};
 ghost use Rattle.js_frames.specs.Places.{here};
-ghost use Rattle.js_frames.specs.Fits.{StackFits, IsNode};
-ghost use Rattle.js_frames.specs.Leads.{Goes, Becomes, node_does, operand_frame};
+ghost use Rattle.js_frames.specs.Fits.{StackFits, IsNode, HasForm, IsShort};
+ghost use Rattle.js_frames.specs.Leads.{Goes, Becomes, node_does, waits_for, operand_frame};
 
 use crate::engine::Engine;
 use crate::frame::{Frame, Part, Turns};
@@ -57,6 +57,32 @@ fn operand(operator: Operator, right: u32, number: u32) -> Frame
 }
 
 impl Engine {
+    /// The left side of an operator: the right one follows at once where that only gives a value.
+    #[inline(always)]
+    fn operator(
+        &mut self,
+        base: &Ground,
+        number: u32,
+        operator: Operator,
+        left: u32,
+        right: u32,
+    ) -> Result<Step, Memory>
+        requires number { IsNode base.now.program number }
+        requires form { HasForm IsShort base.now.program number }
+        requires left { IsNode base.now.program left }
+        requires right { IsNode base.now.program right }
+        requires fits { StackFits base.now.program self.old.stack.items }
+        ensures { Goes base.now self.old
+            (waits_for (here base.now self.old) (operand_frame operator right number) left)
+            self.new result }
+    {
+        match operator {
+            Operator::Or => self.wait(left, Frame::Waiting(Part::Or(right))),
+            Operator::And => self.wait(left, Frame::Waiting(Part::And(right))),
+            _ => self.begin_first(base, number, left),
+        }
+    }
+
     /// What a node does that has begun. A function clears the room of all that it holds when it is entered, so the nodes
     /// that loops are made of stand here, and all others in a function of their own.
     #[inline(always)]
@@ -71,8 +97,9 @@ impl Engine {
             NodeForm::Number(n) => Ok(give(Value::Whole(*n))),
             NodeForm::Read(variable) => self.read(base, *variable, node.line),
             NodeForm::Binary(operator, left, right) => {
-                self.wait(*left, operand(*operator, *right, number))
+                self.operator(base, number, *operator, *left, *right)
             }
+            NodeForm::Index(part, _) => self.begin_first(base, number, *part),
             NodeForm::Expression(part) => self.wait(*part, Frame::Waiting(Part::Dropped)),
             NodeForm::Assign(operator, slot, part) => {
                 self.assign(base, *operator, *slot, *part, node.line)

@@ -23,6 +23,8 @@ pub struct Engine {
     pub constants: Option<Constants>,
     pub calls: u32,
     pub fuel: u64,
+    /// What is left of the fuel at the end of the slice: above it nodes may begin.
+    pub floor: u64,
     pub budget: u64,
     pub effects: Effects,
     /// Lists of values that are done with: their room serves the nodes that come.
@@ -39,6 +41,7 @@ impl Drop for Engine {
             constants: _,
             calls: _,
             fuel: _,
+            floor: _,
             budget: _,
             effects: _,
             spare: _,
@@ -59,6 +62,7 @@ impl Engine {
             constants,
             calls: 0,
             fuel: budget,
+            floor: budget,
             budget,
             effects: Effects::new(alloc),
             spare: Vec::new(alloc),
@@ -115,6 +119,7 @@ impl Engine {
             constants,
             calls: _,
             fuel: _,
+            floor: _,
             budget: _,
             effects: _,
             spare: _,

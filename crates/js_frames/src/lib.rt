@@ -15,6 +15,7 @@ mod forms;
 mod frame;
 mod give;
 mod ground;
+mod leaves;
 mod loops;
 mod machine;
 mod nodes;

@@ -157,7 +157,7 @@ impl Engine {
         self.go_on_parts(base, number, none)
     }
 
-    /// The next part begins, or the node has all values.
+    /// The next parts that only give a value begin; then another, or the node has all values.
     pub fn go_on_parts(&mut self, base: &Ground, number: u32, done: Values) -> Result<Step, Memory>
         requires number { IsNode base.now.program number }
         requires form { HasForm IsLong base.now.program number }
@@ -167,10 +167,15 @@ impl Engine {
             self.new result }
     {
         let node = node_of(base, number);
-        match part_at(&node.form, done.len()) {
-            None => self.combine(base, node, done),
-            Some(part) => self.wait(part, Frame::Waiting(Part::Further(number, done))),
+        let mut values = done;
+        while let Some(part) = part_at(&node.form, values.len()) {
+            let found = self.begin_leaf(base, part)?;
+            match found {
+                None => return self.wait(part, Frame::Waiting(Part::Further(number, values))),
+                Some(value) => values.push(value)?,
+            }
         }
+        self.combine(base, node, values)
     }
 
     /// One more part has its value.
@@ -207,12 +212,8 @@ impl Engine {
         match &node.form {
             NodeForm::Member(_, word) => answered(member(self.alloc, &value, word), node.line),
             NodeForm::Unary(sign, _) => answered(unary(unary_for(*sign), &value), node.line),
-            NodeForm::Index(_, part) => {
-                self.wait(*part, Frame::Waiting(Part::Second(number, value)))
-            }
-            NodeForm::Binary(_, _, part) => {
-                self.wait(*part, Frame::Waiting(Part::Second(number, value)))
-            }
+            NodeForm::Index(_, part) => self.begin_second(base, number, value, *part),
+            NodeForm::Binary(_, _, part) => self.begin_second(base, number, value, *part),
             _ => unreachable!(),
         }
     }

@@ -62,15 +62,13 @@ impl Engine {
         ensures { IfOk result (λ last. (begun : ℕ) × Advanced (plain_ground base.now)
             (place_of self.old) step (place_of self.new) last nodes begun) }
     {
+        self.floor = self.fuel.saturating_sub(nodes);
         let settled = self.settle_once(base, step)?;
         let mut current = match settled {
             Step::Begin(number) => number,
             other => return Ok(other),
         };
-        for _ in 0..nodes {
-            if self.fuel == 0 {
-                return Ok(Step::Begin(current));
-            }
+        while self.fuel > self.floor {
             self.fuel -= 1;
             let next = self.begin(base, current)?;
             let last = self.settle(base, next)?;

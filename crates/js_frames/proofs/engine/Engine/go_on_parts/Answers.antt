@@ -1,33 +1,65 @@
-use Rattle.std.proofs.Common.{refl, sym, ap, ◌∙◌}
-use Rattle.std.specs.Prelude.{slice_get}
+use Rattle.std.proofs.Common.{◌≡◌, ◌-◌, refl, sym, ap, ◌∙◌, subst, arith}
+use Rattle.std.specs.Prelude.{slice_get, IfSome, IfNone}
+use Rattle.js_value.specs.Views.{plain_value}
 use Rattle.js_program.specs.PlainProgram.{parts_of}
 use Rattle.js_program.specs.Views.{plain_node, plain_node_form}
-use Rattle.js_frames.specs.Places.{plain_ground, here}
+use Rattle.js_frames.specs.declared.frame.Part.TheVariants.{Further}
+use Rattle.js_frames.specs.declared.frame.Frame.TheVariants.{Waiting}
+use Rattle.js_frames.specs.Places.{Place, plain_ground, place_of, setting_at}
 use Rattle.js_frames.specs.Frames.{rest, resume}
-use Rattle.js_frames.proofs.Steps.{wait_leads, means_ok}
+use Rattle.js_frames.specs.Leads.{Gave}
+use Rattle.js_frames.proofs.Steps.{waits_still, means_ok}
 use Rattle.js_frames.proofs.InOrder.{parts_wait, parts_done}
-use Rattle.js_frames.specs.Fits.{IsLong}
-use Rattle.js_frames.proofs.Beginning.{form_here}
+use Rattle.js_frames.proofs.Taking.{Onto, onto_first, onto_next, onto_leads, onto_fits}
 use Rattle.js_frames.proofs.engine.Engine.go_on_parts.Goals as goal
 
-pub returns-in-Some : goal.returns-in-Some
-unfolding resume rest
-returns-in-Some c =
+pub loop-part-init : goal.loop-part-init
+loop-part-init c = onto_first (plain_ground c.args.base.now) (place_of c.args.self.now) c.args.number c.args.done
+
+pub loop-part-preserved : goal.loop-part-preserved
+loop-part-preserved c =
+    let base = (plain_ground c.args.base.now) in
+    let old = (place_of c.args.self.now) in
+    let mid = place_of c.loop-part.self in
+    let next = place_of c.begin_leaf.new.self in
+    let gave = subst (λ o. IfSome o (λ value. Gave base mid c.in-Some.part (plain_value value) next)) c.in-Some-found.is c.in_ok-found.ensures.some in
     let at = ap (λ k. slice_get (parts_of (plain_node_form (let n = c.node_of-node.result.now in n.form))) k) (sym c.len.ensures) ∙ sym c.in-Some.ensures in
-    wait_leads (plain_ground c.args.base.now) _ _ _ c.wait.result _ _ c.requires.fits c.wait.ensures (c.requires.number, c.requires.form) (c.node_of-node.ensures.parts _ c.in-Some.part at)
-    (λ s. parts_wait (here c.args.base.now c.args.self.now) _ (plain_node c.node_of-node.result.now) c.node_of-node.ensures.node c.args.done c.in-Some.part at _ (λ x now. refl) s)
+    subst (Onto base old c.args.number c.args.done next) (sym c.in_ok-push-in-Some-found.ensures)
+    (onto_next base old c.args.number c.args.done mid c.loop-part.values c.loop-part.invariant (plain_node c.node_of-node.result.now) c.node_of-node.ensures.node c.in-Some.part at (plain_value c.in-Some-found.value) next gave)
+
+pub loop-part-smaller : goal.loop-part-smaller
+loop-part-smaller c =
+    let base = (plain_ground c.args.base.now) in
+    let mid = place_of c.loop-part.self in
+    let next = place_of c.begin_leaf.new.self in
+    let gave = subst (λ o. IfSome o (λ value. Gave base mid c.in-Some.part (plain_value value) next)) c.in-Some-found.is c.in_ok-found.ensures.some in
+    let less : next.fuel ≡ mid.fuel - 1 = ap (λ (q : Place). q.fuel) gave.one_less in
+    let room = gave.room in
+    omega arith
 
 pub returns-in-None : goal.returns-in-None
+unfolding resume rest
 returns-in-None c =
-    let at = ap (λ k. slice_get (parts_of (plain_node_form (let n = c.node_of-node.result.now in n.form))) k) (sym c.len.ensures) ∙ sym c.in-None.ensures in
-    means_ok (plain_ground c.args.base.now) _ _ _ _ c.combine.result c.combine.ensures
-    (λ s. parts_done (here c.args.base.now c.args.self.now) _ (plain_node c.node_of-node.result.now) c.node_of-node.ensures.node c.args.done at s)
+    let base = (plain_ground c.args.base.now) in
+    let old = (place_of c.args.self.now) in
+    let mid = place_of c.loop-part.self in
+    let next = place_of c.begin_leaf.new.self in
+    let h = c.loop-part.invariant in
+    let at = ap (λ k. slice_get (parts_of (plain_node_form (let n = c.node_of-node.result.now in n.form))) k) (sym c.len.ensures) ∙ sym c.in-Some.ensures in
+    let still = subst (λ o. IfNone o (next ≡ mid)) c.in-None.is c.in_ok-found.ensures.none in
+    onto_leads base old c.args.number c.args.done mid c.loop-part.values h _ c.wait.result
+    (means_ok base _ _ _ _ c.wait.result
+    (waits_still base mid next _ (Waiting (Further c.args.number c.loop-part.values)) c.in-Some.part c.wait.result (onto_fits base old c.args.number c.args.done mid c.loop-part.values h c.requires.fits) still c.wait.ensures (c.requires.number, c.requires.form) (c.node_of-node.ensures.parts _ c.in-Some.part at))
+    (λ s. parts_wait (setting_at base mid) _ (plain_node c.node_of-node.result.now) c.node_of-node.ensures.node c.loop-part.values c.in-Some.part at _ (λ x now. refl) s))
 
-pub node_of-node-requires : goal.node_of-node-requires
-node_of-node-requires c = c.requires.number
+pub combine-requires-clause-fits : goal.combine-requires-clause-fits
+combine-requires-clause-fits c = onto_fits (plain_ground c.args.base.now) (place_of c.args.self.now) c.args.number c.args.done (place_of c.loop-part.self) c.loop-part.values c.loop-part.invariant c.requires.fits
 
-pub part_at-requires : goal.part_at-requires
-part_at-requires c = form_here IsLong (let b = c.args.base.now in b.program) c.args.number c.node_of-node.result.now c.node_of-node.ensures.node c.requires.form
-
-pub combine-requires : goal.combine-requires
-combine-requires c = record { form = form_here IsLong (let b = c.args.base.now in b.program) c.args.number c.node_of-node.result.now c.node_of-node.ensures.node c.requires.form; fits = c.requires.fits }
+pub returns : goal.returns
+returns c =
+    let base = (plain_ground c.args.base.now) in
+    let mid = place_of c.loop-part.self in
+    let at = ap (λ k. slice_get (parts_of (plain_node_form (let n = c.node_of-node.result.now in n.form))) k) (sym c.len.ensures) ∙ sym c.in_default.ensures in
+    onto_leads base (place_of c.args.self.now) c.args.number c.args.done mid c.loop-part.values c.loop-part.invariant _ c.combine.result
+    (means_ok base _ _ _ _ c.combine.result c.combine.ensures
+    (λ s. parts_done (setting_at base mid) _ (plain_node c.node_of-node.result.now) c.node_of-node.ensures.node c.loop-part.values at s))
