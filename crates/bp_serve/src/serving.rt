@@ -22,11 +22,7 @@ use std::thread::Threads;
 
 /// One turn: the jobs of what is to be run are carried to their outcomes, and what they did is
 /// merged in order. Its only error is want of memory.
-fn turn<C: Carrier>(
-    alloc: Global,
-    arbiter: &mut Arbiter,
-    carrier: &C,
-) -> Result<Phase, Memory>
+fn turn<C: Carrier>(alloc: Global, arbiter: &mut Arbiter, carrier: &C) -> Result<Phase, Memory>
     requires can_carry { C.can_carry carrier.now }
     requires ready { arbiter.old.phase ≡ phase.Ready }
     requires stands { StandsSomewhere arbiter.old }
@@ -44,11 +40,7 @@ fn turn<C: Carrier>(
 }
 
 /// Turn after turn, until nobody is to be run. Its only error is want of memory.
-pub fn settle<C: Carrier>(
-    alloc: Global,
-    arbiter: &mut Arbiter,
-    carrier: &C,
-) -> Result<(), Memory>
+pub fn settle<C: Carrier>(alloc: Global, arbiter: &mut Arbiter, carrier: &C) -> Result<(), Memory>
     requires can_carry { C.can_carry carrier.now }
     requires stands { StandsSomewhere arbiter.old }
     requires unlent { is_lent arbiter.old.phase ≡ false }
