@@ -1,12 +1,16 @@
 -- The first breach of a rule, from the lists that the check makes.
-use Rattle.std.proofs.Common.{◌≡◌, ℕ, ◌+◌, ◌<◌, List, ◌∙◌, ap, sym, map, fold, length, get_or, drop, Option}
+use Rattle.std.proofs.Common.{◌≡◌, ℕ, ◌+◌, ◌<◌, List, ◌∙◌, ap, refl, sym, map, fold, length, get_or, drop, Option}
 use Rattle.std.proofs.lemmas.List.{at_drop_more}
 use Rattle.js_names.specs.declared.place.NameFault.{NameFault}
 use Rattle.js_names.specs.declared.place.Seen.{Seen}
+use Rattle.js_names.specs.declared.breach.Breach.{Breach}
+use Rattle.js_names.specs.declared.breach.Breach.TheVariants.{Unknown, Twice, AssignConst, Capture, LoopWord, ReturnPlace, Slots}
+use Rattle.js_tree.specs.declared.tree.Name.{Name}
 use Rattle.js_tree.specs.Plain.{PlainItem}
 use Rattle.js_names.specs.Places.{Place, places}
 use Rattle.js_names.specs.Slots.{assigned_in, slots_of, slot_count}
-use Rattle.js_names.specs.Rules.{fault_at, sooner, soonest, name_fault}
+use Rattle.js_names.specs.Rules.{fault_at, spot_of, sooner, soonest, name_fault}
+use Rattle.js_names.specs.Breaches.{fault_of}
 use Rattle.js_names.specs.Views.{place_of}
 use Rattle.js_names.specs.Held.{Sets, held_in}
 
@@ -35,3 +39,13 @@ pub slots_of_places : (items : List PlainItem) (seen s1 s2 : List Seen) (assigne
     → ((f : ℕ) → held_in sets f ≡ slots_of assigned f (map place_of s2)) → (f : ℕ) → held_in sets f ≡ slots_of (assigned_in (places items)) f (places items)
 slots_of_places items seen s1 s2 assigned sets e d1 d2 a h f =
     h f ∙ (ap (slots_of assigned f) (ap (map place_of) d2 ∙ e) ∙ ap (λ z. slots_of z f (places items)) (assigned_of_places items seen s1 assigned e d1 a))
+
+-- a fault stands at the place of its name
+pub spot_of_fault : (b : Breach) (name : Name) → spot_of (fault_of b name) ≡ name.spot.at
+spot_of_fault Unknown name = refl
+spot_of_fault Twice name = refl
+spot_of_fault AssignConst name = refl
+spot_of_fault Capture name = refl
+spot_of_fault LoopWord name = refl
+spot_of_fault ReturnPlace name = refl
+spot_of_fault Slots name = refl

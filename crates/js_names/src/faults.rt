@@ -3,12 +3,14 @@ ghost use Rattle.std.specs.Prelude.{◌≡◌, ◌≢◌, ◌∷◌, [], ◌++�
 ghost use Rattle.js_tree.specs.Views.{plain_tree};
 ghost use Rattle.js_names.specs.Places.{places};
 ghost use Rattle.js_names.specs.Slots.{assigned_in, slots_of};
-ghost use Rattle.js_names.specs.Rules.{fault_at, number_of, spot_of, comes_before, sooner, soonest, name_fault};
+ghost use Rattle.js_names.specs.Rules.{fault_at, soonest, name_fault};
+ghost use Rattle.js_names.specs.Breaches.{told, fault_in};
 ghost use Rattle.js_names.specs.Views.{place_of};
 ghost use Rattle.js_names.specs.Held.{held_in};
 
+use crate::breach::{Breach, Found, fault_of, sooner};
 use crate::holdings::slots;
-use crate::place::{NameFault, Seen, copy_of};
+use crate::place::{NameFault, Seen};
 use crate::rules::{
     assigned_in, fails_capture, fails_const, fails_loop_word, fails_return, fails_slots,
     fails_unknown,
@@ -20,115 +22,73 @@ use std::alloc::{AllocError, Global};
 
 /// The first rule that a place breaks.
 #[tactic(auto, unfolding(crate::specs::Rules::fault_at))]
-fn fault_at(
+fn breach_at(
     assigned: &IndexSet<u32>,
     held: &IndexMap<u32, IndexSet<u32>>,
     place: &Seen,
-) -> Result<Option<NameFault>, AllocError>
-    ensures { IfOk result (λ f. f ≡ fault_at assigned.now.keys (λ g. length (held_in held.now g))
-        (place_of place.now)) }
+) -> Option<Breach>
+    ensures { told result place.now.name ≡ fault_at assigned.now.keys
+        (λ g. length (held_in held.now g)) (place_of place.now) }
 {
     if fails_unknown(place) {
-        Ok(Some(NameFault::Unknown(copy_of(&place.name)?)))
+        Some(Breach::Unknown)
     } else if place.clashes {
-        Ok(Some(NameFault::Twice(copy_of(&place.name)?)))
+        Some(Breach::Twice)
     } else if fails_const(place) {
-        Ok(Some(NameFault::AssignConst(copy_of(&place.name)?)))
+        Some(Breach::AssignConst)
     } else if fails_capture(assigned, place) {
-        Ok(Some(NameFault::Capture(copy_of(&place.name)?)))
+        Some(Breach::Capture)
     } else if fails_loop_word(place) {
-        Ok(Some(NameFault::LoopWord(copy_of(&place.name)?)))
+        Some(Breach::LoopWord)
     } else if fails_return(place) {
-        Ok(Some(NameFault::ReturnPlace(copy_of(&place.name)?)))
+        Some(Breach::ReturnPlace)
     } else if fails_slots(held, place) {
-        Ok(Some(NameFault::Slots(copy_of(&place.name)?)))
+        Some(Breach::Slots)
     } else {
-        Ok(None)
+        None
     }
 }
 
-impl NameFault {
-    /// The number of the rule, which decides where two are broken at one place.
-    fn number(&self) -> u8
-        ensures { result ≡ number_of self.now }
-    {
-        match self {
-            NameFault::Unknown(_) => 1,
-            NameFault::Twice(_) => 2,
-            NameFault::AssignConst(_) => 3,
-            NameFault::Capture(_) => 4,
-            NameFault::LoopWord(_) => 5,
-            NameFault::ReturnPlace(_) => 6,
-            NameFault::Slots(_) => 7,
-            NameFault::Memory => 8,
-        }
-    }
-
-    /// The place.
-    fn at(&self) -> u32
-        ensures { result ≡ spot_of self.now }
-    {
-        match self {
-            NameFault::Unknown(name) => name.spot.at,
-            NameFault::Twice(name) => name.spot.at,
-            NameFault::AssignConst(name) => name.spot.at,
-            NameFault::Capture(name) => name.spot.at,
-            NameFault::LoopWord(name) => name.spot.at,
-            NameFault::ReturnPlace(name) => name.spot.at,
-            NameFault::Slots(name) => name.spot.at,
-            NameFault::Memory => 0,
-        }
-    }
-}
-
-/// Whether a fault is answered rather than another.
-fn comes_before(fault: &NameFault, other: &NameFault) -> bool
-    ensures { result ≡ comes_before fault.now other.now }
-{
-    fault.at() < other.at() || fault.at() == other.at() && fault.number() < other.number()
-}
-
-/// The fault that is answered.
-fn sooner(first: Option<NameFault>, fault: Option<NameFault>) -> Option<NameFault>
-    ensures { result ≡ sooner first fault }
-{
-    match first {
-        None => fault,
-        Some(first) => Some(sooner_than(first, fault)),
-    }
-}
-
-/// The fault that is answered, where there is one.
-fn sooner_than(first: NameFault, fault: Option<NameFault>) -> NameFault
-    ensures { Some result ≡ sooner (Some first) fault }
-{
-    match fault {
-        None => first,
-        Some(fault) => {
-            if comes_before(&fault, &first) {
-                fault
-            } else {
-                first
-            }
-        }
-    }
-}
-
-/// The fault of the first place that breaks a rule.
-fn soonest(
+/// The place with the rule that it breaks, where it breaks one.
+fn found_at<'a>(
     assigned: &IndexSet<u32>,
     held: &IndexMap<u32, IndexSet<u32>>,
-    places: &[Seen],
-) -> Result<Option<NameFault>, AllocError>
-    ensures { IfOk result (λ f. f ≡ soonest (fault_at assigned.now.keys
-        (λ g. length (held_in held.now g))) (map place_of places.now)) }
+    place: &'a Seen,
+) -> Option<Found<'a>>
+    ensures { fault_in result ≡ fault_at assigned.now.keys (λ g. length (held_in held.now g))
+        (place_of place.now) }
+{
+    match breach_at(assigned, held, place) {
+        Some(breach) => Some(Found { breach, place }),
+        None => None,
+    }
+}
+
+/// The first place that breaks a rule.
+fn soonest<'a>(
+    assigned: &IndexSet<u32>,
+    held: &IndexMap<u32, IndexSet<u32>>,
+    places: &'a [Seen],
+) -> Option<Found<'a>>
+    ensures { fault_in result ≡ soonest (fault_at assigned.now.keys
+        (λ g. length (held_in held.now g))) (map place_of places.now) }
 {
     let mut first = None;
     for place in places {
-        let fault = fault_at(assigned, held, place)?;
-        first = sooner(first, fault);
+        first = sooner(first, found_at(assigned, held, place));
     }
-    Ok(first)
+    first
+}
+
+/// The fault of the first place that breaks a rule.
+fn first_fault(names: &Names) -> Result<Option<NameFault>, AllocError>
+    ensures { IfOk result (λ f. f ≡ soonest (fault_at names.now.assigned.keys
+        (λ g. length (held_in names.now.slots g))) (map place_of names.now.places.items)) }
+{
+    match soonest(&names.assigned, &names.slots, &names.places) {
+        Some(found) => Ok(Some(fault_of(found)?)),
+        None => Ok(None),
+    }
 }
 
 /// The places of a program that breaks no rule of names, and what each function holds.
@@ -183,7 +143,7 @@ pub fn check_names(alloc: Global, tree: &Tree) -> Result<Names, NameFault>
         ≡ Some f) }
 {
     let names = names_of(alloc, tree)?;
-    let first = soonest(&names.assigned, &names.slots, &names.places)?;
+    let first = first_fault(&names)?;
     match first {
         Some(fault) => Err(fault),
         None => Ok(names),

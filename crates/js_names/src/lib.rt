@@ -1,6 +1,7 @@
 //! The rules of names.
 #![tactic(auto)]
 
+mod breach;
 mod declare;
 mod faults;
 mod first;
