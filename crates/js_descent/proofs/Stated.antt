@@ -34,7 +34,7 @@ pub chain_refused : (n line k : ℕ) (op : Operator) (a b : PlainExpr) (limit ta
     IsRead plain_expr nesting (run (exprs.operated_step n (readers n) line k) b) limit takes old new (Err e)
 chain_refused n line k op a b limit takes old new ts x e m same first h d is =
     let none : run (exprs.operated_step n (readers n) line k) b (left old) ≡ None =
-        sym same ∙ (ap (λ (z : List Lexeme). run (exprs.operated_step n (readers n) line k) a (seen z)) first ∙ chain_deep n line k op a x.token (seen ts) h d) in
+    sym same ∙ (ap (λ (z : List Lexeme). run (exprs.operated_step n (readers n) line k) a (seen z)) first ∙ chain_deep n line k op a x.token (seen ts) h d) in
     subst (λ (z : Stop). IsRead plain_expr nesting (run (exprs.operated_step n (readers n) line k) b) limit takes old new (Err z)) (sym is) none
 
 -- an expression and its end

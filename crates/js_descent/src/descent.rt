@@ -329,15 +329,10 @@ fn round(cursor: &mut Cursor<'_>, inner: u32) -> Answer<Expr>
         depth,
     } = assignment(cursor, inner)?;
     cursor.pass(Sort::RightParen)?;
-    let tree = Expr {
-        parens: parens + 1,
-        line,
-        form,
-    };
-    Ok(Found {
-        tree,
-        depth: depth + 1,
-    })
+    let parens = parens + 1;
+    let tree = Expr { parens, line, form };
+    let depth = depth + 1;
+    Ok(Found { tree, depth })
 }
 
 /// A function expression.
@@ -457,11 +452,7 @@ fn declarator(cursor: &mut Cursor<'_>, kind: DeclareKind, inner: u32) -> Answer<
 /// Declarators separated by commas.
 #[cycle(descent)]
 #[tactic(auto, using(crate::proofs::Using::declarators_turn, crate::proofs::Using::map_push_declarator, crate::proofs::Using::deepest_push_declarator, crate::proofs::Using::next_declarator_stop))]
-fn declarators(
-    cursor: &mut Cursor<'_>,
-    kind: DeclareKind,
-    inner: u32,
-) -> Answer<Vec<Declarator>>
+fn declarators(cursor: &mut Cursor<'_>, kind: DeclareKind, inner: u32) -> Answer<Vec<Declarator>>
     ensures { IsRead (λ ds. map plain_declarator ds.items) (λ ds. deepest_declarator (declarators_of ds))
         (declarators_of_kind inner (readers inner) kind) inner 1 cursor.old cursor.new result }
 {

@@ -69,12 +69,7 @@ pub fn continue_of(cursor: &mut Cursor<'_>) -> Answer<Stmt>
 
 /// A member, behind its dot.
 #[tactic(auto, using(crate::proofs::Using::held_none))]
-pub fn member(
-    cursor: &mut Cursor<'_>,
-    line: u32,
-    object: Found<Expr>,
-    inner: u32,
-) -> Answer<Expr>
+pub fn member(cursor: &mut Cursor<'_>, line: u32, object: Found<Expr>, inner: u32) -> Answer<Expr>
     requires room { inner < u32.MAX }
     requires measured { object.depth ≡ nesting (plain_expr object.tree) }
     ensures { IsTurn (member_turn inner (readers inner) line (plain_expr object.tree)) (inner + 1)

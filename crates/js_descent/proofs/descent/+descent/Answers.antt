@@ -27,13 +27,13 @@ chain-returns-then-left-inner t c =
 pub operators-returns-in_err-left : goal.operators-returns-in_err-left
 operators-returns-in_err-left t c =
     let none : IsExpr (operators c.args.inner (readers c.args.inner) c.args.level) (c.args.inner + 1) c.args.cursor.now c.signed.new.cursor (Err c.in_err-left.field-0.0) =
-        operators_missed c.args.inner c.args.level (c.args.inner + 1) (c.args.inner + 1) c.args.cursor.now c.signed.new.cursor c.signed.new.cursor c.in_err-left.field-0.0 c.in_err-left.ensures in
+    operators_missed c.args.inner c.args.level (c.args.inner + 1) (c.args.inner + 1) c.args.cursor.now c.signed.new.cursor c.signed.new.cursor c.in_err-left.field-0.0 c.in_err-left.ensures in
     first_of (search (rules, none), grind (arith, common_steps, none))
 
 pub evaluation-returns : goal.evaluation-returns
 evaluation-returns t c =
     let made : plain_stmt c.stmt_at.result.tree ≡ on (line_of (left c.args.cursor.now)) (p.expression (plain_expr c.in_ok-found.found.tree)) =
-        c.stmt_at.ensures.tree ∙ (ap (on c.line-line.result) (expression_is c.in_ok-found.found.tree) ∙ ap (λ (l : ℕ). on l (p.expression (plain_expr c.in_ok-found.found.tree))) c.line-line.ensures) in
+    c.stmt_at.ensures.tree ∙ (ap (on c.line-line.result) (expression_is c.in_ok-found.found.tree) ∙ ap (λ (l : ℕ). on l (p.expression (plain_expr c.in_ok-found.found.tree))) c.line-line.ensures) in
     let over : ended_rest c.ending_of.result (left c.assignment.new.cursor) ≡ Some (left c.end.new.self) = c.in_ok-end.ensures.over in
     record {
       read = evaluates c.args.inner (left c.args.cursor.now) (left c.assignment.new.cursor) (left c.end.new.self) (plain_expr c.in_ok-found.found.tree) (plain_stmt c.stmt_at.result.tree) c.in_ok-found.ensures.read
@@ -46,11 +46,11 @@ evaluation-returns t c =
 pub start-returns-in-Some-declares_at : goal.start-returns-in-Some-declares_at
 start-returns-in-Some-declares_at t c =
     let made : plain_start (Declares c.in-Some.token.now.token.line c.in-Some-declares_at.kind c.in_ok-tree.field-0.tree) ≡ p.declared c.in-Some.token.now.token.line c.in-Some-declares_at.kind (declarators_of (map plain_declarator c.in_ok-tree.field-0.tree.items)) =
-        start_is c.in-Some.token.now.token.line c.in-Some-declares_at.kind c.in_ok-tree.field-0.tree in
+    start_is c.in-Some.token.now.token.line c.in-Some-declares_at.kind c.in_ok-tree.field-0.tree in
     let said : start c.args.inner (readers c.args.inner) (left c.args.cursor.now) ≡ Some (p.declared c.in-Some.token.now.token.line c.in-Some-declares_at.kind (declarators_of (map plain_declarator c.in_ok-tree.field-0.tree.items)), left c.declarators.new.cursor) =
-        ap (λ (z : List Lexeme). start c.args.inner (readers c.args.inner) (seen z)) c.in-Some.ensures ∙
-        started c.args.inner c.in-Some.token.now.token (seen c.in-Some.rest.now) (left c.declarators.new.cursor) c.in-Some-declares_at.kind (map plain_declarator c.in_ok-tree.field-0.tree.items)
-        (sym c.if-is_sort.ensures) (sym c.declares_at.ensures ∙ c.in-Some-declares_at.is) (omega arith) c.in_ok-tree.ensures.read in
+    ap (λ (z : List Lexeme). start c.args.inner (readers c.args.inner) (seen z)) c.in-Some.ensures ∙
+    started c.args.inner c.in-Some.token.now.token (seen c.in-Some.rest.now) (left c.declarators.new.cursor) c.in-Some-declares_at.kind (map plain_declarator c.in_ok-tree.field-0.tree.items)
+    (sym c.if-is_sort.ensures) (sym c.declares_at.ensures ∙ c.in-Some-declares_at.is) (omega arith) c.in_ok-tree.ensures.read in
     record {
       read = said ∙ ap (λ (s : PlainStart). Some (s, left c.declarators.new.cursor)) (sym made);
       measured = omega (arith, ap start_nesting made, c.in_ok-tree.ensures.measured);
@@ -75,7 +75,7 @@ statement-returns-in-Semicolon t c =
 pub statement-returns-in_ok-found-in-LeftBrace : goal.statement-returns-in_ok-found-in-LeftBrace
 statement-returns-in_ok-found-in-LeftBrace t c =
     let made : plain_stmt c.stmt_at-in-LeftBrace.result.tree ≡ on c.in-Some.token.now.token.line (p.block (stmts_of (map plain_stmt c.in_ok-found-in-LeftBrace.found.tree.items))) =
-        c.stmt_at-in-LeftBrace.ensures.tree ∙ ap (on c.in-Some.token.now.token.line) (block_is c.in_ok-found-in-LeftBrace.found.tree) in
+    c.stmt_at-in-LeftBrace.ensures.tree ∙ ap (on c.in-Some.token.now.token.line) (block_is c.in_ok-found-in-LeftBrace.found.tree) in
     record {
       read = block_stated c.args.room c.args.cursor.now c.in-Some.token.now c.in-Some.rest.now (map plain_stmt c.in_ok-found-in-LeftBrace.found.tree.items) (left c.closed.new.cursor) (plain_stmt c.stmt_at-in-LeftBrace.result.tree)
           (omega arith) c.in-Some.ensures (sym c.in-Some.token.now.sorted ∙ c.in-LeftBrace.is) c.in_ok-found-in-LeftBrace.ensures.read made;
