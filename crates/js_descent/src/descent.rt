@@ -329,15 +329,10 @@ fn round(cursor: &mut Cursor<'_>, inner: u32) -> Answer<Expr>
         depth,
     } = assignment(cursor, inner)?;
     cursor.pass(Sort::RightParen)?;
-    let tree = Expr {
-        parens: parens + 1,
-        line,
-        form,
-    };
-    Ok(Found {
-        tree,
-        depth: depth + 1,
-    })
+    let parens = parens + 1;
+    let tree = Expr { parens, line, form };
+    let depth = depth + 1;
+    Ok(Found { tree, depth })
 }
 
 /// A function expression.

@@ -44,13 +44,10 @@ fn item(cursor: &mut Cursor<'_>) -> Result<Item, Stop>
 
 /// All that the program lists.
 #[tactic(auto, using(crate::proofs::Programs::items_turn, crate::proofs::Programs::map_push_item))]
-fn tree_of(alloc: Global, tokens: &[Lexeme]) -> Result<Tree, Stop>
-    ensures { IsItems (seen tokens.now) result }
+fn tree_of(alloc: Global, rest: &[Lexeme]) -> Result<Tree, Stop>
+    ensures { IsItems (seen rest.now) result }
 {
-    let mut cursor = Cursor {
-        alloc,
-        rest: tokens,
-    };
+    let mut cursor = Cursor { alloc, rest };
     let mut items = Vec::new(alloc);
     'more: while let Some(_) = next(cursor.rest) {
         items.push(item(&mut cursor)?)?;

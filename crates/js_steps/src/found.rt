@@ -25,11 +25,8 @@ pub fn expr_at(line: u32, form: Form, depth: u32) -> Found<Expr>
     ensures tree { plain_expr result.tree ≡ at 0 line (plain_form form) }
     ensures depth { result.depth ≡ depth }
 {
-    let tree = Expr {
-        parens: 0,
-        line,
-        form,
-    };
+    let parens = 0;
+    let tree = Expr { parens, line, form };
     Found { tree, depth }
 }
 

@@ -1,22 +1,11 @@
 //! The parameters of functions.
-ghost use Rattle.std.specs.Prelude.{◌≡◌, ◌∷◌, [], MatchResult};
 ghost use Rattle.js_grammar.specs.Reading.{params, header, opening, arrow_after as then_arrow};
-ghost use Rattle.js_steps.specs.declared.stop.Stop.TheVariants.{Memory};
 ghost use Rattle.js_steps.specs.Read.{IsGiven};
 
 use crate::peek::begins_arrow;
 use crate::{Cursor, Stop};
 use js_grammar::Sort;
 use js_tree::Name;
-use std::alloc::Global;
-
-fn one_name(alloc: Global, name: Name) -> Result<Vec<Name>, Stop>
-    ensures { MatchResult result (λ names. names.items ≡ name ∷ []) (λ e. e ≡ Memory) }
-{
-    let mut names = Vec::new(alloc);
-    names.push(name)?;
-    Ok(names)
-}
 
 impl<'a> Cursor<'a> {
     /// Names separated by commas, and `)`.
@@ -58,8 +47,8 @@ impl<'a> Cursor<'a> {
             let names = self.parameters()?;
             return self.arrow_after(names);
         }
-        let name = self.name()?;
-        let names = one_name(self.alloc, name)?;
+        let mut names = Vec::new(self.alloc);
+        names.push(self.name()?)?;
         self.arrow_after(names)
     }
 

@@ -1,10 +1,10 @@
 //! Tests on the first tokens.
 ghost use Rattle.std.specs.Prelude.{◌≡◌, is_some};
 ghost use Rattle.js_grammar.specs.Sorts.{named};
-ghost use Rattle.js_grammar.specs.Operators.{operator, level_of, at_level, operator_at, sort_sign, sign, sort_step, step, sort_assign, assign_op};
+ghost use Rattle.js_grammar.specs.Operators.{operator, level_of, at_level, operator_at, sign, step, assign_op};
 ghost use Rattle.js_grammar.specs.Arrows.{starts_arrow, arrow_follows, starts_function};
 ghost use Rattle.js_grammar.specs.Ends.{starts_end};
-ghost use Rattle.js_grammar.specs.Tokens.{sort_declare, declares, lexical, is_of, starts_step, starts_update, starts_set, starts_assign, starts_lexical, starts_of, starts_name_of, starts_for_of, is_const};
+ghost use Rattle.js_grammar.specs.Tokens.{declares, lexical, is_of, starts_update, starts_assign, starts_lexical, starts_name_of, starts_for_of, is_const};
 ghost use Rattle.js_steps.specs.Seen.{seen};
 
 use crate::Lexeme;
@@ -73,32 +73,15 @@ pub fn operator_in(wanted: u8, token: &Lexeme) -> Option<Operator>
     }
 }
 
-/// The unary operator that a mark is.
-fn sign_of(sort: Sort) -> Option<Sign>
-    ensures { result ≡ sort_sign sort }
-{
-    match sort {
-        Sort::Not => Some(Sign::Not),
-        Sort::Minus => Some(Sign::Minus),
-        Sort::Plus => Some(Sign::Plus),
-        _ => None,
-    }
-}
-
 /// The unary operator that a token is.
 #[tactic(auto, using(crate::proofs::Using::sign_is))]
 pub fn sign_at(token: &Lexeme) -> Option<Sign>
     ensures { result ≡ sign token.now.token }
 {
-    sign_of(token.sort)
-}
-
-fn step_of(sort: Sort) -> Option<Step>
-    ensures { result ≡ sort_step sort }
-{
-    match sort {
-        Sort::Increment => Some(Step::Increment),
-        Sort::Decrement => Some(Step::Decrement),
+    match token.sort {
+        Sort::Not => Some(Sign::Not),
+        Sort::Minus => Some(Sign::Minus),
+        Sort::Plus => Some(Sign::Plus),
         _ => None,
     }
 }
@@ -108,13 +91,19 @@ fn step_of(sort: Sort) -> Option<Step>
 pub fn step_at(token: &Lexeme) -> Option<Step>
     ensures { result ≡ step token.now.token }
 {
-    step_of(token.sort)
+    match token.sort {
+        Sort::Increment => Some(Step::Increment),
+        Sort::Decrement => Some(Step::Decrement),
+        _ => None,
+    }
 }
 
-fn assign_of(sort: Sort) -> Option<AssignOp>
-    ensures { result ≡ sort_assign sort }
+/// The assignment's operator that a token is.
+#[tactic(auto, using(crate::proofs::Using::assign_op_is))]
+pub fn assign_at(token: &Lexeme) -> Option<AssignOp>
+    ensures { result ≡ assign_op token.now.token }
 {
-    match sort {
+    match token.sort {
         Sort::Set => Some(AssignOp::Set),
         Sort::AddSet => Some(AssignOp::Add),
         Sort::SubtractSet => Some(AssignOp::Subtract),
@@ -125,31 +114,17 @@ fn assign_of(sort: Sort) -> Option<AssignOp>
     }
 }
 
-/// The assignment's operator that a token is.
-#[tactic(auto, using(crate::proofs::Using::assign_op_is))]
-pub fn assign_at(token: &Lexeme) -> Option<AssignOp>
-    ensures { result ≡ assign_op token.now.token }
-{
-    assign_of(token.sort)
-}
-
-fn declares_of(sort: Sort) -> Option<DeclareKind>
-    ensures { result ≡ sort_declare sort }
-{
-    match sort {
-        Sort::Const => Some(DeclareKind::Const),
-        Sort::Let => Some(DeclareKind::Let),
-        Sort::Var => Some(DeclareKind::Var),
-        _ => None,
-    }
-}
-
 /// The word of a declaration that a token is.
 #[tactic(auto, using(crate::proofs::Using::declares_is))]
 pub fn declares_at(token: &Lexeme) -> Option<DeclareKind>
     ensures { result ≡ declares token.now.token }
 {
-    declares_of(token.sort)
+    match token.sort {
+        Sort::Const => Some(DeclareKind::Const),
+        Sort::Let => Some(DeclareKind::Let),
+        Sort::Var => Some(DeclareKind::Var),
+        _ => None,
+    }
 }
 
 /// `const` or `let`, where a token is one.
@@ -186,21 +161,15 @@ fn is_of_at(token: &Lexeme) -> bool
     }
 }
 
-fn begins_step(tokens: &[Lexeme]) -> bool
-    ensures { result ≡ starts_step (seen tokens.now) }
-{
-    match next(tokens) {
-        Some((token, _)) => step_at(token).is_some() && !token.token.new_line,
-        None => false,
-    }
-}
-
 /// Whether the list begins with a name and, on its line, `++` or `--`.
 pub fn begins_update(tokens: &[Lexeme]) -> bool
     ensures { result ≡ starts_update (seen tokens.now) }
 {
-    match next(tokens) {
-        Some((token, rest)) => is_name(token) && begins_step(rest),
+    let Some((name, rest)) = next(tokens) else {
+        return false;
+    };
+    match next(rest) {
+        Some((step, _)) => is_name(name) && step_at(step).is_some() && !step.token.new_line,
         None => false,
     }
 }
@@ -247,21 +216,15 @@ pub fn begins_function<'a>(tokens: &'a [Lexeme]) -> bool
     }
 }
 
-fn begins_set(tokens: &[Lexeme]) -> bool
-    ensures { result ≡ starts_set (seen tokens.now) }
-{
-    match next(tokens) {
-        Some((token, _)) => assign_at(token).is_some(),
-        None => false,
-    }
-}
-
 /// Whether the list begins with a name and an assignment's operator.
 pub fn begins_assign(tokens: &[Lexeme]) -> bool
     ensures { result ≡ starts_assign (seen tokens.now) }
 {
-    match next(tokens) {
-        Some((token, rest)) => is_name(token) && begins_set(rest),
+    let Some((name, rest)) = next(tokens) else {
+        return false;
+    };
+    match next(rest) {
+        Some((operator, _)) => is_name(name) && assign_at(operator).is_some(),
         None => false,
     }
 }
@@ -286,20 +249,15 @@ pub fn begins_lexical(tokens: &[Lexeme]) -> bool
     }
 }
 
-fn begins_of(tokens: &[Lexeme]) -> bool
-    ensures { result ≡ starts_of (seen tokens.now) }
-{
-    match next(tokens) {
-        Some((token, _)) => is_of_at(token),
-        None => false,
-    }
-}
-
+/// Whether the list begins with a name and `of`.
 fn begins_name_of(tokens: &[Lexeme]) -> bool
     ensures { result ≡ starts_name_of (seen tokens.now) }
 {
-    match next(tokens) {
-        Some((token, rest)) => is_name(token) && begins_of(rest),
+    let Some((name, rest)) = next(tokens) else {
+        return false;
+    };
+    match next(rest) {
+        Some((of, _)) => is_name(name) && is_of_at(of),
         None => false,
     }
 }

@@ -10,7 +10,7 @@ use Rattle.js_parser.proofs.program.tree_of.Given as goal
 
 abbrev pub invariant-more : goal.invariant-more
 invariant-more l =
-    run (items_step (MOST_NESTING - 1) (readers (MOST_NESTING - 1))) (map plain_item l.items.items) (left l.cursor) ≡ all_items (seen l.tokens)
+    run (items_step (MOST_NESTING - 1) (readers (MOST_NESTING - 1))) (map plain_item l.items.items) (left l.cursor) ≡ all_items (seen l.rest)
 
 abbrev pub decreases-more : goal.decreases-more
 decreases-more l = length l.cursor.rest.now
