@@ -1,11 +1,12 @@
 -- How a command ends: from its parts, and with its note or without the memory for it.
 use Rattle.std.proofs.Common.{◌≡◌, ℕ, zero, suc, ◌<◌, List, [], ◌∷◌, ◌++◌, length, take, refl, sym, ap, subst, ◌∙◌, append-nil, append_assoc, arith, rules, inl, inr}
-use Rattle.std.specs.Prelude.{◌⊎◌, Option, Some, None, Result, Ok, Err, IsErrOf, IsSome, IfSome, IsSomeAnd, option_and_then, option_to_list}
+use Rattle.std.specs.Prelude.{◌⊎◌, true, Option, Some, None, Result, Ok, Err, IsErrOf, IsSome, IfSome, IsSomeAnd, option_and_then, option_to_list}
+use Rattle.std.proofs.lemmas.Bool.{false≢true}
 use Rattle.bp_base.specs.Worlds.{Holdings, Opens, Asks}
 use Rattle.bp_base.specs.Pieces.{Appends, AppendsFront}
 use Rattle.js_program.specs.PlainProgram.{PlainProgram}
 use Rattle.bp_log.specs.Header.{PlainHeader}
-use Rattle.bp_log.specs.Options.{PlainOptions, default_options}
+use Rattle.bp_log.specs.Options.{PlainOptions}
 use Rattle.bp_log.specs.declared.limits.TheConstants.{MOST_BYTES}
 use Rattle.bp_log.specs.declared.verdict.Verdict.{Verdict}
 use Rattle.bp_code.specs.Code.{text_alone}
@@ -25,15 +26,14 @@ use Rattle.bp_cli.specs.declared.conclusion.Conclusion.{Conclusion}
 use Rattle.bp_cli.specs.declared.conclusion.Conclusion.TheVariants.{NoCommand, Refused, Accepted, Ran, NotRead, NotWritten, NoMemory, BadLog}
 use Rattle.bp_cli.specs.Outside.{Outside, IsAsBefore, IsUnder}
 use Rattle.bp_cli.specs.Asking.{names_of, WasAsked, AsksFor, AsksIn}
-use Rattle.bp_cli.specs.Conclusions.{code_of, conclusion_of, IsStatusOf}
-use Rattle.bp_cli.specs.Endings.{EndsSo, IsGiven, IsRefusedAt, TellsPartly, ComesTo, Accepts, EndsIn, Ends}
+use Rattle.bp_cli.specs.Conclusions.{code_of, conclusion_of, has_note, IsStatusOf}
+use Rattle.bp_cli.specs.Endings.{EndsSo, IsGiven, IsRefusedAt, TellsPartly, WantsAmid, EndsIn, Ends}
 use Rattle.bp_large.specs.Large.{large_program}
-use Rattle.bp_cli.specs.Large.{line_of, MeasureEnds}
+use Rattle.bp_cli.specs.Large.{MeasureEnds}
 use Rattle.bp_cli.specs.Loading.{IsUnloaded}
 use Rattle.bp_cli.specs.Replaying.{ReplayEnds, IsCaused, replayed_of}
 use Rattle.bp_cli.specs.Refusing.{IsTooLong, program_of, Refuses}
 use Rattle.bp_cli.specs.Runs.{Holds, HoldsFront, KeepsLog, KeepsLogFront, RunEnds, log_alone, header_of}
-use Rattle.bp_cli.specs.Texts.{accepted_line}
 use Rattle.bp_reading.specs.Laws.{IsHeader}
 use Rattle.bp_cli.proofs.Runs.{run_replays}
 
@@ -205,10 +205,6 @@ asks_some (Some c) before after conclusion h = (h.0, some_asked conclusion (name
 front_of : (before after : Option (List ℕ)) (text : List ℕ) → Appends before text after → AppendsFront before text after
 front_of before after text h = (text, [], sym (append-nil text), h)
 
-front_in : (o : Option (List ℕ)) (before after : Option (List ℕ)) (line : List ℕ → List ℕ) → IsSomeAnd o (λ text. Appends before (line text) after) → IsSomeAnd o (λ text. AppendsFront before (line text) after)
-front_in None before after line h = absurd h
-front_in (Some text) before after line h = front_of before after (line text) h
-
 is_there : (c : Command) → IsSome (Some c)
 is_there c = search rules
 
@@ -337,52 +333,32 @@ pub refuses_none : (holds : Option Holdings) (code : ℕ) → Refuses None holds
 refuses_none None code = tt
 refuses_none (Some held) code = tt
 
-keeps_front : (log : Option (List ℕ)) (before after : Outside) (text : List ℕ) → KeepsLog log before.holds text after.holds → KeepsLogFront log before text after
-keeps_front None before after text k = k
-keeps_front (Some name) before after text k = inr (text, [], sym (append-nil text), k)
-
--- whatever it comes to, a part of what is told came outside
-comes_partly : (c : Command) (bytes : List ℕ) (before after : Outside) (v : Verdict) → ComesTo c bytes before after v → TellsPartly c bytes before after
-comes_partly (command.Run asked) bytes before after v r =
-    record {
-      program = r.program;
-      is_program = r.is_program;
-      prints = front_in (text_alone r.program asked.options) before.printed after.printed (λ text. text) r.prints;
-      keeps = keeps_front asked.log before after (log_alone (header_of asked bytes) r.program) r.keeps;
-    }
-comes_partly (command.Large n) bytes before after v r =
-    let m = r.0 in
-    (record { program = m.program; is_program = m.is_program; prints = front_in (text_alone m.program default_options) before.printed after.printed (line_of n m.program) m.prints }, r.1)
-comes_partly (command.Accept program) bytes before after v r = absurd r
-comes_partly (command.Replay log) bytes before after v r = absurd r
-
-accepts_partly : (c : Command) (bytes : List ℕ) (before after : Outside) → Accepts c bytes before after → TellsPartly c bytes before after
-accepts_partly (command.Accept program) bytes before after a = (a.0, front_of before.printed after.printed accepted_line a.1, a.2)
-accepts_partly (command.Run asked) bytes before after a = absurd a
-accepts_partly (command.Large n) bytes before after a = absurd a
-accepts_partly (command.Replay log) bytes before after a = absurd a
-
 refused_before : (c : Command) (bytes : List ℕ) (refusal : Refusal) (before after : Outside) → IsRefusedAt c bytes refusal before after → IsAsBefore before after
 refused_before (command.Run asked) bytes refusal before after r = r.1
 refused_before (command.Accept program) bytes refusal before after r = r.1
 refused_before (command.Large n) bytes refusal before after r = absurd r
 refused_before (command.Replay log) bytes refusal before after r = absurd r
 
--- whatever a command ends in, nothing came outside or a part
-ends_partly : (c : Option Command) (unread unwritten : Type 0) (before after : Outside) (conclusion : Conclusion) → EndsIn c unread unwritten before after conclusion → EndsIn c unread unwritten before after NoMemory
-ends_partly c unread unwritten before after NoCommand e = inl e.1
-ends_partly c unread unwritten before after NotRead e = inl e.2
-ends_partly c unread unwritten before after NoMemory e = e
-ends_partly None unread unwritten before after (Refused refusal) e = absurd e
-ends_partly (Some c) unread unwritten before after (Refused refusal) e = inl (refused_before c e.0 refusal before after e.2)
-ends_partly None unread unwritten before after Accepted e = absurd e
-ends_partly (Some c) unread unwritten before after Accepted e = inr (e.0, e.1, accepts_partly c e.0 before after e.2)
-ends_partly None unread unwritten before after (Ran v) e = absurd e
-ends_partly (Some c) unread unwritten before after (Ran v) e = inr (e.0, e.1, comes_partly c e.0 before after v e.2)
-ends_partly None unread unwritten before after NotWritten e = absurd e
-ends_partly (Some c) unread unwritten before after NotWritten e = inr (e.0, e.1, (e.2).1)
-ends_partly None unread unwritten before after (BadLog fault) e = absurd e
-ends_partly (Some c) unread unwritten before after (BadLog fault) e = absurd e.2
+-- where memory is wanting for its note, a front was printed only where writing failed
+unwritten_amid : (c : Command) (bytes : List ℕ) (unwritten : Type 0) (before after : Outside) → unwritten × TellsPartly c bytes before after → WantsAmid c bytes unwritten before after
+unwritten_amid (command.Run asked) bytes unwritten before after t = t.1
+unwritten_amid (command.Accept program) bytes unwritten before after t = t
+unwritten_amid (command.Large n) bytes unwritten before after t = t
+unwritten_amid (command.Replay log) bytes unwritten before after t = t.1
+
+-- whatever noted conclusion a command ends in, memory may be wanting for the note
+ends_wanting_note : (c : Option Command) (unread unwritten : Type 0) (before after : Outside) (conclusion : Conclusion) → has_note conclusion ≡ true → EndsIn c unread unwritten before after conclusion → EndsIn c unread unwritten before after NoMemory
+ends_wanting_note c unread unwritten before after NoCommand h e = inl e.1
+ends_wanting_note c unread unwritten before after NotRead h e = inl e.2
+ends_wanting_note c unread unwritten before after NoMemory h e = e
+ends_wanting_note None unread unwritten before after (Refused refusal) h e = absurd e
+ends_wanting_note (Some c) unread unwritten before after (Refused refusal) h e = inl (refused_before c e.0 refusal before after e.2)
+ends_wanting_note c unread unwritten before after Accepted h e = absurd (false≢true h)
+ends_wanting_note c unread unwritten before after (Ran v) h e = absurd (false≢true h)
+ends_wanting_note None unread unwritten before after NotWritten h e = absurd e
+ends_wanting_note (Some c) unread unwritten before after NotWritten h e = inr (e.0, e.1, unwritten_amid c e.0 unwritten before after e.2)
+ends_wanting_note None unread unwritten before after (BadLog fault) h e = absurd e
+ends_wanting_note (Some c) unread unwritten before after (BadLog fault) h e = absurd e.2
 
 -- ---- a replay
 
@@ -394,7 +370,7 @@ prints_partly (Err ReplayFault.Program) b t a p = front_of b a t p
 prints_partly (Err ReplayFault.Write) b t a p = p
 prints_partly (Err ReplayFault.Memory) b t a p = p
 
-replays_partly : (bytes : List ℕ) (b a : Option (List ℕ)) (ended : Result Verdict ReplayFault) → replays.Ends bytes b a ended → replays.Ends bytes b a (Err ReplayFault.Memory)
+replays_partly : (bytes : List ℕ) (b a : Option (List ℕ)) (ended : Result Verdict ReplayFault) → replays.IsReplay bytes b a ended → replays.IsReplay bytes b a (Err ReplayFault.Memory)
 replays_partly bytes b a ended (inl h) = inl (tt, h.1)
 replays_partly bytes b a ended (inr r) =
     inr (record {
@@ -408,12 +384,12 @@ replays_partly bytes b a ended (inr r) =
       prints = prints_partly ended b (text_in r.course) a r.prints;
     })
 
-some_partly : (o : Option (List ℕ)) (b a : Option (List ℕ)) (ended : Result Verdict ReplayFault) → IsSomeAnd o (λ bytes. replays.Ends bytes b a ended) → IsSomeAnd o (λ bytes. replays.Ends bytes b a (Err ReplayFault.Memory))
+some_partly : (o : Option (List ℕ)) (b a : Option (List ℕ)) (ended : Result Verdict ReplayFault) → IsSomeAnd o (λ bytes. replays.IsReplay bytes b a ended) → IsSomeAnd o (λ bytes. replays.IsReplay bytes b a (Err ReplayFault.Memory))
 some_partly None b a ended h = absurd h
 some_partly (Some bytes) b a ended h = replays_partly bytes b a ended h
 
-told_partly : (name : List ℕ) (holds : Option Holdings) (b a : Option (List ℕ)) (ended : Result Verdict ReplayFault) → IfSome holds (λ held. IsSomeAnd (held name) (λ bytes. replays.Ends bytes b a ended)) →
-    IfSome holds (λ held. IsSomeAnd (held name) (λ bytes. replays.Ends bytes b a (Err ReplayFault.Memory)))
+told_partly : (name : List ℕ) (holds : Option Holdings) (b a : Option (List ℕ)) (ended : Result Verdict ReplayFault) → IfSome holds (λ held. IsSomeAnd (held name) (λ bytes. replays.IsReplay bytes b a ended)) →
+    IfSome holds (λ held. IsSomeAnd (held name) (λ bytes. replays.IsReplay bytes b a (Err ReplayFault.Memory)))
 told_partly name None b a ended h = tt
 told_partly name (Some held) b a ended h = some_partly (held name) b a ended h
 
@@ -422,12 +398,12 @@ replay_partly name unread unwritten before after c (e, inl h) = (tt, inl (inr re
 replay_partly name unread unwritten before after c (e, inr r) =
     (tt, inr (record { ended = Err ReplayFault.Memory; is_conclusion = refl; ends = told_partly name before.holds before.printed after.printed r.ended r.ends; holds = r.holds }))
 
-pub so_partly : (c : Option Command) (unread unwritten : Type 0) (before after : Outside) (conclusion : Conclusion) → EndsSo c unread unwritten before after conclusion → EndsSo c unread unwritten before after NoMemory
-so_partly None unread unwritten before after conclusion e = ends_partly None unread unwritten before after conclusion e
-so_partly (Some (command.Replay log)) unread unwritten before after conclusion e = replay_partly log unread unwritten before after conclusion e
-so_partly (Some (command.Run asked)) unread unwritten before after conclusion e = ends_partly (Some (command.Run asked)) unread unwritten before after conclusion e
-so_partly (Some (command.Accept program)) unread unwritten before after conclusion e = ends_partly (Some (command.Accept program)) unread unwritten before after conclusion e
-so_partly (Some (command.Large n)) unread unwritten before after conclusion e = ends_partly (Some (command.Large n)) unread unwritten before after conclusion e
+so_wanting_note : (c : Option Command) (unread unwritten : Type 0) (before after : Outside) (conclusion : Conclusion) → has_note conclusion ≡ true → EndsSo c unread unwritten before after conclusion → EndsSo c unread unwritten before after NoMemory
+so_wanting_note None unread unwritten before after conclusion h e = ends_wanting_note None unread unwritten before after conclusion h e
+so_wanting_note (Some (command.Replay log)) unread unwritten before after conclusion h e = replay_partly log unread unwritten before after conclusion e
+so_wanting_note (Some (command.Run asked)) unread unwritten before after conclusion h e = ends_wanting_note (Some (command.Run asked)) unread unwritten before after conclusion h e
+so_wanting_note (Some (command.Accept program)) unread unwritten before after conclusion h e = ends_wanting_note (Some (command.Accept program)) unread unwritten before after conclusion h e
+so_wanting_note (Some (command.Large n)) unread unwritten before after conclusion h e = ends_wanting_note (Some (command.Large n)) unread unwritten before after conclusion h e
 
 -- where memory was wanting before anything was done
 pub ends_wanting : (c : Option Command) (unread unwritten : Type 0) (same : Outside) → EndsSo c unread unwritten same same NoMemory
@@ -462,16 +438,16 @@ caused ended c unread unwritten e r w = subst (λ (x : Conclusion). IsCaused unr
 nothing : IsSome {T = List ℕ} None → ⊥
 nothing s = cc
 
-there : (o : Option (List ℕ)) (b a : Option (List ℕ)) (ended : Result Verdict ReplayFault) → IsSome o → IfSome o (λ bytes. replays.Ends bytes b a ended) → IsSomeAnd o (λ bytes. replays.Ends bytes b a ended)
+there : (o : Option (List ℕ)) (b a : Option (List ℕ)) (ended : Result Verdict ReplayFault) → IsSome o → IfSome o (λ bytes. replays.IsReplay bytes b a ended) → IsSomeAnd o (λ bytes. replays.IsReplay bytes b a ended)
 there None b a ended s h = absurd (nothing s)
 there (Some bytes) b a ended s h = h
 
 -- what is left of an input is what the world holds
-pub replay_told : (holds : Option Holdings) (name : List ℕ) (left b a : Option (List ℕ)) (ended : Result Verdict ReplayFault) → Opens holds name left → IfSome left (λ bytes. replays.Ends bytes b a ended) →
-    IfSome holds (λ held. IsSomeAnd (held name) (λ bytes. replays.Ends bytes b a ended))
+pub replay_told : (holds : Option Holdings) (name : List ℕ) (left b a : Option (List ℕ)) (ended : Result Verdict ReplayFault) → Opens holds name left → IfSome left (λ bytes. replays.IsReplay bytes b a ended) →
+    IfSome holds (λ held. IsSomeAnd (held name) (λ bytes. replays.IsReplay bytes b a ended))
 replay_told None name left b a ended o h = tt
 replay_told (Some held) name left b a ended o h =
-    let told : IfSome (held name) (λ bytes. replays.Ends bytes b a ended) = subst (λ (x : Option (List ℕ)). IfSome x (λ bytes. replays.Ends bytes b a ended)) o.1 h in
+    let told : IfSome (held name) (λ bytes. replays.IsReplay bytes b a ended) = subst (λ (x : Option (List ℕ)). IfSome x (λ bytes. replays.IsReplay bytes b a ended)) o.1 h in
     there (held name) b a ended o.0 told
 
 pub asks_unopened : (name : List ℕ) (before after : Option (List (List ℕ))) → after ≡ before → AsksIn (Some (command.Replay name)) before after NoMemory
@@ -490,13 +466,13 @@ asks_replayed name before after (BadLog fault) h = (name ∷ [], refl, h)
 
 -- the status is that of the conclusion, or says that memory was wanting
 pub concluded : (c : Option Command) (unread unwritten : Type 0) (before after : Outside) (conclusion : Conclusion) (code : ℕ) (note : List ℕ) →
-    AsksIn c before.asked after.asked conclusion → EndsSo c unread unwritten before after conclusion → (IsStatusOf code note conclusion ⊎ IsStatusOf code note NoMemory) → Ends c unread unwritten before after code note
+    AsksIn c before.asked after.asked conclusion → EndsSo c unread unwritten before after conclusion → (IsStatusOf code note conclusion ⊎ ((has_note conclusion ≡ true) × IsStatusOf code note NoMemory)) → Ends c unread unwritten before after code note
 concluded c unread unwritten before after conclusion code note a e (inl s) = record { conclusion = conclusion; status = s; asks = a; ends = e }
 concluded c unread unwritten before after conclusion code note a e (inr s) =
-    record { conclusion = NoMemory; status = s; asks = asks_some c before.asked after.asked conclusion a; ends = so_partly c unread unwritten before after conclusion e }
+    record { conclusion = NoMemory; status = s.1; asks = asks_some c before.asked after.asked conclusion a; ends = so_wanting_note c unread unwritten before after conclusion s.0 e }
 
 -- and a refused program comes to it
 pub refuses_concluded : (c : Option Command) (holds : Option Holdings) (conclusion : Conclusion) (code : ℕ) (note : List ℕ) → Refuses c holds (code_of conclusion) →
-    (IsStatusOf code note conclusion ⊎ IsStatusOf code note NoMemory) → Refuses c holds code
+    (IsStatusOf code note conclusion ⊎ ((has_note conclusion ≡ true) × IsStatusOf code note NoMemory)) → Refuses c holds code
 refuses_concluded c holds conclusion code note r (inl s) = subst (λ (n : ℕ). Refuses c holds n) (sym s.0) r
-refuses_concluded c holds conclusion code note r (inr s) = refuses_any c holds code (inr (inr s.0))
+refuses_concluded c holds conclusion code note r (inr s) = refuses_any c holds code (inr (inr s.1.0))

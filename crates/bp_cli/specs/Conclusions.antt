@@ -1,5 +1,5 @@
 -- How a command ends: the code and the note of each conclusion.
-use Rattle.std.specs.Prelude.{◌≡◌, ℕ, List, [], codes, Result, Ok, Err}
+use Rattle.std.specs.Prelude.{◌≡◌, ℕ, Bool, true, false, List, [], codes, Result, Ok, Err}
 use Rattle.bp_log.specs.declared.verdict.Verdict.{Verdict}
 use Rattle.bp_log.specs.declared.verdict.Verdict.TheVariants.{Quiet, Violated, Fault, Spent, Steps, Queue, Threads, Weight, Bad}
 use Rattle.bp_script.specs.Refusals as refusals
@@ -45,6 +45,17 @@ note_of NotRead = codes "read fault"
 note_of NotWritten = codes "write fault"
 note_of NoMemory = []
 note_of (BadLog fault) = bad_log_note fault
+
+-- whether something is noted
+abbrev pub has_note : Conclusion → Bool
+has_note Accepted = false
+has_note NoCommand = true
+has_note (Refused refusal) = true
+has_note (Ran verdict) = false
+has_note NotRead = true
+has_note NotWritten = true
+has_note NoMemory = false
+has_note (BadLog fault) = true
 
 -- the code and the note are those of the conclusion
 abbrev pub IsStatusOf : ℕ → List ℕ → Conclusion → Type 0

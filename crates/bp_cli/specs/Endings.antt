@@ -56,13 +56,20 @@ IsRefusedAt (Accept program) bytes refusal before after = IsRefused bytes refusa
 IsRefusedAt (Large n) bytes refusal before after = ⊥
 IsRefusedAt (Replay log) bytes refusal before after = ⊥
 
+-- where memory was wanting and something came outside: while a run went on, or for the note of a failed write
+abbrev pub WantsAmid : Command → List ℕ → Type 0 → Outside → Outside → Type 0
+WantsAmid (Run asked) bytes unwritten before after = RunsPartly asked bytes before after
+WantsAmid (Accept program) bytes unwritten before after = unwritten × SaysAcceptedPartly bytes before after
+WantsAmid (Large n) bytes unwritten before after = unwritten × TellsPartly (Large n) bytes before after
+WantsAmid (Replay log) bytes unwritten before after = ⊥
+
 -- why what is done to these bytes ends so, where writing failed or not, and what came of it outside
 abbrev pub EndsOn : Command → List ℕ → Type 0 → Outside → Outside → Conclusion → Type 0
 EndsOn command bytes unwritten before after Accepted = Accepts command bytes before after
 EndsOn command bytes unwritten before after (Ran v) = ComesTo command bytes before after v
 EndsOn command bytes unwritten before after (Refused refusal) = IsRefusedAt command bytes refusal before after
 EndsOn command bytes unwritten before after NotWritten = unwritten × TellsPartly command bytes before after
-EndsOn command bytes unwritten before after NoMemory = IsAsBefore before after ⊎ TellsPartly command bytes before after
+EndsOn command bytes unwritten before after NoMemory = WantsAmid command bytes unwritten before after
 EndsOn command bytes unwritten before after NoCommand = ⊥
 EndsOn command bytes unwritten before after NotRead = ⊥
 EndsOn command bytes unwritten before after (BadLog fault) = ⊥
@@ -72,7 +79,7 @@ abbrev pub EndsIn : Option Command → Type 0 → Type 0 → Outside → Outside
 EndsIn command unread unwritten before after NoCommand = (command ≡ None) × IsAsBefore before after
 EndsIn command unread unwritten before after NotRead = IsSome command × unread × IsAsBefore before after
 EndsIn command unread unwritten before after NoMemory =
-    IsAsBefore before after ⊎ OfBytes command before.holds (λ c bytes. TellsPartly c bytes before after)
+    IsAsBefore before after ⊎ OfBytes command before.holds (λ c bytes. EndsOn c bytes unwritten before after NoMemory)
 EndsIn command unread unwritten before after conclusion =
     OfBytes command before.holds (λ c bytes. EndsOn c bytes unwritten before after conclusion)
 

@@ -33,7 +33,7 @@ replayed_of (Err fault) = unwrap_or (trouble_of fault) (BadLog fault)
 pub record ReplaysTo (name : List ℕ) (before after : Outside) (conclusion : Conclusion) : Type 0 where
   pub ended : Result Verdict ReplayFault
   pub is_conclusion : conclusion ≡ replayed_of ended
-  pub ends : IfSome before.holds (λ held. IsSomeAnd (held name) (λ bytes. replays.Ends bytes before.printed after.printed ended))
+  pub ends : IfSome before.holds (λ held. IsSomeAnd (held name) (λ bytes. replays.IsReplay bytes before.printed after.printed ended))
   pub holds : after.holds ≡ before.holds
 
 -- a failure has its cause

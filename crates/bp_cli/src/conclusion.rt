@@ -1,6 +1,6 @@
 //! How a command ends.
-ghost use Rattle.std.specs.Prelude.{◌≡◌, IfOk, string_bytes};
-ghost use Rattle.bp_cli.specs.Conclusions.{code_of, note_of, verdict_code, conclusion_of, ended_of};
+ghost use Rattle.std.specs.Prelude.{◌≡◌, true, IfOk, OnErr, string_bytes};
+ghost use Rattle.bp_cli.specs.Conclusions.{code_of, note_of, has_note, verdict_code, conclusion_of, ended_of};
 ghost use Rattle.bp_cli.specs.Replaying.{trouble_of as trouble_in, replayed_of, log_detail as log_fault_text, detail_of, bad_log_note as bad_log_text};
 
 use bp_log::{Memory, Verdict};
@@ -186,9 +186,10 @@ impl Conclusion {
         }
     }
 
-    /// Its note for standard error. Its only error is want of memory.
+    /// Its note for standard error. Its only error is want of memory; an empty note takes none.
     pub(crate) fn note(&self, alloc: Global) -> Result<Text, Memory>
-        ensures { IfOk result (λ text. text ≡ note_of self.now) }
+        ensures note { IfOk result (λ text. text ≡ note_of self.now) }
+        ensures some { OnErr result (has_note self.now ≡ true) }
     {
         let words = match self {
             Conclusion::Refused(refusal) => return refusal.note(alloc),
@@ -196,7 +197,9 @@ impl Conclusion {
             Conclusion::NoCommand => USAGE,
             Conclusion::NotRead => READ_FAULT,
             Conclusion::NotWritten => WRITE_FAULT,
-            Conclusion::Accepted | Conclusion::Ran(_) | Conclusion::NoMemory => "",
+            Conclusion::Accepted | Conclusion::Ran(_) | Conclusion::NoMemory => {
+                return Ok(Text::new(String::new(alloc)));
+            }
         };
         Ok(Text::new(words.to_string(alloc)?))
     }

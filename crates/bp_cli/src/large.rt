@@ -64,7 +64,8 @@ fn line_of(alloc: Global, count: u32, records: &[Record], text: &[u8]) -> Result
     format!(in alloc; "large {count} events {events} lines {sizes}")
 }
 
-/// What the run of the program under the default options came to, and its text. Want of room for the text is want of memory.
+/// What the run of the program under the default options came to, and its text. Want of room for
+/// the text is want of memory.
 fn run_aside<R: Threads + Wait + Sync>(
     rt: &R,
     alloc: Global,

@@ -23,7 +23,8 @@ use std::thread::Threads;
 /// What is printed of an accepted program.
 const ACCEPTED: &[u8] = b"accepted\n";
 
-/// Runs the program of that name as the words ask for, prints its run, and keeps its log where they ask for one.
+/// Runs the program of that name as the words ask for, prints its run, and keeps its log where they
+/// ask for one.
 pub(crate) fn run_program<R: Threads + Wait + Sync, W: World, K: Sink>(
     rt: &R,
     alloc: Global,

@@ -1,8 +1,7 @@
 -- A log that is followed record by record.
-use Rattle.std.proofs.Common.{◌≡◌, ◌⊎◌, inl, inr, ℕ, ◌+◌, ◌<◌, ◌≤◌, Bool, true, false, List, [], ◌∷◌, ◌++◌, length, refl, ap, sym, ◌∙◌, subst, append_assoc, append-nil, arith, length-append, Option, Some, None, Ok, Err, IsSomeAnd}
-use Rattle.std.specs.Prelude.{IfSome, Result, OnOk, OnErr}
+use Rattle.std.proofs.Common.{◌≡◌, ℕ, ◌+◌, false, List, [], ◌∷◌, ◌++◌, length, refl, ap, sym, ◌∙◌, subst, append-nil, arith, length-append, Option, Some, None, Ok, Err, IsSomeAnd}
+use Rattle.std.specs.Prelude.{IfSome, Result}
 use Rattle.js_meaning.specs.Bodies.{Origin}
-use Rattle.bp_base.specs.Pieces.{Appends, AppendsFront}
 use Rattle.bp_log.specs.Records.{is_complete, verdict_of}
 use Rattle.bp_log.specs.Texts.{lines_text}
 use Rattle.bp_log.specs.declared.record.Record.{Record}
@@ -10,12 +9,11 @@ use Rattle.bp_log.specs.declared.record.Record.TheVariants.{In, Bad, Eof, Sel, E
 use Rattle.bp_log.specs.declared.trace.Line.{Line}
 use Rattle.bp_log.specs.declared.trace.Line.TheVariants as trace
 use Rattle.bp_log.specs.declared.verdict.Verdict.{Verdict}
-use Rattle.bp_reading.specs.Reading.{Stage, Next as Reads, found, finished, next_at, first_stage, after}
-use Rattle.bp_reader.specs.Reads.{Standing, MeansNext, Tells as ReaderTells, IsStageAfter, IsRefusalAfter, ComesInTime}
+use Rattle.bp_reading.specs.Reading.{Stage, found, finished, next_at, first_stage, after}
+use Rattle.bp_reader.specs.Reads.{Standing, MeansNext, Tells as ReaderTells}
 use Rattle.bp_reader.specs.declared.fault.LogFault.{LogFault}
 use Rattle.bp_reader.specs.declared.fault.LogFault.TheVariants as log
 use Rattle.bp_run.specs.Configuration.{Configuration}
-use Rattle.bp_run.specs.Story.{over_with, record_of, story}
 use Rattle.bp_arbiter.specs.Arbiters.{PlainArbiter, options_in}
 use Rattle.bp_serve.specs.Pages.{Shows, ShowsFront}
 use Rattle.bp_log.specs.declared.lines.PrintError.{PrintError}
@@ -24,9 +22,9 @@ use Rattle.bp_serve.proofs.Pieces.{lines_text-append, lines_none, shows_page, sh
 use Rattle.bp_follow.specs.declared.fault.ReplayFault.{ReplayFault}
 use Rattle.bp_follow.specs.declared.fault.ReplayFault.TheVariants as fault
 use Rattle.bp_follow.specs.Faults.{fault_of_print, fault_of_log}
-use Rattle.bp_follow.specs.Courses.{Course, code_in, coming, led, IsTold, text_in, BeginsWith, Follows}
+use Rattle.bp_follow.specs.Courses.{Course, code_in, led, IsTold, text_in, BeginsWith}
 use Rattle.bp_follow.specs.Endings.{Parts, EndsAt}
-use Rattle.bp_follow.specs.Following.{first_of, IsOnWay, IsThere, onto, GoesOn, Makes, Followed, Shown, Finishes, Tells}
+use Rattle.bp_follow.specs.Following.{first_of, IsOnWay, onto, GoesOn, Makes, Followed, Shown, Finishes, Tells}
 use Rattle.bp_follow.proofs.Tales.{one_more, end_told}
 use Rattle.bp_follow.proofs.Shows.{verdict_last}
 

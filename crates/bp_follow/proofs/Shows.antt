@@ -1,10 +1,9 @@
 -- What is printed as a log is followed.
-use Rattle.std.proofs.Common.{◌≡◌, ◌⊎◌, inl, inr, ℕ, ◌+◌, Bool, true, false, List, [], ◌∷◌, ◌++◌, length, refl, ap, sym, ◌∙◌, subst, append_assoc, append-nil, length-append, arith, Option, Some, None, Ok, Err, IsSome}
+use Rattle.std.proofs.Common.{◌≡◌, inl, inr, ℕ, true, false, List, [], ◌∷◌, ◌++◌, length, refl, ap, sym, ◌∙◌, subst, append_assoc, length-append, arith, Option, Some, None, Ok, Err, IsSome}
 use Rattle.std.specs.Prelude.{Result, OnOk, OnErr}
 use Rattle.std.proofs.lemmas.List.{append_cancel_left}
 use Rattle.js_meaning.specs.Bodies.{Origin}
 use Rattle.bp_log.specs.Records.{is_complete, verdict_of}
-use Rattle.bp_log.specs.Texts.{lines_text}
 use Rattle.bp_log.specs.declared.record.Record.{Record}
 use Rattle.bp_log.specs.declared.record.Record.TheVariants.{In, Bad, Eof, Sel, End}
 use Rattle.bp_log.specs.declared.trace.Line.{Line}
@@ -12,19 +11,18 @@ use Rattle.bp_log.specs.declared.trace.Line.TheVariants as trace
 use Rattle.bp_log.specs.declared.verdict.Verdict.{Verdict}
 use Rattle.bp_run.specs.Configuration.{Configuration}
 use Rattle.bp_run.specs.Settling.{Pair}
-use Rattle.bp_run.specs.Story.{over_with, story}
+use Rattle.bp_run.specs.Story.{story}
 use Rattle.bp_thread.specs.declared.job.Job.{Job}
 use Rattle.bp_floor.specs.declared.phase.Phase.{Phase}
 use Rattle.bp_floor.specs.declared.phase.Phase.TheVariants.{Ready, Lent, Rest, Over}
 use Rattle.bp_floor.specs.Floors.{is_idle}
-use Rattle.bp_arbiter.specs.Arbiters as arbiter
 use Rattle.bp_arbiter.specs.Arbiters.{PlainArbiter, Recounts, StandsFor, StandsSomewhere, options_in, stand_in, is_lent}
 use Rattle.bp_serve.specs.Turning.{StandsAfter, Closes, Settles}
-use Rattle.bp_serve.proofs.Way.{same_code, recounts_at, recounts_in}
-use Rattle.bp_follow.specs.Courses.{Course, code_in, led, IsTold}
+use Rattle.bp_serve.proofs.Way.{same_code, recounts_at}
+use Rattle.bp_follow.specs.Courses.{Course, code_in}
 use Rattle.bp_follow.specs.Following.{Runs, IsOnWay, StaysAt, IsThere, IsOnSomeWay, IsSaid}
 use Rattle.bp_follow.proofs.Tales.{one_more, end_told}
-use Rattle.bp_follow.proofs.Steps.{recounts_course, told_at}
+use Rattle.bp_follow.proofs.Steps.{recounts_course}
 
 pub on_way_somewhere : (a : PlainArbiter) → IsOnSomeWay a → StandsSomewhere a
 on_way_somewhere a w = let s = (w.2).stands in record { taken = w.1; pair = s.0; stands = s.1 }

@@ -1,9 +1,9 @@
 -- One record of a log, followed.
-use Rattle.std.proofs.Common.{◌≡◌, ℕ, suc, ◌+◌, ◌<◌, ◌≤◌, Bool, true, false, not, ◌&&◌, nat_eq, nat_lt, List, [], ◌∷◌, ◌++◌, length, refl, ap, sym, ◌∙◌, subst, arith, Option, Some, None, Ok, Err, length-append}
-use Rattle.std.specs.Prelude.{Result, option_to_list, OnOk, IfOk}
+use Rattle.std.proofs.Common.{◌≡◌, ℕ, ◌<◌, Bool, true, false, not, ◌&&◌, nat_eq, nat_lt, List, [], ◌∷◌, ◌++◌, length, refl, ap, sym, ◌∙◌, subst, arith, Option, Some, None, Ok, Err, length-append}
+use Rattle.std.specs.Prelude.{Result, option_to_list}
 use Rattle.std.specs.List.{list_any}
 use Rattle.js_meaning.specs.Bodies.{Origin}
-use Rattle.bp_log.specs.Records.{is_complete, verdict_of}
+use Rattle.bp_log.specs.Records.{is_complete}
 use Rattle.bp_log.specs.declared.limits.TheConstants.{MOST_WAITING}
 use Rattle.bp_log.specs.declared.item.Item.{Item}
 use Rattle.bp_log.specs.declared.item.Item.TheVariants as item
@@ -11,27 +11,26 @@ use Rattle.bp_log.specs.declared.record.Record.{Record}
 use Rattle.bp_log.specs.declared.record.Record.TheVariants.{In, Bad, Eof, Sel, End}
 use Rattle.bp_log.specs.declared.trace.Line.{Line}
 use Rattle.bp_log.specs.declared.verdict.Verdict.{Verdict}
-use Rattle.bp_run.specs.Configuration.{Configuration, Stand}
+use Rattle.bp_run.specs.Configuration.{Configuration}
 use Rattle.bp_run.specs.Settling.{Entry, Pair}
-use Rattle.bp_run.specs.Story.{Next, next, has_room, over_with, record_of, after_record, story}
+use Rattle.bp_run.specs.Story.{Next, has_room, over_with, record_of, story}
 use Rattle.bp_run.specs.Story.Next.{Ends, Selects, Waits}
 use Rattle.bp_run.proofs.Stories.{story_end}
 use Rattle.bp_floor.specs.declared.phase.Phase.{Phase}
 use Rattle.bp_floor.specs.declared.phase.Phase.TheVariants.{Ready, Lent, Rest, Over}
-use Rattle.bp_floor.specs.declared.absorb.Absorb.{Absorb}
 use Rattle.bp_floor.specs.Floors.{is_idle}
 use Rattle.bp_arbiter.specs.declared.picked.Picked.{Picked}
 use Rattle.bp_arbiter.specs.declared.picked.Picked.TheVariants as picked
 use Rattle.bp_arbiter.specs.Arbiters as arbiter
 use Rattle.bp_arbiter.specs.Arbiters.{PlainArbiter, Recounts, StandsFor, Shows, options_in, stand_in, is_lent}
 use Rattle.bp_arbiter.specs.Absorbing.{is_failed, fits, with_item, absorbed}
-use Rattle.bp_arbiter.specs.Picking.{picked_of, after_pick, moved_phase, phase_after}
+use Rattle.bp_arbiter.specs.Picking.{picked_of, after_pick, phase_after}
 use Rattle.bp_serve.specs.Turning.{StandsAfter}
 use Rattle.bp_serve.proofs.Way.{same_code, recounts_at, recounts_in, coming_at}
 use Rattle.bp_follow.specs.declared.fault.ReplayFault.{ReplayFault}
 use Rattle.bp_follow.specs.declared.fault.ReplayFault.TheVariants as fault
-use Rattle.bp_follow.specs.Courses.{Course, code_in, coming, led, IsTold}
-use Rattle.bp_follow.specs.Following.{Runs, IsOnWay, StaysAt, IsThere, IsSomewhere, IsSaidBy, is_item, enters, enters_in, onto, GoesOn, Makes, Compared, Followed}
+use Rattle.bp_follow.specs.Courses.{Course, code_in, coming, led}
+use Rattle.bp_follow.specs.Following.{Runs, IsOnWay, StaysAt, IsThere, IsSomewhere, IsSaidBy, is_item, enters, onto, Makes, Compared, Followed}
 use Rattle.bp_follow.proofs.Tales.{one_record, one_more, more_lines, MakesOther, leads_nowhere, leads_nowhere_over, verdict_next, reads_after}
 
 same_some : {A : Type 0} (x : Option A) (c d : A) → x ≡ Some c → x ≡ Some d → c ≡ d
@@ -84,7 +83,7 @@ not_not false c h = ap not h
 
 -- what may enter is seen by the arbiter
 pub enters_same : (c : Course) (a : PlainArbiter) (r : Record) → IsThere c a → a.phase ≡ Rest → (a.broken ≡ false → is_idle a.phase ≡ true → (d : Configuration Origin) → Recounts a d → Shows (stand_in a) d.stand) →
-    enters c.told r ≡ enters_in a r
+    enters c.told.reading c.told.stand r ≡ enters a.reading (stand_in a) r
 enters_same c a (In j e) t f shows =
     let w = stays_rest c a t f in
     let s = w.1.1 in
@@ -163,7 +162,7 @@ makes_on c a b (End v) runs p q rs u s = (told c a b (End v) runs p q rs u s, le
 
 -- ---- an item
 
-pub item_entering : (a : PlainArbiter) (r : Record) → enters_in a r ≡ true → is_item r ≡ true
+pub item_entering : (a : PlainArbiter) (r : Record) → enters a.reading (stand_in a) r ≡ true → is_item r ≡ true
 item_entering a (In j e) h = refl
 item_entering a (Bad j n) h = refl
 item_entering a (Eof j) h = refl
@@ -179,7 +178,7 @@ second_of_two true b h = h
 second_of_two false b h = absurd (cc)
 
 -- its injector is read
-pub read_entering : (a : PlainArbiter) (r : Record) (k : ℕ) (i : Item) → IsSaidBy r k i → enters_in a r ≡ true → list_any (nat_eq k) a.reading ≡ true
+pub read_entering : (a : PlainArbiter) (r : Record) (k : ℕ) (i : Item) → IsSaidBy r k i → enters a.reading (stand_in a) r ≡ true → list_any (nat_eq k) a.reading ≡ true
 read_entering a (In j e) k i s h = ap (λ (n : ℕ). list_any (nat_eq n) a.reading) s.0 ∙ first_of_two (list_any (nat_eq j) a.reading) (has_room (stand_in a)) h
 read_entering a (Bad j n) k i s h = ap (λ (n : ℕ). list_any (nat_eq n) a.reading) s.0 ∙ h
 read_entering a (Eof j) k i s h = ap (λ (n : ℕ). list_any (nat_eq n) a.reading) s.0 ∙ h
@@ -194,7 +193,7 @@ sound_entering (Sel e) k i s = absurd s
 sound_entering (End v) k i s = absurd s
 
 -- and there is room
-pub fits_entering : (a : PlainArbiter) (r : Record) (k : ℕ) (i : Item) → IsSaidBy r k i → enters_in a r ≡ true → fits (stand_in a) i ≡ true
+pub fits_entering : (a : PlainArbiter) (r : Record) (k : ℕ) (i : Item) → IsSaidBy r k i → enters a.reading (stand_in a) r ≡ true → fits (stand_in a) i ≡ true
 fits_entering a (In j e) k i s h = ap (λ (x : Item). fits (stand_in a) x) s.1 ∙ second_of_two (list_any (nat_eq j) a.reading) (has_room (stand_in a)) h
 fits_entering a (Bad j n) k i s h = ap (λ (x : Item). fits (stand_in a) x) s.1
 fits_entering a (Eof j) k i s h = ap (λ (x : Item). fits (stand_in a) x) s.1
@@ -281,7 +280,7 @@ picks c a b k t f kp rec st ph base q =
     }
 
 -- where the run waits, no record of it comes next
-pub waits_parts : (c : Course) (r : Record) (k : Picked) → k ≡ picked_of (coming c) → k ≡ picked.Wait → enters c.told r ≡ false → (led c r ≡ None) × (None ≡ record_of (coming c))
+pub waits_parts : (c : Course) (r : Record) (k : Picked) → k ≡ picked_of (coming c) → k ≡ picked.Wait → enters c.told.reading c.told.stand r ≡ false → (led c r ≡ None) × (None ≡ record_of (coming c))
 waits_parts c r k e w n =
     let none = waits_at (coming c) (sym e ∙ w) in
     (leads_nowhere (code_in c) c.options c.told r n (other_than_none (coming c) r none), sym none)
@@ -296,7 +295,7 @@ pub some_made : (b : PlainArbiter) (rs : List Record) (r : Record) → b.records
 some_made b rs r h = subst (λ (xs : List Record). 0 < length xs) (sym h) (some_records rs r)
 
 -- what was made was compared
-pub followed_made : (c : Course) (a b : PlainArbiter) (k : Picked) (made r : Record) (n : ℕ) (result : Result (Unit {0}) ReplayFault) → Runs c a → Picks c a b k → record_of (coming c) ≡ Some made → enters c.told r ≡ false →
+pub followed_made : (c : Course) (a b : PlainArbiter) (k : Picked) (made r : Record) (n : ℕ) (result : Result (Unit {0}) ReplayFault) → Runs c a → Picks c a b k → record_of (coming c) ≡ Some made → enters c.told.reading c.told.stand r ≡ false →
     Compared made r n result → Followed c r n b result
 followed_made c a b k made r n (Ok x) runs p e u h =
     makes_on c a b r runs p.code p.options (records_made c b made p.records e ∙ ap (λ (y : Record). c.records ++ y ∷ []) h) p.unlent p.stands

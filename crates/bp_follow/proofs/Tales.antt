@@ -1,10 +1,10 @@
 -- One more record of a story.
-use Rattle.std.proofs.Common.{◌≡◌, ℕ, ◌<◌, Bool, true, false, not, ◌&&◌, ◌||◌, ◌⊎◌, inl, inr, eqb-true, nat_eq, nat_lt, zero, suc, List, [], ◌∷◌, ◌++◌, refl, ap, sym, ◌∙◌, subst, Option, Some, None, filter, arith}
-use Rattle.std.specs.Prelude.{option_and_then, option_to_list, if◌then◌else◌}
+use Rattle.std.proofs.Common.{◌≡◌, ℕ, ◌<◌, Bool, true, false, not, ◌&&◌, ◌||◌, ◌⊎◌, inl, inr, eqb-true, nat_eq, zero, suc, List, [], ◌∷◌, ◌++◌, refl, ap, sym, ◌∙◌, Option, Some, None, filter, arith}
+use Rattle.std.specs.Prelude.{option_and_then, if◌then◌else◌}
 use Rattle.std.specs.List.{list_any}
 use Rattle.js_data.specs.Event.{PlainEvent, same_event}
 use Rattle.bp_log.specs.Options.{PlainOptions}
-use Rattle.bp_log.specs.Records.{same_record, is_complete}
+use Rattle.bp_log.specs.Records.{is_complete}
 use Rattle.bp_log.specs.Verdicts.{same_verdict}
 use Rattle.bp_log.specs.declared.record.Record.{Record}
 use Rattle.bp_log.specs.declared.record.Record.TheVariants.{In, Bad, Eof, Sel, End}
@@ -16,10 +16,10 @@ use Rattle.std.proofs.lemmas.List.Folds.{list_any-append}
 use Rattle.bp_run.specs.Bodies.{Code}
 use Rattle.bp_run.specs.Configuration.{Configuration, below}
 use Rattle.bp_run.specs.Settling.{initial}
-use Rattle.bp_run.specs.Choosing.{Choice, Touched}
-use Rattle.bp_run.specs.Story.{Next, next, next_unless, may_come, is_over, has_room, move, over_with, if_selected, if_ended, after_record, after_next, record_of, story_from, story}
+use Rattle.bp_run.specs.Story.{Next, next, next_unless, may_come, is_over, has_room, move, over_with, if_selected, if_ended, after_record, record_of, story_from, story}
 use Rattle.bp_run.specs.Story.Next.{Ends, Selects, Waits}
-use Rattle.bp_run.proofs.Stories.{story_on, story_prefix, goes_on}
+use Rattle.bp_run.proofs.Stories.{story_on, story_prefix}
+use Rattle.bp_follow.specs.Following.{ReadsBelow, enters}
 
 and_then_some : {A : Type 0} (x : Option A) → option_and_then (λ (a : A). Some a) x ≡ x
 and_then_some None = refl
@@ -48,14 +48,6 @@ more_lines l o rs c d r h k =
     (f.2.0, f.2.1 ∙ ap (λ (x : Configuration _). x.stand.lines ++ f.2.0) e)
 
 -- ---- what an injector says
-
--- the record is that of an item that may enter
-abbrev pub enters : {O : Type 0} → Configuration O → Record → Bool
-enters c (In j e) = list_any (nat_eq j) c.reading && has_room c.stand
-enters c (Bad j n) = list_any (nat_eq j) c.reading
-enters c (Eof j) = list_any (nat_eq j) c.reading
-enters c (Sel e) = false
-enters c (End v) = false
 
 if_none : {A : Type 0} (b : Bool) (x : A) → (b ≡ true → ⊥) → (if b then Some x else None) ≡ None
 if_none true x h = absurd (h refl)
@@ -89,7 +81,7 @@ none_at true x h = absurd (cc)
 none_at false x h = refl
 
 -- a record that neither enters nor is made leads to nothing
-pub leads_nowhere : {O S : Type 0} (l : Code O S) (o : PlainOptions) (c : Configuration O) (r : Record) → enters c r ≡ false → MakesOther (next l o c) r → after_record l o c r ≡ None
+pub leads_nowhere : {O S : Type 0} (l : Code O S) (o : PlainOptions) (c : Configuration O) (r : Record) → enters c.reading c.stand r ≡ false → MakesOther (next l o c) r → after_record l o c r ≡ None
 unfolding after_record
 leads_nowhere l o c (In j e) h k = none_at _ _ (shut (not (is_over c)) (list_any (nat_eq j) c.reading) (has_room c.stand) h)
 leads_nowhere l o c (Bad j n) h k = none_at _ _ (and_false (not (is_over c)) (list_any (nat_eq j) c.reading) h)
@@ -144,10 +136,6 @@ unfolding after_record
 end_told l o c d v h = ended_told c d v (next l o c) h
 
 -- ---- the injectors that are read
-
--- only injectors that are there are read
-abbrev pub ReadsBelow : {O : Type 0} → ℕ → Configuration O → Type 0
-ReadsBelow n c = (j : ℕ) → list_any (nat_eq j) c.reading ≡ true → j < n
 
 either : (a b : Bool) → (a || b) ≡ true → (a ≡ true) ⊎ (b ≡ true)
 either true b h = inl refl

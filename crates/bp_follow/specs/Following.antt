@@ -1,8 +1,7 @@
 -- An arbiter that follows a log.
-use Rattle.std.specs.Prelude.{◌≡◌, ℕ, ◌+◌, ◌<◌, Bool, true, false, ◌&&◌, nat_eq, List, [], ◌∷◌, ◌++◌, Option, Some, None, Result, Ok, Err, IsSome}
+use Rattle.std.specs.Prelude.{◌≡◌, ℕ, ◌<◌, Bool, true, false, ◌&&◌, nat_eq, List, [], ◌∷◌, ◌++◌, Option, Some, None, Result, Ok, Err, IsSome}
 use Rattle.std.specs.List.{list_any}
 use Rattle.bp_log.specs.Records.{is_complete, verdict_of}
-use Rattle.bp_log.specs.Texts.{lines_text}
 use Rattle.bp_log.specs.declared.item.Item.{Item}
 use Rattle.bp_log.specs.declared.item.Item.TheVariants as item
 use Rattle.bp_log.specs.declared.record.Record.{Record}
@@ -14,13 +13,13 @@ use Rattle.js_meaning.specs.Bodies.{Origin}
 use Rattle.bp_log.specs.Options.{PlainOptions}
 use Rattle.bp_reading.specs.Reading.{Next as Reads, finished, Stage}
 use Rattle.bp_reader.specs.Reads.{MeansNext}
-use Rattle.bp_run.specs.Configuration.{Configuration}
+use Rattle.bp_run.specs.Configuration.{Configuration, Stand}
 use Rattle.bp_run.specs.Settling.{initial}
 use Rattle.bp_floor.specs.Programs.{code_of}
 use Rattle.bp_run.specs.Story.{has_room, record_of}
 use Rattle.bp_floor.specs.declared.phase.Phase.{Phase}
 use Rattle.bp_floor.specs.declared.phase.Phase.TheVariants.{Ready, Lent, Rest, Over}
-use Rattle.bp_arbiter.specs.Arbiters.{PlainArbiter, options_in, stand_in, is_lent}
+use Rattle.bp_arbiter.specs.Arbiters.{PlainArbiter, options_in, is_lent}
 use Rattle.bp_arbiter.specs.Arbiters as arbiter
 use Rattle.bp_serve.specs.Pages.{Shows, ShowsFront}
 use Rattle.bp_serve.specs.Turning.{StandsAfter}
@@ -30,7 +29,7 @@ use Rattle.bp_follow.specs.Courses.{Course, code_in, coming, led, IsTold, text_i
 use Rattle.bp_follow.specs.Endings.{EndsAt}
 
 -- only injectors that are there are read
-abbrev pub ReadsBelow : ℕ → Configuration Origin → Type 0
+abbrev pub ReadsBelow : {O : Type 0} → ℕ → Configuration O → Type 0
 ReadsBelow n c = (j : ℕ) → list_any (nat_eq j) c.reading ≡ true → j < n
 
 -- the arbiter runs the program of the course, whose records are a story without an end
@@ -97,21 +96,13 @@ IsSaidBy (Eof j) k i = (k ≡ j) × (i ≡ item.End)
 IsSaidBy (Sel e) k i = ⊥
 IsSaidBy (End v) k i = ⊥
 
--- the record is that of an item which may enter, while there is no verdict
-abbrev pub enters : Configuration Origin → Record → Bool
-enters c (In j e) = list_any (nat_eq j) c.reading && has_room c.stand
-enters c (Bad j n) = list_any (nat_eq j) c.reading
-enters c (Eof j) = list_any (nat_eq j) c.reading
-enters c (Sel e) = false
-enters c (End v) = false
-
--- the same, by what the arbiter shows
-abbrev pub enters_in : PlainArbiter → Record → Bool
-enters_in a (In j e) = list_any (nat_eq j) a.reading && has_room (stand_in a)
-enters_in a (Bad j n) = list_any (nat_eq j) a.reading
-enters_in a (Eof j) = list_any (nat_eq j) a.reading
-enters_in a (Sel e) = false
-enters_in a (End v) = false
+-- the record is that of an item which may enter, where these injectors are read and the b-threads stand so, without a verdict
+abbrev pub enters : {O : Type 0} → List ℕ → Stand O → Record → Bool
+enters reading stand (In j e) = list_any (nat_eq j) reading && has_room stand
+enters reading stand (Bad j n) = list_any (nat_eq j) reading
+enters reading stand (Eof j) = list_any (nat_eq j) reading
+enters reading stand (Sel e) = false
+enters reading stand (End v) = false
 
 -- the course with one more record, which leads there
 abbrev pub onto : Course → Record → Configuration Origin → Course

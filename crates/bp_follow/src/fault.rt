@@ -13,8 +13,8 @@ pub enum ReplayFault {
     /// The bytes are no log, or reading them failed.
     #[error("{0}")]
     Log(LogFault),
-    /// The record of this number, counted from 1, is not what the run makes next: that is `expected`, or `None`
-    /// where the run waits for an injector.
+    /// The record of this number, counted from 1, is not what the run makes next: that is
+    /// `expected`, or `None` where the run waits for an injector.
     #[error("record {number} differs")]
     Differs {
         number: u32,

@@ -3,9 +3,9 @@ ghost use Rattle.std.specs.Prelude.{◌≡◌, ◌<◌, ◌++◌, ◌∷◌, [],
 ghost use Rattle.std.specs.List.{list_any};
 ghost use Rattle.bp_log.specs.declared.record.Record.{Record as Entry};
 ghost use Rattle.bp_floor.specs.declared.phase.Phase.TheVariants as phase;
-ghost use Rattle.bp_arbiter.specs.Arbiters.{options_in};
+ghost use Rattle.bp_arbiter.specs.Arbiters.{options_in, stand_in};
 ghost use Rattle.bp_follow.specs.Courses.{Course};
-ghost use Rattle.bp_follow.specs.Following.{enters, enters_in, is_item, Compared, Followed, IsSaidBy, IsSomewhere, IsThere, Makes};
+ghost use Rattle.bp_follow.specs.Following.{enters, is_item, Compared, Followed, IsSaidBy, IsSomewhere, IsThere, Makes};
 
 use crate::ReplayFault;
 use bp_arbiter::{Arbiter, Phase, Picked};
@@ -31,9 +31,9 @@ fn is_read(arbiter: &Arbiter, injectors: u32, injector: u32) -> bool
 fn may_enter(arbiter: &Arbiter, found: &Record) -> bool
     requires rest { arbiter.now.phase ≡ phase.Rest }
     requires there { IsSomewhere arbiter.now }
-    ensures enters { result ≡ enters_in arbiter.now found.now }
-    ensures same { (c : Course) → IsThere c arbiter.now →
-        enters c.told found.now ≡ enters_in arbiter.now found.now }
+    ensures enters { result ≡ enters arbiter.now.reading (stand_in arbiter.now) found.now }
+    ensures same { (c : Course) → IsThere c arbiter.now → enters c.told.reading c.told.stand found.now
+        ≡ enters arbiter.now.reading (stand_in arbiter.now) found.now }
 {
     let injectors = arbiter.floor().options().injectors();
     match found {
@@ -65,7 +65,7 @@ fn item_of(found: &Record) -> Result<(u32, Item), Memory>
 /// The item of the record enters. Its only error is want of memory.
 fn enter(arbiter: &mut Arbiter, found: &Record) -> Result<(), Memory>
     requires rest { arbiter.old.phase ≡ phase.Rest }
-    requires may { enters_in arbiter.old found.now ≡ true }
+    requires may { enters arbiter.old.reading (stand_in arbiter.old) found.now ≡ true }
     ensures { OnOk result ((c : Course) → IsThere c arbiter.old → Makes c found.now arbiter.new) }
 {
     let (injector, item) = item_of(found)?;
@@ -99,7 +99,7 @@ fn compare(arbiter: &Arbiter, number: u32, found: Record) -> Result<(), ReplayFa
 fn make(alloc: Global, arbiter: &mut Arbiter, number: u32, found: Record) -> Result<(), ReplayFault>
     requires rest { arbiter.old.phase ≡ phase.Rest }
     requires there { IsSomewhere arbiter.old }
-    ensures { (c : Course) → IsThere c arbiter.old → enters c.told found ≡ false →
+    ensures { (c : Course) → IsThere c arbiter.old → enters c.told.reading c.told.stand found ≡ false →
         Followed c found number arbiter.new result }
 {
     if arbiter.pick(alloc)? == Picked::Wait {
@@ -130,7 +130,8 @@ fn go_on(
     make(alloc, arbiter, number, found)
 }
 
-/// The run makes the record of this number, where it can; where it has ended by itself, that is its end.
+/// The run makes the record of this number, where it can; where it has ended by itself, that is its
+/// end.
 pub(crate) fn follow(
     alloc: Global,
     arbiter: &mut Arbiter,

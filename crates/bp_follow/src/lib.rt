@@ -1,4 +1,5 @@
-//! A run that follows the records of a log: it makes them again, one by one, and prints its lines as they come.
+//! A run that follows the records of a log: it makes them again, one by one, and prints its lines
+//! as they come.
 #![tactic(auto)]
 
 mod fault;

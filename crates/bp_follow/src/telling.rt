@@ -32,7 +32,8 @@ fn but_last(lines: &[Line]) -> &[Line]
     }
 }
 
-/// The lines that the records of the log say: where the run has ended by itself, all but that of its verdict.
+/// The lines that the records of the log say: where the run has ended by itself, all but that of
+/// its verdict.
 fn said<'a>(arbiter: &Arbiter, lines: &'a [Line]) -> &'a [Line]
     ensures { IsSaid arbiter.now lines.now result.now }
 {
@@ -42,8 +43,8 @@ fn said<'a>(arbiter: &Arbiter, lines: &'a [Line]) -> &'a [Line]
     }
 }
 
-/// Runs what is to be run, and prints the lines since the last printing; but not that of a verdict, which the log
-/// has still to say.
+/// Runs what is to be run, and prints the lines since the last printing; but not that of a verdict,
+/// which the log has still to say.
 fn show<K: Sink>(
     alloc: Global,
     arbiter: &mut Arbiter,
@@ -130,8 +131,9 @@ fn tell<S: Source, K: Sink>(
     }
 }
 
-/// Makes the run of the program again, as far as the records that are still to be read are its own, and puts its text
-/// on the page. After `Write` and `Memory` a front of the text of such records was written or waits.
+/// Makes the run of the program again, as far as the records that are still to be read are its own,
+/// and puts its text on the page. After `Write` and `Memory` a front of the text of such records
+/// was written or waits.
 pub fn replay_onto<S: Source, K: Sink>(
     alloc: Global,
     program: Program,

@@ -12,7 +12,7 @@ use Rattle.bp_script.specs.declared.refusal.Refusal.{Refusal}
 use Rattle.bp_script.specs.Programs.{IsRefused}
 use Rattle.bp_script.proofs.Once.{never}
 use Rattle.bp_large.specs.Large as large
-use Rattle.bp_large.specs.Large.{large_program, IsAccepted}
+use Rattle.bp_large.specs.Large.{large_program, HasAcceptedTree}
 use Rattle.bp_large.proofs.Digits.{is_numbered}
 use Rattle.bp_large.proofs.Tokens.{tokens, cut}
 use Rattle.bp_large.proofs.Names.{reads}
@@ -47,7 +47,7 @@ short n h =
     omega (arith, a, b, c, d, few n h)
 
 -- the bytes with these digits
-of_cut : (bytes : List ℕ) (size v : ℕ) → length bytes ≤ MOST_BYTES → IsUtf8 bytes → Cut bytes (tokens size v) → 0 < size → size ≤ 10 → IsAccepted bytes
+of_cut : (bytes : List ℕ) (size v : ℕ) → length bytes ≤ MOST_BYTES → IsUtf8 bytes → Cut bytes (tokens size v) → 0 < size → size ≤ 10 → HasAcceptedTree bytes
 of_cut bytes size v s u c some h =
     let r = reads size some h v in
     let t = tree_found 20 (tokens size v) r.tree [] r.is in (
@@ -63,12 +63,12 @@ of_cut bytes size v s u c some h =
       },
     )
 
-pub accepted : (n : ℕ) → n < 4294967296 → IsAccepted (large_program n)
+pub accepted : (n : ℕ) → n < 4294967296 → HasAcceptedTree (large_program n)
 unfolding large_program
 accepted n h =
     let d = is_numbered (drop 1 large.rest) n h in
     let f : length (d.first ∷ d.more) ≤ 10 = subst (λ (ds : List ℕ). length ds ≤ 10) d.is (few n h) in
-    subst (λ (ds : List ℕ). IsAccepted (large.front ++ ds ++ large.rest)) (sym d.is)
+    subst (λ (ds : List ℕ). HasAcceptedTree (large.front ++ ds ++ large.rest)) (sym d.is)
     (of_cut (large.front ++ (d.first ∷ d.more) ++ large.rest) (length (d.first ∷ d.more)) d.amount
     (subst (λ (ds : List ℕ). length (large.front ++ ds ++ large.rest) ≤ MOST_BYTES) d.is (short n h)) (subst (λ (ds : List ℕ). IsUtf8 (large.front ++ ds ++ large.rest)) d.is (utf8 n h))
     (cut d.first d.more d.amount d.number d.line) (omega arith) f)

@@ -15,6 +15,6 @@ rest = codes "; i++) bp.registerBThread(\"t\" + i, make(i))\n"
 unfoldable pub large_program : ℕ → List ℕ
 large_program n = front ++ decimal n ++ rest
 
--- the bytes are a program that is accepted
-abbrev pub IsAccepted : List ℕ → Type 0
-IsAccepted bytes = (tree : List PlainItem) × AreAccepted bytes tree
+-- the bytes spell a tree that is accepted
+abbrev pub HasAcceptedTree : List ℕ → Type 0
+HasAcceptedTree bytes = (tree : List PlainItem) × AreAccepted bytes tree

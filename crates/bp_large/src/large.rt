@@ -1,7 +1,7 @@
 //! The text of the large program, and the program that it is.
 ghost use Rattle.std.specs.Prelude.{◌≡◌, IfOk, string_bytes};
 ghost use Rattle.bp_script.specs.Programs.{IsProgram};
-ghost use Rattle.bp_large.specs.Large.{large_program as text_of_large, IsAccepted};
+ghost use Rattle.bp_large.specs.Large.{large_program as text_of_large, HasAcceptedTree};
 
 use bp_script::{ScriptFault, accept};
 use js_data::Memory;
@@ -17,7 +17,7 @@ const REST: &str = "; i++) bp.registerBThread(\"t\" + i, make(i))\n";
 
 /// A law: the text with any number of b-threads is accepted.
 pub fn large_is_accepted(count: u32)
-    ensures { IsAccepted (text_of_large count) }
+    ensures { HasAcceptedTree (text_of_large count) }
 {}
 
 /// The text of the program of so many b-threads. Its only error is want of memory.
@@ -28,8 +28,8 @@ fn text_of(alloc: Global, count: u32) -> Result<String, Memory>
     format!(in alloc; "{FRONT}{count}{REST}")
 }
 
-/// The program of so many b-threads, of which each requests an event of its own four times. It is never refused; its
-/// only error is want of memory.
+/// The program of so many b-threads, of which each requests an event of its own four times. It is
+/// never refused; its only error is want of memory.
 pub fn large_program(alloc: Global, count: u32) -> Result<Program, Memory>
     ensures { IfOk result (IsProgram (text_of_large count)) }
 {

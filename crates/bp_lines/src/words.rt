@@ -20,7 +20,8 @@ fn is_front_zero(bytes: &[u8]) -> bool
     }
 }
 
-/// The number, at most `most`, that the bytes are in decimal, without a leading zero. Takes no memory.
+/// The number, at most `most`, that the bytes are in decimal, without a leading zero. Takes no
+/// memory.
 pub fn number_of(bytes: &[u8], most: u64) -> Option<u64>
     ensures { result ≡ number_at most bytes.now }
 {

@@ -1,11 +1,10 @@
 -- What a reader of a log tells.
-use Rattle.std.specs.Prelude.{◌≡◌, ℕ, ◌<◌, true, false, List, [], Option, Some, None, Result, Ok, Err, IsSomeAnd}
+use Rattle.std.specs.Prelude.{◌≡◌, ℕ, ◌<◌, true, false, List, [], Option, Some, None, Result, Ok, Err, IfSome, IsSomeAnd}
 use Rattle.bp_log.specs.declared.record.Record.{Record}
 use Rattle.bp_reading.specs.declared.limits.TheConstants.{MOST_RECORDS}
-use Rattle.bp_reading.specs.Heads.{version, header, record_line, cut}
 use Rattle.bp_reading.specs.Reading.{Stage, Next, found, finished, refused, after as stage_after}
 use Rattle.bp_reader.specs.declared.fault.LogFault.{LogFault}
-use Rattle.bp_reader.specs.declared.fault.LogFault.TheVariants as fault
+use Rattle.bp_reader.specs.Gets.{refusal_of}
 
 -- where a reader stands: the bytes still to come, where the source tells them, how often it failed, what is
 -- known of the records before, and what was refused
@@ -15,14 +14,9 @@ pub record Standing : Type 0 where
   pub stage : Stage
   pub refusal : Option LogFault
 
--- the fault is what stands next; one of reading or memory says nothing
+-- what stands next is the refusal that the fault tells
 abbrev pub MeansNext : LogFault → Next → Type 0
-MeansNext fault.Version next = next ≡ refused version
-MeansNext fault.Header next = next ≡ refused header
-MeansNext (fault.Line n) next = next ≡ refused (record_line n)
-MeansNext fault.Cut next = next ≡ refused cut
-MeansNext fault.Read next = Unit {0}
-MeansNext fault.Memory next = Unit {0}
+MeansNext f next = IfSome (refusal_of f) (λ r. next ≡ refused r)
 
 -- the answer is what stands next in the bytes; behind the end nothing is left
 abbrev pub Tells : Result (Option Record) LogFault → Next → Option (List ℕ) → Type 0

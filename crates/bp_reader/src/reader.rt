@@ -153,7 +153,8 @@ impl<S: Source> Reader<S> {
         }
     }
 
-    /// The source, as far as its blocks were taken: a block may hold bytes of lines that weren't read.
+    /// The source, as far as its blocks were taken: a block may hold bytes of lines that weren't
+    /// read.
     pub fn back(self) -> S
         ensures faults { S.faults result ≡ self.faults }
         ensures left { GivesSome self.left (S.left result) }

@@ -32,7 +32,7 @@ use Rattle.bp_reading.proofs.Spelled.{spelled_verdict, spelled_record, record_is
 
 -- ---- answers taken apart
 
-mapped : {A B : Type 0} (f : A → B) (o : Option A) (y : B) → option_map f o ≡ Some y → (x : A) × (o ≡ Some x) × (f x ≡ y)
+pub mapped : {A B : Type 0} (f : A → B) (o : Option A) (y : B) → option_map f o ≡ Some y → (x : A) × (o ≡ Some x) × (f x ≡ y)
 mapped f None y h = absurd (some_none h)
 mapped f (Some x) y h = (x, refl, some_is (f x) y h)
 
@@ -40,7 +40,7 @@ pub chained : {A B : Type 0} (f : A → Option B) (o : Option A) (y : B) → opt
 chained f None y h = absurd (some_none h)
 chained f (Some x) y h = (x, refl, h)
 
-either : {A : Type 0} (o p : Option A) (y : A) → option_or o p ≡ Some y → (o ≡ Some y) ⊎ (p ≡ Some y)
+pub either : {A : Type 0} (o p : Option A) (y : A) → option_or o p ≡ Some y → (o ≡ Some y) ⊎ (p ≡ Some y)
 either None p y h = inr h
 either (Some x) p y h = inl h
 
@@ -112,7 +112,7 @@ event_spelled bytes e h =
     let b = tested (bytes_eq (event_text a.0) bytes) a.0 e a.2 in
     sym (same_bytes (event_text a.0) bytes b.0) ∙ ap (λ (x : PlainEvent). event_text x) b.1
 
-text_spelled : (bytes s : List ℕ) → text_at bytes ≡ Some s → bytes ≡ quoted_text s
+pub text_spelled : (bytes s : List ℕ) → text_at bytes ≡ Some s → bytes ≡ quoted_text s
 text_spelled bytes s h = elim (chosen (is_utf8 bytes) _ _ _ h) [
   | inl good ↦
       let a = chained (if_quoted bytes) (option_and_then as_str (read bytes)) s good.1 in
@@ -283,7 +283,7 @@ faulty_spelled line v h =
     let rest = place_spelled a.0 b.0 b.1 ∙ ap (λ (t : List ℕ). place_text b.0.0 ++ t) (behind_spelled (32 ∷ []) b.0.1 c.0 c.1 ∙ ap (λ (t : List ℕ). 32 ∷ t) kind) in
     behind_spelled (codes "fault ") line a.0 a.1 ∙ ap (λ (t : List ℕ). codes "fault " ++ t) rest ∙ ap spelled_verdict f.2
 
-spent_parts : (p : Place) (bytes : List ℕ) (v : Verdict) → spent_by p bytes ≡ Some v → (bytes ≡ []) × (verdict.Spent p ≡ v)
+pub spent_parts : (p : Place) (bytes : List ℕ) (v : Verdict) → spent_by p bytes ≡ Some v → (bytes ≡ []) × (verdict.Spent p ≡ v)
 spent_parts p [] v h = (refl, some_is _ _ h)
 spent_parts p (b ∷ bytes) v h = absurd (some_none h)
 

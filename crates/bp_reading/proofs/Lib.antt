@@ -9,3 +9,7 @@ pub mod Law
 pub mod Whole
 pub mod Again
 pub mod Told
+pub mod Unquoted
+pub mod Held
+pub mod Ranges
+pub mod Fits

@@ -1,12 +1,12 @@
 -- What is read as a header and a complete list is their text.
-use Rattle.std.proofs.Common.{◌≡◌, ◌∙◌, ◌<◌, ◌-◌, ◌^◌, ℕ, zero, suc, sym, ap, ap₂, true, false, List, [], ◌++◌, ◌∷◌, length, Option, Some, None, Result, Ok, Err, refl, inl, inr, arith, append_assoc}
+use Rattle.std.proofs.Common.{◌≡◌, ◌∙◌, ◌<◌, ◌≤◌, ◌-◌, ◌^◌, ℕ, zero, suc, sym, ap, ap₂, subst, true, false, List, [], ◌++◌, ◌∷◌, length, Option, Some, None, Result, Ok, Err, refl, inl, inr, arith, append_assoc}
 use Rattle.std.specs.Prelude.{◌==◌, decimal, codes, nat_le, is_ok, if◌then◌else◌}
 use Rattle.std.specs.Str.{bytes_eq}
 use Rattle.std.proofs.lemmas.Bool.Decides.{eqb_tells}
 use Rattle.std.proofs.lemmas.Bool.{false≢true}
 use Rattle.bp_log.specs.Options.{PlainOptions}
 use Rattle.bp_log.specs.Header.{PlainHeader}
-use Rattle.bp_log.specs.Logs.{record_text, records_text, log_text, strategy_name, strategy_at}
+use Rattle.bp_log.specs.Logs.{record_text, records_text, strategy_name, strategy_at}
 use Rattle.bp_log.specs.declared.limits.TheConstants.{MOST_BYTES, MOST_BUDGET, MOST_STEPS, MOST_INJECTORS}
 use Rattle.bp_log.specs.declared.options.Strategy.{Strategy}
 use Rattle.bp_log.specs.Records.{is_complete}
@@ -16,12 +16,9 @@ use Rattle.bp_reading.specs.declared.limits.TheConstants.{MOST_LINE_BYTES, MOST_
 use Rattle.bp_reading.specs.Words.{most_64, behind, number_behind}
 use Rattle.bp_reading.specs.Lines.{record_at}
 use Rattle.bp_reading.specs.Heads.{Front, nothing, partial, excess, whole, onto, line_at, Refusal, version, header, cut, ◌>>=◌, or_else, said, is_version, version_at, strategy_behind, strategy_line_at, from_least, field, field_at, program_at, choice_at, limits_at, options_at, header_at}
-use Rattle.bp_reading.specs.Reading.{Stage, first_stage, after, Says, if_stands, next_record, behind_end, too_many, front_at, Next, found, finished, refused, next_found, next_of, next_at}
-use Rattle.bp_reading.specs.Laws.{ReadLogsAreTexts, LinesAreTexts, Spells}
-use Rattle.bp_reading.proofs.Lines.{some_none}
-use Rattle.bp_reading.proofs.Back.{record_back}
+use Rattle.bp_reading.specs.Reading.{Stage, after, Says, if_stands, next_record, behind_end, too_many, front_at, Next, found, finished, refused, next_found, next_of, next_at}
 use Rattle.bp_reading.proofs.Spelled.{options_then}
-use Rattle.bp_reading.proofs.Law.{regrouped, header_then, header_regrouped}
+use Rattle.bp_reading.proofs.Law.{regrouped, header_then}
 use Rattle.bp_reading.proofs.Again.{chained, chosen, tested, same_bytes, behind_spelled, word_spelled, strategy_spelled, record_again}
 
 -- ---- answers taken apart
@@ -30,14 +27,14 @@ value : {A : Type 0} → A → Result A Refusal → A
 value x (Ok y) = y
 value x (Err e) = x
 
-ok_is : {A : Type 0} (r : Result A Refusal) (x y : A) → r ≡ Ok x → r ≡ Ok y → x ≡ y
+pub ok_is : {A : Type 0} (r : Result A Refusal) (x y : A) → r ≡ Ok x → r ≡ Ok y → x ≡ y
 unfolding value
 ok_is r x y h k = ap (value x) (sym h ∙ k)
 
 err_ok : {A : Type 0} (e : Refusal) (x : A) → Err e ≡ Ok x → ⊥
 err_ok e x h = false≢true (ap is_ok h)
 
-bound : {A B : Type 0} (r : Result A Refusal) (f : A → Result B Refusal) (y : B) → (r >>= f) ≡ Ok y → (x : A) × (r ≡ Ok x) × (f x ≡ Ok y)
+pub bound : {A B : Type 0} (r : Result A Refusal) (f : A → Result B Refusal) (y : B) → (r >>= f) ≡ Ok y → (x : A) × (r ≡ Ok x) × (f x ≡ Ok y)
 bound (Ok x) f y h = (x, refl, h)
 bound (Err e) f y h = absurd (err_ok e y h)
 
@@ -47,7 +44,7 @@ or_parts {A} f r rest (Some y) x h =
     let e = ok_is _ (y, r) (x, rest) refl h in
     (ap (λ (p : A × List ℕ). Some p.0) e, ap (λ (p : A × List ℕ). p.1) e)
 
-said_parts : {A : Type 0} (f : Refusal) (says : List ℕ → Option A) (front : Front) (x : A) (rest : List ℕ) → said f says front ≡ Ok (x, rest) → (line : List ℕ) × (front ≡ whole line rest) × (says line ≡ Some x)
+pub said_parts : {A : Type 0} (f : Refusal) (says : List ℕ → Option A) (front : Front) (x : A) (rest : List ℕ) → said f says front ≡ Ok (x, rest) → (line : List ℕ) × (front ≡ whole line rest) × (says line ≡ Some x)
 said_parts f says nothing x rest h = absurd (err_ok cut (x, rest) h)
 said_parts f says partial x rest h = absurd (err_ok cut (x, rest) h)
 said_parts f says excess x rest h = absurd (err_ok f (x, rest) h)
@@ -102,6 +99,20 @@ line_spelled (b ∷ bytes) room line rest h = elim (eqb_tells b 10) [
   ]
 ]
 
+pub line_short : (bytes : List ℕ) (room : ℕ) (line rest : List ℕ) → line_at room bytes ≡ whole line rest → length line ≤ room
+unfolding kind
+line_short [] room line rest h = absurd (apart partial (whole line rest) 1 3 refl refl (λ d. omega arith) h)
+line_short (b ∷ bytes) room line rest h = elim (eqb_tells b 10) [
+  | inl same ↦ subst (λ (l : List ℕ). length l ≤ room) (whole_is [] bytes line rest (rw same.0 at h)).0 (omega arith)
+  | inr other ↦ elim (eqb_tells room 0) [
+    | inl none ↦ absurd (apart excess (whole line rest) 2 3 refl refl (λ d. omega arith) (rw (other.0, none.0) at h))
+    | inr some ↦
+        let p = onto_parts b (line_at (room - 1) bytes) line rest (rw (other.0, some.0) at h) in
+        let short = line_short bytes (room - 1) p.0 rest p.2 in
+        subst (λ (l : List ℕ). length l ≤ room) (sym p.1) (omega (arith, short, some.1))
+  ]
+]
+
 -- a line is never nothing
 onto_some : (b : ℕ) (front : Front) → onto b front ≡ nothing → front ≡ nothing
 unfolding kind
@@ -148,7 +159,7 @@ field_again w bytes rest least most n small h =
     ∙ ap (λ (l : List ℕ). l ++ (10 ∷ rest)) (word_spelled w p.0 most q.0 small q.1 ∙ ap (λ (m : ℕ). w ++ decimal m) r.1)
     ∙ append_assoc w (decimal n) (10 ∷ rest)
 
-program_again : (n : ℕ) (bytes p rest : List ℕ) → program_at n bytes ≡ Ok (p, rest) → (length p ≡ n) × (bytes ≡ p ++ (10 ∷ rest))
+pub program_again : (n : ℕ) (bytes p rest : List ℕ) → program_at n bytes ≡ Ok (p, rest) → (length p ≡ n) × (bytes ≡ p ++ (10 ∷ rest))
 unfolding program_at
 program_again zero [] p rest h = absurd (err_ok cut (p, rest) h)
 program_again zero (b ∷ bytes) p rest h = elim (eqb_tells b 10) [
@@ -205,7 +216,7 @@ options_again bytes rest o h =
     ∙ ap (λ (t : List ℕ). codes "bp-log 1" ++ (10 ∷ (codes "strategy " ++ (strategy_name c.0.0.0 ++ (10 ∷ (codes "seed " ++ (decimal c.0.0.1 ++ (10 ∷ t)))))))) limits
     ∙ ap (λ (q : PlainOptions × List ℕ). codes "bp-log 1" ++ (10 ∷ options_then q.0 (10 ∷ q.1))) e
 
-header_again : (bytes rest : List ℕ) (h : PlainHeader) → header_at bytes ≡ Ok (h, rest) → bytes ≡ header_then h rest
+pub header_again : (bytes rest : List ℕ) (h : PlainHeader) → header_at bytes ≡ Ok (h, rest) → bytes ≡ header_then h rest
 unfolding header_at header_then
 header_again bytes rest h k =
     let o = bound (options_at bytes) _ (h, rest) k in
@@ -246,7 +257,7 @@ unfolding sort
 never_ends s rest None h = unlike _ finished 2 1 refl refl (λ d. omega arith) h
 never_ends s rest (Some r) h = unlike (found r rest) finished 0 1 refl refl (λ d. omega arith) h
 
-front_finished : (s : Stage) (front : Front) → next_of s front ≡ finished → front ≡ nothing
+pub front_finished : (s : Stage) (front : Front) → next_of s front ≡ finished → front ≡ nothing
 unfolding sort
 front_finished s nothing h = refl
 front_finished s partial h = absurd (unlike (refused cut) finished 2 1 refl refl (λ d. omega arith) h)
@@ -264,7 +275,7 @@ many_something [] h = apart partial nothing 1 0 refl refl (λ d. omega arith) h
 many_something (b ∷ bytes) h = apart excess nothing 2 0 refl refl (λ d. omega arith) h
 
 -- before the end the bytes don't end well
-goes_on : (s : Stage) (bytes : List ℕ) → (if nat_le MOST_RECORDS s.lines then too_many bytes else line_at MOST_LINE_BYTES bytes) ≡ nothing → ⊥
+pub goes_on : (s : Stage) (bytes : List ℕ) → (if nat_le MOST_RECORDS s.lines then too_many bytes else line_at MOST_LINE_BYTES bytes) ≡ nothing → ⊥
 goes_on s bytes h = elim (chosen (nat_le MOST_RECORDS s.lines) _ _ _ h) [
   | inl full ↦ many_something bytes full.1
   | inr more ↦ line_some bytes MOST_LINE_BYTES more.1
@@ -284,7 +295,7 @@ found_parts s rest other (Some q) r h =
     let e = found_is q r rest other h in
     (ap (λ (x : Record). Some x) e.0, e.1)
 
-front_found : (s : Stage) (front : Front) (r : Record) (rest : List ℕ) → next_of s front ≡ found r rest → (line : List ℕ) × (front ≡ whole line rest) × (next_record s line ≡ Some r)
+pub front_found : (s : Stage) (front : Front) (r : Record) (rest : List ℕ) → next_of s front ≡ found r rest → (line : List ℕ) × (front ≡ whole line rest) × (next_record s line ≡ Some r)
 unfolding sort
 front_found s nothing r rest h = absurd (unlike finished (found r rest) 1 0 refl refl (λ d. omega arith) h)
 front_found s partial r rest h = absurd (unlike (refused cut) (found r rest) 2 0 refl refl (λ d. omega arith) h)
@@ -293,12 +304,12 @@ front_found s (whole line other) r rest h =
     let p = found_parts s other rest (next_record s line) r h in
     (line, ap (λ (t : List ℕ). whole line t) p.1, p.0)
 
-ends_no_line : (bytes line rest : List ℕ) → behind_end bytes ≡ whole line rest → ⊥
+pub ends_no_line : (bytes line rest : List ℕ) → behind_end bytes ≡ whole line rest → ⊥
 unfolding kind
 ends_no_line [] line rest h = apart nothing (whole line rest) 0 3 refl refl (λ d. omega arith) h
 ends_no_line (b ∷ bytes) line rest h = apart excess (whole line rest) 2 3 refl refl (λ d. omega arith) h
 
-many_no_line : (bytes line rest : List ℕ) → too_many bytes ≡ whole line rest → ⊥
+pub many_no_line : (bytes line rest : List ℕ) → too_many bytes ≡ whole line rest → ⊥
 unfolding kind
 many_no_line [] line rest h = apart partial (whole line rest) 1 3 refl refl (λ d. omega arith) h
 many_no_line (b ∷ bytes) line rest h = apart excess (whole line rest) 2 3 refl refl (λ d. omega arith) h
@@ -320,7 +331,7 @@ found_again s bytes rest r h =
     let t = tested _ q.0 r q.2 in
     front_line s bytes p.0 rest p.1 ∙ ap (λ (l : List ℕ). l ++ (10 ∷ rest)) (record_again p.0 q.0 q.1 ∙ ap (λ (x : Record). record_text x) t.1)
 
-records_again : (rs : List Record) (s : Stage) (bytes : List ℕ) → Says s bytes rs None → bytes ≡ records_text rs
+pub records_again : (rs : List Record) (s : Stage) (bytes : List ℕ) → Says s bytes rs None → bytes ≡ records_text rs
 unfolding records_text
 records_again [] s bytes h = finished_again s bytes h
 records_again (r ∷ rs) s bytes h =
@@ -342,7 +353,7 @@ nothing_follows s bytes rest r e h =
       | inr going ↦ false≢true (sym going.0 ∙ e)
     ]
 
-complete_again : (rs : List Record) (s : Stage) (bytes : List ℕ) → s.ended ≡ false → Says s bytes rs None → is_complete rs ≡ true
+pub complete_again : (rs : List Record) (s : Stage) (bytes : List ℕ) → s.ended ≡ false → Says s bytes rs None → is_complete rs ≡ true
 complete_again [] s bytes e h = absurd (never_stops s bytes e h)
 complete_again (In j x ∷ rs) s bytes e h = complete_again rs (after s (In j x)) h.0 e h.2
 complete_again (Bad j n ∷ rs) s bytes e h = complete_again rs (after s (Bad j n)) h.0 e h.2
@@ -350,17 +361,3 @@ complete_again (Eof j ∷ rs) s bytes e h = complete_again rs (after s (Eof j)) 
 complete_again (Sel x ∷ rs) s bytes e h = complete_again rs (after s (Sel x)) h.0 e h.2
 complete_again (End v ∷ []) s bytes e h = refl
 complete_again (End v ∷ (r ∷ rs)) s bytes e h = absurd (nothing_follows (after s (End v)) h.0 h.2.0 r refl h.2.1)
-
-pub read_logs_are_texts : ReadLogsAreTexts
-unfolding log_text
-read_logs_are_texts bytes rest h rs k l = (
-  header_again bytes rest h k ∙ ap (header_then h) (records_again rs (first_stage h.options.injectors) rest l) ∙ sym (header_regrouped h (records_text rs)),
-  complete_again rs (first_stage h.options.injectors) rest refl l,
-)
-
-spelled : (line : List ℕ) (o : Option Record) → record_at line ≡ o → Spells line o
-spelled line (Some r) h = record_again line r h
-spelled line None h = λ r k e. some_none (sym h ∙ ap record_at e ∙ record_back r k)
-
-pub lines_are_texts : LinesAreTexts
-lines_are_texts line = spelled line (record_at line) refl

@@ -69,15 +69,23 @@ LogsAreRead =
     (h : PlainHeader) (rs : List Record) → IsHeader h → AreRecords rs → Stands (first_stage h.options.injectors) rs →
     (header_at (log_text h rs) ≡ Ok (h, records_text rs)) × Says (first_stage h.options.injectors) (records_text rs) rs None
 
--- what bytes say as a header and records up to a good end is a complete list, and the bytes are their text
+-- the bytes are the text of the header and the records, which are complete and break no rule of lines
+pub record IsLog (bytes : List ℕ) (h : PlainHeader) (rs : List Record) : Type 0 where
+  pub text : bytes ≡ log_text h rs
+  pub complete : is_complete rs ≡ true
+  pub header : IsHeader h
+  pub records : AreRecords rs
+  pub stands : Stands (first_stage h.options.injectors) rs
+
+-- what bytes say as a header and records up to a good end is a log, and the bytes are its text
 abbrev pub ReadLogsAreTexts : Type 0
 ReadLogsAreTexts =
     (bytes rest : List ℕ) (h : PlainHeader) (rs : List Record) → header_at bytes ≡ Ok (h, rest) →
-    Says (first_stage h.options.injectors) rest rs None → (bytes ≡ log_text h rs) × (is_complete rs ≡ true)
+    Says (first_stage h.options.injectors) rest rs None → IsLog bytes h rs
 
 -- the line is the text of the record, or of none
 abbrev pub Spells : List ℕ → Option Record → Type 0
-Spells line (Some r) = line ≡ record_text r
+Spells line (Some r) = IsRecord r × (line ≡ record_text r)
 Spells line None = (r : Record) → IsRecord r → ¬ (line ≡ record_text r)
 
 -- a line says the record whose text it is, and is refused where it is the text of none

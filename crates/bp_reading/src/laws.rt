@@ -6,19 +6,21 @@ pub fn one_reading()
     ensures { OneReading }
 {}
 
-/// The text of a header and a complete list of records, none of which breaks a rule of lines, is read
-/// as that header and that list.
+/// The text of a header and a complete list of records, none of which breaks a rule of lines, is
+/// read as that header and that list.
 pub fn logs_are_read()
     ensures { LogsAreRead }
 {}
 
-/// What bytes are read as, up to a good end, is a header and a complete list of records, and the bytes
-/// are the text of these.
+/// What bytes are read as, up to a good end, is a log: its header is within the limits, its records
+/// are a complete list that breaks no rule of lines, their numbers, texts and events are in range,
+/// and the bytes are the text of these.
 pub fn read_logs_are_texts()
     ensures { ReadLogsAreTexts }
 {}
 
-/// A line is read as the record whose text it is, and is refused where it is the text of none.
+/// A line is read as the record whose text it is, its numbers, texts and events in range, and is
+/// refused where it is the text of none.
 pub fn lines_are_texts()
     ensures { LinesAreTexts }
 {}

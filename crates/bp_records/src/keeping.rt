@@ -1,4 +1,5 @@
-//! What headers and records keep by their types, as facts for those who have them. The calls do nothing else.
+//! What headers and records keep by their types, as facts for those who have them. The calls do
+//! nothing else.
 ghost use Rattle.std.specs.Prelude.{◌≡◌, true};
 ghost use Rattle.std.specs.Str.{is_utf8};
 ghost use Rattle.bp_reading.specs.Laws.{IsHeader, IsPlace, IsVerdict, IsRecord, AreRecords};
@@ -92,7 +93,8 @@ fn items_keep(entries: &[Record])
     }
 }
 
-/// The numbers of the records are in their ranges, their events are events, and their texts are UTF-8.
+/// The numbers of the records are in their ranges, their events are events, and their texts are
+/// UTF-8.
 pub fn records_keep(records: &Records)
     ensures { AreRecords records.now }
 {

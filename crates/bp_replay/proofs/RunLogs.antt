@@ -1,5 +1,5 @@
 -- The log of a run replays to the text and the verdict of that run.
-use Rattle.std.proofs.Common.{◌≡◌, ◌⊎◌, inl, inr, ℕ, refl, ap, sym, ◌∙◌, subst, Ok}
+use Rattle.std.proofs.Common.{inl, inr, ℕ, refl, ap, sym, ◌∙◌, subst, Ok}
 use Rattle.bp_log.specs.Logs.{log_text}
 use Rattle.bp_log.specs.Records.{verdict_of}
 use Rattle.bp_log.specs.declared.verdict.Verdict.{Verdict}

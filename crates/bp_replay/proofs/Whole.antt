@@ -1,5 +1,5 @@
 -- A replay from the first byte of the log to the last that is printed.
-use Rattle.std.proofs.Common.{◌≡◌, ◌⊎◌, inl, inr, ℕ, ◌<◌, ◌≤◌, ◌^◌, ◌-◌, List, [], ◌++◌, refl, ap, sym, ◌∙◌, subst, arith, Option, Some, None, Ok, Err, IsSomeAnd}
+use Rattle.std.proofs.Common.{◌≡◌, inl, inr, ℕ, ◌≤◌, List, refl, sym, subst, arith, Option, Some, None, Ok, Err, IsSomeAnd}
 use Rattle.std.specs.Prelude.{IfSome, Result}
 use Rattle.js_program.specs.PlainProgram.{PlainProgram}
 use Rattle.bp_base.specs.Counts.{Rose}
@@ -10,18 +10,16 @@ use Rattle.bp_reading.specs.Heads.{header_at}
 use Rattle.bp_reader.specs.Gets.{MeansRead}
 use Rattle.bp_reader.specs.declared.fault.LogFault.{LogFault}
 use Rattle.bp_reader.specs.declared.fault.LogFault.TheVariants as log
-use Rattle.bp_script.specs.Programs.{IsProgram, IsRefused}
-use Rattle.bp_script.specs.Faults.{IsScriptFault}
-use Rattle.bp_serve.specs.Pages.{Shows, ShowsFront}
+use Rattle.bp_script.specs.Programs.{IsProgram}
 use Rattle.bp_serve.proofs.Pieces.{written_all, written_front, written_part, written_front_part}
 use Rattle.bp_follow.specs.declared.fault.ReplayFault.{ReplayFault}
 use Rattle.bp_follow.specs.declared.fault.ReplayFault.TheVariants as fault
 use Rattle.bp_follow.specs.Faults.{fault_of_log}
 use Rattle.bp_follow.specs.Courses.{text_in}
 use Rattle.bp_follow.specs.Endings.{EndsAt}
-use Rattle.bp_replay.specs.Replays.{Prints, HasNoRun, Ends, Replays}
+use Rattle.bp_replay.specs.Replays.{Prints, HasNoRun, IsReplay}
 use Rattle.bp_follow.specs.Following.{first_course, Shown, Tells}
-use Rattle.bp_replay.specs.Behind.{HasNoProgram, Replayed, EndsBehind}
+use Rattle.bp_replay.specs.Behind.{HasNoProgram, EndsBehind}
 
 -- ---- the page is written
 
@@ -68,7 +66,7 @@ module _ (header : PlainHeader) (program : PlainProgram) (is : IsProgram header.
 
 -- ---- the header
 
-pub no_header : (bytes : List ℕ) (before : Option (List ℕ)) (f : LogFault) → MeansRead f (header_at bytes) → Ends bytes before before (Err (fault_of_log f))
+pub no_header : (bytes : List ℕ) (before : Option (List ℕ)) (f : LogFault) → MeansRead f (header_at bytes) → IsReplay bytes before before (Err (fault_of_log f))
 no_header bytes before log.Version h = inl (h, refl)
 no_header bytes before log.Header h = inl (h, refl)
 no_header bytes before (log.Line n) h = inl (h, refl)
@@ -84,7 +82,7 @@ no_program bytes rest header (Err fault.Program) e h = (header, rest, e, h)
 no_program bytes rest header (Err fault.Write) e h = h
 no_program bytes rest header (Err fault.Memory) e h = tt
 
-ends_behind : (bytes rest : List ℕ) (header : PlainHeader) (before later : Option (List ℕ)) (ended : Result Verdict ReplayFault) → header_at bytes ≡ Ok (header, rest) → EndsBehind header rest before later ended → Ends bytes before later ended
+ends_behind : (bytes rest : List ℕ) (header : PlainHeader) (before later : Option (List ℕ)) (ended : Result Verdict ReplayFault) → header_at bytes ≡ Ok (header, rest) → EndsBehind header rest before later ended → IsReplay bytes before later ended
 ends_behind bytes rest header before later ended e (inl h) = inl (no_program bytes rest header ended e h.0, h.1)
 ends_behind bytes rest header before later ended e (inr r) =
     inr (record {
@@ -100,12 +98,12 @@ ends_behind bytes rest header before later ended e (inr r) =
 
 -- what stands behind the header was replayed
 pub ends_headed : (left rest : Option (List ℕ)) (header : PlainHeader) (before later : Option (List ℕ)) (ended : Result Verdict ReplayFault) → IfSome left (λ bytes. IsSomeAnd rest (λ more. header_at bytes ≡ Ok (header, more))) →
-    IfSome rest (λ more. EndsBehind header more before later ended) → IfSome left (λ bytes. Ends bytes before later ended)
+    IfSome rest (λ more. EndsBehind header more before later ended) → IfSome left (λ bytes. IsReplay bytes before later ended)
 ends_headed None rest header before later ended h k = tt
 ends_headed (Some bytes) None header before later ended h k = absurd h
 ends_headed (Some bytes) (Some more) header before later ended h k = ends_behind bytes more header before later ended h k
 
-pub ends_refused : (left : Option (List ℕ)) (before : Option (List ℕ)) (f : LogFault) → IfSome left (λ bytes. MeansRead f (header_at bytes)) → IfSome left (λ bytes. Ends bytes before before (Err (fault_of_log f)))
+pub ends_refused : (left : Option (List ℕ)) (before : Option (List ℕ)) (f : LogFault) → IfSome left (λ bytes. MeansRead f (header_at bytes)) → IfSome left (λ bytes. IsReplay bytes before before (Err (fault_of_log f)))
 ends_refused None before f h = tt
 ends_refused (Some bytes) before f h = no_header bytes before f h
 

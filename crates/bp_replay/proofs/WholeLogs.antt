@@ -1,12 +1,12 @@
 -- A replay of the log of a run tells the run.
-use Rattle.std.proofs.Common.{◌≡◌, ◌⊎◌, inl, inr, ℕ, true, false, List, [], ◌∷◌, ◌++◌, refl, ap, sym, ◌∙◌, subst, append-nil, append_assoc, Option, Some, None, Ok, Err}
+use Rattle.std.proofs.Common.{◌≡◌, ◌⊎◌, inl, inr, ℕ, List, [], ◌∷◌, ◌++◌, refl, ap, sym, ◌∙◌, subst, append-nil, Option, Some, None, Ok, Err}
 use Rattle.std.specs.Prelude.{Result, option_and_then, option_map}
 use Rattle.js_program.specs.PlainProgram.{PlainProgram}
 use Rattle.js_meaning.specs.Bodies.{Origin}
 use Rattle.bp_base.specs.Pieces.{Appends}
 use Rattle.bp_log.specs.Header.{PlainHeader}
 use Rattle.bp_log.specs.Options.{PlainOptions}
-use Rattle.bp_log.specs.Logs.{log_text, records_text}
+use Rattle.bp_log.specs.Logs.{records_text}
 use Rattle.bp_log.specs.Records.{verdict_of}
 use Rattle.bp_log.specs.Texts.{lines_text}
 use Rattle.bp_log.specs.declared.record.Record.{Record}
@@ -15,9 +15,6 @@ use Rattle.bp_log.specs.declared.verdict.Verdict.{Verdict}
 use Rattle.bp_reading.specs.Heads.{Refusal, header_at}
 use Rattle.bp_reading.specs.Reading.{Stage, Next as Reads, found, finished, refused, next_at, first_stage, after, Says}
 use Rattle.bp_reading.proofs.Whole.{logs_are_read}
-use Rattle.bp_reader.specs.Gets.{MeansRead}
-use Rattle.bp_reader.specs.Reads.{MeansNext}
-use Rattle.bp_reader.specs.declared.fault.LogFault.{LogFault}
 use Rattle.bp_reader.specs.declared.fault.LogFault.TheVariants as log
 use Rattle.bp_run.specs.Bodies.{Code}
 use Rattle.bp_run.specs.Configuration.{Configuration}
@@ -28,13 +25,12 @@ use Rattle.bp_run.proofs.Stories.{story_first}
 use Rattle.bp_floor.specs.Programs.{code_of}
 use Rattle.bp_code.specs.Code.{text_of}
 use Rattle.bp_script.specs.Programs.{IsProgram, IsRefused}
-use Rattle.bp_script.specs.declared.refusal.Refusal as script
 use Rattle.bp_script.proofs.Once.{never, one_program}
 use Rattle.bp_follow.specs.declared.fault.ReplayFault.{ReplayFault}
 use Rattle.bp_follow.specs.declared.fault.ReplayFault.TheVariants.{Log, Differs, Program, Write, Memory}
-use Rattle.bp_follow.specs.Courses.{Course, code_in, led, text_in, BeginsWith, Follows}
+use Rattle.bp_follow.specs.Courses.{Course, code_in, led, text_in, BeginsWith}
 use Rattle.bp_follow.specs.Endings.{Parts, EndsAt}
-use Rattle.bp_replay.specs.Replays.{Heads, Prints, Replays, HasRefusedProgram, HasNoRun, Ends}
+use Rattle.bp_replay.specs.Replays.{Prints, Replays, HasNoRun, IsReplay}
 use Rattle.bp_replay.specs.Laws.{IsTrouble, IsLogOf, TellsAll, ReplaysTellTheRun}
 
 -- ---- what is read
@@ -195,7 +191,7 @@ module _ (bytes : List ℕ) (header : PlainHeader) (records : List Record) (prog
       let m = split (first_stage header.options.injectors) (records_text records) c.records records r.stage r.left begins says in
       ends_whole c records t.0 text before later r.stage r.left (r.follows).told whole t.2 m.more m.is m.says ended r.ends r.prints
 
-  tells : (ended : Result Verdict ReplayFault) → Ends bytes before later ended → IsTrouble ended ⊎ TellsAll records text before later ended
+  tells : (ended : Result Verdict ReplayFault) → IsReplay bytes before later ended → IsTrouble ended ⊎ TellsAll records text before later ended
   tells ended (inl h) = inl (no_run ended h.0)
   tells ended (inr r) = the_run ended r
 

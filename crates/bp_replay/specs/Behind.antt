@@ -21,7 +21,7 @@ HasNoProgram header (Err Write) = ⊥
 HasNoProgram header (Err Memory) = Unit {0}
 
 -- what was told is written
-pub record Replayed (header : PlainHeader) (rest : List ℕ) (before after : Option (List ℕ)) (ended : Result Verdict ReplayFault) : Type 0 where
+pub record ReplaysBehind (header : PlainHeader) (rest : List ℕ) (before after : Option (List ℕ)) (ended : Result Verdict ReplayFault) : Type 0 where
   pub course : Course
   pub program : IsProgram header.program course.program
   pub options : course.options ≡ header.options
@@ -32,4 +32,4 @@ pub record Replayed (header : PlainHeader) (rest : List ℕ) (before after : Opt
   pub prints : Prints ended before (text_in course) after
 
 abbrev pub EndsBehind : PlainHeader → List ℕ → Option (List ℕ) → Option (List ℕ) → Result Verdict ReplayFault → Type 0
-EndsBehind header rest before after ended = (HasNoProgram header ended × (after ≡ before)) ⊎ Replayed header rest before after ended
+EndsBehind header rest before after ended = (HasNoProgram header ended × (after ≡ before)) ⊎ ReplaysBehind header rest before after ended

@@ -1,7 +1,6 @@
 -- What is true of replays.
-use Rattle.std.specs.Prelude.{◌≡◌, ◌⊎◌, ℕ, List, Option, Some, None, Result, Ok, Err}
+use Rattle.std.specs.Prelude.{◌≡◌, ◌⊎◌, ℕ, List, Option, Some, Result, Ok, Err}
 use Rattle.js_program.specs.PlainProgram.{PlainProgram}
-use Rattle.js_meaning.specs.Bodies.{Origin}
 use Rattle.bp_base.specs.Pieces.{Appends}
 use Rattle.bp_log.specs.Header.{PlainHeader}
 use Rattle.bp_log.specs.Logs.{log_text}
@@ -10,13 +9,12 @@ use Rattle.bp_log.specs.declared.record.Record.{Record}
 use Rattle.bp_log.specs.declared.verdict.Verdict.{Verdict}
 use Rattle.bp_reading.specs.Reading.{first_stage}
 use Rattle.bp_reading.specs.Laws.{IsHeader, AreRecords, Stands}
-use Rattle.bp_reader.specs.declared.fault.LogFault.{LogFault}
 use Rattle.bp_reader.specs.declared.fault.LogFault.TheVariants as log
 use Rattle.bp_script.specs.Programs.{IsProgram}
 use Rattle.bp_code.specs.Code.{text_of, records_alone, text_alone}
 use Rattle.bp_follow.specs.declared.fault.ReplayFault.{ReplayFault}
 use Rattle.bp_follow.specs.declared.fault.ReplayFault.TheVariants.{Log, Differs, Program, Write, Memory}
-use Rattle.bp_replay.specs.Replays.{Ends}
+use Rattle.bp_replay.specs.Replays.{IsReplay}
 
 -- reading or writing failed, or memory was wanting
 abbrev pub IsTrouble : Result Verdict ReplayFault → Type 0
@@ -52,12 +50,12 @@ pub record TellsAll (records : List Record) (text : List ℕ) (before after : Op
 abbrev pub ReplaysTellTheRun : Type 0
 ReplaysTellTheRun =
     (bytes : List ℕ) (header : PlainHeader) (records : List Record) (program : PlainProgram) (text : List ℕ) (before after : Option (List ℕ)) (ended : Result Verdict ReplayFault) →
-    IsLogOf bytes header records program text → Ends bytes before after ended → IsTrouble ended ⊎ TellsAll records text before after ended
+    IsLogOf bytes header records program text → IsReplay bytes before after ended → IsTrouble ended ⊎ TellsAll records text before after ended
 
 -- each replay of these bytes prints this text and answers this verdict, unless reading or writing failed or memory was wanting
 abbrev pub Retells : List ℕ → List ℕ → Verdict → Type 0
 Retells bytes text verdict =
-    (before after : Option (List ℕ)) (ended : Result Verdict ReplayFault) → Ends bytes before after ended → IsTrouble ended ⊎ ((ended ≡ Ok verdict) × Appends before text after)
+    (before after : Option (List ℕ)) (ended : Result Verdict ReplayFault) → IsReplay bytes before after ended → IsTrouble ended ⊎ ((ended ≡ Ok verdict) × Appends before text after)
 
 -- The log of the run of an accepted program without injectors replays to the text and the verdict of that run. Of its records no more is asked than what records keep by their types.
 abbrev pub LogsOfRunsReplay : Type 0

@@ -52,5 +52,5 @@ HasNoRun bytes (Err Write) = ⊥
 HasNoRun bytes (Err Memory) = Unit {0}
 
 -- A replay of these bytes ends so: nothing was printed and no record read, or so far as it came the text was printed.
-abbrev pub Ends : List ℕ → Option (List ℕ) → Option (List ℕ) → Result Verdict ReplayFault → Type 0
-Ends bytes before after ended = (HasNoRun bytes ended × (after ≡ before)) ⊎ Replays bytes before after ended
+abbrev pub IsReplay : List ℕ → Option (List ℕ) → Option (List ℕ) → Result Verdict ReplayFault → Type 0
+IsReplay bytes before after ended = (HasNoRun bytes ended × (after ≡ before)) ⊎ Replays bytes before after ended

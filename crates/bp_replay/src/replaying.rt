@@ -3,7 +3,7 @@ ghost use Rattle.std.specs.Prelude.{◌≡◌, ◌≤◌, None, IfSome, IsErrOf}
 ghost use Rattle.bp_base.specs.Counts.{Rose};
 ghost use Rattle.bp_reading.specs.Reading.{first_stage};
 ghost use Rattle.bp_reader.specs.declared.fault.LogFault.TheVariants as log_fault;
-ghost use Rattle.bp_replay.specs.Replays.{Ends};
+ghost use Rattle.bp_replay.specs.Replays.{IsReplay};
 ghost use Rattle.bp_replay.specs.Behind.{EndsBehind};
 
 use bp_base::{Sink, Source};
@@ -52,17 +52,19 @@ fn replay_records<S: Source, K: Sink>(
     ended
 }
 
-/// Makes the run of a log again, record by record, and prints it, in pieces of 64 KiB or a little more.
+/// Makes the run of a log again, record by record, and prints it, in pieces of 64 KiB or a little
+/// more.
 ///
 /// # Errors
 ///
-/// `Log` exactly where the bytes are no log at that place, `Program` exactly where its program is refused, and
-/// `Differs` exactly at the first record that the run does not make. Before the last two and the first the text of
-/// the records before was printed, and before `Write` and `Memory` a front of such a text.
+/// `Log` exactly where the bytes are no log at that place, `Program` exactly where its program is
+/// refused, and `Differs` exactly at the first record that the run does not make. Before the last
+/// two and the first the text of the records before was printed, and before `Write` and `Memory` a
+/// front of such a text.
 pub fn replay<S: Source, K: Sink>(alloc: Global, log: S, out: &mut K) -> Replayed<S>
     // Of a source that tells its bytes: the answer and what was printed are those of these bytes.
     ensures ends { IfSome (S.left log)
-        (λ bytes. Ends bytes (K.written out.old) (K.written out.new) result.ended) }
+        (λ bytes. IsReplay bytes (K.written out.old) (K.written out.new) result.ended) }
 
     ensures read { IsErrOf result.ended (ReplayFault.Log log_fault.Read)
         → Rose (S.faults log) (S.faults result.log) }

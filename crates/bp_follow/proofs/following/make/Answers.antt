@@ -1,8 +1,7 @@
 use Rattle.std.proofs.Common.{◌≡◌, ◌∙◌, refl, rules}
 use Rattle.bp_arbiter.specs.declared.picked.Picked.TheVariants as picked
-use Rattle.bp_follow.specs.Courses.{Course, coming}
-use Rattle.bp_follow.specs.Following.{IsThere}
-use Rattle.bp_follow.proofs.Steps.{Picks, picks, waits_parts, made_of, records_made, some_made, followed_made}
+use Rattle.bp_follow.specs.Courses.{coming}
+use Rattle.bp_follow.proofs.Steps.{picks, waits_parts, made_of, records_made, some_made, followed_made}
 use Rattle.bp_follow.proofs.following.make.Goals as goal
 
 pub returns-then-eq : goal.returns-then-eq

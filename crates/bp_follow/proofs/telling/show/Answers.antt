@@ -1,9 +1,6 @@
-use Rattle.std.proofs.Common.{◌≡◌, ◌∙◌, ◌++◌, List, ap, sym, subst, rules}
+use Rattle.std.proofs.Common.{◌≡◌, ◌∙◌, ◌++◌, List, sym, subst, rules}
 use Rattle.bp_log.specs.Texts.{lines_text}
 use Rattle.bp_log.specs.declared.trace.Line.{Line as Told}
-use Rattle.bp_run.specs.Settling.{Pair}
-use Rattle.js_meaning.specs.Bodies.{Origin}
-use Rattle.bp_thread.specs.declared.job.Job.{Job}
 use Rattle.bp_arbiter.specs.Arbiters.{StandsFor}
 use Rattle.bp_serve.specs.Pages.{Shows, ShowsFront}
 use Rattle.bp_follow.specs.Courses.{Course}

@@ -1,4 +1,4 @@
-use Rattle.std.proofs.Common.{ℕ, ◌≤◌, ◌-◌}
+use Rattle.std.proofs.Common.{◌≤◌, ◌-◌}
 use Rattle.bp_reading.specs.declared.limits.TheConstants.{MOST_RECORDS}
 use Rattle.bp_follow.specs.Following.{first_of}
 use Rattle.bp_follow.proofs.Loop.{Along}
