@@ -9,8 +9,9 @@ struct Rings {
     halted: bool,
 }
 
-/// A bell. It counts its rings, and keeps no state of a run. No clause says what a call finds or leaves in it, since
-/// other threads may call at any time and a lock tells nothing of what it guards: so whoever waits looks again himself.
+/// A bell. It counts its rings, and keeps no state of a run. No clause says what a call finds or
+/// leaves in it, since other threads may call at any time and a lock tells nothing of what it
+/// guards: so whoever waits looks again himself.
 #[derive(Drop)]
 pub struct Bell {
     rings: Mutex<Rings>,
@@ -57,8 +58,8 @@ impl Bell {
     }
 }
 
-/// What wakes a thread that waits, and halts it. Its clauses tell of its own count alone, and of what others see tests
-/// alone tell.
+/// What wakes a thread that waits, and halts it. Its clauses tell of its own count alone, and of
+/// what others see tests alone tell.
 pub trait Wake {
     ghost use Rattle.std.specs.Prelude.{ℕ, ◌≡◌, ◌≤◌, ◌<◌, IsTrue};
     ghost use Rattle.bp_base.specs.Counts.{Rose};
@@ -82,7 +83,8 @@ pub trait Wake {
         requires { IsSync R.row }
         ensures { halts self.new ≡ halts self.old };
 
-    /// Whether there was a halt. True only where the count of `halts` rose, and always once it was true.
+    /// Whether there was a halt. True only where the count of `halts` rose, and always once it was
+    /// true.
     fn halted<R: Threads + Wait + Sync>(&mut self, rt: &R) -> bool
         requires { IsSync R.row }
         ensures counts { halts self.old ≤ halts self.new }
@@ -90,7 +92,8 @@ pub trait Wake {
         ensures stays { 0 < halts self.old → IsTrue result };
 }
 
-/// A rope of a bell. It keeps the counter that was last seen, and how often the bell was found halted.
+/// A rope of a bell. It keeps the counter that was last seen, and how often the bell was found
+/// halted.
 #[derive(Drop)]
 pub struct Rope<'a> {
     bell: &'a Bell,

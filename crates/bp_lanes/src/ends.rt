@@ -19,7 +19,8 @@ pub struct Ear {
     consumer: Consumer<Item>,
     // How many items are left, once the lane was closed.
     left: Option<usize>,
-    ghost counted: { unwrap_or left (length (known_items consumer)) ≡ length (known_items consumer) },
+    ghost counted: { unwrap_or left (length (known_items consumer))
+        ≡ length (known_items consumer) },
 }
 
 impl Mouth {
@@ -64,8 +65,8 @@ impl Ear {
         }
     }
 
-    /// The oldest item that was not yet taken. None only where no item is known, and after `close` exactly where
-    /// all was taken. Takes no memory and does not wait.
+    /// The oldest item that was not yet taken. None only where no item is known, and after `close`
+    /// exactly where all was taken. Takes no memory and does not wait.
     pub fn take(&mut self) -> Option<Item>
         ensures lane { IsSameEar self.old self.new × (is_closed self.new ≡ is_closed self.old) }
         ensures takes { taken self.new ≡ taken self.old ++ option_to_list result }
@@ -86,8 +87,8 @@ impl Ear {
         }
     }
 
-    /// Compares the ear with the mouth of its lane: what was taken, and then what is still to be taken, is what
-    /// was offered by then. No place is lost. Takes no memory and does not wait.
+    /// Compares the ear with the mouth of its lane: what was taken, and then what is still to be
+    /// taken, is what was offered by then. No place is lost. Takes no memory and does not wait.
     pub fn close(&mut self, mouth: &mut Mouth)
         requires { IsLane mouth.old self.old }
         ensures ear { IsSameEar self.old self.new × (taken self.new ≡ taken self.old) }

@@ -1,4 +1,5 @@
-//! Lanes from the thread that reads an injector to the one that serves a run, and the bell that wakes who waits.
+//! Lanes from the thread that reads an injector to the one that serves a run, and the bell that
+//! wakes who waits.
 #![tactic(auto)]
 
 ghost use Rattle.std.specs.Prelude.{◌≡◌, [], false, IfOk};

@@ -5,14 +5,14 @@ use Rattle.std.proofs.lemmas.Bool.{cases_eq}
 use Rattle.std.proofs.lemmas.List.{get_or_default}
 use Rattle.js_meaning.specs.State.{Ground}
 use Rattle.bp_thread.specs.declared.job.Job.{Job}
-use Rattle.bp_thread.specs.Jobs.{IsOf}
-use Rattle.bp_thread.specs.Carried.{Carries, AreCarriedOut}
-use Rattle.bp_pool.specs.Carrying.{IsCarriedOn, IsDone, Each}
+use Rattle.bp_thread.specs.Jobs.{plain_job, IsOf}
+use Rattle.bp_thread.specs.Carried.{Carries, CarriedOut, AreCarriedOut}
+use Rattle.bp_pool.specs.Carrying.{IsCarriedOn, Each}
 
-carries_itself : (base : Ground) (budget : ℕ) (j : Job) → Carries base budget j j
+pub carries_itself : (base : Ground) (budget : ℕ) (j : Job) → Carries base budget j j
 carries_itself base budget j = record { same = record { number = refl; name = refl; origin = refl; replies = refl }; stands = λ s. s; whole = λ w. w; of_program = λ i. i }
 
-carries_on : (base : Ground) (budget : ℕ) (a b c : Job) → Carries base budget a b → Carries base budget b c → Carries base budget a c
+pub carries_on : (base : Ground) (budget : ℕ) (a b c : Job) → Carries base budget a b → Carries base budget b c → Carries base budget a c
 carries_on base budget a b c h k =
     let s = h.same in
     let t = k.same in
@@ -40,8 +40,12 @@ all_of_program base before after h all k d lt =
     let low : k < length before = omega (arith, lt, many) in
     of_program base (get_or before k d) (get_or after k d) (h.each k d d low) (all k d low)
 
+-- a job that was carried on, and then has its outcome
+pub out : (base : Ground) (budget : ℕ) (a b c : Job) → IsCarriedOn base a b → IsCarriedOn base b c → IsSome (plain_job c).outcome → CarriedOut base budget a c
+out base budget a b c h k o = record { carries = (onward base a b c h k).carries budget; outcome = o }
+
 -- jobs that were carried on, and then to their outcomes
-pub out_of : (base : Ground) (budget : ℕ) (before between after : List Job) → Each (IsCarriedOn base) before between → Each (IsDone base) between after → AreCarriedOut base budget before after
+pub out_of : (base : Ground) (budget : ℕ) (before between after : List Job) → Each (IsCarriedOn base) before between → AreCarriedOut base budget between after → AreCarriedOut base budget before after
 out_of base budget before between after h k =
     let m = h.as_many in
     record {
@@ -50,7 +54,7 @@ out_of base budget before between after h k =
           let low : i < length between = omega (arith, lt, m) in
           let a = h.each i d d lt in
           let b = k.each i d e low in
-          record { carries = (onward base (get_or before i d) (get_or between i d) (get_or after i e) a b.carried).carries budget; outcome = b.outcome };
+          record { carries = carries_on base budget (get_or before i d) (get_or between i d) (get_or after i e) (a.carries budget) b.carries; outcome = b.outcome };
     }
 
 -- ---- a list of which the elements are changed in order
@@ -66,6 +70,10 @@ each_first R before = record { as_many = refl; changed = λ k d e lt. absurd (om
 
 pub each_all : {X : Type 0} (R : X → X → Type 0) (i : ℕ) (before items : List X) → length before ≤ i → EachUpTo R i before items → Each R before items
 each_all R i before items h c = record { as_many = c.as_many; each = λ k d e lt. c.changed k d e (omega (arith, h, lt)) lt }
+
+-- jobs that were carried out in order
+pub out_all : (base : Ground) (budget i : ℕ) (before items : List Job) → length before ≤ i → EachUpTo (CarriedOut base budget) i before items → AreCarriedOut base budget before items
+out_all base budget i before items h c = record { as_many = c.as_many; each = λ k d e lt. c.changed k d e (omega (arith, h, lt)) lt }
 
 changed_at : {X : Type 0} (R : X → X → Type 0) (i : ℕ) (before items : List X) (new : X) → EachUpTo R i before items → i < length items →
     ((d : X) → R (get_or before i d) new) → (k : ℕ) (d e : X) → k < i + 1 → k < length before → (k ≡ i) ⊎ (k ≢ i) → R (get_or before k d) (get_or (set items i new) k e)

@@ -8,11 +8,12 @@ use Rattle.std.proofs.lemmas.List.Elements.{All-push, All-head, All-tail, All-co
 use Rattle.js_meaning.specs.State.{Ground}
 use Rattle.bp_thread.specs.declared.job.Job.{Job}
 use Rattle.bp_thread.specs.Jobs.{plain_job, IsOf}
+use Rattle.bp_thread.specs.Carried.{CarriedOut, AreCarriedOut}
 use Rattle.bp_thread.proofs.Standing.{false_true}
 use Rattle.bp_pool.specs.declared.seat.Seat.{Seat}
-use Rattle.bp_pool.specs.Carrying.{IsCarriedOn, IsDone, Each}
-use Rattle.bp_pool.specs.Seats.{CanTurn, Turned, IsSeat, seats_of, IsDoneOrSeated, AreSeated, StaySeated}
-use Rattle.bp_pool.proofs.Going.{itself, onward}
+use Rattle.bp_pool.specs.Carrying.{IsCarriedOn, Each}
+use Rattle.bp_pool.specs.Seats.{CanTurn, Turned, IsSeat, seats_of, IsOutOrSeated, AreSeated, StaySeated}
+use Rattle.bp_pool.proofs.Going.{itself, onward, carries_itself}
 
 -- 1 for a seat of the place k, and else 0
 abbrev is_at : ℕ → Seat → ℕ
@@ -25,7 +26,7 @@ of_next : (k : ℕ) (s : Seat) (xs : List Seat) → seats_of k (s ∷ xs) ≡ is
 of_next k s xs = sum_by-cons (is_at k) s xs
 
 -- a job with its outcome is back at its place, and one without may have more seats
-pub more_seats : (base : Ground) (e : Job) (o : Option Job) (n m : ℕ) → n ≤ m → IsDoneOrSeated base e o n → IsDoneOrSeated base e o m
+pub more_seats : (base : Ground) (e : Job) (o : Option Job) (n m : ℕ) → n ≤ m → IsOutOrSeated base e o n → IsOutOrSeated base e o m
 more_seats base e (Some x) n m le h = h
 more_seats base e None n m le h = omega (arith, h, le)
 
@@ -60,7 +61,7 @@ no_more (x ∷ xs) = ap (λ l. x ∷ l) (no_more xs)
 pub record TakenOut (base : Ground) (jobs : List Job) (done : List (Option Job)) (seats : List Seat) (rest : List Job) : Type 0 where
   pub left : drop (length done) jobs ≡ rest
   pub within : length done ≤ length jobs
-  pub each : (k : ℕ) (d : Job) (o : Option Job) → k < length done → IsDoneOrSeated base (get_or jobs k d) (get_or done k o) (seats_of k seats)
+  pub each : (k : ℕ) (d : Job) (o : Option Job) → k < length done → IsOutOrSeated base (get_or jobs k d) (get_or done k o) (seats_of k seats)
   pub own : All (IsSeat base jobs) seats
   pub still : All (λ (s : Seat). (plain_job s.job).outcome ≡ None) seats
 
@@ -84,8 +85,8 @@ stays_in base jobs rest after done more seats x t step out is =
     record {
       left = rw long h.2;
       within = omega (arith, lt, long);
-      each = λ k d o low. pushed (λ j (y : Option Job). (c : Job) → IsDoneOrSeated base (get_or jobs j c) y (seats_of j seats)) done more (Some x) n refl (λ j f b c. t.each j c f b)
-          (λ c. subst (λ (e : Job). IsDone base e x) (sym (h.1 c)) (record { carried = itself base x; outcome = out })) is k o (omega (arith, low, long)) d;
+      each = λ k d o low. pushed (λ j (y : Option Job). (c : Job) → IsOutOrSeated base (get_or jobs j c) y (seats_of j seats)) done more (Some x) n refl (λ j f b c. t.each j c f b)
+          (λ c b. subst (λ (e : Job). CarriedOut base b e x) (sym (h.1 c)) (record { carries = carries_itself base b x; outcome = out })) is k o (omega (arith, low, long)) d;
       own = t.own;
       still = t.still;
     }
@@ -118,7 +119,7 @@ gets_seat base jobs rest after done more seats many x s t step all out at here a
     record {
       left = rw long h.2;
       within = omega (arith, lt, long);
-      each = λ k d o low. pushed (λ j (y : Option Job). (c : Job) → IsDoneOrSeated base (get_or jobs j c) y (seats_of j many)) done more None n refl
+      each = λ k d o low. pushed (λ j (y : Option Job). (c : Job) → IsOutOrSeated base (get_or jobs j c) y (seats_of j many)) done more None n refl
           (λ j f b c. more_seats base (get_or jobs j c) (get_or done j f) (seats_of j seats) (seats_of j many) (let e = counts j in omega arith) (t.each j c f b))
           (λ c. omega (arith, one, first)) is k o (omega (arith, low, long)) d;
       own = subst (All (IsSeat base jobs)) (sym put) (All-push (IsSeat base jobs) seats s t.own seat);
@@ -159,21 +160,22 @@ keeps_seat base before done seats left more rest after s p step out is =
     }
 
 back_at : (base : Ground) (jobs : List Job) (done : List (Option Job)) (left after : List Seat) (s : Seat) → AreSeated base jobs done (left ++ s ∷ after) → s.lost ≡ false → IsSome (plain_job s.job).outcome →
-    (k : ℕ) (d : Job) (o : Option Job) → k < length jobs → (k ≡ s.place) ⊎ (k ≢ s.place) → IsDoneOrSeated base (get_or jobs k d) (get_or (set done s.place (Some s.job)) k o) (seats_of k (left ++ after))
+    (k : ℕ) (d : Job) (o : Option Job) → k < length jobs → (k ≡ s.place) ⊎ (k ≢ s.place) → IsOutOrSeated base (get_or jobs k d) (get_or (set done s.place (Some s.job)) k o) (seats_of k (left ++ after))
 back_at base jobs done left after s a ok out k d o lt (inl q) =
     let seat : IsSeat base jobs s = (all_mid (IsSeat base jobs) left s after a.own).1 in
     let many = a.as_many in
     let low : s.place < length done = omega (arith, lt, q, many) in
     let here : get_or (set done s.place (Some s.job)) k o ≡ Some s.job = ap (λ (n : ℕ). get_or (set done s.place (Some s.job)) n o) q ∙ get_or-set_same done s.place (Some s.job) o low in
-    let done_here : IsDone base (get_or jobs k d) s.job = record { carried = subst (λ (n : ℕ). IsCarriedOn base (get_or jobs n d) s.job) (sym q) (seat.carried ok d); outcome = out } in
-    subst (λ (x : Option Job). IsDoneOrSeated base (get_or jobs k d) x (seats_of k (left ++ after))) (sym here) done_here
+    let on : IsCarriedOn base (get_or jobs k d) s.job = subst (λ (n : ℕ). IsCarriedOn base (get_or jobs n d) s.job) (sym q) (seat.carried ok d) in
+    let done_here : (budget : ℕ) → CarriedOut base budget (get_or jobs k d) s.job = λ budget. record { carries = on.carries budget; outcome = out } in
+    subst (λ (x : Option Job). IsOutOrSeated base (get_or jobs k d) x (seats_of k (left ++ after))) (sym here) done_here
 back_at base jobs done left after s a ok out k d o lt (inr q) =
     let there : get_or (set done s.place (Some s.job)) k o ≡ get_or done k o = get_or-set_other done s.place k (Some s.job) o q in
     let none = no_seat_here k s (λ e. q (sym e)) in
     let e = of_parts k left (s ∷ after) in
     let f = of_next k s after in
     let g = of_parts k left after in
-    subst (λ (x : Option Job). IsDoneOrSeated base (get_or jobs k d) x (seats_of k (left ++ after))) (sym there)
+    subst (λ (x : Option Job). IsOutOrSeated base (get_or jobs k d) x (seats_of k (left ++ after))) (sym there)
     (more_seats base (get_or jobs k d) (get_or done k o) (seats_of k (left ++ s ∷ after)) (seats_of k (left ++ after)) (omega arith) (a.each k d o lt))
 
 -- the next seat's job has its outcome, and is put back
@@ -241,7 +243,7 @@ seat_turned base jobs s t h k =
 pub round_seated : (base : Ground) (jobs : List Job) (done : List (Option Job)) (old new : List Seat) → AreSeated base jobs done old → Each (Turned base) old new → AreSeated base jobs done new
 round_seated base jobs done old new a h = record {
   as_many = a.as_many;
-  each = λ k d o lt. subst (IsDoneOrSeated base (get_or jobs k d) (get_or done k o)) (sym (same_places k base old new h)) (a.each k d o lt);
+  each = λ k d o lt. subst (IsOutOrSeated base (get_or jobs k d) (get_or done k o)) (sym (same_places k base old new h)) (a.each k d o lt);
   own = λ k d lt. (let m = h.as_many in let low : k < length old = omega (arith, lt, m) in
       seat_turned base jobs (get_or old k d) (get_or new k d) (a.own k d low) (h.each k d d low));
 }
@@ -257,7 +259,7 @@ no_elements : {X : Type 0} (xs : List X) → length xs ≡ 0 → xs ≡ []
 no_elements [] e = refl
 no_elements (x ∷ xs) e = absurd (omega arith)
 
-done_there : (base : Ground) (e : Job) (o : Option Job) → IsDoneOrSeated base e o 0 → IsSome o
+done_there : (base : Ground) (e : Job) (o : Option Job) → IsOutOrSeated base e o 0 → IsSome o
 done_there base e None h = absurd (omega (arith, h))
 done_there base e (Some x) h = refl
 
@@ -266,18 +268,18 @@ pub all_there : (base : Ground) (jobs : List Job) (done : List (Option Job)) (se
 all_there base [] done seats a none k o lt = (let m = a.as_many in absurd (omega (arith, lt, m)))
 all_there base (j ∷ js) done seats a none k o lt =
     let m = a.as_many in
-    done_there base (get_or (j ∷ js) k j) (get_or done k o) (subst (λ (l : List Seat). IsDoneOrSeated base (get_or (j ∷ js) k j) (get_or done k o) (seats_of k l)) (no_elements seats none) (a.each k j o (omega (arith, lt, m))))
+    done_there base (get_or (j ∷ js) k j) (get_or done k o) (subst (λ (l : List Seat). IsOutOrSeated base (get_or (j ∷ js) k j) (get_or done k o) (seats_of k l)) (no_elements seats none) (a.each k j o (omega (arith, lt, m))))
 
--- and each is done
-pub all_done : (base : Ground) (jobs out : List Job) (done : List (Option Job)) (seats : List Seat) → AreSeated base jobs done seats → map (λ (j : Job). Some j) out ≡ done → Each (IsDone base) jobs out
-all_done base jobs out done seats a is =
+-- and each is carried out
+pub all_out : (base : Ground) (budget : ℕ) (jobs out : List Job) (done : List (Option Job)) (seats : List Seat) → AreSeated base jobs done seats → map (λ (j : Job). Some j) out ≡ done → AreCarriedOut base budget jobs out
+all_out base budget jobs out done seats a is =
     let m = a.as_many in
     let long : length out ≡ length jobs = sym (length-map out (λ (j : Job). Some j)) ∙ ap length is ∙ m in
     record {
       as_many = long;
       each = λ k d e lt.
           let there : get_or done k None ≡ Some (get_or out k e) = sym (ap (λ (l : List (Option Job)). get_or l k None) is) ∙ get_or-map (λ (j : Job). Some j) out k e None (omega (arith, lt, long)) in
-          subst (λ (o : Option Job). IsDoneOrSeated base (get_or jobs k d) o (seats_of k seats)) there (a.each k d None lt);
+          subst (λ (o : Option Job). IsOutOrSeated base (get_or jobs k d) o (seats_of k seats)) there (a.each k d None lt) budget;
     }
 
 -- ---- the list is whole again
@@ -311,10 +313,10 @@ pub gathered_all : (done rest : List (Option Job)) (jobs : List Job) → Gathere
 gathered_all done [] jobs g e = sym (no_more (map (λ (j : Job). Some j) jobs)) ∙ g.same
 gathered_all done (o ∷ rest) jobs g e = absurd (omega arith)
 
-pub all_done_if : {V E : Type 0} (r : Result V E) (items : V → List Job) (base : Ground) (jobs : List Job) (done : List (Option Job)) (seats : List Seat) → AreSeated base jobs done seats →
-    IfOk r (λ v. map (λ (j : Job). Some j) (items v) ≡ done) → IfOk r (λ v. Each (IsDone base) jobs (items v))
-all_done_if (Ok v) items base jobs done seats a is = all_done base jobs (items v) done seats a is
-all_done_if (Err e) items base jobs done seats a is = tt
+pub all_out_if : {V E : Type 0} (r : Result V E) (items : V → List Job) (base : Ground) (jobs : List Job) (done : List (Option Job)) (seats : List Seat) → AreSeated base jobs done seats →
+    IfOk r (λ v. map (λ (j : Job). Some j) (items v) ≡ done) → (budget : ℕ) → IfOk r (λ v. AreCarriedOut base budget jobs (items v))
+all_out_if (Ok v) items base jobs done seats a is budget = all_out base budget jobs (items v) done seats a is
+all_out_if (Err e) items base jobs done seats a is budget = tt
 
 pub none_of : {X : Type 0} (o : Option X) → is_some o ≡ false → o ≡ None
 none_of None e = refl

@@ -6,7 +6,7 @@ use Rattle.bp_thread.specs.declared.job.Job.{Job}
 use Rattle.bp_thread.specs.Jobs.{IsOf}
 use Rattle.bp_thread.specs.Carried.{AreCarriedOut}
 use Rattle.bp_pool.specs.declared.seat.Seat.{Seat}
-use Rattle.bp_pool.specs.Carrying.{IsCarriedOn, IsDone, Each}
+use Rattle.bp_pool.specs.Carrying.{IsCarriedOn, Each}
 use Rattle.bp_pool.specs.Seats.{Turned, AreSeated}
 use Rattle.bp_pool.proofs.Going.{all_of_program, out_of}
 use Rattle.bp_pool.proofs.Places.{round_seated}
@@ -32,12 +32,13 @@ module _ (base : Ground) (jobs now looked rest : List Job) (n : ℕ) (e : now �
   looked_of all = subst (All (IsOf base.program)) (sym looked_is) (all_of_program base jobs looked looked_from all)
 
   -- and whoever carries them to their outcomes has carried out those that were given
-  pub looked_then : {V E : Type 0} (r : Result V E) (items : V → List Job) → IfOk r (λ v. Each (IsDone base) (take n (looked ++ rest)) (items v)) → (budget : ℕ) → IfOk r (λ v. AreCarriedOut base budget jobs (items v))
-  looked_then (Ok v) items k budget = out_of base budget jobs looked (items v) looked_from (subst (λ (l : List Job). Each (IsDone base) l (items v)) looked_is k)
+  pub looked_then : {V E : Type 0} (r : Result V E) (items : V → List Job) → ((budget : ℕ) → IfOk r (λ v. AreCarriedOut base budget (take n (looked ++ rest)) (items v))) →
+      (budget : ℕ) → IfOk r (λ v. AreCarriedOut base budget jobs (items v))
+  looked_then (Ok v) items k budget = out_of base budget jobs looked (items v) looked_from (subst (λ (l : List Job). AreCarriedOut base budget l (items v)) looked_is (k budget))
   looked_then (Err f) items k budget = tt
 
-  pub then_finished : (next done more : List Job) (budget : ℕ) → next ≡ take n (looked ++ rest) → Each (IsDone base) next done → AreCarriedOut base budget jobs (take n (done ++ more))
+  pub then_finished : (next done more : List Job) (budget : ℕ) → next ≡ take n (looked ++ rest) → AreCarriedOut base budget next done → AreCarriedOut base budget jobs (take n (done ++ more))
   then_finished next done more budget f k =
       let was : next ≡ looked = f ∙ looked_is in
       let long : n ≡ length done = m ∙ sym h.as_many ∙ sym (ap (λ (l : List Job). length l) was) ∙ sym k.as_many in
-      subst (AreCarriedOut base budget jobs) (sym (written done more n long)) (out_of base budget jobs looked done looked_from (subst (λ (l : List Job). Each (IsDone base) l done) was k))
+      subst (AreCarriedOut base budget jobs) (sym (written done more n long)) (out_of base budget jobs looked done looked_from (subst (λ (l : List Job). AreCarriedOut base budget l done) was k))

@@ -4,8 +4,9 @@ use Rattle.std.specs.List.{count_by}
 use Rattle.js_meaning.specs.State.{Ground}
 use Rattle.bp_thread.specs.declared.job.Job.{Job}
 use Rattle.bp_thread.specs.Jobs.{plain_job, IsOf}
+use Rattle.bp_thread.specs.Carried.{CarriedOut}
 use Rattle.bp_pool.specs.declared.seat.Seat.{Seat}
-use Rattle.bp_pool.specs.Carrying.{IsCarriedOn, IsDone}
+use Rattle.bp_pool.specs.Carrying.{IsCarriedOn}
 
 -- a slice of the seat's job can be made
 pub record CanTurn (base : Ground) (s : Seat) : Type 0 where
@@ -28,18 +29,20 @@ pub record IsSeat (base : Ground) (jobs : List Job) (s : Seat) : Type 0 where
 abbrev pub seats_of : ℕ → List Seat → ℕ
 seats_of k seats = count_by (λ s. eqb s.place k) seats
 
--- at its place the job e is done, or it has one of so many seats
-abbrev pub IsDoneOrSeated : Ground → Job → Option Job → ℕ → Type 0
-IsDoneOrSeated base e (Some x) seats = IsDone base e x
-IsDoneOrSeated base e None seats = 0 < seats
+-- at its place is the job e, carried out under whatever budget, or it has one of so many seats
+abbrev pub IsOutOrSeated : Ground → Job → Option Job → ℕ → Type 0
+IsOutOrSeated base e (Some x) seats = (budget : ℕ) → CarriedOut base budget e x
+IsOutOrSeated base e None seats = 0 < seats
 
--- each job of the list is done at its place or has a seat
-pub record AreSeated (base : Ground) (jobs : List Job) (done : List (Option Job)) (seats : List Seat) : Type 0 where
+-- each job of the list is back at its place, carried out, or has a seat
+pub record AreSeated (base : Ground) (jobs : List Job) (done : List (Option Job))
+    (seats : List Seat) : Type 0 where
   pub as_many : length done ≡ length jobs
   pub each : (k : ℕ) (d : Job) (o : Option Job) → k < length jobs →
-      IsDoneOrSeated base (slice_index_or jobs k d) (slice_index_or done k o) (seats_of k seats)
+      IsOutOrSeated base (slice_index_or jobs k d) (slice_index_or done k o) (seats_of k seats)
   pub own : All (IsSeat base jobs) seats
 
 -- whatever list was so seated is so still
-pub record StaySeated (base : Ground) (done : List (Option Job)) (seats : List Seat) (new : List (Option Job)) (left : List Seat) : Type 0 where
+pub record StaySeated (base : Ground) (done : List (Option Job)) (seats : List Seat)
+    (new : List (Option Job)) (left : List Seat) : Type 0 where
   pub stay : (jobs : List Job) → AreSeated base jobs done seats → AreSeated base jobs new left

@@ -1,8 +1,9 @@
 //! Jobs that are carried on in the calling thread.
-ghost use Rattle.std.specs.Prelude.{◌≡◌, ◌<◌, ◌↔◌, IfOk, OnOk, IsSome, IsTrue, None, is_some};
+ghost use Rattle.std.specs.Prelude.{◌≡◌, ℕ, ◌<◌, ◌↔◌, IfOk, OnOk, IsSome, IsTrue, None, is_some};
 ghost use Rattle.js_frames.specs.Places.{plain_ground};
 ghost use Rattle.bp_thread.specs.Jobs.{plain_job, IsOf};
-ghost use Rattle.bp_pool.specs.Carrying.{AreOf, AreOpen, IsCarriedOn, IsDone, Each};
+ghost use Rattle.bp_thread.specs.Carried.{CarriedOut, AreCarriedOut};
+ghost use Rattle.bp_pool.specs.Carrying.{AreOf, AreOpen, IsCarriedOn, Each};
 
 use crate::gate::Gate;
 use bp_thread::Job;
@@ -10,8 +11,8 @@ use js_data::Memory;
 use js_frames::Ground;
 use std::sync::Wait;
 
-/// The nodes that a job begins in a round by slices smaller than that, so that a round does not cost its threads more
-/// than its nodes.
+/// The nodes that a job begins in a round by slices smaller than that, so that a round does not
+/// cost its threads more than its nodes.
 const ROUND: u64 = 10_000;
 
 /// Whether the job has its outcome.
@@ -53,8 +54,8 @@ fn gated_slice<G: Gate>(
     sliced
 }
 
-/// Carries the job on by a round: by one slice, or by as many small ones as begin a round's nodes, or by fewer to its
-/// outcome. Its only error is want of memory.
+/// Carries the job on by a round: by one slice, or by as many small ones as begin a round's nodes,
+/// or by fewer to its outcome. Its only error is want of memory.
 pub(crate) fn carry_a_round<G: Gate>(
     ground: &Ground,
     job: &mut Job,
@@ -84,7 +85,8 @@ fn finish<G: Gate, R: Wait>(
     gate: &G,
 ) -> Result<(), Memory>
     requires program { IsOf (plain_ground ground.now).program job.old }
-    ensures { OnOk result (IsDone (plain_ground ground.now) job.old job.new) }
+    ensures { (budget : ℕ) →
+        OnOk result (CarriedOut (plain_ground ground.now) budget job.old job.new) }
 {
     if has_outcome(job) {
         return Ok(());
@@ -106,7 +108,8 @@ pub(crate) fn finish_all<G: Gate, R: Wait>(
     gate: &G,
 ) -> Result<(), Memory>
     requires program { AreOf (plain_ground ground.now) jobs.old }
-    ensures { OnOk result (Each (IsDone (plain_ground ground.now)) jobs.old jobs.new) }
+    ensures { (budget : ℕ) →
+        OnOk result (AreCarriedOut (plain_ground ground.now) budget jobs.old jobs.new) }
 {
     for job in jobs {
         finish(rt, ground, job, slice, gate)?;

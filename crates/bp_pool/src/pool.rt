@@ -19,13 +19,15 @@ fn are_several_open(jobs: &[Job]) -> bool {
     jobs.iter().filter(|job| !has_outcome(job)).nth(1).is_some()
 }
 
-/// Carries each job to its outcome, by slices of so many nodes and by so many workers at most: the same jobs in
-/// the same order, whatever the workers, the slice and the order in which threads come to run.
+/// Carries each job to its outcome, by slices of so many nodes and by so many workers at most: the
+/// same jobs in the same order, whatever the workers, the slice and the order in which threads come
+/// to run.
 ///
-/// The calling thread takes a look first: it carries each job on by one slice. Where at most one job is left
-/// without outcome, no thread is started; else the jobs that are left go on by rounds of one slice each, or of several
-/// small ones, cut into runs of neighbours, one a worker. Where a thread can't be started, the round goes on with
-/// fewer. After want of memory, which is its only error, the jobs are dropped.
+/// The calling thread takes a look first: it carries each job on by one slice. Where at most one
+/// job is left without outcome, no thread is started; else the jobs that are left go on by rounds
+/// of one slice each, or of several small ones, cut into runs of neighbours, one a worker. Where a
+/// thread can't be started, the round goes on with fewer. After want of memory, which is its only
+/// error, the jobs are dropped.
 pub fn superstep<G: Gate + Sync, R: Threads + Wait + Sync>(
     rt: &R,
     alloc: Global,

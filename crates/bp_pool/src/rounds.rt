@@ -1,7 +1,8 @@
 //! Rounds: in each every job without outcome gets some slices, by several threads.
-ghost use Rattle.std.specs.Prelude.{◌≡◌, ◌<◌, All, IfOk};
+ghost use Rattle.std.specs.Prelude.{◌≡◌, ℕ, ◌<◌, All, IfOk};
 ghost use Rattle.js_frames.specs.Places.{plain_ground};
-ghost use Rattle.bp_pool.specs.Carrying.{AreOf, IsDone, Each};
+ghost use Rattle.bp_thread.specs.Carried.{AreCarriedOut};
+ghost use Rattle.bp_pool.specs.Carrying.{AreOf, Each};
 ghost use Rattle.bp_pool.specs.Seats.{CanTurn, Turned};
 
 use crate::carrying::carry_a_round;
@@ -27,7 +28,8 @@ fn turn<G: Gate>(ground: &Ground, seat: &mut Seat, slice: u64, gate: &G)
     }
 }
 
-/// A round of the job of each seat, by so many threads at most, and by fewer where one can't be started.
+/// A round of the job of each seat, by so many threads at most, and by fewer where one can't be
+/// started.
 fn round<G: Gate + Sync, R: Threads + Sync>(
     rt: &R,
     ground: &Ground,
@@ -66,7 +68,8 @@ pub(crate) fn by_rounds<G: Gate + Sync, R: Threads + Wait + Sync>(
     requires some_workers { 0 < workers }
     requires some_slice { 0 < slice }
     requires program { AreOf (plain_ground ground.now) jobs.items }
-    ensures { IfOk result (λ all. Each (IsDone (plain_ground ground.now)) jobs.items all.items) }
+    ensures { (budget : ℕ) → IfOk result (λ all.
+        AreCarriedOut (plain_ground ground.now) budget jobs.items all.items) }
 {
     let (mut done, mut seats) = take_out(alloc, ground, jobs)?;
     for _rounds in rt.forever() {

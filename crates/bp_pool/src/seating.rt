@@ -12,8 +12,8 @@ use js_data::Memory;
 use js_frames::Ground;
 use std::alloc::{AllocError, Global};
 
-/// Takes the jobs without outcome out of their list: what is left of it, and their seats. Its only error is want
-/// of memory.
+/// Takes the jobs without outcome out of their list: what is left of it, and their seats. Its only
+/// error is want of memory.
 pub(crate) fn take_out(
     alloc: Global,
     ground: &Ground,
@@ -39,8 +39,8 @@ pub(crate) fn take_out(
     Ok((done, seats))
 }
 
-/// Puts the jobs that have their outcomes now back at their places, and gives back the seats of the others. Its
-/// only error is want of memory, here or in one of the jobs.
+/// Puts the jobs that have their outcomes now back at their places, and gives back the seats of the
+/// others. Its only error is want of memory, here or in one of the jobs.
 pub(crate) fn put_back(
     alloc: Global,
     ground: &Ground,

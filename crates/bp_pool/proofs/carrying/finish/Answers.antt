@@ -1,6 +1,6 @@
 use Rattle.std.proofs.Common.{rules}
 use Rattle.js_frames.specs.Places.{plain_ground}
-use Rattle.bp_pool.proofs.Going.{itself, onward, still_not}
+use Rattle.bp_pool.proofs.Going.{itself, onward, out, carries_itself, still_not}
 use Rattle.bp_pool.proofs.Places.{none_of}
 use Rattle.bp_pool.proofs.carrying.finish.Goals as goal
 
@@ -12,15 +12,12 @@ loop-slices-init g c = record {
 }
 
 pub returns-then-has_outcome : goal.returns-then-has_outcome
-returns-then-has_outcome g c = record { carried = itself (plain_ground c.args.ground.now) c.args.job.now; outcome = search rules }
+returns-then-has_outcome g c = λ budget. record { carries = carries_itself (plain_ground c.args.ground.now) budget c.args.job.now; outcome = search rules }
 
 pub returns-then-branch : goal.returns-then-branch
 returns-then-branch g c =
-    let i = c.loop-slices.invariant in
-    record {
-      carried = onward (plain_ground c.args.ground.now) c.args.job.now c.loop-slices.job c.gated_slice.new.job i.carried c.in_ok-gated_slice.ensures.carried;
-      outcome = (c.in_ok-gated_slice.ensures.done).0 c.if-branch.true;
-    }
+    λ budget. out (plain_ground c.args.ground.now) budget c.args.job.now c.loop-slices.job c.gated_slice.new.job c.loop-slices.invariant.carried c.in_ok-gated_slice.ensures.carried
+    ((c.in_ok-gated_slice.ensures.done).0 c.if-branch.true)
 
 pub loop-slices-preserved : goal.loop-slices-preserved
 loop-slices-preserved g c =

@@ -25,4 +25,4 @@ finish_all-requires g c =
 pub returns : goal.returns
 returns g c = λ budget.
     then_finished (plain_ground c.args.ground.now) c.args.jobs.items c.as_mut_slice.result.now c.look.new.jobs _ c.args.jobs.len (search rules) c.in_ok-look.ensures.carried (search rules)
-    c.as_mut_slice-2.result.now c.finish_all.new.jobs _ budget c.as_mut_slice-2.ensures.value c.in_ok-finish_all.ensures
+    c.as_mut_slice-2.result.now c.finish_all.new.jobs _ budget c.as_mut_slice-2.ensures.value (c.in_ok-finish_all.ensures budget)

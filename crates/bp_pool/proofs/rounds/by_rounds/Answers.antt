@@ -1,6 +1,6 @@
 use Rattle.std.proofs.Common.{rules}
 use Rattle.js_frames.specs.Places.{plain_ground}
-use Rattle.bp_pool.proofs.Places.{all_there, all_done_if, seats_within}
+use Rattle.bp_pool.proofs.Places.{all_there, all_out_if, seats_within}
 use Rattle.bp_pool.proofs.Writes.{after_round}
 use Rattle.bp_pool.proofs.rounds.by_rounds.Goals as goal
 
@@ -9,7 +9,7 @@ all_of-requires g c = all_there (plain_ground c.args.ground.now) c.args.jobs.ite
 
 pub returns-then-is_empty : goal.returns-then-is_empty
 returns-then-is_empty g c =
-    all_done_if c.all_of.result (λ v. v.items) (plain_ground c.args.ground.now) c.args.jobs.items c.loop-rounds.done.items c.loop-rounds.seats.items c.loop-rounds.invariant.seated c.all_of.ensures
+    all_out_if c.all_of.result (λ v. v.items) (plain_ground c.args.ground.now) c.args.jobs.items c.loop-rounds.done.items c.loop-rounds.seats.items c.loop-rounds.invariant.seated c.all_of.ensures
 
 pub put_back-requires : goal.put_back-requires
 put_back-requires g c =
