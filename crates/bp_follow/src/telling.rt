@@ -17,7 +17,7 @@ use bp_arbiter::Arbiter;
 use bp_base::{Sink, Source};
 use bp_log::{Beside, Line, Options, PrintError, Verdict};
 use bp_reader::Reader;
-use bp_serve::{Page, settle};
+use bp_serve::{Alone, Page, settle};
 use js_program::Program;
 use std::alloc::Global;
 
@@ -61,7 +61,7 @@ fn show<K: Sink>(
     ensures cause { IsErrOf result PrintError.Write → Rose (K.faults out.old) (K.faults out.new) }
     ensures counts { K.faults out.old ≤ K.faults out.new }
 {
-    settle(alloc, arbiter, Beside::defaults().slice())?;
+    settle(alloc, arbiter, &Alone(Beside::defaults()))?;
     arbiter.keeps();
     let lines = arbiter.take_lines();
     page.print(alloc, said(arbiter, lines.as_slice()), out)

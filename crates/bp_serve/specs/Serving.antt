@@ -33,7 +33,8 @@ pub record Ahead (l : Code Origin PlainSet) (o : PlainOptions) (records : List R
   pub reading : c.reading ≡ []
   pub goes_on : records ++ alone_from l o left c ≡ alone l o
 
--- the records are a beginning of the run without injectors, and at its end all of it; no job is lent
+-- the records are a beginning of the run without injectors, and at its end all of it; no job is
+-- lent
 abbrev pub OnTheWay : Code Origin PlainSet → PlainOptions → Phase → List Record → Type 0
 OnTheWay l o Ready records = (c : Configuration Origin) × Ahead l o records c
 OnTheWay l o Lent records = ⊥
@@ -58,7 +59,8 @@ pub record Begins (l : Code Origin PlainSet) (o : PlainOptions) (lines : List Li
   pub rest : List ℕ
   pub text_is : text l o (alone l o) ≡ Some (lines_text lines ++ rest)
 
--- After the lines of this arbiter were taken the same run is served; its text begins with all that was taken, and at the end is no more than that.
+-- After the lines of this arbiter were taken the same run is served; its text begins with all that
+-- was taken, and at the end is no more than that.
 pub record TakesLines (old new : PlainArbiter) : Type 0 where
   pub keeps : (l : Code Origin PlainSet) (o : PlainOptions) (taken : List Line) → Underway l o old taken → Underway l o new (taken ++ (stand_in old).lines)
   pub begins : (l : Code Origin PlainSet) (o : PlainOptions) (taken : List Line) → o.injectors ≡ 0 → Underway l o old taken → Begins l o (taken ++ (stand_in old).lines)

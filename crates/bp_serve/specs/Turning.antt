@@ -20,7 +20,8 @@ pub record Closes (old new : PlainArbiter) : Type 0 where
   pub records : new.records ≡ old.records ++ End verdict ∷ []
   pub comes : (c : Configuration Origin) → Recounts old c → c.stand.verdict ≡ Some verdict
 
--- Turns were made, or none. Code and options are the same, and it stands for a pair after the same lines. The records are the same, or a verdict was recorded.
+-- Turns were made, or none. Code and options are the same, and it stands for a pair after the same
+-- lines. The records are the same, or a verdict was recorded.
 pub record Settles (old new : PlainArbiter) : Type 0 where
   pub code : code_in new ≡ code_in old
   pub options : options_in new ≡ options_in old

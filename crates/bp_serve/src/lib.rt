@@ -1,6 +1,7 @@
 //! A run that is served: carried on to its end, and printed and kept as it comes.
 #![tactic(auto)]
 
+mod carrier;
 mod carrying;
 mod fault;
 mod page;
@@ -8,8 +9,8 @@ mod report;
 mod running;
 mod serving;
 mod telling;
-mod workers;
 
+pub use carrier::{Alone, Carrier};
 pub use carrying::carry_all;
 pub use fault::RunFault;
 pub use page::Page;

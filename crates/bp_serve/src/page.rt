@@ -16,7 +16,8 @@ const FULL: usize = 65_536;
 
 /// Text that was not written yet. Contracts see its bytes.
 ///
-/// A page takes what is written to it unless memory is wanting. It keeps no count of faults, which so stands at its greatest.
+/// A page takes what is written to it unless memory is wanting. It keeps no count of faults, which
+/// so stands at its greatest.
 #[derive(Debug, Drop)]
 pub struct Page {
     bytes: Vec<u8>,
@@ -68,7 +69,8 @@ impl Page {
     /// Puts a line at the end. After want of memory a part of it, from its front, is there.
     pub(crate) fn add_line(&mut self, alloc: Global, line: &Line) -> Result<(), Memory>
         ensures added { OnOk result (self.new ≡ self.old ++ whole_line line.now) }
-        ensures front { OnErr result (AppendsFront (Some self.old) (whole_line line.now) (Some self.new)) }
+        ensures front { OnErr result
+            (AppendsFront (Some self.old) (whole_line line.now) (Some self.new)) }
     {
         match print(alloc, line, self) {
             Ok(()) => Ok(()),
@@ -79,7 +81,8 @@ impl Page {
     /// Puts a record at the end. After want of memory a part of it, from its front, is there.
     fn add_record(&mut self, alloc: Global, entry: &Record) -> Result<(), Memory>
         ensures added { OnOk result (self.new ≡ self.old ++ whole_record entry.now) }
-        ensures front { OnErr result (AppendsFront (Some self.old) (whole_record entry.now) (Some self.new)) }
+        ensures front { OnErr result
+            (AppendsFront (Some self.old) (whole_record entry.now) (Some self.new)) }
     {
         match write_record(alloc, entry, self) {
             Ok(()) => Ok(()),
@@ -87,7 +90,8 @@ impl Page {
         }
     }
 
-    /// Puts the records at the end. After want of memory a part of their text, from its front, is there.
+    /// Puts the records at the end. After want of memory a part of their text, from its front, is
+    /// there.
     pub(crate) fn add_records(&mut self, alloc: Global, records: &[Record]) -> Result<(), Memory>
         ensures added { OnOk result (self.new ≡ self.old ++ records_text records.now) }
         ensures front { OnErr result
@@ -130,8 +134,8 @@ impl Page {
         self.write(out)
     }
 
-    /// Puts the lines at the end, and writes what waits whenever that is much. After a refusal a front of the text
-    /// was written or waits.
+    /// Puts the lines at the end, and writes what waits whenever that is much. After a refusal a
+    /// front of the text was written or waits.
     pub fn print<K: Sink>(
         &mut self,
         alloc: Global,

@@ -25,7 +25,8 @@ impl Drop for Report {
 }
 
 impl Report {
-    /// What the run came to that this arbiter has carried to its end. Its only error is want of memory.
+    /// What the run came to that this arbiter has carried to its end. Its only error is want of
+    /// memory.
     pub(crate) fn of(arbiter: Arbiter) -> Result<Report, Memory>
         requires { arbiter.phase ≡ phase.Over }
         ensures verdict { IfOk result (λ r. verdict_of arbiter.records ≡ Some r.verdict) }

@@ -11,9 +11,8 @@ ghost use Rattle.bp_serve.specs.Serving.{records_in, text_in, Underway, KeepsUnd
 ghost use Rattle.bp_serve.specs.Turning.{Settles};
 
 use crate::RunFault;
-use crate::carrying::carry_all;
+use crate::carrier::{Carrier, Workers};
 use crate::telling::Telling;
-use crate::workers::settle_beside;
 use bp_arbiter::{Arbiter, Phase};
 use bp_base::Sink;
 use bp_log::{Beside, Memory};
@@ -21,10 +20,10 @@ use std::alloc::Global;
 use std::sync::Wait;
 use std::thread::Threads;
 
-/// One turn: the jobs of what is to be run are carried to their outcomes, one after the other, and what they did is
-/// merged. Its only error is want of memory.
-fn turn(alloc: Global, arbiter: &mut Arbiter, slice: u64) -> Result<Phase, Memory>
-    requires some_slice { 0 < slice }
+/// One turn: the jobs of what is to be run are carried to their outcomes, and what they did is
+/// merged in order. Its only error is want of memory.
+fn turn<C: Carrier>(alloc: Global, arbiter: &mut Arbiter, carrier: &C) -> Result<Phase, Memory>
+    requires can_carry { C.can_carry carrier.now }
     requires ready { arbiter.old.phase ≡ phase.Ready }
     requires stands { StandsSomewhere arbiter.old }
     ensures settles { OnOk result (Settles arbiter.old arbiter.new) }
@@ -35,14 +34,14 @@ fn turn(alloc: Global, arbiter: &mut Arbiter, slice: u64) -> Result<Phase, Memor
         → length (stand_in arbiter.old).threads < length (stand_in arbiter.new).threads) }
 {
     let budget = arbiter.floor().options().budget();
-    let mut jobs = arbiter.lend(alloc)?;
-    carry_all(arbiter.ground(), budget, slice, &mut jobs)?;
-    arbiter.seal(alloc, jobs)
+    let lent = arbiter.lend(alloc)?;
+    let done = carrier.carry_out(alloc, arbiter.ground(), budget, lent)?;
+    arbiter.seal(alloc, done)
 }
 
 /// Turn after turn, until nobody is to be run. Its only error is want of memory.
-pub fn settle(alloc: Global, arbiter: &mut Arbiter, slice: u64) -> Result<(), Memory>
-    requires some_slice { 0 < slice }
+pub fn settle<C: Carrier>(alloc: Global, arbiter: &mut Arbiter, carrier: &C) -> Result<(), Memory>
+    requires can_carry { C.can_carry carrier.now }
     requires stands { StandsSomewhere arbiter.old }
     requires unlent { is_lent arbiter.old.phase ≡ false }
     ensures settles { OnOk result (Settles arbiter.old arbiter.new) }
@@ -53,7 +52,7 @@ pub fn settle(alloc: Global, arbiter: &mut Arbiter, slice: u64) -> Result<(), Me
     while arbiter.phase() == Phase::Ready {
         // Each turn but the first runs b-threads that the one before registered, and these are few.
         arbiter.keeps();
-        turn(alloc, arbiter, slice)?;
+        turn(alloc, arbiter, carrier)?;
     }
     Ok(())
 }
@@ -72,9 +71,11 @@ fn tell<K: Sink, L: Sink>(
     ensures front { let text = telling.old.lines ++ lines_text (stand_in arbiter.old).lines in
         OnErr result (ShowsFront (K.written out.old) text telling.new.lines (K.written out.new)) }
     ensures log_shows { let more = records_text (drop telling.old.kept arbiter.old.records) in
-        OnOk result (LogShows L.written log.old (telling.old.records ++ more) telling.new.records log.new) }
+        OnOk result (LogShows L.written log.old (telling.old.records ++ more)
+        telling.new.records log.new) }
     ensures log_front { let more = records_text (drop telling.old.kept arbiter.old.records) in
-        OnErr result (LogShowsFront L.written log.old (telling.old.records ++ more) telling.new.records log.new) }
+        OnErr result (LogShowsFront L.written log.old (telling.old.records ++ more)
+        telling.new.records log.new) }
     ensures kept { OnOk result (telling.new.kept ≡ length arbiter.old.records) }
     ensures keeps { TakesLines arbiter.old arbiter.new }
     ensures records { arbiter.new.records ≡ arbiter.old.records }
@@ -119,8 +120,9 @@ pub(crate) fn serve<R: Threads + Wait + Sync, K: Sink, L: Sink>(
     ensures counts { K.faults out.old ≤ K.faults out.new }
     ensures stays { LogStays L.made_as L.faults log.old log.new }
 {
+    let workers = Workers { rt, beside };
     loop {
-        settle_beside(rt, alloc, arbiter, beside)?;
+        settle(alloc, arbiter, &workers)?;
         tell(alloc, arbiter, telling, out, log)?;
         if arbiter.phase() == Phase::Over {
             return Ok(());

@@ -1,24 +1,22 @@
-use Rattle.std.proofs.Common.{ℕ, ◌≡◌, ◌∙◌, ◌<◌, ◌≤◌, arith, length, refl, rules, subst, sym}
-use Rattle.bp_log.specs.declared.limits.TheConstants.{MOST_THREADS}
-use Rattle.bp_floor.specs.declared.phase.Phase.{Phase}
-use Rattle.bp_floor.specs.declared.phase.Phase.TheVariants.{Ready, Lent, Rest, Over}
+use Rattle.std.proofs.Common.{◌≡◌, ◌∙◌, arith, length, rules}
+use Rattle.bp_floor.specs.declared.phase.Phase.TheVariants.{Ready}
 use Rattle.bp_arbiter.specs.Arbiters.{stand_in}
 use Rattle.bp_serve.proofs.Turned.{settles_refl, settles_trans, settles_somewhere}
 use Rattle.bp_serve.proofs.Measure.{falls}
 use Rattle.bp_serve.proofs.serving.settle.Goals as goal
 
 pub loop-alloc-init : goal.loop-alloc-init
-loop-alloc-init c = record { stands = c.requires.stands; settles = settles_refl c.args.arbiter.now; keeps = λ l o taken x. x; records = omega arith }
+loop-alloc-init g c = record { stands = c.requires.stands; settles = settles_refl c.args.arbiter.now; keeps = λ l o taken x. x; records = omega arith }
 
 pub loop-alloc-smaller : goal.loop-alloc-smaller
-loop-alloc-smaller c =
+loop-alloc-smaller g c =
     let u = c.loop-alloc.invariant.stands in
     let ready : c.loop-alloc.arbiter.phase ≡ Ready = search rules in
     falls c.loop-alloc.arbiter.phase c.turn.new.arbiter.phase (length (stand_in c.loop-alloc.arbiter).threads) (length (stand_in c.turn.new.arbiter).threads) ready
     (c.keeps.ensures.few (u.stands).whole) (λ e. c.in_ok-turn.ensures.grows (c.in_ok-turn.ensures.phase ∙ e))
 
 pub loop-alloc-preserved : goal.loop-alloc-preserved
-loop-alloc-preserved c =
+loop-alloc-preserved g c =
     let i = c.loop-alloc.invariant in
     let ready : c.loop-alloc.arbiter.phase ≡ Ready = search rules in
     let before = i.records in

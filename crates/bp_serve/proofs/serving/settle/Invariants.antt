@@ -1,7 +1,4 @@
-use Rattle.std.proofs.Common.{ℕ, ◌+◌, ◌-◌, ◌≤◌, length}
-use Rattle.bp_log.specs.declared.limits.TheConstants.{MOST_THREADS}
-use Rattle.bp_floor.specs.declared.phase.Phase.{Phase}
-use Rattle.bp_floor.specs.declared.phase.Phase.TheVariants.{Ready, Lent, Rest, Over}
+use Rattle.std.proofs.Common.{◌≤◌, length}
 use Rattle.bp_arbiter.specs.Arbiters.{stand_in, StandsSomewhere}
 use Rattle.bp_serve.specs.Serving.{KeepsUnderway}
 use Rattle.bp_serve.specs.Turning.{Settles}
@@ -9,7 +6,7 @@ use Rattle.bp_serve.proofs.Measure.{turns_left}
 use Rattle.bp_serve.proofs.serving.settle.Given as goal
 
 abbrev pub invariant-loop-alloc : goal.invariant-loop-alloc
-invariant-loop-alloc l = record {
+invariant-loop-alloc g l = record {
   stands : StandsSomewhere l.arbiter;
   settles : Settles l.fn.arbiter l.arbiter;
   keeps : KeepsUnderway l.fn.arbiter l.arbiter;
@@ -17,4 +14,4 @@ invariant-loop-alloc l = record {
 }
 
 abbrev pub decreases-loop-alloc : goal.decreases-loop-alloc
-decreases-loop-alloc l = turns_left l.arbiter.phase (length (stand_in l.arbiter).threads)
+decreases-loop-alloc g l = turns_left l.arbiter.phase (length (stand_in l.arbiter).threads)

@@ -4,53 +4,53 @@ use Rattle.bp_serve.proofs.Way.{turn_keeps, turn_records, budget_of, carried_at,
 use Rattle.bp_serve.proofs.Turned.{turn_settles}
 use Rattle.bp_serve.proofs.serving.turn.Goals as goal
 
-pub carry_all-requires-clause-some_budget : goal.carry_all-requires-clause-some_budget
-carry_all-requires-clause-some_budget c =
+pub carry_out-requires-clause-some_budget : goal.carry_out-requires-clause-some_budget
+carry_out-requires-clause-some_budget g c =
     let some = (c.budget-budget.ensures.within).some_budget in
     let same = c.budget-budget.ensures.budget in
     omega (arith, some, same)
 
-pub carry_all-requires-clause-can_run : goal.carry_all-requires-clause-can_run
-carry_all-requires-clause-can_run c =
-    can_run_here _ _ _ c.budget-budget.result c.in_ok-jobs.jobs.items c.ground.ensures
+pub carry_out-requires-clause-can_run : goal.carry_out-requires-clause-can_run
+carry_out-requires-clause-can_run g c =
+    can_run_here _ _ _ c.budget-budget.result c.in_ok-lent.lent.items c.ground.ensures
     (budget_of c.options.result (options_in c.lend.new.self) c.args.arbiter.now.floor c.floor.result.now c.budget-budget.result c.budget-budget.ensures.budget c.options.ensures c.floor.ensures.floor c.lend.ensures.options)
-    (c.in_ok-jobs.ensures.lent).can_run
+    (c.in_ok-lent.ensures.lent).can_run
 
 pub seal-requires-clause-back : goal.seal-requires-clause-back
-seal-requires-clause-back c = λ _.
+seal-requires-clause-back g c = λ _.
     let u = c.requires.stands in
     record {
-      lent = c.in_ok-jobs.jobs.items;
+      lent = c.in_ok-lent.lent.items;
       taken = u.taken;
       pair = u.pair;
-      stands = c.in_ok-jobs.ensures.stands u.taken u.pair u.stands;
-      out = c.in_ok-jobs.ensures.lent;
-      carried = carried_at _ _ _ c.budget-budget.result c.in_ok-jobs.jobs.items c.carry_all.new.jobs.items c.ground.ensures
+      stands = c.in_ok-lent.ensures.stands u.taken u.pair u.stands;
+      out = c.in_ok-lent.ensures.lent;
+      carried = carried_at _ _ _ c.budget-budget.result c.in_ok-lent.lent.items c.in_ok-done.done.items c.ground.ensures
           (budget_of c.options.result (options_in c.lend.new.self) c.args.arbiter.now.floor c.floor.result.now c.budget-budget.result c.budget-budget.ensures.budget c.options.ensures c.floor.ensures.floor c.lend.ensures.options)
-          c.in_ok-carry_all.ensures;
+          c.in_ok-done.ensures;
     }
 
 pub returns-clause-keeps : goal.returns-clause-keeps
-returns-clause-keeps c =
+returns-clause-keeps g c =
     let l = c.lend.ensures in
     let s = c.seal.ensures in
-    turn_keeps c.seal.result c.args.arbiter.now c.lend.new.self c.seal.new.self c.in_ok-jobs.jobs.items c.carry_all.new.jobs.items c.requires.ready
-    c.in_ok-jobs.ensures.stands l.records l.ground l.options
-    (carried_at _ _ _ c.budget-budget.result c.in_ok-jobs.jobs.items c.carry_all.new.jobs.items c.ground.ensures
+    turn_keeps c.seal.result c.args.arbiter.now c.lend.new.self c.seal.new.self c.in_ok-lent.lent.items c.in_ok-done.done.items c.requires.ready
+    c.in_ok-lent.ensures.stands l.records l.ground l.options
+    (carried_at _ _ _ c.budget-budget.result c.in_ok-lent.lent.items c.in_ok-done.done.items c.ground.ensures
     (budget_of c.options.result (options_in c.lend.new.self) c.args.arbiter.now.floor c.floor.result.now c.budget-budget.result c.budget-budget.ensures.budget c.options.ensures c.floor.ensures.floor l.options)
-    c.in_ok-carry_all.ensures)
+    c.in_ok-done.ensures)
     s.stands s.phase s.recorded s.over s.program s.options
 
 pub returns-clause-settles : goal.returns-clause-settles
-returns-clause-settles c =
+returns-clause-settles g c =
     let l = c.lend.ensures in
     let s = c.seal.ensures in
-    turn_settles c.seal.result c.args.arbiter.now c.lend.new.self c.seal.new.self c.in_ok-jobs.jobs.items c.carry_all.new.jobs.items
-    c.requires.stands c.in_ok-jobs.ensures.stands l.records l.ground l.options
-    (carried_at _ _ _ c.budget-budget.result c.in_ok-jobs.jobs.items c.carry_all.new.jobs.items c.ground.ensures
+    turn_settles c.seal.result c.args.arbiter.now c.lend.new.self c.seal.new.self c.in_ok-lent.lent.items c.in_ok-done.done.items
+    c.requires.stands c.in_ok-lent.ensures.stands l.records l.ground l.options
+    (carried_at _ _ _ c.budget-budget.result c.in_ok-lent.lent.items c.in_ok-done.done.items c.ground.ensures
     (budget_of c.options.result (options_in c.lend.new.self) c.args.arbiter.now.floor c.floor.result.now c.budget-budget.result c.budget-budget.ensures.budget c.options.ensures c.floor.ensures.floor l.options)
-    c.in_ok-carry_all.ensures)
+    c.in_ok-done.ensures)
     s.stands s.phase s.recorded s.program s.options
 
 pub returns-clause-records : goal.returns-clause-records
-returns-clause-records c = turn_records c.seal.result c.args.arbiter.now c.lend.new.self c.seal.new.self c.lend.ensures.records c.seal.ensures.recorded
+returns-clause-records g c = turn_records c.seal.result c.args.arbiter.now c.lend.new.self c.seal.new.self c.lend.ensures.records c.seal.ensures.recorded
