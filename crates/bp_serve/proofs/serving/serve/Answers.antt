@@ -48,13 +48,13 @@ returns-in_err-tell-clause-log_front g c =
     c.tell.new.telling.records c.args.log.now c.loop-arbiter.log c.tell.new.log c.loop-arbiter.invariant.log_shows c.in_err-tell.ensures.log_front)
 
 pub settle-requires-clause-stands : goal.settle-requires-clause-stands
-settle-requires-clause-stands g c κs within =
+settle-requires-clause-stands g c =
     let a = c.args.arbiter.now in
     let i = c.loop-arbiter.invariant.underway in
     underway_somewhere (code_in a) (options_in a) c.loop-arbiter.arbiter i.0 i.1
 
 pub settle-requires-clause-unlent : goal.settle-requires-clause-unlent
-settle-requires-clause-unlent g c κs within =
+settle-requires-clause-unlent g c =
     let a = c.args.arbiter.now in
     let i = c.loop-arbiter.invariant.underway in
     underway_unlent (code_in a) (options_in a) c.loop-arbiter.arbiter i.0 i.1

@@ -1,7 +1,5 @@
-use Rattle.std.proofs.Common.{ℕ, ◌≡◌, ◌∙◌, ◌<◌, ◌≤◌, arith, length, refl, rules, subst, sym}
-use Rattle.bp_log.specs.declared.limits.TheConstants.{MOST_THREADS}
-use Rattle.bp_floor.specs.declared.phase.Phase.{Phase}
-use Rattle.bp_floor.specs.declared.phase.Phase.TheVariants.{Ready, Lent, Rest, Over}
+use Rattle.std.proofs.Common.{◌≡◌, ◌∙◌, arith, length, rules}
+use Rattle.bp_floor.specs.declared.phase.Phase.TheVariants.{Ready}
 use Rattle.bp_arbiter.specs.Arbiters.{stand_in}
 use Rattle.bp_serve.proofs.Turned.{settles_refl, settles_trans, settles_somewhere}
 use Rattle.bp_serve.proofs.Measure.{falls}

@@ -1,7 +1,4 @@
-use Rattle.std.proofs.Common.{ℕ, ◌+◌, ◌-◌, ◌≤◌, length}
-use Rattle.bp_log.specs.declared.limits.TheConstants.{MOST_THREADS}
-use Rattle.bp_floor.specs.declared.phase.Phase.{Phase}
-use Rattle.bp_floor.specs.declared.phase.Phase.TheVariants.{Ready, Lent, Rest, Over}
+use Rattle.std.proofs.Common.{◌≤◌, length}
 use Rattle.bp_arbiter.specs.Arbiters.{stand_in, StandsSomewhere}
 use Rattle.bp_serve.specs.Serving.{KeepsUnderway}
 use Rattle.bp_serve.specs.Turning.{Settles}
