@@ -12,6 +12,8 @@ use Rattle.bp_pool.specs.contracts.seat.Seat as Seat
 pub seat_send : IsSend Seat.the_row
 seat_send = declared_send Seat.the_type (search sendable, (search (sendable, job_send), (search sendable, tt)))
 
--- three values that threads may share
-pub three_sync : (name : Sym) (a b c : RattleType) → IsSync a → IsSync b → IsSync c → IsSync (TupleAt name (a ∷ b ∷ c ∷ []))
-three_sync name a b c x y z = declared_sync (type_at name (a ∷ b ∷ c ∷ [])) (as_row_sync (row_field a) x, (as_row_sync (row_field b) y, (as_row_sync (row_field c) z, tt)))
+-- four values that threads may share
+pub four_sync : (name : Sym) (a b c d : RattleType) → IsSync a → IsSync b → IsSync c → IsSync d → IsSync (TupleAt name (a ∷ b ∷ c ∷ d ∷ []))
+four_sync name a b c d x y z w =
+    declared_sync (type_at name (a ∷ b ∷ c ∷ d ∷ []))
+    (as_row_sync (row_field a) x, (as_row_sync (row_field b) y, (as_row_sync (row_field c) z, (as_row_sync (row_field d) w, tt))))

@@ -11,10 +11,6 @@ use js_data::Memory;
 use js_frames::Ground;
 use std::sync::Wait;
 
-/// The nodes that a job begins in a round by slices smaller than that, so that a round does not
-/// cost its threads more than its nodes.
-const ROUND: u64 = 10_000;
-
 /// Whether the job has its outcome.
 pub(crate) fn has_outcome(job: &Job) -> bool
     ensures { result ≡ is_some (plain_job job.now).outcome }
@@ -54,12 +50,13 @@ fn gated_slice<G: Gate>(
     sliced
 }
 
-/// Carries the job on by a round: by one slice, or by as many small ones as begin a round's nodes,
-/// or by fewer to its outcome. Its only error is want of memory.
+/// Carries the job on by a round of so many nodes: by one slice, or by as many smaller ones as begin
+/// so many, or by fewer to its outcome. Its only error is want of memory.
 pub(crate) fn carry_a_round<G: Gate>(
     ground: &Ground,
     job: &mut Job,
     slice: u64,
+    nodes: u64,
     gate: &G,
 ) -> Result<(), Memory>
     requires some_slice { 0 < slice }
@@ -68,7 +65,7 @@ pub(crate) fn carry_a_round<G: Gate>(
     ensures program { IsOf (plain_ground ground.now).program job.new }
     ensures carried { OnOk result (IsCarriedOn (plain_ground ground.now) job.old job.new) }
 {
-    for _slices in 0..ROUND.div_ceil(slice) {
+    for _slices in 0..nodes.div_ceil(slice) {
         if gated_slice(ground, job, slice, gate)? {
             return Ok(());
         }

@@ -25,9 +25,9 @@ fn are_several_open(jobs: &[Job]) -> bool {
 ///
 /// The calling thread takes a look first: it carries each job on by one slice. Where at most one
 /// job is left without outcome, no thread is started; else the jobs that are left go on by rounds
-/// of one slice each, or of several small ones, cut into runs of neighbours, one a worker. Where a
-/// thread can't be started, the round goes on with fewer. After want of memory, which is its only
-/// error, the jobs are dropped.
+/// of one slice each, or of several, cut into runs of neighbours, one a worker; each round has more
+/// nodes than the one before. Where a thread can't be started, the round goes on with fewer. After
+/// want of memory, which is its only error, the jobs are dropped.
 pub fn superstep<G: Gate + Sync, R: Threads + Wait + Sync>(
     rt: &R,
     alloc: Global,

@@ -17,25 +17,34 @@ use std::sync::Wait;
 use std::thread;
 use std::thread::Threads;
 
+/// The nodes of the first round, so that a round does not cost its threads more than its nodes.
+const FIRST_ROUND: u64 = 10_000;
+
+/// Each round has more nodes than the one before, by this part of them. So rounds, at whose ends
+/// each thread waits for the slowest, are few however long the jobs are; and where a job ends early
+/// in a round, its thread has no work for a small part of the whole time alone.
+const GROWTH: u64 = 4;
+
 /// A round of the seat's job.
-fn turn<G: Gate>(ground: &Ground, seat: &mut Seat, slice: u64, gate: &G)
+fn turn<G: Gate>(ground: &Ground, seat: &mut Seat, slice: u64, nodes: u64, gate: &G)
     requires some_slice { 0 < slice }
     requires can_turn { CanTurn (plain_ground ground.now) seat.old }
     ensures { Turned (plain_ground ground.now) seat.old seat.new }
 {
-    if carry_a_round(ground, &mut seat.job, slice, gate).is_err() {
+    if carry_a_round(ground, &mut seat.job, slice, nodes, gate).is_err() {
         seat.lost = true;
     }
 }
 
-/// A round of the job of each seat, by so many threads at most, and by fewer where one can't be
-/// started.
+/// A round of so many nodes of the job of each seat, by so many threads at most, and by fewer where
+/// one can't be started.
 fn round<G: Gate + Sync, R: Threads + Sync>(
     rt: &R,
     ground: &Ground,
     seats: &mut [Seat],
     workers: u32,
     slice: u64,
+    nodes: u64,
     gate: &G,
 )
     requires some_workers { 0 < workers }
@@ -51,7 +60,7 @@ fn round<G: Gate + Sync, R: Threads + Sync>(
             requires some_slice { 0 < slice }
             requires can_turn { CanTurn (plain_ground ground.now) seat.old }
             ensures { Turned (plain_ground ground.entry.now) seat.old seat.new }
-        { turn(ground, seat, slice, gate) },
+        { turn(ground, seat, slice, nodes, gate) },
     );
 }
 
@@ -72,12 +81,22 @@ pub(crate) fn by_rounds<G: Gate + Sync, R: Threads + Wait + Sync>(
         AreCarriedOut (plain_ground ground.now) budget jobs.items all.items) }
 {
     let (mut done, mut seats) = take_out(alloc, ground, jobs)?;
+    let mut nodes = FIRST_ROUND;
     for _rounds in rt.forever() {
         if seats.is_empty() {
             return all_of(alloc, done);
         }
-        round(rt, ground, seats.as_mut_slice(), workers, slice, gate);
+        round(
+            rt,
+            ground,
+            seats.as_mut_slice(),
+            workers,
+            slice,
+            nodes,
+            gate,
+        );
         seats = put_back(alloc, ground, seats, &mut done)?;
+        nodes = nodes.saturating_add(nodes / GROWTH);
     }
     unreachable!()
 }
