@@ -1,5 +1,5 @@
 -- Nodes that only give a value.
-use Rattle.std.proofs.Common.{◌≡◌, ℕ, Option, Some, None, refl, sym, ap, ◌∙◌}
+use Rattle.std.proofs.Common.{◌≡◌, ℕ, Option, Some, None, refl, ap, ◌∙◌}
 use Rattle.std.specs.Prelude.{slice_get}
 use Rattle.js_value.specs.Value as v
 use Rattle.js_value.specs.Value.{PlainValue}
@@ -12,7 +12,7 @@ use Rattle.js_meaning.specs.State as js
 use Rattle.js_meaning.specs.State.{State, gives}
 use Rattle.js_meaning.specs.Variables.{if_declared}
 use Rattle.js_meaning.specs.Meaning.{does_node, eval, turns_of}
-use Rattle.js_frames.specs.Places.{Place, Beside, setting_at, state_at, held_at}
+use Rattle.js_frames.specs.Places.{Place, setting_at, state_at}
 use Rattle.js_frames.specs.Leads.{leaf_at, leaf_of}
 use Rattle.js_frames.proofs.Steps.{OnlyGives}
 use Rattle.js_frames.proofs.Declaring.{held_with}

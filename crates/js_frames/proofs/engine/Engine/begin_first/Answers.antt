@@ -1,4 +1,4 @@
-use Rattle.std.proofs.Common.{◌≡◌, Option, Some, None, subst}
+use Rattle.std.proofs.Common.{◌≡◌, subst}
 use Rattle.std.specs.Prelude.{IfSome, IfNone}
 use Rattle.js_value.specs.Views.{plain_value}
 use Rattle.js_frames.specs.declared.frame.Part.TheVariants.{First}

@@ -1,4 +1,4 @@
-use Rattle.std.proofs.Common.{◌≡◌, Some, refl, sym, ap, ◌∙◌, inr, arith}
+use Rattle.std.proofs.Common.{refl, sym, ap, ◌∙◌, inr, arith}
 use Rattle.std.specs.Prelude.{option_map}
 use Rattle.js_value.specs.Views.{plain_value}
 use Rattle.js_frames.specs.Places.{plain_ground, place_of}

@@ -1,5 +1,4 @@
-use Rattle.std.proofs.Common.{◌≡◌, Some, refl, sym, ap, ◌∙◌}
-use Rattle.js_value.specs.Views.{plain_value}
+use Rattle.std.proofs.Common.{Some, sym, ap, ◌∙◌}
 use Rattle.js_program.specs.Views.{plain_node_form}
 use Rattle.js_frames.specs.Places.{plain_ground, place_of}
 use Rattle.js_frames.specs.Leads.{leaf_at, leaf_of}

@@ -1,4 +1,4 @@
-use Rattle.std.proofs.Common.{refl, sym, ap, ◌∙◌}
+use Rattle.std.proofs.Common.{sym, ap}
 use Rattle.js_frames.specs.Places.{plain_ground, place_of, here}
 use Rattle.js_frames.specs.Leads.{operand_frame, waits_for}
 use Rattle.js_frames.proofs.Steps.{wait_leads, means_ok}
