@@ -372,7 +372,7 @@ module _ (g : Setting) (ground : AreShortSlots g.base.constants) (ev : ℕ → S
     does_keeps line (p.if_else test body other) = if_else_keeps test body other
     does_keeps line (p.while_of test body) = r (Some test) body None
     does_keeps line (p.for_three slots first test next body) = bind _ (undeclare_keeps (perhaps ev first) slots (perhaps_keeps first)) (λ y _. r test body next)
-    does_keeps line (p.for_each k items body) = bind _ (undeclare_keeps (ev items) (k ∷ []) (h items)) (λ y m. each_of_keeps line k body y m)
+    does_keeps line (p.for_of k items body) = bind _ (undeclare_keeps (ev items) (k ∷ []) (h items)) (λ y m. each_of_keeps line k body y m)
     does_keeps line node = in_order_keeps (parts_of node) [] _ tt (combines_keeps line node)
 
     pub node_keeps : (o : Option PlainNode) → Keeps (does_node g ev repeat o)

@@ -204,11 +204,11 @@ mutual
     for_three : {t u v w x : Token} {ts ms ns ls rest : List Token} {start : PlainStart} {test next : PlainPerhaps} {s : PlainStmt} →
         sort t ≡ For → sort u ≡ LeftParen → starts_for_of ts ≡ false → Start ts start (v ∷ ms) → sort v ≡ Semicolon →
         Perhaps Semicolon ms test (w ∷ ns) → sort w ≡ Semicolon → Perhaps RightParen ns next (x ∷ ls) → sort x ≡ RightParen → Body ls s rest →
-        Statement (t ∷ (u ∷ ts)) (on t.line (p.for_of_three start test next s)) rest
+        Statement (t ∷ (u ∷ ts)) (on t.line (p.for_three start test next s)) rest
     for_of : {t u v w x y : Token} {ts ms rest : List Token} {k : DeclareKind} {n : Name} {e : PlainExpr} {s : PlainStmt} →
         sort t ≡ For → sort u ≡ LeftParen → lexical v ≡ Some k → named w ≡ Some n → is_of x ≡ true →
         Spells Assignment ts e (y ∷ ms) → sort y ≡ RightParen → Body ms s rest →
-        Statement (t ∷ (u ∷ (v ∷ (w ∷ (x ∷ ts))))) (on t.line (p.for_each k n e s)) rest
+        Statement (t ∷ (u ∷ (v ∷ (w ∷ (x ∷ ts))))) (on t.line (p.for_of k n e s)) rest
     break_end : {t : Token} {ts rest : List Token} → sort t ≡ Break → End Closed ts rest → Statement (t ∷ ts) (on t.line (p.break_of (spot t))) rest
     continue_end : {t : Token} {ts rest : List Token} → sort t ≡ Continue → End Closed ts rest → Statement (t ∷ ts) (on t.line (p.continue_of (spot t))) rest
     return_end : {t : Token} {ts rest : List Token} →

@@ -54,11 +54,11 @@ module _ (room : ℕ) (inner : Readers) where
   abbrev pub for_three_at : ℕ → List Token → Found PlainStmt
   for_three_at line ts = and_then (start ts) (λ first r. after Semicolon r (λ ms. and_then (perhaps Semicolon ms) (λ e l.
       after Semicolon l (λ ns. and_then (perhaps RightParen ns) (λ next m. after RightParen m (λ ls. and_then (body_at ls) (λ s z.
-      Some (on line (p.for_of_three first e next s), z))))))))
+      Some (on line (p.for_three first e next s), z))))))))
 
   -- behind `of`
   abbrev pub of_at : ℕ → DeclareKind → Name → List Token → Found PlainStmt
-  of_at line k x ts = and_then (inner.expr Assignment ts) (λ e r. after RightParen r (λ m. and_then (body_at m) (λ s z. Some (on line (p.for_each k x e s), z))))
+  of_at line k x ts = and_then (inner.expr Assignment ts) (λ e r. after RightParen r (λ m. and_then (body_at m) (λ s z. Some (on line (p.for_of k x e s), z))))
 
   abbrev pub for_of_at : ℕ → List Token → Found PlainStmt
   for_of_at line ts = after_some lexical ts (λ k r. after_some named r (λ x m. of_at line k x (tail m)))

@@ -50,14 +50,14 @@ break_and_continue = refl
 pub for_of_returns : comes_to Thread 100
     (one (p.words (codes "a")) ∷ one (p.words (codes "b")) ∷ one (p.words (codes "c")) ∷ one (p.list (0 ∷ 1 ∷ 2 ∷ []))
     ∷ slot 0 ∷ one (p.words (codes "b")) ∷ one (p.binary op.Same 4 5) ∷ slot 0 ∷ one (p.return_of 7) ∷ one (p.if_alone 6 8) ∷ one (p.block [] (9 ∷ []))
-    ∷ one (p.for_each 0 3 10) ∷ [])
+    ∷ one (p.for_of 0 3 10) ∷ [])
     (statements 1 (11 ∷ []) ∷ [])
     ≡ ends (v.words (codes "b")) 83 []
 unfolding evaluation eval within
 for_of_returns = refl
 
 -- for (const x of 1) ;   (on line 4)
-pub for_of_no_list : comes_to Thread 100 (whole 1 ∷ one p.empty ∷ on 4 (p.for_each 0 0 1) ∷ []) (statements 1 (2 ∷ []) ∷ [])
+pub for_of_no_list : comes_to Thread 100 (whole 1 ∷ one p.empty ∷ on 4 (p.for_of 0 0 1) ∷ []) (statements 1 (2 ∷ []) ∷ [])
     ≡ broken fault.Mistyped 4 (left 98 [])
 unfolding evaluation eval within
 for_of_no_list = refl
@@ -206,7 +206,7 @@ pub for_of_goes_on_and_breaks : comes_to Thread 100
     (whole 1 ∷ whole 2 ∷ whole 3 ∷ whole 4 ∷ one (p.list (0 ∷ 1 ∷ 2 ∷ 3 ∷ []))
     ∷ slot 0 ∷ whole 1 ∷ one (p.binary op.Same 5 6) ∷ one p.continue_of ∷ one (p.if_alone 7 8)
     ∷ slot 0 ∷ whole 3 ∷ one (p.binary op.Same 10 11) ∷ one p.break_of ∷ one (p.if_alone 12 13)
-    ∷ slot 0 ∷ one (p.builtin form.LogInfo (15 ∷ [])) ∷ one (p.expression 16) ∷ one (p.block [] (9 ∷ 14 ∷ 17 ∷ [])) ∷ one (p.for_each 0 4 18) ∷ [])
+    ∷ slot 0 ∷ one (p.builtin form.LogInfo (15 ∷ [])) ∷ one (p.expression 16) ∷ one (p.block [] (9 ∷ 14 ∷ 17 ∷ [])) ∷ one (p.for_of 0 4 18) ∷ [])
     (statements 1 (19 ∷ []) ∷ [])
     ≡ ends v.undefined 66 (says (codes "2") ∷ [])
 unfolding evaluation eval within digits
@@ -254,7 +254,7 @@ for_each_gives_the_list = refl
 -- for (const k of [0, 1]) for (let i = k && i; 0;) ;   (the second i on line 2)
 pub head_of_a_for : comes_to Thread 100
     (whole 0 ∷ whole 1 ∷ one (p.list (0 ∷ 1 ∷ [])) ∷ slot 0 ∷ on 2 (p.read (Slot 1)) ∷ one (p.binary op.And 3 4) ∷ one (p.declaration Let (given 1 5 ∷ []))
-    ∷ whole 0 ∷ one p.empty ∷ one (p.for_three (1 ∷ []) (Some 6) (Some 7) None 8) ∷ one (p.for_each 0 2 9) ∷ [])
+    ∷ whole 0 ∷ one p.empty ∷ one (p.for_three (1 ∷ []) (Some 6) (Some 7) None 8) ∷ one (p.for_of 0 2 9) ∷ [])
     (statements 2 (10 ∷ []) ∷ [])
     ≡ broken fault.Early 2 (left 86 [])
 unfolding evaluation eval within turns_of
@@ -263,7 +263,7 @@ head_of_a_for = refl
 -- for (const k of [0, 1]) for (const x of k ? x : [5]) ;   (the second x on line 2)
 pub list_of_a_for_of : comes_to Thread 100
     (whole 0 ∷ whole 1 ∷ one (p.list (0 ∷ 1 ∷ [])) ∷ slot 0 ∷ on 2 (p.read (Slot 1)) ∷ whole 5 ∷ one (p.list (5 ∷ [])) ∷ one (p.conditional 3 4 6)
-    ∷ one p.empty ∷ one (p.for_each 1 7 8) ∷ one (p.for_each 0 2 9) ∷ [])
+    ∷ one p.empty ∷ one (p.for_of 1 7 8) ∷ one (p.for_of 0 2 9) ∷ [])
     (statements 2 (10 ∷ []) ∷ [])
     ≡ broken fault.Early 2 (left 86 [])
 unfolding evaluation eval within

@@ -293,7 +293,7 @@ module _ (g : Setting) (W : (State → Outcome) → (State → Outcome) → Type
       does_walk line (p.if_else test body other) = if_else_walk test body other
       does_walk line (p.while_of test body) = r (Some test) body None
       does_walk line (p.for_three slots first test next body) = bind _ _ (undeclare_walk slots (perhaps ev first) (perhaps ev' first) (perhaps_walk first)) (λ y. r test body next)
-      does_walk line (p.for_each k items body) = bind _ _ (undeclare_walk (k ∷ []) (ev items) (ev' items) (h items)) (λ y. each_of_walk line k body y)
+      does_walk line (p.for_of k items body) = bind _ _ (undeclare_walk (k ∷ []) (ev items) (ev' items) (h items)) (λ y. each_of_walk line k body y)
       does_walk line node = in_order_walk (parts_of node) [] _ _ (combines_walk line node)
 
       pub node_walk : (o : Option PlainNode) → W (does_node g ev repeat o) (does_node g ev' repeat' o)

@@ -22,7 +22,7 @@ module _ (g : Setting) (ev : ℕ → State → Outcome) (repeat : Option ℕ →
   does line (p.if_else test body other) s = does_if_else ev test body other s
   does line (p.while_of test body) s = repeat (Some test) body None s
   does line (p.for_three slots first test next body) s = perhaps ev first (undeclare slots s) >>= λ _. repeat test body next
-  does line (p.for_each k items body) s = does_for_of ev line k items body s
+  does line (p.for_of k items body) s = does_for_of ev line k items body s
   -- all others evaluate their parts in order, and then combine the values
   does line form s = in_order ev (parts_of form) [] (combines g ev line form) s
 

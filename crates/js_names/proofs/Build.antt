@@ -7,7 +7,7 @@ use Rattle.js_tree.specs.declared.tree.AssignOp.{AssignOp}
 use Rattle.js_tree.specs.declared.tree.Step.{Step}
 use Rattle.js_tree.specs.declared.tree.Fix.{Fix}
 use Rattle.js_tree.specs.declared.tree.DeclareKind.{DeclareKind}
-use Rattle.js_tree.specs.Plain.{PlainExpr, PlainForm, at, number, use_of, member, call, update, assign, arrow_value, function, absent, present, declarator_in, no_declarators, declared, PlainStmt, on, block, declaration, expression, while_of, for_of_three, for_each, break_of, return_nothing, PlainItem, statement, function_of, exprs_of, stmts_of}
+use Rattle.js_tree.specs.Plain.{PlainExpr, PlainForm, at, number, use_of, member, call, update, assign, arrow_value, function, absent, present, declarator_in, no_declarators, declared, PlainStmt, on, block, declaration, expression, while_of, for_three, for_of, break_of, return_nothing, PlainItem, statement, function_of, exprs_of, stmts_of}
 
 abbrev pub spot : ℕ → Spot
 spot p = record { at = p; line = 1 }
@@ -66,11 +66,11 @@ returns p = on 1 (return_nothing (spot p))
 
 -- `for (KIND name = 1; ; ) body`
 abbrev pub counted : DeclareKind → List ℕ → ℕ → PlainStmt → PlainStmt
-counted kind text p s = on 1 (for_of_three (declared 1 kind (declarator_in (name text p) (present one) (p + 5) no_declarators)) absent absent s)
+counted kind text p s = on 1 (for_three (declared 1 kind (declarator_in (name text p) (present one) (p + 5) no_declarators)) absent absent s)
 
 -- `for (KIND name of list) body`
 abbrev pub each : DeclareKind → List ℕ → ℕ → PlainExpr → PlainStmt → PlainStmt
-each kind text p e s = on 1 (for_each kind (name text p) e s)
+each kind text p e s = on 1 (for_of kind (name text p) e s)
 
 abbrev pub items : List PlainStmt → List PlainItem
 items [] = []

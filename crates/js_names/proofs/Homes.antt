@@ -229,13 +229,13 @@ mutual
       home_both (expr_sites scopes a e) (stmt_sites scopes a x ++ stmt_sites scopes a y) (home_expr scopes a e s.0)
       (home_both (stmt_sites scopes a x) (stmt_sites scopes a y) (home_body scopes a x s.1.0) (home_body scopes a y s.1.1))
   home_stmt_form scopes a o d line (t.while_of e x) s w = home_both (expr_sites scopes a e) (stmt_sites scopes (in_loop a) x) (home_expr scopes a e s.0) (home_body scopes (in_loop a) x s.1)
-  home_stmt_form scopes a o d line (t.for_of_three start test next x) s w =
+  home_stmt_form scopes a o d line (t.for_three start test next x) s w =
       let inner = for_scope a.owner start x ∷ scopes in
       let body = stmt_sites inner (in_loop a) x in
       home_both (start_sites inner a start) (perhaps_sites inner a test ++ (perhaps_sites inner a next ++ body)) (home_start inner a a.owner start s.0 (for_owns scopes a.owner start x))
       (home_both (perhaps_sites inner a test) (perhaps_sites inner a next ++ body) (home_perhaps inner a test s.1.0)
       (home_both (perhaps_sites inner a next) body (home_perhaps inner a next s.1.1.0) (home_body inner (in_loop a) x s.1.1.1)))
-  home_stmt_form scopes a o d line (t.for_each kind name e x) s w =
+  home_stmt_form scopes a o d line (t.for_of kind name e x) s w =
       let listed = list_scope a.owner kind name ∷ scopes in
       let inner = each_scope a.owner kind name x ∷ scopes in
       (λ _. list_owns scopes a.owner kind name, home_both (expr_sites listed a e) (stmt_sites inner (in_loop a) x) (home_expr listed a e s.0) (home_body inner (in_loop a) x s.1))

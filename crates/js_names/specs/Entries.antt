@@ -3,7 +3,7 @@ use Rattle.std.specs.Prelude.{ℕ, Bool, true, false, List, [], ◌∷◌, ◌++
 use Rattle.js_tree.specs.declared.tree.Name.{Name}
 use Rattle.js_tree.specs.declared.tree.DeclareKind.{DeclareKind}
 use Rattle.js_tree.specs.declared.tree.DeclareKind.TheVariants.{Const as const_word, Let as let_word, Var as var_word}
-use Rattle.js_tree.specs.Plain.{PlainPerhaps, absent, present, PlainDeclarators, no_declarators, declarator_in, PlainStart, nothing, declared, started, PlainStmt, on, PlainStmtForm, empty, block, declaration, expression, if_alone, if_else, while_of, for_of_three, for_each, break_of, continue_of, return_nothing, return_of, PlainStmts, no_stmts, stmt_in, PlainItem, statement, function_of}
+use Rattle.js_tree.specs.Plain.{PlainPerhaps, absent, present, PlainDeclarators, no_declarators, declarator_in, PlainStart, nothing, declared, started, PlainStmt, on, PlainStmtForm, empty, block, declaration, expression, if_alone, if_else, while_of, for_three, for_of, break_of, continue_of, return_nothing, return_of, PlainStmts, no_stmts, stmt_in, PlainItem, statement, function_of}
 use Rattle.js_names.specs.declared.place.Role.{Role}
 use Rattle.js_names.specs.declared.place.Role.TheVariants.{Const, Let, Var, Function}
 use Rattle.js_names.specs.declared.place.Declared.{Declared}
@@ -84,8 +84,8 @@ abbrev mutual
   vars_of_form owner direct (if_alone e s) = vars_of owner false s
   vars_of_form owner direct (if_else e s other) = vars_of owner false s ++ vars_of owner false other
   vars_of_form owner direct (while_of e s) = vars_of owner false s
-  vars_of_form owner direct (for_of_three start test next s) = vars_of_start owner start ++ vars_of owner false s
-  vars_of_form owner direct (for_each kind name e s) = vars_of owner false s
+  vars_of_form owner direct (for_three start test next s) = vars_of_start owner start ++ vars_of owner false s
+  vars_of_form owner direct (for_of kind name e s) = vars_of owner false s
   vars_of_form owner direct (break_of spot) = []
   vars_of_form owner direct (continue_of spot) = []
   vars_of_form owner direct (return_nothing spot) = []

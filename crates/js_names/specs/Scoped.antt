@@ -65,8 +65,8 @@ abbrev mutual
   ScopedStmtForm (t.if_alone e s) = ScopedExpr e × ScopedBody s
   ScopedStmtForm (t.if_else e s other) = ScopedExpr e × (ScopedBody s × ScopedBody other)
   ScopedStmtForm (t.while_of e s) = ScopedExpr e × ScopedBody s
-  ScopedStmtForm (t.for_of_three start test next s) = ScopedStart start × (ScopedPerhaps test × (ScopedPerhaps next × ScopedBody s))
-  ScopedStmtForm (t.for_each kind name e s) = ScopedExpr e × ScopedBody s
+  ScopedStmtForm (t.for_three start test next s) = ScopedStart start × (ScopedPerhaps test × (ScopedPerhaps next × ScopedBody s))
+  ScopedStmtForm (t.for_of kind name e s) = ScopedExpr e × ScopedBody s
   ScopedStmtForm (t.return_of spot e) = ScopedExpr e
   ScopedStmtForm _ = Unit {0}
 

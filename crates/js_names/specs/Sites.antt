@@ -5,7 +5,7 @@ use Rattle.js_tree.specs.declared.tree.Name.{Name}
 use Rattle.js_tree.specs.declared.tree.Spot.{Spot}
 use Rattle.js_tree.specs.declared.tree.DeclareKind.{DeclareKind}
 use Rattle.js_tree.specs.declared.tree.DeclareKind.TheVariants.{Const as const_word, Let as let_word, Var as var_word}
-use Rattle.js_tree.specs.Plain.{PlainExpr, at, PlainForm, number, words, truth, null, use_of, list, fields, member, index, call, unary, update, binary, conditional, assign, arrow_value, arrow_block, function, PlainExprs, no_exprs, expr_in, PlainFields, no_fields, field_in, PlainPerhaps, absent, present, PlainDeclarators, no_declarators, declarator_in, PlainStart, nothing, declared, started, PlainStmt, on, PlainStmtForm, empty, block, declaration, expression, if_alone, if_else, while_of, for_of_three, for_each, break_of, continue_of, return_nothing, return_of, PlainStmts, no_stmts, stmt_in, PlainItem, statement, function_of}
+use Rattle.js_tree.specs.Plain.{PlainExpr, at, PlainForm, number, words, truth, null, use_of, list, fields, member, index, call, unary, update, binary, conditional, assign, arrow_value, arrow_block, function, PlainExprs, no_exprs, expr_in, PlainFields, no_fields, field_in, PlainPerhaps, absent, present, PlainDeclarators, no_declarators, declarator_in, PlainStart, nothing, declared, started, PlainStmt, on, PlainStmtForm, empty, block, declaration, expression, if_alone, if_else, while_of, for_three, for_of, break_of, continue_of, return_nothing, return_of, PlainStmts, no_stmts, stmt_in, PlainItem, statement, function_of}
 use Rattle.js_tree.specs.Nesting.{is_object}
 use Rattle.js_names.specs.declared.place.Role.{Role}
 use Rattle.js_names.specs.declared.place.Role.TheVariants.{Parameter, Const, Let, Var, Function}
@@ -126,10 +126,10 @@ unfoldable mutual
   stmt_form_sites scopes a (if_alone e s) = expr_sites scopes a e ++ stmt_sites scopes a s
   stmt_form_sites scopes a (if_else e s other) = expr_sites scopes a e ++ (stmt_sites scopes a s ++ stmt_sites scopes a other)
   stmt_form_sites scopes a (while_of e s) = expr_sites scopes a e ++ stmt_sites scopes (in_loop a) s
-  stmt_form_sites scopes a (for_of_three start test next s) =
+  stmt_form_sites scopes a (for_three start test next s) =
       let inner = for_scope a.owner start s ∷ scopes in
       start_sites inner a start ++ (perhaps_sites inner a test ++ (perhaps_sites inner a next ++ stmt_sites inner (in_loop a) s))
-  stmt_form_sites scopes a (for_each kind name e s) =
+  stmt_form_sites scopes a (for_of kind name e s) =
       let listed = list_scope a.owner kind name ∷ scopes in
       let inner = each_scope a.owner kind name s ∷ scopes in
       site listed a (What.Declares (each_role kind)) name ++ (expr_sites listed a e ++ stmt_sites inner (in_loop a) s)

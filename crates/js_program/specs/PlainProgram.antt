@@ -58,7 +58,7 @@ pub data PlainNodeForm : Type 0 where
   -- `for (first; test; next) body`, with the slots that are not declared yet as it begins
   for_three : List ℕ → Option ℕ → Option ℕ → Option ℕ → ℕ → PlainNodeForm
   -- `for (let x of list) body`, with the slot of `x`, which is not declared yet as the list begins
-  for_each : ℕ → ℕ → ℕ → PlainNodeForm
+  for_of : ℕ → ℕ → ℕ → PlainNodeForm
   break_of : PlainNodeForm
   continue_of : PlainNodeForm
   return_nothing : PlainNodeForm
@@ -116,7 +116,7 @@ parts_of (if_alone test body) = test ∷ body ∷ []
 parts_of (if_else test body other) = test ∷ body ∷ other ∷ []
 parts_of (while_of test body) = test ∷ body ∷ []
 parts_of (for_three slots first test next body) = option_to_list first ++ option_to_list test ++ option_to_list next ++ body ∷ []
-parts_of (for_each slot items body) = items ∷ body ∷ []
+parts_of (for_of slot items body) = items ∷ body ∷ []
 parts_of (return_of e) = e ∷ []
 parts_of _ = []
 

@@ -3,7 +3,7 @@ use Rattle.std.specs.Prelude.{ℕ, ◌+◌, ◌<◌, suc, zero, Bool, true, fals
 use Rattle.std.specs.List.{list_all}
 use Rattle.js_program.specs.declared.node.Variable.{Variable}
 use Rattle.js_program.specs.declared.node.Variable.TheVariants.{Slot, Constant}
-use Rattle.js_program.specs.PlainProgram.{PlainDeclared, PlainNodeForm, read, fields, update, assign, function, block, declaration, for_three, for_each, PlainNode, PlainBody, PlainConstant, of_function, undeclared, unset, PlainProgram, parts_of, content_parts}
+use Rattle.js_program.specs.PlainProgram.{PlainDeclared, PlainNodeForm, read, fields, update, assign, function, block, declaration, for_three, for_of, PlainNode, PlainBody, PlainConstant, of_function, undeclared, unset, PlainProgram, parts_of, content_parts}
 
 -- the variable that a form reads
 abbrev pub variables_read : PlainNodeForm → List Variable
@@ -21,7 +21,7 @@ slots_named (update step fix slot) = slot ∷ []
 slots_named (assign operator slot e) = slot ∷ []
 slots_named (block slots ns) = slots
 slots_named (for_three slots first test next body) = slots
-slots_named (for_each slot items body) = slot ∷ []
+slots_named (for_of slot items body) = slot ∷ []
 slots_named _ = []
 
 -- the function that it makes

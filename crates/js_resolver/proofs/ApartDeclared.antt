@@ -76,8 +76,8 @@ mutual
   var_form_of f direct (t.if_alone e s) = var_stmt_of f false s
   var_form_of f direct (t.if_else e s other) = of_append f true (vars_of f false s) (vars_of f false other) (var_stmt_of f false s) (var_stmt_of f false other)
   var_form_of f direct (t.while_of e s) = var_stmt_of f false s
-  var_form_of f direct (t.for_of_three start test next s) = of_append f true (vars_of_start f start) (vars_of f false s) (var_start_of f start) (var_stmt_of f false s)
-  var_form_of f direct (t.for_each kind name e s) = var_stmt_of f false s
+  var_form_of f direct (t.for_three start test next s) = of_append f true (vars_of_start f start) (vars_of f false s) (var_start_of f start) (var_stmt_of f false s)
+  var_form_of f direct (t.for_of kind name e s) = var_stmt_of f false s
   var_form_of f direct _ = tt
 
   var_all_of : (f : ℕ) (direct : Bool) (ss : PlainStmts) → AllOf f true (vars_of_all f direct ss)

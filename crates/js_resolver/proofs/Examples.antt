@@ -167,7 +167,7 @@ handed_through_program = refl
 -- var x = 1; for (const y of x) y; (function() { x }): a constant that is a `var`, and a slot of the top level
 pub a_slot_of_the_top_level : resolved (
     t.statement (t.on 1 (t.declaration DeclareKind.Var (t.declarator_in (name (codes "x") 4) (t.present (whole 1)) 9 t.no_declarators)))
-    ∷ t.statement (t.on 1 (t.for_each DeclareKind.Const (name (codes "y") 22) (uses (codes "x") 27) (does (uses (codes "y") 30))))
+    ∷ t.statement (t.on 1 (t.for_of DeclareKind.Const (name (codes "y") 22) (uses (codes "x") 27) (does (uses (codes "y") 30))))
     ∷ []) ≡ Some (record {
       nodes =
           node 1 (n.number (pos 1))
@@ -175,7 +175,7 @@ pub a_slot_of_the_top_level : resolved (
           ∷ node 1 (n.read (Constant 0))
           ∷ node 1 (n.read (Slot 0))
           ∷ node 1 (n.expression 3)
-          ∷ node 1 (n.for_each 0 2 4)
+          ∷ node 1 (n.for_of 0 2 4)
           ∷ [];
       functions = [];
       constants = n.unset ∷ [];

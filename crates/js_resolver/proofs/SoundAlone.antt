@@ -108,8 +108,8 @@ mutual
   form_vars direct (t.if_alone e s) = stmt_vars false s
   form_vars direct (t.if_else e s other) = vars_append (vars_of top false s) (vars_of top false other) (stmt_vars false s) (stmt_vars false other)
   form_vars direct (t.while_of e s) = stmt_vars false s
-  form_vars direct (t.for_of_three start test next s) = vars_append (vars_of_start top start) (vars_of top false s) (start_vars start) (stmt_vars false s)
-  form_vars direct (t.for_each kind name e s) = stmt_vars false s
+  form_vars direct (t.for_three start test next s) = vars_append (vars_of_start top start) (vars_of top false s) (start_vars start) (stmt_vars false s)
+  form_vars direct (t.for_of kind name e s) = stmt_vars false s
   form_vars direct _ = tt
 
   stmts_vars : (direct : Bool) (ss : PlainStmts) → AllVars (vars_of_all top direct ss)

@@ -216,7 +216,7 @@ mutual
   stmt_form_listed ps scopes a b (t.while_of e s) =
       let x = expr_piece ps b e in
       listed_beside ps (expr_sites scopes a e) (stmt_sites scopes (in_loop a) s) x (stmt_piece ps (after b x) s) (expr_listed ps scopes a b e) (stmt_listed ps scopes (in_loop a) (after b x) s)
-  stmt_form_listed ps scopes a b (t.for_of_three start test next s) =
+  stmt_form_listed ps scopes a b (t.for_three start test next s) =
       let inner = for_scope a.owner start s ∷ scopes in
       let x = start_piece ps b start in
       let y = perhaps_piece ps (after b x) test in
@@ -225,7 +225,7 @@ mutual
       let d = after b (beside (beside x y) z) in
       listed_four ps (start_sites inner a start) (perhaps_sites inner a test) (perhaps_sites inner a next) (stmt_sites inner (in_loop a) s) x y z (stmt_piece ps d s)
       (start_listed ps inner a b start) (perhaps_listed ps inner a (after b x) test) (perhaps_listed ps inner a c next) (stmt_listed ps inner (in_loop a) d s)
-  stmt_form_listed ps scopes a b (t.for_each kind name e s) =
+  stmt_form_listed ps scopes a b (t.for_of kind name e s) =
       let listed = list_scope a.owner kind name ∷ scopes in
       let inner = each_scope a.owner kind name s ∷ scopes in
       let x = expr_piece ps b e in

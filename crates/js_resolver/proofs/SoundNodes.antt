@@ -373,10 +373,10 @@ stmt_fine p ps scopes a (t.expression e) xs h = refl
 stmt_fine p ps scopes a (t.if_alone e s) xs h = refl
 stmt_fine p ps scopes a (t.if_else e s other) xs h = refl
 stmt_fine p ps scopes a (t.while_of e s) xs h = refl
-stmt_fine p ps scopes a (t.for_of_three start test next s) xs h =
+stmt_fine p ps scopes a (t.for_three start test next s) xs h =
     let inner = for_scope a.owner start s ∷ scopes in
     some_variables _ (fresh_start p ps inner a 0 start refl (fine_left p ps (start_sites inner a start) (perhaps_sites inner a test ++ (perhaps_sites inner a next ++ stmt_sites inner (in_loop a) s)) h))
-stmt_fine p ps scopes a (t.for_each kind name e s) xs h = one_variable _ (h.0.slot (each_no_var kind _ refl))
+stmt_fine p ps scopes a (t.for_of kind name e s) xs h = one_variable _ (h.0.slot (each_no_var kind _ refl))
 stmt_fine p ps scopes a (t.break_of spot) xs h = refl
 stmt_fine p ps scopes a (t.continue_of spot) xs h = refl
 stmt_fine p ps scopes a (t.return_nothing spot) xs h = refl
@@ -555,7 +555,7 @@ mutual
   stmt_form_good p ps scopes a b (t.while_of e s) w =
       let x = expr_piece ps b e in
       yields_beside p ps a.owner b (expr_sites scopes a e) (stmt_sites scopes (in_loop a) s) x (stmt_piece ps (after b x) s) (expr_good p ps scopes a b e w) (stmt_good p ps scopes (in_loop a) (after b x) s w)
-  stmt_form_good p ps scopes a b (t.for_of_three start test next s) w =
+  stmt_form_good p ps scopes a b (t.for_three start test next s) w =
       let inner = for_scope a.owner start s ∷ scopes in
       let v = within_for scopes a.owner a.owner start s w in
       let x = start_piece ps b start in
@@ -565,7 +565,7 @@ mutual
       let d = after b (beside (beside x y) z) in
       yields_four p ps a.owner b (start_sites inner a start) (perhaps_sites inner a test) (perhaps_sites inner a next) (stmt_sites inner (in_loop a) s) x y z (stmt_piece ps d s)
       (start_good p ps inner a b start v) (perhaps_good p ps inner a (after b x) test v) (perhaps_good p ps inner a c next v) (stmt_good p ps inner (in_loop a) d s v)
-  stmt_form_good p ps scopes a b (t.for_each kind name e s) w =
+  stmt_form_good p ps scopes a b (t.for_of kind name e s) w =
       let listed = list_scope a.owner kind name ∷ scopes in
       let inner = each_scope a.owner kind name s ∷ scopes in
       let v = within_each scopes a.owner a.owner kind name s w in

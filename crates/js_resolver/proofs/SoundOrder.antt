@@ -192,7 +192,7 @@ mutual
       let y = beside x (stmt_piece ps (after b x) s) in
       orderly_beside b 2 1 y (stmt_piece ps (after b y) other) (orderly_beside b 1 1 x (stmt_piece ps (after b x) s) (expr_orderly ps b e) (stmt_orderly ps (after b x) s)) (stmt_orderly ps (after b y) other)
   stmt_form_orderly ps b (t.while_of e s) = let x = expr_piece ps b e in orderly_beside b 1 1 x (stmt_piece ps (after b x) s) (expr_orderly ps b e) (stmt_orderly ps (after b x) s)
-  stmt_form_orderly ps b (t.for_of_three start test next s) =
+  stmt_form_orderly ps b (t.for_three start test next s) =
       let x = start_piece ps b start in
       let y = beside x (perhaps_piece ps (after b x) test) in
       let z = beside y (perhaps_piece ps (after b y) next) in
@@ -202,7 +202,7 @@ mutual
       orderly_beside b ((a + c) + d) 1 z (stmt_piece ps (after b z) s)
       (orderly_beside b (a + c) d y (perhaps_piece ps (after b y) next) (orderly_beside b a c x (perhaps_piece ps (after b x) test) (start_orderly ps b start) (perhaps_orderly ps (after b x) test)) (perhaps_orderly ps (after b y) next))
       (stmt_orderly ps (after b z) s)
-  stmt_form_orderly ps b (t.for_each kind name e s) = let x = expr_piece ps b e in orderly_beside b 1 1 x (stmt_piece ps (after b x) s) (expr_orderly ps b e) (stmt_orderly ps (after b x) s)
+  stmt_form_orderly ps b (t.for_of kind name e s) = let x = expr_piece ps b e in orderly_beside b 1 1 x (stmt_piece ps (after b x) s) (expr_orderly ps b e) (stmt_orderly ps (after b x) s)
   stmt_form_orderly ps b (t.break_of spot) = orderly_none b
   stmt_form_orderly ps b (t.continue_of spot) = orderly_none b
   stmt_form_orderly ps b (t.return_nothing spot) = orderly_none b

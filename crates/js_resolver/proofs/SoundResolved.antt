@@ -201,13 +201,13 @@ mutual
   stmt_form_knows ps r scopes a (t.if_else e s other) k =
       knows_append ps (expr_sites scopes a e) (stmt_sites scopes a s ++ stmt_sites scopes a other) (expr_knows ps r scopes a e k) (knows_append ps (stmt_sites scopes a s) (stmt_sites scopes a other) (stmt_knows ps r scopes a s k) (stmt_knows ps r scopes a other k))
   stmt_form_knows ps r scopes a (t.while_of e s) k = knows_append ps (expr_sites scopes a e) (stmt_sites scopes (in_loop a) s) (expr_knows ps r scopes a e k) (stmt_knows ps r scopes (in_loop a) s k)
-  stmt_form_knows ps r scopes a (t.for_of_three start test next s) k = λ h.
+  stmt_form_knows ps r scopes a (t.for_three start test next s) k = λ h.
       let inner = for_scope a.owner start s ∷ scopes in
       let last = stmt_sites inner (in_loop a) s in
       let m = for_known ps scopes a start s k (have_left ps (start_sites inner a start) (perhaps_sites inner a test ++ (perhaps_sites inner a next ++ last)) h) in
       knows_append ps (start_sites inner a start) (perhaps_sites inner a test ++ (perhaps_sites inner a next ++ last)) (start_knows ps r inner a start m)
       (knows_append ps (perhaps_sites inner a test) (perhaps_sites inner a next ++ last) (perhaps_knows ps r inner a test m) (knows_append ps (perhaps_sites inner a next) last (perhaps_knows ps r inner a next m) (stmt_knows ps r inner (in_loop a) s m))) h
-  stmt_form_knows ps r scopes a (t.for_each kind name e s) k = λ h.
+  stmt_form_knows ps r scopes a (t.for_of kind name e s) k = λ h.
       let listed = list_scope a.owner kind name ∷ scopes in
       let inner = each_scope a.owner kind name s ∷ scopes in
       let m = list_known ps scopes a kind name k (h.0, tt) in

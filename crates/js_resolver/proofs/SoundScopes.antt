@@ -236,14 +236,14 @@ mutual
       let k = have_right ps (expr_sites scopes a e) (stmt_sites scopes a s ++ stmt_sites scopes a other) h in
       stated_append ps (found_var scopes) a.owner (vars_of a.owner false s) (vars_of a.owner false other) (stmt_vars ps scopes a false s (have_left ps (stmt_sites scopes a s) (stmt_sites scopes a other) k)) (stmt_vars ps scopes a false other (have_right ps (stmt_sites scopes a s) (stmt_sites scopes a other) k))
   form_vars ps scopes a direct (t.while_of e s) h = stmt_vars ps scopes (in_loop a) false s (have_right ps (expr_sites scopes a e) (stmt_sites scopes (in_loop a) s) h)
-  form_vars ps scopes a direct (t.for_of_three start test next s) h =
+  form_vars ps scopes a direct (t.for_three start test next s) h =
       let inner = for_scope a.owner start s ∷ scopes in
       let k = have_right ps (start_sites inner a start) (perhaps_sites inner a test ++ (perhaps_sites inner a next ++ stmt_sites inner (in_loop a) s)) h in
       let m = have_right ps (perhaps_sites inner a test) (perhaps_sites inner a next ++ stmt_sites inner (in_loop a) s) k in
       stated_append ps (found_var scopes) a.owner (vars_of_start a.owner start) (vars_of a.owner false s)
       (stated_start_vars ps inner a start (have_left ps (start_sites inner a start) (perhaps_sites inner a test ++ (perhaps_sites inner a next ++ stmt_sites inner (in_loop a) s)) h))
       (stmt_vars ps inner (in_loop a) false s (have_right ps (perhaps_sites inner a next) (stmt_sites inner (in_loop a) s) m))
-  form_vars ps scopes a direct (t.for_each kind name e s) h =
+  form_vars ps scopes a direct (t.for_of kind name e s) h =
       let inner = each_scope a.owner kind name s ∷ scopes in stmt_vars ps inner (in_loop a) false s (have_right ps (expr_sites (list_scope a.owner kind name ∷ scopes) a e) (stmt_sites inner (in_loop a) s) h.1)
   form_vars ps scopes a direct (t.break_of spot) h = tt
   form_vars ps scopes a direct (t.continue_of spot) h = tt

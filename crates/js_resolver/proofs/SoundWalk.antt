@@ -148,14 +148,14 @@ mutual
   stmt_form_walks P f r scopes a (t.if_else e s other) k =
       walks_append P f (expr_sites scopes a e) (stmt_sites scopes a s ++ stmt_sites scopes a other) (expr_walks P f r scopes a e k) (walks_append P f (stmt_sites scopes a s) (stmt_sites scopes a other) (stmt_walks P f r scopes a s k) (stmt_walks P f r scopes a other k))
   stmt_form_walks P f r scopes a (t.while_of e s) k = walks_append P f (expr_sites scopes a e) (stmt_sites scopes (in_loop a) s) (expr_walks P f r scopes a e k) (stmt_walks P f r scopes (in_loop a) s k)
-  stmt_form_walks P f r scopes a (t.for_of_three start test next s) k =
+  stmt_form_walks P f r scopes a (t.for_three start test next s) k =
       let inner = for_scope a.owner start s ∷ scopes in
       let last = stmt_sites inner (in_loop a) s in
       let m = r.head a.owner start s scopes k in
       walks_append P f (start_sites inner a start) (perhaps_sites inner a test ++ (perhaps_sites inner a next ++ last)) (start_walks P f r inner a start m)
       (walks_append P f (perhaps_sites inner a test) (perhaps_sites inner a next ++ last) (perhaps_walks P f r inner a test m)
       (walks_append P f (perhaps_sites inner a next) last (perhaps_walks P f r inner a next m) (stmt_walks P f r inner (in_loop a) s m)))
-  stmt_form_walks P f r scopes a (t.for_each kind name e s) k =
+  stmt_form_walks P f r scopes a (t.for_of kind name e s) k =
       let listed = list_scope a.owner kind name ∷ scopes in
       let inner = each_scope a.owner kind name s ∷ scopes in
       let m = r.list a.owner kind name scopes k in

@@ -87,9 +87,9 @@ while_arm ps a b c f e l x i j h d k m = forms_stmt ps a c (N.While i j) (i ∷ 
 pub for_of_arm : (ps : List Place) (a b c : Emitter) (f : StmtForm) (w : DeclareKind) (t : Name) (e : Expr) (l : Box Stmt Global) (x : Stmt) (v i j : ℕ) → f ≡ ForOf w t e l → x ≡ l.value → v ≡ slot_at ps t.spot.at → Emits a b (i ∷ []) (expr_piece ps (count a) (plain_expr e)) → Emits b c (j ∷ []) (stmt_piece ps (count b) (plain_stmt x))
     → FormsStmt ps a c (N.ForOf v i j) (plain_stmt_form f)
 unfolding stmt_parts
-for_of_arm ps a b c f w t e l x v i j h d q k m = forms_stmt ps a c (N.ForOf v i j) (i ∷ j ∷ []) (p.for_each w t (plain_expr e) (plain_stmt x)) (plain_stmt_form f)
-    (ap (λ z. p.for_each w t (plain_expr e) (plain_stmt z)) d ∙ sym (ap plain_stmt_form h ∙ for_of_is w t e l))
-    (emits_both (λ o. stmt_piece ps o (plain_stmt x)) a b c (i ∷ []) (j ∷ []) (expr_piece ps (count a) (plain_expr e)) k m) (ap (λ z. n.for_each z i j) q)
+for_of_arm ps a b c f w t e l x v i j h d q k m = forms_stmt ps a c (N.ForOf v i j) (i ∷ j ∷ []) (p.for_of w t (plain_expr e) (plain_stmt x)) (plain_stmt_form f)
+    (ap (λ z. p.for_of w t (plain_expr e) (plain_stmt z)) d ∙ sym (ap plain_stmt_form h ∙ for_of_is w t e l))
+    (emits_both (λ o. stmt_piece ps o (plain_stmt x)) a b c (i ∷ []) (j ∷ []) (expr_piece ps (count a) (plain_expr e)) k m) (ap (λ z. n.for_of z i j) q)
 
 pub if_else_arm : (ps : List Place) (a b c d : Emitter) (f : StmtForm) (e : Expr) (l m : Box Stmt Global) (x y : Stmt) (i j k : ℕ) → f ≡ IfElse e l m → x ≡ l.value → y ≡ m.value → Emits a b (i ∷ []) (expr_piece ps (count a) (plain_expr e)) → Emits b c (j ∷ []) (stmt_piece ps (count b) (plain_stmt x)) → Emits c d (k ∷ []) (stmt_piece ps (count c) (plain_stmt y))
     → FormsStmt ps a d (N.IfElse i j k) (plain_stmt_form f)
@@ -129,8 +129,8 @@ for_arm ps a b c d e f s u t w l x vs i j k m h q v g1 g2 g3 g4 =
     let h3 = emits_both (λ z. perhaps_piece ps z (tree_perhaps w)) a c d (option_to_list i ++ option_to_list j) (option_to_list k) p2 h2 (whole c d k (is_present (tree_perhaps w)) (perhaps_piece ps (count c) (tree_perhaps w)) g3) in
     let h4 = emits_both (λ z. stmt_piece ps z (plain_stmt x)) a d e ((option_to_list i ++ option_to_list j) ++ option_to_list k) (m ∷ []) p3 h3 g4 in
     let ns = ((option_to_list i ++ option_to_list j) ++ option_to_list k) ++ m ∷ [] in
-    forms_stmt ps a e (N.For vs i j k m) ns (p.for_of_three (plain_start s) (tree_perhaps t) (tree_perhaps w) (plain_stmt x)) (plain_stmt_form f)
-    (ap (λ z. p.for_of_three (plain_start s) (tree_perhaps t) (tree_perhaps w) (plain_stmt z)) q ∙ sym (ap plain_stmt_form h ∙ for_is s t w l)) h4
+    forms_stmt ps a e (N.For vs i j k m) ns (p.for_three (plain_start s) (tree_perhaps t) (tree_perhaps w) (plain_stmt x)) (plain_stmt_form f)
+    (ap (λ z. p.for_three (plain_start s) (tree_perhaps t) (tree_perhaps w) (plain_stmt z)) q ∙ sym (ap plain_stmt_form h ∙ for_is s t w l)) h4
     (ap (λ z. n.for_three z i j k m) v
     ∙ (for_parts (fresh ps (own_of_start 0 (plain_start s))) i j k m
     ∙ (ap (λ z. for_node (fresh ps (own_of_start 0 (plain_start s))) z (is_some j) (is_some k) ns) g1.same

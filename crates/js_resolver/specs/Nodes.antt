@@ -78,12 +78,12 @@ unfoldable mutual
   stmt_parts ps b (t.if_else e s other) =
       let x = expr_piece ps b e in let y = beside x (stmt_piece ps (after b x) s) in beside y (stmt_piece ps (after b y) other)
   stmt_parts ps b (t.while_of e s) = let x = expr_piece ps b e in beside x (stmt_piece ps (after b x) s)
-  stmt_parts ps b (t.for_of_three start test next s) =
+  stmt_parts ps b (t.for_three start test next s) =
       let x = start_piece ps b start in
       let y = beside x (perhaps_piece ps (after b x) test) in
       let z = beside y (perhaps_piece ps (after b y) next) in
       beside z (stmt_piece ps (after b z) s)
-  stmt_parts ps b (t.for_each kind name e s) = let x = expr_piece ps b e in beside x (stmt_piece ps (after b x) s)
+  stmt_parts ps b (t.for_of kind name e s) = let x = expr_piece ps b e in beside x (stmt_piece ps (after b x) s)
   stmt_parts ps b (t.break_of spot) = none
   stmt_parts ps b (t.continue_of spot) = none
   stmt_parts ps b (t.return_nothing spot) = none

@@ -358,7 +358,7 @@ fn for_three(
 }
 
 #[cycle(shown)]
-fn for_each(
+fn for_of(
     out: &mut String,
     kind: DeclareKind,
     name: &Name,
@@ -385,7 +385,7 @@ fn stmt_form(out: &mut String, form: &StmtForm, room: u32) -> Result<(), AllocEr
         StmtForm::IfElse(test, body, other) => if_else(out, test, body, other, room),
         StmtForm::While(test, body) => while_of(out, test, body, room),
         StmtForm::For(first, test, next, body) => for_three(out, first, test, next, body, room),
-        StmtForm::ForOf(kind, name, list, body) => for_each(out, *kind, name, list, body, room),
+        StmtForm::ForOf(kind, name, list, body) => for_of(out, *kind, name, list, body, room),
         StmtForm::Break(_) => out.push_str("break"),
         StmtForm::Continue(_) => out.push_str("continue"),
         StmtForm::ReturnNothing(_) => out.push_str("return"),

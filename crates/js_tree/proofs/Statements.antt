@@ -57,10 +57,10 @@ if_else_is e s o = ap plain_stmt_form (sym (rolls-IfElse e s o)) ∙ search (rul
 pub while_is : (e : Expr) (s : Box Stmt Global) → plain_stmt_form (While e s) ≡ p.while_of (plain_expr e) (plain_stmt s.value)
 while_is e s = ap plain_stmt_form (sym (rolls-While e s)) ∙ search (rules, fold-roll-StmtForm)
 
-pub for_is : (b : Start) (t n : Option Expr) (s : Box Stmt Global) → plain_stmt_form (For b t n s) ≡ p.for_of_three (plain_start b) (perhaps (option_map plain_expr t)) (perhaps (option_map plain_expr n)) (plain_stmt s.value)
+pub for_is : (b : Start) (t n : Option Expr) (s : Box Stmt Global) → plain_stmt_form (For b t n s) ≡ p.for_three (plain_start b) (perhaps (option_map plain_expr t)) (perhaps (option_map plain_expr n)) (plain_stmt s.value)
 for_is b t n s = ap plain_stmt_form (sym (rolls-For b t n s)) ∙ search (rules, fold-roll-StmtForm)
 
-pub for_of_is : (k : DeclareKind) (n : Name) (e : Expr) (s : Box Stmt Global) → plain_stmt_form (ForOf k n e s) ≡ p.for_each k n (plain_expr e) (plain_stmt s.value)
+pub for_of_is : (k : DeclareKind) (n : Name) (e : Expr) (s : Box Stmt Global) → plain_stmt_form (ForOf k n e s) ≡ p.for_of k n (plain_expr e) (plain_stmt s.value)
 for_of_is k n e s = ap plain_stmt_form (sym (rolls-ForOf k n e s)) ∙ search (rules, fold-roll-StmtForm)
 
 pub break_is : (k : Spot) → plain_stmt_form (Break k) ≡ p.break_of k

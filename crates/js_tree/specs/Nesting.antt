@@ -1,7 +1,7 @@
 -- How deep a tree is nested.
 use Rattle.std.specs.Prelude.{ℕ, suc, ◌+◌, ◌-◌, max, Bool, true, false, ◌&&◌, ◌||◌, List, [], ◌∷◌, codes, if◌then◌else◌}
 use Rattle.std.specs.Str.{bytes_eq}
-use Rattle.js_tree.specs.Plain.{PlainExpr, at, PlainForm, number, words, truth, null, use_of, list, fields, member, index, call, unary, update, binary, conditional, assign, arrow_value, arrow_block, function, PlainExprs, no_exprs, expr_in, PlainFields, no_fields, field_in, PlainPerhaps, absent, present, PlainDeclarators, no_declarators, declarator_in, PlainStart, nothing, declared, started, PlainStmt, on, PlainStmtForm, empty, block, declaration, expression, if_alone, if_else, while_of, for_of_three, for_each, break_of, continue_of, return_nothing, return_of, PlainStmts, no_stmts, stmt_in, PlainItem, statement, function_of}
+use Rattle.js_tree.specs.Plain.{PlainExpr, at, PlainForm, number, words, truth, null, use_of, list, fields, member, index, call, unary, update, binary, conditional, assign, arrow_value, arrow_block, function, PlainExprs, no_exprs, expr_in, PlainFields, no_fields, field_in, PlainPerhaps, absent, present, PlainDeclarators, no_declarators, declarator_in, PlainStart, nothing, declared, started, PlainStmt, on, PlainStmtForm, empty, block, declaration, expression, if_alone, if_else, while_of, for_three, for_of, break_of, continue_of, return_nothing, return_of, PlainStmts, no_stmts, stmt_in, PlainItem, statement, function_of}
 
 -- the name is that of an object whose members are forms of the language
 abbrev pub is_object : List ℕ → Bool
@@ -84,8 +84,8 @@ abbrev mutual
   inside_stmt (if_alone e s) = max (nesting e) (stmt_nesting s)
   inside_stmt (if_else e s other) = max (nesting e) (max (stmt_nesting s) (stmt_nesting other))
   inside_stmt (while_of e s) = max (nesting e) (stmt_nesting s)
-  inside_stmt (for_of_three start test next s) = max (start_nesting start) (max (perhaps_nesting test) (max (perhaps_nesting next) (stmt_nesting s)))
-  inside_stmt (for_each kind name e s) = max (nesting e) (stmt_nesting s)
+  inside_stmt (for_three start test next s) = max (start_nesting start) (max (perhaps_nesting test) (max (perhaps_nesting next) (stmt_nesting s)))
+  inside_stmt (for_of kind name e s) = max (nesting e) (stmt_nesting s)
   inside_stmt (break_of spot) = 0
   inside_stmt (continue_of spot) = 0
   inside_stmt (return_nothing spot) = 0

@@ -71,8 +71,8 @@ mutual
     if_alone : PlainExpr → PlainStmt → PlainStmtForm
     if_else : PlainExpr → PlainStmt → PlainStmt → PlainStmtForm
     while_of : PlainExpr → PlainStmt → PlainStmtForm
-    for_of_three : PlainStart → PlainPerhaps → PlainPerhaps → PlainStmt → PlainStmtForm
-    for_each : DeclareKind → Name → PlainExpr → PlainStmt → PlainStmtForm
+    for_three : PlainStart → PlainPerhaps → PlainPerhaps → PlainStmt → PlainStmtForm
+    for_of : DeclareKind → Name → PlainExpr → PlainStmt → PlainStmtForm
     break_of : Spot → PlainStmtForm
     continue_of : Spot → PlainStmtForm
     return_nothing : Spot → PlainStmtForm

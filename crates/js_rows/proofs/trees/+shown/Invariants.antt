@@ -72,8 +72,8 @@ decreases-while_of l = 16 * l.room + 2
 abbrev pub decreases-for_three : goal.decreases-for_three
 decreases-for_three l = 16 * l.room + 5
 
-abbrev pub decreases-for_each : goal.decreases-for_each
-decreases-for_each l = 16 * l.room + 2
+abbrev pub decreases-for_of : goal.decreases-for_of
+decreases-for_of l = 16 * l.room + 2
 
 abbrev pub decreases-stmt_form : goal.decreases-stmt_form
 decreases-stmt_form l = 16 * l.room + 8
