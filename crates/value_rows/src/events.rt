@@ -1,15 +1,11 @@
 //! Texts of events, both ways; copies of events, and texts in quotes.
-use crate::lines::{Lines, agree};
+use crate::words::{brackets, text};
 use js_value::{
     Data, Event, EventError, Text, Whole, copy_data, data_text, event_of, event_text, quoted,
 };
 use percent_encoding::percent_decode;
 use std::alloc::Global;
 use std::test::Fail;
-
-fn text(alloc: Global, s: &str) -> Result<Text, Fail> {
-    Ok(Text::new(String::from_str(alloc, s)?))
-}
 
 // The bytes of a cell, some of them as `%` and two digits.
 fn bytes_of(alloc: Global, cell: &str) -> Result<Vec<u8>, Fail> {
@@ -27,8 +23,8 @@ fn shown(alloc: Global, bytes: &[u8]) -> Result<Text, Fail> {
     }
 }
 
-// What is read, and its own text, which reads as itself.
-const READ: &str = r#"
+/// What is read, and its own text, which reads as itself.
+pub const READ: &str = r#"
 [ "x" , {"b":2,"a":1} ] --> ["x",{"a":1,"b":2}]
 %09["x"]%0d --> ["x"]
 [""] --> [""]
@@ -45,8 +41,8 @@ const READ: &str = r#"
 ["x",{"😀":1,"～":2}] --> ["x",{"～":2,"😀":1}]
 "#;
 
-// What is the text of no event.
-const REFUSED: &str = r#"
+/// What is the text of no event.
+pub const REFUSED: &str = r#"
  --> no event
 [] --> no event
 "x" --> no event
@@ -99,41 +95,13 @@ pub fn agrees(alloc: Global, cell: &str, want: &str) -> Result<bool, Fail> {
     )
 }
 
-#[test]
-fn texts_read_as_events(rt: HostRuntime) -> Result<(), Fail> {
-    agree(&rt, rt.alloc(), Lines::Events, READ)?;
-    agree(&rt, rt.alloc(), Lines::Events, REFUSED)
-}
-
-fn push_times(line: &mut String, part: &str, times: u32) -> Result<(), Fail> {
-    for _ in 0..times {
-        line.push_str(part)?;
-    }
-    Ok(())
-}
-
-// The text of an event whose data are so many lists, one in another.
-fn lists(alloc: Global, times: u32) -> Result<String, Fail> {
-    let mut line = String::from_str(alloc, "[\"x\",")?;
-    push_times(&mut line, "[", times)?;
-    push_times(&mut line, "]", times)?;
-    line.push_str("]")?;
-    Ok(line)
-}
-
-// The text of an event whose name has so many letters.
-fn letters(alloc: Global, times: u32) -> Result<String, Fail> {
-    let mut line = String::from_str(alloc, "[\"")?;
-    push_times(&mut line, "a", times)?;
-    line.push_str("\"]")?;
-    Ok(line)
-}
-
+// The text of an event whose data are so many lists, one in another, or whose name has so many letters.
 fn sized(alloc: Global, cell: &str) -> Result<String, Fail> {
     let (count, name) = cell.split_once(" ").ok_or("no count")?;
+    let count = count.parse::<usize>()?;
     match name {
-        "lists" => lists(alloc, count.parse::<u32>()?),
-        "letters" => letters(alloc, count.parse::<u32>()?),
+        "lists" => Ok(format!(in alloc; "[\"x\",{}]", brackets(alloc, count)?.as_str())?),
+        "letters" => Ok(format!(in alloc; "[\"{}\"]", "a".repeat(alloc, count)?.as_str())?),
         _ => Err("no text has this name")?,
     }
 }
@@ -151,8 +119,8 @@ pub fn has_outcome(alloc: Global, cell: &str, want: &str) -> Result<bool, Fail> 
     Ok(outcome(alloc, sized(alloc, cell)?.as_str()) == want)
 }
 
-// How deep lists may nest in the data of an event, and how long its name may be.
-const LIMITS: &str = "
+/// How deep lists may nest in the data of an event, and how long its name may be.
+pub const LIMITS: &str = "
 1 lists --> event
 63 lists --> event
 64 lists --> no event
@@ -160,11 +128,6 @@ const LIMITS: &str = "
 1022 letters --> event
 1023 letters --> no event
 ";
-
-#[test]
-fn events_stay_within_their_limits(rt: HostRuntime) -> Result<(), Fail> {
-    agree(&rt, rt.alloc(), Lines::Limits, LIMITS)
-}
 
 fn event(alloc: Global, name: &str, number: i64) -> Result<Event, Fail> {
     let number = Whole::new(number).ok_or("no whole number")?;
@@ -223,17 +186,12 @@ pub fn gives_up(alloc: Global, cell: &str, want: &str) -> Result<bool, Fail> {
     Ok(parts_shown(alloc, event)?.as_str() == want)
 }
 
-// The name and the data of an event, given up.
-const PARTS: &str = r#"
+/// The name and the data of an event, given up.
+pub const PARTS: &str = r#"
 ["x"] --> x
 ["x",null] --> x null
 ["é",{"b":[1,"\u000b"],"a":{}}] --> é {"a":{},"b":[1,"\u000b"]}
 "#;
-
-#[test]
-fn events_give_up_their_parts(rt: HostRuntime) -> Result<(), Fail> {
-    agree(&rt, rt.alloc(), Lines::Parts, PARTS)
-}
 
 fn is_quoted(alloc: Global, name: &str, want: &str) -> Result<bool, Fail> {
     Ok(quoted(alloc, &text(alloc, name)?)?.as_str() == want)

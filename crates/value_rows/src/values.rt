@@ -1,18 +1,13 @@
 //! Weights, nestings, truth and texts of values and sets, and the names of faults.
-use crate::lines::{Lines, agree};
+use crate::words::{text, value_of};
 use js_value::{
     Event, EventSet, Fault, Items, Pairs, SetTree, Text, Value, Whole, copy, event_value, nesting,
     text_of, truthy, weight, words,
 };
 use std::alloc::Global;
-use std::process::Abort;
 use std::sync::Arc;
 use std::test::Fail;
 use std::thread::{Threads, join};
-
-fn text(alloc: Global, s: &str) -> Result<Text, Fail> {
-    Ok(Text::new(String::from_str(alloc, s)?))
-}
 
 fn words_of(alloc: Global, s: &str) -> Result<Value, Fail> {
     Ok(words(alloc, text(alloc, s)?)?)
@@ -57,20 +52,9 @@ fn function(alloc: Global) -> Result<Value, Fail> {
 
 fn value_named(alloc: Global, name: &str) -> Result<Value, Fail> {
     match name {
-        "undefined" => Ok(Value::Undefined),
-        "null" => Ok(Value::Null),
-        "true" => Ok(Value::Truth(true)),
-        "false" => Ok(Value::Truth(false)),
-        "zero" => whole(0),
-        "less than zero" => whole(-42),
-        "empty text" => words_of(alloc, ""),
-        "text of two bytes" => words_of(alloc, "é"),
-        "empty list" => list(alloc, Vec::new(alloc)),
         "list of fields" => list_of_fields(alloc),
-        "event" => event(alloc),
-        "set" => Ok(Value::Set(EventSet::new(alloc, SetTree::All)?)),
-        "function" => function(alloc),
-        _ => Err("no value has this name")?,
+        "function of two" => function(alloc),
+        _ => value_of(alloc, name),
     }
 }
 
@@ -83,21 +67,21 @@ fn shown(alloc: Global, value: &Value) -> Result<String, Fail> {
     }
 }
 
-// A value, its weight, its nesting, its truth and its text, if it has one.
-const VALUES: &str = r#"
+/// A value, its weight, its nesting, its truth and its text, if it has one.
+pub const VALUES: &str = r#"
 undefined --> 1 1 false "undefined"
 null --> 1 1 false "null"
 true --> 1 1 true "true"
 false --> 1 1 false "false"
-zero --> 1 1 false "0"
-less than zero --> 1 1 true "-42"
-empty text --> 1 1 false ""
-text of two bytes --> 3 1 true "é"
-empty list --> 1 1 true
+0 --> 1 1 false "0"
+-42 --> 1 1 true "-42"
+"" --> 1 1 false ""
+"é" --> 3 1 true "é"
+[] --> 1 1 true
 list of fields --> 11 4 true
-event --> 4 2 true
-set --> 1 1 true
-function --> 5 2 true
+event ["go"] --> 4 2 true
+all --> 1 1 true
+function of two --> 5 2 true
 "#;
 
 fn is_shown(alloc: Global, value: &Value, want: &str) -> Result<bool, Fail> {
@@ -112,11 +96,6 @@ fn copy_is_shown(alloc: Global, value: &Value, want: &str) -> Result<bool, Fail>
 pub fn value_agrees(alloc: Global, name: &str, want: &str) -> Result<bool, Fail> {
     let value = value_named(alloc, name)?;
     Ok(is_shown(alloc, &value, want)? && copy_is_shown(alloc, &value, want)?)
-}
-
-#[test]
-fn values_and_their_copies(rt: HostRuntime) -> Result<(), Fail> {
-    agree(&rt, rt.alloc(), Lines::Values, VALUES)
 }
 
 fn predicate(alloc: Global) -> Result<SetTree, Fail> {
@@ -158,8 +137,8 @@ fn tree_named(alloc: Global, name: &str) -> Result<SetTree, Fail> {
     }
 }
 
-// A set, its weight and its nesting.
-const SETS: &str = "
+/// A set, its weight and its nesting.
+pub const SETS: &str = "
 all --> 1 1
 an event --> 4 2
 a predicate --> 12 2
@@ -175,11 +154,6 @@ fn set_is_shown(alloc: Global, set: &EventSet, want: &str) -> Result<bool, Fail>
 pub fn set_agrees(alloc: Global, name: &str, want: &str) -> Result<bool, Fail> {
     let made = set(alloc, tree_named(alloc, name)?)?;
     Ok(set_is_shown(alloc, &made, want)? && set_is_shown(alloc, &made.copy()?, want)?)
-}
-
-#[test]
-fn sets_and_their_copies(rt: HostRuntime) -> Result<(), Fail> {
-    agree(&rt, rt.alloc(), Lines::Sets, SETS)
 }
 
 // A list of which one thread reads the weight and lets it go, and another the nesting of its copy.
@@ -221,22 +195,29 @@ fn values_give_up_what_they_hold(rt: HostRuntime) -> Result<(), Fail> {
     Ok(())
 }
 
-fn is_named(rt: &impl Abort, fault: Fault, name: &str) {
-    assert_eq!(rt; fault.name(), name);
-}
+/// The names of all faults, in this order.
+const NAMES: &str =
+    "whole fraction zero type early index weight nesting depth mode statement truth ";
 
 #[test]
-fn faults_have_names(rt: HostRuntime) {
-    is_named(&rt, Fault::Whole, "whole");
-    is_named(&rt, Fault::Fraction, "fraction");
-    is_named(&rt, Fault::Zero, "zero");
-    is_named(&rt, Fault::Mistyped, "type");
-    is_named(&rt, Fault::Early, "early");
-    is_named(&rt, Fault::Index, "index");
-    is_named(&rt, Fault::Weight, "weight");
-    is_named(&rt, Fault::Nesting, "nesting");
-    is_named(&rt, Fault::Depth, "depth");
-    is_named(&rt, Fault::Mode, "mode");
-    is_named(&rt, Fault::Statement, "statement");
-    is_named(&rt, Fault::Truth, "truth");
+fn faults_have_names(rt: HostRuntime) -> Result<(), Fail> {
+    let mut names = String::new(rt.alloc());
+    for fault in [
+        Fault::Whole,
+        Fault::Fraction,
+        Fault::Zero,
+        Fault::Mistyped,
+        Fault::Early,
+        Fault::Index,
+        Fault::Weight,
+        Fault::Nesting,
+        Fault::Depth,
+        Fault::Mode,
+        Fault::Statement,
+        Fault::Truth,
+    ] {
+        write!(names, "{} ", fault.name())?;
+    }
+    assert!(rt; names.as_str() == NAMES);
+    Ok(())
 }

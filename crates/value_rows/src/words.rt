@@ -9,10 +9,12 @@ use std::alloc::Global;
 use std::sync::Arc;
 use std::test::Fail;
 
+/// The text of these bytes.
 pub fn text(alloc: Global, word: &str) -> Result<Text, Fail> {
     Ok(Text::new(String::from_str(alloc, word)?))
 }
 
+/// A shared text.
 pub fn key(alloc: Global, word: &str) -> Result<Arc<Text>, Fail> {
     Ok(Arc::new(alloc, text(alloc, word)?)?)
 }
@@ -69,29 +71,25 @@ fn joined_to_all(alloc: Global, item: Value) -> Result<Value, Fail> {
     Ok(method(alloc, Method::Or, &all, &[item])?)
 }
 
-fn push_times(line: &mut String, part: &str, times: u32) -> Result<(), Fail> {
-    for _ in 0..times {
-        line.push_str(part)?;
-    }
-    Ok(())
+/// So many brackets that open, and as many that close.
+pub fn brackets(alloc: Global, count: usize) -> Result<String, Fail> {
+    let mut line = "[".repeat(alloc, count)?;
+    line.push_str("]".repeat(alloc, count)?.as_str())?;
+    Ok(line)
 }
 
 // A text of this many bytes, which weighs one more.
-fn letters(alloc: Global, count: u32) -> Result<Value, Fail> {
-    let mut word = String::new(alloc);
-    push_times(&mut word, "a", count)?;
-    Ok(words(alloc, Text::new(word))?)
+fn letters(alloc: Global, count: usize) -> Result<Value, Fail> {
+    Ok(words(alloc, Text::new("a".repeat(alloc, count)?))?)
 }
 
 // This many lists, one in another; 2 to 64.
-fn lists(alloc: Global, count: u32) -> Result<Value, Fail> {
-    let mut line = String::new(alloc);
-    push_times(&mut line, "[", count.saturating_sub(1))?;
-    push_times(&mut line, "]", count.saturating_sub(1))?;
+fn lists(alloc: Global, count: usize) -> Result<Value, Fail> {
+    let line = brackets(alloc, count.saturating_sub(1))?;
     list(alloc, data(alloc, line.as_str())?)
 }
 
-fn sized(alloc: Global, count: u32, name: &str) -> Result<Value, Fail> {
+fn sized(alloc: Global, count: usize, name: &str) -> Result<Value, Fail> {
     match name {
         "letters" => letters(alloc, count),
         "letters in a list" => list(alloc, letters(alloc, count)?),
@@ -118,7 +116,7 @@ pub fn value_of(alloc: Global, word: &str) -> Result<Value, Fail> {
         "[[none]]" => list(alloc, list(alloc, set(alloc, SetTree::Nothing)?)?),
         _ => match word.split_once(" ") {
             Some(("event", line)) => event(alloc, line),
-            Some((count, name)) => sized(alloc, count.parse::<u32>()?, name),
+            Some((count, name)) => sized(alloc, count.parse::<usize>()?, name),
             None => data(alloc, word),
         },
     }
