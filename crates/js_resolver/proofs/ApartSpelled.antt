@@ -9,7 +9,7 @@ use Rattle.js_tree.specs.Plain as p
 use Rattle.js_tree.specs.Plain.{PlainExpr, PlainField, PlainPerhaps, PlainDeclarator, PlainDeclarators, PlainStart, PlainStmt, PlainItem, exprs_of, fields_of, declarators_of, stmts_of}
 use Rattle.js_grammar.specs.declared.sort.Sort.{Sort}
 use Rattle.js_grammar.specs.Tokens.{lexical, if_lexical, starts_lexical}
-use Rattle.js_grammar.specs.Grammar.{Level, Spells, number_of, words_of, true_of, false_of, null_of, name_of, round, list_of, fields_in, function_in, calls, no_sign, signed, update_before, update_after, operators, no_choice, choice, no_assignment, assignment, function_value, function_block, Called, called_first, called_member, called_index, called_with, Operated, operated_first, operated_more, Elements, elements_none, elements_last, elements_more, Field, field_pair, field_name, Fields, fields_none, fields_last, fields_more, Declarator, declarator_value, declarator_name, Declarators, declarators_last, declarators_more, Start, start_nothing, start_declares, start_value, Perhaps, perhaps_none, perhaps_some, Test, test_of, Statements, statements_end, statements_more, Body, body_of, Statement, empty_of, block_of, declaration_of, expression_of, if_only, if_both, while_loop, for_three, for_list, break_end, continue_end, return_end, return_value, Item, item_statement, item_function, SpellsTree, tree_end, tree_more}
+use Rattle.js_grammar.specs.Grammar.{Level, Spells, number_of, words_of, true_of, false_of, null_of, name_of, round, list_of, fields_in, function_in, calls, no_sign, signed, update_before, update_after, operators, no_choice, choice, no_assignment, assignment, function_value, function_block, Called, called_first, called_member, called_index, called_with, Operated, operated_first, operated_more, Elements, elements_none, elements_last, elements_more, Field, field_pair, field_name, Fields, fields_none, fields_last, fields_more, Declarator, declarator_value, declarator_name, Declarators, declarators_last, declarators_more, Start, start_nothing, start_declares, start_value, Perhaps, perhaps_none, perhaps_some, Test, test_of, Statements, statements_end, statements_more, Body, body_of, Statement, empty_of, block_of, declaration_of, expression_of, if_only, if_both, while_loop, for_three, for_of, break_end, continue_end, return_end, return_value, Item, item_statement, item_function, SpellsTree, tree_end, tree_more}
 use Rattle.js_names.specs.declared.place.Around.{Around}
 use Rattle.js_names.specs.declared.place.Declared.{Declared}
 use Rattle.js_names.specs.declared.place.What.{What}
@@ -45,7 +45,7 @@ body_own look f w direct l (if_only h i s k) = tt
 body_own look f w direct l (if_both h i s k z) = tt
 body_own look f w direct l (while_loop h i s) = tt
 body_own look f w direct l (for_three h i b s j e k n m r) = tt
-body_own look f w direct l (for_list h i j k m s n r) = tt
+body_own look f w direct l (for_of h i j k m s n r) = tt
 body_own look f w direct l (break_end h e) = tt
 body_own look f w direct l (continue_end h e) = tt
 body_own look f w direct l (return_end h k e) = tt
@@ -176,7 +176,7 @@ mutual
       let head = there_left (found_var scopes) a.owner true (vars_of_start a.owner start) (vars_of a.owner false x) vars in
       let body = there_right (found_var scopes) a.owner true (vars_of_start a.owner start) (vars_of a.owner false x) vars in
       after (after (and_then (up_to (start_spans inner a (for_own a.owner start x scopes) head s)) (and_then (up_to (perhaps_spans inner a e)) (and_then (up_to (perhaps_spans inner a n)) (body_spans inner (in_loop a) body r)))))
-  statement_spans scopes a direct own vars (for_list {k = k} {n = n} {s = x} h i j m l s y r) =
+  statement_spans scopes a direct own vars (for_of {k = k} {n = n} {s = x} h i j m l s y r) =
       let listed = list_scope a.owner k n ∷ scopes in
       let inner = each_scope a.owner k n x ∷ scopes in
       let f = each_found scopes a k n in
