@@ -35,6 +35,10 @@ let a = 1 + 2; let b = a; a + b; --> ended
 while (true) {} --> spent
 "#;
 
+const ONE_TOO_FEW: &str = "
+let a = 1 + 2; let b = a; a + b; --> spent
+";
+
 #[test]
 fn threads(rt: HostRuntime) -> Result<(), Fail> {
     agree(&rt, rt.alloc(), Lines::Threads(BUDGET), THREADS)
@@ -48,10 +52,5 @@ fn handlers(rt: HostRuntime) -> Result<(), Fail> {
 #[test]
 fn a_budget_is_one_of_nodes(rt: HostRuntime) -> Result<(), Fail> {
     agree(&rt, rt.alloc(), Lines::Threads(10), TEN_NODES)?;
-    agree(
-        &rt,
-        rt.alloc(),
-        Lines::Threads(9),
-        "let a = 1 + 2; let b = a; a + b; --> spent",
-    )
+    agree(&rt, rt.alloc(), Lines::Threads(9), ONE_TOO_FEW)
 }

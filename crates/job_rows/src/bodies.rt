@@ -1,6 +1,8 @@
 //! Bodies: a line has a program and what its run does.
-use crate::runs::{Place, agree, answer, pauses};
+use crate::lines::{Lines, agree};
+use crate::runs::{answer, pauses};
 use js_program::Mode;
+use std::alloc::Global;
 use std::test::Fail;
 
 const EXPRESSIONS: &str = r#"
@@ -189,67 +191,51 @@ bp.Event('a'); bp.EventSet('a', () => true); bp.all; bp.none; Math.floor(1) --> 
 const TEN_NODES: &str =
     r#"bp.registerBThread("A", function() { let a = 1 + 2; let b = a; a + b; });"#;
 
+/// The budget, the nodes of a slice, and the pauses.
+const PAUSES: &str = "
+10 3 --> more more more ended
+10 10 --> ended
+10 9 --> more ended
+9 9 --> spent
+9 3 --> more more spent
+9 10 --> spent
+";
+
+/// Whether the pauses of the body of ten nodes are those that are wanted, under this budget in slices of so many nodes.
+pub fn pauses_agree(alloc: Global, cell: &str, want: &str) -> Result<bool, Fail> {
+    let (budget, nodes) = cell.split_once(" ").ok_or("no nodes")?;
+    let found = pauses(
+        alloc,
+        TEN_NODES,
+        budget.parse::<u64>()?,
+        nodes.parse::<u64>()?,
+    )?;
+    Ok(found.as_str() == want)
+}
+
 #[test]
 fn slices_end_at_the_budget(rt: HostRuntime) -> Result<(), Fail> {
-    let alloc = rt.alloc();
-    for (budget, nodes, want) in [
-        (10, 3, "more more more ended"),
-        (10, 10, "ended"),
-        (10, 9, "more ended"),
-        (9, 9, "spent"),
-        (9, 3, "more more spent"),
-        (9, 10, "spent"),
-    ] {
-        let found = pauses(alloc, TEN_NODES, budget, nodes)?;
-        assert_eq!(rt; found.as_str(), want, "{budget} {nodes}");
-    }
-    Ok(())
+    agree(&rt, rt.alloc(), Lines::Pauses, PAUSES)
 }
 
 #[test]
 fn the_event_is_the_value_of_sync(rt: HostRuntime) -> Result<(), Fail> {
     let script = r#"bp.registerBThread("A", function() { return bp.sync({}) })"#;
-    let found = answer(rt.alloc(), script)?;
-    assert_eq!(rt; found.as_str(), r#"["e"]"#);
+    assert!(rt; answer(rt.alloc(), script)?.as_str() == r#"["e"]"#);
     Ok(())
 }
 
 #[test]
-fn expressions(rt: HostRuntime) -> Result<(), Fail> {
-    agree(&rt, rt.alloc(), Place::Top, EXPRESSIONS)
-}
-
-#[test]
-fn faults(rt: HostRuntime) -> Result<(), Fail> {
-    agree(&rt, rt.alloc(), Place::Top, FAULTS)
-}
-
-#[test]
-fn statements(rt: HostRuntime) -> Result<(), Fail> {
-    agree(&rt, rt.alloc(), Place::Top, STATEMENTS)
-}
-
-#[test]
-fn calls(rt: HostRuntime) -> Result<(), Fail> {
-    agree(&rt, rt.alloc(), Place::Top, CALLS)
-}
-
-#[test]
 fn at_the_top(rt: HostRuntime) -> Result<(), Fail> {
-    agree(&rt, rt.alloc(), Place::Top, TOP)
+    for table in [EXPRESSIONS, FAULTS, STATEMENTS, CALLS, TOP] {
+        agree(&rt, rt.alloc(), Lines::Top, table)?;
+    }
+    Ok(())
 }
 
 #[test]
-fn in_threads(rt: HostRuntime) -> Result<(), Fail> {
-    agree(&rt, rt.alloc(), Place::Body(Mode::Thread), THREAD)
-}
-
-#[test]
-fn in_handlers(rt: HostRuntime) -> Result<(), Fail> {
-    agree(&rt, rt.alloc(), Place::Body(Mode::Handler), HANDLER)
-}
-
-#[test]
-fn in_predicates(rt: HostRuntime) -> Result<(), Fail> {
-    agree(&rt, rt.alloc(), Place::Body(Mode::Predicate), PREDICATE)
+fn in_bodies(rt: HostRuntime) -> Result<(), Fail> {
+    agree(&rt, rt.alloc(), Lines::Body(Mode::Thread), THREAD)?;
+    agree(&rt, rt.alloc(), Lines::Body(Mode::Handler), HANDLER)?;
+    agree(&rt, rt.alloc(), Lines::Body(Mode::Predicate), PREDICATE)
 }

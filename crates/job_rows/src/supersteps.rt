@@ -1,6 +1,6 @@
 //! Super-steps whose outcomes are the same whatever the workers and the slice.
-use crate::programs::{jobs_of, started};
-use crate::telling::push_told;
+use crate::programs::started;
+use crate::several::{jobs_of, push_told};
 use bp_pool::{Open, superstep};
 use std::alloc::Global;
 use std::process::Abort;

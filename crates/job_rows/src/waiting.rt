@@ -1,7 +1,7 @@
 //! Jobs that wait for each other, which one thread alone could not carry.
 use crate::gates::{Holding, Meeting};
-use crate::programs::{jobs_of, started};
-use crate::telling::push_told;
+use crate::programs::started;
+use crate::several::{jobs_of, push_told};
 use bp_pool::superstep;
 use std::test::Fail;
 

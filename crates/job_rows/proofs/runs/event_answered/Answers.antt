@@ -1,7 +1,7 @@
 use Rattle.std.proofs.Common.{◌+◌, []}
 use Rattle.js_frames.specs.Places.{plain_ground}
-use Rattle.frame_rows.proofs.Ends.{ended_answers}
-use Rattle.frame_rows.proofs.runs.event_answered.Goals as goal
+use Rattle.job_rows.proofs.Ends.{ended_answers}
+use Rattle.job_rows.proofs.runs.event_answered.Goals as goal
 
 pub resume-requires : goal.resume-requires
 resume-requires c = c.in_ok-stop.ensures.at_sync c.in-AtSync.is

@@ -1,6 +1,6 @@
 use Rattle.std.proofs.Common.{sym, subst}
 use Rattle.std.specs.Prelude.{IsSome}
-use Rattle.frame_rows.proofs.runs.run_slices.Goals as goal
+use Rattle.job_rows.proofs.runs.run_slices.Goals as goal
 
 pub returns-in_default : goal.returns-in_default
 returns-in_default c = record {

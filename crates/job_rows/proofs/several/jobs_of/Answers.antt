@@ -1,8 +1,8 @@
 use Rattle.std.proofs.Common.{rules, ap}
 use Rattle.js_frames.specs.Places.{plain_ground}
 use Rattle.bp_thread.specs.Jobs.{PlainJob}
-use Rattle.pool_rows.proofs.Numbers.{none_numbered, one_more}
-use Rattle.pool_rows.proofs.programs.jobs_of.Goals as goal
+use Rattle.job_rows.proofs.Numbers.{none_numbered, one_more}
+use Rattle.job_rows.proofs.several.jobs_of.Goals as goal
 
 pub loop-function-init : goal.loop-function-init
 loop-function-init c = none_numbered (plain_ground c.args.ground.now) _ (search rules)
