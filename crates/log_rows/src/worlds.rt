@@ -23,8 +23,8 @@ fn read_is(
 ) -> Result<(), Fail> {
     let mut source = MemorySource::new(b"hello".to_vec(alloc)?, [fails].to_vec(alloc)?);
     let read = read_all(alloc, &mut source, limit);
-    assert_eq!(rt; read.map(|bytes| bytes.len()), answer);
-    assert_eq!(rt; source.faults(), faults);
+    assert!(rt; read.map(|bytes| bytes.len()) == answer);
+    assert!(rt; source.faults() == faults);
     Ok(())
 }
 
@@ -42,14 +42,14 @@ fn bytes_in_memory_are_read_to_their_end(rt: HostRuntime) -> Result<(), Fail> {
 fn a_sink_takes_what_it_has_room_for(rt: HostRuntime) -> Result<(), Fail> {
     let alloc = rt.alloc();
     let mut sink = MemorySink::new(alloc, 5, [2].to_vec(alloc)?)?;
-    assert_eq!(rt; write_all(&mut sink, b""), Ok(()));
-    assert_eq!(rt; write_all(&mut sink, b"ab"), Ok(()));
-    assert_eq!(rt; write_all(&mut sink, b"c"), Err(Failed));
-    assert_eq!(rt; write_all(&mut sink, b""), Ok(()));
-    assert_eq!(rt; write_all(&mut sink, b"cdef"), Err(Failed));
-    assert_eq!(rt; write_all(&mut sink, b"cde"), Ok(()));
-    assert_eq!(rt; sink.written(), b"abcde".as_slice());
-    assert_eq!(rt; sink.faults(), 2);
+    assert!(rt; write_all(&mut sink, b"").is_ok());
+    assert!(rt; write_all(&mut sink, b"ab").is_ok());
+    assert!(rt; write_all(&mut sink, b"c").is_err());
+    assert!(rt; write_all(&mut sink, b"").is_ok());
+    assert!(rt; write_all(&mut sink, b"cdef").is_err());
+    assert!(rt; write_all(&mut sink, b"cde").is_ok());
+    assert!(rt; sink.written() == b"abcde".as_slice());
+    assert!(rt; sink.faults() == 2);
     Ok(())
 }
 
@@ -60,20 +60,14 @@ fn a_world_opens_what_it_holds(rt: HostRuntime) -> Result<(), Fail> {
     world.hold("a".to_string(alloc)?, b"old".to_vec(alloc)?)?;
     world.hold("a".to_string(alloc)?, b"new".to_vec(alloc)?)?;
     world.fail("a".to_string(alloc)?, [1].to_vec(alloc)?)?;
-    assert_eq!(rt; world.held("a"), Some(b"new".as_slice()));
-    assert_eq!(rt; world.held("b"), None);
+    assert!(rt; world.held("a") == Some(b"new".as_slice()));
+    assert!(rt; world.held("b").is_none());
     let mut input = world.open("a")?;
-    assert_eq!(rt;
-        read_all(alloc, &mut input, 9).err(),
-        Some(ReadError::Fault)
-    );
-    assert_eq!(rt;
-        read_all(alloc, &mut input, 9)?.as_slice(),
-        b"new".as_slice()
-    );
+    assert!(rt; read_all(alloc, &mut input, 9).err() == Some(ReadError::Fault));
+    assert!(rt; read_all(alloc, &mut input, 9)?.as_slice() == b"new".as_slice());
     world.close_input(input);
-    assert_eq!(rt; world.open("b").err(), Some(WorldError::Failed));
-    assert_eq!(rt; world.open("a").err(), Some(WorldError::Failed));
+    assert!(rt; world.open("b").err() == Some(WorldError::Failed));
+    assert!(rt; world.open("a").err() == Some(WorldError::Failed));
     Ok(())
 }
 
@@ -85,16 +79,16 @@ fn a_world_holds_what_was_written(rt: HostRuntime) -> Result<(), Fail> {
     world.hold("log".to_string(alloc)?, b"old".to_vec(alloc)?)?;
     world.fail("log".to_string(alloc)?, [2].to_vec(alloc)?)?;
     let mut output = world.create("log")?;
-    assert_eq!(rt; write_all(&mut output, b"abc"), Ok(()));
-    assert_eq!(rt; write_all(&mut output, b"d"), Err(Failed));
-    assert_eq!(rt; write_all(&mut output, b"de"), Ok(()));
-    assert_eq!(rt; world.held("log"), Some(b"old".as_slice()));
+    assert!(rt; write_all(&mut output, b"abc").is_ok());
+    assert!(rt; write_all(&mut output, b"d").is_err());
+    assert!(rt; write_all(&mut output, b"de").is_ok());
+    assert!(rt; world.held("log") == Some(b"old".as_slice()));
     world.close_output("log", output);
-    assert_eq!(rt; world.held("log"), Some(b"abcde".as_slice()));
+    assert!(rt; world.held("log") == Some(b"abcde".as_slice()));
     let empty = world.create("other")?;
     world.close_output("other", empty);
-    assert_eq!(rt; world.held("other"), Some(b"".as_slice()));
-    assert_eq!(rt; world.create("log").err(), Some(WorldError::Failed));
+    assert!(rt; world.held("other") == Some(b"".as_slice()));
+    assert!(rt; world.create("log").err() == Some(WorldError::Failed));
     Ok(())
 }
 
@@ -103,13 +97,10 @@ fn a_file_of_the_system_is_written(rt: HostRuntime) -> Result<(), Fail> {
     let alloc = rt.alloc();
     let mut world = FileWorld::new(rt.clone()?);
     let mut output = world.create(WRITTEN)?;
-    assert_eq!(rt; write_all(&mut output, b"written"), Ok(()));
+    assert!(rt; write_all(&mut output, b"written").is_ok());
     world.close_output(WRITTEN, output);
     let mut input = world.open(WRITTEN)?;
-    assert_eq!(rt;
-        read_all(alloc, &mut input, 9)?.as_slice(),
-        b"written".as_slice()
-    );
+    assert!(rt; read_all(alloc, &mut input, 9)?.as_slice() == b"written".as_slice());
     world.close_input(input);
     fs::remove_file(&rt, WRITTEN)?;
     Ok(())
@@ -121,19 +112,16 @@ fn a_file_of_the_system_is_read(rt: HostRuntime) -> Result<(), Fail> {
     fs::write(&rt, NAME, "bytes")?;
     let mut world = FileWorld::new(rt.clone()?);
     let mut input = world.open(NAME)?;
-    assert_eq!(rt;
-        read_all(alloc, &mut input, 9)?.as_slice(),
-        b"bytes".as_slice()
-    );
+    assert!(rt; read_all(alloc, &mut input, 9)?.as_slice() == b"bytes".as_slice());
     world.close_input(input);
     fs::remove_file(&rt, NAME)?;
-    assert_eq!(rt; world.open(NAME).err(), Some(WorldError::Failed));
+    assert!(rt; world.open(NAME).err() == Some(WorldError::Failed));
     Ok(())
 }
 
 #[test]
 fn a_stream_takes_all(rt: HostRuntime) -> Result<(), Fail> {
     let mut sink = StreamSink::new(io::writer(&rt));
-    assert_eq!(rt; write_all(&mut sink, b"written\n"), Ok(()));
+    assert!(rt; write_all(&mut sink, b"written\n").is_ok());
     Ok(())
 }

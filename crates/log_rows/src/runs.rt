@@ -1,6 +1,9 @@
 //! Logs of runs, whole and altered.
-use crate::replays::agree;
+use crate::lines::{Lines, agree};
+use crate::replays::front;
 use bp_log::{Options, Strategy};
+use std::alloc::Global;
+use std::process::Abort;
 use std::test::Fail;
 
 /// `x` waits until `go` came.
@@ -57,7 +60,7 @@ eof 0;sel ["go"]; --> -->record 2 expected end quiet 0 found sel ["go"]
 "#;
 
 /// Each has a line that is no record there.
-const LINES: &str = r#"
+const NO_RECORDS: &str = r#"
 ; --> -->line 1
 in 0 x; --> -->line 1
 in 1 ["x"]; --> -->line 1
@@ -84,24 +87,24 @@ fn options(budget: u64, steps: u32, injectors: u32) -> Result<Options, Fail> {
     Ok(Options::new(Strategy::Ordered, 0, budget, steps, injectors).ok_or("no options")?)
 }
 
-#[test]
-fn whole_logs(rt: HostRuntime) -> Result<(), Fail> {
-    agree(&rt, rt.alloc(), GO, options(1_000_000, 100_000, 1)?, WHOLE)
+/// Each line of the table holds behind the header of this program under these options.
+fn agree_behind(
+    rt: &impl Abort,
+    alloc: Global,
+    program: &str,
+    options: Options,
+    table: &str,
+) -> Result<(), Fail> {
+    let front = front(alloc, program, options)?;
+    agree(rt, alloc, Lines::Replayed, front.as_slice(), table)
 }
 
 #[test]
-fn logs_that_are_cut(rt: HostRuntime) -> Result<(), Fail> {
-    agree(&rt, rt.alloc(), GO, options(1_000_000, 100_000, 1)?, CUT)
-}
-
-#[test]
-fn records_of_no_run(rt: HostRuntime) -> Result<(), Fail> {
-    agree(&rt, rt.alloc(), GO, options(1_000_000, 100_000, 1)?, OTHER)
-}
-
-#[test]
-fn lines_that_are_no_records(rt: HostRuntime) -> Result<(), Fail> {
-    agree(&rt, rt.alloc(), GO, options(1_000_000, 100_000, 1)?, LINES)
+fn logs_of_a_run(rt: HostRuntime) -> Result<(), Fail> {
+    for table in [WHOLE, CUT, OTHER, NO_RECORDS] {
+        agree_behind(&rt, rt.alloc(), GO, options(1_000_000, 100_000, 1)?, table)?;
+    }
+    Ok(())
 }
 
 /// It ends by itself while its first wave is merged.
@@ -121,7 +124,7 @@ end violated "A" "no";x --> log "A" "l";verdict violated "A" "no";-->line 2
 
 #[test]
 fn a_run_that_ends_by_itself(rt: HostRuntime) -> Result<(), Fail> {
-    agree(
+    agree_behind(
         &rt,
         rt.alloc(),
         FAILING,
@@ -147,8 +150,8 @@ end quiet 0; --> -->record 1 expected end spent "A" found end quiet 0
 #[test]
 fn the_budget_is_that_of_the_header(rt: HostRuntime) -> Result<(), Fail> {
     let alloc = rt.alloc();
-    agree(&rt, alloc, TEN_NODES, options(10, 1, 0)?, ENOUGH)?;
-    agree(&rt, alloc, TEN_NODES, options(9, 1, 0)?, TOO_FEW)
+    agree_behind(&rt, alloc, TEN_NODES, options(10, 1, 0)?, ENOUGH)?;
+    agree_behind(&rt, alloc, TEN_NODES, options(9, 1, 0)?, TOO_FEW)
 }
 
 /// It asks for one event for ever.
@@ -164,7 +167,7 @@ eof 0; --> -->line 1
 
 #[test]
 fn the_steps_are_those_of_the_header(rt: HostRuntime) -> Result<(), Fail> {
-    agree(&rt, rt.alloc(), FOR_EVER, options(1_000_000, 5, 0)?, FIVE)
+    agree_behind(&rt, rt.alloc(), FOR_EVER, options(1_000_000, 5, 0)?, FIVE)
 }
 
 /// It asks for one of three events.
@@ -205,11 +208,11 @@ fn drawn(strategy: Strategy, seed: u64) -> Result<Options, Fail> {
 fn the_choice_is_that_of_the_header(rt: HostRuntime) -> Result<(), Fail> {
     let alloc = rt.alloc();
     let simple = drawn(Strategy::Simple, 7)?;
-    agree(&rt, alloc, DRAWN, simple, OF_SEVEN)?;
-    agree(&rt, alloc, ALTERED, simple, OF_ALTERED)?;
-    agree(&rt, alloc, DRAWN, drawn(Strategy::Priority, 7)?, OF_SEVEN)?;
-    agree(&rt, alloc, DRAWN, drawn(Strategy::Simple, 1)?, OF_ONE)?;
-    agree(&rt, alloc, DRAWN, drawn(Strategy::Ordered, 7)?, IN_ORDER)
+    agree_behind(&rt, alloc, DRAWN, simple, OF_SEVEN)?;
+    agree_behind(&rt, alloc, ALTERED, simple, OF_ALTERED)?;
+    agree_behind(&rt, alloc, DRAWN, drawn(Strategy::Priority, 7)?, OF_SEVEN)?;
+    agree_behind(&rt, alloc, DRAWN, drawn(Strategy::Simple, 1)?, OF_ONE)?;
+    agree_behind(&rt, alloc, DRAWN, drawn(Strategy::Ordered, 7)?, IN_ORDER)
 }
 
 const REFUSED: &str = r#"
@@ -221,12 +224,12 @@ x; --> -->program
 #[test]
 fn programs_that_are_refused(rt: HostRuntime) -> Result<(), Fail> {
     let alloc = rt.alloc();
-    agree(
+    agree_behind(
         &rt,
         alloc,
         "let a = 1 let b = 2",
         options(1, 1, 0)?,
         REFUSED,
     )?;
-    agree(&rt, alloc, "a", options(1, 1, 0)?, REFUSED)
+    agree_behind(&rt, alloc, "a", options(1, 1, 0)?, REFUSED)
 }

@@ -2,9 +2,7 @@
 use bp_base::{MemorySink, MemorySource};
 use bp_log::{Header, Line, Options, Record, line_of, write_header, write_record};
 use bp_replay::{ReplayFault, replay};
-use percent_encoding::percent_decode;
 use std::alloc::Global;
-use std::process::Abort;
 use std::test::Fail;
 
 /// More bytes than any row prints.
@@ -57,43 +55,10 @@ pub fn told(alloc: Global, bytes: &[u8]) -> Result<String, Fail> {
     Ok(out)
 }
 
-/// The bytes of a cell, in which `;` stands for a line end and `%` with two digits for a byte.
-fn bytes_of(alloc: Global, cell: &str) -> Result<Vec<u8>, Fail> {
-    let mut bytes = Vec::new(alloc);
-    for part in cell.trim().split_inclusive(';') {
-        match part.strip_suffix(';') {
-            Some(line) => {
-                percent_decode(line.as_bytes()).append_to(&mut bytes)?;
-                bytes.push(b'\n')?;
-            }
-            None => percent_decode(part.as_bytes()).append_to(&mut bytes)?,
-        }
-    }
-    Ok(bytes)
-}
-
 /// The header of this program under these options.
 pub fn front(alloc: Global, program: &str, options: Options) -> Result<Vec<u8>, Fail> {
     let header = Header::new(options, program.as_bytes().to_vec(alloc)?).ok_or("too long")?;
     let mut sink = MemorySink::new(alloc, ROOM, Vec::new(alloc))?;
     write_header(alloc, &header, &mut sink)?;
     Ok(sink.written().to_vec(alloc)?)
-}
-
-/// Each line has what stands behind the header, the mark `-->`, what is printed, the mark, and how it ends.
-pub fn agree(
-    rt: &impl Abort,
-    alloc: Global,
-    program: &str,
-    options: Options,
-    table: &str,
-) -> Result<(), Fail> {
-    for line in table.lines().skip(1) {
-        let (cell, want) = line.split_once(" --> ").ok_or("no answer")?;
-        let mut log = front(alloc, program, options)?;
-        log.extend_from_slice(bytes_of(alloc, cell)?.as_slice())?;
-        let found = told(alloc, log.as_slice())?;
-        assert_eq!(rt; found.as_str(), want, "{line}");
-    }
-    Ok(())
 }

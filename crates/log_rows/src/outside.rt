@@ -1,15 +1,17 @@
 //! Headers that are refused, and sources and sinks that fail.
-use crate::replays::{front, told};
+use crate::lines::{Lines, agree};
+use crate::replays::front;
 use bp_base::{MemorySink, MemorySource};
 use bp_log::{Options, Strategy, Verdict};
 use bp_reader::LogFault;
 use bp_replay::{ReplayFault, replay};
 use std::alloc::Global;
-use std::process::Abort;
 use std::test::Fail;
 
 /// Two b-threads end at once.
 const TWO: &str = r#"bp.registerBThread("A", () => {}); bp.registerBThread("B", () => {});"#;
+
+const PRINTED: &[u8] = b"done \"A\"\ndone \"B\"\nverdict quiet 0\n";
 
 fn two(alloc: Global) -> Result<Vec<u8>, Fail> {
     let options = Options::new(Strategy::Simple, 7, 10, 1, 0).ok_or("no options")?;
@@ -18,17 +20,16 @@ fn two(alloc: Global) -> Result<Vec<u8>, Fail> {
     Ok(log)
 }
 
+const REFUSED: &str = "
+ --> -->cut
+bp-log 2; --> -->version
+bp-log 1;seed 0; --> -->header
+bp-log 1;strategy simple;seed 0 --> -->cut
+";
+
 #[test]
 fn headers_that_are_refused(rt: HostRuntime) -> Result<(), Fail> {
-    let alloc = rt.alloc();
-    assert_eq!(rt; told(alloc, b"")?.as_str(), "-->cut");
-    assert_eq!(rt; told(alloc, b"bp-log 2\n")?.as_str(), "-->version");
-    assert_eq!(rt; told(alloc, b"bp-log 1\nseed 0\n")?.as_str(), "-->header");
-    assert_eq!(rt;
-        told(alloc, b"bp-log 1\nstrategy simple\nseed 0")?.as_str(),
-        "-->cut"
-    );
-    Ok(())
+    agree(&rt, rt.alloc(), Lines::Replayed, b"", REFUSED)
 }
 
 // The second read would tell that the log is at its end.
@@ -41,12 +42,9 @@ fn a_failed_read_is_told(rt: HostRuntime) -> Result<(), Fail> {
     let Err(ReplayFault::Log(fault)) = &replayed.ended else {
         return Err(Fail::from("read"));
     };
-    assert_eq!(rt; *fault, LogFault::Read);
-    assert_eq!(rt; replayed.log.faults(), 1);
-    assert_eq!(rt;
-        sink.written(),
-        b"done \"A\"\ndone \"B\"\nverdict quiet 0\n".as_slice()
-    );
+    assert!(rt; *fault == LogFault::Read);
+    assert!(rt; replayed.log.faults() == 1);
+    assert!(rt; sink.written() == PRINTED);
     Ok(())
 }
 
@@ -58,7 +56,7 @@ fn a_failed_write_is_told(rt: HostRuntime) -> Result<(), Fail> {
     let mut sink = MemorySink::new(alloc, 20, Vec::new(alloc))?;
     let replayed = replay(alloc, source, &mut sink);
     assert!(rt; matches!(&replayed.ended, Err(ReplayFault::Write)));
-    assert_eq!(rt; sink.faults(), 1);
+    assert!(rt; sink.faults() == 1);
     Ok(())
 }
 
@@ -69,10 +67,7 @@ fn the_verdict_is_answered(rt: HostRuntime) -> Result<(), Fail> {
     let mut sink = MemorySink::new(alloc, 1_000, Vec::new(alloc))?;
     let replayed = replay(alloc, source, &mut sink);
     assert!(rt; matches!(&replayed.ended, Ok(Verdict::Quiet(0))));
-    assert_eq!(rt; replayed.log.faults(), 0);
-    assert_eq!(rt;
-        sink.written(),
-        b"done \"A\"\ndone \"B\"\nverdict quiet 0\n".as_slice()
-    );
+    assert!(rt; replayed.log.faults() == 0);
+    assert!(rt; sink.written() == PRINTED);
     Ok(())
 }
