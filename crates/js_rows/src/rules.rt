@@ -1,5 +1,5 @@
 //! Each rule with programs that keep it and programs that break it.
-use crate::answers::agree;
+use crate::lines::{Lines, agree};
 use std::test::Fail;
 
 // `bp`, `Math` and `undefined` cannot be declared.
@@ -377,7 +377,7 @@ fn what_declares_names(rt: HostRuntime) -> Result<(), Fail> {
     for table in [
         RESERVED, UNDEFINED, FORMS, SCOPES, BLOCKS, PARAMETERS, VARS, FUNCTIONS,
     ] {
-        agree(&rt, rt.alloc(), table)?;
+        agree(&rt, rt.alloc(), Lines::Names, table)?;
     }
     Ok(())
 }
@@ -385,7 +385,7 @@ fn what_declares_names(rt: HostRuntime) -> Result<(), Fail> {
 #[test]
 fn what_uses_names(rt: HostRuntime) -> Result<(), Fail> {
     for table in [UNKNOWN, CONSTANTS, SEEN, COPIED, UNCHANGED, BEHIND] {
-        agree(&rt, rt.alloc(), table)?;
+        agree(&rt, rt.alloc(), Lines::Names, table)?;
     }
     Ok(())
 }
@@ -393,7 +393,7 @@ fn what_uses_names(rt: HostRuntime) -> Result<(), Fail> {
 #[test]
 fn words_places_and_programs(rt: HostRuntime) -> Result<(), Fail> {
     for table in [LOOP_WORDS, RETURNS, PLACES, CLASHES, PROGRAMS] {
-        agree(&rt, rt.alloc(), table)?;
+        agree(&rt, rt.alloc(), Lines::Names, table)?;
     }
     Ok(())
 }

@@ -1,16 +1,8 @@
 //! Programs whose numbering is written out by hand: a line a node, then the functions, the constants and the top level.
-use bp_script::{ScriptFault, accept};
+use bp_script::accept;
 use js_program::Program;
 use std::alloc::{AllocError, Global};
 use std::test::Fail;
-
-fn program_of(alloc: Global, script: &str) -> Result<Program, Fail> {
-    match accept(alloc, script.as_bytes()) {
-        Ok(program) => Ok(program),
-        Err(ScriptFault::Refused(_)) => Err("it is refused")?,
-        Err(ScriptFault::Memory) => Err("no memory was left")?,
-    }
-}
 
 fn push_nodes(out: &mut String, program: &Program) -> Result<(), AllocError> {
     for number in 0..program.nodes() {
@@ -34,28 +26,24 @@ fn push_constants(out: &mut String, program: &Program) -> Result<(), AllocError>
     Ok(())
 }
 
-fn shown(alloc: Global, program: &Program) -> Result<String, AllocError> {
+fn shown(alloc: Global, script: &str) -> Result<String, Fail> {
+    let program = accept(alloc, script.as_bytes())?;
     let mut out = String::new(alloc);
-    push_nodes(&mut out, program)?;
-    push_functions(&mut out, program)?;
-    push_constants(&mut out, program)?;
-    write!(&mut out, "{:?}\n", program.top())?;
+    push_nodes(&mut out, &program)?;
+    push_functions(&mut out, &program)?;
+    push_constants(&mut out, &program)?;
+    write!(&mut out, "{:?}", program.top())?;
     Ok(out)
 }
 
-#[test]
-fn functions_and_constants(rt: HostRuntime) -> Result<(), Fail> {
-    let program = program_of(
-        rt.alloc(),
-        "let total = 1 + 2
+// Between blank lines stand the lines of a program, the line `-->`, and those of its numbering.
+const NUMBERED: &str = r#"
+let total = 1 + 2
 function add(a, b) { return a + b }
-bp.registerBThread(\"t\", function() {
+bp.registerBThread("t", function() {
 let x = add(1, total); bp.sync(x); (() => x) })
-",
-    )?;
-    assert_eq!(rt;
-        shown(rt.alloc(), &program)?.as_str(),
-        "1 Number(Whole { n: 1 })
+-->
+1 Number(Whole { n: 1 })
 1 Number(Whole { n: 2 })
 1 Binary(Add, 0, 1)
 1 Declaration(Let, [Declared { variable: Constant(0), value: Some(2) }])
@@ -63,7 +51,7 @@ let x = add(1, total); bp.sync(x); (() => x) })
 2 Read(Slot(1))
 2 Binary(Add, 4, 5)
 2 Return(6)
-3 Words(Text { text: \"t\" })
+3 Words(Text { text: "t" })
 4 Read(Constant(1))
 4 Number(Whole { n: 1 })
 4 Read(Constant(0))
@@ -84,22 +72,11 @@ Body { parameters: 0, slots: 1, captures: [0], vars: [], content: OneValue(17), 
 Undeclared
 OfFunction(0)
 Body { parameters: 0, slots: 0, captures: [], vars: [], content: Statements([3, 22]), line: 1 }
-"
-    );
-    Ok(())
-}
 
-#[test]
-fn captures_and_vars(rt: HostRuntime) -> Result<(), Fail> {
-    let program = program_of(
-        rt.alloc(),
-        "(function(a) { var b; { let c = 1 } var a = 1; (() => () => a) })
+(function(a) { var b; { let c = 1 } var a = 1; (() => () => a) })
 for (const y of []) Math.floor(y / 2)
-",
-    )?;
-    assert_eq!(rt;
-        shown(rt.alloc(), &program)?.as_str(),
-        "1 Declaration(Var, [Declared { variable: Slot(1), value: None }])
+-->
+1 Declaration(Var, [Declared { variable: Slot(1), value: None }])
 1 Number(Whole { n: 1 })
 1 Declaration(Let, [Declared { variable: Slot(2), value: Some(1) }])
 1 Block([2], [2])
@@ -121,38 +98,27 @@ Body { parameters: 1, slots: 3, captures: [], vars: [1], content: Statements([0,
 Body { parameters: 0, slots: 1, captures: [0], vars: [], content: OneValue(7), line: 1 }
 Body { parameters: 0, slots: 1, captures: [0], vars: [], content: OneValue(6), line: 1 }
 Body { parameters: 0, slots: 1, captures: [], vars: [], content: Statements([11, 17]), line: 1 }
-"
-    );
-    Ok(())
-}
 
-#[test]
-fn the_other_forms(rt: HostRuntime) -> Result<(), Fail> {
-    let program = program_of(
-        rt.alloc(),
-        "let o = {a: 1, b: true}, n = null
+let o = {a: 1, b: true}, n = null
 n = undefined
-if (o.a) n = o[\"b\"]; else;
+if (o.a) n = o["b"]; else;
 while (!n) { n++; break }
 for (let i = 0; i < 3; i++) { if (i) continue; f(-i) }
 function f(x) { x ? 1 : 2; return }
 o.g(bp.all)
-",
-    )?;
-    assert_eq!(rt;
-        shown(rt.alloc(), &program)?.as_str(),
-        "1 Number(Whole { n: 1 })
+-->
+1 Number(Whole { n: 1 })
 1 Truth(true)
-1 Fields([Text { text: \"a\" }, Text { text: \"b\" }], [0, 1])
+1 Fields([Text { text: "a" }, Text { text: "b" }], [0, 1])
 1 Null
 1 Declaration(Let, [Declared { variable: Constant(0), value: Some(2) }, Declared { variable: Slot(0), value: Some(3) }])
 2 Undefined
 2 Assign(Set, 0, 5)
 2 Expression(6)
 3 Read(Constant(0))
-3 Member(8, Text { text: \"a\" })
+3 Member(8, Text { text: "a" })
 3 Read(Constant(0))
-3 Words(Text { text: \"b\" })
+3 Words(Text { text: "b" })
 3 Index(10, 11)
 3 Assign(Set, 0, 12)
 3 Expression(13)
@@ -189,13 +155,19 @@ o.g(bp.all)
 6 ReturnNothing
 7 Read(Constant(0))
 7 Builtin(All, [])
-7 Method(46, Text { text: \"g\" }, [47])
+7 Method(46, Text { text: "g" }, [47])
 7 Expression(48)
 Body { parameters: 1, slots: 1, captures: [], vars: [], content: Statements([44, 45]), line: 6 }
 Undeclared
 OfFunction(0)
 Body { parameters: 0, slots: 2, captures: [], vars: [], content: Statements([4, 7, 16, 23, 39, 49]), line: 1 }
-"
-    );
+"#;
+
+#[test]
+fn programs_are_numbered(rt: HostRuntime) -> Result<(), Fail> {
+    for run in NUMBERED.trim().split("\n\n") {
+        let (script, want) = run.split_once("\n-->\n").ok_or("no numbering")?;
+        assert!(rt; shown(rt.alloc(), script)?.as_str() == want, "{script}");
+    }
     Ok(())
 }

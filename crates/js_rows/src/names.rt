@@ -2,7 +2,6 @@
 use bp_script::{ScriptFault, accept};
 use js_data::Text;
 use std::alloc::Global;
-use std::process::Abort;
 use std::test::Fail;
 
 fn text(alloc: Global, s: &str) -> Result<Text, Fail> {
@@ -28,16 +27,10 @@ pub fn program_of(alloc: Global, cell: &str) -> Result<String, Fail> {
     Ok(program)
 }
 
-/// Each line has a program, in which `\n` stands for a line end, the mark `-->`, and its answer: `accepted`, or the
-/// words behind `refused line`.
-pub fn agree(rt: &impl Abort, alloc: Global, table: &str) -> Result<(), Fail> {
-    for line in table.trim().lines() {
-        let (cell, want) = line.split_once(" --> ").ok_or("no answer")?;
-        let program = program_of(alloc, cell)?;
-        let found = answer(alloc, program.as_str())?;
-        let words = found.as_str();
-        let short = words.strip_prefix("refused line ").unwrap_or(words);
-        assert_eq!(rt; short, want, "{line}");
-    }
-    Ok(())
+/// Whether this is answered to the program of the cell, or stands behind `refused line`.
+pub fn agrees(alloc: Global, cell: &str, want: &str) -> Result<bool, Fail> {
+    let program = program_of(alloc, cell)?;
+    let found = answer(alloc, program.as_str())?;
+    let words = found.as_str();
+    Ok(words.strip_prefix("refused line ").unwrap_or(words) == want)
 }
