@@ -51,9 +51,7 @@ fn wrong_words_are_told_the_usage(rt: HostRuntime) -> Result<(), Fail> {
     }
     fails_with(&rt, alloc, "", b"", 1, USAGE)?;
     let ran = run_words(&rt, alloc, &[], b"", NONE)?;
-    assert_eq!(rt; ran.code, 1);
-    assert_eq!(rt; ran.note.as_str(), USAGE);
-    assert!(rt; ran.printed.is_empty());
+    assert!(rt; ran.came_to(1, USAGE, ""));
     Ok(())
 }
 

@@ -19,6 +19,15 @@ pub struct Ran {
     pub log: Vec<u8>,
 }
 
+impl Ran {
+    /// Whether the command ended with this status and this note, and printed this.
+    pub fn came_to(&self, code: u8, note: &str, printed: &str) -> bool {
+        self.code == code
+            && self.note.as_str() == note
+            && self.printed.as_slice() == printed.as_bytes()
+    }
+}
+
 /// The calls that are to fail: of the world, of the script's input, of the output, and of the log.
 #[derive(Clone, Copy)]
 pub struct Fails<'a> {
@@ -83,9 +92,7 @@ pub fn tells<R: Threads + Wait + Sync + Abort>(
 ) -> Result<(), Fail> {
     let (code, note, printed) = want;
     let ran = run_with(rt, alloc, words, script, NONE)?;
-    assert_eq!(rt; ran.note.as_str(), note, "{words}");
-    assert_eq!(rt; ran.code, code, "{words}");
-    assert!(rt; ran.printed.as_slice() == printed.as_bytes(), "{words}");
+    assert!(rt; ran.came_to(code, note, printed), "{words}");
     Ok(())
 }
 
@@ -101,6 +108,63 @@ pub fn fails_with<R: Threads + Wait + Sync + Abort>(
     tells(rt, alloc, words, script, (code, note, ""))
 }
 
+/// The cell with `«N TEXT»` written out, so many times the text.
+fn written_out(alloc: Global, cell: &str) -> Result<String, Fail> {
+    let mut out = String::new(alloc);
+    for piece in cell.split("«") {
+        match piece.split_once("»") {
+            Some((repeated, behind)) => {
+                let (count, text) = repeated.split_once(" ").ok_or("no number")?;
+                out.push_str(text.repeat(alloc, count.parse::<usize>()?)?.as_str())?;
+                out.push_str(behind)?;
+            }
+            None => out.push_str(piece)?,
+        }
+    }
+    Ok(out)
+}
+
+/// Whether the command ended with this status, and with what is told: what is printed, or `! ` and the note.
+fn is_told(alloc: Global, ran: &Ran, code: u8, told: &str) -> Result<bool, Fail> {
+    if let Some(note) = told.strip_prefix("! ") {
+        return Ok(ran.came_to(code, note, ""));
+    }
+    let printed = written_out(alloc, told)?.replace(alloc, ";", "\n")?;
+    Ok(ran.came_to(code, "", printed.as_str()))
+}
+
+fn holds<R: Threads + Wait + Sync>(rt: &R, alloc: Global, line: &str) -> Result<bool, Fail> {
+    let (words, rest) = line.split_once(" --> ").ok_or("no status")?;
+    let (code, rest) = rest.split_once(" ").ok_or("no script")?;
+    let (script, told) = rest.split_once("==> ").ok_or("no trace")?;
+    let code = code.parse::<u8>()?;
+    let script = written_out(alloc, script.trim())?;
+    let ran = run_with(rt, alloc, words, script.as_bytes(), NONE)?;
+    is_told(alloc, &ran, code, told)
+}
+
+/// Each line of the table has words, the mark `-->`, a status and a script, and behind the mark `==>` what is printed,
+/// with `;` for each line end, or `! ` and the note. In the script and there `«N TEXT»` stands for so many texts.
+pub fn agree<R: Threads + Wait + Sync + Abort>(
+    rt: &R,
+    alloc: Global,
+    table: &str,
+) -> Result<(), Fail> {
+    for line in table.trim().lines() {
+        assert!(rt; holds(rt, alloc, line)?, "{line}");
+    }
+    Ok(())
+}
+
+fn prints<R: Threads + Wait + Sync>(rt: &R, alloc: Global, run: &str) -> Result<bool, Fail> {
+    let (script, rest) = run.split_once("--> ").ok_or("no status")?;
+    let (code, trace) = rest.split_once("\n").ok_or("no trace")?;
+    let code = code.parse::<u8>()?;
+    let ran = run_with(rt, alloc, "run|script.js", script.as_bytes(), NONE)?;
+    let printed = ran.printed.strip_suffix(b"\n").unwrap_or(b"");
+    Ok(ran.code == code && ran.note.as_str() == "" && printed == trace.as_bytes())
+}
+
 /// Each script of the table, run, prints its trace and ends with its status, without a note.
 ///
 /// Between blank lines stand a line `# WHAT IS SHOWN`, the lines of a script, a line `--> STATUS`, and those of its trace.
@@ -110,14 +174,8 @@ pub fn print_their_traces<R: Threads + Wait + Sync + Abort>(
     table: &str,
 ) -> Result<(), Fail> {
     for run in table.trim().split("\n\n") {
-        let (shown, rest) = run.split_once("\n").ok_or("no script")?;
-        let (script, rest) = rest.split_once("--> ").ok_or("no status")?;
-        let (code, trace) = rest.split_once("\n").ok_or("no trace")?;
-        let ran = run_with(rt, alloc, "run|script.js", script.as_bytes(), NONE)?;
-        assert_eq!(rt; ran.note.as_str(), "", "{shown}");
-        assert_eq!(rt; ran.code, code.parse::<u8>()?, "{shown}");
-        let printed = ran.printed.strip_suffix(b"\n").ok_or("no line end")?;
-        assert!(rt; printed == trace.as_bytes(), "{shown}");
+        let (shown, run) = run.split_once("\n").ok_or("no script")?;
+        assert!(rt; prints(rt, alloc, run)?, "{shown}");
     }
     Ok(())
 }

@@ -27,7 +27,7 @@ fn shown_run(alloc: Global, run: &Run) -> Result<String, Fail> {
 /// The command in words of its own, or `wrong`.
 fn shown(alloc: Global, words: &[String]) -> Result<String, Fail> {
     match read(alloc, words) {
-        Err(_) => Ok(format!(in alloc; "wrong")?),
+        Err(_) => Ok(String::from_str(alloc, "wrong")?),
         Ok(command) => match &command {
             Command::Run(run) => shown_run(alloc, run),
             Command::Replay(name) => Ok(format!(in alloc; "replay {}", name.as_str())?),
@@ -37,17 +37,21 @@ fn shown(alloc: Global, words: &[String]) -> Result<String, Fail> {
     }
 }
 
-/// Each line has words, of which `<>` stands for the empty one, the mark `==>`, and their command.
+/// Whether the words, of which `<>` stands for the empty one, are this command.
+fn are(alloc: Global, cell: &str, want: &str) -> Result<bool, Fail> {
+    let mut words = Vec::new(alloc);
+    for word in cell.split_whitespace() {
+        let word = if word == "<>" { "" } else { word };
+        words.push(String::from_str(alloc, word)?)?;
+    }
+    Ok(shown(alloc, words.as_slice())?.as_str() == want)
+}
+
+/// Each line has words, the mark `==>`, and their command.
 fn agree(rt: &impl Abort, alloc: Global, table: &str) -> Result<(), Fail> {
     for line in table.trim().lines() {
-        let (cell, want) = line.split_once("==>").ok_or("no command")?;
-        let mut words = Vec::new(alloc);
-        for word in cell.split_whitespace() {
-            let word = if word == "<>" { "" } else { word };
-            words.push(String::from_str(alloc, word)?)?;
-        }
-        let found = shown(alloc, words.as_slice())?;
-        assert_eq!(rt; found.as_str(), want.trim(), "{line}");
+        let (cell, want) = line.split_once("==> ").ok_or("no command")?;
+        assert!(rt; are(alloc, cell, want)?, "{line}");
     }
     Ok(())
 }
@@ -246,7 +250,6 @@ large -- -1 ==> wrong
 
 #[test]
 fn words_are_read_exactly(rt: HostRuntime) -> Result<(), Fail> {
-    let alloc = rt.alloc();
-    agree(&rt, alloc, GOOD)?;
-    agree(&rt, alloc, WRONG)
+    agree(&rt, rt.alloc(), GOOD)?;
+    agree(&rt, rt.alloc(), WRONG)
 }
