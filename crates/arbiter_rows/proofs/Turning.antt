@@ -22,7 +22,7 @@ use Rattle.bp_floor.specs.Floors as floors
 use Rattle.bp_floor.specs.Floors.{PlainFloor, StandsFor, StandsWith, IsPhased, code_on, is_idle}
 use Rattle.bp_arbiter.specs.Arbiters.{PlainArbiter, IsDrawn, StandsFor as ArbiterStands}
 use Rattle.bp_arbiter.specs.Lending.{AreOut, AreBack}
-use Rattle.bp_arbiter.proofs.Calls.{calls_turned}
+use Rattle.bp_arbiter.proofs.Calls.{stands_call}
 use Rattle.bp_arbiter.proofs.Lends.{lent_out, back_done, filled_same}
 use Rattle.bp_arbiter.proofs.Picks.{unfilled}
 use Rattle.bp_arbiter.proofs.Seals.{as_many}
@@ -38,7 +38,6 @@ goes_first f w h =
       pair = opening;
       stands = sym h;
       settles = refl;
-      calls = record { threads = tt; handlers = (tt, tt) };
     }
 
 -- an arbiter with this floor, before anything is recorded
@@ -71,9 +70,6 @@ module _ (f g : PlainFloor) (jobs : List Job) (i : IsOut f g jobs) where
   settles : settle (code_on g) p ≡ settle (code_on g) opening
   settles = subst (λ (l : Code Origin PlainSet). settle l p ≡ settle l opening) (sym same) (i.goes).settles
 
-  pub out : AreOut (over g) jobs
-  out = lent_out (over f) g jobs taken p i.phased (i.goes).stands (i.goes).calls i.lent i.filled i.base i.options (over g) refl
-
   stands : ArbiterStands (over g) jobs taken p
   unfolding story story_from initial
   stands =
@@ -86,8 +82,10 @@ module _ (f g : PlainFloor) (jobs : List Job) (i : IsOut f g jobs) where
         bad = refl;
         drawn = subst (λ (x : Phase). IsDrawn x 0 0) (sym i.phase) refl;
         floor = i.stands taken p (i.goes).stands;
-        calls = (i.goes).calls;
       }
+
+  pub out : AreOut (over g) jobs
+  out = lent_out (over f) g jobs taken p i.phased (i.goes).stands (stands_call (over g) jobs taken p stands) i.lent i.filled i.base i.options (over g) refl
 
   module _ (after : List Job) (c : AreCarriedOut g.base g.options.budget jobs after) where
     pub back : floors.AreBack g after
@@ -110,7 +108,6 @@ module _ (f g : PlainFloor) (jobs : List Job) (i : IsOut f g jobs) where
           pair = turn (code_on g) p;
           stands = s taken p (i.stands taken p (i.goes).stands ∙ ap (λ (q : Pair Origin). before taken q) (sym (filled_same g.base g.options.budget g.pair jobs after c)));
           settles = subst (λ (l : Code Origin PlainSet). settle l (turn (code_on g) p) ≡ settle l opening) (sym (same_code g.base.program h.base.program g.options h.options program options)) turned;
-          calls = calls_turned g.base.program g.options p (i.goes).calls;
         }
 
 same_first : (x e : PlainEvent) → Some x ≡ Some e → x ≡ e

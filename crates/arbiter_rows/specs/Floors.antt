@@ -4,7 +4,6 @@ use Rattle.js_meaning.specs.Bodies.{Origin}
 use Rattle.bp_log.specs.declared.trace.Line.{Line}
 use Rattle.bp_run.specs.Settling.{Pair, settle, opening}
 use Rattle.bp_floor.specs.Floors.{PlainFloor, StandsFor, code_on}
-use Rattle.bp_arbiter.specs.Calls.{RunCalls}
 
 -- memory was never wanting, and the floor stands for a pair that settles to where the program's start does
 pub record Goes (f : PlainFloor) : Type 0 where
@@ -13,4 +12,3 @@ pub record Goes (f : PlainFloor) : Type 0 where
   pub pair : Pair Origin
   pub stands : StandsFor f taken pair
   pub settles : settle (code_on f) pair ≡ settle (code_on f) opening
-  pub calls : RunCalls pair

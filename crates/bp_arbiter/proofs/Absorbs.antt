@@ -80,7 +80,6 @@ module _ (a : PlainArbiter) (taken : List Line) (p : Pair Origin) (s : StandsFor
         bad = s.bad;
         drawn = s.drawn;
         floor = ap (λ (q : Pair Origin). record q { stand = queued e q.stand }) bare ∙ ap (λ (q : Pair Origin). before taken q) (sym (unfilled (record a.floor.pair { stand = queued e (stand_in a) })));
-        calls = record { threads = (s.calls).threads; handlers = (s.calls).handlers };
       }
   stands_absorbed (item.Bad m) n h =
       let c : Configuration Origin = record (read_out s.told j) { bad = first_bad s.told.bad j m } in
@@ -93,7 +92,6 @@ module _ (a : PlainArbiter) (taken : List Line) (p : Pair Origin) (s : StandsFor
         bad = ap (λ (b : Option (ℕ × ℕ)). first_bad b j m) s.bad;
         drawn = s.drawn;
         floor = s.floor;
-        calls = s.calls;
       }
   stands_absorbed item.Failed n h = absurd (cc)
   stands_absorbed item.End n h =
@@ -106,5 +104,4 @@ module _ (a : PlainArbiter) (taken : List Line) (p : Pair Origin) (s : StandsFor
         bad = s.bad;
         drawn = s.drawn;
         floor = s.floor;
-        calls = s.calls;
       }

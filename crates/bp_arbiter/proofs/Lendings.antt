@@ -1,5 +1,5 @@
 -- What the lending of jobs leaves.
-use Rattle.std.proofs.Common.{◌≡◌, false, List, refl, ap, ◌∙◌, subst}
+use Rattle.std.proofs.Common.{◌≡◌, false, List, [], refl, ap, ◌∙◌, subst}
 use Rattle.js_meaning.specs.Bodies.{Origin}
 use Rattle.bp_run.specs.Settling.{Pair, before}
 use Rattle.bp_thread.specs.declared.job.Job.{Job}
@@ -12,6 +12,7 @@ use Rattle.bp_arbiter.specs.Lending.{AreOut}
 use Rattle.bp_arbiter.specs.Runs.{seen}
 use Rattle.bp_arbiter.specs.Sound.{IsStanding}
 use Rattle.bp_arbiter.proofs.Picks.{unfilled}
+use Rattle.bp_arbiter.proofs.Calls.{stands_call}
 use Rattle.bp_arbiter.proofs.Lends.{lent_out}
 use Rattle.bp_arbiter.proofs.Turnings.{IsAt}
 
@@ -22,4 +23,4 @@ lends a r i g jobs l e base options b same =
     let v = seen r Ready false in
     let k : IsStanding v = (i.sound).standing refl in
     let s = subst (λ (js : List Job). StandsFor v js k.taken k.pair) (k.unlent refl) k.stands in
-    lent_out v g jobs k.taken k.pair i.phased (s.floor ∙ ap (λ (q : Pair Origin). before k.taken q) (unfilled r.floor.pair)) s.calls l e base options b same
+    lent_out v g jobs k.taken k.pair i.phased (s.floor ∙ ap (λ (q : Pair Origin). before k.taken q) (unfilled r.floor.pair)) (stands_call v [] k.taken k.pair s) l e base options b same

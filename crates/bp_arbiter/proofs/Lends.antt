@@ -1,5 +1,6 @@
 -- Jobs are lent, and come back carried to their outcomes.
 use Rattle.std.proofs.Common.{◌≡◌, ◌<◌, ℕ, zero, suc, Bool, true, false, List, [], ◌∷◌, length, map, refl, sym, ap, ◌∙◌, subst, arith, Option, Some, None, option_map, slice_get, slice_index_or}
+use Rattle.std.proofs.lemmas.Bool.{and_parts}
 use Rattle.js_data.specs.Event.{PlainEvent}
 use Rattle.js_program.specs.PlainProgram.{PlainProgram}
 use Rattle.js_meaning.specs.State.{Ground, effects_since}
@@ -17,15 +18,16 @@ use Rattle.bp_thread.specs.Carried.{CarriedOut, AreCarriedOut}
 use Rattle.bp_thread.proofs.Carrying.{carried_out, whole_stands}
 use Rattle.bp_code.specs.Code.{ground_for}
 use Rattle.bp_floor.specs.Programs.{code_of}
+use Rattle.bp_floor.specs.Calls.{is_call, HandlerCalls, HandlersCall}
 use Rattle.bp_floor.specs.Forgetting.{forget, AreGoing}
 use Rattle.bp_floor.specs.Lending.{IsLent, IsDone, JobFor, AreLent, AreDone, fill, filled, filled_pair, standing}
 use Rattle.bp_floor.specs.Returning.{ground_at, AreLater, RunsAlone}
 use Rattle.bp_floor.specs.Floors as floors
 use Rattle.bp_floor.specs.Floors.{PlainFloor, IsPhased, StandsFor as FloorStands}
 use Rattle.bp_arbiter.specs.Arbiters.{PlainArbiter, StandsFor, options_in}
-use Rattle.bp_arbiter.specs.Calls.{is_call, AllCall, HandlerCalls, HandlersCall, RunCalls}
 use Rattle.bp_arbiter.specs.Lending.{CanRun, AllCanRun, AreOut, AreBack}
 use Rattle.bp_floor.proofs.Stepping.{got}
+use Rattle.bp_arbiter.proofs.Calls.{all_call}
 use Rattle.bp_arbiter.proofs.Seals.{filled_length}
 
 -- ---- the ground of what is to be run
@@ -34,10 +36,10 @@ call_ground : (program : PlainProgram) (budget : ℕ) (o : Origin) → is_call o
 call_ground program budget the_top h = absurd (cc)
 call_ground program budget (function mode f args) h = refl
 
-call_at : (ts : List (Thread Origin)) (i : ℕ) (t : Thread Origin) → AllCall ts → slice_get ts i ≡ Some t → is_call t.origin ≡ true
+call_at : (ts : List (Thread Origin)) (i : ℕ) (t : Thread Origin) → all_call ts ≡ true → slice_get ts i ≡ Some t → is_call t.origin ≡ true
 call_at [] i t c h = absurd (cc)
-call_at (x ∷ ts) zero t c h = let f : x ≡ t = cc in ap (λ (u : Thread Origin). is_call u.origin) (sym f) ∙ c.0
-call_at (x ∷ ts) (suc i) t c h = call_at ts i t c.1 h
+call_at (x ∷ ts) zero t c h = let f : x ≡ t = cc in ap (λ (u : Thread Origin). is_call u.origin) (sym f) ∙ (and_parts (is_call x.origin) (all_call ts) c).0
+call_at (x ∷ ts) (suc i) t c h = call_at ts i t (and_parts (is_call x.origin) (all_call ts) c).1 h
 
 still_ended : (b : Bool) (u : Thread Origin) → u.ended ≡ b → (forget the_top u).ended ≡ b
 still_ended true u e = rw e refl
@@ -52,7 +54,7 @@ seen_at None t h = absurd (cc)
 seen_at (Some u) t h = (u, refl, cc)
 
 -- a b-thread that goes on runs a call
-going_call : (us : List (Thread Origin)) (i : ℕ) (t : Thread Origin) → AllCall us → slice_get (map (forget the_top) us) i ≡ Some t → t.ended ≡ false → is_call t.origin ≡ true
+going_call : (us : List (Thread Origin)) (i : ℕ) (t : Thread Origin) → all_call us ≡ true → slice_get (map (forget the_top) us) i ≡ Some t → t.ended ≡ false → is_call t.origin ≡ true
 going_call us i t c h n =
     let w = seen_at (slice_get us i) t (sym (got (forget the_top) us i) ∙ h) in
     unforgotten w.0.ended w.0 t refl w.2 n (call_at us i w.0 c w.1)
@@ -83,7 +85,7 @@ top_ground base program budget d b e h g =
     let f : d ≡ b = cc in
     g ∙ ap (λ (x : Origin). ground_for program budget x) (sym e ∙ ap (λ (x : Body Origin). x.origin) f)
 
-later_grounds : (base : Ground) (program : PlainProgram) (o : PlainOptions) (us : List (Thread Origin)) (ns : List (Entry Origin)) → AllCall us → HandlersCall ns → AreGoing (map (forget the_top) us) ns → AreLater ns →
+later_grounds : (base : Ground) (program : PlainProgram) (o : PlainOptions) (us : List (Thread Origin)) (ns : List (Entry Origin)) → all_call us ≡ true → HandlersCall ns → AreGoing (map (forget the_top) us) ns → AreLater ns →
     base ≡ ground_of program o.budget → AllOnGround base program o (map (forget the_top) us) ns
 unfolding OnGround AllOnGround
 later_grounds base program o us [] c h k a g = tt
@@ -94,7 +96,7 @@ later_grounds base program o us (Runs i ∷ ns) c h k a g = (
 )
 later_grounds base program o us (Stops i b ∷ ns) c h k a g = (handler_ground base program o.budget b h.0 g, later_grounds base program o us ns c h.1 k.1 a g)
 
-grounds : (base : Ground) (program : PlainProgram) (o : PlainOptions) (us : List (Thread Origin)) (ns : List (Entry Origin)) → AllCall us → HandlersCall ns → AreGoing (map (forget the_top) us) ns → RunsAlone ns →
+grounds : (base : Ground) (program : PlainProgram) (o : PlainOptions) (us : List (Thread Origin)) (ns : List (Entry Origin)) → all_call us ≡ true → HandlersCall ns → AreGoing (map (forget the_top) us) ns → RunsAlone ns →
     base ≡ ground_at program o.budget ns → AllOnGround base program o (map (forget the_top) us) ns
 unfolding OnGround AllOnGround code_of
 grounds base program o us [] c h k a g = tt
@@ -132,16 +134,14 @@ module _ (base : Ground) (o : PlainOptions) where
       run_at (number_of n) (body_of (code_of base.program o) (standing ts) n) js (AreLent base.program o (standing ts) ns) h g.0 (λ ks r. all_can_run ts ns ks r g.1)
 
 -- the jobs that a floor lends can be run, where it stands for a pair whose b-threads run calls
-pub lent_can_run : (f : PlainFloor) (jobs : List Job) (taken : List Line) (p : Pair Origin) → IsPhased f → FloorStands f taken p → RunCalls p →
+pub lent_can_run : (f : PlainFloor) (jobs : List Job) (taken : List Line) (p : Pair Origin) → IsPhased f → FloorStands f taken p → all_call p.stand.threads ≡ true →
     AreLent f.base.program f.options (standing f.pair.stand.threads) f.pair.entries jobs → AllCanRun f.base f.options.budget jobs
 lent_can_run f jobs taken p k h c l =
     let ts : map (forget the_top) p.stand.threads ≡ f.pair.stand.threads = ap (λ (x : Pair Origin). x.stand.threads) h in
-    let ns : p.entries ≡ f.pair.entries = ap (λ (x : Pair Origin). x.entries) h in
-    let handlers : HandlersCall f.pair.entries = subst HandlersCall ns c.handlers in
     let going : AreGoing (map (forget the_top) p.stand.threads) f.pair.entries = subst (λ (us : List (Thread Origin)). AreGoing us f.pair.entries) (sym ts) k.going in
     all_can_run f.base f.options f.pair.stand.threads f.pair.entries jobs l
     (subst (λ (us : List (Thread Origin)). AllOnGround f.base f.base.program f.options us f.pair.entries) ts
-    (grounds f.base f.base.program f.options p.stand.threads f.pair.entries c.threads handlers going k.alone k.grounded))
+    (grounds f.base f.base.program f.options p.stand.threads f.pair.entries c k.handlers going k.alone k.grounded))
 
 -- ---- what comes back
 
@@ -196,7 +196,6 @@ carried_stands a es xs taken p c s =
       bad = s.bad;
       drawn = s.drawn;
       floor = s.floor ∙ ap (λ (q : Pair Origin). before taken q) (sym (filled_same a.floor.base (options_in a).budget a.floor.pair es xs c));
-      calls = s.calls;
     }
 
 module _ (base : Ground) (o : PlainOptions) where
@@ -243,17 +242,20 @@ module _ (base : Ground) (o : PlainOptions) where
   all_done s (n ∷ ns) es xs h r c =
       done_at (number_of n) (body_of (code_of base.program o) s n) es xs (AreLent base.program o s ns) (AreDone base.program o s ns) h r c (λ fs ys l q d. all_done s ns fs ys l q d)
 
+-- lent jobs that were carried out are what a floor asks back
+pub floor_back : (f : PlainFloor) (lent jobs : List Job) → AllCanRun f.base f.options.budget lent → AreLent f.base.program f.options (standing (filled_pair lent f.pair).stand.threads) f.pair.entries lent →
+    AreCarriedOut f.base f.options.budget lent jobs → floors.AreBack f jobs
+floor_back f lent jobs r l d =
+    let c = all_carried f.base f.options.budget lent jobs d in
+    subst (λ (ts : List (Thread Origin)). AreDone f.base.program f.options (standing ts) f.pair.entries jobs) (sym (filled_carried f.base f.options.budget f.pair.entries lent jobs f.pair.stand.threads c))
+    (all_done f.base f.options (standing (filled_pair lent f.pair).stand.threads) f.pair.entries lent jobs l r c)
+
 -- what comes back to the arbiter is what its floor asks back
 pub back_done : (a : PlainArbiter) (jobs : List Job) → AreBack a jobs → floors.AreBack a.floor jobs
-back_done a jobs b =
-    let f = a.floor in
-    let lent = (b.out).lent in
-    let c = all_carried f.base f.options.budget b.lent jobs b.carried in
-    subst (λ (ts : List (Thread Origin)). AreDone f.base.program f.options (standing ts) f.pair.entries jobs) (sym (filled_carried f.base f.options.budget f.pair.entries b.lent jobs f.pair.stand.threads c))
-    (all_done f.base f.options (standing (filled_pair b.lent f.pair).stand.threads) f.pair.entries b.lent jobs lent (b.out).can_run c)
+back_done a jobs b = floor_back a.floor b.lent jobs (b.out).can_run (b.out).lent b.carried
 
 -- what a floor lends is out
-pub lent_out : (a : PlainArbiter) (g : PlainFloor) (jobs : List Job) (taken : List Line) (p : Pair Origin) → IsPhased a.floor → FloorStands a.floor taken p → RunCalls p →
+pub lent_out : (a : PlainArbiter) (g : PlainFloor) (jobs : List Job) (taken : List Line) (p : Pair Origin) → IsPhased a.floor → FloorStands a.floor taken p → all_call p.stand.threads ≡ true →
     AreLent a.floor.base.program a.floor.options (standing a.floor.pair.stand.threads) a.floor.pair.entries jobs → filled_pair jobs g.pair ≡ a.floor.pair → g.base ≡ a.floor.base → g.options ≡ a.floor.options →
     (b : PlainArbiter) → b.floor ≡ g → AreOut b jobs
 lent_out a g jobs taken p k h c l e base options b same =

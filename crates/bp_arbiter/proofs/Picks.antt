@@ -24,7 +24,6 @@ use Rattle.bp_arbiter.specs.declared.run.Run.{Run}
 use Rattle.bp_arbiter.specs.Arbiters.{PlainArbiter, StandsFor, Recounts, coming, code_in, options_in, IsDrawn, is_over}
 use Rattle.bp_arbiter.specs.Picking.{after_pick, picked_of, phase_after, moved_phase}
 use Rattle.bp_arbiter.specs.Runs.{seen, configuration_of, next_in, HasCome, IsBeside, IsEnded, IsMoved, IsStill}
-use Rattle.bp_arbiter.proofs.Calls.{calls_stepped}
 use Rattle.bp_floor.proofs.Stepping.{stepped_stands}
 use Rattle.bp_arbiter.proofs.Nexts.{next_stands}
 use Rattle.bp_arbiter.proofs.Told.{same_told, same_code, same_story, settled_idle, no_verdict}
@@ -136,7 +135,6 @@ module _ (r : Run) (taken : List Line) (p : Pair Origin) (s : StandsFor (seen r 
           floor = line_stands taken p r.floor.pair v stands_bare
               ∙ ap (λ (g : PlainFloor). before taken g.pair) (sym h.floor)
               ∙ ap (λ (q : Pair Origin). before taken q) (sym (unfilled r'.floor.pair));
-          calls = record { threads = (s.calls).threads; handlers = (s.calls).handlers };
         }
 
     moves : (ch : Choice) (reached : List Touched) (f : Phase) → next_in r ≡ Selects ch reached → IsMoved r ch reached r' → is_over f ≡ false →
@@ -154,7 +152,6 @@ module _ (r : Run) (taken : List Line) (p : Pair Origin) (s : StandsFor (seen r 
           floor = stepped_stands (code_on r.floor) the_top taken p r.floor.pair ch.event ch.place reached stands_bare h.reach_is
               ∙ ap (λ (q : Pair Origin). before taken q) (sym h.pair_is)
               ∙ ap (λ (q : Pair Origin). before taken q) (sym (unfilled r'.floor.pair));
-          calls = calls_stepped r.floor.base.program r.floor.options p ch.event ch.place reached s.calls;
         }
 
     waits : (f : Phase) → next_in r ≡ Waits → IsStill r r' → is_over f ≡ false → StandsFor (seen r' f false) [] taken p
@@ -168,7 +165,6 @@ module _ (r : Run) (taken : List Line) (p : Pair Origin) (s : StandsFor (seen r 
           bad = s.bad ∙ sym b.bad;
           drawn = drawn_at f r'.draw.drawn s.told.drawn o (h.drawn ∙ s.drawn);
           floor = s.floor ∙ ap (λ (g : PlainFloor). before taken (filled_pair [] g.pair)) (sym h.floor);
-          calls = s.calls;
         }
 
     -- where the arbiter stands after what comes next

@@ -29,7 +29,6 @@ use Rattle.bp_arbiter.specs.declared.run.Run.{Run}
 use Rattle.bp_arbiter.specs.Arbiters.{PlainArbiter, StandsFor, Tells, Recounts, coming, code_in, options_in, stand_in, IsDrawn, is_over}
 use Rattle.bp_arbiter.specs.Runs.{seen, IsBeside, ended_floor}
 use Rattle.bp_arbiter.specs.Sealing.{ending, ended_with, after_turn, turned_in, Turns, IsTurned}
-use Rattle.bp_arbiter.proofs.Calls.{calls_turned}
 use Rattle.bp_arbiter.proofs.Picks.{on, unfilled, drawn_at, line_stands}
 use Rattle.bp_arbiter.proofs.Told.{same_told, same_code, same_story, at_rest_busy}
 
@@ -209,10 +208,8 @@ module _ (r : Run) (jobs : List Job) (taken : List Line) (p : Pair Origin) (s : 
             bad = s.bad ∙ sym b.bad;
             drawn = drawn_at f r'.draw.drawn s.told.drawn o (t.drawn ∙ s.drawn);
             floor = ap (λ (v : Option Verdict). forgotten the_top (ended_with v (turn l p))) (sym e) ∙ floor_stands ∙ ap (λ (q : Pair Origin). before taken q) (sym (unfilled r'.floor.pair));
-            calls = calls_turned r.floor.base.program r.floor.options p s.calls;
           }
       stands_at (Some v) f e o =
-          let c = calls_turned r.floor.base.program r.floor.options p s.calls in
           record {
             whole = refl;
             told = over_with s.told v;
@@ -225,7 +222,6 @@ module _ (r : Run) (jobs : List Job) (taken : List Line) (p : Pair Origin) (s : 
             bad = s.bad ∙ sym b.bad;
             drawn = drawn_over f r'.draw.drawn s.told.drawn o (t.drawn ∙ s.drawn);
             floor = ap (λ (v : Option Verdict). forgotten the_top (ended_with v (turn l p))) (sym e) ∙ floor_stands ∙ ap (λ (q : Pair Origin). before taken q) (sym (unfilled r'.floor.pair));
-            calls = record { threads = c.threads; handlers = c.handlers };
           }
 
       -- where the arbiter stands after the turn

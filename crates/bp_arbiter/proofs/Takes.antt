@@ -48,7 +48,6 @@ module _ (a : PlainArbiter) (g : PlainFloor) (ls : List Line) (t : IsTaken a.flo
         drawn = s.drawn;
         floor = s.floor ∙ ap (λ (q : Pair Origin). before taken (filled_pair jobs q)) t.pair
             ∙ ap (λ (xs : List Line). let q = filled_pair jobs g.pair in record q { stand = record q.stand { lines = xs } }) (sym (append_assoc taken ls g.pair.stand.lines));
-        calls = s.calls;
       }
 
   taken_tells : (taken : List Line) → Tells a taken → Tells b (taken ++ ls)

@@ -19,7 +19,6 @@ use Rattle.bp_floor.specs.declared.phase.Phase.TheVariants.{Ready, Lent, Rest, O
 use Rattle.bp_floor.specs.Programs.{code_of}
 use Rattle.bp_floor.specs.Floors.{PlainFloor, IsPhased, StandsWith, is_idle, not_lent, phase_at}
 use Rattle.bp_arbiter.specs.Arbiters.{PlainArbiter, StandsFor, Tells, IsGivenUp, Recounts, code_in, options_in, stand_in, opened}
-use Rattle.bp_arbiter.proofs.Calls.{calls_opening}
 
 -- ---- what it tells
 
@@ -103,7 +102,6 @@ stands_opened program o =
       bad = refl;
       drawn = refl;
       floor = refl;
-      calls = calls_opening;
     }
 
 -- ---- lines are taken, and memory is wanting

@@ -1,4 +1,3 @@
-pub mod Calls
 pub mod Arbiters
 pub mod Sound
 pub mod Recording

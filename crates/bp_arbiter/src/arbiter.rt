@@ -14,9 +14,9 @@ ghost use Rattle.bp_run.specs.Story as story;
 ghost use Rattle.bp_thread.specs.declared.job.Job.{Job as Lent};
 ghost use Rattle.bp_thread.specs.Carried.{HaveDistinctNumbers};
 ghost use Rattle.bp_floor.specs.declared.phase.Phase.TheVariants as phase;
-ghost use Rattle.bp_floor.specs.Floors.{is_idle, phase_of};
+ghost use Rattle.bp_floor.specs.Floors.{HadMemory, is_idle, phase_of};
 ghost use Rattle.bp_arbiter.specs.declared.picked.Picked.TheVariants as picked;
-ghost use Rattle.bp_arbiter.specs.Arbiters.{opened, code_in, options_in, stand_in, Recounts, coming, StandsFor, StandsSomewhere, Tells, is_lent, HadMemory, IsGivenUp, Keeps, Shows};
+ghost use Rattle.bp_arbiter.specs.Arbiters.{opened, code_in, options_in, stand_in, Recounts, coming, StandsFor, StandsSomewhere, Tells, is_lent, IsGivenUp, Keeps, Shows};
 ghost use Rattle.bp_arbiter.specs.Absorbing.{is_failed, fits, ComesBack, with_item, absorbed};
 ghost use Rattle.bp_arbiter.specs.Picking.{picked_of, after_pick, phase_after};
 ghost use Rattle.bp_arbiter.specs.Lending.{AreOut, AreBack, AreReturned};
@@ -38,10 +38,10 @@ use std::marker::Model;
 
 /// The arbiter of a run.
 ///
-/// It stands for the story of its records: at `Rest` and `Over` its floor is where the story leads, and
-/// at `Ready` and `Lent` turns are left on the way there. After want of memory from `pick`, `lend` or
-/// `seal` each later one of them answers it too; the records are a story still, and the lines taken and to
-/// be taken are the first of its lines.
+/// It stands for the story of its records: at `Rest` and `Over` its floor is where the story leads,
+/// and at `Ready` and `Lent` turns are left on the way there. After want of memory from `pick`,
+/// `lend` or `seal` each later one of them answers it too; the records are a story still, and the
+/// lines taken and to be taken are the first of its lines.
 pub struct Arbiter {
     run: Run,
     /// After want of memory, that before the call.
@@ -83,8 +83,8 @@ impl Model for Arbiter {
 }
 
 impl Arbiter {
-    /// The arbiter of a program before anything has run: its top level is to be run. Its only error is want
-    /// of memory.
+    /// The arbiter of a program before anything has run: its top level is to be run. Its only error
+    /// is want of memory.
     pub fn open(alloc: Global, program: Program, options: Options) -> Result<Arbiter, Memory>
         ensures opened { IfOk result (λ a. a ≡ opened program options) }
         ensures stands { IfOk result (λ a. StandsFor a [] [] opening) }
@@ -126,8 +126,8 @@ impl Arbiter {
         self.phase
     }
 
-    /// The floor: at `Rest` and `Over` its queue, transitions and live b-threads are those of the story, until
-    /// memory is wanting. Takes no memory.
+    /// The floor: at `Rest` and `Over` its queue, transitions and live b-threads are those of the
+    /// story, until memory is wanting. Takes no memory.
     pub fn floor(&self) -> &Floor
         ensures floor { result.now ≡ self.now.floor }
         ensures shows { self.now.broken ≡ false → is_idle self.now.phase ≡ true →
@@ -137,8 +137,8 @@ impl Arbiter {
         &self.run.floor
     }
 
-    /// The program, with its constants once the top level has run: the ground of the jobs that are lent.
-    /// Takes no memory.
+    /// The program, with its constants once the top level has run: the ground of the jobs that are
+    /// lent. Takes no memory.
     pub fn ground(&self) -> &Ground
         ensures { plain_ground result.now ≡ self.now.floor.base }
     {
@@ -214,13 +214,13 @@ impl Arbiter {
         }
     }
 
-    /// The item of an injector enters: an event waits at the end of the queue, and at a bad line or at its
-    /// end the injector has ended.
+    /// The item of an injector enters: an event waits at the end of the queue, and at a bad line or
+    /// at its end the injector has ended.
     ///
     /// # Errors
     ///
-    /// `Full` exactly where the item is an event and as many wait as may, and `Memory`, also after want of
-    /// memory of another call. Both hand the item back, and nothing has changed.
+    /// `Full` exactly where the item is an event and as many wait as may, and `Memory`, also after
+    /// want of memory of another call. Both hand the item back, and nothing has changed.
     pub fn absorb(&mut self, injector: u32, item: Item) -> Result<(), Absorb>
         requires rest { self.old.phase ≡ phase.Rest }
         requires read { list_any (nat_eq injector) self.old.reading ≡ true }
@@ -243,8 +243,9 @@ impl Arbiter {
         self.run.absorb(injector, item)
     }
 
-    /// What comes next by the definitions of a run: an event is selected, or the run waits for an injector,
-    /// or there is a verdict. Its only error is want of memory, after which each later call answers it.
+    /// What comes next by the definitions of a run: an event is selected, or the run waits for an
+    /// injector, or there is a verdict. Its only error is want of memory, after which each later
+    /// call answers it.
     pub fn pick(&mut self, alloc: Global) -> Result<Picked, Memory>
         requires rest { self.old.phase ≡ phase.Rest }
         ensures picked { IfOk result (λ k. (c : Configuration Origin) → Recounts self.old c →
@@ -260,7 +261,7 @@ impl Arbiter {
             (stand_in self.new).transitions ≡ (stand_in self.old).transitions + 1) }
         ensures ground { self.new.floor.base ≡ self.old.floor.base }
         ensures options { options_in self.new ≡ options_in self.old }
-        ensures memory { MatchResult result (λ _. HadMemory self.old self.new)
+        ensures memory { MatchResult result (λ _. HadMemory self.old.broken self.new.broken)
             (λ _. IsGivenUp (λ lent. lent ≡ []) self.old self.new) }
     {
         if self.broken {
@@ -274,8 +275,8 @@ impl Arbiter {
         Ok(picked)
     }
 
-    /// The jobs of what is to be run, in order: at `Ready`, and then it is `Lent`. Its only error is want of
-    /// memory, after which each later call answers it.
+    /// The jobs of what is to be run, in order: at `Ready`, and then it is `Lent`. Its only error
+    /// is want of memory, after which each later call answers it.
     pub fn lend(&mut self, alloc: Global) -> Result<Vec<Job>, Memory>
         requires ready { self.old.phase ≡ phase.Ready }
         ensures lent { IfOk result (λ jobs. AreOut self.new jobs.items) }
@@ -288,7 +289,7 @@ impl Arbiter {
         ensures records { self.new.records ≡ self.old.records }
         ensures ground { self.new.floor.base ≡ self.old.floor.base }
         ensures options { options_in self.new ≡ options_in self.old }
-        ensures memory { MatchResult result (λ _. HadMemory self.old self.new)
+        ensures memory { MatchResult result (λ _. HadMemory self.old.broken self.new.broken)
             (λ _. IsGivenUp (λ lent. lent ≡ []) self.old self.new) }
     {
         if self.broken {
@@ -302,10 +303,10 @@ impl Arbiter {
         Ok(jobs)
     }
 
-    /// Merges what the lent jobs did, one turn: they are the lent ones in the same order, each carried to its
-    /// outcome with its effects whole. `Ready` where those that they registered are to be run, `Over` where
-    /// one of them ends the run, and else `Rest`. Its only error is want of memory, after which each later
-    /// call answers it; the jobs are let go.
+    /// Merges what the lent jobs did, one turn: they are the lent ones in the same order, each
+    /// carried to its outcome with its effects whole. `Ready` where those that they registered are
+    /// to be run, `Over` where one of them ends the run, and else `Rest`. Its only error is want of
+    /// memory, after which each later call answers it; the jobs are let go.
     pub fn seal(&mut self, alloc: Global, jobs: Vec<Job>) -> Result<Phase, Memory>
         requires lent { self.old.phase ≡ phase.Lent }
         requires back { self.old.broken ≡ false → AreBack self.old jobs.items }
@@ -323,7 +324,7 @@ impl Arbiter {
             length (stand_in self.old).threads < length (stand_in self.new).threads) }
         ensures program { self.new.floor.base.program ≡ self.old.floor.base.program }
         ensures options { options_in self.new ≡ options_in self.old }
-        ensures memory { MatchResult result (λ _. HadMemory self.old self.new)
+        ensures memory { MatchResult result (λ _. HadMemory self.old.broken self.new.broken)
             (λ _. IsGivenUp (AreReturned self.old jobs.items) self.old self.new) }
     {
         if self.broken {

@@ -50,7 +50,8 @@ impl Drop for Run {
 }
 
 impl Run {
-    /// The run ends in the verdict, which gets its line and its record. Its only error is want of memory.
+    /// The run ends in the verdict, which gets its line and its record. Its only error is want of
+    /// memory.
     fn end(&mut self, verdict: Verdict) -> Result<Picked, Memory>
         requires idle { is_idle self.old.floor.phase ≡ true }
         requires place { self.old.records.has_place ≡ true }
@@ -83,7 +84,8 @@ impl Run {
         None
     }
 
-    /// Nothing is selectable: the run ends, or waits for an injector. Its only error is want of memory.
+    /// Nothing is selectable: the run ends, or waits for an injector. Its only error is want of
+    /// memory.
     fn idle(&mut self) -> Result<Picked, Memory>
         requires rest { self.old.floor.phase ≡ phase.Rest }
         requires place { self.old.records.has_place ≡ true }
@@ -100,8 +102,8 @@ impl Run {
         }
     }
 
-    /// Selects an event that was chosen, unless it would pass a limit or its reach is at fault. Its only error
-    /// is want of memory.
+    /// Selects an event that was chosen, unless it would pass a limit or its reach is at fault. Its
+    /// only error is want of memory.
     fn select(&mut self, alloc: Global, event: Event, place: Option<u32>) -> Result<Picked, Memory>
         requires rest { self.old.floor.phase ≡ phase.Rest }
         requires can { CanGo self.old.floor event place }
@@ -149,7 +151,8 @@ impl Run {
         self.select(alloc, event, Some(place))
     }
 
-    /// What comes next: an event is selected, or the run waits or ends. Its only error is want of memory.
+    /// What comes next: an event is selected, or the run waits or ends. Its only error is want of
+    /// memory.
     pub fn pick(&mut self, alloc: Global) -> Result<Picked, Memory>
         requires rest { self.old.floor.phase ≡ phase.Rest }
         requires whole { self.old.floor.broken ≡ false }
@@ -226,7 +229,8 @@ impl Run {
         }
     }
 
-    /// Merges what the lent jobs did; a verdict gets its line and its record. Its only error is want of memory.
+    /// Merges what the lent jobs did; a verdict gets its line and its record. Its only error is
+    /// want of memory.
     pub fn seal(&mut self, alloc: Global, jobs: Vec<Job>) -> Result<Phase, Memory>
         requires lent { self.old.floor.phase ≡ phase.Lent }
         requires whole { self.old.floor.broken ≡ false }

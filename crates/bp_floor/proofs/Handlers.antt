@@ -16,8 +16,11 @@ use Rattle.bp_meaning.specs.After.{handler}
 use Rattle.bp_thread.specs.declared.job.Job.{Job}
 use Rattle.bp_thread.specs.Jobs.{plain_job, is_stopped}
 use Rattle.bp_floor.specs.declared.entry.Handler.{Handler}
+use Rattle.bp_floor.specs.declared.entry.Entry.{Entry as declared}
+use Rattle.bp_floor.specs.declared.entry.Entry.TheVariants as entry
 use Rattle.bp_floor.specs.Programs.{code_of}
-use Rattle.bp_floor.specs.Entries.{handler_seen}
+use Rattle.bp_floor.specs.Calls.{HandlersCall}
+use Rattle.bp_floor.specs.Entries.{handler_seen, entry_seen}
 use Rattle.bp_floor.specs.Seating.{PlainSeat, seated, origin_in, replies_in, IsOwn, IsOwnIn, AreOwn}
 use Rattle.bp_floor.specs.Seated.{job_at}
 use Rattle.bp_floor.specs.Kept.{Running}
@@ -106,3 +109,11 @@ pub entering_end : (e : PlainEvent) (all left : List Touched) (ss : List PlainSe
 entering_end e all left ss wave h k r s own t =
     let g : Touched → Entry Origin = entry_of (code_of r.program r.options) s e in
     sym (append-nil wave) ∙ ap (λ (xs : List Touched). wave ++ map g xs) (sym k) ∙ h.entered r s own t
+
+-- each handler that is to be run is a call
+pub handlers_call : (ns : List declared) → HandlersCall (map entry_seen ns)
+handlers_call [] = tt
+handlers_call (entry.Top ∷ ns) = (tt, handlers_call ns)
+handlers_call (entry.Runs i ∷ ns) = (tt, handlers_call ns)
+handlers_call (entry.Stops i None ∷ ns) = (tt, handlers_call ns)
+handlers_call (entry.Stops i (Some h) ∷ ns) = (refl, handlers_call ns)

@@ -19,6 +19,7 @@ use Rattle.bp_floor.specs.declared.phase.Phase.TheVariants.{Ready, Rest}
 use Rattle.bp_floor.specs.Programs.{code_of}
 use Rattle.bp_floor.specs.Seating.{PlainSeat, seated, stated_from, AreOwn}
 use Rattle.bp_floor.specs.Boards.{stand_of, pair_of}
+use Rattle.bp_floor.specs.Calls.{HandlersCall}
 use Rattle.bp_floor.specs.Kept.{Running, AreBelow, Rises, runs_in}
 use Rattle.bp_floor.specs.Returning.{RunsAlone, ground_at}
 use Rattle.bp_floor.specs.Floors.{PlainFloor, IsSound, IsPhased, phase_at}
@@ -98,8 +99,8 @@ sound_opened r base b p g s n q t w v a f =
     }
 
 -- what the pair of a floor keeps
-pub phased : (f : PlainFloor) (b : Board) → f.pair ≡ pair_of b → IsSound (record { program = f.base.program; options = f.options }) f.base b f.phase → IsPhased f
-phased f b e s =
+pub phased : (f : PlainFloor) (b : Board) → f.pair ≡ pair_of b → IsSound (record { program = f.base.program; options = f.options }) f.base b f.phase → HandlersCall b.wave → IsPhased f
+phased f b e s h =
     let few = s.few in
     let len = map_length seated b.seats in
     let small : length (map seated b.seats) ≤ MOST_THREADS = omega (arith, few, len) in
@@ -109,6 +110,7 @@ phased f b e s =
       grounded = s.ground_is;
       alone = s.alone;
       going = seats_going b.seats b.wave s.waiting;
+      handlers = h;
       few = small;
       room = s.room;
       light = s.light;

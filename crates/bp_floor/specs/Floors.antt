@@ -29,12 +29,14 @@ use Rattle.bp_floor.specs.declared.went.Went.TheVariants.{Moved, Stopped}
 use Rattle.bp_floor.specs.Programs.{code_of}
 use Rattle.bp_floor.specs.Seating.{is_waiting, is_ready, where_from, stated_from, AreOwn}
 use Rattle.bp_floor.specs.Boards.{pair_of}
+use Rattle.bp_floor.specs.Calls.{HandlersCall}
 use Rattle.bp_floor.specs.Forgetting.{forget, forgotten, AreGoing}
 use Rattle.bp_floor.specs.Kept.{Running, AreBelow, Rises, runs_in}
 use Rattle.bp_floor.specs.Lending.{AreDone, filled_pair, standing}
 use Rattle.bp_floor.specs.Returning.{RunsAlone, ground_at}
 
--- A floor: its ground, its options, and where its b-threads stand, with the lines that were not taken yet. Those that have ended, and those whose jobs are lent, show no body.
+-- A floor: its ground, its options, and where its b-threads stand, with the lines that were not
+-- taken yet. Those that have ended, and those whose jobs are lent, show no body.
 pub record PlainFloor : Type 0 where
   pub base : Ground
   pub options : PlainOptions
@@ -54,11 +56,13 @@ has_on f = (code_on f).has
 abbrev pub live_on : PlainFloor → List (Live PlainSet)
 live_on f = live (code_on f) f.pair.stand
 
--- A floor from which these lines were taken stands for a pair: with the bodies of those that have ended forgotten, the pair is the floor's own behind the lines.
+-- A floor from which these lines were taken stands for a pair: with the bodies of those that have
+-- ended forgotten, the pair is the floor's own behind the lines.
 abbrev pub StandsFor : PlainFloor → List Line → Pair Origin → Type 0
 StandsFor f taken p = forgotten the_top p ≡ before taken f.pair
 
--- At `Lent` it does so together with the lent jobs, which hold the bodies and the replies of their b-threads.
+-- At `Lent` it does so together with the lent jobs, which hold the bodies and the replies of their
+-- b-threads.
 abbrev pub StandsWith : PlainFloor → List Job → List Line → Pair Origin → Type 0
 StandsWith f jobs taken p = forgotten the_top p ≡ before taken (filled_pair jobs f.pair)
 
@@ -119,6 +123,7 @@ pub record IsPhased (f : PlainFloor) : Type 0 where
   pub grounded : f.base ≡ ground_at f.base.program f.options.budget f.pair.entries
   pub alone : RunsAlone f.pair.entries
   pub going : AreGoing f.pair.stand.threads f.pair.entries
+  pub handlers : HandlersCall f.pair.entries
   pub few : length f.pair.stand.threads ≤ MOST_THREADS
   pub room : length f.pair.stand.queue ≤ MOST_WAITING
   pub light : f.pair.stand.weight ≤ MOST_WEIGHT
@@ -130,9 +135,9 @@ pub record IsSealed (f : PlainFloor) (jobs : List Job) (g : PlainFloor) : Type 0
   pub phase_is : g.phase ≡ phase_of g.pair
 
 -- memory was not wanting before, and is not now
-pub record HadMemory (old new : PlainFloor) : Type 0 where
-  pub before : old.broken ≡ false
-  pub after : new.broken ≡ false
+pub record HadMemory (was is : Bool) : Type 0 where
+  pub before : was ≡ false
+  pub after : is ≡ false
 
 -- what stays after want of memory
 pub record IsGivenUp (old new : PlainFloor) : Type 0 where
@@ -141,7 +146,8 @@ pub record IsGivenUp (old new : PlainFloor) : Type 0 where
   pub lines : new.pair.stand.lines ≡ old.pair.stand.lines
   pub verdict : new.pair.stand.verdict ≡ old.pair.stand.verdict
 
--- the event is among the selectable candidates, or stands at this first selectable place of the queue
+-- the event is among the selectable candidates, or stands at this first selectable place of the
+-- queue
 abbrev pub IsAmong : Enabled → List PlainEvent → PlainEvent → Option ℕ → Type 0
 IsAmong x queue e None = list_any (same_event e) x.inner ≡ true
 IsAmong x queue e (Some i) = (x.outer ≡ Some i) × (slice_get queue i ≡ Some e)
@@ -152,12 +158,14 @@ pub record CanGo (f : PlainFloor) (e : PlainEvent) (place : Option ℕ) : Type 0
   pub is_enabled : selectable (has_on f) (live_on f) f.pair.stand.queue ≡ Ok enabled
   pub among : IsAmong enabled f.pair.stand.queue e place
 
--- the verdict with which an event stops the run, where its reach is at fault or the run would weigh too much
+-- the verdict with which an event stops the run, where its reach is at fault or the run would weigh
+-- too much
 abbrev pub stop_at_reach : Stand Origin → PlainEvent → Asked (List Touched) → Option Verdict
 stop_at_reach s e (Err x) = Some (fault_verdict s x)
 stop_at_reach s e (Ok xs) = if nat_lt MOST_WEIGHT (weight_after s e xs) then Some verdict.Weight else None
 
--- the verdict of a fault of a set, in the name of the b-thread of this number; want of memory is no fault of a set
+-- the verdict of a fault of a set, in the name of the b-thread of this number; want of memory is no
+-- fault of a set
 abbrev pub told_verdict : Stand Origin → ℕ → set.SetFault → Option Verdict
 told_verdict s n (set_fault.Broken f line) = Some (fault_verdict s (n, SetFault.Broken f line))
 told_verdict s n set_fault.Spent = Some (fault_verdict s (n, SetFault.Spent))
@@ -180,7 +188,8 @@ abbrev pub GoesAs : PlainFloor → PlainEvent → Option ℕ → Went → PlainF
 GoesAs f e place Moved g = IsMoved f e place g
 GoesAs f e place (Stopped v) g = (stop_of f e ≡ Some v) × (g ≡ f)
 
--- What a pair shows on a floor that stands for it: all but the bodies and the replies of those that have ended, and the lines that were taken.
+-- What a pair shows on a floor that stands for it: all but the bodies and the replies of those that
+-- have ended, and the lines that were taken.
 pub record ShowsOf (f : PlainFloor) (p : Pair Origin) : Type 0 where
   pub stops : (e : PlainEvent) → stop_of f e ≡ stop_at_reach p.stand e (reach (has_on f) e (live (code_on f) p.stand))
   pub live : live_on f ≡ live (code_on f) p.stand
@@ -193,7 +202,8 @@ pub record ShowsOf (f : PlainFloor) (p : Pair Origin) : Type 0 where
   pub verdict : f.pair.stand.verdict ≡ p.stand.verdict
   pub entries : f.pair.entries ≡ p.entries
 
--- A floor that stood for this pair goes on: it stands for the transition, or the event stops the run and it stands for what it stood for.
+-- A floor that stood for this pair goes on: it stands for the transition, or the event stops the
+-- run and it stands for what it stood for.
 abbrev pub GoesFrom : Code Origin PlainSet → List Line → Pair Origin → PlainEvent → Option ℕ → Went → PlainFloor → Type 0
 GoesFrom l taken p e place Moved g =
     (reached : List Touched) × (reach l.has e (live l p.stand) ≡ Ok reached) × StandsFor g taken (stepped l p.stand e place reached)

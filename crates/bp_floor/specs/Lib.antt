@@ -1,6 +1,7 @@
 pub mod Programs
 pub mod Seating
 pub mod Entries
+pub mod Calls
 pub mod Parts
 pub mod Seated
 pub mod Forgetting

@@ -1,6 +1,7 @@
 //! What is to be run.
 ghost use Rattle.std.specs.Prelude.{◌≡◌, ◌∷◌, ◌++◌, [], OnOk, length, ◌==◌, map, is_some};
 ghost use Rattle.bp_run.specs.Settling.{body_of};
+ghost use Rattle.bp_floor.specs.Calls.{HandlersCall};
 ghost use Rattle.bp_floor.specs.Entries.{entry_seen};
 
 use bp_log::Memory;
@@ -95,6 +96,13 @@ impl Wave {
         ensures { result ≡ (length self.now == 0) }
     {
         self.items.is_empty()
+    }
+
+    /// What is kept of the handlers that are to be run, as a fact for its callers. Does nothing.
+    pub fn keeps(&self)
+        ensures { HandlersCall self.now }
+    {
+        let _items = &self.items;
     }
 
     /// The entries, in order. Takes no memory.

@@ -125,6 +125,7 @@ impl Floor {
     {
         // Reads a field for the proof alone: so what the type keeps is known.
         let _ground = &self.ground;
+        self.board.wave.keeps();
     }
 
     /// What each pair shows that a floor stands for, as a fact for its callers. Does nothing.
@@ -188,7 +189,7 @@ impl Floor {
         ensures phase { OnOk result (self.new.phase ≡ phase.Lent) }
         ensures ground { self.new.base ≡ self.old.base }
         ensures options { self.new.options ≡ self.old.options }
-        ensures memory { MatchResult result (λ _. HadMemory self.old self.new) (λ _.
+        ensures memory { MatchResult result (λ _. HadMemory self.old.broken self.new.broken) (λ _.
             IsGivenUp self.old self.new) }
     {
         if self.broken {
@@ -216,7 +217,7 @@ impl Floor {
             StandsFor self.new taken (turn (code_on self.old) p)) }
         ensures program { self.new.base.program ≡ self.old.base.program }
         ensures options { self.new.options ≡ self.old.options }
-        ensures memory { MatchResult result (λ _. HadMemory self.old self.new) (λ _.
+        ensures memory { MatchResult result (λ _. HadMemory self.old.broken self.new.broken) (λ _.
             IsGivenUp self.old self.new) }
     {
         if self.broken {
@@ -241,7 +242,7 @@ impl Floor {
             GoesFrom (code_on self.old) taken p event.now place w self.new) }
         ensures ground { self.new.base ≡ self.old.base }
         ensures options { self.new.options ≡ self.old.options }
-        ensures memory { MatchResult result (λ _. HadMemory self.old self.new) (λ _.
+        ensures memory { MatchResult result (λ _. HadMemory self.old.broken self.new.broken) (λ _.
             IsGivenUp self.old self.new) }
     {
         if self.broken {
@@ -437,7 +438,7 @@ impl Floor {
           pair = record self.old.pair { stand = over self.old.pair.stand verdict };
           phase = phase.Over;
         }) }
-        ensures memory { MatchResult result (λ _. HadMemory self.old self.new) (λ _.
+        ensures memory { MatchResult result (λ _. HadMemory self.old.broken self.new.broken) (λ _.
             IsGivenUp self.old self.new) }
     {
         if self.broken {

@@ -5,4 +5,4 @@ use Rattle.bp_floor.proofs.floor.Floor.keeps.Goals as goal
 
 pub returns : goal.returns
 returns c = λ ok.
-    subst (λ (f : PlainFloor). IsPhased f) c.self.view_is (phased _ c.self.inside.board refl (c.self.invariant (ap (λ (f : PlainFloor). f.broken) c.self.view_is ∙ ok)))
+    subst (λ (f : PlainFloor). IsPhased f) c.self.view_is (phased _ c.self.inside.board refl (c.self.invariant (ap (λ (f : PlainFloor). f.broken) c.self.view_is ∙ ok)) c.keeps.ensures)

@@ -1,18 +1,12 @@
 -- Bodies that are calls: of all bodies, the top level alone is none.
 use Rattle.std.specs.Prelude.{◌≡◌, Bool, true, false, List, [], ◌∷◌, Option, Some, None}
 use Rattle.js_meaning.specs.Bodies.{Origin, the_top, function}
-use Rattle.bp_run.specs.Configuration.{Thread}
-use Rattle.bp_run.specs.Settling.{Body, Entry, Pair}
+use Rattle.bp_run.specs.Settling.{Body, Entry}
 use Rattle.bp_run.specs.Settling.Entry.{The_top, Runs, Stops}
 
 abbrev pub is_call : Origin → Bool
 is_call the_top = false
 is_call (function mode f args) = true
-
--- each b-thread runs a call
-abbrev pub AllCall : List (Thread Origin) → Type 0
-AllCall [] = Unit {0}
-AllCall (t ∷ ts) = (is_call t.origin ≡ true) × AllCall ts
 
 abbrev pub HandlerCalls : Option (Body Origin) → Type 0
 HandlerCalls None = Unit {0}
@@ -27,8 +21,3 @@ EntryCalls (Stops i b) = HandlerCalls b
 abbrev pub HandlersCall : List (Entry Origin) → Type 0
 HandlersCall [] = Unit {0}
 HandlersCall (n ∷ ns) = EntryCalls n × HandlersCall ns
-
--- b-threads and handlers run calls
-pub record RunCalls (p : Pair Origin) : Type 0 where
-  pub threads : AllCall p.stand.threads
-  pub handlers : HandlersCall p.entries
