@@ -2,10 +2,11 @@
 ghost use Rattle.std.specs.Prelude.{◌≡◌, ◌<◌, ◌≤◌, ◌++◌, [], Some, IfOk, OnOk, OnErr, IsErrOf, IsSomeAnd};
 ghost use Rattle.bp_base.specs.Counts.{Rose};
 ghost use Rattle.bp_base.specs.Pieces.{Appends, AppendsFront};
-ghost use Rattle.bp_code.specs.Code.{records_alone, text_alone};
-ghost use Rattle.bp_log.specs.Logs.{records_text, log_text};
+ghost use Rattle.bp_code.specs.Code.{code_of, records_alone, text_alone};
+ghost use Rattle.bp_log.specs.Logs.{header_text, records_text, log_text};
 ghost use Rattle.bp_serve.specs.Ends.{verdict_alone};
 ghost use Rattle.bp_serve.specs.Logging.{LogGets, LogGetsFront, LogShows, LogShowsFront, LogFails, LogStays};
+ghost use Rattle.bp_serve.specs.Order.{PrintsBehind};
 ghost use Rattle.bp_serve.specs.Pages.{Shows, ShowsFront};
 
 use crate::serving::serve;
@@ -43,6 +44,8 @@ fn run_onto<R: Threads + Wait + Sync, K: Sink, L: Sink>(
         OnOk result (LogShows L.written log.old text telling.new.records log.new) }
     ensures log_front { let text = telling.old.records ++ records_text (records_alone program options) in
         OnErr result (LogShowsFront L.written log.old text telling.new.records log.new) }
+    ensures behind { PrintsBehind L.written (code_of program options) options telling.old.records
+        (K.written out.old) (K.written out.new) log.old log.new }
     ensures cause { IsErrOf result RunFault.Write → Rose (K.faults out.old) (K.faults out.new) }
     ensures log_cause { IsErrOf result RunFault.LogWrite → LogFails L.faults log.old log.new }
     ensures counts { K.faults out.old ≤ K.faults out.new }
@@ -78,6 +81,12 @@ pub fn run<R: Threads + Wait + Sync, K: Sink, L: Sink>(
         OnOk result (LogGets L.written log.old text log.new) }
     ensures log_front { let text = log_text header.now (records_alone program header.now.options) in
         OnErr result (LogGetsFront L.written log.old text log.new) }
+
+    // Whenever the log fails, what was printed is of the text of records that were written to it before.
+    ensures behind { let options = header.now.options in IsErrOf result RunFault.LogWrite
+        → PrintsBehind L.written (code_of program options) options (header_text header.now)
+        (K.written out.old) (K.written out.new) log.old log.new }
+
     ensures cause { IsErrOf result RunFault.Write → Rose (K.faults out.old) (K.faults out.new) }
     ensures log_cause { IsErrOf result RunFault.LogWrite → LogFails L.faults log.old log.new }
     ensures counts { K.faults out.old ≤ K.faults out.new }

@@ -1,10 +1,10 @@
 //! What a run tells: its lines, and its records where a log is kept.
-ghost use Rattle.std.specs.Prelude.{◌≡◌, ◌≤◌, ◌++◌, [], Err, length, drop, OnOk, OnErr, IfOk, IfErr, IsErrOf};
+ghost use Rattle.std.specs.Prelude.{◌≡◌, ◌⊎◌, ◌≤◌, ◌++◌, [], Err, length, drop, OnOk, OnErr, IfOk, IfErr, IsErrOf};
 ghost use Rattle.bp_base.specs.Counts.{Rose};
 ghost use Rattle.bp_base.specs.Pieces.{Appends};
 ghost use Rattle.bp_log.specs.Logs.{header_text, records_text};
 ghost use Rattle.bp_log.specs.Texts.{whole_line, lines_text};
-ghost use Rattle.bp_serve.specs.Logging.{LogGets, LogShows, LogShowsFront, LogFails, LogStays};
+ghost use Rattle.bp_serve.specs.Logging.{LogGets, LogHolds, LogShows, LogShowsFront, LogFails, LogStays};
 ghost use Rattle.bp_serve.specs.Pages.{Shows, ShowsFront};
 
 use crate::RunFault;
@@ -114,7 +114,10 @@ impl Telling {
             (LogShowsFront L.written log.old self.old.records self.new.records log.new) }
         ensures gets { OnOk result (Appends (K.written out.old) self.old.lines (K.written out.new)) }
         ensures log_gets { OnOk result (LogGets L.written log.old self.old.records log.new) }
+        ensures behind { (K.written out.new ≡ K.written out.old)
+            ⊎ LogGets L.written log.old self.old.records log.new }
         ensures kept { self.new.kept ≡ self.old.kept }
+        ensures unprinted { IsErrOf result RunFault.LogWrite → K.written out.new ≡ K.written out.old }
         ensures memory { ¬ IsErrOf result RunFault.Memory }
         ensures cause { IsErrOf result RunFault.Write → Rose (K.faults out.old) (K.faults out.new) }
         ensures log_cause { IsErrOf result RunFault.LogWrite → LogFails L.faults log.old log.new }
@@ -143,6 +146,8 @@ impl Telling {
             (LogShows L.written log.old self.old.records self.new.records log.new) }
         ensures log_front { OnErr result
             (LogShowsFront L.written log.old self.old.records self.new.records log.new) }
+        ensures behind { (K.written out.new ≡ K.written out.old)
+            ⊎ LogGets L.written log.old self.old.records log.new }
         ensures kept { self.new.kept ≡ self.old.kept }
         ensures cause { IsErrOf result RunFault.Write → Rose (K.faults out.old) (K.faults out.new) }
         ensures log_cause { IsErrOf result RunFault.LogWrite → LogFails L.faults log.old log.new }
@@ -173,6 +178,8 @@ impl Telling {
             (LogShows L.written log.old self.old.records self.new.records log.new) }
         ensures log_front { OnErr result
             (LogShowsFront L.written log.old self.old.records self.new.records log.new) }
+        ensures behind { (K.written out.new ≡ K.written out.old)
+            ⊎ LogHolds L.written log.old self.old.records log.new }
         ensures kept { self.new.kept ≡ self.old.kept }
         ensures cause { IsErrOf result RunFault.Write → Rose (K.faults out.old) (K.faults out.new) }
         ensures log_cause { IsErrOf result RunFault.LogWrite → LogFails L.faults log.old log.new }

@@ -5,6 +5,7 @@ use Rattle.bp_log.specs.declared.record.Record.{Record}
 use Rattle.bp_serve.specs.Logging.{LogShows}
 use Rattle.bp_serve.proofs.Pieces.{shows_stop_at}
 use Rattle.bp_serve.proofs.Logging.{log_then, log_front_then}
+use Rattle.bp_serve.proofs.Order.{behind_shown}
 use Rattle.bp_serve.proofs.Way.{takes_lines}
 use Rattle.bp_serve.proofs.serving.tell.Goals as goal
 
@@ -36,3 +37,9 @@ returns-clause-log_front g c =
     log_front_then g.L.Sink.written c.print.result _ c.record.new.log _ _ c.record.new.self.records _
     (subst (λ (rs : List Record). LogShows g.L.Sink.written c.args.log.now (c.args.telling.now.records ++ records_text (drop c.args.telling.now.kept rs)) c.record.new.self.records c.record.new.log)
     (c.records.ensures ∙ c.take_lines-lines.ensures.records) c.in_ok-record.ensures.shows) c.print.ensures.log_front
+
+pub returns-clause-behind : goal.returns-clause-behind
+returns-clause-behind g c =
+    behind_shown g.L.Sink.written _ c.record.new.log _ _ c.record.new.self.records _ _
+    (subst (λ (rs : List Record). LogShows g.L.Sink.written c.args.log.now (c.args.telling.now.records ++ records_text (drop c.args.telling.now.kept rs)) c.record.new.self.records c.record.new.log)
+    (c.records.ensures ∙ c.take_lines-lines.ensures.records) c.in_ok-record.ensures.shows) c.print.ensures.behind

@@ -1,0 +1,24 @@
+-- No line is printed before its record is written.
+use Rattle.std.specs.Prelude.{◌≡◌, ◌⊎◌, ℕ, List, ◌++◌, Option, IsSomeAnd}
+use Rattle.js_value.specs.Value.{PlainSet}
+use Rattle.js_meaning.specs.Bodies.{Origin}
+use Rattle.bp_base.specs.Pieces.{AppendsFront}
+use Rattle.bp_log.specs.Logs.{records_text}
+use Rattle.bp_log.specs.Options.{PlainOptions}
+use Rattle.bp_log.specs.declared.record.Record.{Record}
+use Rattle.bp_run.specs.Bodies.{Code}
+use Rattle.bp_run.specs.Story.{alone}
+use Rattle.bp_run.specs.Text.{text}
+use Rattle.bp_serve.specs.Logging.{LogHolds}
+
+-- what was printed is of the text of the first records of the run, and these were written to the log, behind its head
+pub record IsBehind (L : Type 0) (written : L → Option (List ℕ)) (l : Code Origin PlainSet) (o : PlainOptions) (head : List ℕ) (before after : Option (List ℕ)) (old new : Option L) : Type 0 where
+  pub records : List Record
+  pub later : List Record
+  pub is_run : records ++ later ≡ alone l o
+  pub logged : LogHolds written old (head ++ records_text records) new
+  pub printed : IsSomeAnd (text l o records) (λ t. AppendsFront before t after)
+
+-- nothing was printed, or what is behind the log
+abbrev pub PrintsBehind : {L : Type 0} → (L → Option (List ℕ)) → Code Origin PlainSet → PlainOptions → List ℕ → Option (List ℕ) → Option (List ℕ) → Option L → Option L → Type 0
+PrintsBehind written l o head before after old new = (after ≡ before) ⊎ IsBehind _ written l o head before after old new
