@@ -4,7 +4,7 @@ use Rattle.std.specs.Prelude.{Result, OnOk, OnErr}
 use Rattle.bp_base.specs.Counts.{Rose}
 use Rattle.bp_base.specs.Pieces.{Appends, AppendsFront}
 use Rattle.bp_base.proofs.Appending.{appends-on}
-use Rattle.bp_serve.specs.Logging.{OfLog, LogGets, LogGetsFront, LogHolds, LogShows, LogShowsFront, LogFails, LogStays}
+use Rattle.bp_serve.specs.Logging.{OfLog, LogGets, LogGetsFront, LogHolds, LogWaits, LogShows, LogShowsFront, LogFails, LogStays}
 use Rattle.bp_serve.specs.Pages.{Shows, ShowsFront}
 use Rattle.bp_serve.proofs.Pieces.{appends_nothing, let_go, shows_page, shows_on, shows_stop, front_on, shows_put, shows_part, written_all, written_front, written_part, written_front_part}
 
@@ -81,6 +81,31 @@ module _ {L : Type 0} (written : L → Option (List ℕ)) where
   log_part a b text page more rest next whole w s h =
       of_log (λ l m. Shows (written l) text page (written m)) (λ l m. ShowsFront (written l) whole next (written m))
       (λ x y r. shows_part (written x) (written y) text page more rest next whole w r h) a b s
+
+  -- what is shown or waits
+  pub log_waits : (a b : Option L) (text page : List ℕ) → LogShows written a text page b → LogWaits written a text page b
+  log_waits a b text page s =
+      of_log (λ l m. Shows (written l) text page (written m)) (λ l m. (more : List ℕ) × Shows (written l) (text ++ more) page (written m))
+      (λ x y r. ([], subst (λ (t : List ℕ). Shows (written x) t page (written y)) (sym (append-nil text)) r)) a b s
+
+  pub log_waits_more : (a b : Option L) (text more page : List ℕ) → LogShows written a (text ++ more) page b → LogWaits written a text page b
+  log_waits_more a b text more page s =
+      of_log (λ l m. Shows (written l) (text ++ more) page (written m)) (λ l m. (rest : List ℕ) × Shows (written l) (text ++ rest) page (written m)) (λ x y r. (more, r)) a b s
+
+  pub log_waits_on : (a b c : Option L) (text page next : List ℕ) → LogShows written a text page b → LogWaits written b page next c → LogWaits written a text next c
+  log_waits_on a b c text page next s t =
+      of_log_on (λ l m. Shows (written l) text page (written m)) (λ l m. (more : List ℕ) × Shows (written l) (page ++ more) next (written m)) (λ l m. (more : List ℕ) × Shows (written l) (text ++ more) next (written m))
+      (λ x y z r q. (q.0, shows_on (written x) (written y) (written z) text page q.0 (page ++ q.0) next (text ++ q.0) refl refl r q.1)) a b c s t
+
+  -- a head stood on the page before
+  pub log_waits_headed : (a c : Option L) (head page more next : List ℕ) → LogShows written a head page a → LogWaits written a (page ++ more) next c → LogWaits written a (head ++ more) next c
+  log_waits_headed a c head page more next s t = log_waits_on a a c (head ++ more) (page ++ more) next (log_put a a head page more (page ++ more) (head ++ more) refl refl s) t
+
+  -- what waited was written at last
+  pub log_waits_written : (a b c : Option L) (text page : List ℕ) → LogWaits written a text page b → LogGets written b page c → LogHolds written a text c
+  log_waits_written a b c text page s h =
+      of_log_on (λ l m. (more : List ℕ) × Shows (written l) (text ++ more) page (written m)) (λ l m. Appends (written l) page (written m)) (λ l m. (more : List ℕ) × Appends (written l) (text ++ more) (written m))
+      (λ x y z r q. (r.0, written_all (written x) (written y) (written z) (text ++ r.0) page r.1 q)) a b c s h
 
   -- what the log got it holds
   log_holds : (a b : Option L) (text : List ℕ) → LogGets written a text b → LogHolds written a text b

@@ -130,7 +130,7 @@ sealed_way l o rs c (Some w) ns a h = ends_at l o rs c w a (h w refl)
 
 -- ---- the text
 
-text_at : (l : Code Origin PlainSet) (o : PlainOptions) (rs : List Record) (c : Configuration Origin) → story l o rs ≡ Some c → text l o rs ≡ Some (lines_text c.stand.lines)
+pub text_at : (l : Code Origin PlainSet) (o : PlainOptions) (rs : List Record) (c : Configuration Origin) → story l o rs ≡ Some c → text l o rs ≡ Some (lines_text c.stand.lines)
 unfolding text
 text_at l o rs c h = ap (λ (x : Option (Configuration Origin)). option_map (λ y. lines_text y.stand.lines) x) h
 

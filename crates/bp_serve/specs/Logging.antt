@@ -27,6 +27,10 @@ LogHolds written before text after = OfLog (λ l m. (more : List ℕ) × Appends
 abbrev pub LogShows : {L : Type 0} → (L → Option (List ℕ)) → Option L → List ℕ → List ℕ → Option L → Type 0
 LogShows written before text page after = OfLog (λ l m. Shows (written l) text page (written m)) before after
 
+-- the log got the text, or it waits on the page, and maybe more behind it
+abbrev pub LogWaits : {L : Type 0} → (L → Option (List ℕ)) → Option L → List ℕ → List ℕ → Option L → Type 0
+LogWaits written before text page after = OfLog (λ l m. (more : List ℕ) × Shows (written l) (text ++ more) page (written m)) before after
+
 -- the same of a front of the text
 abbrev pub LogShowsFront : {L : Type 0} → (L → Option (List ℕ)) → Option L → List ℕ → List ℕ → Option L → Type 0
 LogShowsFront written before text page after = OfLog (λ l m. ShowsFront (written l) text page (written m)) before after

@@ -9,7 +9,8 @@ use Rattle.bp_log.specs.declared.record.Record.{Record}
 use Rattle.bp_run.specs.Bodies.{Code}
 use Rattle.bp_run.specs.Story.{alone}
 use Rattle.bp_run.specs.Text.{text}
-use Rattle.bp_serve.specs.Logging.{LogHolds}
+use Rattle.bp_serve.specs.Logging.{LogHolds, LogWaits}
+use Rattle.bp_serve.specs.Pages.{ShowsFront}
 
 -- what was printed is of the text of the first records of the run, and these were written to the log, behind its head
 pub record IsBehind (L : Type 0) (written : L → Option (List ℕ)) (l : Code Origin PlainSet) (o : PlainOptions) (head : List ℕ) (before after : Option (List ℕ)) (old new : Option L) : Type 0 where
@@ -18,6 +19,14 @@ pub record IsBehind (L : Type 0) (written : L → Option (List ℕ)) (l : Code O
   pub is_run : records ++ later ≡ alone l o
   pub logged : LogHolds written old (head ++ records_text records) new
   pub printed : IsSomeAnd (text l o records) (λ t. AppendsFront before t after)
+
+-- the same of what was printed or waits, and of what was written to the log or waits
+pub record StaysBehind (L : Type 0) (written : L → Option (List ℕ)) (l : Code Origin PlainSet) (o : PlainOptions) (head : List ℕ) (before : Option (List ℕ)) (lines : List ℕ) (after : Option (List ℕ)) (old : Option L) (page : List ℕ) (new : Option L) : Type 0 where
+  pub records : List Record
+  pub later : List Record
+  pub is_run : records ++ later ≡ alone l o
+  pub logged : LogWaits written old (head ++ records_text records) page new
+  pub told : IsSomeAnd (text l o records) (λ t. ShowsFront before t lines after)
 
 -- nothing was printed, or what is behind the log
 abbrev pub PrintsBehind : {L : Type 0} → (L → Option (List ℕ)) → Code Origin PlainSet → PlainOptions → List ℕ → Option (List ℕ) → Option (List ℕ) → Option L → Option L → Type 0

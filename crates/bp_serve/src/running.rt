@@ -6,7 +6,7 @@ ghost use Rattle.bp_code.specs.Code.{code_of, records_alone, text_alone};
 ghost use Rattle.bp_log.specs.Logs.{header_text, records_text, log_text};
 ghost use Rattle.bp_serve.specs.Ends.{verdict_alone};
 ghost use Rattle.bp_serve.specs.Logging.{LogGets, LogGetsFront, LogShows, LogShowsFront, LogFails, LogStays};
-ghost use Rattle.bp_serve.specs.Order.{PrintsBehind};
+ghost use Rattle.bp_serve.specs.Order.{StaysBehind, PrintsBehind};
 ghost use Rattle.bp_serve.specs.Pages.{Shows, ShowsFront};
 
 use crate::serving::serve;
@@ -46,6 +46,9 @@ fn run_onto<R: Threads + Wait + Sync, K: Sink, L: Sink>(
         OnErr result (LogShowsFront L.written log.old text telling.new.records log.new) }
     ensures behind { PrintsBehind L.written (code_of program options) options telling.old.records
         (K.written out.old) (K.written out.new) log.old log.new }
+    ensures waits { ¬ IsErrOf result RunFault.LogWrite → StaysBehind _ L.written (code_of program options)
+        options telling.old.records (K.written out.old) telling.new.lines (K.written out.new)
+        log.old telling.new.records log.new }
     ensures cause { IsErrOf result RunFault.Write → Rose (K.faults out.old) (K.faults out.new) }
     ensures log_cause { IsErrOf result RunFault.LogWrite → LogFails L.faults log.old log.new }
     ensures counts { K.faults out.old ≤ K.faults out.new }
@@ -82,9 +85,9 @@ pub fn run<R: Threads + Wait + Sync, K: Sink, L: Sink>(
     ensures log_front { let text = log_text header.now (records_alone program header.now.options) in
         OnErr result (LogGetsFront L.written log.old text log.new) }
 
-    // Whenever the log fails, what was printed is of the text of records that were written to it before.
-    ensures behind { let options = header.now.options in IsErrOf result RunFault.LogWrite
-        → PrintsBehind L.written (code_of program options) options (header_text header.now)
+    // However it ends, what was printed is of the text of records that stand in the log.
+    ensures behind { let options = header.now.options in
+        PrintsBehind L.written (code_of program options) options (header_text header.now)
         (K.written out.old) (K.written out.new) log.old log.new }
 
     ensures cause { IsErrOf result RunFault.Write → Rose (K.faults out.old) (K.faults out.new) }

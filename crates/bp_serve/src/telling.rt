@@ -4,7 +4,7 @@ ghost use Rattle.bp_base.specs.Counts.{Rose};
 ghost use Rattle.bp_base.specs.Pieces.{Appends};
 ghost use Rattle.bp_log.specs.Logs.{header_text, records_text};
 ghost use Rattle.bp_log.specs.Texts.{whole_line, lines_text};
-ghost use Rattle.bp_serve.specs.Logging.{LogGets, LogHolds, LogShows, LogShowsFront, LogFails, LogStays};
+ghost use Rattle.bp_serve.specs.Logging.{LogGets, LogHolds, LogShows, LogShowsFront, LogWaits, LogFails, LogStays};
 ghost use Rattle.bp_serve.specs.Pages.{Shows, ShowsFront};
 
 use crate::RunFault;
@@ -81,6 +81,8 @@ impl Telling {
             OnOk result (LogShows L.written log.old text self.new.records log.new) }
         ensures front { let text = self.old.records ++ records_text (drop self.old.kept records.now) in
             OnErr result (LogShowsFront L.written log.old text self.new.records log.new) }
+        ensures waits { ¬ IsErrOf result RunFault.LogWrite
+            → LogWaits L.written log.old self.old.records self.new.records log.new }
         ensures kept { OnOk result (self.new.kept ≡ length records.now) }
         ensures lines { self.new.lines ≡ self.old.lines }
         ensures fault { ¬ IsErrOf result RunFault.Write }
@@ -116,8 +118,9 @@ impl Telling {
         ensures log_gets { OnOk result (LogGets L.written log.old self.old.records log.new) }
         ensures behind { (K.written out.new ≡ K.written out.old)
             ⊎ LogGets L.written log.old self.old.records log.new }
+        ensures whole { ¬ IsErrOf result RunFault.LogWrite
+            → LogShows L.written log.old self.old.records self.new.records log.new }
         ensures kept { self.new.kept ≡ self.old.kept }
-        ensures unprinted { IsErrOf result RunFault.LogWrite → K.written out.new ≡ K.written out.old }
         ensures memory { ¬ IsErrOf result RunFault.Memory }
         ensures cause { IsErrOf result RunFault.Write → Rose (K.faults out.old) (K.faults out.new) }
         ensures log_cause { IsErrOf result RunFault.LogWrite → LogFails L.faults log.old log.new }
@@ -148,6 +151,8 @@ impl Telling {
             (LogShowsFront L.written log.old self.old.records self.new.records log.new) }
         ensures behind { (K.written out.new ≡ K.written out.old)
             ⊎ LogGets L.written log.old self.old.records log.new }
+        ensures whole { ¬ IsErrOf result RunFault.LogWrite
+            → LogShows L.written log.old self.old.records self.new.records log.new }
         ensures kept { self.new.kept ≡ self.old.kept }
         ensures cause { IsErrOf result RunFault.Write → Rose (K.faults out.old) (K.faults out.new) }
         ensures log_cause { IsErrOf result RunFault.LogWrite → LogFails L.faults log.old log.new }
@@ -180,6 +185,8 @@ impl Telling {
             (LogShowsFront L.written log.old self.old.records self.new.records log.new) }
         ensures behind { (K.written out.new ≡ K.written out.old)
             ⊎ LogHolds L.written log.old self.old.records log.new }
+        ensures whole { ¬ IsErrOf result RunFault.LogWrite
+            → LogShows L.written log.old self.old.records self.new.records log.new }
         ensures kept { self.new.kept ≡ self.old.kept }
         ensures cause { IsErrOf result RunFault.Write → Rose (K.faults out.old) (K.faults out.new) }
         ensures log_cause { IsErrOf result RunFault.LogWrite → LogFails L.faults log.old log.new }

@@ -30,6 +30,11 @@ pub returns-in_err-print_line-clause-behind : goal.returns-in_err-print_line-cla
 returns-in_err-print_line-clause-behind g c =
     behind_on g.L.Sink.written _ c.loop-line.log _ _ c.loop-line.self.records c.print_line.new.self.records _ _ _ c.loop-line.invariant.behind c.loop-line.invariant.log_shows c.print_line.ensures.behind c.in_err-print_line.ensures.log_front
 
+pub returns-in_err-print_line-clause-whole : goal.returns-in_err-print_line-clause-whole
+returns-in_err-print_line-clause-whole g c = λ n.
+    let p = err_from_is_err_and c.from_residual.result c.from_residual.ensures.1 in
+    log_on g.L.Sink.written _ c.loop-line.log _ _ c.loop-line.self.records _ c.loop-line.invariant.log_shows (c.print_line.ensures.whole (λ e. n (search rules)))
+
 pub loop-line-preserved : goal.loop-line-preserved
 loop-line-preserved g c =
     let counted = c.print_line.ensures.counts in
