@@ -71,7 +71,7 @@ pub(crate) fn run_logged<R: Threads + Wait + Sync, W: World, K: Sink>(
         RunEnds program header.now.options
         (Rose (K.faults out.old) (K.faults out.new) ⊎ Rose (W.write_faults world.old) (W.write_faults world.new))
         (Holds (W.holds world.old) name.now log (W.holds world.new))
-        (KeepsLogFront (Some name.now) before log after)
+        (KeepsLogFront (Some name.now) before header.now program after)
         (K.written out.old) (K.written out.new) result }
     ensures asked { ((result ≡ Conclusion.NoMemory) × (W.asked world.new ≡ W.asked world.old))
         ⊎ Asks (W.asked world.old) name.now (W.asked world.new) }

@@ -4,9 +4,17 @@ use Rattle.std.specs.Prelude.{Result, OnOk, OnErr}
 use Rattle.bp_base.specs.Counts.{Rose}
 use Rattle.bp_base.specs.Pieces.{Appends, AppendsFront}
 use Rattle.bp_base.proofs.Appending.{appends-on}
+use Rattle.bp_log.specs.Header.{PlainHeader}
+use Rattle.bp_log.specs.Logs.{header_text, records_text, log_text}
+use Rattle.bp_log.specs.declared.record.Record.{Record}
 use Rattle.bp_serve.specs.Logging.{OfLog, LogGets, LogGetsFront, LogHolds, LogWaits, LogShows, LogShowsFront, LogFails, LogStays}
 use Rattle.bp_serve.specs.Pages.{Shows, ShowsFront}
 use Rattle.bp_serve.proofs.Pieces.{appends_nothing, let_go, shows_page, shows_on, shows_stop, front_on, shows_put, shows_part, written_all, written_front, written_part, written_front_part}
+
+-- a log is its head and its records
+pub log_is : (h : PlainHeader) (rs : List Record) → log_text h rs ≡ header_text h ++ records_text rs
+unfolding log_text
+log_is h rs = refl
 
 holds_shown : (a b c : Option (List ℕ)) (text page more : List ℕ) → Shows a text page b → Appends b (page ++ more) c → Appends a (text ++ more) c
 holds_shown a b c text page more s h =

@@ -10,14 +10,10 @@ use Rattle.bp_log.specs.declared.record.Record.{Record}
 use Rattle.bp_serve.specs.Logging.{LogGets, LogGetsFront}
 use Rattle.bp_serve.specs.Order.{PrintsBehind}
 use Rattle.bp_serve.proofs.Pieces.{let_go, shows_written}
-use Rattle.bp_serve.proofs.Logging.{log_stop, log_nothing, log_let_go, log_headed, log_front_headed, log_anyway, log_whole, log_still}
+use Rattle.bp_serve.proofs.Logging.{log_is, log_stop, log_nothing, log_let_go, log_headed, log_front_headed, log_anyway, log_whole, log_still}
 use Rattle.bp_serve.proofs.Way.{front_alone, unprinted, written_anyway, written_whole, written_still}
 use Rattle.bp_serve.proofs.Order.{front_of_shown, behind_headed, behind_written, waits_headed}
 use Rattle.bp_serve.proofs.running.run.Goals as goal
-
-log_is : (h : PlainHeader) (rs : List Record) → log_text h rs ≡ header_text h ++ records_text rs
-unfolding log_text
-log_is h rs = refl
 
 pub returns-in_err-telling-clause-front : goal.returns-in_err-telling-clause-front
 returns-in_err-telling-clause-front g c =
