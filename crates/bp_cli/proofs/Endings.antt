@@ -288,7 +288,7 @@ behind_mid name header program mid before after m q (inr b) =
       later = b.later;
       is_run = b.is_run;
       more = b.more;
-      held = subst (λ (x : Option Holdings). Holds x name (log_text header b.records ++ b.more) after.holds) m b.held;
+      kept = subst (λ (x : Option Holdings). Holds x name (log_text header b.records ++ b.more) after.holds) m b.kept;
       printed = subst (λ (x : Option (List ℕ)). IsSomeAnd (text_of program header.options b.records) (λ t. AppendsFront x t after.printed)) q b.printed;
     })
 

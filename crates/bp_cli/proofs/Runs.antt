@@ -76,7 +76,7 @@ module _ {L : Type 0} (written : L → Option (List ℕ)) where
         later = b.later;
         is_run = b.is_run;
         more = b.logged.0;
-        held = subst (λ (t : List ℕ). Holds before.holds name (t ++ b.logged.0) after.holds) (sym (log_is header b.records))
+        kept = subst (λ (t : List ℕ). Holds before.holds name (t ++ b.logged.0) after.holds) (sym (log_is header b.records))
             (held before.holds name ((header_text header ++ records_text b.records) ++ b.logged.0) (written first) (written last) after.holds e b.logged.1 k);
         printed = b.printed;
       })

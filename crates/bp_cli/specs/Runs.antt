@@ -44,7 +44,7 @@ pub record HoldsBehind (name : List ℕ) (header : PlainHeader) (program : Plain
   pub later : List Record
   pub is_run : records ++ later ≡ records_alone program header.options
   pub more : List ℕ
-  pub held : Holds before.holds name (log_text header records ++ more) after.holds
+  pub kept : Holds before.holds name (log_text header records ++ more) after.holds
   pub printed : IsSomeAnd (text_of program header.options records) (λ text. AppendsFront before.printed text after.printed)
 
 -- what was held, and then nothing was printed; or a front of the log, and then no line was printed before its record was written

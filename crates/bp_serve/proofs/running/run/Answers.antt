@@ -1,12 +1,10 @@
-use Rattle.std.proofs.Common.{◌≡◌, List, [], ◌++◌, refl, subst, rules}
+use Rattle.std.proofs.Common.{[], refl, subst, rules}
 use Rattle.std.specs.Prelude.{OnOk, OnErr, IsSomeAnd}
 use Rattle.std.proofs.lemmas.Result.{err_from_is_err_and}
 use Rattle.bp_code.specs.Code.{code_of, records_alone, text_alone}
 use Rattle.bp_base.specs.Pieces.{Appends, AppendsFront}
 use Rattle.bp_log.specs.Options.{PlainOptions}
-use Rattle.bp_log.specs.Header.{PlainHeader}
 use Rattle.bp_log.specs.Logs.{header_text, records_text, log_text}
-use Rattle.bp_log.specs.declared.record.Record.{Record}
 use Rattle.bp_serve.specs.Logging.{LogGets, LogGetsFront}
 use Rattle.bp_serve.specs.Order.{PrintsBehind}
 use Rattle.bp_serve.proofs.Pieces.{let_go, shows_written}
