@@ -91,11 +91,12 @@ pub fn command<R: Threads + Wait + Sync, W: World, K: Sink>(
     // conclusion says: at 0 and 3 to 7 the whole text, at 9 a front of it, at 10 nothing or a front
     // (of `accept` and `large` only where writing failed too), of a replay at 8 and 11 the text of
     // the records that were followed, and else nothing. The world holds what it held, and where a
-    // log is kept that log; at 9 and 10 a front of it, or, where nothing was printed, what it held.
-    // Each replay of the log of a run prints the same text and comes to the same verdict, unless it
-    // meets trouble. The world was asked for the names of the words, in order: at 2 and 8 for the
-    // first alone, at 10 for some. So where no count rose and memory was not wanting, the code is
-    // 1, 2, 11, that of the one run's verdict, or 0 for an accepted program.
+    // log is kept that log; at 9 and 10 a front of it, in which the records of all that was printed
+    // stand, or, where nothing was printed, what it held. Each replay of the log of a run prints
+    // the same text and comes to the same verdict, unless it meets trouble. The world was asked for
+    // the names of the words, in order: at 2 and 8 for the first alone, at 10 for some. So where no
+    // count rose and memory was not wanting, the code is 1, 2, 11, that of the one run's verdict,
+    // or 0 for an accepted program.
     ensures ends { let before : Outside = record { holds = W.holds world.old; asked = W.asked world.old; printed = K.written out.old } in
         let after : Outside = record { holds = W.holds world.new; asked = W.asked world.new; printed = K.written out.new } in
         Ends (command_of (map string_bytes words.now)) (Rose (W.read_faults world.old) (W.read_faults world.new))
