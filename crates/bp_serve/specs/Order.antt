@@ -28,6 +28,9 @@ pub record StaysBehind (L : Type 0) (written : L → Option (List ℕ)) (l : Cod
   pub logged : LogWaits written old (head ++ records_text records) page new
   pub told : IsSomeAnd (text l o records) (λ t. ShowsFront before t lines after)
 
+abbrev pub TellsBehind : {L : Type 0} → (L → Option (List ℕ)) → Code Origin PlainSet → PlainOptions → List ℕ → Option (List ℕ) → List ℕ → Option (List ℕ) → Option L → List ℕ → Option L → Type 0
+TellsBehind written l o head before lines after old page new = StaysBehind _ written l o head before lines after old page new
+
 -- nothing was printed, or what is behind the log
 abbrev pub PrintsBehind : {L : Type 0} → (L → Option (List ℕ)) → Code Origin PlainSet → PlainOptions → List ℕ → Option (List ℕ) → Option (List ℕ) → Option L → Option L → Type 0
 PrintsBehind written l o head before after old new = (after ≡ before) ⊎ IsBehind _ written l o head before after old new

@@ -6,7 +6,7 @@ ghost use Rattle.bp_code.specs.Code.{code_of, records_alone, text_alone};
 ghost use Rattle.bp_log.specs.Logs.{header_text, records_text, log_text};
 ghost use Rattle.bp_serve.specs.Ends.{verdict_alone};
 ghost use Rattle.bp_serve.specs.Logging.{LogGets, LogGetsFront, LogShows, LogShowsFront, LogFails, LogStays};
-ghost use Rattle.bp_serve.specs.Order.{StaysBehind, PrintsBehind};
+ghost use Rattle.bp_serve.specs.Order.{TellsBehind, PrintsBehind};
 ghost use Rattle.bp_serve.specs.Pages.{Shows, ShowsFront};
 
 use crate::serving::serve;
@@ -46,7 +46,7 @@ fn run_onto<R: Threads + Wait + Sync, K: Sink, L: Sink>(
         OnErr result (LogShowsFront L.written log.old text telling.new.records log.new) }
     ensures behind { PrintsBehind L.written (code_of program options) options telling.old.records
         (K.written out.old) (K.written out.new) log.old log.new }
-    ensures waits { ¬ IsErrOf result RunFault.LogWrite → StaysBehind _ L.written (code_of program options)
+    ensures waits { ¬ IsErrOf result RunFault.LogWrite → TellsBehind L.written (code_of program options)
         options telling.old.records (K.written out.old) telling.new.lines (K.written out.new)
         log.old telling.new.records log.new }
     ensures cause { IsErrOf result RunFault.Write → Rose (K.faults out.old) (K.faults out.new) }

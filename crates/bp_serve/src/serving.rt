@@ -6,7 +6,7 @@ ghost use Rattle.bp_log.specs.Texts.{lines_text};
 ghost use Rattle.bp_floor.specs.declared.phase.Phase.TheVariants as phase;
 ghost use Rattle.bp_arbiter.specs.Arbiters.{code_in, options_in, stand_in, is_lent, StandsSomewhere};
 ghost use Rattle.bp_serve.specs.Logging.{LogHolds, LogWaits, LogShows, LogShowsFront, LogFails, LogStays};
-ghost use Rattle.bp_serve.specs.Order.{StaysBehind, PrintsBehind};
+ghost use Rattle.bp_serve.specs.Order.{TellsBehind, PrintsBehind};
 ghost use Rattle.bp_serve.specs.Pages.{Shows, ShowsFront};
 ghost use Rattle.bp_serve.specs.Serving.{records_in, text_in, Underway, KeepsUnderway, TakesLines};
 ghost use Rattle.bp_serve.specs.Turning.{Settles};
@@ -122,7 +122,7 @@ pub(crate) fn serve<R: Threads + Wait + Sync, K: Sink, L: Sink>(
         OnErr result (LogShowsFront L.written log.old text telling.new.records log.new) }
     ensures behind { PrintsBehind L.written (code_in arbiter.old) (options_in arbiter.old) telling.old.records
         (K.written out.old) (K.written out.new) log.old log.new }
-    ensures waits { ¬ IsErrOf result RunFault.LogWrite → StaysBehind _ L.written (code_in arbiter.old)
+    ensures waits { ¬ IsErrOf result RunFault.LogWrite → TellsBehind L.written (code_in arbiter.old)
         (options_in arbiter.old) telling.old.records (K.written out.old) telling.new.lines
         (K.written out.new) log.old telling.new.records log.new }
     ensures over { OnOk result (arbiter.new.phase ≡ phase.Over) }
