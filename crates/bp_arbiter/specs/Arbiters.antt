@@ -1,5 +1,5 @@
 -- What contracts see of an arbiter, and what it stands for.
-use Rattle.std.specs.Prelude.{◌≡◌, ℕ, ◌≤◌, Bool, true, false, List, [], ◌∷◌, ◌++◌, map, Option, Some, None}
+use Rattle.std.specs.Prelude.{◌≡◌, ℕ, ◌≤◌, Bool, true, false, List, [], ◌++◌, map, Option, Some, None}
 use Rattle.js_value.specs.Value.{PlainSet}
 use Rattle.js_program.specs.PlainProgram.{PlainProgram}
 use Rattle.js_meaning.specs.Bodies.{Origin, bare, the_top}

@@ -1,5 +1,5 @@
 //! The arbiter.
-ghost use Rattle.std.specs.Prelude.{◌≡◌, ◌↔◌, ◌<◌, ◌≤◌, ◌+◌, ◌++◌, ◌∷◌, [], ℕ, List, nat_eq, not, length, option_map, option_to_list, OnOk, OnErr, IfOk, IfErr, IsErr, IsSome, MatchResult, Some, true, false};
+ghost use Rattle.std.specs.Prelude.{◌≡◌, ◌↔◌, ◌<◌, ◌≤◌, ◌+◌, ◌++◌, [], List, nat_eq, not, length, option_map, option_to_list, OnOk, OnErr, IfOk, IfErr, IsErr, IsSome, MatchResult, Some, true, false};
 ghost use Rattle.std.specs.List.{list_any};
 ghost use Rattle.js_meaning.specs.Bodies.{Origin};
 ghost use Rattle.js_frames.specs.Places.{plain_ground};

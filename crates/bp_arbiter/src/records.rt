@@ -1,5 +1,5 @@
 //! What was recorded of a run so far.
-ghost use Rattle.std.specs.Prelude.{◌≡◌, ◌++◌, ◌∷◌, [], OnOk, option_map, true, false};
+ghost use Rattle.std.specs.Prelude.{◌≡◌, ◌++◌, ◌∷◌, [], OnOk, option_map, true};
 ghost use Rattle.bp_log.specs.Records.{verdict_of};
 
 use bp_log::{Memory, Record, Records, Verdict};

@@ -1,5 +1,5 @@
 //! A run: its floor, its words, its injectors and its records.
-ghost use Rattle.std.specs.Prelude.{◌≡◌, ◌<◌, ◌≤◌, ◌+◌, ◌^◌, ◌++◌, ◌∷◌, [], Bool, length, OnOk, OnErr, IfOk, IfErr, Some, slice_get, true, false};
+ghost use Rattle.std.specs.Prelude.{◌≡◌, ◌<◌, ◌≤◌, ◌+◌, ◌^◌, Bool, length, OnOk, OnErr, IfOk, IfErr, Some, slice_get, true, false};
 ghost use Rattle.js_data.specs.Event.{PlainEvent};
 ghost use Rattle.bp_log.specs.declared.item.Item.TheVariants as item;
 ghost use Rattle.bp_run.specs.Story.{has_room, first_bad};

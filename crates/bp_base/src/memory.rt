@@ -1,5 +1,5 @@
 //! A source and a sink in memory. They tell all, and fail at the calls that their lists name.
-ghost use Rattle.std.specs.Prelude.{◌≡◌, ◌≤◌, ◌+◌, ◌<◌, [], length, take, drop, min, IfOk, OnErr, IfSome, is_err, if◌then◌else◌};
+ghost use Rattle.std.specs.Prelude.{◌≡◌, ◌≤◌, ◌+◌, ◌<◌, [], length, take, drop, min, IfOk, OnErr, is_err, if◌then◌else◌};
 ghost use Rattle.bp_base.specs.Counts.{Rose, raised};
 ghost use Rattle.bp_base.specs.Pieces.{Gives, Appends};
 ghost use Rattle.bp_base.specs.Calls.{is_to_fail, called, planned};

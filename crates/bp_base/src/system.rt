@@ -1,5 +1,5 @@
 //! The system's files and streams: the trusted edge. They tell nothing of content or of names.
-ghost use Rattle.std.specs.Prelude.{◌≡◌, ℕ, ◌<◌, ◌≤◌, List, length, IfSome, string_bytes};
+ghost use Rattle.std.specs.Prelude.{◌≡◌, ◌<◌, ◌≤◌, length, IfSome};
 
 use crate::{Failed, Sink, Source, World, WorldError};
 use std::fs::{self, File};

@@ -1,5 +1,5 @@
 //! The command.
-ghost use Rattle.std.specs.Prelude.{◌≡◌, ◌⊎◌, ◌≤◌, map, Some, string_bytes};
+ghost use Rattle.std.specs.Prelude.{◌⊎◌, ◌≤◌, map, Some, string_bytes};
 ghost use Rattle.bp_base.specs.Counts.{Rose};
 ghost use Rattle.bp_args.specs.Command.{command_of};
 ghost use Rattle.bp_cli.specs.Asking.{AsksIn};

@@ -1,5 +1,5 @@
 //! Programs that are read and accepted.
-ghost use Rattle.std.specs.Prelude.{◌≡◌, ◌⊎◌, ◌≤◌, IsErrOf, IfOk, IfErr, OnOk, vec_len};
+ghost use Rattle.std.specs.Prelude.{◌≡◌, ◌⊎◌, ◌≤◌, IsErrOf, IfOk, IfErr, vec_len};
 ghost use Rattle.bp_base.specs.Counts.{Rose};
 ghost use Rattle.bp_base.specs.Worlds.{Asks};
 ghost use Rattle.bp_script.specs.Programs.{IsProgram};

@@ -1,5 +1,5 @@
 //! Logs that are replayed.
-ghost use Rattle.std.specs.Prelude.{◌≡◌, ◌⊎◌, ◌≤◌, Some};
+ghost use Rattle.std.specs.Prelude.{◌⊎◌, ◌≤◌, Some};
 ghost use Rattle.bp_base.specs.Counts.{Rose};
 ghost use Rattle.bp_args.specs.declared.command.Command.TheVariants as command;
 ghost use Rattle.bp_cli.specs.Asking.{AsksIn};

@@ -11,7 +11,7 @@ use Rattle.js_tree.specs.declared.tree.Step.TheVariants.{Increment}
 use Rattle.js_tree.specs.declared.tree.Fix.TheVariants.{After}
 use Rattle.js_program.specs.declared.builtin.Builtin.TheVariants as form
 use Rattle.js_program.specs.PlainProgram as p
-use Rattle.js_program.specs.PlainProgram.{PlainNode, PlainBody, PlainProgram}
+use Rattle.js_program.specs.PlainProgram.{PlainProgram}
 use Rattle.js_meaning.specs.Meaning.{within, eval, turns_of}
 use Rattle.js_meaning.specs.Bodies.{evaluation, ground_of}
 use Rattle.js_meaning.proofs.Small.{event, one, whole, slot, given, body, statements, program}

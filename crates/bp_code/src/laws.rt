@@ -1,5 +1,5 @@
 //! The laws of the runs of programs, each as the contract of a function that does nothing.
-ghost use Rattle.std.specs.Prelude.{◌≡◌, ◌≤◌, ◌∷◌, ◌++◌, ℕ, List, length, Option, Some, None, Ok, true, false, slice_get};
+ghost use Rattle.std.specs.Prelude.{◌≡◌, ◌≤◌, ◌∷◌, ◌++◌, ℕ, List, length, Some, None, Ok, true, false, slice_get};
 ghost use Rattle.js_program.specs.PlainProgram.{PlainProgram};
 ghost use Rattle.js_meaning.specs.Bodies.{Origin};
 ghost use Rattle.bp_log.specs.Options.{PlainOptions};

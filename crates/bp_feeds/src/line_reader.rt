@@ -1,9 +1,9 @@
 //! The lines of a source, read by blocks, as items.
-ghost use Rattle.std.specs.Prelude.{◌≡◌, ℕ, ◌+◌, ◌≤◌, List, [], ◌∷◌, ◌++◌, length, vec_len, Option, Some, Ok, None, true, false, IfOk, OnErr, IfSome, option_to_list};
+ghost use Rattle.std.specs.Prelude.{◌≡◌, ℕ, ◌+◌, ◌≤◌, List, [], ◌∷◌, length, vec_len, Option, Some, Ok, None, true, false, IfOk, OnErr, option_to_list};
 ghost use Rattle.bp_base.specs.Counts.{Rose};
 ghost use Rattle.bp_feeds.specs.declared.limits.TheConstants.{MOST_LINES, MOST_LENGTH};
 ghost use Rattle.bp_feeds.specs.Items.{has_break, has_line, ends, has_fault};
-ghost use Rattle.bp_feeds.specs.Reading.{Reading, is_read, ReadsOn, ReadsLast, IsSameReading, IsSameToEnd, IsTooLong};
+ghost use Rattle.bp_feeds.specs.Reading.{is_read, ReadsOn, ReadsLast, IsSameReading, IsSameToEnd, IsTooLong};
 
 use crate::block::Block;
 use crate::judging::{is_end, judge, length_of_front};

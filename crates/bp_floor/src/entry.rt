@@ -1,6 +1,5 @@
 //! What is to be run.
-ghost use Rattle.std.specs.Prelude.{◌≡◌, ◌∷◌, ◌++◌, [], OnOk, length, ◌==◌, map, is_some};
-ghost use Rattle.bp_run.specs.Settling.{body_of};
+ghost use Rattle.std.specs.Prelude.{◌≡◌, ◌∷◌, ◌++◌, [], OnOk, length, ◌==◌, map};
 ghost use Rattle.bp_floor.specs.Entries.{entry_seen};
 
 use bp_log::Memory;

@@ -1,6 +1,5 @@
 //! A floor: where the b-threads of a run stand.
-ghost use Rattle.std.specs.Prelude.{◌≡◌, ◌<◌, ◌≤◌, ◌+◌, ◌^◌, ◌++◌, ◌∷◌, [], ℕ, List, length, option_map, slice_get, None, Some, OnOk, OnErr, IfOk, IfErr, MatchResult, Ok, Err, true, false};
-ghost use Rattle.js_value.specs.Value.{PlainSet};
+ghost use Rattle.std.specs.Prelude.{◌≡◌, ◌<◌, ◌≤◌, ◌+◌, ◌^◌, ◌++◌, [], List, length, option_map, slice_get, None, Some, OnOk, OnErr, IfOk, IfErr, MatchResult, Ok, Err, true, false};
 ghost use Rattle.js_meaning.specs.Bodies.{Origin, bare};
 ghost use Rattle.js_frames.specs.Places.{plain_ground};
 ghost use Rattle.bp_log.specs.declared.limits.TheConstants.{MOST_WAITING};

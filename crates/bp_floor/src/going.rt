@@ -1,6 +1,6 @@
 //! An event is selected: whom it reaches, and what it weighs.
 ghost use Rattle.std.specs.Prelude.{◌≡◌, ◌<◌, ◌≤◌, ◌+◌, ◌*◌, List, Some, Ok, length, map, option_map, IfOk, OnOk, OnErr};
-ghost use Rattle.js_data.specs.Event.{PlainEvent, event_weight};
+ghost use Rattle.js_data.specs.Event.{event_weight};
 ghost use Rattle.js_frames.specs.Places.{plain_ground};
 ghost use Rattle.bp_log.specs.declared.limits.TheConstants.{MOST_THREADS, MOST_WEIGHT};
 ghost use Rattle.bp_run.specs.Choosing.{Touched, reach};
@@ -11,7 +11,7 @@ ghost use Rattle.bp_floor.specs.Boards.{pair_of, stand_of};
 ghost use Rattle.bp_floor.specs.Kept.{Rises};
 ghost use Rattle.bp_floor.specs.Touching.{touch_seen};
 ghost use Rattle.bp_floor.specs.Floors.{PlainFloor, CanGo, GoesAs, code_on, phase_of, stop_of, told_verdict};
-ghost use Rattle.bp_floor.specs.Going.{IsResting, IsSoundOn, IsReached, LooksAs, floor_on, first_touch};
+ghost use Rattle.bp_floor.specs.Going.{IsResting, IsSoundOn, LooksAs, floor_on, first_touch};
 
 use crate::{Board, Phase, Touch, Went};
 use bp_log::limits::MOST_WEIGHT;

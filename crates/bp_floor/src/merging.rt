@@ -1,5 +1,5 @@
 //! Merging what bodies did, each function by one line of the definitions.
-ghost use Rattle.std.specs.Prelude.{◌≡◌, ◌<◌, ◌∷◌, [], ℕ, length, map, OnOk, IfOk, Some, slice_get};
+ghost use Rattle.std.specs.Prelude.{◌≡◌, ◌<◌, [], ℕ, length, map, OnOk, IfOk, Some};
 ghost use Rattle.js_value.specs.Views.{plain_value};
 ghost use Rattle.js_program.specs.declared.builtin.Mode.TheVariants as mode;
 ghost use Rattle.js_meaning.specs.Bodies.{function};

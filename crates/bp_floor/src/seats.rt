@@ -6,7 +6,7 @@ ghost use Rattle.bp_floor.specs.Seated.{seat_seen, job_at};
 
 use bp_log::Memory;
 use bp_thread::Job;
-use js_data::{Event, Text};
+use js_data::Text;
 use std::alloc::Global;
 use std::marker::Model;
 

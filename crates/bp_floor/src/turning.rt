@@ -1,5 +1,5 @@
 //! A turn: the jobs come back, and what they did is merged.
-ghost use Rattle.std.specs.Prelude.{◌≡◌, ◌<◌, ◌∷◌, ◌++◌, [], ℕ, List, length, map, option_map, OnOk, OnErr, IfOk, None, Some, true};
+ghost use Rattle.std.specs.Prelude.{◌≡◌, ◌<◌, ◌∷◌, [], ℕ, List, length, map, option_map, OnOk, OnErr, IfOk, None, Some, true};
 ghost use Rattle.std.specs.Vec.Iter.{into_iter_items};
 ghost use Rattle.js_value.specs.Value.{PlainSet};
 ghost use Rattle.bp_thread.specs.declared.job.Job.{Job};

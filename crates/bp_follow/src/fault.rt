@@ -72,7 +72,6 @@ impl From<Failed> for ReplayFault {
 
 impl From<PrintError> for ReplayFault {
     ghost use Rattle.std.specs.Prelude.{◌≡◌};
-    ghost use Rattle.bp_log.specs.declared.lines.PrintError.{PrintError as Fault};
     ghost use Rattle.bp_follow.specs.Faults.{fault_of_print};
 
     ghost from_gives = { λ f e. e ≡ fault_of_print f };
@@ -87,7 +86,6 @@ impl From<PrintError> for ReplayFault {
 
 impl From<LogFault> for ReplayFault {
     ghost use Rattle.std.specs.Prelude.{◌≡◌};
-    ghost use Rattle.bp_reader.specs.declared.fault.LogFault.{LogFault as Fault};
     ghost use Rattle.bp_follow.specs.Faults.{fault_of_log};
 
     ghost from_gives = { λ f e. e ≡ fault_of_log f };

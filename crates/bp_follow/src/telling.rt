@@ -1,5 +1,5 @@
 //! The loop that goes over the records of a log.
-ghost use Rattle.std.specs.Prelude.{◌≡◌, ◌<◌, ◌≤◌, ◌++◌, ◌∷◌, [], List, None, length, IfSome, IsErrOf, OnErr, OnOk, false, true};
+ghost use Rattle.std.specs.Prelude.{◌≡◌, ◌<◌, ◌≤◌, ◌++◌, ◌∷◌, [], List, None, IfSome, IsErrOf, OnErr, OnOk, true};
 ghost use Rattle.bp_base.specs.Counts.{Rose};
 ghost use Rattle.bp_log.specs.Texts.{lines_text};
 ghost use Rattle.bp_log.specs.declared.trace.Line.{Line as Told};

@@ -1,5 +1,5 @@
 //! The verdict that the end of a line says.
-ghost use Rattle.std.specs.Prelude.{◌≡◌, IfOk, option_map, option_and_then};
+ghost use Rattle.std.specs.Prelude.{◌≡◌, IfOk, option_map};
 ghost use Rattle.bp_reading.specs.Lines.{place_at, limit_at, limits_at, bad_end_at, numbered_at, said_at, violated_at, fault_at, kind_at, blamed_at, faulty_at, spent_by, spent_at, placed_at, verdict_at};
 
 use crate::words::{

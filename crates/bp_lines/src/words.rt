@@ -1,5 +1,5 @@
 //! The words of a line: numbers, texts and events.
-ghost use Rattle.std.specs.Prelude.{◌≡◌, ◌≤◌, false, IfOk, IfSome, option_map};
+ghost use Rattle.std.specs.Prelude.{◌≡◌, false, IfOk, option_map};
 ghost use Rattle.bp_reading.specs.Words.{is_front_zero as front_zero, number_at, most_32, behind, around, number_behind as number_after, numbers_at, compact_event_at, text_at, quoted_front, to_quote};
 
 use bp_log::Memory;

@@ -1,5 +1,5 @@
 //! The super-step.
-ghost use Rattle.std.specs.Prelude.{◌≡◌, ℕ, ◌<◌, IfOk};
+ghost use Rattle.std.specs.Prelude.{ℕ, ◌<◌, IfOk};
 ghost use Rattle.js_frames.specs.Places.{plain_ground};
 ghost use Rattle.bp_thread.specs.Carried.{AreCarriedOut, HaveDistinctNumbers};
 ghost use Rattle.bp_pool.specs.Carrying.{AreOf, AreOpen};

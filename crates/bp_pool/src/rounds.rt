@@ -1,5 +1,5 @@
 //! Rounds: in each every job without outcome gets some slices, by several threads.
-ghost use Rattle.std.specs.Prelude.{◌≡◌, ℕ, ◌<◌, All, IfOk};
+ghost use Rattle.std.specs.Prelude.{ℕ, ◌<◌, All, IfOk};
 ghost use Rattle.js_frames.specs.Places.{plain_ground};
 ghost use Rattle.bp_thread.specs.Carried.{AreCarriedOut};
 ghost use Rattle.bp_pool.specs.Carrying.{AreOf, Each};

@@ -1,5 +1,5 @@
 //! A source that is read by bytes and lines, whatever the blocks in which it comes.
-ghost use Rattle.std.specs.Prelude.{◌≡◌, ◌≤◌, Some, [], IfOk, OnErr, IfSome, IsErrOf};
+ghost use Rattle.std.specs.Prelude.{◌≡◌, ◌≤◌, Some, IfOk, OnErr, IfSome, IsErrOf};
 ghost use Rattle.bp_base.specs.Counts.{Rose};
 ghost use Rattle.bp_base.specs.Pieces.{GivesSome};
 ghost use Rattle.bp_reading.specs.Heads.{line_at};

@@ -1,5 +1,5 @@
 -- Bytes are at most one program, and none that are refused.
-use Rattle.std.proofs.Common.{◌≡◌, ℕ, false, List, refl, ap, sym, ◌∙◌, subst, arith, inl, inr, Option, Some, None}
+use Rattle.std.proofs.Common.{◌≡◌, ℕ, false, List, ap, sym, ◌∙◌, subst, arith, inl, inr, Option, Some, None}
 use Rattle.js_lexer.specs.declared.token.Token.{Token}
 use Rattle.js_lexer.specs.declared.token.Flaw.{Flaw}
 use Rattle.js_lexer.proofs.Cutting.{one_cutting, never_both}
@@ -8,12 +8,10 @@ use Rattle.js_tree.specs.Plain.{PlainItem}
 use Rattle.js_grammar.specs.Trees.{IsTree}
 use Rattle.js_grammar.specs.Unsupported.{first_unsupported}
 use Rattle.js_grammar.proofs.Unique.{tree_once}
-use Rattle.js_program.specs.PlainProgram.{PlainProgram}
 use Rattle.js_resolver.specs.Resolved.{resolved, unless_fault, program_of_tree}
 use Rattle.bp_script.specs.declared.refusal.Kind.{Kind}
-use Rattle.bp_script.specs.declared.refusal.Rule.{Rule}
 use Rattle.bp_script.specs.declared.refusal.Refusal.{Refusal}
-use Rattle.bp_script.specs.Programs.{AreCut, AreSpelled, AreAccepted, IsProgram, HasFlaw, HasRefusedToken, IsNoText, HasNoSpelling, HasNameFault, BreaksRule, IsWrong, fault_of, IsBroken, IsRefused, NeverBoth, OneProgram, EachIsProgram}
+use Rattle.bp_script.specs.Programs.{AreCut, AreSpelled, AreAccepted, HasFlaw, HasRefusedToken, HasNameFault, IsWrong, fault_of, NeverBoth, OneProgram, EachIsProgram}
 use Rattle.js_names.specs.declared.place.NameFault.{NameFault}
 use Rattle.js_names.specs.Rules.{name_fault}
 

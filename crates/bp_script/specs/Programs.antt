@@ -9,7 +9,6 @@ use Rattle.js_lexer.specs.Gaps.{line_of}
 use Rattle.js_lexer.specs.Cut.{Cut, Refused}
 use Rattle.js_tree.specs.declared.limits.TheConstants.{MOST_NESTING}
 use Rattle.js_tree.specs.declared.tree.Name.{Name}
-use Rattle.js_tree.specs.declared.tree.Spot.{Spot}
 use Rattle.js_tree.specs.Plain.{PlainItem}
 use Rattle.js_grammar.specs.Trees.{IsTree, HasNoTree}
 use Rattle.js_grammar.specs.Unsupported.{first_unsupported}

@@ -44,7 +44,7 @@ pub struct Bench {
 }
 
 impl Model for Bench {
-    ghost use Rattle.std.specs.Prelude.{⊤, [], map};
+    ghost use Rattle.std.specs.Prelude.{[], map};
     ghost use Rattle.std.specs.Coded.{codes};
     ghost use Rattle.js_data.specs.Codes.{event_code};
     ghost use Rattle.js_value.specs.Codes.{set_code};

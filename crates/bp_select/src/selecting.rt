@@ -1,5 +1,5 @@
 //! What can be selected, and which of it is chosen.
-ghost use Rattle.std.specs.Prelude.{◌≡◌, ◌<◌, ◌≤◌, ◌+◌, ◌^◌, [], ℕ, List, Ok, None, length, map, IfOk, OnErr};
+ghost use Rattle.std.specs.Prelude.{◌≡◌, ◌<◌, ◌≤◌, ◌+◌, ◌^◌, [], List, Ok, None, length, map, IfOk, OnErr};
 ghost use Rattle.js_data.specs.Event.{PlainEvent};
 ghost use Rattle.js_frames.specs.Places.{plain_ground};
 ghost use Rattle.bp_words.specs.Words.{draw_word};

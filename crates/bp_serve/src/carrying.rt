@@ -1,5 +1,5 @@
 //! Jobs that are carried on, slice by slice, to their outcomes.
-ghost use Rattle.std.specs.Prelude.{◌≡◌, ◌<◌, OnOk};
+ghost use Rattle.std.specs.Prelude.{◌<◌, OnOk};
 ghost use Rattle.js_frames.specs.Places.{plain_ground};
 ghost use Rattle.bp_thread.specs.Carried.{CarriedOut, AreCarriedOut};
 ghost use Rattle.bp_arbiter.specs.Lending.{CanRun, AllCanRun};

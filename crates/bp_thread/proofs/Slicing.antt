@@ -5,7 +5,7 @@ use Rattle.std.proofs.Common.{◌≡◌, ℕ, ◌+◌, Bool, false, true, List, 
 use Rattle.js_data.specs.Event.{PlainEvent}
 use Rattle.js_value.specs.Value.{PlainSet}
 use Rattle.js_meaning.specs.State as js
-use Rattle.js_meaning.specs.State.{Ground, Effect, left_by, effects_of, effects_since}
+use Rattle.js_meaning.specs.State.{Ground, Effect, left_by, effects_of}
 use Rattle.js_meaning.specs.Bodies.{Origin, evaluation, constants_left}
 use Rattle.js_frames.specs.declared.machine.Machine.{Machine}
 use Rattle.js_frames.specs.declared.machine.Pause.{Pause}

@@ -3,7 +3,7 @@ use Rattle.std.proofs.Common.{◌≡◌, ℕ, List, true, false, Option, Some, N
 use Rattle.std.proofs.lemmas.List.{append_cancel_left}
 use Rattle.js_value.specs.Value.{PlainValue, PlainSet}
 use Rattle.js_meaning.specs.State as js
-use Rattle.js_meaning.specs.State.{Ground, Effect, effects_of, effects_since}
+use Rattle.js_meaning.specs.State.{Ground, Effect, effects_of}
 use Rattle.js_meaning.specs.Bodies.{evaluation}
 use Rattle.js_frames.specs.declared.machine.Machine.{Machine}
 use Rattle.bp_run.specs.Bodies as run

@@ -1,5 +1,5 @@
 //! Jobs: bodies that are carried on slice by slice, and stop at `bp.sync`.
-ghost use Rattle.std.specs.Prelude.{◌≡◌, ◌↔◌, ℕ, ◌≤◌, ◌++◌, ◌∷◌, [], List, map, option_map, IfOk, IfSome, OnOk, OnErr, IsErr, IsSome, IsTrue, None, Some, true};
+ghost use Rattle.std.specs.Prelude.{◌≡◌, ◌↔◌, ℕ, ◌++◌, ◌∷◌, [], List, map, option_map, IfOk, IfSome, OnOk, OnErr, IsErr, IsSome, IsTrue, None, Some, true};
 ghost use Rattle.js_value.specs.Views.{plain_value};
 ghost use Rattle.js_program.specs.PlainProgram.{PlainProgram};
 ghost use Rattle.js_meaning.specs.State as js;

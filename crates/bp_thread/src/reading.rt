@@ -3,7 +3,7 @@ ghost use Rattle.std.specs.Prelude.{◌≡◌, unwrap_or, option_map};
 ghost use Rattle.std.specs.List.{list_all};
 ghost use Rattle.js_value.specs.Lists.{fields_in};
 ghost use Rattle.js_value.specs.Value.{undefined};
-ghost use Rattle.js_value.specs.Views.{plain_value, value_list_of};
+ghost use Rattle.js_value.specs.Views.{plain_value};
 ghost use Rattle.bp_meaning.specs.Statements.{statement_of as statement_that_is, statement_in as statement_in_fields, requested as requested_by, set_stated as set_that_is, priority_stated as priority_that_is, events_in, is_key as is_stated_key};
 ghost use Rattle.bp_thread.specs.Views.{plain_statement, stated_set, Reads};
 

@@ -20,7 +20,7 @@ use Rattle.js_grammar.specs.Reader.{readers}
 use Rattle.js_steps.specs.declared.cursor.Cursor.{Cursor}
 use Rattle.js_steps.specs.declared.lexeme.Lexeme.{Lexeme}
 use Rattle.js_steps.specs.declared.stop.Stop.{Stop}
-use Rattle.js_steps.specs.declared.stop.Stop.TheVariants.{NoTree, Memory}
+use Rattle.js_steps.specs.declared.stop.Stop.TheVariants.{NoTree}
 use Rattle.js_steps.specs.Passed.{at_first}
 use Rattle.js_steps.specs.Seen.{seen, left}
 use Rattle.js_steps.specs.Read.{IsRead}

@@ -12,7 +12,7 @@ use Rattle.js_value.specs.declared.value.Value.TheVariants as value
 use Rattle.js_program.specs.PlainProgram as p
 use Rattle.js_program.specs.PlainProgram.{PlainContent, PlainBody, PlainProgram, content_parts}
 use Rattle.js_meaning.specs.State as js
-use Rattle.js_meaning.specs.State.{State, Setting, Outcome, went, ◌>>=◌, gives, leaves, breaks}
+use Rattle.js_meaning.specs.State.{State, Setting, Outcome, went, ◌>>=◌, leaves, breaks}
 use Rattle.js_meaning.specs.Variables.{padded, slots_of_call}
 use Rattle.js_ops.specs.Methods.{method_named}
 use Rattle.js_meaning.specs.Forms.{argument}

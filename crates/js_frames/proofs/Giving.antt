@@ -9,7 +9,7 @@ use Rattle.js_program.specs.Views.{plain_node_form}
 use Rattle.js_program.specs.declared.node.NodeForm.{NodeForm}
 use Rattle.js_program.specs.declared.node.NodeForm.TheVariants as f
 use Rattle.js_meaning.specs.State as js
-use Rattle.js_meaning.specs.State.{State, gives}
+use Rattle.js_meaning.specs.State.{gives}
 use Rattle.js_meaning.specs.Variables.{if_declared}
 use Rattle.js_meaning.specs.Meaning.{does_node, eval, turns_of}
 use Rattle.js_frames.specs.Places.{Place, setting_at, state_at}

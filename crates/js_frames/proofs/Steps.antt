@@ -12,7 +12,7 @@ use Rattle.js_program.specs.Views.{plain_node, plain_node_form}
 use Rattle.js_program.specs.declared.node.Node.{Node}
 use Rattle.js_program.specs.declared.node.NodeForm.{NodeForm}
 use Rattle.js_meaning.specs.State as js
-use Rattle.js_meaning.specs.State.{State, Setting, Outcome, went, broken, violated, spent, stopped, normal, broke, continued, returned, ◌>>=◌, gives, leaves}
+use Rattle.js_meaning.specs.State.{State, Setting, Outcome, went, ◌>>=◌, gives, leaves}
 use Rattle.js_meaning.specs.Calls.{after_call, answer_of}
 use Rattle.js_meaning.specs.Statements.{after_turn}
 use Rattle.js_meaning.specs.Meaning.{does, does_node, begins_with, eval, turns_of}

@@ -12,7 +12,7 @@ use Rattle.js_ops.specs.Answers.{AnswersAs}
 use Rattle.js_ops.specs.declared.op_fault.OpFault.{OpFault}
 use Rattle.js_ops.specs.declared.op_fault.OpFault.TheVariants as op_fault
 use Rattle.js_meaning.specs.State as js
-use Rattle.js_meaning.specs.State.{State, Setting, Outcome, answered, gives}
+use Rattle.js_meaning.specs.State.{State, Outcome, answered, gives}
 use Rattle.js_meaning.specs.Variables.{if_declared, in_slot}
 use Rattle.js_meaning.specs.Expressions.{writes}
 use Rattle.js_frames.specs.declared.step.Step.{Step}

@@ -1,5 +1,5 @@
 //! What is left of a node that begins one of its parts or none, once it has the value that decides.
-ghost use Rattle.std.specs.Prelude.{◌≡◌, cond};
+ghost use Rattle.std.specs.Prelude.{cond};
 ghost use Rattle.js_value.specs.Value.{is_truthy};
 ghost use Rattle.js_value.specs.Views.{plain_value};
 ghost use Rattle.js_program.specs.PlainProgram.{PlainProgram};

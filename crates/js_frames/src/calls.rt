@@ -1,11 +1,11 @@
 //! Calls of functions.
-ghost use Rattle.std.specs.Prelude.{◌≡◌, ◌<◌, ◌+◌, [], Some, None, length, IfOk, OnOk, IsSome, option_map, slice_get};
+ghost use Rattle.std.specs.Prelude.{◌≡◌, ◌<◌, ◌+◌, [], Some, None, IfOk, OnOk, IsSome, option_map, slice_get};
 ghost use Rattle.js_value.specs.Value.{function};
 ghost use Rattle.js_value.specs.Lists.{values_in};
 ghost use Rattle.js_value.specs.Views.{plain_value};
 ghost use Rattle.js_program.specs.PlainProgram.{content_parts};
 ghost use Rattle.js_program.specs.Views.{plain_body, plain_content};
-ghost use Rattle.js_meaning.specs.Calls.{body_of, enters, calls, answer_of};
+ghost use Rattle.js_meaning.specs.Calls.{enters, calls, answer_of};
 ghost use Rattle.js_meaning.specs.Meaning.{eval};
 ghost use Rattle.js_frames.specs.Places.{place_of, here, plain_effects};
 ghost use Rattle.js_frames.specs.Frames.{plain_completion, statements_in, statements_of};

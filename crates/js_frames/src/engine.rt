@@ -1,6 +1,6 @@
 //! What a machine keeps between two steps.
 ghost use Rattle.std.specs.Prelude.{◌≡◌, [], IfOk, unwrap_or};
-ghost use Rattle.js_frames.specs.Places.{plain_effects, place_of, fresh};
+ghost use Rattle.js_frames.specs.Places.{place_of, fresh};
 ghost use Rattle.js_frames.specs.Leads.{pushed};
 
 use crate::effect::Effects;

@@ -1,7 +1,6 @@
 //! `forEach`.
 ghost use Rattle.std.specs.Prelude.{◌≡◌, ◌<◌, ◌+◌, ◌^◌, ◌∷◌, [], pos, IfOk, IsSome, Some, slice_get};
-ghost use Rattle.js_value.specs.Value.{PlainValue, function, list, whole};
-ghost use Rattle.js_value.specs.Lists.{values_in};
+ghost use Rattle.js_value.specs.Value.{function, list, whole};
 ghost use Rattle.js_value.specs.Views.{plain_value};
 ghost use Rattle.js_meaning.specs.declared.limits.TheConstants.{MOST_CALLS};
 ghost use Rattle.js_meaning.specs.Variables.{padded};
@@ -24,7 +23,7 @@ use js_data::{Fault, Memory, Whole};
 use js_meaning::MOST_CALLS;
 use js_program::Body;
 use js_value::{Items, Value, copy};
-use std::alloc::{AllocError, Global};
+use std::alloc::AllocError;
 
 /// An index as a value: no list has more places than there are whole numbers.
 fn index_value(index: usize) -> Result<Value, Memory>

@@ -1,7 +1,7 @@
 //! The forms of `bp` and `Math`, with their arguments.
-ghost use Rattle.std.specs.Prelude.{◌≡◌, cond, IfOk, option_map};
+ghost use Rattle.std.specs.Prelude.{◌≡◌, IfOk, option_map};
 ghost use Rattle.js_data.specs.JsonText.{data_text};
-ghost use Rattle.js_value.specs.Value.{PlainValue, set, words};
+ghost use Rattle.js_value.specs.Value.{set, words};
 ghost use Rattle.js_value.specs.Views.{plain_value, plain_set};
 ghost use Rattle.js_value.specs.DataValues.{value_data};
 ghost use Rattle.js_meaning.specs.State.{gives};

@@ -1,5 +1,5 @@
 //! What a machine stands on.
-ghost use Rattle.std.specs.Prelude.{◌≡◌, length};
+ghost use Rattle.std.specs.Prelude.{◌≡◌};
 ghost use Rattle.js_program.specs.Sound.{IsSound};
 ghost use Rattle.js_meaning.specs.Bodies.{bare};
 ghost use Rattle.js_frames.specs.Places.{plain_ground};

@@ -1,11 +1,9 @@
 //! Loops.
 ghost use Rattle.js_value.specs.Views.{plain_value};
-ghost use Rattle.js_meaning.specs.State.{went, leaves};
+ghost use Rattle.js_meaning.specs.State.{went};
 ghost use Rattle.js_meaning.specs.Variables.{undeclare};
-ghost use Rattle.js_meaning.specs.Statements.{after_turn, perhaps, each_of, does_for_of};
+ghost use Rattle.js_meaning.specs.Statements.{after_turn, each_of, does_for_of};
 ghost use Rattle.js_meaning.specs.Meaning.{eval};
-ghost use Rattle.std.specs.Prelude.{cond, ◌∷◌, []};
-ghost use Rattle.js_value.specs.Value.{is_truthy};
 ghost use Rattle.js_frames.specs.Places.{here};
 ghost use Rattle.js_frames.specs.Frames.{plain_completion, rest, again, resume, loop, starts_loop, items_from};
 ghost use Rattle.js_frames.specs.Fits.{StackFits, IsNode, IsPerhapsNode, TurnsFit, TurnFits};

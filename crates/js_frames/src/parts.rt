@@ -7,7 +7,6 @@ ghost use Rattle.js_value.specs.Views.{plain_value};
 ghost use Rattle.js_ops.specs.Operators.{value_of};
 ghost use Rattle.js_ops.specs.Answers.{AnswersAs};
 ghost use Rattle.js_ops.specs.Making.{make_of};
-ghost use Rattle.js_ops.specs.Made.{Answer};
 ghost use Rattle.js_program.specs.PlainProgram.{parts_of};
 ghost use Rattle.js_program.specs.Views.{plain_node_form};
 ghost use Rattle.js_meaning.specs.State.{answered};

@@ -1,5 +1,5 @@
 //! Steps from one begun node to the next.
-ghost use Rattle.std.specs.Prelude.{◌≡◌, ℕ, IfOk};
+ghost use Rattle.std.specs.Prelude.{ℕ, IfOk};
 ghost use Rattle.js_frames.specs.Places.{plain_ground, place_of};
 ghost use Rattle.js_frames.specs.Fits.{StackFits, StepFits};
 ghost use Rattle.js_frames.specs.Leads.{Keeps, IsSettled, Advanced};

@@ -1,7 +1,6 @@
 //! What a machine does next.
 ghost use Rattle.std.specs.Prelude.{◌≡◌, IfOk};
 ghost use Rattle.js_data.specs.declared.fault.Fault.TheVariants as fault;
-ghost use Rattle.js_value.specs.Views.{plain_value};
 ghost use Rattle.js_ops.specs.Answers.{AnswersAs};
 ghost use Rattle.js_ops.specs.Made.{Answer};
 ghost use Rattle.js_meaning.specs.State.{answered};

@@ -1,5 +1,5 @@
 -- What is spelled with nesting within the room, the readers give.
-use Rattle.std.proofs.Common.{◌≡◌, ◌⊎◌, inl, inr, ℕ, zero, suc, ◌+◌, ◌-◌, ◌≤◌, ◌<◌, max, Bool, true, false, not, ◌&&◌, ◌||◌, nat_le, nat_eq, if◌then◌else◌, List, [], ◌∷◌, ◌++◌, length, Option, Some, None, is_some, refl, ap, sym, subst, ◌∙◌, arith, append_assoc, append-nil}
+use Rattle.std.proofs.Common.{◌≡◌, ◌⊎◌, inl, inr, ℕ, zero, suc, ◌+◌, ◌-◌, ◌≤◌, ◌<◌, Bool, true, false, not, ◌&&◌, ◌||◌, if◌then◌else◌, List, [], ◌∷◌, ◌++◌, length, Option, Some, None, is_some, refl, ap, ◌∙◌, arith, append_assoc, append-nil}
 use Rattle.std.proofs.lemmas.Bool.{le-leb}
 use Rattle.js_lexer.specs.declared.token.Token.{Token}
 use Rattle.js_lexer.specs.declared.token.Kind.{Kind}
@@ -12,27 +12,26 @@ use Rattle.js_tree.specs.declared.tree.DeclareKind.{DeclareKind}
 use Rattle.js_tree.specs.declared.ending.Ending.{Ending}
 use Rattle.js_tree.specs.declared.ending.Ending.TheVariants.{Closed}
 use Rattle.js_tree.specs.Plain as p
-use Rattle.js_tree.specs.Plain.{PlainExpr, at, PlainForm, PlainField, PlainPerhaps, absent, present, PlainDeclarator, PlainStart, PlainStmt, on, PlainItem, exprs_of, fields_of, declarators_of, stmts_of}
+use Rattle.js_tree.specs.Plain.{PlainExpr, at, PlainField, PlainPerhaps, absent, PlainDeclarator, PlainStart, PlainStmt, on, PlainItem, exprs_of, fields_of, declarators_of, stmts_of}
 use Rattle.js_tree.specs.Nesting.{nesting, deepest, deepest_field, deepest_declarator, perhaps_nesting, start_nesting, stmt_nesting, deepest_stmt, item_nesting, deepest_item, one_less_if, is_object_name, is_member}
 use Rattle.js_tree.specs.Endings.{ending, declarators_ending}
 use Rattle.js_grammar.specs.declared.sort.Sort.{Sort}
-use Rattle.js_grammar.specs.declared.sort.Sort.TheVariants.{LeftBrace, RightBrace, LeftParen, RightParen, LeftBracket, RightBracket, Dot, Semicolon, Comma, Question, Colon, Set, Function, Const, Let, Var, Return, If, Else, While, For, Break, Continue, True, False, Null}
-use Rattle.js_grammar.specs.Sorts.{same, kind_name, name_at, kind_number, kind_words, kind_key, kind_sort, sort, is, spot, named, numbered, quoted, member_word, key}
+use Rattle.js_grammar.specs.declared.sort.Sort.TheVariants.{LeftBrace, RightBrace, LeftParen, RightParen, LeftBracket, RightBracket, Dot, Semicolon, Comma, Question, Set, Function, Const, Let, Var, Return, If, Else, While, For, Break, Continue}
+use Rattle.js_grammar.specs.Sorts.{same, kind_name, name_at, kind_number, kind_words, kind_sort, sort, is, spot, named, numbered, quoted, member_word}
 use Rattle.js_grammar.specs.Operators.{operator_at, starts_operator, sort_sign, sign, sort_step, step, sort_assign, assign_op}
-use Rattle.js_grammar.specs.Arrows.{starts_arrow, begins_arrow, starts_function}
-use Rattle.js_grammar.specs.Ends.{starts_end, can_continue, end_absent, ends_return, begins_other, starts_other}
-use Rattle.js_grammar.specs.Tokens.{starts, line_of, end_before, declares, sort_declare, is_const, lexical, starts_sign, starts_step, starts_update, goes_on, starts_call, starts_set, starts_assign, starts_lexical, starts_declaration, is_of, starts_of, starts_name_of, starts_for_of}
-use Rattle.js_grammar.specs.Grammar.{Level, Primary, Calls, Operators, Choice, Assignment, Params, params_none, params_last, params_more, Header, header_name, header_params, Opening, opening, End, end_mark, end_none, Spells, number_of, words_of, true_of, false_of, null_of, name_of, round, list_of, fields_in, function_in, calls, no_sign, signed, update_before, update_after, operators, no_choice, choice, no_assignment, assignment, function_value, function_block, Called, called_first, called_member, called_index, called_with, Operated, operated_first, operated_more, Elements, elements_none, elements_last, elements_more, Field, field_pair, field_name, Fields, fields_none, fields_last, fields_more, Declarator, declarator_value, declarator_name, Declarators, declarators_last, declarators_more, Start, start_nothing, start_declares, start_value, Perhaps, perhaps_none, perhaps_some, Test, test_of, Statements, statements_end, statements_more, Body, body_of, Statement, empty_of, block_of, declaration_of, expression_of, if_only, if_both, while_loop, for_three, for_of, break_end, continue_end, return_end, return_value, Item, item_statement, item_function, SpellsTree, tree_end, tree_more}
+use Rattle.js_grammar.specs.Arrows.{starts_function}
+use Rattle.js_grammar.specs.Ends.{starts_end, can_continue, end_absent, begins_other}
+use Rattle.js_grammar.specs.Tokens.{starts, line_of, declares, sort_declare, is_const, starts_sign, starts_update, goes_on, starts_call, starts_assign, starts_declaration}
+use Rattle.js_grammar.specs.Grammar.{Level, Operators, Assignment, Params, params_none, params_last, params_more, Header, header_name, header_params, Opening, opening, End, end_mark, end_none, Spells, number_of, words_of, true_of, false_of, null_of, name_of, round, list_of, fields_in, function_in, calls, no_sign, signed, update_before, update_after, operators, no_choice, choice, no_assignment, assignment, function_value, function_block, Called, called_first, called_member, called_index, called_with, Operated, operated_first, operated_more, Elements, elements_none, elements_last, elements_more, Field, field_pair, field_name, Fields, fields_none, fields_last, fields_more, Declarator, declarator_value, declarator_name, Declarators, declarators_last, declarators_more, Start, start_nothing, start_declares, start_value, Perhaps, perhaps_none, perhaps_some, Test, test_of, Statements, statements_end, statements_more, Body, body_of, Statement, empty_of, block_of, declaration_of, expression_of, if_only, if_both, while_loop, for_three, for_of, break_end, continue_end, return_end, return_value, Item, item_statement, item_function, SpellsTree, tree_end, tree_more}
 use Rattle.js_grammar.specs.Reading as read
 use Rattle.js_grammar.specs.Expressions as exprs
 use Rattle.js_grammar.specs.Statements as stmts
-use Rattle.js_grammar.specs.Reading.{Found, and_then, if_some, within, ended_rest, ended, Turn, again, done, next_turn, run}
-use Rattle.js_grammar.specs.Expressions.{Readers}
+use Rattle.js_grammar.specs.Reading.{Found, and_then, within, ended_rest, ended, Turn, again, done, run}
 use Rattle.js_grammar.specs.Reader.{readers}
-use Rattle.js_grammar.proofs.Marks.{is-true, is-same}
-use Rattle.js_grammar.proofs.Steps.{Gives, weaker, if-gives, then-gives, after-gives, some-gives, after_some-gives, within-gives, ended-gives, TurnGives, Shortens, run-turn}
-use Rattle.js_grammar.proofs.Shorter.{params_shorter, header_shorter, end_shorter, spells_shorter, elements_shorter, fields_shorter, field_shorter, declarator_shorter, statement_shorter, item_shorter}
-use Rattle.js_grammar.proofs.Sound.{AreSound, readers-sound, params-sound, elements-sound, field_at-sound, declarator-sound, item-sound}
+use Rattle.js_grammar.proofs.Marks.{is-same}
+use Rattle.js_grammar.proofs.Steps.{Gives, weaker, if-gives, then-gives, after-gives, some-gives, after_some-gives, within-gives, TurnGives, Shortens, run-turn}
+use Rattle.js_grammar.proofs.Shorter.{spells_shorter, elements_shorter, field_shorter, declarator_shorter, statement_shorter, item_shorter}
+use Rattle.js_grammar.proofs.Sound.{readers-sound, elements-sound, field_at-sound, declarator-sound, item-sound}
 
 -- each turn takes a token
 

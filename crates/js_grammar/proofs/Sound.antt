@@ -1,5 +1,5 @@
 -- What the readers give is spelled, and its nesting is within the room.
-use Rattle.std.proofs.Common.{◌≡◌, ℕ, zero, suc, ◌+◌, ◌-◌, ◌≤◌, ◌<◌, max, Bool, true, false, not, ◌&&◌, ◌||◌, if◌then◌else◌, List, [], ◌∷◌, ◌++◌, length, Option, Some, None, is_some, refl, ap, sym, subst, ◌∙◌, arith, append_assoc, append-nil}
+use Rattle.std.proofs.Common.{◌≡◌, ℕ, zero, suc, ◌+◌, ◌-◌, ◌≤◌, Bool, true, false, not, ◌&&◌, if◌then◌else◌, List, [], ◌∷◌, ◌++◌, Option, Some, None, is_some, refl, ap, sym, subst, arith, append_assoc, append-nil}
 use Rattle.js_lexer.specs.declared.token.Token.{Token}
 use Rattle.js_tree.specs.declared.tree.Name.{Name}
 use Rattle.js_tree.specs.declared.tree.Operator.{Operator}
@@ -7,24 +7,23 @@ use Rattle.js_tree.specs.declared.tree.Sign.{Sign}
 use Rattle.js_tree.specs.declared.tree.Step.{Step}
 use Rattle.js_tree.specs.declared.tree.Fix.TheVariants.{Before, After}
 use Rattle.js_tree.specs.declared.tree.DeclareKind.{DeclareKind}
-use Rattle.js_tree.specs.declared.ending.Ending.{Ending}
 use Rattle.js_tree.specs.declared.ending.Ending.TheVariants.{Closed}
 use Rattle.js_tree.specs.Plain as p
-use Rattle.js_tree.specs.Plain.{PlainExpr, at, PlainForm, PlainField, PlainPerhaps, absent, present, PlainDeclarator, PlainStart, PlainStmt, on, PlainItem, exprs_of, fields_of, declarators_of, stmts_of}
+use Rattle.js_tree.specs.Plain.{PlainExpr, at, PlainField, PlainPerhaps, absent, PlainDeclarator, PlainStart, PlainStmt, on, PlainItem, exprs_of, fields_of, declarators_of, stmts_of}
 use Rattle.js_tree.specs.Nesting.{nesting, deepest, deepest_field, deepest_declarator, perhaps_nesting, start_nesting, stmt_nesting, deepest_stmt, item_nesting, deepest_item, one_less_if, is_object_name, is_member}
 use Rattle.js_tree.specs.Endings.{ending, declarators_ending}
 use Rattle.js_grammar.specs.declared.sort.Sort.{Sort}
 use Rattle.js_grammar.specs.declared.sort.Sort.TheVariants.{LeftBrace, RightBrace, LeftParen, RightParen, LeftBracket, RightBracket, Dot, Semicolon, Comma, Question, Colon, Set, Function, Const, Let, Var, Return, If, Else, While, For, Break, Continue, True, False, Null}
 use Rattle.js_grammar.specs.Sorts.{sort, is, spot, named, numbered, quoted, member_word, key}
-use Rattle.js_grammar.specs.Operators.{operator_at, starts_operator, sign, step, assign_op}
+use Rattle.js_grammar.specs.Operators.{operator_at, sign, step, assign_op}
 use Rattle.js_grammar.specs.Arrows.{starts_arrow, starts_function}
-use Rattle.js_grammar.specs.Ends.{starts_end, end_absent, ends_return, starts_other}
-use Rattle.js_grammar.specs.Tokens.{starts, line_of, end_before, declares, sort_declare, is_const, lexical, starts_sign, starts_step, starts_update, starts_call, starts_set, starts_assign, starts_lexical, starts_declaration, is_of, starts_of, starts_name_of, starts_for_of}
-use Rattle.js_grammar.specs.Grammar.{Level, Primary, Calls, Operators, Choice, Assignment, Params, params_none, params_last, params_more, Header, header_name, header_params, Opening, opening, End, end_mark, end_none, Spells, number_of, words_of, true_of, false_of, null_of, name_of, round, list_of, fields_in, function_in, calls, no_sign, signed, update_before, update_after, operators, no_choice, choice, no_assignment, assignment, function_value, function_block, Called, called_first, called_member, called_index, called_with, Operated, operated_first, operated_more, Elements, elements_none, elements_last, elements_more, Field, field_pair, field_name, Fields, fields_none, fields_last, fields_more, Declarator, declarator_value, declarator_name, Declarators, declarators_last, declarators_more, Start, start_nothing, start_declares, start_value, Perhaps, perhaps_none, perhaps_some, Test, test_of, Statements, statements_end, statements_more, Body, body_of, Statement, empty_of, block_of, declaration_of, expression_of, if_only, if_both, while_loop, for_three, for_of, break_end, continue_end, return_end, return_value, Item, item_statement, item_function, SpellsTree, tree_end, tree_more}
+use Rattle.js_grammar.specs.Ends.{starts_end, ends_return}
+use Rattle.js_grammar.specs.Tokens.{starts, line_of, declares, sort_declare, is_const, lexical, starts_sign, starts_step, starts_update, starts_assign, starts_lexical, is_of, starts_of, starts_name_of, starts_for_of}
+use Rattle.js_grammar.specs.Grammar.{Level, Primary, Calls, Operators, Choice, Assignment, Params, params_none, params_last, params_more, Header, header_name, header_params, Opening, opening, Spells, number_of, words_of, true_of, false_of, null_of, name_of, round, list_of, fields_in, function_in, calls, no_sign, signed, update_before, update_after, operators, no_choice, choice, no_assignment, assignment, function_value, function_block, Called, called_first, called_member, called_index, called_with, Operated, operated_first, operated_more, Elements, elements_none, elements_last, elements_more, Field, field_pair, field_name, Fields, fields_none, fields_last, fields_more, Declarator, declarator_value, declarator_name, Declarators, declarators_last, declarators_more, Start, start_nothing, start_declares, start_value, Perhaps, perhaps_none, perhaps_some, Test, test_of, Statements, statements_end, statements_more, Body, body_of, Statement, empty_of, block_of, declaration_of, expression_of, if_only, if_both, while_loop, for_three, for_of, break_end, continue_end, return_end, return_value, Item, item_statement, item_function, SpellsTree, tree_end, tree_more}
 use Rattle.js_grammar.specs.Reading as read
 use Rattle.js_grammar.specs.Expressions as exprs
 use Rattle.js_grammar.specs.Statements as stmts
-use Rattle.js_grammar.specs.Reading.{Found, Turn, again, done}
+use Rattle.js_grammar.specs.Reading.{Turn}
 use Rattle.js_grammar.specs.Expressions.{Readers}
 use Rattle.js_grammar.specs.Reader.{readers}
 use Rattle.js_grammar.proofs.Marks.{is-true}

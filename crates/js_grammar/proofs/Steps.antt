@@ -1,5 +1,5 @@
 -- What each step of a reader gives, from what its parts give.
-use Rattle.std.proofs.Common.{◌≡◌, ℕ, zero, suc, ◌+◌, ◌≤◌, ◌<◌, Bool, true, false, nat_le, if◌then◌else◌, List, [], ◌∷◌, length, Option, Some, None, refl, ap, sym, ◌∙◌, arith}
+use Rattle.std.proofs.Common.{◌≡◌, ℕ, zero, suc, ◌≤◌, ◌<◌, Bool, true, false, nat_le, if◌then◌else◌, List, [], ◌∷◌, length, Option, Some, None, refl, arith}
 use Rattle.std.proofs.lemmas.Bool.{leb-true}
 use Rattle.js_lexer.specs.declared.token.Token.{Token}
 use Rattle.js_tree.specs.declared.ending.Ending.{Ending}
@@ -7,9 +7,8 @@ use Rattle.js_grammar.specs.declared.sort.Sort.{Sort}
 use Rattle.js_grammar.specs.declared.sort.Sort.TheVariants.{Semicolon}
 use Rattle.js_grammar.specs.Sorts.{is, sort}
 use Rattle.js_grammar.specs.Ends.{end_absent}
-use Rattle.js_grammar.specs.Tokens.{starts}
 use Rattle.js_grammar.specs.Grammar.{End, end_mark, end_none}
-use Rattle.js_grammar.specs.Reading.{Found, and_then, after, if_some, after_some, within, Turn, again, done, next_turn, turns, run, tail, ended_rest, ended}
+use Rattle.js_grammar.specs.Reading.{Found, and_then, after, if_some, after_some, within, Turn, again, done, next_turn, turns, run, ended_rest, ended}
 use Rattle.js_grammar.proofs.Marks.{is-true}
 
 -- P of what is given, if anything is

@@ -1,5 +1,5 @@
 -- Tokens spell at most one tree, and what reading all of them says of it.
-use Rattle.std.proofs.Common.{◌≡◌, ◌+◌, ℕ, suc, ◌≤◌, max, List, [], ◌++◌, Option, Some, None, refl, sym, ◌∙◌, ap, subst, arith}
+use Rattle.std.proofs.Common.{◌≡◌, ℕ, suc, max, List, [], Some, None, ap, subst, arith}
 use Rattle.js_lexer.specs.declared.token.Token.{Token}
 use Rattle.js_tree.specs.Plain.{PlainExpr, PlainItem}
 use Rattle.js_tree.specs.Nesting.{nesting, deepest_item}
@@ -9,7 +9,7 @@ use Rattle.js_grammar.specs.Statements as stmts
 use Rattle.js_grammar.specs.Reading.{Found}
 use Rattle.js_grammar.specs.Reader.{readers}
 use Rattle.js_grammar.proofs.Steps.{Gives}
-use Rattle.js_grammar.proofs.Sound.{AreSound, readers-sound, items-sound, AllItems}
+use Rattle.js_grammar.proofs.Sound.{readers-sound, items-sound, AllItems}
 use Rattle.js_grammar.proofs.Complete.{spells-read, items-read}
 
 pub spelled_once : (l : Level) (ts : List Token) (e e' : PlainExpr) (r r' : List Token) → Spells l ts e r → Spells l ts e' r' → (e ≡ e') × (r ≡ r')

@@ -1,5 +1,5 @@
 -- The grammar: which tokens spell a tree, and what follows.
-use Rattle.std.specs.Prelude.{ℕ, zero, suc, ℤ, ◌≡◌, Bool, true, false, List, [], ◌∷◌, Option, Some, None}
+use Rattle.std.specs.Prelude.{ℕ, suc, ℤ, ◌≡◌, true, false, List, [], ◌∷◌, Some}
 use Rattle.js_lexer.specs.declared.token.Token.{Token}
 use Rattle.js_tree.specs.declared.tree.Name.{Name}
 use Rattle.js_tree.specs.declared.tree.Operator.{Operator}

@@ -1,5 +1,5 @@
 -- What a token is for the grammar.
-use Rattle.std.specs.Prelude.{ℕ, ℤ, nat_eq, Bool, List, [], ◌∷◌, Option, Some, None, if◌then◌else◌}
+use Rattle.std.specs.Prelude.{ℕ, ℤ, nat_eq, Bool, List, Option, Some, None, if◌then◌else◌}
 use Rattle.bp_tables.specs.Found.{find_in}
 use Rattle.js_lexer.specs.declared.token.Kind.{Kind}
 use Rattle.js_lexer.specs.declared.token.Token.{Token}

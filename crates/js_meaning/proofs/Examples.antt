@@ -10,12 +10,11 @@ use Rattle.js_tree.specs.declared.tree.Operator.TheVariants as op
 use Rattle.js_tree.specs.declared.tree.AssignOp.TheVariants.{Set, Add}
 use Rattle.js_tree.specs.declared.tree.DeclareKind.TheVariants.{Let, Var}
 use Rattle.js_value.specs.Value as v
-use Rattle.js_value.specs.Value.{PlainValue}
 use Rattle.js_program.specs.declared.builtin.Builtin.TheVariants as form
 use Rattle.js_program.specs.declared.builtin.Mode.TheVariants.{Thread}
 use Rattle.js_program.specs.declared.node.Variable.TheVariants.{Slot}
 use Rattle.js_program.specs.PlainProgram as p
-use Rattle.js_program.specs.PlainProgram.{PlainNode, PlainBody}
+use Rattle.js_program.specs.PlainProgram.{PlainNode}
 use Rattle.js_meaning.specs.State.{Outcome, says, broken, spent}
 use Rattle.js_meaning.specs.Meaning.{within, eval, turns_of}
 use Rattle.js_meaning.specs.Bodies.{the_top, bare, evaluation}

@@ -15,7 +15,6 @@ use Rattle.js_program.specs.declared.builtin.Mode.TheVariants.{Top, Thread, Hand
 use Rattle.js_program.specs.declared.node.Variable.TheVariants.{Slot}
 use Rattle.js_program.specs.Builtins.{has_effect_in}
 use Rattle.js_program.specs.PlainProgram as p
-use Rattle.js_program.specs.PlainProgram.{PlainNode, PlainBody}
 use Rattle.js_meaning.specs.State.{Outcome, says, enqueues, registers, handles, broken, violated, stopped}
 use Rattle.js_meaning.specs.Meaning.{within, eval, turns_of}
 use Rattle.js_meaning.specs.Bodies.{function, evaluation}

@@ -15,7 +15,7 @@ use Rattle.js_value.specs.Lists.{value_list_of}
 use Rattle.js_program.specs.declared.builtin.Builtin.TheVariants as form
 use Rattle.js_program.specs.declared.builtin.Mode.TheVariants.{Thread}
 use Rattle.js_program.specs.PlainProgram as p
-use Rattle.js_program.specs.PlainProgram.{PlainNode, PlainNodeForm}
+use Rattle.js_program.specs.PlainProgram.{PlainNode}
 use Rattle.js_meaning.specs.State.{says, broken}
 use Rattle.js_meaning.specs.Meaning.{within, eval}
 use Rattle.js_meaning.specs.Bodies.{evaluation}

@@ -11,7 +11,7 @@ use Rattle.js_program.specs.declared.builtin.Builtin.TheVariants as form
 use Rattle.js_program.specs.declared.builtin.Mode.TheVariants.{Thread}
 use Rattle.js_program.specs.declared.node.Variable.TheVariants.{Slot, Constant}
 use Rattle.js_program.specs.PlainProgram as p
-use Rattle.js_program.specs.PlainProgram.{PlainNode, PlainBody, PlainConstant, PlainDeclared, PlainProgram}
+use Rattle.js_program.specs.PlainProgram.{PlainNode, PlainBody, PlainDeclared, PlainProgram}
 use Rattle.js_meaning.specs.State.{Effect, Outcome, says, went, normal, broken}
 use Rattle.js_meaning.specs.Meaning.{within, eval}
 use Rattle.js_meaning.specs.Bodies.{the_top, function, bare, evaluation, ground_of}

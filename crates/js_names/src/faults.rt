@@ -1,5 +1,5 @@
 //! The first breach of the rules of names.
-ghost use Rattle.std.specs.Prelude.{◌≡◌, ◌≢◌, ◌∷◌, [], ◌++◌, None, Some, IfOk, IfErr, fold, map, length};
+ghost use Rattle.std.specs.Prelude.{◌≡◌, ◌≢◌, None, Some, IfOk, IfErr, map, length};
 ghost use Rattle.js_tree.specs.Views.{plain_tree};
 ghost use Rattle.js_names.specs.Places.{places};
 ghost use Rattle.js_names.specs.Slots.{assigned_in, slots_of};

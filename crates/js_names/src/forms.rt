@@ -5,14 +5,7 @@ ghost use Rattle.js_tree.specs.Views.{plain_expr};
 ghost use Rattle.js_names.specs.Forms.{is_undefined, is_reserved, object_of, owner_of, builtin_at, called_builtin, value_builtin};
 
 use js_program::{Builtin, builtin_of};
-use js_tree::{Expr, Form, Name};
-
-/// Whether the name is that of an object whose members are forms of the language.
-pub fn is_object(text: &str) -> bool
-    ensures { result ≡ is_object text.now }
-{
-    text == "bp" || text == "Math"
-}
+use js_tree::{Expr, Form, Name, is_log, is_object};
 
 /// Whether the name is that of the value `undefined`.
 pub fn is_undefined(text: &str) -> bool
@@ -41,16 +34,6 @@ pub fn object_of(e: &Expr) -> Option<&Name>
             }
         }
         _ => None,
-    }
-}
-
-/// Whether the member is `bp.log`.
-fn is_log(object: &Expr, word: &str) -> bool
-    ensures { result ≡ is_log_of (plain_expr object.now) word.now }
-{
-    match &object.form {
-        Form::Use(name) => name.text.as_str() == "bp" && word == "log",
-        _ => false,
     }
 }
 

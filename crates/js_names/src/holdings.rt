@@ -2,7 +2,7 @@
 ghost use Rattle.std.specs.Prelude.{◌≡◌, ◌∷◌, [], ◌++◌, false, IfOk, IsTrue, OnOk, map, length, nat_eq};
 ghost use Rattle.std.specs.List.{flat_map};
 ghost use Rattle.indexmap.specs.IndexMap.{get};
-ghost use Rattle.js_names.specs.Slots.{hold, holds_all, copies, inside, holdings, slots_of, captures, captures_in, parameter_in, variable_in, var_in, vars_of};
+ghost use Rattle.js_names.specs.Slots.{hold, holds_all, copies, inside, slots_of, captures, captures_in, parameter_in, variable_in, var_in, vars_of};
 ghost use Rattle.js_names.specs.Views.{place_of};
 ghost use Rattle.js_names.specs.Held.{Holds, IsMade, held_in};
 

@@ -1,6 +1,6 @@
 //! Look-ups of names in the scopes around a place, whose innermost is the last.
 ghost use Rattle.std.specs.Prelude.{◌≡◌, ◌∷◌, [], nat_lt, ◌&&◌, not};
-ghost use Rattle.js_names.specs.Places.{earlier, found, found_here, found_var, blocked, repeated, is_earlier, is_parameter, test_of, clashes, declared_at};
+ghost use Rattle.js_names.specs.Places.{earlier, found, found_here, found_var, blocked, repeated, is_parameter, test_of, clashes, declared_at};
 ghost use Rattle.js_names.specs.Views.{scope_of, scopes_of};
 
 use crate::forms::is_reserved;

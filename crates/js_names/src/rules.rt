@@ -1,7 +1,7 @@
 //! The rules of names, each a test of a place.
 ghost use Rattle.std.specs.Prelude.{◌≡◌, IfOk, map, length};
 ghost use Rattle.js_names.specs.Slots.{assigned_in, assigned_at, is_constant, can_copy, is_outer, variable_at};
-ghost use Rattle.js_names.specs.Rules.{fails_unknown, fails_twice, fails_const, fails_capture, fails_loop_word, fails_return, fails_slots};
+ghost use Rattle.js_names.specs.Rules.{fails_unknown, fails_const, fails_capture, fails_loop_word, fails_return, fails_slots};
 ghost use Rattle.js_names.specs.Views.{place_of};
 ghost use Rattle.js_names.specs.Held.{held_in};
 

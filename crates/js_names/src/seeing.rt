@@ -7,11 +7,11 @@ ghost use Rattle.js_names.specs.Places.{see, functions_of, owner_in};
 ghost use Rattle.js_names.specs.Views.{place_of, scope_of, scopes_of};
 ghost use Rattle.js_names.specs.Walks.{Adds, Entered, Left, scopes_in};
 
-use crate::forms::{is_object, is_reserved, is_undefined};
+use crate::forms::{is_reserved, is_undefined};
 use crate::lookup::{clashes, declared_at};
 use crate::place::{Around, Role, Seen, What, copy_of, word_at};
 use crate::scope::{Scope, Walk};
-use js_tree::{DeclareKind, Name, Spot};
+use js_tree::{DeclareKind, Name, Spot, is_object};
 use std::alloc::{AllocError, Global};
 use std::sync::Arc;
 

@@ -1,12 +1,10 @@
 //! The walk over a tree, which lists its places in text order.
 ghost use Rattle.std.specs.Prelude.{◌≡◌, ◌++◌, IfOk, OnOk, is_some, string_bytes, codes, [], map, if◌then◌else◌};
 ghost use Rattle.std.specs.List.{flat_map};
-ghost use Rattle.js_tree.specs.Plain.{stmts_of};
-ghost use Rattle.js_tree.specs.Views.{perhaps, plain_expr, plain_start, plain_stmt, plain_tree};
-ghost use Rattle.js_names.specs.Entries.{top};
+ghost use Rattle.js_tree.specs.Views.{plain_expr, plain_start, plain_stmt, plain_tree};
 ghost use Rattle.js_names.specs.Scopes.{block_scope, for_scope, list_scope, each_role, function_scope};
 ghost use Rattle.js_names.specs.Forms.{object_of, value_builtin, called_builtin};
-ghost use Rattle.js_names.specs.Sites.{site, assign_site, begin_site, parameter_sites, member_sites, in_function, in_loop, perhaps_sites, start_sites, stmts_sites, word_at};
+ghost use Rattle.js_names.specs.Sites.{site, begin_site, parameter_sites, member_sites, in_function, in_loop, word_at};
 ghost use Rattle.js_names.specs.Places.{places};
 ghost use Rattle.js_names.specs.Views.{place_of};
 ghost use Rattle.js_names.specs.Walks.{Adds, Enters, EntersEach, scopes_in};

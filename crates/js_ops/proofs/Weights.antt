@@ -3,7 +3,7 @@ use Rattle.std.proofs.Common.{◌≡◌, ◌≤◌, ℕ, List, [], ◌∷◌, �
 use Rattle.std.proofs.lemmas.Bool.{lt-ltb}
 use Rattle.js_data.specs.declared.fault.Fault.TheVariants as fault
 use Rattle.js_value.specs.Value as v
-use Rattle.js_value.specs.Value.{PlainValue, PlainSet, value_weight, value_list_weight, set_weight, value_text}
+use Rattle.js_value.specs.Value.{PlainValue, PlainSet, value_weight, value_list_weight, set_weight}
 use Rattle.js_value.specs.Lists.{value_list_of}
 use Rattle.js_ops.specs.Made.{made}
 use Rattle.js_ops.specs.Operators.{join}

@@ -1,6 +1,5 @@
 //! Tokens that the language refuses.
 ghost use Rattle.std.specs.Prelude.{◌≡◌, false};
-ghost use Rattle.js_grammar.specs.Sorts.{is};
 ghost use Rattle.js_grammar.specs.Unsupported.{is_prototype, is_refused, first_unsupported};
 ghost use Rattle.js_steps.specs.Seen.{seen};
 

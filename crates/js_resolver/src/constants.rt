@@ -1,7 +1,7 @@
 //! What the constants of a program are before it runs.
 ghost use Rattle.std.specs.Prelude.{◌≡◌, IfOk, OnOk, Some, None, map, nat_eq, unwrap_or, if◌then◌else◌};
 ghost use Rattle.js_tree.specs.Views.{plain_item};
-ghost use Rattle.js_program.specs.PlainProgram.{of_function, undeclared, unset};
+ghost use Rattle.js_program.specs.PlainProgram.{undeclared, unset};
 ghost use Rattle.js_program.specs.Views.{plain_constant};
 ghost use Rattle.js_names.specs.Places.{is_var};
 ghost use Rattle.js_names.specs.Slots.{assigned_in, constants_of};

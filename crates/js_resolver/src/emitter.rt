@@ -1,8 +1,7 @@
 //! Nodes and functions, as the walk over a tree emits them.
-ghost use Rattle.std.specs.Prelude.{◌≡◌, ◌+◌, ◌≤◌, IfOk, OnOk, length};
+ghost use Rattle.std.specs.Prelude.{◌≡◌, ◌≤◌, IfOk, OnOk, length};
 ghost use Rattle.std.specs.List.{insert};
-ghost use Rattle.js_program.specs.Views.{plain_body};
-ghost use Rattle.js_resolver.specs.Emits.{Puts, nodes_of, functions_of};
+ghost use Rattle.js_resolver.specs.Emits.{Puts};
 
 use js_program::{Body, Node, NodeForm};
 use std::alloc::{AllocError, Global};

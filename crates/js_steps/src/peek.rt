@@ -1,7 +1,7 @@
 //! Tests on the first tokens.
 ghost use Rattle.std.specs.Prelude.{◌≡◌, is_some};
 ghost use Rattle.js_grammar.specs.Sorts.{named};
-ghost use Rattle.js_grammar.specs.Operators.{operator, level_of, at_level, operator_at, sign, step, assign_op};
+ghost use Rattle.js_grammar.specs.Operators.{operator, level_of, operator_at, sign, step, assign_op};
 ghost use Rattle.js_grammar.specs.Arrows.{starts_arrow, arrow_follows, starts_function};
 ghost use Rattle.js_grammar.specs.Ends.{starts_end};
 ghost use Rattle.js_grammar.specs.Tokens.{declares, lexical, is_of, starts_update, starts_assign, starts_lexical, starts_name_of, starts_for_of, is_const};

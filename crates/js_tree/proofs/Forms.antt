@@ -13,7 +13,7 @@ use Rattle.js_tree.specs.declared.tree.AssignOp.{AssignOp}
 use Rattle.js_tree.specs.declared.tree.Expr.{Expr, fold_out-Expr}
 use Rattle.js_tree.specs.declared.tree.Field.{Field, fold_out-Field}
 use Rattle.js_tree.specs.declared.tree.Stmt.{Stmt}
-use Rattle.js_tree.specs.declared.tree.Form.{Form, Number, Words, Truth, Null, Use, List as ListOf, Fields, Member, Index, Call, Unary, Update, Binary, Conditional, Assign, ArrowValue, ArrowBlock, Function, fold-roll-Form}
+use Rattle.js_tree.specs.declared.tree.Form.{Number, Words, Truth, Null, Use, List as ListOf, Fields, Member, Index, Call, Unary, Update, Binary, Conditional, Assign, ArrowValue, ArrowBlock, Function, fold-roll-Form}
 use Rattle.js_tree.specs.declared.tree.Form.TheVariants.{rolls-Number, rolls-Words, rolls-Truth, rolls-Null, rolls-Use, rolls-List, rolls-Fields, rolls-Member, rolls-Index, rolls-Call, rolls-Unary, rolls-Update, rolls-Binary, rolls-Conditional, rolls-Assign, rolls-ArrowValue, rolls-ArrowBlock, rolls-Function}
 use Rattle.js_tree.specs.Plain as p
 use Rattle.js_tree.specs.Plain.{PlainExpr, PlainForm, PlainField, PlainDeclarator, PlainStart, PlainStmt, PlainStmtForm, exprs_of, fields_of, stmts_of}

@@ -3,7 +3,7 @@ use Rattle.std.proofs.Common.{◌≡◌, ◌≤◌, ◌<◌, ◌+◌, ℕ, suc, 
 use Rattle.std.specs.declared.sync.Arc.{Arc}
 use Rattle.std.proofs.lemmas.List.{drop_all, take_all}
 use Rattle.js_data.specs.Data as d
-use Rattle.js_data.specs.Data.{PlainData, DataList, DataFields}
+use Rattle.js_data.specs.Data.{DataList, DataFields}
 use Rattle.js_data.specs.Views.{plain_data, data_list_view, data_fields_view}
 use Rattle.js_data.specs.declared.data.Data.{Data}
 use Rattle.js_value.specs.Value as v

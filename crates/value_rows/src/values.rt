@@ -1,7 +1,7 @@
 //! Weights, nestings, truth and texts of values and sets, and the names of faults.
 use crate::words::{text, value_of};
 use js_value::{
-    Event, EventSet, Fault, Items, Pairs, SetTree, Text, Value, Whole, copy, event_value, nesting,
+    Event, EventSet, Fault, Items, Pairs, SetTree, Value, Whole, copy, event_value, nesting,
     text_of, truthy, weight, words,
 };
 use std::alloc::Global;

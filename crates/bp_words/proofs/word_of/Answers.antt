@@ -1,4 +1,4 @@
-use Rattle.std.proofs.Common.{◌≡◌, ◌∙◌, ◌<◌, ◌≤◌, ◌^◌, ◌%◌, ◌++◌, ℕ, List, ap, arith}
+use Rattle.std.proofs.Common.{◌∙◌, ◌<◌, ◌%◌, ◌++◌, ℕ, List, ap, arith}
 use Rattle.std.specs.Prelude.{replicate}
 use Rattle.std.proofs.Math.Nat.{mod-eq_of_lt}
 use Rattle.rand_chacha.specs.ChaCha.{ChaCha, word_at, key_of}

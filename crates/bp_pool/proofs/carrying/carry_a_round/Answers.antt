@@ -1,4 +1,3 @@
-use Rattle.std.proofs.Common.{rules}
 use Rattle.js_frames.specs.Places.{plain_ground}
 use Rattle.bp_pool.proofs.Going.{itself, onward, still_not}
 use Rattle.bp_pool.proofs.carrying.carry_a_round.Goals as goal

@@ -1,4 +1,4 @@
-use Rattle.std.proofs.Common.{List, ℕ, ◌≡◌, ◌≤◌, length, subst}
+use Rattle.std.proofs.Common.{List, ℕ, ◌≡◌, subst}
 use Rattle.js_lexer.specs.declared.token.LexFault.{LexFault}
 use Rattle.js_lexer.specs.declared.token.LexFault.TheVariants.{Character, OpenText, Escape, NumberRange, Unsupported}
 use Rattle.js_lexer.specs.Lexed.{IsRefusal}

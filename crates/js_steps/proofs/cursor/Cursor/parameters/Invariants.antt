@@ -1,4 +1,4 @@
-use Rattle.std.proofs.Common.{◌≡◌, ◌≤◌, [], length}
+use Rattle.std.proofs.Common.{◌≡◌, ◌≤◌, length}
 use Rattle.js_grammar.specs.Reading.{run, params_step, params}
 use Rattle.js_steps.specs.Seen.{seen}
 use Rattle.js_steps.proofs.cursor.Cursor.parameters.Given as goal
