@@ -1,7 +1,8 @@
 -- A text that is cut piece by piece, as a function.
-use Rattle.std.proofs.Common.{◌≡◌, ℕ, zero, suc, ◌+◌, nat_lt, Bool, false, ◌||◌, List, [], ◌∷◌, ◌++◌, drop, sym, ap, ◌∙◌, subst}
+use Rattle.std.proofs.Common.{◌≡◌, ℕ, zero, suc, ◌+◌, nat_lt, Bool, false, ◌||◌, List, [], ◌∷◌, ◌++◌, drop, refl, sym, ap, ◌∙◌, subst}
 use Rattle.std.proofs.lemmas.List.{drop-drop}
 use Rattle.js_lexer.specs.declared.token.Token.{Token}
+use Rattle.js_lexer.specs.Sorts.{kind_sort}
 use Rattle.js_lexer.specs.Gaps.{line_ends, line_of}
 use Rattle.js_lexer.specs.Front.{Piece, nothing, gap, token, refused, front}
 use Rattle.js_lexer.specs.Cut.{CutFrom, cut_gap, cut_token}
@@ -23,7 +24,7 @@ abbrev behind_piece : (List ℕ → Bool → ℕ → ℕ → Cutting) → List �
 behind_piece go left new_line place line nothing = record { tokens = []; left = left; new_line = new_line; place = place; line = line }
 behind_piece go left new_line place line (gap n) = go (drop n left) (new_line || nat_lt 0 (line_ends n left)) (place + n) (line + line_ends n left)
 behind_piece go left new_line place line (token kind n) =
-    behind_token (record { kind = kind; from = place; to = place + n; line = line; new_line = new_line }) (go (drop n left) false (place + n) (line + line_ends n left))
+    behind_token (record { kind = kind; sort = kind_sort kind; from = place; to = place + n; line = line; new_line = new_line; sorted = refl }) (go (drop n left) false (place + n) (line + line_ends n left))
 behind_piece go left new_line place line (refused flaw n) = record { tokens = []; left = left; new_line = new_line; place = place; line = line }
 
 -- at most so many pieces
@@ -65,7 +66,7 @@ module _ (bytes : List ℕ) where
       record {
         left = next.left;
         line = next.line;
-        cuts = λ us d. subst (λ (m : ℕ). CutFrom bytes new_line place (record { kind = kind; from = place; to = place + n; line = m; new_line = new_line } ∷ ((go (drop n left) false (place + n) (line + line_ends n left)).tokens ++ us)))
+        cuts = λ us d. subst (λ (m : ℕ). CutFrom bytes new_line place (record { kind = kind; sort = kind_sort kind; from = place; to = place + n; line = m; new_line = new_line; sorted = refl } ∷ ((go (drop n left) false (place + n) (line + line_ends n left)).tokens ++ us)))
             (sym l) (cut_token f (next.cuts us d));
       }
 

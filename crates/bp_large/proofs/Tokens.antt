@@ -3,6 +3,7 @@ use Rattle.std.proofs.Common.{◌≡◌, ℕ, ◌+◌, true, false, List, [], �
 use Rattle.std.proofs.Math.Seq.{drop-append_seam}
 use Rattle.std.proofs.lemmas.List.{drop-drop}
 use Rattle.js_lexer.specs.declared.token.Kind.{Kind}
+use Rattle.js_lexer.specs.declared.sort.Sort.{Sort}
 use Rattle.js_lexer.specs.declared.token.Token.{Token}
 use Rattle.js_lexer.specs.Gaps.{line_ends, line_of}
 use Rattle.js_lexer.specs.Front.{front, token}
@@ -20,7 +21,7 @@ tokens_behind place = (pieces 40 large.rest false place 2).tokens
 
 -- all of them, by the length of the number and the number
 unfoldable pub tokens : ℕ → ℕ → List Token
-tokens size v = tokens_before ++ record { kind = Kind.Number (pos v); from = 113; to = 113 + size; line = 2; new_line = false } ∷ (tokens_behind (113 + size) ++ [])
+tokens size v = tokens_before ++ record { kind = Kind.Number (pos v); sort = Sort.Number; from = 113; to = 113 + size; line = 2; new_line = false; sorted = refl } ∷ (tokens_behind (113 + size) ++ [])
 
 first_pieces : (d : ℕ) (x : List ℕ) → pieces 78 (large.front ++ d ∷ x) true 0 1 ≡ record { tokens = tokens_before; left = d ∷ x; new_line = false; place = 113; line = 2 }
 unfolding tokens_before
@@ -53,5 +54,5 @@ module _ (d : ℕ) (ds : List ℕ) (v : ℕ) (number : front (d ∷ (ds ++ large
 
   pub cut : Cut bytes (tokens (length (d ∷ ds)) v)
   unfolding tokens
-  cut = at_number.cuts _ (subst (λ (m : ℕ). CutFrom bytes false 113 (record { kind = Kind.Number (pos v); from = 113; to = place; line = m; new_line = false } ∷ (tokens_behind place ++ [])))
+  cut = at_number.cuts _ (subst (λ (m : ℕ). CutFrom bytes false 113 (record { kind = Kind.Number (pos v); sort = Sort.Number; from = 113; to = place; line = m; new_line = false; sorted = refl } ∷ (tokens_behind place ++ [])))
       (sym at_number.line) (cut_token (ap front at_number.left ∙ number) cut_behind))

@@ -5,4 +5,4 @@ pub mod row;
 pub mod table;
 
 pub use row::{Row, make_row};
-pub use table::Table;
+pub use table::{Front, Table};

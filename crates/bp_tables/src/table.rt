@@ -1,11 +1,18 @@
 // A table of rows.
 
-ghost use Rattle.std.specs.Prelude.{◌≡◌, ◌≤◌, IsTrue, IfSome, length};
+ghost use Rattle.std.specs.Prelude.{◌≡◌, ◌≤◌, IsTrue, None, Some, IfSome, MatchOption, length, take};
 ghost use Rattle.bp_tables.specs.Keys.{entries, are_within};
 ghost use Rattle.bp_tables.specs.Found.{find_in, front_in};
 
 use crate::Row;
 use std::marker::Model;
+
+/// A key with which bytes begin: how many bytes it has, and its value.
+#[derive(Clone, Copy, Debug, PartialEq, Eq)]
+pub struct Front {
+    pub size: usize,
+    pub value: u16,
+}
 
 /// N rows, which contracts see as the list of their keys and values.
 #[derive(Drop)]
@@ -45,14 +52,19 @@ impl<const N: usize> Table<N> {
         None
     }
 
-    /// How many bytes the first key has with which the bytes begin. It takes no memory.
-    pub fn find_front(&self, bytes: &[u8]) -> Option<usize>
-        ensures within { IfSome result (λ size. size ≤ length bytes.now) }
-        ensures size { result ≡ front_in self.now bytes.now }
+    /// The first key with which the bytes begin, and its value. It takes no memory.
+    pub fn find_front(&self, bytes: &[u8]) -> Option<Front>
+        ensures within { IfSome result (λ front. front.size ≤ length bytes.now) }
+        ensures size { MatchOption result (front_in self.now bytes.now ≡ None)
+            (λ front. front_in self.now bytes.now ≡ Some front.size) }
+        ensures value { IfSome result
+            (λ front. find_in self.now (take front.size bytes.now) ≡ Some front.value) }
     {
         for row in &self.rows {
-            if bytes.starts_with(&row.key[..row.size as usize]) {
-                return Some(row.size as usize);
+            let size = row.size as usize;
+            if bytes.starts_with(&row.key[..size]) {
+                let value = row.value;
+                return Some(Front { size, value });
             }
         }
         None
@@ -80,8 +92,8 @@ mod tests {
         assert_eq!(rt; table.find(b"a"), Some(8));
         assert_eq!(rt; table.find(b"abc"), None);
         assert_eq!(rt; table.find(b""), None);
-        assert_eq!(rt; table.find_front(b"abc"), Some(2));
-        assert_eq!(rt; table.find_front(b"acb"), Some(1));
+        assert_eq!(rt; table.find_front(b"abc"), Some(Front { size: 2, value: 7 }));
+        assert_eq!(rt; table.find_front(b"acb"), Some(Front { size: 1, value: 8 }));
         assert_eq!(rt; table.find_front(b"ba"), None);
         Ok(())
     }

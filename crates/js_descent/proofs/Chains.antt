@@ -15,7 +15,7 @@ use Rattle.js_grammar.specs.Reader.{readers}
 use Rattle.js_steps.specs.declared.cursor.Cursor.{Cursor}
 use Rattle.js_steps.specs.declared.stop.Stop.{Stop}
 use Rattle.js_steps.specs.declared.stop.Stop.TheVariants.{NoTree, Memory}
-use Rattle.js_steps.specs.Seen.{left}
+use Rattle.js_steps.specs.Read.{left}
 use Rattle.js_steps.specs.Read.{IsExpr}
 use Rattle.js_descent.proofs.Using.{operated_turn, operators_next, operators_none}
 

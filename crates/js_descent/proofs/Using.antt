@@ -13,7 +13,7 @@ use Rattle.js_tree.specs.Plain.{PlainExpr, at, on, PlainField, PlainDeclarator, 
 use Rattle.js_tree.specs.Nesting.{nesting, deepest, deepest_field, deepest_declarator, perhaps_nesting, stmt_nesting, deepest_stmt}
 use Rattle.js_tree.specs.Endings.{ending}
 use Rattle.js_tree.specs.Views.{plain_expr, plain_field, plain_declarator, plain_stmt}
-use Rattle.js_grammar.specs.declared.sort.Sort.{Sort}
+use Rattle.js_lexer.specs.declared.sort.Sort.{Sort}
 use Rattle.js_grammar.specs.Sorts.{spot}
 use Rattle.js_grammar.specs.Arrows.{starts_function}
 use Rattle.js_grammar.specs.Tokens.{starts, line_of, is_const, starts_assign}

@@ -12,8 +12,8 @@ ghost use Rattle.js_steps.specs.Passed.{at_first};
 ghost use Rattle.js_steps.specs.Read.{IsRead, IsExpr, IsStmt, IsTurn};
 
 use crate::leaves::{break_of, continue_of, member, number, postfix, used, words};
-use js_grammar::Sort;
-use js_steps::cursor::{begins, is_sort, next, spot_of};
+use js_lexer::Sort;
+use js_steps::cursor::{begins, is_sort, next, sort_of, spot_of};
 use js_steps::ends::{end_of, is_return_end};
 use js_steps::peek::{
     begins_assign, begins_end, begins_for_of, begins_function, begins_lexical, begins_update,
@@ -67,7 +67,7 @@ fn arrow(cursor: &mut Cursor<'_>, inner: u32) -> Answer<Expr>
     let Some((token, _)) = next(cursor.rest) else {
         return Err(cursor.no_tree());
     };
-    let spot = spot_of(&token.token);
+    let spot = spot_of(token);
     let names = cursor.arrow_header()?;
     if cursor.skips(Sort::LeftBrace) {
         let found = closed(cursor, inner)?;
@@ -183,7 +183,7 @@ fn signed(cursor: &mut Cursor<'_>, inner: u32) -> Answer<Expr>
     let Some((token, rest)) = next(cursor.rest) else {
         return Err(cursor.no_tree());
     };
-    let line = token.token.line;
+    let line = token.line;
     if let Some(sign) = sign_at(token) {
         cursor.rest = rest;
         let found = operand(cursor, 0, inner)?;
@@ -214,7 +214,7 @@ fn called(cursor: &mut Cursor<'_>, inner: u32) -> Answer<Expr>
         let Some((token, rest)) = next(cursor.rest) else {
             return Ok(left);
         };
-        left = match token.sort {
+        left = match sort_of(token) {
             Sort::Dot => {
                 cursor.rest = rest;
                 member(cursor, line, left, inner)?
@@ -281,8 +281,8 @@ fn primary(cursor: &mut Cursor<'_>, inner: u32) -> Answer<Expr>
     let Some((token, rest)) = next(cursor.rest) else {
         return Err(cursor.no_tree());
     };
-    let line = token.token.line;
-    match token.sort {
+    let line = token.line;
+    match sort_of(token) {
         Sort::Number => number(cursor),
         Sort::Words => words(cursor),
         Sort::Name => used(cursor),
@@ -393,7 +393,7 @@ fn field(cursor: &mut Cursor<'_>, inner: u32) -> Answer<Field>
     }
     let name = cursor.name()?;
     let key = name.text.copy()?;
-    let Found { tree: value, depth } = expr_at(token.token.line, Form::Use(name), 1);
+    let Found { tree: value, depth } = expr_at(token.line, Form::Use(name), 1);
     let tree = Field { key, value };
     Ok(Found { tree, depth })
 }
@@ -443,7 +443,7 @@ fn declarator(cursor: &mut Cursor<'_>, kind: DeclareKind, inner: u32) -> Answer<
     if is_constant(kind) {
         return Err(cursor.no_tree());
     }
-    let end = token.token.to;
+    let end = token.to;
     let value = None;
     let tree = Declarator { name, value, end };
     Ok(Found { tree, depth: 0 })
@@ -592,7 +592,7 @@ fn start(cursor: &mut Cursor<'_>, inner: u32) -> Answer<Start>
             return Err(cursor.no_tree());
         }
         let Found { tree, depth } = declarators(cursor, kind, inner - 1)?;
-        let tree = Start::Declares(token.token.line, kind, tree);
+        let tree = Start::Declares(token.line, kind, tree);
         let depth = depth + 1;
         return Ok(Found { tree, depth });
     }
@@ -719,8 +719,8 @@ pub fn statement(cursor: &mut Cursor<'_>, room: u32) -> Answer<Stmt>
         return Err(cursor.no_tree());
     }
     let inner = room - 1;
-    let line = token.token.line;
-    match token.sort {
+    let line = token.line;
+    match sort_of(token) {
         Sort::Semicolon => {
             cursor.rest = rest;
             Ok(stmt_at(line, StmtForm::Empty, 1))

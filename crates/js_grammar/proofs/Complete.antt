@@ -1,8 +1,9 @@
 -- What is spelled with nesting within the room, the readers give.
-use Rattle.std.proofs.Common.{◌≡◌, ◌⊎◌, inl, inr, ℕ, zero, suc, ◌+◌, ◌-◌, ◌≤◌, ◌<◌, Bool, true, false, not, ◌&&◌, ◌||◌, if◌then◌else◌, List, [], ◌∷◌, ◌++◌, length, Option, Some, None, is_some, refl, ap, ◌∙◌, arith, append_assoc, append-nil}
+use Rattle.std.proofs.Common.{◌≡◌, ◌⊎◌, inl, inr, ℕ, zero, suc, ◌≤◌, ◌<◌, Bool, true, false, not, ◌&&◌, ◌||◌, if◌then◌else◌, List, [], ◌∷◌, ◌++◌, length, Option, Some, None, is_some, refl, ap, ◌∙◌, arith, append_assoc, append-nil}
 use Rattle.std.proofs.lemmas.Bool.{le-leb}
 use Rattle.js_lexer.specs.declared.token.Token.{Token}
 use Rattle.js_lexer.specs.declared.token.Kind.{Kind}
+use Rattle.js_lexer.specs.Sorts.{kind_sort}
 use Rattle.js_tree.specs.declared.tree.Name.{Name}
 use Rattle.js_tree.specs.declared.tree.Operator.{Operator}
 use Rattle.js_tree.specs.declared.tree.AssignOp.{AssignOp}
@@ -15,9 +16,9 @@ use Rattle.js_tree.specs.Plain as p
 use Rattle.js_tree.specs.Plain.{PlainExpr, at, PlainField, PlainPerhaps, absent, PlainDeclarator, PlainStart, PlainStmt, on, PlainItem, exprs_of, fields_of, declarators_of, stmts_of}
 use Rattle.js_tree.specs.Nesting.{nesting, deepest, deepest_field, deepest_declarator, perhaps_nesting, start_nesting, stmt_nesting, deepest_stmt, item_nesting, deepest_item, one_less_if, is_object_name, is_member}
 use Rattle.js_tree.specs.Endings.{ending, declarators_ending}
-use Rattle.js_grammar.specs.declared.sort.Sort.{Sort}
-use Rattle.js_grammar.specs.declared.sort.Sort.TheVariants.{LeftBrace, RightBrace, LeftParen, RightParen, LeftBracket, RightBracket, Dot, Semicolon, Comma, Question, Set, Function, Const, Let, Var, Return, If, Else, While, For, Break, Continue}
-use Rattle.js_grammar.specs.Sorts.{same, kind_name, name_at, kind_number, kind_words, kind_sort, sort, is, spot, named, numbered, quoted, member_word}
+use Rattle.js_lexer.specs.declared.sort.Sort.{Sort}
+use Rattle.js_lexer.specs.declared.sort.Sort.TheVariants.{LeftBrace, RightBrace, LeftParen, RightParen, LeftBracket, RightBracket, Dot, Semicolon, Comma, Question, Set, Function, Const, Let, Var, Return, If, Else, While, For, Break, Continue}
+use Rattle.js_grammar.specs.Sorts.{same, kind_name, name_at, kind_number, kind_words, sort, is, spot, named, numbered, quoted, member_word}
 use Rattle.js_grammar.specs.Operators.{operator_at, starts_operator, sort_sign, sign, sort_step, step, sort_assign, assign_op}
 use Rattle.js_grammar.specs.Arrows.{starts_function}
 use Rattle.js_grammar.specs.Ends.{starts_end, can_continue, end_absent, begins_other}

@@ -2,8 +2,8 @@
 use Rattle.std.proofs.Common.{◌≡◌, true, sym}
 use denote.Enum.Bare.{same_true, true_same}
 use Rattle.js_lexer.specs.declared.token.Token.{Token}
-use Rattle.js_grammar.specs.contracts.sort.Sort.{the_type}
-use Rattle.js_grammar.specs.declared.sort.Sort.{Sort}
+use Rattle.js_lexer.specs.contracts.sort.Sort.{the_type}
+use Rattle.js_lexer.specs.declared.sort.Sort.{Sort}
 use Rattle.js_grammar.specs.Sorts.{sort, is}
 
 pub is-true : (k : Sort) (t : Token) → is k t ≡ true → sort t ≡ k

@@ -3,8 +3,8 @@ use Rattle.std.proofs.Common.{◌≡◌, ℕ, zero, suc, ◌≤◌, ◌<◌, Boo
 use Rattle.std.proofs.lemmas.Bool.{leb-true}
 use Rattle.js_lexer.specs.declared.token.Token.{Token}
 use Rattle.js_tree.specs.declared.ending.Ending.{Ending}
-use Rattle.js_grammar.specs.declared.sort.Sort.{Sort}
-use Rattle.js_grammar.specs.declared.sort.Sort.TheVariants.{Semicolon}
+use Rattle.js_lexer.specs.declared.sort.Sort.{Sort}
+use Rattle.js_lexer.specs.declared.sort.Sort.TheVariants.{Semicolon}
 use Rattle.js_grammar.specs.Sorts.{is, sort}
 use Rattle.js_grammar.specs.Ends.{end_absent}
 use Rattle.js_grammar.specs.Grammar.{End, end_mark, end_none}

@@ -3,7 +3,7 @@ use Rattle.std.specs.Prelude.{Bool, true, false, not, ◌&&◌, ◌||◌, List, 
 use Rattle.js_lexer.specs.declared.token.Token.{Token}
 use Rattle.js_tree.specs.declared.ending.Ending.{Ending}
 use Rattle.js_tree.specs.declared.ending.Ending.TheVariants.{Value, Update}
-use Rattle.js_grammar.specs.declared.sort.Sort.{Sort}
+use Rattle.js_lexer.specs.declared.sort.Sort.{Sort}
 use Rattle.js_grammar.specs.Sorts.{sort, is}
 
 -- a list of statements ends here

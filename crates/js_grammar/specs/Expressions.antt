@@ -10,8 +10,8 @@ use Rattle.js_tree.specs.declared.tree.DeclareKind.{DeclareKind}
 use Rattle.js_tree.specs.Plain as p
 use Rattle.js_tree.specs.Plain.{PlainExpr, at, PlainField, absent, present, PlainDeclarator, PlainStmt, exprs_of, fields_of, stmts_of}
 use Rattle.js_tree.specs.Nesting.{nesting, one_less_if, is_object_name, is_member}
-use Rattle.js_grammar.specs.declared.sort.Sort.{Sort}
-use Rattle.js_grammar.specs.declared.sort.Sort.TheVariants.{LeftBrace, RightBrace, LeftParen, RightParen, LeftBracket, RightBracket, Dot, Comma, Question, Colon, Set, Function, True, False, Null}
+use Rattle.js_lexer.specs.declared.sort.Sort.{Sort}
+use Rattle.js_lexer.specs.declared.sort.Sort.TheVariants.{LeftBrace, RightBrace, LeftParen, RightParen, LeftBracket, RightBracket, Dot, Comma, Question, Colon, Set, Function, True, False, Null}
 use Rattle.js_grammar.specs.Sorts.{sort, is, spot, named, member_word, key}
 use Rattle.js_grammar.specs.Operators.{operator_at, sign, step, assign_op}
 use Rattle.js_grammar.specs.Arrows.{starts_function}

@@ -13,8 +13,8 @@ use Rattle.js_tree.specs.declared.ending.Ending.TheVariants.{Closed}
 use Rattle.js_tree.specs.Plain as p
 use Rattle.js_tree.specs.Plain.{PlainExpr, at, PlainForm, PlainField, PlainPerhaps, absent, present, PlainDeclarator, PlainStart, PlainStmt, on, PlainItem, exprs_of, fields_of, declarators_of, stmts_of}
 use Rattle.js_tree.specs.Endings.{ending, declarators_ending}
-use Rattle.js_grammar.specs.declared.sort.Sort.{Sort}
-use Rattle.js_grammar.specs.declared.sort.Sort.TheVariants.{LeftBrace, RightBrace, LeftParen, RightParen, LeftBracket, RightBracket, Dot, Semicolon, Comma, Question, Colon, Set, Function, Return, If, Else, While, For, Break, Continue, True, False, Null}
+use Rattle.js_lexer.specs.declared.sort.Sort.{Sort}
+use Rattle.js_lexer.specs.declared.sort.Sort.TheVariants.{LeftBrace, RightBrace, LeftParen, RightParen, LeftBracket, RightBracket, Dot, Semicolon, Comma, Question, Colon, Set, Function, Return, If, Else, While, For, Break, Continue, True, False, Null}
 use Rattle.js_grammar.specs.Sorts.{sort, spot, named, numbered, quoted, member_word, key}
 use Rattle.js_grammar.specs.Operators.{operator_at, starts_operator, sign, step, assign_op}
 use Rattle.js_grammar.specs.Arrows.{starts_arrow, starts_function}

@@ -5,7 +5,7 @@ use Rattle.js_tree.specs.declared.tree.Operator.{Operator}
 use Rattle.js_tree.specs.declared.tree.AssignOp.{AssignOp}
 use Rattle.js_tree.specs.declared.tree.Sign.{Sign}
 use Rattle.js_tree.specs.declared.tree.Step.{Step}
-use Rattle.js_grammar.specs.declared.sort.Sort.{Sort}
+use Rattle.js_lexer.specs.declared.sort.Sort.{Sort}
 use Rattle.js_grammar.specs.Sorts.{sort}
 
 abbrev pub operator : Sort → Option Operator

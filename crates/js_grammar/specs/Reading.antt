@@ -7,8 +7,8 @@ use Rattle.js_tree.specs.declared.ending.Ending.{Ending}
 use Rattle.js_tree.specs.declared.ending.Ending.TheVariants.{Closed}
 use Rattle.js_tree.specs.Plain as p
 use Rattle.js_tree.specs.Plain.{PlainExpr, at, PlainStmt, on}
-use Rattle.js_grammar.specs.declared.sort.Sort.{Sort}
-use Rattle.js_grammar.specs.declared.sort.Sort.TheVariants.{LeftBrace, LeftParen, RightParen, Semicolon, Comma}
+use Rattle.js_lexer.specs.declared.sort.Sort.{Sort}
+use Rattle.js_lexer.specs.declared.sort.Sort.TheVariants.{LeftBrace, LeftParen, RightParen, Semicolon, Comma}
 use Rattle.js_grammar.specs.Sorts.{is, spot, named, numbered, quoted}
 use Rattle.js_grammar.specs.Operators.{step}
 use Rattle.js_grammar.specs.Arrows.{starts_arrow}

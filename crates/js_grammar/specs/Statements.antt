@@ -7,8 +7,8 @@ use Rattle.js_tree.specs.declared.ending.Ending.TheVariants.{Closed}
 use Rattle.js_tree.specs.Plain as p
 use Rattle.js_tree.specs.Plain.{PlainExpr, PlainPerhaps, absent, present, PlainStart, PlainStmt, on, PlainItem, declarators_of, stmts_of}
 use Rattle.js_tree.specs.Endings.{ending, declarators_ending}
-use Rattle.js_grammar.specs.declared.sort.Sort.{Sort}
-use Rattle.js_grammar.specs.declared.sort.Sort.TheVariants.{LeftBrace, LeftParen, RightParen, Semicolon, Function, Const, Let, Var, Return, If, Else, While, For, Break, Continue}
+use Rattle.js_lexer.specs.declared.sort.Sort.{Sort}
+use Rattle.js_lexer.specs.declared.sort.Sort.TheVariants.{LeftBrace, LeftParen, RightParen, Semicolon, Function, Const, Let, Var, Return, If, Else, While, For, Break, Continue}
 use Rattle.js_grammar.specs.Sorts.{sort, is, spot, named}
 use Rattle.js_grammar.specs.Ends.{ends_return}
 use Rattle.js_grammar.specs.Tokens.{starts, declares, lexical, starts_lexical, starts_for_of}

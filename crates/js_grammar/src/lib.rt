@@ -2,7 +2,5 @@
 #![tactic(auto)]
 
 mod laws;
-mod sort;
 
 pub use laws::one_tree;
-pub use sort::Sort;

@@ -1,8 +1,11 @@
 -- Laws of cutting.
-use Rattle.std.proofs.Common.{◌≡◌, ℕ, zero, suc, ◌+◌, ◌<◌, ◌≤◌, nat_lt, Bool, true, false, ◌||◌, List, [], ◌∷◌, ◌++◌, length, drop, ◌⊎◌, inl, inr, refl, sym, ap, subst, arith, append_assoc, append-nil, length-drop}
+use Rattle.std.proofs.Common.{◌≡◌, ℕ, zero, suc, ◌+◌, ◌<◌, ◌≤◌, nat_lt, Bool, true, false, ◌||◌, List, [], ◌∷◌, ◌++◌, length, drop, ◌⊎◌, inl, inr, refl, sym, ap, ◌∙◌, subst, arith, append_assoc, append-nil, length-drop}
+use mathlib.Core.Path.{path_j'}
+use Rattle.js_lexer.specs.declared.sort.Sort.{Sort}
 use Rattle.js_lexer.specs.declared.token.Kind.{Kind}
 use Rattle.js_lexer.specs.declared.token.Flaw.{Flaw}
 use Rattle.js_lexer.specs.declared.token.Token.{Token}
+use Rattle.js_lexer.specs.Sorts.{kind_sort}
 use Rattle.js_lexer.specs.Gaps.{line_ends, line_of}
 use Rattle.js_lexer.specs.Front.{Piece, nothing, gap, token, refused, front}
 use Rattle.js_lexer.specs.Cut.{CutFrom, cut_end, cut_gap, cut_token, Cut, RefusedFrom, refused_here, refused_behind_gap, refused_behind_token, Refused}
@@ -95,7 +98,7 @@ behind_gap bytes first place n h (inr e) = inr (e.0, e.1, refused_behind_gap h e
 
 behind_token : (bytes : List ℕ) (first : Bool) (place n : ℕ) (kind : Kind) → front (drop place bytes) ≡ token kind n →
     Decided bytes false (place + n) → Decided bytes first place
-behind_token bytes first place n kind h (inl d) = inl (record { kind = kind; from = place; to = place + n; line = line_of bytes place; new_line = first } ∷ d.0, cut_token h d.1)
+behind_token bytes first place n kind h (inl d) = inl (record { kind = kind; sort = kind_sort kind; from = place; to = place + n; line = line_of bytes place; new_line = first; sorted = refl } ∷ d.0, cut_token h d.1)
 behind_token bytes first place n kind h (inr e) = inr (e.0, e.1, refused_behind_token h e.2)
 
 by_front : (k : ℕ) (bytes : List ℕ) (first : Bool) (place : ℕ) (p : Piece) → front (drop place bytes) ≡ p → PieceFits (drop place bytes) p →
@@ -129,13 +132,29 @@ pub so_far_gap : (bytes : List ℕ) (first next : Bool) (place n : ℕ) (before 
     next ≡ (first || nat_lt 0 (line_ends n (drop place bytes))) → SoFar bytes next (place + n) before
 so_far_gap bytes first next place n before s h e = rw e (record { cuts = λ ts d. s.cuts ts (cut_gap h d); refuses = λ f at d. s.refuses f at (refused_behind_gap h d) })
 
-pub so_far_token : (bytes : List ℕ) (first : Bool) (place n : ℕ) (kind : Kind) (before after : List Token) (t : Token) → SoFar bytes first place before →
+-- the sort of a token is that of its kind, and it is kept in one way
+pub one_sort : (kind : Kind) (sort : Sort) (from to line : ℕ) (new_line : Bool) (s : sort ≡ kind_sort kind) → Path Token
+    (record { kind = kind; sort = sort; from = from; to = to; line = line; new_line = new_line; sorted = s })
+    (record { kind = kind; sort = kind_sort kind; from = from; to = to; line = line; new_line = new_line; sorted = refl })
+one_sort kind sort from to line new_line s =
+    path_j' (λ (x : Sort) (p : x ≡ kind_sort kind). Path Token
+    (record { kind = kind; sort = x; from = from; to = to; line = line; new_line = new_line; sorted = p })
+    (record { kind = kind; sort = kind_sort kind; from = from; to = to; line = line; new_line = new_line; sorted = refl })) refl s
+
+so_far_made : (bytes : List ℕ) (first : Bool) (place n : ℕ) (kind : Kind) (before after : List Token) (t : Token) → SoFar bytes first place before →
     front (drop place bytes) ≡ token kind n → after ≡ before ++ t ∷ [] →
-    t ≡ record { kind = kind; from = place; to = place + n; line = line_of bytes place; new_line = first } → SoFar bytes false (place + n) after
-so_far_token bytes first place n kind before after t s h a e = record {
+    t ≡ record { kind = kind; sort = kind_sort kind; from = place; to = place + n; line = line_of bytes place; new_line = first; sorted = refl } → SoFar bytes false (place + n) after
+so_far_made bytes first place n kind before after t s h a e = record {
   cuts = λ ts d. rw (a, append_assoc) (rw e (s.cuts _ (cut_token h d)));
   refuses = λ f at d. s.refuses f at (refused_behind_token h d);
 }
+
+pub so_far_token : (bytes : List ℕ) (first : Bool) (place n line : ℕ) (kind : Kind) (sort : Sort) (before after : List Token) (is : sort ≡ kind_sort kind) → SoFar bytes first place before →
+    front (drop place bytes) ≡ token kind n → line ≡ line_of bytes place →
+    after ≡ before ++ record { kind = kind; sort = sort; from = place; to = place + n; line = line; new_line = first; sorted = is } ∷ [] → SoFar bytes false (place + n) after
+so_far_token bytes first place n line kind sort before after is s h l a =
+    so_far_made bytes first place n kind before after _ s h a (one_sort kind sort place (place + n) line first is ∙
+    ap (λ (m : ℕ). record { kind = kind; sort = kind_sort kind; from = place; to = place + n; line = m; new_line = first; sorted = refl }) l)
 
 pub so_far_end : (bytes : List ℕ) (first : Bool) (place : ℕ) (before : List Token) → SoFar bytes first place before → length bytes ≤ place → Cut bytes before
 so_far_end bytes first place before s h = past (drop place bytes) refl

@@ -26,9 +26,9 @@ pub step_found : (bytes : List ℕ) (place : ℕ) (r : Result Found Stop) → pl
 step_found bytes place (Ok (Gap n)) l h =
     let s : Sized n (drop place bytes) = fits bytes place (gap n) h in
     record { is = h; some = s.some; within = omega (arith, s.within, length-drop place bytes) }
-step_found bytes place (Ok (Token kind n)) l h =
-    let s : Sized n (drop place bytes) = fits bytes place (token kind n) h in
-    record { is = h; some = s.some; within = omega (arith, s.within, length-drop place bytes) }
+step_found bytes place (Ok (Token kind sort n)) l h =
+    let s : Sized n (drop place bytes) = fits bytes place (token kind n) h.is in
+    record { is = h.is; sorted = h.sorted; some = s.some; within = omega (arith, s.within, length-drop place bytes) }
 step_found bytes place (Err (Refused' flaw n)) l h =
     let s : n ≤ length (drop place bytes) = fits bytes place (refused flaw n) h in
     record { is = h; within = omega (arith, s, length-drop place bytes) }

@@ -1,8 +1,9 @@
 -- A program's text cut into tokens, or refused.
-use Rattle.std.specs.Prelude.{ℕ, ◌+◌, ◌≡◌, nat_lt, Bool, true, false, ◌||◌, List, [], ◌∷◌, drop}
+use Rattle.std.specs.Prelude.{ℕ, ◌+◌, ◌≡◌, nat_lt, Bool, true, false, ◌||◌, List, [], ◌∷◌, drop, refl}
 use Rattle.js_lexer.specs.declared.token.Kind.{Kind}
 use Rattle.js_lexer.specs.declared.token.Flaw.{Flaw}
 use Rattle.js_lexer.specs.declared.token.Token.{Token}
+use Rattle.js_lexer.specs.Sorts.{kind_sort}
 use Rattle.js_lexer.specs.Gaps.{line_ends, line_of}
 use Rattle.js_lexer.specs.Front.{nothing, gap, token, refused, front}
 
@@ -14,7 +15,7 @@ pub data CutFrom (bytes : List ℕ) : Bool → ℕ → List Token → Type 0 whe
       CutFrom bytes new_line place tokens
   cut_token : {new_line : Bool} {place n : ℕ} {kind : Kind} {tokens : List Token} → front (drop place bytes) ≡ token kind n →
       CutFrom bytes false (place + n) tokens →
-      CutFrom bytes new_line place (record { kind = kind; from = place; to = place + n; line = line_of bytes place; new_line = new_line } ∷ tokens)
+      CutFrom bytes new_line place (record { kind = kind; sort = kind_sort kind; from = place; to = place + n; line = line_of bytes place; new_line = new_line; sorted = refl } ∷ tokens)
 
 -- the tokens of a text
 abbrev pub Cut : List ℕ → List Token → Type 0

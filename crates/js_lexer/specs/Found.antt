@@ -6,13 +6,17 @@ use Rattle.js_lexer.specs.declared.token.Found.TheVariants.{Gap, Token}
 use Rattle.js_lexer.specs.declared.token.Flaw.TheVariants.{OpenText, Escape}
 use Rattle.js_lexer.specs.declared.token.Stop.{Stop}
 use Rattle.js_lexer.specs.declared.token.Stop.TheVariants.{Refused, Memory}
+use Rattle.js_lexer.specs.Sorts.{kind_sort}
 use Rattle.js_lexer.specs.Literals.{behind, literal}
 use Rattle.js_lexer.specs.Front.{Piece, gap, token, refused, quoted}
 
--- what stands there, or its refusal, or want of memory
+-- what stands there, a token with its sort, or its refusal, or want of memory
 abbrev pub IsFound : Piece → Result Found Stop → Type 0
 IsFound piece (Ok (Gap n)) = piece ≡ gap n
-IsFound piece (Ok (Token kind n)) = piece ≡ token kind n
+IsFound piece (Ok (Token kind sort n)) = record {
+  is : piece ≡ token kind n;
+  sorted : sort ≡ kind_sort kind;
+}
 IsFound piece (Err (Refused flaw n)) = piece ≡ refused flaw n
 IsFound piece (Err Memory) = ⊤
 

@@ -2,6 +2,7 @@ pub mod Characters
 pub mod Bytes
 pub mod Gaps
 pub mod Words
+pub mod Sorts
 pub mod Numbers
 pub mod Literals
 pub mod Front

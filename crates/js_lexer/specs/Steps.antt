@@ -8,6 +8,8 @@ use Rattle.js_lexer.specs.declared.token.Stop.{Stop}
 use Rattle.js_lexer.specs.declared.token.Stop.TheVariants.{Refused, Memory}
 use Rattle.js_lexer.specs.declared.token.LexFault.{LexFault}
 use Rattle.js_lexer.specs.declared.token.LexFault.TheVariants.{Memory as Memory'}
+use Rattle.js_lexer.specs.declared.sort.Sort.{Sort}
+use Rattle.js_lexer.specs.Sorts.{kind_sort}
 use Rattle.js_lexer.specs.Front.{gap, token, refused, front}
 use Rattle.js_lexer.specs.Lexed.{fault_of}
 
@@ -17,8 +19,9 @@ pub record GapAt (bytes : List ℕ) (place n : ℕ) : Type 0 where
   pub some : 0 < n
   pub within : place + n ≤ length bytes
 
-pub record TokenAt (bytes : List ℕ) (place : ℕ) (kind : Kind) (n : ℕ) : Type 0 where
+pub record TokenAt (bytes : List ℕ) (place : ℕ) (kind : Kind) (sort : Sort) (n : ℕ) : Type 0 where
   pub is : front (drop place bytes) ≡ token kind n
+  pub sorted : sort ≡ kind_sort kind
   pub some : 0 < n
   pub within : place + n ≤ length bytes
 
@@ -28,7 +31,7 @@ pub record StopAt (bytes : List ℕ) (place : ℕ) (flaw : Flaw) (n : ℕ) : Typ
 
 abbrev pub IsStep : List ℕ → ℕ → Result Found Stop → Type 0
 IsStep bytes place (Ok (Gap n)) = GapAt bytes place n
-IsStep bytes place (Ok (Token kind n)) = TokenAt bytes place kind n
+IsStep bytes place (Ok (Token kind sort n)) = TokenAt bytes place kind sort n
 IsStep bytes place (Err (Refused flaw n)) = StopAt bytes place flaw n
 IsStep bytes place (Err Memory) = ⊤
 

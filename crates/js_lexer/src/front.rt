@@ -14,8 +14,10 @@ use crate::bytes::{begins_name, is_digit_byte, is_quote_byte, stands_in_name};
 use crate::gaps::{blank_front, close_front, line_end_front, line_front};
 use crate::literals::literal_front;
 use crate::numbers::number_front;
+use crate::sort::{Sort, numbered_mark, numbered_word};
 use crate::token::{Flaw, Found, Kind, Stop};
 use crate::words::{MarkTable, WordTable};
+use bp_tables::Front;
 use js_data::{Memory, Text};
 use std::alloc::Global;
 
@@ -51,12 +53,12 @@ pub fn name_front(alloc: Global, words: &WordTable, bytes: &[u8]) -> Result<Foun
 {
     let size = name_extent(bytes);
     let text = text_of(alloc, &bytes[..size])?;
-    let kind = if words.find(&bytes[..size]).is_some() {
-        Kind::Word(text)
-    } else {
-        Kind::Name(text)
+    let number = words.find(&bytes[..size]);
+    let (kind, sort) = match number {
+        Some(_) => (Kind::Word(text), numbered_word(number)),
+        None => (Kind::Name(text), Sort::Name),
     };
-    Ok(Found::Token(kind, size))
+    Ok(Found::Token(kind, sort, size))
 }
 
 /// The longest mark in front.
@@ -66,7 +68,11 @@ pub fn mark_front(alloc: Global, marks: &MarkTable, bytes: &[u8]) -> Result<Foun
 {
     match marks.find_front(bytes) {
         None => Err(Stop::Refused(Flaw::Character, 0)),
-        Some(size) => Ok(Found::Token(Kind::Mark(text_of(alloc, &bytes[..size])?), size)),
+        Some(Front { size, value }) => {
+            let text = text_of(alloc, &bytes[..size])?;
+            let sort = numbered_mark(Some(value));
+            Ok(Found::Token(Kind::Mark(text), sort, size))
+        }
     }
 }
 
@@ -118,7 +124,7 @@ fn is_dot_and_digit(b: u8, behind: &[u8]) -> bool
     }
 }
 
-#[tactic(auto, using(crate::proofs::Ascii::quote_boundary, crate::proofs::Ascii::behind_quote))]
+#[tactic(auto, using(crate::proofs::Ascii::quote_boundary))]
 fn quoted_front(
     alloc: Global,
     quote: u8,

@@ -107,11 +107,12 @@ fn lex_text(alloc: Global, text: &str) -> Result<Vec<Token>, LexFault>
                 line += ends;
                 place += size;
             }
-            Ok(Found::Token(kind, size)) => {
+            Ok(Found::Token(kind, sort, size)) => {
                 let ends = line_ends_in(rest_of(text, place), size);
                 let (from, to) = (place as u32, (place + size) as u32);
                 tokens.push(Token {
                     kind,
+                    sort,
                     from,
                     to,
                     line,

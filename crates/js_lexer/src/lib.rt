@@ -8,11 +8,12 @@ mod lexer;
 mod limits;
 mod literals;
 mod numbers;
+mod sort;
 mod token;
 mod words;
 
 pub use gaps::line_at;
 pub use lexer::{lex, one_cutting, tokens_in_order};
 pub use limits::MOST_BYTES;
+pub use sort::Sort;
 pub use token::{Flaw, Kind, LexFault, Token};
-pub use words::{MarkTable, WordTable, mark_table, word_table};

@@ -9,6 +9,7 @@ ghost use Rattle.js_lexer.specs.Literals.{is_break, two_digits, four_digits, is_
 use crate::bytes::is_digit_byte;
 use crate::gaps::is_separator;
 use crate::numbers::{digits_front, digits_number, is_digit_in, value_of};
+use crate::sort::Sort;
 use crate::token::{Flaw, Found, Kind, Stop};
 use js_data::{Memory, Text};
 use std::alloc::Global;
@@ -269,7 +270,8 @@ pub fn literal_front(alloc: Global, quote: u8, text: &str) -> Result<Found, Stop
             return Err(Stop::Refused(Flaw::OpenText, 0));
         };
         if *b == quote {
-            return Ok(Found::Token(Kind::Words(Text::new(content)), 1 + (size + 1)));
+            let kind = Kind::Words(Text::new(content));
+            return Ok(Found::Token(kind, Sort::Words, 1 + (size + 1)));
         }
         if is_break_byte(*b) {
             return Err(Stop::Refused(Flaw::OpenText, 0));

@@ -5,6 +5,7 @@ ghost use Rattle.js_lexer.specs.Found.{IsFound};
 ghost use Rattle.js_lexer.specs.Numbers.{digit_value, is_digit_of, digits_size, digits_value, has_base, base_of, number_size, number_value, is_unsupported_end};
 
 use crate::bytes::{is_digit_byte, stands_in_name};
+use crate::sort::Sort;
 use crate::token::{Flaw, Found, Kind, Stop};
 use js_data::Whole;
 
@@ -170,5 +171,6 @@ pub fn number_front(bytes: &[u8]) -> Result<Found, Stop>
             return Err(Stop::Refused(Flaw::Character, size));
         }
     }
-    Ok(Found::Token(Kind::Number(whole_of(value)), size))
+    let kind = Kind::Number(whole_of(value));
+    Ok(Found::Token(kind, Sort::Number, size))
 }

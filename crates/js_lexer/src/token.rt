@@ -1,4 +1,8 @@
 //! Tokens and refusals.
+ghost use Rattle.std.specs.Prelude.{◌≡◌};
+ghost use Rattle.js_lexer.specs.Sorts.{kind_sort};
+
+use crate::sort::Sort;
 use js_data::{Text, Whole};
 use std::alloc::{AllocError, AllocFailed};
 use thiserror::Error;
@@ -37,6 +41,8 @@ impl Drop for Kind {
 pub struct Token {
     /// What it is.
     pub kind: Kind,
+    /// What it is for the grammar.
+    pub sort: Sort,
     /// The place of its first byte.
     pub from: u32,
     /// The place behind its last byte.
@@ -45,6 +51,7 @@ pub struct Token {
     pub line: u32,
     /// Whether a line end stands between it and the token before it, or it is the first token.
     pub new_line: bool,
+    ghost sorted: { sort ≡ kind_sort kind },
 }
 
 /// Why bytes are not cut into tokens, with a byte's place.
@@ -93,8 +100,8 @@ pub enum Flaw {
 pub enum Found {
     /// White space, a line end or a comment, of so many bytes.
     Gap(usize),
-    /// A token of so many bytes.
-    Token(Kind, usize),
+    /// A token with its sort, of so many bytes.
+    Token(Kind, Sort, usize),
 }
 
 /// Why no token is answered: what is wrong and how many bytes on, or want of memory.

@@ -7,7 +7,7 @@ use Rattle.js_tree.specs.Plain as p
 use Rattle.js_tree.specs.Plain.{PlainItem}
 use Rattle.js_tree.specs.Views.{plain_item}
 use Rattle.js_tree.proofs.Rows.{map_one}
-use Rattle.js_grammar.specs.declared.sort.Sort.{Sort}
+use Rattle.js_lexer.specs.declared.sort.Sort.{Sort}
 use Rattle.js_grammar.specs.Tokens.{starts}
 use Rattle.js_grammar.specs.Trees.{IsTree, HasNoTree}
 use Rattle.js_grammar.specs.Statements as stmts

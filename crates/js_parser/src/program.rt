@@ -5,16 +5,14 @@ ghost use Rattle.js_grammar.specs.Trees.{IsTree};
 ghost use Rattle.js_grammar.specs.Unsupported.{first_unsupported};
 ghost use Rattle.js_steps.specs.Passed.{at_first};
 ghost use Rattle.js_steps.specs.Read.{IsGiven};
-ghost use Rattle.js_steps.specs.Seen.{seen};
 ghost use Rattle.js_parser.specs.Parse.{next_item, next_function, IsItems, IsLineIn, IsParseFault, IsFault};
 
 use crate::fault::ParseFault;
 use crate::refused::unsupported_line;
 use js_descent::{closed, statement};
-use js_grammar::Sort;
-use js_lexer::Token;
+use js_lexer::{Sort, Token};
 use js_steps::cursor::{begins, next};
-use js_steps::{Cursor, Lexeme, Stop, lexemes};
+use js_steps::{Cursor, Stop};
 use js_tree::{Item, MOST_NESTING, Tree};
 use std::alloc::Global;
 
@@ -44,8 +42,8 @@ fn item(cursor: &mut Cursor<'_>) -> Result<Item, Stop>
 
 /// All that the program lists.
 #[tactic(auto, using(crate::proofs::Programs::items_turn, crate::proofs::Programs::map_push_item))]
-fn tree_of(alloc: Global, rest: &[Lexeme]) -> Result<Tree, Stop>
-    ensures { IsItems (seen rest.now) result }
+fn tree_of(alloc: Global, rest: &[Token]) -> Result<Tree, Stop>
+    ensures { IsItems rest.now result }
 {
     let mut cursor = Cursor { alloc, rest };
     let mut items = Vec::new(alloc);
@@ -96,13 +94,10 @@ pub fn parse(alloc: Global, tokens: &[Token]) -> Result<Tree, ParseFault>
     ensures tree { IfOk result (λ tree. IsTree MOST_NESTING tokens.now (plain_tree tree)) }
     ensures refused { IfErr result (IsParseFault tokens.now) }
 {
-    let Ok(all) = lexemes(alloc, tokens) else {
-        return Err(ParseFault::Memory);
-    };
-    if let Some(line) = unsupported_line(&all) {
+    if let Some(line) = unsupported_line(tokens) {
         return Err(ParseFault::Unsupported(line));
     }
-    match tree_of(alloc, &all) {
+    match tree_of(alloc, tokens) {
         Ok(tree) => Ok(tree),
         Err(stop) => Err(fault_of(stop, tokens)),
     }

@@ -1,12 +1,9 @@
 //! Tokens that the language refuses.
 ghost use Rattle.std.specs.Prelude.{◌≡◌, false};
 ghost use Rattle.js_grammar.specs.Unsupported.{is_prototype, is_refused, first_unsupported};
-ghost use Rattle.js_steps.specs.Seen.{seen};
 
 use js_data::Text;
-use js_grammar::Sort;
-use js_lexer::Kind;
-use js_steps::Lexeme;
+use js_lexer::{Kind, Sort, Token};
 use js_steps::cursor::{begins, is_sort, next};
 
 fn is_prototype_key(text: &Text, colon: bool) -> bool
@@ -28,15 +25,15 @@ fn is_refused_kind(kind: &Kind, unsupported: bool, colon: bool) -> bool
 }
 
 /// The line of the first token that the language refuses.
-pub fn unsupported_line(tokens: &[Lexeme]) -> Option<u32>
-    ensures { result ≡ first_unsupported false (seen tokens.now) }
+pub fn unsupported_line(tokens: &[Token]) -> Option<u32>
+    ensures { result ≡ first_unsupported false tokens.now }
 {
     let mut rest = tokens;
     let mut dot = false;
     'more: while let Some((token, behind)) = next(rest) {
         let unsupported = is_sort(token, Sort::Unsupported);
-        if !dot && is_refused_kind(&token.token.kind, unsupported, begins(behind, Sort::Colon)) {
-            return Some(token.token.line);
+        if !dot && is_refused_kind(&token.kind, unsupported, begins(behind, Sort::Colon)) {
+            return Some(token.line);
         }
         dot = is_sort(token, Sort::Dot);
         rest = behind;

@@ -4,7 +4,7 @@ use Rattle.js_lexer.specs.declared.token.Token.{Token}
 use Rattle.js_tree.specs.declared.tree.Name.{Name}
 use Rattle.js_tree.specs.declared.tree.DeclareKind.{DeclareKind}
 use Rattle.js_tree.specs.Plain.{PlainExpr, PlainField, PlainDeclarator, PlainStmt, PlainItem}
-use Rattle.js_grammar.specs.declared.sort.Sort.{Sort}
+use Rattle.js_lexer.specs.declared.sort.Sort.{Sort}
 use Rattle.js_grammar.specs.Sorts.{sort, named}
 use Rattle.js_grammar.specs.Arrows.{starts_arrow}
 use Rattle.js_grammar.specs.Tokens.{starts}

@@ -2,9 +2,9 @@
 use Rattle.std.proofs.Common.{◌≡◌, ◌⊎◌, inl, inr, ℕ, zero, suc, ◌-◌, sub-one, false, List, [], ◌∷◌, Option, Some, None, refl}
 use Rattle.js_lexer.specs.declared.token.Kind.{Kind}
 use Rattle.js_lexer.specs.declared.token.Token.{Token}
-use Rattle.js_grammar.specs.declared.sort.Sort.{Sort}
+use Rattle.js_lexer.specs.declared.sort.Sort.{Sort}
 use Rattle.js_tree.specs.declared.tree.Spot.{Spot}
-use Rattle.js_grammar.specs.Sorts.{sort, named, numbered, quoted, member_word, key, kind_sort, kind_name, kind_number, kind_words, kind_member, kind_key, name_at, spot}
+use Rattle.js_grammar.specs.Sorts.{sort, named, numbered, quoted, member_word, key, kind_name, kind_number, kind_words, kind_member, kind_key, name_at, spot}
 use Rattle.js_grammar.specs.Operators.{operator_at, at_level, operator, sign, sort_sign, step, sort_step, assign_op, sort_assign}
 use Rattle.js_grammar.specs.Arrows.{arrow_follows}
 use Rattle.js_grammar.specs.Tokens.{starts, declares, sort_declare, lexical, if_lexical, is_of, is_of_name}
@@ -19,9 +19,9 @@ pub held_none : {A B : Type 0} (g : Token → Option A) (ts : List Token) (f : A
 held_none g [] f h = refl
 held_none g (t ∷ ts) f h = rw h refl
 
-pub sort_is : (t : Token) → sort t ≡ kind_sort t.kind
+pub sort_is : (t : Token) → t.sort ≡ sort t
 unfolding sort
-sort_is t = refl
+sort_is t = t.sorted
 
 pub named_is : (t : Token) → named t ≡ name_at (kind_name t.kind) (spot t)
 unfolding named

@@ -3,29 +3,27 @@ use Rattle.std.specs.Prelude.{◌≡◌, Bool, true, false, List, [], ◌∷◌,
 use Rattle.js_lexer.specs.declared.token.Token.{Token}
 use Rattle.js_tree.specs.declared.ending.Ending.{Ending}
 use Rattle.js_tree.specs.declared.tree.Spot.{Spot}
-use Rattle.js_grammar.specs.declared.sort.Sort.{Sort}
+use Rattle.js_lexer.specs.declared.sort.Sort.{Sort}
 use Rattle.js_grammar.specs.Sorts.{sort, spot}
 use Rattle.js_grammar.specs.Tokens.{starts}
 use Rattle.js_grammar.specs.Reading.{Found, ended_rest}
-use Rattle.js_steps.specs.declared.lexeme.Lexeme.{Lexeme}
 use Rattle.js_steps.specs.declared.stop.Stop.{Stop}
 use Rattle.js_steps.specs.declared.stop.Stop.TheVariants.{NoTree, Memory}
-use Rattle.js_steps.specs.Seen.{seen}
 
 -- behind it, if it stood there, and else where it was
-abbrev pub Skips : Sort → List Lexeme → List Lexeme → Bool → Type 0
-Skips k before behind true = (x : Lexeme) × (before ≡ x ∷ behind) × (sort x.token ≡ k)
-Skips k before behind false = (before ≡ behind) × (starts k (seen before) ≡ false)
+abbrev pub Skips : Sort → List Token → List Token → Bool → Type 0
+Skips k before behind true = (t : Token) × (before ≡ t ∷ behind) × (sort t ≡ k)
+Skips k before behind false = (before ≡ behind) × (starts k before ≡ false)
 
 -- behind it; else there is no tree
-abbrev pub IsPassed : Sort → List Lexeme → List Lexeme → Result (Unit {0}) Stop → Type 0
-IsPassed k before behind (Ok u) = (x : Lexeme) × (before ≡ x ∷ behind) × (sort x.token ≡ k)
-IsPassed k before behind (Err (NoTree left)) = starts k (seen before) ≡ false
+abbrev pub IsPassed : Sort → List Token → List Token → Result (Unit {0}) Stop → Type 0
+IsPassed k before behind (Ok u) = (t : Token) × (before ≡ t ∷ behind) × (sort t ≡ k)
+IsPassed k before behind (Err (NoTree left)) = starts k before ≡ false
 IsPassed k before behind (Err Memory) = ⊥
 
 -- behind the first token, which stands there; else there is none
-abbrev pub IsBumped : List Lexeme → List Lexeme → Result Spot Stop → Type 0
-IsBumped before behind (Ok s) = (x : Lexeme) × (before ≡ x ∷ behind) × (s ≡ spot x.token)
+abbrev pub IsBumped : List Token → List Token → Result Spot Stop → Type 0
+IsBumped before behind (Ok s) = (t : Token) × (before ≡ t ∷ behind) × (s ≡ spot t)
 IsBumped before behind (Err (NoTree left)) = before ≡ []
 IsBumped before behind (Err Memory) = ⊥
 
@@ -40,13 +38,13 @@ at_first reads [] = None
 at_first reads (t ∷ ts) = reads t ts
 
 -- behind the first token, which holds this; else there is no tree
-abbrev pub IsTaken : {A : Type 0} → (Token → Option A) → List Lexeme → List Lexeme → Result A Stop → Type 0
-IsTaken g before behind (Ok a) = (x : Lexeme) × (before ≡ x ∷ behind) × (g x.token ≡ Some a)
-IsTaken g before behind (Err (NoTree left)) = first g (seen before) ≡ None
+abbrev pub IsTaken : {A : Type 0} → (Token → Option A) → List Token → List Token → Result A Stop → Type 0
+IsTaken g before behind (Ok a) = (t : Token) × (before ≡ t ∷ behind) × (g t ≡ Some a)
+IsTaken g before behind (Err (NoTree left)) = first g before ≡ None
 IsTaken g before behind (Err Memory) = Unit {0}
 
 -- behind the end of a statement; else there is no tree
-abbrev pub IsOver : Ending → List Lexeme → List Lexeme → Result (Unit {0}) Stop → Type 0
-IsOver ends before behind (Ok u) = ended_rest ends (seen before) ≡ Some (seen behind)
-IsOver ends before behind (Err (NoTree left)) = ended_rest ends (seen before) ≡ None
+abbrev pub IsOver : Ending → List Token → List Token → Result (Unit {0}) Stop → Type 0
+IsOver ends before behind (Ok u) = ended_rest ends before ≡ Some behind
+IsOver ends before behind (Err (NoTree left)) = ended_rest ends before ≡ None
 IsOver ends before behind (Err Memory) = ⊥

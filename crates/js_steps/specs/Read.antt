@@ -12,7 +12,10 @@ use Rattle.js_steps.specs.declared.cursor.Cursor.{Cursor}
 use Rattle.js_steps.specs.declared.stop.Stop.{Stop}
 use Rattle.js_steps.specs.declared.stop.Stop.TheVariants.{NoTree, Memory}
 use Rattle.js_steps.specs.declared.found.Found.{Found}
-use Rattle.js_steps.specs.Seen.{left}
+
+-- the tokens that are left
+abbrev pub left : Cursor → List Token
+left cursor = cursor.rest.now
 
 -- a tree by its view, with the nesting of that, which is within the limit; at least so many tokens are taken
 abbrev pub IsRead : {A B : Type 0} → (B → A) → (A → ℕ) → (List Token → read.Found A) → ℕ → ℕ → Cursor → Cursor → Result (Found B) Stop → Type 0

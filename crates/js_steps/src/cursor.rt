@@ -2,17 +2,16 @@
 ghost use Rattle.std.specs.Prelude.{◌≡◌, ◌∷◌, ◌≤◌, [], MatchOption, length};
 ghost use Rattle.js_grammar.specs.Operators.{step, assign_op};
 ghost use Rattle.js_grammar.specs.Tokens.{starts, line_of, lexical};
-ghost use Rattle.js_grammar.specs.Sorts.{is, named, numbered, quoted, member_word, key, spot as place};
+ghost use Rattle.js_grammar.specs.Sorts.{sort, is, named, numbered, quoted, member_word, key, spot as place};
 ghost use Rattle.js_grammar.specs.Reading.{tail};
 ghost use Rattle.js_steps.specs.declared.stop.Stop.TheVariants.{NoTree};
-ghost use Rattle.js_steps.specs.Seen.{seen, left};
+ghost use Rattle.js_steps.specs.Read.{left};
 ghost use Rattle.js_steps.specs.Passed.{Skips, IsPassed, IsBumped, IsTaken};
 
+use crate::Stop;
 use crate::peek::{assign_at, lexical_at, step_at};
-use crate::{Lexeme, Stop};
 use js_data::{Text, Whole};
-use js_grammar::Sort;
-use js_lexer::{Kind, Token};
+use js_lexer::{Kind, Sort, Token};
 use js_tree::{AssignOp, DeclareKind, Name, Spot, Step};
 use std::alloc::Global;
 
@@ -20,11 +19,11 @@ use std::alloc::Global;
 #[derive(Clone, Copy)]
 pub struct Cursor<'a> {
     pub alloc: Global,
-    pub rest: &'a [Lexeme],
+    pub rest: &'a [Token],
 }
 
 /// The first token and those behind it.
-pub fn next<'a>(tokens: &'a [Lexeme]) -> Option<(&'a Lexeme, &'a [Lexeme])>
+pub fn next<'a>(tokens: &'a [Token]) -> Option<(&'a Token, &'a [Token])>
     ensures { MatchOption result (tokens.now ≡ []) (λ p. tokens.now ≡ p.0.now ∷ p.1.now) }
 {
     match tokens.split_first() {
@@ -33,16 +32,24 @@ pub fn next<'a>(tokens: &'a [Lexeme]) -> Option<(&'a Lexeme, &'a [Lexeme])>
     }
 }
 
-/// Whether a token is of the sort.
-pub fn is_sort(token: &Lexeme, sort: Sort) -> bool
-    ensures { result ≡ is sort token.now.token }
+/// What a token is for the grammar.
+#[tactic(auto, using(crate::proofs::Using::sort_is))]
+pub fn sort_of(token: &Token) -> Sort
+    ensures { result ≡ sort token.now }
 {
-    sort == token.sort
+    token.sort
+}
+
+/// Whether a token is of the sort.
+pub fn is_sort(token: &Token, sort: Sort) -> bool
+    ensures { result ≡ is sort token.now }
+{
+    sort == sort_of(token)
 }
 
 /// Whether the list begins with the mark or word.
-pub fn begins(tokens: &[Lexeme], sort: Sort) -> bool
-    ensures { result ≡ starts sort (seen tokens.now) }
+pub fn begins(tokens: &[Token], sort: Sort) -> bool
+    ensures { result ≡ starts sort tokens.now }
 {
     match next(tokens) {
         Some((token, _)) => is_sort(token, sort),
@@ -73,7 +80,7 @@ impl<'a> Cursor<'a> {
         ensures { result ≡ line_of (left self.now) }
     {
         match next(self.rest) {
-            Some((token, _)) => token.token.line,
+            Some((token, _)) => token.line,
             None => 0,
         }
     }
@@ -110,7 +117,7 @@ impl<'a> Cursor<'a> {
             return Err(self.no_tree());
         };
         self.rest = rest;
-        Ok(spot_of(&token.token))
+        Ok(spot_of(token))
     }
 
     /// Goes behind the next token, if there is one.
@@ -131,12 +138,12 @@ impl<'a> Cursor<'a> {
         let Some((token, rest)) = next(self.rest) else {
             return Err(self.no_tree());
         };
-        match &token.token.kind {
+        match &token.kind {
             Kind::Name(text) => {
                 self.rest = rest;
                 Ok(Name {
                     text: text.copy()?,
-                    spot: spot_of(&token.token),
+                    spot: spot_of(token),
                 })
             }
             _ => Err(self.no_tree()),
@@ -151,7 +158,7 @@ impl<'a> Cursor<'a> {
         let Some((token, rest)) = next(self.rest) else {
             return Err(self.no_tree());
         };
-        match &token.token.kind {
+        match &token.kind {
             Kind::Number(number) => {
                 self.rest = rest;
                 Ok(*number)
@@ -168,7 +175,7 @@ impl<'a> Cursor<'a> {
         let Some((token, rest)) = next(self.rest) else {
             return Err(self.no_tree());
         };
-        match &token.token.kind {
+        match &token.kind {
             Kind::Words(text) => {
                 self.rest = rest;
                 Ok(text.copy()?)
@@ -185,7 +192,7 @@ impl<'a> Cursor<'a> {
         let Some((token, rest)) = next(self.rest) else {
             return Err(self.no_tree());
         };
-        match &token.token.kind {
+        match &token.kind {
             Kind::Name(text) | Kind::Word(text) => {
                 self.rest = rest;
                 Ok(text.copy()?)
@@ -202,7 +209,7 @@ impl<'a> Cursor<'a> {
         let Some((token, rest)) = next(self.rest) else {
             return Err(self.no_tree());
         };
-        match &token.token.kind {
+        match &token.kind {
             Kind::Name(text) | Kind::Word(text) | Kind::Words(text) => {
                 self.rest = rest;
                 Ok(text.copy()?)

@@ -2,21 +2,20 @@
 ghost use Rattle.std.specs.Prelude.{◌≡◌, ◌≤◌, length, IfOk};
 ghost use Rattle.js_grammar.specs.Ends.{can_continue, ends_return};
 ghost use Rattle.js_grammar.specs.Tokens.{end_before};
-ghost use Rattle.js_steps.specs.Seen.{seen};
 ghost use Rattle.js_steps.specs.Passed.{IsOver};
 
-use crate::cursor::{is_sort, next};
-use crate::{Cursor, Lexeme, Stop};
-use js_grammar::Sort;
+use crate::cursor::{is_sort, next, sort_of};
+use crate::{Cursor, Stop};
+use js_lexer::{Sort, Token};
 use js_tree::Ending;
 
 /// The place behind the last token before the rest.
-pub fn end_of(tokens: &[Lexeme], rest: &[Lexeme]) -> u32
-    ensures { result ≡ end_before (seen tokens.now) (seen rest.now) }
+pub fn end_of(tokens: &[Token], rest: &[Token]) -> u32
+    ensures { result ≡ end_before tokens.now rest.now }
 {
     let last = tokens.len().saturating_sub(rest.len()).saturating_sub(1);
     match tokens.get(last) {
-        Some(token) => token.token.to,
+        Some(token) => token.to,
         None => 0,
     }
 }
@@ -37,11 +36,11 @@ fn continues(ending: Ending, sort: Sort) -> bool
 }
 
 /// Whether a `return` ends here without a value.
-pub fn is_return_end(tokens: &[Lexeme]) -> bool
-    ensures { result ≡ ends_return (seen tokens.now) }
+pub fn is_return_end(tokens: &[Token]) -> bool
+    ensures { result ≡ ends_return tokens.now }
 {
     match next(tokens) {
-        Some((token, _)) => token.token.new_line
+        Some((token, _)) => token.new_line
             || is_sort(token, Sort::Semicolon)
             || is_sort(token, Sort::RightBrace),
         None => true,
@@ -61,9 +60,7 @@ impl<'a> Cursor<'a> {
             self.rest = rest;
             return Ok(());
         }
-        if is_sort(token, Sort::RightBrace)
-            || token.token.new_line && !continues(ends, token.sort)
-        {
+        if is_sort(token, Sort::RightBrace) || token.new_line && !continues(ends, sort_of(token)) {
             return Ok(());
         }
         Err(self.no_tree())

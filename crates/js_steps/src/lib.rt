@@ -4,14 +4,10 @@
 pub mod cursor;
 pub mod ends;
 mod found;
-mod lexeme;
 mod names;
 pub mod peek;
-mod sorting;
 mod stop;
 
 pub use cursor::Cursor;
 pub use found::{Answer, Found, binary, callee_depth, expr_at, object_depth, stmt_at};
-pub use lexeme::Lexeme;
-pub use sorting::lexemes;
 pub use stop::Stop;

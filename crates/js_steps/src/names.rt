@@ -4,7 +4,7 @@ ghost use Rattle.js_steps.specs.Read.{IsGiven};
 
 use crate::peek::begins_arrow;
 use crate::{Cursor, Stop};
-use js_grammar::Sort;
+use js_lexer::Sort;
 use js_tree::Name;
 
 impl<'a> Cursor<'a> {

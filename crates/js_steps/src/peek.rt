@@ -5,12 +5,9 @@ ghost use Rattle.js_grammar.specs.Operators.{operator, level_of, operator_at, si
 ghost use Rattle.js_grammar.specs.Arrows.{starts_arrow, arrow_follows, starts_function};
 ghost use Rattle.js_grammar.specs.Ends.{starts_end};
 ghost use Rattle.js_grammar.specs.Tokens.{declares, lexical, is_of, starts_update, starts_assign, starts_lexical, starts_name_of, starts_for_of, is_const};
-ghost use Rattle.js_steps.specs.Seen.{seen};
 
-use crate::Lexeme;
-use crate::cursor::{is_sort, next};
-use js_grammar::Sort;
-use js_lexer::Kind;
+use crate::cursor::{is_sort, next, sort_of};
+use js_lexer::{Kind, Sort, Token};
 use js_tree::{AssignOp, DeclareKind, Operator, Sign, Step};
 
 /// The binary operator that a mark is.
@@ -62,10 +59,10 @@ fn level(operator: Operator) -> u8
 
 /// The operator of the level that a token is.
 #[tactic(auto, using(crate::proofs::Using::operator_at_is))]
-pub fn operator_in(wanted: u8, token: &Lexeme) -> Option<Operator>
-    ensures { result ≡ operator_at wanted token.now.token }
+pub fn operator_in(wanted: u8, token: &Token) -> Option<Operator>
+    ensures { result ≡ operator_at wanted token.now }
 {
-    let found = operator_of(token.sort)?;
+    let found = operator_of(sort_of(token))?;
     if level(found) == wanted {
         Some(found)
     } else {
@@ -75,10 +72,10 @@ pub fn operator_in(wanted: u8, token: &Lexeme) -> Option<Operator>
 
 /// The unary operator that a token is.
 #[tactic(auto, using(crate::proofs::Using::sign_is))]
-pub fn sign_at(token: &Lexeme) -> Option<Sign>
-    ensures { result ≡ sign token.now.token }
+pub fn sign_at(token: &Token) -> Option<Sign>
+    ensures { result ≡ sign token.now }
 {
-    match token.sort {
+    match sort_of(token) {
         Sort::Not => Some(Sign::Not),
         Sort::Minus => Some(Sign::Minus),
         Sort::Plus => Some(Sign::Plus),
@@ -88,10 +85,10 @@ pub fn sign_at(token: &Lexeme) -> Option<Sign>
 
 /// Whether a token is `++` or `--`, and which.
 #[tactic(auto, using(crate::proofs::Using::step_is))]
-pub fn step_at(token: &Lexeme) -> Option<Step>
-    ensures { result ≡ step token.now.token }
+pub fn step_at(token: &Token) -> Option<Step>
+    ensures { result ≡ step token.now }
 {
-    match token.sort {
+    match sort_of(token) {
         Sort::Increment => Some(Step::Increment),
         Sort::Decrement => Some(Step::Decrement),
         _ => None,
@@ -100,10 +97,10 @@ pub fn step_at(token: &Lexeme) -> Option<Step>
 
 /// The assignment's operator that a token is.
 #[tactic(auto, using(crate::proofs::Using::assign_op_is))]
-pub fn assign_at(token: &Lexeme) -> Option<AssignOp>
-    ensures { result ≡ assign_op token.now.token }
+pub fn assign_at(token: &Token) -> Option<AssignOp>
+    ensures { result ≡ assign_op token.now }
 {
-    match token.sort {
+    match sort_of(token) {
         Sort::Set => Some(AssignOp::Set),
         Sort::AddSet => Some(AssignOp::Add),
         Sort::SubtractSet => Some(AssignOp::Subtract),
@@ -116,10 +113,10 @@ pub fn assign_at(token: &Lexeme) -> Option<AssignOp>
 
 /// The word of a declaration that a token is.
 #[tactic(auto, using(crate::proofs::Using::declares_is))]
-pub fn declares_at(token: &Lexeme) -> Option<DeclareKind>
-    ensures { result ≡ declares token.now.token }
+pub fn declares_at(token: &Token) -> Option<DeclareKind>
+    ensures { result ≡ declares token.now }
 {
-    match token.sort {
+    match sort_of(token) {
         Sort::Const => Some(DeclareKind::Const),
         Sort::Let => Some(DeclareKind::Let),
         Sort::Var => Some(DeclareKind::Var),
@@ -129,8 +126,8 @@ pub fn declares_at(token: &Lexeme) -> Option<DeclareKind>
 
 /// `const` or `let`, where a token is one.
 #[tactic(auto, using(crate::proofs::Using::lexical_is))]
-pub fn lexical_at(token: &Lexeme) -> Option<DeclareKind>
-    ensures { result ≡ lexical token.now.token }
+pub fn lexical_at(token: &Token) -> Option<DeclareKind>
+    ensures { result ≡ lexical token.now }
 {
     match declares_at(token) {
         Some(DeclareKind::Const) => Some(DeclareKind::Const),
@@ -141,10 +138,10 @@ pub fn lexical_at(token: &Lexeme) -> Option<DeclareKind>
 
 /// Whether a token is a name.
 #[tactic(auto, using(crate::proofs::Using::named_is))]
-pub fn is_name(token: &Lexeme) -> bool
-    ensures { result ≡ is_some (named token.now.token) }
+pub fn is_name(token: &Token) -> bool
+    ensures { result ≡ is_some (named token.now) }
 {
-    match &token.token.kind {
+    match &token.kind {
         Kind::Name(_) => true,
         _ => false,
     }
@@ -152,46 +149,46 @@ pub fn is_name(token: &Lexeme) -> bool
 
 /// Whether a token is the name `of`.
 #[tactic(auto, using(crate::proofs::Using::named_is, crate::proofs::Using::is_of_is))]
-fn is_of_at(token: &Lexeme) -> bool
-    ensures { result ≡ is_of token.now.token }
+fn is_of_at(token: &Token) -> bool
+    ensures { result ≡ is_of token.now }
 {
-    match &token.token.kind {
+    match &token.kind {
         Kind::Name(text) => text.as_str() == "of",
         _ => false,
     }
 }
 
 /// Whether the list begins with a name and, on its line, `++` or `--`.
-pub fn begins_update(tokens: &[Lexeme]) -> bool
-    ensures { result ≡ starts_update (seen tokens.now) }
+pub fn begins_update(tokens: &[Token]) -> bool
+    ensures { result ≡ starts_update tokens.now }
 {
     let Some((name, rest)) = next(tokens) else {
         return false;
     };
     match next(rest) {
-        Some((step, _)) => is_name(name) && step_at(step).is_some() && !step.token.new_line,
+        Some((step, _)) => is_name(name) && step_at(step).is_some() && !step.new_line,
         None => false,
     }
 }
 
 /// Whether the list begins with `=>` on the line of the token before it.
-pub fn begins_arrow(tokens: &[Lexeme]) -> bool
-    ensures { result ≡ starts_arrow (seen tokens.now) }
+pub fn begins_arrow(tokens: &[Token]) -> bool
+    ensures { result ≡ starts_arrow tokens.now }
 {
     match next(tokens) {
-        Some((token, _)) => is_sort(token, Sort::Arrow) && !token.token.new_line,
+        Some((token, _)) => is_sort(token, Sort::Arrow) && !token.new_line,
         None => false,
     }
 }
 
 /// Whether `=>` follows the `)` that closes the pair that is open.
-pub fn arrow_behind<'a>(tokens: &'a [Lexeme]) -> bool
-    ensures { result ≡ arrow_follows (seen tokens.now) 0 }
+pub fn arrow_behind<'a>(tokens: &'a [Token]) -> bool
+    ensures { result ≡ arrow_follows tokens.now 0 }
 {
     let mut rest = tokens;
     let mut depth: usize = 0;
     'unclosed: while let Some((token, behind)) = next(rest) {
-        match token.sort {
+        match sort_of(token) {
             Sort::LeftParen => depth += 1,
             Sort::RightParen if depth == 0 => return begins_arrow(behind),
             Sort::RightParen => depth -= 1,
@@ -203,13 +200,13 @@ pub fn arrow_behind<'a>(tokens: &'a [Lexeme]) -> bool
 }
 
 /// Whether an arrow function begins here.
-pub fn begins_function<'a>(tokens: &'a [Lexeme]) -> bool
-    ensures { result ≡ starts_function (seen tokens.now) }
+pub fn begins_function<'a>(tokens: &'a [Token]) -> bool
+    ensures { result ≡ starts_function tokens.now }
 {
     let Some((token, rest)) = next(tokens) else {
         return false;
     };
-    match token.sort {
+    match sort_of(token) {
         Sort::Name => begins_arrow(rest),
         Sort::LeftParen => arrow_behind(rest),
         _ => false,
@@ -217,8 +214,8 @@ pub fn begins_function<'a>(tokens: &'a [Lexeme]) -> bool
 }
 
 /// Whether the list begins with a name and an assignment's operator.
-pub fn begins_assign(tokens: &[Lexeme]) -> bool
-    ensures { result ≡ starts_assign (seen tokens.now) }
+pub fn begins_assign(tokens: &[Token]) -> bool
+    ensures { result ≡ starts_assign tokens.now }
 {
     let Some((name, rest)) = next(tokens) else {
         return false;
@@ -230,8 +227,8 @@ pub fn begins_assign(tokens: &[Lexeme]) -> bool
 }
 
 /// Whether a list of statements ends here.
-pub fn begins_end(tokens: &[Lexeme]) -> bool
-    ensures { result ≡ starts_end (seen tokens.now) }
+pub fn begins_end(tokens: &[Token]) -> bool
+    ensures { result ≡ starts_end tokens.now }
 {
     match next(tokens) {
         Some((token, _)) => is_sort(token, Sort::RightBrace),
@@ -240,8 +237,8 @@ pub fn begins_end(tokens: &[Lexeme]) -> bool
 }
 
 /// Whether a `const` or `let` declaration begins here.
-pub fn begins_lexical(tokens: &[Lexeme]) -> bool
-    ensures { result ≡ starts_lexical (seen tokens.now) }
+pub fn begins_lexical(tokens: &[Token]) -> bool
+    ensures { result ≡ starts_lexical tokens.now }
 {
     match next(tokens) {
         Some((token, _)) => lexical_at(token).is_some(),
@@ -250,8 +247,8 @@ pub fn begins_lexical(tokens: &[Lexeme]) -> bool
 }
 
 /// Whether the list begins with a name and `of`.
-fn begins_name_of(tokens: &[Lexeme]) -> bool
-    ensures { result ≡ starts_name_of (seen tokens.now) }
+fn begins_name_of(tokens: &[Token]) -> bool
+    ensures { result ≡ starts_name_of tokens.now }
 {
     let Some((name, rest)) = next(tokens) else {
         return false;
@@ -263,8 +260,8 @@ fn begins_name_of(tokens: &[Lexeme]) -> bool
 }
 
 /// Whether the list begins with `const` or `let`, a name and `of`.
-pub fn begins_for_of(tokens: &[Lexeme]) -> bool
-    ensures { result ≡ starts_for_of (seen tokens.now) }
+pub fn begins_for_of(tokens: &[Token]) -> bool
+    ensures { result ≡ starts_for_of tokens.now }
 {
     match next(tokens) {
         Some((token, rest)) => lexical_at(token).is_some() && begins_name_of(rest),

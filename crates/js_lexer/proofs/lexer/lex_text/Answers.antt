@@ -1,9 +1,8 @@
-use Rattle.std.proofs.Common.{◌+◌, ◌||◌, nat_lt, arith, sym, ap, subst, ◌∙◌, ℕ, List}
+use Rattle.std.proofs.Common.{◌||◌, nat_lt, arith, sym, ap, subst, ◌∙◌, ℕ, List}
 use Rattle.js_lexer.specs.Gaps.{line_ends}
 use Rattle.js_lexer.specs.Lexed.{IsRefusal}
 use Rattle.js_lexer.specs.Steps.{GapAt, TokenAt}
 use Rattle.js_lexer.specs.declared.token.LexFault.{LexFault}
-use Rattle.js_lexer.specs.declared.token.Token.{Token}
 use Rattle.js_lexer.proofs.Cutting.{so_far_gap, so_far_token}
 use Rattle.js_lexer.proofs.Lexing.{line_behind, step_fits, stop_refusal}
 use Rattle.js_lexer.proofs.lexer.lex_text.Goals as goal
@@ -22,12 +21,11 @@ more-preserved-in-Ok-Gap c =
 
 pub more-preserved : goal.more-preserved
 more-preserved c =
-    let step : TokenAt c.args.text.now c.more.place c.in-Ok-Token.kind c.in-Ok-Token.size = rw c.in-Ok-Token.field-0-is at c.in-Ok-Token.ensures in
+    let step : TokenAt c.args.text.now c.more.place c.in-Ok-Token.kind c.in-Ok-Token.sort c.in-Ok-Token.size = rw c.in-Ok-Token.field-0-is at c.in-Ok-Token.ensures in
     let ends = c.line_ends_in-ends-in-Ok-Token.ensures.ends ∙ ap (λ (bs : List ℕ). line_ends c.in-Ok-Token.size bs) c.rest_of-in-Ok-Token.ensures in
-    let made : ℕ → Token = λ n. record { kind = c.in-Ok-Token.kind; from = c.more.place; to = c.more.place + c.in-Ok-Token.size; line = n; new_line = c.more.new_line } in
     record {
-      so_far = so_far_token c.args.text.now c.more.new_line c.more.place c.in-Ok-Token.size c.in-Ok-Token.kind c.more.tokens.items c.push.new.self.items (made c.more.line)
-          c.more.invariant.so_far step.is c.in_ok-push-in-Ok-Token.ensures.items (ap made c.more.invariant.line);
+      so_far = so_far_token c.args.text.now c.more.new_line c.more.place c.in-Ok-Token.size c.more.line c.in-Ok-Token.kind c.in-Ok-Token.sort c.more.tokens.items c.push.new.self.items _
+          c.more.invariant.so_far step.is c.more.invariant.line c.in_ok-push-in-Ok-Token.ensures.items;
       line = line_behind c.args.text.now c.more.place c.in-Ok-Token.size c.more.line c.line_ends_in-ends-in-Ok-Token.result c.more.invariant.line ends;
       few = omega (arith, c.line_ends_in-ends-in-Ok-Token.ensures.few, c.more.invariant.few);
       within = step.within;

@@ -1,11 +1,10 @@
 use Rattle.std.proofs.Common.{◌≡◌, ◌≤◌, ◌+◌, length}
 use Rattle.js_grammar.specs.Arrows.{arrow_follows}
-use Rattle.js_steps.specs.Seen.{seen}
 use Rattle.js_steps.proofs.peek.arrow_behind.Given as goal
 
 abbrev pub invariant-unclosed : goal.invariant-unclosed
 invariant-unclosed l = record {
-  same : arrow_follows (seen l.rest) l.depth ≡ arrow_follows (seen l.tokens) 0;
+  same : arrow_follows l.rest l.depth ≡ arrow_follows l.tokens 0;
   few : l.depth + length l.rest ≤ length l.tokens;
 }
 
