@@ -1,4 +1,5 @@
 mod Examples
+pub mod Lone
 pub mod Naming
 pub mod Standing
 pub mod Bodies

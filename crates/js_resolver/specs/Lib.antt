@@ -9,3 +9,4 @@ pub mod Resolved
 pub mod Starts
 pub mod Parts
 pub mod Spelled
+pub mod Laws

@@ -5,8 +5,10 @@ mod constants;
 mod emit;
 mod emitter;
 mod fresh;
+mod laws;
 mod name_tables;
 mod program;
 mod tables;
 
+pub use laws::spelled_trees_keep_enough;
 pub use program::resolve;
