@@ -6,6 +6,7 @@ use Rattle.std.proofs.lemmas.Bool.Decides.{eqb_tells}
 use Rattle.std.proofs.lemmas.Bool.{false≢true, and_parts}
 use Rattle.std.proofs.Common.{option_and_then, length-drop, length-append, ap₂}
 use Rattle.bp_reading.proofs.Lines.{some_is, some_none}
+use Rattle.bp_reading.proofs.Again.{chosen, quote_parts}
 use Rattle.std.proofs.lemmas.List.{drop_all}
 use Rattle.bp_reading.specs.Words.{behind, around, onto_front, to_quote, quoted_front}
 
@@ -101,27 +102,6 @@ behind_parts [] rest h = absurd (some_none h)
 behind_parts (b ∷ bytes) rest h = elim (eqb_tells b 34) [
   | inl same ↦ ap₂ (λ (x : ℕ) (xs : List ℕ). x ∷ xs) same.1 (some_is bytes rest (rw same.0 at h))
   | inr other ↦ absurd (some_none (rw other.0 at h))
-]
-
-onto_front_parts : (b : ℕ) (o : Option (List ℕ × List ℕ)) (front more : List ℕ) → onto_front b o ≡ Some (front, more) → (f : List ℕ) × (front ≡ b ∷ f) × (o ≡ Some (f, more))
-onto_front_parts b None front more h = absurd (some_none h)
-onto_front_parts b (Some p) front more h =
-    let s = some_is _ _ h in
-    (p.0, sym (ap (λ (q : List ℕ × List ℕ). q.0) s), ap (λ (m : List ℕ). Some (p.0, m)) (ap (λ (q : List ℕ × List ℕ). q.1) s))
-
-chosen : {A : Type 0} (t : Bool) (x y z : A) → cond t x y ≡ z → ((t ≡ true) × (x ≡ z)) ⊎ ((t ≡ false) × (y ≡ z))
-chosen true x y z h = inl (refl, h)
-chosen false x y z h = inr (refl, h)
-
-quote_parts : (bytes : List ℕ) (escaped : Bool) (front more : List ℕ) → to_quote escaped bytes ≡ Some (front, more) → bytes ≡ front ++ more
-quote_parts [] escaped front more h = absurd (some_none h)
-quote_parts (b ∷ bytes) escaped front more h = elim (chosen (not escaped && (b == 34)) _ _ _ h) [
-  | inl here ↦
-      let s = some_is _ _ here.1 in
-      ap₂ (λ (x y : List ℕ). x ++ y) (ap (λ (q : List ℕ × List ℕ). q.0) s) (ap (λ (q : List ℕ × List ℕ). q.1) s)
-  | inr past ↦
-      let p = onto_front_parts b _ front more past.1 in
-      ap (λ t. b ∷ t) (quote_parts bytes _ p.0 more p.2) ∙ ap (λ t. t ++ more) (sym p.1)
 ]
 
 pub record Opens (bytes front more : List ℕ) : Type 0 where

@@ -338,18 +338,25 @@ end_spelled line r h =
     let b = chained verdict_at (behind (codes "end ") line) a.0 a.1 in
     behind_spelled (codes "end ") line b.0 b.1 ∙ ap (λ (t : List ℕ). codes "end " ++ t) (verdict_again b.0 a.0 b.2) ∙ ap spelled_record a.2
 
-spelled_again : (line : List ℕ) (r : Record) → record_at line ≡ Some r → line ≡ spelled_record r
+-- what holds of a line and its record at each kind of record, holds at every record that a line says
+pub at_each_record : (P : List ℕ → Record → Type 0)
+    → ((line : List ℕ) (r : Record) → in_at line ≡ Some r → P line r) → ((line : List ℕ) (r : Record) → bad_at line ≡ Some r → P line r)
+    → ((line : List ℕ) (r : Record) → eof_at line ≡ Some r → P line r) → ((line : List ℕ) (r : Record) → sel_at line ≡ Some r → P line r)
+    → ((line : List ℕ) (r : Record) → end_at line ≡ Some r → P line r) → (line : List ℕ) (r : Record) → record_at line ≡ Some r → P line r
 unfolding record_at
-spelled_again line r h = elim (either (in_at line) _ r h) [
-  | inl a ↦ in_spelled line r a
+at_each_record P entered bad over selected ended line r h = elim (either (in_at line) _ r h) [
+  | inl a ↦ entered line r a
   | inr h1 ↦ elim (either (bad_at line) _ r h1) [
-    | inl a ↦ bad_spelled line r a
+    | inl a ↦ bad line r a
     | inr h2 ↦ elim (either (eof_at line) _ r h2) [
-      | inl a ↦ eof_spelled line r a
-      | inr h3 ↦ elim (either (sel_at line) (end_at line) r h3) [ inl a ↦ sel_spelled line r a | inr a ↦ end_spelled line r a ]
+      | inl a ↦ over line r a
+      | inr h3 ↦ elim (either (sel_at line) (end_at line) r h3) [ inl a ↦ selected line r a | inr a ↦ ended line r a ]
     ]
   ]
 ]
+
+spelled_again : (line : List ℕ) (r : Record) → record_at line ≡ Some r → line ≡ spelled_record r
+spelled_again = at_each_record (λ line r. line ≡ spelled_record r) in_spelled bad_spelled eof_spelled sel_spelled end_spelled
 
 -- a line that says a record is the record's text
 pub record_again : (line : List ℕ) (r : Record) → record_at line ≡ Some r → line ≡ record_text r

@@ -23,7 +23,7 @@ use Rattle.bp_reading.proofs.Lines.{some_none}
 use Rattle.bp_reading.proofs.Numbers.{number_text}
 use Rattle.bp_reading.proofs.Unquoted.{past_ascii, utf8_unquoted}
 use Rattle.bp_reading.proofs.Held.{held_event}
-use Rattle.bp_reading.proofs.Again.{mapped, chained, either, chosen, tested, spent_parts, text_spelled, same_bytes}
+use Rattle.bp_reading.proofs.Again.{at_each_record, mapped, chained, either, chosen, tested, spent_parts, text_spelled, same_bytes}
 
 -- ---- words
 
@@ -212,14 +212,4 @@ end_low line r h =
 
 -- the record that a line says is in its ranges
 pub record_low : (line : List ℕ) (r : Record) → record_at line ≡ Some r → IsRecord r
-unfolding record_at
-record_low line r h = elim (either (in_at line) _ r h) [
-  | inl a ↦ in_low line r a
-  | inr h1 ↦ elim (either (bad_at line) _ r h1) [
-    | inl a ↦ bad_low line r a
-    | inr h2 ↦ elim (either (eof_at line) _ r h2) [
-      | inl a ↦ eof_low line r a
-      | inr h3 ↦ elim (either (sel_at line) (end_at line) r h3) [ inl a ↦ sel_low line r a | inr a ↦ end_low line r a ]
-    ]
-  ]
-]
+record_low = at_each_record (λ line r. IsRecord r) in_low bad_low eof_low sel_low end_low
