@@ -6,10 +6,11 @@ use Rattle.bp_base.specs.Worlds.{Holdings, Opens, Asks}
 use Rattle.bp_base.specs.Pieces.{Appends, AppendsFront}
 use Rattle.js_program.specs.PlainProgram.{PlainProgram}
 use Rattle.bp_log.specs.Header.{PlainHeader}
+use Rattle.bp_log.specs.Logs.{log_text}
 use Rattle.bp_log.specs.Options.{PlainOptions}
 use Rattle.bp_log.specs.declared.limits.TheConstants.{MOST_BYTES}
 use Rattle.bp_log.specs.declared.verdict.Verdict.{Verdict}
-use Rattle.bp_code.specs.Code.{text_alone}
+use Rattle.bp_code.specs.Code.{text_of, text_alone}
 use Rattle.bp_script.specs.Programs.{IsProgram, IsRefused}
 use Rattle.bp_script.specs.declared.refusal.Refusal.{Refusal}
 use Rattle.bp_script.specs.Faults.{IsScriptFault}
@@ -33,7 +34,7 @@ use Rattle.bp_cli.specs.Large.{MeasureEnds}
 use Rattle.bp_cli.specs.Loading.{IsUnloaded}
 use Rattle.bp_cli.specs.Replaying.{ReplayEnds, IsCaused, replayed_of}
 use Rattle.bp_cli.specs.Refusing.{IsTooLong, program_of, Refuses}
-use Rattle.bp_cli.specs.Runs.{Holds, HoldsFront, KeepsLog, KeepsLogFront, RunEnds, log_alone, header_of}
+use Rattle.bp_cli.specs.Runs.{Holds, HoldsFront, HoldsBehind, KeepsLog, KeepsLogFront, RunEnds, log_alone, header_of}
 use Rattle.bp_reading.specs.Laws.{IsHeader}
 use Rattle.bp_cli.proofs.Runs.{run_replays}
 
@@ -223,7 +224,7 @@ unloaded_ends c name unread unwritten before after (BadLog fault) g k u same = a
 -- a run of an accepted program
 pub run_given : (asked : Run) (bytes : List ℕ) (program : PlainProgram) (unread unwritten whole partly : Type 0) (before after : Outside) (conclusion : Conclusion) →
     IsHeader (header_of asked bytes) → asked.options.injectors ≡ 0 → IsUnder before.holds asked.program bytes → IsProgram bytes program → (whole → KeepsLog asked.log before.holds (log_alone (header_of asked bytes) program) after.holds) →
-    (partly → KeepsLogFront asked.log before (log_alone (header_of asked bytes) program) after) →
+    (partly → KeepsLogFront asked.log before (header_of asked bytes) program after) →
     RunEnds program asked.options unwritten whole partly before.printed after.printed conclusion → EndsIn (Some (command.Run asked)) unread unwritten before after conclusion
 run_given asked bytes program unread unwritten whole partly before after (Ran v) is none u p k f r =
     (bytes, u, record { program = program; is_program = p; verdict = r.0; prints = r.1; keeps = k r.2; replays = run_replays (λ text. Appends before.printed text after.printed) (header_of asked bytes) program v is none p r.3 r.0 (text_alone program asked.options) refl r.1 })
@@ -270,33 +271,48 @@ pub unlogged_given : (asked : Run) (program run : PlainProgram) (bytes name : Li
 unlogged_given asked program run bytes name header unread unwritten more before after conclusion is none n u p e h l same r =
     let keeps : KeepsLog asked.log before.holds (log_alone (header_of asked bytes) program) after.holds =
     subst (λ (o : Option (List ℕ)). KeepsLog o before.holds (log_alone (header_of asked bytes) program) after.holds) (sym l) same in
-    let partly : KeepsLogFront asked.log before (log_alone (header_of asked bytes) program) after =
-    subst (λ (o : Option (List ℕ)). KeepsLogFront o before (log_alone (header_of asked bytes) program) after) (sym l) same in
+    let partly : KeepsLogFront asked.log before (header_of asked bytes) program after =
+    subst (λ (o : Option (List ℕ)). KeepsLogFront o before (header_of asked bytes) program after) (sym l) same in
     run_given asked bytes program unread (unwritten ⊎ more) (Unit {0}) (Unit {0}) before after conclusion (subst IsHeader h is) none
     (subst (λ (x : List ℕ). IsUnder before.holds x bytes) n u) p (λ _. keeps) (λ _. partly)
     (weaker program asked.options unwritten more (Unit {0}) (Unit {0}) before.printed after.printed conclusion
     (runs_same asked program run bytes header unwritten (Unit {0}) (Unit {0}) before.printed after.printed conclusion e h r))
 
 -- what the world held and what was printed when the log was made are those of the beginning
-from_mid : (name text : List ℕ) (mid before after : Outside) → mid.holds ≡ before.holds → mid.printed ≡ before.printed →
-    KeepsLogFront (Some name) mid text after → KeepsLogFront (Some name) before text after
-from_mid name text mid before after m q (inl s) = inl (s.0 ∙ q, s.1 ∙ m)
-from_mid name text mid before after m q (inr s) = inr (subst (λ (x : Option Holdings). HoldsFront x name text after.holds) m s)
+behind_mid : (name : List ℕ) (header : PlainHeader) (program : PlainProgram) (mid before after : Outside) → mid.holds ≡ before.holds → mid.printed ≡ before.printed →
+    ((after.printed ≡ mid.printed) ⊎ HoldsBehind name header program mid after) → (after.printed ≡ before.printed) ⊎ HoldsBehind name header program before after
+behind_mid name header program mid before after m q (inl e) = inl (e ∙ q)
+behind_mid name header program mid before after m q (inr b) =
+    inr (record {
+      records = b.records;
+      later = b.later;
+      is_run = b.is_run;
+      more = b.more;
+      kept = subst (λ (x : Option Holdings). Holds x name (log_text header b.records ++ b.more) after.holds) m b.kept;
+      printed = subst (λ (x : Option (List ℕ)). IsSomeAnd (text_of program header.options b.records) (λ t. AppendsFront x t after.printed)) q b.printed;
+    })
+
+from_mid : (name : List ℕ) (header : PlainHeader) (program : PlainProgram) (mid before after : Outside) → mid.holds ≡ before.holds → mid.printed ≡ before.printed →
+    KeepsLogFront (Some name) mid header program after → KeepsLogFront (Some name) before header program after
+from_mid name header program mid before after m q (inl s) = inl (s.0 ∙ q, s.1 ∙ m)
+from_mid name header program mid before after m q (inr s) =
+    inr (subst (λ (x : Option Holdings). HoldsFront x name (log_alone header program) after.holds) m s.0, behind_mid name header program mid before after m q s.1)
 
 -- a log is kept
 pub logged_given : (asked : Run) (program run : PlainProgram) (bytes name log said : List ℕ) (header : PlainHeader) (unread said_unwritten unwritten : Type 0) (mid before after : Outside) (conclusion : Conclusion) → IsHeader header → asked.options.injectors ≡ 0 → (said_unwritten → unwritten) → name ≡ asked.program →
     IsUnder before.holds name bytes → IsProgram bytes program → run ≡ program → header ≡ header_of asked bytes → asked.log ≡ Some said → log ≡ said → mid.holds ≡ before.holds → mid.printed ≡ before.printed →
-    RunEnds run header.options said_unwritten (Holds mid.holds log (log_alone header run) after.holds) (KeepsLogFront (Some log) mid (log_alone header run) after) before.printed after.printed conclusion →
+    RunEnds run header.options said_unwritten (Holds mid.holds log (log_alone header run) after.holds) (KeepsLogFront (Some log) mid header run after) before.printed after.printed conclusion →
     EndsIn (Some (command.Run asked)) unread unwritten before after conclusion
 logged_given asked program run bytes name log said header unread said_unwritten unwritten mid before after conclusion is none f n u p e h l k m q r =
     let text : log_alone header run ≡ log_alone (header_of asked bytes) program = λ i. log_alone (h i) (e i) in
     let named : Some log ≡ asked.log = ap (λ (x : List ℕ). Some x) k ∙ sym l in
-    run_given asked bytes program unread unwritten (Holds mid.holds log (log_alone header run) after.holds) (KeepsLogFront (Some log) mid (log_alone header run) after) before after conclusion (subst IsHeader h is) none
+    run_given asked bytes program unread unwritten (Holds mid.holds log (log_alone header run) after.holds) (KeepsLogFront (Some log) mid header run after) before after conclusion (subst IsHeader h is) none
     (subst (λ (x : List ℕ). IsUnder before.holds x bytes) n u) p
     (λ w. subst (λ (o : Option (List ℕ)). KeepsLog o before.holds (log_alone (header_of asked bytes) program) after.holds) named
     (subst (λ (t : List ℕ). Holds before.holds log t after.holds) text (subst (λ (x : Option Holdings). Holds x log (log_alone header run) after.holds) m w)))
-    (λ w. subst (λ (o : Option (List ℕ)). KeepsLogFront o before (log_alone (header_of asked bytes) program) after) named
-    (subst (λ (t : List ℕ). KeepsLogFront (Some log) before t after) text (from_mid log (log_alone header run) mid before after m q w)))
+    (λ w. subst (λ (o : Option (List ℕ)). KeepsLogFront o before (header_of asked bytes) program after) named
+    (subst (λ (x : PlainHeader). KeepsLogFront (Some log) before x program after) h
+    (subst (λ (p : PlainProgram). KeepsLogFront (Some log) before header p after) e (from_mid log header run mid before after m q w))))
     (caused_on program asked.options said_unwritten unwritten _ _ before.printed after.printed conclusion f (runs_same asked program run bytes header said_unwritten _ _ before.printed after.printed conclusion e h r))
 
 -- the large program

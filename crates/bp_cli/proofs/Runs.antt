@@ -1,27 +1,30 @@
 -- How a run ends, and what is held of its log.
-use Rattle.std.proofs.Common.{◌≡◌, ℕ, ◌<◌, ◌≤◌, List, [], refl, sym, subst, arith, inl, inr, lit<, Option, Some, None, Ok, Err}
+use Rattle.std.proofs.Common.{◌≡◌, ◌⊎◌, ℕ, ◌<◌, ◌≤◌, List, [], ◌++◌, refl, sym, subst, arith, inl, inr, lit<, Option, Some, None, Ok, Err}
 use Rattle.std.specs.Prelude.{◌-◌, ◌^◌, Result, OnOk, OnErr, IfOk, IsErrOf, IfSome, IsSomeAnd}
 use Rattle.bp_base.specs.Counts.{Rose}
 use Rattle.bp_base.specs.Worlds.{Holdings, Sets, Keeps}
 use Rattle.bp_base.specs.Pieces.{Appends, AppendsFront}
 use Rattle.js_program.specs.PlainProgram.{PlainProgram}
 use Rattle.bp_log.specs.Header.{PlainHeader}
+use Rattle.bp_log.specs.Logs.{header_text, records_text}
 use Rattle.bp_log.specs.Options.{PlainOptions}
 use Rattle.bp_log.specs.declared.verdict.Verdict.{Verdict}
 use Rattle.bp_reading.specs.Laws.{IsHeader, AreRecords}
-use Rattle.bp_code.specs.Code.{records_alone, text_alone}
+use Rattle.bp_code.specs.Code.{code_of, records_alone, text_alone}
 use Rattle.bp_script.specs.Programs.{IsProgram}
 use Rattle.bp_serve.specs.declared.report.Report.{Report}
 use Rattle.bp_serve.specs.declared.fault.RunFault.{RunFault}
 use Rattle.bp_serve.specs.Ends.{verdict_alone}
 use Rattle.bp_serve.specs.Logging.{LogGets, LogGetsFront}
+use Rattle.bp_serve.specs.Order.{PrintsBehind}
+use Rattle.bp_serve.proofs.Logging.{log_is}
 use Rattle.bp_serve.proofs.Way.{front_alone, unprinted as let_go}
 use Rattle.bp_replay.specs.Laws.{Retells}
 use Rattle.bp_replay.proofs.RunLogs.{logs_of_runs_replay}
 use Rattle.bp_cli.specs.declared.conclusion.Conclusion.{Conclusion}
 use Rattle.bp_cli.specs.Conclusions.{ended_of}
 use Rattle.bp_cli.specs.Outside.{Outside}
-use Rattle.bp_cli.specs.Runs.{Holds, KeepsLogFront, RunEnds, log_alone}
+use Rattle.bp_cli.specs.Runs.{Holds, HoldsBehind, KeepsLogFront, RunEnds, log_alone}
 
 -- what a run answers says how the command ends
 pub run_ends : (r : Result Report RunFault) (c : Conclusion) (program : PlainProgram) (o : PlainOptions) (unwritten whole partly : Type 0) (before after : Option (List ℕ)) → c ≡ ended_of r →
@@ -63,10 +66,28 @@ module _ {L : Type 0} (written : L → Option (List ℕ)) where
   log_held (Ok x) before name text first last after e w k = held before name text (written first) (written last) after e w k
   log_held (Err x) before name text first last after e w k = tt
 
-  pub log_held_front : {T E : Type 0} (r : Result T E) (before after : Outside) (name text : List ℕ) (first last : L) → IfSome before.holds (λ h. written first ≡ Some []) →
-      OnErr r (LogGetsFront written (Some first) text (Some last)) → Keeps before.holds name (written last) after.holds → OnErr r (KeepsLogFront (Some name) before text after)
-  log_held_front (Ok x) before after name text first last e w k = tt
-  log_held_front (Err x) before after name text first last e w k = inr (w.0, w.1, w.2, held before.holds name w.0 (written first) (written last) after.holds e w.3 k)
+  held_behind : (before after : Outside) (name : List ℕ) (header : PlainHeader) (program : PlainProgram) (first last : L) → IfSome before.holds (λ h. written first ≡ Some []) →
+      PrintsBehind written (code_of program header.options) header.options (header_text header) before.printed after.printed (Some first) (Some last) → Keeps before.holds name (written last) after.holds →
+      (after.printed ≡ before.printed) ⊎ HoldsBehind name header program before after
+  held_behind before after name header program first last e (inl s) k = inl s
+  held_behind before after name header program first last e (inr b) k =
+      inr (record {
+        records = b.records;
+        later = b.later;
+        is_run = b.is_run;
+        more = b.logged.0;
+        kept = subst (λ (t : List ℕ). Holds before.holds name (t ++ b.logged.0) after.holds) (sym (log_is header b.records))
+            (held before.holds name ((header_text header ++ records_text b.records) ++ b.logged.0) (written first) (written last) after.holds e b.logged.1 k);
+        printed = b.printed;
+      })
+
+  pub log_held_front : {T E : Type 0} (r : Result T E) (before after : Outside) (name : List ℕ) (header : PlainHeader) (program : PlainProgram) (first last : L) → IfSome before.holds (λ h. written first ≡ Some []) →
+      OnErr r (LogGetsFront written (Some first) (log_alone header program) (Some last)) →
+      PrintsBehind written (code_of program header.options) header.options (header_text header) before.printed after.printed (Some first) (Some last) →
+      Keeps before.holds name (written last) after.holds → OnErr r (KeepsLogFront (Some name) before header program after)
+  log_held_front (Ok x) before after name header program first last e w b k = tt
+  log_held_front (Err x) before after name header program first last e w b k =
+      inr ((w.0, w.1, w.2, held before.holds name w.0 (written first) (written last) after.holds e w.3 k), held_behind before after name header program first last e b k)
 
 -- a count that rose from nothing is more than nothing
 pub risen : (a b : ℕ) → a ≡ 0 → Rose a b → 0 < b

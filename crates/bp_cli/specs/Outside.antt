@@ -8,6 +8,9 @@ pub record Outside : Type 0 where
   pub asked : Option (List (List ℕ))
   pub printed : Option (List ℕ)
 
+abbrev pub outside : Option Holdings → Option (List (List ℕ)) → Option (List ℕ) → Outside
+outside holds asked printed = record { holds = holds; asked = asked; printed = printed }
+
 -- nothing was printed, and the world holds what it held
 abbrev pub IsAsBefore : Outside → Outside → Type 0
 IsAsBefore before after = (after.printed ≡ before.printed) × (after.holds ≡ before.holds)

@@ -6,9 +6,10 @@ use Rattle.js_program.specs.PlainProgram.{PlainProgram}
 use Rattle.bp_log.specs.Header.{PlainHeader}
 use Rattle.bp_log.specs.Options.{PlainOptions}
 use Rattle.bp_log.specs.Logs.{log_text}
+use Rattle.bp_log.specs.declared.record.Record.{Record}
 use Rattle.bp_log.specs.declared.verdict.Verdict.{Verdict}
 use Rattle.bp_reading.specs.Laws.{AreRecords}
-use Rattle.bp_code.specs.Code.{records_alone, text_alone}
+use Rattle.bp_code.specs.Code.{text_of, records_alone, text_alone}
 use Rattle.bp_script.specs.Programs.{IsProgram}
 use Rattle.bp_args.specs.declared.command.Command.{Command}
 use Rattle.bp_args.specs.declared.command.Command.TheVariants as command
@@ -33,14 +34,27 @@ abbrev pub KeepsLog : Option (List ℕ) → Option Holdings → List ℕ → Opt
 KeepsLog None before text after = after ≡ before
 KeepsLog (Some name) before text after = Holds before name text after
 
--- a front of the log, or what was held, and then nothing was printed
-abbrev pub KeepsLogFront : Option (List ℕ) → Outside → List ℕ → Outside → Type 0
-KeepsLogFront None before text after = after.holds ≡ before.holds
-KeepsLogFront (Some name) before text after = IsAsBefore before after ⊎ HoldsFront before.holds name text after.holds
-
 -- the log of a run without injectors
 abbrev pub log_alone : PlainHeader → PlainProgram → List ℕ
 log_alone header program = log_text header (records_alone program header.options)
+
+-- the first records of the run stand in what is held under the name, behind the header, and what was
+-- printed is of their text
+pub record HoldsBehind (name : List ℕ) (header : PlainHeader) (program : PlainProgram) (before after : Outside) : Type 0 where
+  pub records : List Record
+  pub later : List Record
+  pub is_run : records ++ later ≡ records_alone program header.options
+  pub more : List ℕ
+  pub kept : Holds before.holds name (log_text header records ++ more) after.holds
+  pub printed : IsSomeAnd (text_of program header.options records) (λ text. AppendsFront before.printed text after.printed)
+
+-- the world holds what it held, and nothing was printed; or it holds a front of the log, in which the
+-- records of all that was printed stand
+abbrev pub KeepsLogFront : Option (List ℕ) → Outside → PlainHeader → PlainProgram → Outside → Type 0
+KeepsLogFront None before header program after = after.holds ≡ before.holds
+KeepsLogFront (Some name) before header program after =
+    IsAsBefore before after
+    ⊎ (HoldsFront before.holds name (log_alone header program) after.holds × ((after.printed ≡ before.printed) ⊎ HoldsBehind name header program before after))
 
 abbrev pub header_of : Run → List ℕ → PlainHeader
 header_of asked bytes = record { options = asked.options; program = bytes }
@@ -55,13 +69,13 @@ pub record RunsTo (asked : Run) (bytes : List ℕ) (before after : Outside) (v :
   pub keeps : KeepsLog asked.log before.holds (log_alone (header_of asked bytes) program) after.holds
   pub replays : IsSomeAnd (text_alone program asked.options) (λ text. Retells (log_alone (header_of asked bytes) program) text v)
 
--- the bytes are a program; a front of the text of its run was printed, and a front of its log is held, or nothing was printed and
--- the world holds what it held
+-- the bytes are a program; a front of the text of its run was printed, and a front of its log is held in which the records of
+-- that text stand, or nothing was printed and the world holds what it held
 pub record RunsPartly (asked : Run) (bytes : List ℕ) (before after : Outside) : Type 0 where
   pub program : PlainProgram
   pub is_program : IsProgram bytes program
   pub prints : IsSomeAnd (text_alone program asked.options) (λ text. AppendsFront before.printed text after.printed)
-  pub keeps : KeepsLogFront asked.log before (log_alone (header_of asked bytes) program) after
+  pub keeps : KeepsLogFront asked.log before (header_of asked bytes) program after
 
 -- Why a run of this program ends so (`unwritten`: writing failed); how much of its text was printed; what holds besides where all
 -- was told (`whole`) and where not (`partly`); and what its records keep by their types.

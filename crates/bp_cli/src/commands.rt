@@ -5,7 +5,7 @@ ghost use Rattle.bp_args.specs.Command.{command_of};
 ghost use Rattle.bp_cli.specs.Asking.{AsksIn};
 ghost use Rattle.bp_cli.specs.Conclusions.{code_of};
 ghost use Rattle.bp_cli.specs.Endings.{EndsSo, Ends};
-ghost use Rattle.bp_cli.specs.Outside.{Outside};
+ghost use Rattle.bp_cli.specs.Outside.{outside};
 ghost use Rattle.bp_cli.specs.Refusing.{Refuses};
 ghost use Rattle.bp_cli.specs.Runs.{IsAlone};
 
@@ -29,10 +29,11 @@ fn carry_out<R: Threads + Wait + Sync, W: World, K: Sink>(
     out: &mut K,
 ) -> Conclusion
     requires alone { IsAlone (Some command) }
-    ensures ends { let before : Outside = record { holds = W.holds world.old; asked = W.asked world.old; printed = K.written out.old } in
-        let after : Outside = record { holds = W.holds world.new; asked = W.asked world.new; printed = K.written out.new } in
+    ensures ends { let before = outside (W.holds world.old) (W.asked world.old) (K.written out.old) in
+        let after = outside (W.holds world.new) (W.asked world.new) (K.written out.new) in
         EndsSo (Some command) (Rose (W.read_faults world.old) (W.read_faults world.new))
-        (Rose (K.faults out.old) (K.faults out.new) ⊎ Rose (W.write_faults world.old) (W.write_faults world.new))
+        (Rose (K.faults out.old) (K.faults out.new)
+        ⊎ Rose (W.write_faults world.old) (W.write_faults world.new))
         before after result }
     ensures asks { AsksIn (Some command) (W.asked world.old) (W.asked world.new) result }
     ensures refuses { Refuses (Some command) (W.holds world.old) (code_of result) }
@@ -56,10 +57,12 @@ fn conclude<R: Threads + Wait + Sync, W: World, K: Sink>(
     world: &mut W,
     out: &mut K,
 ) -> Conclusion
-    ensures ends { let before : Outside = record { holds = W.holds world.old; asked = W.asked world.old; printed = K.written out.old } in
-        let after : Outside = record { holds = W.holds world.new; asked = W.asked world.new; printed = K.written out.new } in
-        EndsSo (command_of (map string_bytes words.now)) (Rose (W.read_faults world.old) (W.read_faults world.new))
-        (Rose (K.faults out.old) (K.faults out.new) ⊎ Rose (W.write_faults world.old) (W.write_faults world.new))
+    ensures ends { let before = outside (W.holds world.old) (W.asked world.old) (K.written out.old) in
+        let after = outside (W.holds world.new) (W.asked world.new) (K.written out.new) in
+        EndsSo (command_of (map string_bytes words.now))
+        (Rose (W.read_faults world.old) (W.read_faults world.new))
+        (Rose (K.faults out.old) (K.faults out.new)
+        ⊎ Rose (W.write_faults world.old) (W.write_faults world.new))
         before after result }
     ensures asks { AsksIn (command_of (map string_bytes words.now))
         (W.asked world.old) (W.asked world.new) result }
@@ -91,15 +94,18 @@ pub fn command<R: Threads + Wait + Sync, W: World, K: Sink>(
     // conclusion says: at 0 and 3 to 7 the whole text, at 9 a front of it, at 10 nothing or a front
     // (of `accept` and `large` only where writing failed too), of a replay at 8 and 11 the text of
     // the records that were followed, and else nothing. The world holds what it held, and where a
-    // log is kept that log; at 9 and 10 a front of it, or, where nothing was printed, what it held.
-    // Each replay of the log of a run prints the same text and comes to the same verdict, unless it
-    // meets trouble. The world was asked for the names of the words, in order: at 2 and 8 for the
-    // first alone, at 10 for some. So where no count rose and memory was not wanting, the code is
-    // 1, 2, 11, that of the one run's verdict, or 0 for an accepted program.
-    ensures ends { let before : Outside = record { holds = W.holds world.old; asked = W.asked world.old; printed = K.written out.old } in
-        let after : Outside = record { holds = W.holds world.new; asked = W.asked world.new; printed = K.written out.new } in
-        Ends (command_of (map string_bytes words.now)) (Rose (W.read_faults world.old) (W.read_faults world.new))
-        (Rose (K.faults out.old) (K.faults out.new) ⊎ Rose (W.write_faults world.old) (W.write_faults world.new))
+    // log is kept that log; at 9 and 10 a front of it, in which the records of all that was printed
+    // stand, or, where nothing was printed, what it held. Each replay of the log of a run prints
+    // the same text and comes to the same verdict, unless it meets trouble. The world was asked for
+    // the names of the words, in order: at 2 and 8 for the first alone, at 10 for some. So where no
+    // count rose and memory was not wanting, the code is 1, 2, 11, that of the one run's verdict,
+    // or 0 for an accepted program.
+    ensures ends { let before = outside (W.holds world.old) (W.asked world.old) (K.written out.old) in
+        let after = outside (W.holds world.new) (W.asked world.new) (K.written out.new) in
+        Ends (command_of (map string_bytes words.now))
+        (Rose (W.read_faults world.old) (W.read_faults world.new))
+        (Rose (K.faults out.old) (K.faults out.new)
+        ⊎ Rose (W.write_faults world.old) (W.write_faults world.new))
         before after result.code result.note }
 
     // A refused program comes to no other end, but for a fault of reading or want of memory.

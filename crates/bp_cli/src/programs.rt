@@ -5,7 +5,7 @@ ghost use Rattle.bp_args.specs.declared.command.Command.TheVariants as command;
 ghost use Rattle.bp_cli.specs.Asking.{AsksIn};
 ghost use Rattle.bp_cli.specs.Conclusions.{code_of};
 ghost use Rattle.bp_cli.specs.Endings.{EndsIn};
-ghost use Rattle.bp_cli.specs.Outside.{Outside};
+ghost use Rattle.bp_cli.specs.Outside.{outside};
 ghost use Rattle.bp_cli.specs.Refusing.{Refuses};
 
 use crate::conclusion::Conclusion;
@@ -33,10 +33,11 @@ pub(crate) fn run_program<R: Threads + Wait + Sync, W: World, K: Sink>(
     out: &mut K,
 ) -> Conclusion
     requires alone { asked.now.options.injectors ≡ 0 }
-    ensures ends { let before : Outside = record { holds = W.holds world.old; asked = W.asked world.old; printed = K.written out.old } in
-        let after : Outside = record { holds = W.holds world.new; asked = W.asked world.new; printed = K.written out.new } in
+    ensures ends { let before = outside (W.holds world.old) (W.asked world.old) (K.written out.old) in
+        let after = outside (W.holds world.new) (W.asked world.new) (K.written out.new) in
         EndsIn (Some (command.Run asked.now)) (Rose (W.read_faults world.old) (W.read_faults world.new))
-        (Rose (K.faults out.old) (K.faults out.new) ⊎ Rose (W.write_faults world.old) (W.write_faults world.new))
+        (Rose (K.faults out.old) (K.faults out.new)
+        ⊎ Rose (W.write_faults world.old) (W.write_faults world.new))
         before after result }
     ensures asks { AsksIn (Some (command.Run asked.now)) (W.asked world.old) (W.asked world.new) result }
     ensures refuses { Refuses (Some (command.Run asked.now)) (W.holds world.old) (code_of result) }
@@ -75,10 +76,11 @@ pub(crate) fn accept_program<W: World, K: Sink>(
     world: &mut W,
     out: &mut K,
 ) -> Conclusion
-    ensures ends { let before : Outside = record { holds = W.holds world.old; asked = W.asked world.old; printed = K.written out.old } in
-        let after : Outside = record { holds = W.holds world.new; asked = W.asked world.new; printed = K.written out.new } in
+    ensures ends { let before = outside (W.holds world.old) (W.asked world.old) (K.written out.old) in
+        let after = outside (W.holds world.new) (W.asked world.new) (K.written out.new) in
         EndsIn (Some (command.Accept name.now)) (Rose (W.read_faults world.old) (W.read_faults world.new))
-        (Rose (K.faults out.old) (K.faults out.new) ⊎ Rose (W.write_faults world.old) (W.write_faults world.new))
+        (Rose (K.faults out.old) (K.faults out.new)
+        ⊎ Rose (W.write_faults world.old) (W.write_faults world.new))
         before after result }
     ensures asks { AsksIn (Some (command.Accept name.now)) (W.asked world.old) (W.asked world.new) result }
     ensures refuses { Refuses (Some (command.Accept name.now)) (W.holds world.old) (code_of result) }

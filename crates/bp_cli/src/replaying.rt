@@ -3,7 +3,7 @@ ghost use Rattle.std.specs.Prelude.{◌⊎◌, ◌≤◌, Some};
 ghost use Rattle.bp_base.specs.Counts.{Rose};
 ghost use Rattle.bp_args.specs.declared.command.Command.TheVariants as command;
 ghost use Rattle.bp_cli.specs.Asking.{AsksIn};
-ghost use Rattle.bp_cli.specs.Outside.{Outside};
+ghost use Rattle.bp_cli.specs.Outside.{outside};
 ghost use Rattle.bp_cli.specs.Replaying.{ReplayEnds};
 
 use crate::conclusion::Conclusion;
@@ -19,10 +19,11 @@ pub(crate) fn replay_log<W: World, K: Sink>(
     world: &mut W,
     out: &mut K,
 ) -> Conclusion
-    ensures ends { let before : Outside = record { holds = W.holds world.old; asked = W.asked world.old; printed = K.written out.old } in
-        let after : Outside = record { holds = W.holds world.new; asked = W.asked world.new; printed = K.written out.new } in
+    ensures ends { let before = outside (W.holds world.old) (W.asked world.old) (K.written out.old) in
+        let after = outside (W.holds world.new) (W.asked world.new) (K.written out.new) in
         ReplayEnds name.now (Rose (W.read_faults world.old) (W.read_faults world.new))
-        (Rose (K.faults out.old) (K.faults out.new) ⊎ Rose (W.write_faults world.old) (W.write_faults world.new))
+        (Rose (K.faults out.old) (K.faults out.new)
+        ⊎ Rose (W.write_faults world.old) (W.write_faults world.new))
         before after result }
     ensures asks { AsksIn (Some (command.Replay name.now)) (W.asked world.old) (W.asked world.new) result }
     ensures read_counts { W.read_faults world.old ≤ W.read_faults world.new }

@@ -2,7 +2,7 @@
 ghost use Rattle.std.specs.Prelude.{◌≡◌, ◌⊎◌, ◌≤◌, Some, IfOk};
 ghost use Rattle.bp_base.specs.Counts.{Rose};
 ghost use Rattle.bp_base.specs.Worlds.{Asks};
-ghost use Rattle.bp_cli.specs.Outside.{Outside};
+ghost use Rattle.bp_cli.specs.Outside.{outside};
 ghost use Rattle.bp_reading.specs.Laws.{AreRecords};
 ghost use Rattle.bp_cli.specs.Runs.{Holds, KeepsLogFront, log_alone, RunEnds};
 
@@ -58,20 +58,13 @@ pub(crate) fn run_logged<R: Threads + Wait + Sync, W: World, K: Sink>(
 ) -> Conclusion
     requires alone { header.now.options.injectors ≡ 0 }
     ensures ends { let log = log_alone header.now program in
-        let before : Outside = record {
-          holds = W.holds world.old;
-          asked = W.asked world.old;
-          printed = K.written out.old;
-        } in
-        let after : Outside = record {
-          holds = W.holds world.new;
-          asked = W.asked world.new;
-          printed = K.written out.new;
-        } in
+        let before = outside (W.holds world.old) (W.asked world.old) (K.written out.old) in
+        let after = outside (W.holds world.new) (W.asked world.new) (K.written out.new) in
         RunEnds program header.now.options
-        (Rose (K.faults out.old) (K.faults out.new) ⊎ Rose (W.write_faults world.old) (W.write_faults world.new))
+        (Rose (K.faults out.old) (K.faults out.new)
+        ⊎ Rose (W.write_faults world.old) (W.write_faults world.new))
         (Holds (W.holds world.old) name.now log (W.holds world.new))
-        (KeepsLogFront (Some name.now) before log after)
+        (KeepsLogFront (Some name.now) before header.now program after)
         (K.written out.old) (K.written out.new) result }
     ensures asked { ((result ≡ Conclusion.NoMemory) × (W.asked world.new ≡ W.asked world.old))
         ⊎ Asks (W.asked world.old) name.now (W.asked world.new) }

@@ -4,5 +4,6 @@ pub mod Slices
 pub mod Way
 pub mod Verdicts
 pub mod Turned
+pub mod Order
 pub mod Beside
 pub mod Measure

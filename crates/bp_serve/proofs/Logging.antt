@@ -1,11 +1,27 @@
 -- A log that is kept, or none, from one moment to the next.
-use Rattle.std.proofs.Common.{◌≡◌, ℕ, ◌≤◌, List, [], ◌++◌, refl, ap, sym, ◌∙◌, append-nil, arith, inl, inr, Option, Some, None, Ok, Err}
+use Rattle.std.proofs.Common.{◌≡◌, ◌⊎◌, ℕ, ◌≤◌, List, [], ◌++◌, refl, ap, sym, subst, ◌∙◌, append_assoc, append-nil, arith, inl, inr, Option, Some, None, Ok, Err}
 use Rattle.std.specs.Prelude.{Result, OnOk, OnErr}
 use Rattle.bp_base.specs.Counts.{Rose}
 use Rattle.bp_base.specs.Pieces.{Appends, AppendsFront}
-use Rattle.bp_serve.specs.Logging.{OfLog, LogGets, LogGetsFront, LogShows, LogShowsFront, LogFails, LogStays}
+use Rattle.bp_base.proofs.Appending.{appends-on}
+use Rattle.bp_log.specs.Header.{PlainHeader}
+use Rattle.bp_log.specs.Logs.{header_text, records_text, log_text}
+use Rattle.bp_log.specs.declared.record.Record.{Record}
+use Rattle.bp_serve.specs.Logging.{OfLog, LogGets, LogGetsFront, LogHolds, LogWaits, LogShows, LogShowsFront, LogFails, LogStays}
 use Rattle.bp_serve.specs.Pages.{Shows, ShowsFront}
 use Rattle.bp_serve.proofs.Pieces.{appends_nothing, let_go, shows_page, shows_on, shows_stop, front_on, shows_put, shows_part, written_all, written_front, written_part, written_front_part}
+
+-- a log is its head and its records
+pub log_is : (h : PlainHeader) (rs : List Record) → log_text h rs ≡ header_text h ++ records_text rs
+unfolding log_text
+log_is h rs = refl
+
+holds_shown : (a b c : Option (List ℕ)) (text page more : List ℕ) → Shows a text page b → Appends b (page ++ more) c → Appends a (text ++ more) c
+holds_shown a b c text page more s h =
+    subst (λ (t : List ℕ). Appends a t c) (sym (append_assoc s.front page more) ∙ ap (λ (t : List ℕ). t ++ more) (sym s.is_text)) (appends-on a b c s.front (page ++ more) s.written h)
+
+holds_on : (a b c : Option (List ℕ)) (text more front : List ℕ) → Appends a (text ++ more) b → Appends b front c → Appends a (text ++ (more ++ front)) c
+holds_on a b c text more front h k = subst (λ (t : List ℕ). Appends a t c) (append_assoc text more front) (appends-on a b c (text ++ more) front h k)
 
 -- what holds of a log at once
 at_once : {L : Type 0} (R : L → L → Type 0) → ((x : L) → R x x) → (a : Option L) → OfLog R a a
@@ -74,6 +90,49 @@ module _ {L : Type 0} (written : L → Option (List ℕ)) where
       of_log (λ l m. Shows (written l) text page (written m)) (λ l m. ShowsFront (written l) whole next (written m))
       (λ x y r. shows_part (written x) (written y) text page more rest next whole w r h) a b s
 
+  -- what is shown or waits
+  pub log_waits : (a b : Option L) (text page : List ℕ) → LogShows written a text page b → LogWaits written a text page b
+  log_waits a b text page s =
+      of_log (λ l m. Shows (written l) text page (written m)) (λ l m. (more : List ℕ) × Shows (written l) (text ++ more) page (written m))
+      (λ x y r. ([], subst (λ (t : List ℕ). Shows (written x) t page (written y)) (sym (append-nil text)) r)) a b s
+
+  pub log_waits_more : (a b : Option L) (text more page : List ℕ) → LogShows written a (text ++ more) page b → LogWaits written a text page b
+  log_waits_more a b text more page s =
+      of_log (λ l m. Shows (written l) (text ++ more) page (written m)) (λ l m. (rest : List ℕ) × Shows (written l) (text ++ rest) page (written m)) (λ x y r. (more, r)) a b s
+
+  pub log_waits_on : (a b c : Option L) (text page next : List ℕ) → LogShows written a text page b → LogWaits written b page next c → LogWaits written a text next c
+  log_waits_on a b c text page next s t =
+      of_log_on (λ l m. Shows (written l) text page (written m)) (λ l m. (more : List ℕ) × Shows (written l) (page ++ more) next (written m)) (λ l m. (more : List ℕ) × Shows (written l) (text ++ more) next (written m))
+      (λ x y z r q. (q.0, shows_on (written x) (written y) (written z) text page q.0 (page ++ q.0) next (text ++ q.0) refl refl r q.1)) a b c s t
+
+  -- a head stood on the page before
+  pub log_waits_headed : (a c : Option L) (head page more next : List ℕ) → LogShows written a head page a → LogWaits written a (page ++ more) next c → LogWaits written a (head ++ more) next c
+  log_waits_headed a c head page more next s t = log_waits_on a a c (head ++ more) (page ++ more) next (log_put a a head page more (page ++ more) (head ++ more) refl refl s) t
+
+  -- what waited was written at last
+  pub log_waits_written : (a b c : Option L) (text page : List ℕ) → LogWaits written a text page b → LogGets written b page c → LogHolds written a text c
+  log_waits_written a b c text page s h =
+      of_log_on (λ l m. (more : List ℕ) × Shows (written l) (text ++ more) page (written m)) (λ l m. Appends (written l) page (written m)) (λ l m. (more : List ℕ) × Appends (written l) (text ++ more) (written m))
+      (λ x y z r q. (r.0, written_all (written x) (written y) (written z) (text ++ r.0) page r.1 q)) a b c s h
+
+  -- what the log got it holds
+  log_holds : (a b : Option L) (text : List ℕ) → LogGets written a text b → LogHolds written a text b
+  log_holds a b text s =
+      of_log (λ l m. Appends (written l) text (written m)) (λ l m. (more : List ℕ) × Appends (written l) (text ++ more) (written m))
+      (λ x y r. ([], subst (λ (t : List ℕ). Appends (written x) t (written y)) (sym (append-nil text)) r)) a b s
+
+  -- also what waited before
+  pub log_holds_shown : (a b c : Option L) (text page : List ℕ) → LogShows written a text page b → LogHolds written b page c → LogHolds written a text c
+  log_holds_shown a b c text page s h =
+      of_log_on (λ l m. Shows (written l) text page (written m)) (λ l m. (more : List ℕ) × Appends (written l) (page ++ more) (written m)) (λ l m. (more : List ℕ) × Appends (written l) (text ++ more) (written m))
+      (λ x y z r q. (q.0, holds_shown (written x) (written y) (written z) text page q.0 r q.1)) a b c s h
+
+  -- and it goes on to hold it
+  pub log_holds_on : (a b c : Option L) (text page next : List ℕ) → LogHolds written a text b → LogShowsFront written b page next c → LogHolds written a text c
+  log_holds_on a b c text page next h s =
+      of_log_on (λ l m. (more : List ℕ) × Appends (written l) (text ++ more) (written m)) (λ l m. ShowsFront (written l) page next (written m)) (λ l m. (more : List ℕ) × Appends (written l) (text ++ more) (written m))
+      (λ x y z r q. (r.0 ++ q.shows.front, holds_on (written x) (written y) (written z) text r.0 q.shows.front r.1 q.shows.written)) a b c h s
+
   -- nothing was written
   pub log_nothing : (a : Option L) (text : List ℕ) → LogGetsFront written a text a
   log_nothing a text = at_once (λ l m. AppendsFront (written l) text (written m)) (λ l. ([], text, refl, appends_nothing (written l))) a
@@ -89,6 +148,13 @@ module _ {L : Type 0} (written : L → Option (List ℕ)) where
   log_written a b c text page s h =
       of_log_on (λ l m. Shows (written l) text page (written m)) (λ l m. Appends (written l) page (written m)) (λ l m. Appends (written l) text (written m))
       (λ x y z r q. written_all (written x) (written y) (written z) text page r q) a b c s h
+
+  -- what was printed so far is behind the log, and so is what was printed now
+  pub behind_on : (x y z : Option L) (text page next : List ℕ) (p q r : Option (List ℕ)) → ((q ≡ p) ⊎ LogHolds written x text y) → LogShows written x text page y →
+      ((r ≡ q) ⊎ LogGets written y page z) → LogShowsFront written y page next z → (r ≡ p) ⊎ LogHolds written x text z
+  behind_on x y z text page next p q r (inl e) s (inl f) t = inl (f ∙ e)
+  behind_on x y z text page next p q r (inr h) s (inl f) t = inr (log_holds_on x y z text page next h t)
+  behind_on x y z text page next p q r h s (inr g) t = inr (log_holds x z text (log_written x y z text page s g))
 
   pub log_written_front : (a b c : Option L) (text page : List ℕ) → LogShowsFront written a text page b → LogGets written b page c → LogGetsFront written a text c
   log_written_front a b c text page s h =

@@ -194,7 +194,7 @@ records_split xs i x h e =
 take_front : (xs later all : List Record) (k : ℕ) → xs ++ later ≡ all → k ≤ length xs → take k all ≡ take k xs
 take_front xs later all k e h = ap (λ (r : List Record). take k r) (sym e) ∙ take-append-le k xs later h
 
-take_whole : (xs later all : List Record) → xs ++ later ≡ all → take (length xs) all ≡ xs
+pub take_whole : (xs later all : List Record) → xs ++ later ≡ all → take (length xs) all ≡ xs
 take_whole xs later all e = take_front xs later all (length xs) e (omega arith) ∙ take_all (length xs) xs (omega arith)
 
 -- of a list that goes on, those up to a place, and those behind it that are there

@@ -130,7 +130,7 @@ sealed_way l o rs c (Some w) ns a h = ends_at l o rs c w a (h w refl)
 
 -- ---- the text
 
-text_at : (l : Code Origin PlainSet) (o : PlainOptions) (rs : List Record) (c : Configuration Origin) → story l o rs ≡ Some c → text l o rs ≡ Some (lines_text c.stand.lines)
+pub text_at : (l : Code Origin PlainSet) (o : PlainOptions) (rs : List Record) (c : Configuration Origin) → story l o rs ≡ Some c → text l o rs ≡ Some (lines_text c.stand.lines)
 unfolding text
 text_at l o rs c h = ap (λ (x : Option (Configuration Origin)). option_map (λ y. lines_text y.stand.lines) x) h
 
@@ -188,6 +188,14 @@ pub begins_underway : (l : Code Origin PlainSet) (o : PlainOptions) (a : PlainAr
 begins_underway l o a taken i u t =
     let later = later_on l o a.phase a.records u.way in
     begins_told l o a.records later.later t.told taken ((stand_in a).lines ++ t.rest) i later.whole (recounts_at l o a t.told u.code u.options t.story) t.lines
+
+-- and that of what was recorded
+records_underway : (l : Code Origin PlainSet) (o : PlainOptions) (a : PlainArbiter) (taken : List Line) → Underway l o a taken → Tells a taken → (rest : List ℕ) × (text l o a.records ≡ Some (lines_text taken ++ rest))
+records_underway l o a taken u t = (
+  lines_text ((stand_in a).lines ++ t.rest),
+  text_at l o a.records t.told (recounts_at l o a t.told u.code u.options t.story)
+      ∙ ap (λ (x : List ℕ). Some x) (ap (λ (ls : List Line). lines_text ls) t.lines ∙ lines_text-append taken ((stand_in a).lines ++ t.rest)),
+)
 
 -- and are all of it at the end
 pub whole_underway : (l : Code Origin PlainSet) (o : PlainOptions) (a : PlainArbiter) (taken : List Line) → Underway l o a taken → a.phase ≡ Over →
@@ -317,6 +325,10 @@ takes_lines old new lines e n b q r f s tells exact =
       begins = λ l o taken i u.
           let w = on l o taken u in
           begins_underway l o new (taken ++ (stand_in old).lines) i w (tells [] (taken ++ (stand_in old).lines) w.pair w.stands);
+      so_far = λ l o taken u.
+          let w = on l o taken u in
+          subst (λ (es : List Record). (rest : List ℕ) × (text l o es ≡ Some (lines_text (taken ++ (stand_in old).lines) ++ rest))) r
+          (records_underway l o new (taken ++ (stand_in old).lines) w (tells [] (taken ++ (stand_in old).lines) w.pair w.stands));
       whole = λ l o taken u h.
           let w = on l o taken u in
           let over : new.phase ≡ Over = f ∙ h in

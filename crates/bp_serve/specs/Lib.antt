@@ -2,4 +2,5 @@ pub mod Ends
 pub mod Pages
 pub mod Logging
 pub mod Serving
+pub mod Order
 pub mod Turning

@@ -1,5 +1,5 @@
 -- A log that is kept, or none.
-use Rattle.std.specs.Prelude.{◌≡◌, ℕ, ◌≤◌, List, Option, Some, None, IsSomeAnd}
+use Rattle.std.specs.Prelude.{◌≡◌, ℕ, ◌≤◌, List, ◌++◌, Option, Some, None, IsSomeAnd}
 use Rattle.bp_base.specs.Counts.{Rose}
 use Rattle.bp_base.specs.Pieces.{Appends, AppendsFront}
 use Rattle.bp_serve.specs.Pages.{Shows, ShowsFront}
@@ -19,9 +19,17 @@ LogGets written before text after = OfLog (λ l m. Appends (written l) text (wri
 abbrev pub LogGetsFront : {L : Type 0} → (L → Option (List ℕ)) → Option L → List ℕ → Option L → Type 0
 LogGetsFront written before text after = OfLog (λ l m. AppendsFront (written l) text (written m)) before after
 
+-- the log got the text, and maybe more behind it
+abbrev pub LogHolds : {L : Type 0} → (L → Option (List ℕ)) → Option L → List ℕ → Option L → Type 0
+LogHolds written before text after = OfLog (λ l m. (more : List ℕ) × Appends (written l) (text ++ more) (written m)) before after
+
 -- the log got a front of the text, and the rest waits on the page
 abbrev pub LogShows : {L : Type 0} → (L → Option (List ℕ)) → Option L → List ℕ → List ℕ → Option L → Type 0
 LogShows written before text page after = OfLog (λ l m. Shows (written l) text page (written m)) before after
+
+-- the log got the text, or it waits on the page, and maybe more behind it
+abbrev pub LogWaits : {L : Type 0} → (L → Option (List ℕ)) → Option L → List ℕ → List ℕ → Option L → Type 0
+LogWaits written before text page after = OfLog (λ l m. (more : List ℕ) × Shows (written l) (text ++ more) page (written m)) before after
 
 -- the same of a front of the text
 abbrev pub LogShowsFront : {L : Type 0} → (L → Option (List ℕ)) → Option L → List ℕ → List ℕ → Option L → Type 0

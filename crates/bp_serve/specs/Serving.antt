@@ -60,9 +60,11 @@ pub record Begins (l : Code Origin PlainSet) (o : PlainOptions) (lines : List Li
   pub text_is : text l o (alone l o) ≡ Some (lines_text lines ++ rest)
 
 -- After the lines of this arbiter were taken the same run is served; its text begins with all that
--- was taken, and at the end is no more than that.
+-- was taken, as does that of the records so far, and at the end is no more than that.
 pub record TakesLines (old new : PlainArbiter) : Type 0 where
   pub keeps : (l : Code Origin PlainSet) (o : PlainOptions) (taken : List Line) → Underway l o old taken → Underway l o new (taken ++ (stand_in old).lines)
   pub begins : (l : Code Origin PlainSet) (o : PlainOptions) (taken : List Line) → o.injectors ≡ 0 → Underway l o old taken → Begins l o (taken ++ (stand_in old).lines)
+  pub so_far : (l : Code Origin PlainSet) (o : PlainOptions) (taken : List Line) → Underway l o old taken →
+      (rest : List ℕ) × (text l o old.records ≡ Some (lines_text (taken ++ (stand_in old).lines) ++ rest))
   pub whole : (l : Code Origin PlainSet) (o : PlainOptions) (taken : List Line) → Underway l o old taken → old.phase ≡ Over →
       text l o (alone l o) ≡ Some (lines_text (taken ++ (stand_in old).lines))

@@ -2,10 +2,11 @@
 ghost use Rattle.std.specs.Prelude.{◌≡◌, ◌<◌, ◌≤◌, ◌++◌, [], Some, IfOk, OnOk, OnErr, IsErrOf, IsSomeAnd};
 ghost use Rattle.bp_base.specs.Counts.{Rose};
 ghost use Rattle.bp_base.specs.Pieces.{Appends, AppendsFront};
-ghost use Rattle.bp_code.specs.Code.{records_alone, text_alone};
-ghost use Rattle.bp_log.specs.Logs.{records_text, log_text};
+ghost use Rattle.bp_code.specs.Code.{code_of, records_alone, text_alone};
+ghost use Rattle.bp_log.specs.Logs.{header_text, records_text, log_text};
 ghost use Rattle.bp_serve.specs.Ends.{verdict_alone};
 ghost use Rattle.bp_serve.specs.Logging.{LogGets, LogGetsFront, LogShows, LogShowsFront, LogFails, LogStays};
+ghost use Rattle.bp_serve.specs.Order.{TellsBehind, PrintsBehind};
 ghost use Rattle.bp_serve.specs.Pages.{Shows, ShowsFront};
 
 use crate::serving::serve;
@@ -39,10 +40,18 @@ fn run_onto<R: Threads + Wait + Sync, K: Sink, L: Sink>(
         (λ text. ShowsFront (K.written out.old) text telling.new.lines (K.written out.new))) }
     ensures verdict { IfOk result (λ r. verdict_alone program options ≡ Some r.verdict) }
     ensures records { IfOk result (λ r. r.records ≡ records_alone program options) }
-    ensures log_shows { let text = telling.old.records ++ records_text (records_alone program options) in
+    ensures log_shows { let more = records_text (records_alone program options) in
+        let text = telling.old.records ++ more in
         OnOk result (LogShows L.written log.old text telling.new.records log.new) }
-    ensures log_front { let text = telling.old.records ++ records_text (records_alone program options) in
+    ensures log_front { let more = records_text (records_alone program options) in
+        let text = telling.old.records ++ more in
         OnErr result (LogShowsFront L.written log.old text telling.new.records log.new) }
+    ensures behind { PrintsBehind L.written (code_of program options) options telling.old.records
+        (K.written out.old) (K.written out.new) log.old log.new }
+    ensures waits { ¬ IsErrOf result RunFault.LogWrite
+        → TellsBehind L.written (code_of program options) options telling.old.records
+        (K.written out.old) telling.new.lines (K.written out.new)
+        log.old telling.new.records log.new }
     ensures cause { IsErrOf result RunFault.Write → Rose (K.faults out.old) (K.faults out.new) }
     ensures log_cause { IsErrOf result RunFault.LogWrite → LogFails L.faults log.old log.new }
     ensures counts { K.faults out.old ≤ K.faults out.new }
@@ -54,10 +63,11 @@ fn run_onto<R: Threads + Wait + Sync, K: Sink, L: Sink>(
     Ok(report)
 }
 
-/// Runs the program to its end under the options of the header, by so many workers and slices as is said: neither shows in what is
-/// told. Prints the text of its run, in pieces of 64 KiB or a little
-/// more, and writes its log, where one is kept: the header before anything is printed, and each record before the lines that come
-/// of it. After a refusal a part of the text and a part of the log, each from its front, were written.
+/// Runs the program to its end under the options of the header, by so many workers and slices as is
+/// said: neither shows in what is told. Prints the text of its run, in pieces of 64 KiB or a little
+/// more, and writes its log, where one is kept: the header before anything is printed, and each
+/// record before the lines that come of it. After a refusal a part of the text and a part of the
+/// log, each from its front, were written.
 pub fn run<R: Threads + Wait + Sync, K: Sink, L: Sink>(
     rt: &R,
     alloc: Global,
@@ -78,6 +88,12 @@ pub fn run<R: Threads + Wait + Sync, K: Sink, L: Sink>(
         OnOk result (LogGets L.written log.old text log.new) }
     ensures log_front { let text = log_text header.now (records_alone program header.now.options) in
         OnErr result (LogGetsFront L.written log.old text log.new) }
+
+    // However it ends, what was printed is of the text of records that stand in the log.
+    ensures behind { let options = header.now.options in
+        PrintsBehind L.written (code_of program options) options (header_text header.now)
+        (K.written out.old) (K.written out.new) log.old log.new }
+
     ensures cause { IsErrOf result RunFault.Write → Rose (K.faults out.old) (K.faults out.new) }
     ensures log_cause { IsErrOf result RunFault.LogWrite → LogFails L.faults log.old log.new }
     ensures counts { K.faults out.old ≤ K.faults out.new }

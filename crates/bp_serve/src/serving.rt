@@ -1,11 +1,12 @@
 //! The loop that serves a run.
-ghost use Rattle.std.specs.Prelude.{◌≡◌, ◌<◌, ◌≤◌, ◌++◌, [], false, length, drop, IfOk, OnOk, OnErr, IsErrOf, IsSomeAnd};
+ghost use Rattle.std.specs.Prelude.{◌≡◌, ◌⊎◌, ◌<◌, ◌≤◌, ◌++◌, [], false, length, drop, IfOk, OnOk, OnErr, IsErrOf, IsSomeAnd};
 ghost use Rattle.bp_base.specs.Counts.{Rose};
 ghost use Rattle.bp_log.specs.Logs.{records_text};
 ghost use Rattle.bp_log.specs.Texts.{lines_text};
 ghost use Rattle.bp_floor.specs.declared.phase.Phase.TheVariants as phase;
 ghost use Rattle.bp_arbiter.specs.Arbiters.{code_in, options_in, stand_in, is_lent, StandsSomewhere};
-ghost use Rattle.bp_serve.specs.Logging.{LogShows, LogShowsFront, LogFails, LogStays};
+ghost use Rattle.bp_serve.specs.Logging.{LogHolds, LogWaits, LogShows, LogShowsFront, LogFails, LogStays};
+ghost use Rattle.bp_serve.specs.Order.{TellsBehind, PrintsBehind};
 ghost use Rattle.bp_serve.specs.Pages.{Shows, ShowsFront};
 ghost use Rattle.bp_serve.specs.Serving.{records_in, text_in, Underway, KeepsUnderway, TakesLines};
 ghost use Rattle.bp_serve.specs.Turning.{Settles};
@@ -76,6 +77,14 @@ fn tell<K: Sink, L: Sink>(
     ensures log_front { let more = records_text (drop telling.old.kept arbiter.old.records) in
         OnErr result (LogShowsFront L.written log.old (telling.old.records ++ more)
         telling.new.records log.new) }
+    ensures behind { let more = records_text (drop telling.old.kept arbiter.old.records) in
+        (K.written out.new ≡ K.written out.old)
+        ⊎ LogHolds L.written log.old (telling.old.records ++ more) log.new }
+    ensures waits { let more = records_text (drop telling.old.kept arbiter.old.records) in
+        ¬ IsErrOf result RunFault.LogWrite
+        → ((telling.new.lines ≡ telling.old.lines) × (K.written out.new ≡ K.written out.old)
+        × LogWaits L.written log.old telling.old.records telling.new.records log.new)
+        ⊎ LogShows L.written log.old (telling.old.records ++ more) telling.new.records log.new }
     ensures kept { OnOk result (telling.new.kept ≡ length arbiter.old.records) }
     ensures keeps { TakesLines arbiter.old arbiter.new }
     ensures records { arbiter.new.records ≡ arbiter.old.records }
@@ -113,6 +122,12 @@ pub(crate) fn serve<R: Threads + Wait + Sync, K: Sink, L: Sink>(
         OnOk result (LogShows L.written log.old text telling.new.records log.new) }
     ensures log_front { let text = telling.old.records ++ records_text (records_in arbiter.old) in
         OnErr result (LogShowsFront L.written log.old text telling.new.records log.new) }
+    ensures behind { PrintsBehind L.written (code_in arbiter.old) (options_in arbiter.old)
+        telling.old.records (K.written out.old) (K.written out.new) log.old log.new }
+    ensures waits { ¬ IsErrOf result RunFault.LogWrite
+        → TellsBehind L.written (code_in arbiter.old) (options_in arbiter.old)
+        telling.old.records (K.written out.old) telling.new.lines (K.written out.new)
+        log.old telling.new.records log.new }
     ensures over { OnOk result (arbiter.new.phase ≡ phase.Over) }
     ensures records { OnOk result (arbiter.new.records ≡ records_in arbiter.old) }
     ensures cause { IsErrOf result RunFault.Write → Rose (K.faults out.old) (K.faults out.new) }

@@ -1,10 +1,10 @@
 //! What a run tells: its lines, and its records where a log is kept.
-ghost use Rattle.std.specs.Prelude.{◌≡◌, ◌≤◌, ◌++◌, [], Err, length, drop, OnOk, OnErr, IfOk, IfErr, IsErrOf};
+ghost use Rattle.std.specs.Prelude.{◌≡◌, ◌⊎◌, ◌≤◌, ◌++◌, [], Err, length, drop, OnOk, OnErr, IfOk, IfErr, IsErrOf};
 ghost use Rattle.bp_base.specs.Counts.{Rose};
 ghost use Rattle.bp_base.specs.Pieces.{Appends};
 ghost use Rattle.bp_log.specs.Logs.{header_text, records_text};
 ghost use Rattle.bp_log.specs.Texts.{whole_line, lines_text};
-ghost use Rattle.bp_serve.specs.Logging.{LogGets, LogShows, LogShowsFront, LogFails, LogStays};
+ghost use Rattle.bp_serve.specs.Logging.{LogGets, LogHolds, LogShows, LogShowsFront, LogWaits, LogFails, LogStays};
 ghost use Rattle.bp_serve.specs.Pages.{Shows, ShowsFront};
 
 use crate::RunFault;
@@ -13,7 +13,8 @@ use bp_base::{Failed, Sink};
 use bp_log::{Header, Line, Memory, Record, write_header};
 use std::alloc::{AllocError, Global};
 
-/// What a run tells and was not written yet. No line is written before the records that it comes of are.
+/// What a run tells and was not written yet. No line is written before the records that it comes of
+/// are.
 #[derive(Debug, Drop)]
 pub(crate) struct Telling {
     /// The lines for the output.
@@ -68,8 +69,9 @@ impl Telling {
         }
     }
 
-    /// Puts the records behind those that are kept on the page of the log, where there is one, and writes what waits for it if
-    /// that is much. After a refusal a front of that was written or waits.
+    /// Puts the records behind those that are kept on the page of the log, where there is one, and
+    /// writes what waits for it if that is much. After a refusal a front of that was written or
+    /// waits.
     pub(crate) fn record<L: Sink>(
         &mut self,
         alloc: Global,
@@ -77,10 +79,14 @@ impl Telling {
         log: &mut Option<L>,
     ) -> Result<(), RunFault>
         requires kept { self.old.kept ≤ length records.now }
-        ensures shows { let text = self.old.records ++ records_text (drop self.old.kept records.now) in
-            OnOk result (LogShows L.written log.old text self.new.records log.new) }
-        ensures front { let text = self.old.records ++ records_text (drop self.old.kept records.now) in
-            OnErr result (LogShowsFront L.written log.old text self.new.records log.new) }
+        ensures shows { let more = records_text (drop self.old.kept records.now) in
+            OnOk result (LogShows L.written log.old (self.old.records ++ more)
+            self.new.records log.new) }
+        ensures front { let more = records_text (drop self.old.kept records.now) in
+            OnErr result (LogShowsFront L.written log.old (self.old.records ++ more)
+            self.new.records log.new) }
+        ensures waits { ¬ IsErrOf result RunFault.LogWrite
+            → LogWaits L.written log.old self.old.records self.new.records log.new }
         ensures kept { OnOk result (self.new.kept ≡ length records.now) }
         ensures lines { self.new.lines ≡ self.old.lines }
         ensures fault { ¬ IsErrOf result RunFault.Write }
@@ -97,7 +103,8 @@ impl Telling {
         Ok(())
     }
 
-    /// Writes what waits for the log, and then the lines that wait. After a refusal a front of that was written.
+    /// Writes what waits for the log, and then the lines that wait. After a refusal a front of that
+    /// was written.
     pub(crate) fn write<K: Sink, L: Sink>(
         &mut self,
         out: &mut K,
@@ -112,8 +119,13 @@ impl Telling {
             (LogShows L.written log.old self.old.records self.new.records log.new) }
         ensures log_front { OnErr result
             (LogShowsFront L.written log.old self.old.records self.new.records log.new) }
-        ensures gets { OnOk result (Appends (K.written out.old) self.old.lines (K.written out.new)) }
+        ensures gets { OnOk result
+            (Appends (K.written out.old) self.old.lines (K.written out.new)) }
         ensures log_gets { OnOk result (LogGets L.written log.old self.old.records log.new) }
+        ensures behind { (K.written out.new ≡ K.written out.old)
+            ⊎ LogGets L.written log.old self.old.records log.new }
+        ensures whole { ¬ IsErrOf result RunFault.LogWrite
+            → LogShows L.written log.old self.old.records self.new.records log.new }
         ensures kept { self.new.kept ≡ self.old.kept }
         ensures memory { ¬ IsErrOf result RunFault.Memory }
         ensures cause { IsErrOf result RunFault.Write → Rose (K.faults out.old) (K.faults out.new) }
@@ -126,8 +138,8 @@ impl Telling {
         Ok(())
     }
 
-    /// Puts the line at the end, and writes what waits if that is much. After a refusal a front of it was written or
-    /// waits.
+    /// Puts the line at the end, and writes what waits if that is much. After a refusal a front of
+    /// it was written or waits.
     fn print_line<K: Sink, L: Sink>(
         &mut self,
         alloc: Global,
@@ -143,6 +155,10 @@ impl Telling {
             (LogShows L.written log.old self.old.records self.new.records log.new) }
         ensures log_front { OnErr result
             (LogShowsFront L.written log.old self.old.records self.new.records log.new) }
+        ensures behind { (K.written out.new ≡ K.written out.old)
+            ⊎ LogGets L.written log.old self.old.records log.new }
+        ensures whole { ¬ IsErrOf result RunFault.LogWrite
+            → LogShows L.written log.old self.old.records self.new.records log.new }
         ensures kept { self.new.kept ≡ self.old.kept }
         ensures cause { IsErrOf result RunFault.Write → Rose (K.faults out.old) (K.faults out.new) }
         ensures log_cause { IsErrOf result RunFault.LogWrite → LogFails L.faults log.old log.new }
@@ -156,8 +172,8 @@ impl Telling {
         Ok(())
     }
 
-    /// Puts the lines at the end, and writes what waits whenever that is much. After a refusal a front of the text
-    /// was written or waits.
+    /// Puts the lines at the end, and writes what waits whenever that is much. After a refusal a
+    /// front of the text was written or waits.
     pub(crate) fn print<K: Sink, L: Sink>(
         &mut self,
         alloc: Global,
@@ -173,6 +189,10 @@ impl Telling {
             (LogShows L.written log.old self.old.records self.new.records log.new) }
         ensures log_front { OnErr result
             (LogShowsFront L.written log.old self.old.records self.new.records log.new) }
+        ensures behind { (K.written out.new ≡ K.written out.old)
+            ⊎ LogHolds L.written log.old self.old.records log.new }
+        ensures whole { ¬ IsErrOf result RunFault.LogWrite
+            → LogShows L.written log.old self.old.records self.new.records log.new }
         ensures kept { self.new.kept ≡ self.old.kept }
         ensures cause { IsErrOf result RunFault.Write → Rose (K.faults out.old) (K.faults out.new) }
         ensures log_cause { IsErrOf result RunFault.LogWrite → LogFails L.faults log.old log.new }

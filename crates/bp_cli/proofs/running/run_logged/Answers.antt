@@ -17,6 +17,7 @@ returns-clause-ends g c =
     let fails = rw c.in-Some.is at c.run-ended.ensures.log_cause in
     let logs = rw c.in-Some.is at c.run-ended.ensures.logs in
     let front = rw c.in-Some.is at c.run-ended.ensures.log_front in
+    let behind = rw c.in-Some.is at c.run-ended.ensures.behind in
     let before : Outside = record { holds = g.W.World.holds c.args.world.now; asked = g.W.World.asked c.args.world.now; printed = g.K.Sink.written c.args.out.now } in
     let after : Outside = record { holds = g.W.World.holds c.close_output.new.self; asked = g.W.World.asked c.close_output.new.self; printed = g.K.Sink.written c.run-ended.new.out } in
     run_ends c.run-ended.result c.of.result c.args.program c.args.header.now.options _ _ _ _ _ c.of.ensures c.run-ended.ensures.prints c.run-ended.ensures.front c.run-ended.ensures.verdict
@@ -24,5 +25,5 @@ returns-clause-ends g c =
     (λ e. inr (rose_on _ _ _ c.create.ensures.counts (c.close_output.ensures.risen (risen _ _ c.in-Ok.ensures.fresh (fails e)))))
     (log_held g.W.Output.Sink.written c.run-ended.result _ c.args.name.now _ c.in-Ok.output c.in-Some.output _ c.in-Ok.ensures.empty logs
     (subst (λ (h : Option Holdings). Keeps h c.args.name.now (g.W.Output.Sink.written c.in-Some.output) (g.W.World.holds c.close_output.new.self)) c.create.ensures.keeps c.close_output.ensures.sets))
-    (log_held_front g.W.Output.Sink.written c.run-ended.result before after c.args.name.now _ c.in-Ok.output c.in-Some.output c.in-Ok.ensures.empty front
+    (log_held_front g.W.Output.Sink.written c.run-ended.result before after c.args.name.now c.args.header.now c.args.program c.in-Ok.output c.in-Some.output c.in-Ok.ensures.empty front behind
     (subst (λ (h : Option Holdings). Keeps h c.args.name.now (g.W.Output.Sink.written c.in-Some.output) (g.W.World.holds c.close_output.new.self)) c.create.ensures.keeps c.close_output.ensures.sets)) c.run-ended.ensures.records c.keep.ensures

@@ -1,10 +1,11 @@
-use Rattle.std.proofs.Common.{List, ◌++◌, refl, sym, subst, ◌∙◌}
+use Rattle.std.proofs.Common.{List, ◌++◌, refl, sym, subst, ◌∙◌, rules}
 use Rattle.std.proofs.lemmas.Result.{err_from_is_err_and}
 use Rattle.bp_log.specs.Logs.{records_text}
 use Rattle.bp_log.specs.declared.record.Record.{Record}
 use Rattle.bp_serve.specs.Logging.{LogShows, LogShowsFront}
 use Rattle.bp_serve.proofs.Logging.{log_shows_page, log_stop, log_stop_at}
 use Rattle.bp_serve.proofs.Way.{front_alone, front_all, front_opened, shows_opened, underway_opened, injectors_opened, records_opened, verdict_opened}
+use Rattle.bp_serve.proofs.Order.{behind_opened, waits_first, waits_opened}
 use Rattle.bp_serve.proofs.running.run_onto.Goals as goal
 
 pub returns-in_err-arbiter-clause-front : goal.returns-in_err-arbiter-clause-front
@@ -61,3 +62,24 @@ returns-clause-verdict g c =
 pub returns-clause-records : goal.returns-clause-records
 returns-clause-records g c =
     c.in_ok-report.ensures.records ∙ c.in_ok-serve.ensures.records ∙ records_opened c.args.program c.args.options c.in_ok-arbiter.arbiter c.in_ok-arbiter.ensures.opened
+
+pub returns-in_err-serve-clause-behind : goal.returns-in_err-serve-clause-behind
+returns-in_err-serve-clause-behind g c = behind_opened g.L.Sink.written c.args.program c.args.options c.in_ok-arbiter.arbiter c.in_ok-arbiter.ensures.opened _ _ _ _ _ c.serve.ensures.behind
+
+pub returns-in_err-report-clause-behind : goal.returns-in_err-report-clause-behind
+returns-in_err-report-clause-behind g c = behind_opened g.L.Sink.written c.args.program c.args.options c.in_ok-arbiter.arbiter c.in_ok-arbiter.ensures.opened _ _ _ _ _ c.serve.ensures.behind
+
+pub returns-clause-behind : goal.returns-clause-behind
+returns-clause-behind g c = behind_opened g.L.Sink.written c.args.program c.args.options c.in_ok-arbiter.arbiter c.in_ok-arbiter.ensures.opened _ _ _ _ _ c.serve.ensures.behind
+
+pub returns-in_err-arbiter-clause-waits : goal.returns-in_err-arbiter-clause-waits
+returns-in_err-arbiter-clause-waits g c = λ _. waits_first g.L.Sink.written c.args.program c.args.options c.args.telling.now.records c.args.telling.now.lines (g.K.Sink.written c.args.out.now) c.args.log.now c.requires.alone c.requires.lines
+
+pub returns-in_err-serve-clause-waits : goal.returns-in_err-serve-clause-waits
+returns-in_err-serve-clause-waits g c = λ n. waits_opened g.L.Sink.written c.args.program c.args.options c.in_ok-arbiter.arbiter c.in_ok-arbiter.ensures.opened _ _ _ _ _ _ _ (c.serve.ensures.waits (λ e. n (search rules)))
+
+pub returns-in_err-report-clause-waits : goal.returns-in_err-report-clause-waits
+returns-in_err-report-clause-waits g c = λ _. waits_opened g.L.Sink.written c.args.program c.args.options c.in_ok-arbiter.arbiter c.in_ok-arbiter.ensures.opened _ _ _ _ _ _ _ (c.serve.ensures.waits (search rules))
+
+pub returns-clause-waits : goal.returns-clause-waits
+returns-clause-waits g c = λ _. waits_opened g.L.Sink.written c.args.program c.args.options c.in_ok-arbiter.arbiter c.in_ok-arbiter.ensures.opened _ _ _ _ _ _ _ (c.serve.ensures.waits (search rules))

@@ -14,3 +14,6 @@ pub returns-in_err-add_line-clause-log_front : goal.returns-in_err-add_line-clau
 returns-in_err-add_line-clause-log_front g c =
     let p = err_from_is_err_and c.from_residual.result c.from_residual.ensures.1 in
     rw p.1 (log_stop g.L.Sink.written _ _ _ _ (log_shows_page g.L.Sink.written c.args.log.now c.args.self.now.records))
+
+pub returns-in_err-add_line-clause-whole : goal.returns-in_err-add_line-clause-whole
+returns-in_err-add_line-clause-whole g c = λ _. log_shows_page g.L.Sink.written c.args.log.now c.args.self.now.records
