@@ -1,15 +1,13 @@
-//! Floors at rest that are asked: a line has a program, in which `\n` stands for a line end, and behind
-//! the mark the first requested event that can be selected, the number of the first b-thread that blocks
-//! `x`, and the verdict with which that event would stop the run; `-` where there is none.
+//! Floors at rest that are asked.
 ghost use Rattle.std.specs.Prelude.{◌≡◌, OnOk};
 ghost use Rattle.bp_floor.specs.declared.phase.Phase.TheVariants as phase;
 ghost use Rattle.arbiter_rows.specs.Floors.{Goes};
 
+use crate::lines::{Lines, agree, event};
 use bp_floor::{Floor, Phase};
 use bp_log::{Line, Options, Strategy, Verdict, line_of};
 use bp_script::accept;
 use bp_serve::carry_all;
-use js_data::{Event, Text};
 use std::alloc::Global;
 use std::test::Fail;
 
@@ -21,10 +19,6 @@ bp.registerBThread("A", () => { bp.sync({request: bp.Event("y")}) })\nbp.registe
 
 /// How many nodes a slice has.
 const SLICE: u64 = 10;
-
-fn event(alloc: Global, name: &str) -> Result<Event, Fail> {
-    Ok(Event::new(Text::new(name.to_string(alloc)?), None)?)
-}
 
 /// One turn of what is to be run.
 fn turn(alloc: Global, floor: &mut Floor) -> Result<(), Fail>
@@ -88,13 +82,13 @@ fn told(alloc: Global, script: &str) -> Result<String, Fail> {
     Ok(out)
 }
 
+/// Whether what is told of the program is what is wanted.
+pub fn floor_holds(alloc: Global, cell: &str, want: &str) -> Result<bool, Fail> {
+    let script = cell.replace(alloc, "\\n", "\n")?;
+    Ok(told(alloc, script.as_str())?.as_str() == want)
+}
+
 #[test]
 fn answers(rt: HostRuntime) -> Result<(), Fail> {
-    for line in ANSWERS.trim().lines() {
-        let (cell, want) = line.split_once(" --> ").ok_or("no answer")?;
-        let script = cell.replace(rt.alloc(), "\\n", "\n")?;
-        let found = told(rt.alloc(), script.as_str())?;
-        assert_eq!(rt; found.as_str(), want, "{line}");
-    }
-    Ok(())
+    agree(&rt, rt.alloc(), Lines::Floors, ANSWERS)
 }

@@ -1,6 +1,5 @@
-//! Runs with one injector: a line has a program, in which `\n` stands for a line end, the steps, the
-//! lines that were taken, and the kinds of the records.
-use crate::runs::agree;
+//! Runs with one injector, which are moved on step by step.
+use crate::lines::{Lines, agree};
 use std::test::Fail;
 
 const STEPS: &str = r#"
@@ -14,5 +13,5 @@ bp.registerBThread("A", () => { bp.sync({request: bp.Event("e")}); bp.registerBT
 
 #[test]
 fn steps(rt: HostRuntime) -> Result<(), Fail> {
-    agree(&rt, rt.alloc(), STEPS)
+    agree(&rt, rt.alloc(), Lines::Runs, STEPS)
 }

@@ -3,13 +3,12 @@ ghost use Rattle.std.specs.Prelude.{◌≡◌, false};
 ghost use Rattle.bp_floor.specs.declared.phase.Phase.TheVariants as phase;
 ghost use Rattle.bp_arbiter.specs.Absorbing.{is_failed};
 
+use crate::lines::event;
 use bp_arbiter::{Arbiter, Phase, Picked};
 use bp_log::{Item, Options, Record, Strategy, line_of};
 use bp_script::accept;
 use bp_serve::carry_all;
-use js_data::{Event, Text};
 use std::alloc::Global;
-use std::process::Abort;
 use std::test::Fail;
 
 /// How many nodes a slice has.
@@ -76,10 +75,7 @@ fn step(out: &mut String, alloc: Global, arbiter: &mut Arbiter, word: &str) -> R
         }
         "end" => absorb(arbiter, Item::End),
         "bad" => absorb(arbiter, Item::Bad(2)),
-        name => {
-            let event = Event::new(Text::new(name.to_string(alloc)?), None)?;
-            absorb(arbiter, Item::Offered(event))
-        }
+        name => absorb(arbiter, Item::Offered(event(alloc, name)?)),
     }
 }
 
@@ -109,15 +105,9 @@ fn told(alloc: Global, script: &str, steps: &str) -> Result<String, Fail> {
     Ok(out)
 }
 
-/// Each line has a program, in which `\n` stands for a line end, the mark `-->`, the steps, the mark, and
-/// what is told.
-pub fn agree(rt: &impl Abort, alloc: Global, table: &str) -> Result<(), Fail> {
-    for line in table.trim().lines() {
-        let (cell, rest) = line.split_once(" --> ").ok_or("no steps")?;
-        let (steps, want) = rest.split_once(" --> ").ok_or("no answer")?;
-        let script = cell.replace(alloc, "\\n", "\n")?;
-        let found = told(alloc, script.as_str(), steps)?;
-        assert_eq!(rt; found.as_str(), want, "{line}");
-    }
-    Ok(())
+/// Whether the run of the program does what is wanted, where behind the steps and the mark stands what is told.
+pub fn run_holds(alloc: Global, cell: &str, rest: &str) -> Result<bool, Fail> {
+    let (steps, want) = rest.split_once(" --> ").ok_or("no answer")?;
+    let script = cell.replace(alloc, "\\n", "\n")?;
+    Ok(told(alloc, script.as_str(), steps)?.as_str() == want)
 }

@@ -1,8 +1,10 @@
-//! Tests that cross crates: commands over a world in memory, with what each must print.
+//! Tests that cross crates: commands over a world in memory, with what each must print, and the words of a command line.
 #![tactic(auto)]
 
 #[cfg(test)]
 mod accepted;
+#[cfg(test)]
+mod commands;
 #[cfg(test)]
 mod limits;
 #[cfg(test)]
@@ -13,6 +15,8 @@ mod options;
 mod outside;
 #[cfg(test)]
 mod runs;
+#[cfg(test)]
+mod tables;
 #[cfg(test)]
 mod verdicts;
 #[cfg(test)]

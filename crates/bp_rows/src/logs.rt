@@ -1,4 +1,4 @@
-// Options, logs, replays and the large program.
+// Logs and replays.
 
 use crate::world::{Fails, NONE, run_with, tells};
 use std::test::Fail;
@@ -25,11 +25,6 @@ end quiet 2
 const REPLAYED: &str =
     "external [\"go\"]\ndone \"B\"\nexternal [\"x\"]\nlog \"C\" \"got\"\ndone \"C\"\nverdict quiet 2\n";
 
-const TURNS: &str =
-    "bp.registerBThread(\"A\", () => { while (true) bp.sync({request: bp.Event(\"t\")}) })";
-
-const NODES: &str = "bp.registerBThread(\"A\", function() { let a = 1 + 2; let b = a; a + b; });\n";
-
 const DRAWN: &str =
     "bp.registerBThread(\"A\", () => { bp.sync({request: [bp.Event(\"a\"), bp.Event(\"b\"), bp.Event(\"c\")]}) })";
 
@@ -54,18 +49,14 @@ fn a_run_keeps_its_log_and_the_log_replays_it(rt: HostRuntime) -> Result<(), Fai
     let alloc = rt.alloc();
     let words = "run|--log|log|--seed=7|script.js";
     let ran = run_with(&rt, alloc, words, DRAWN.as_bytes(), NONE)?;
-    assert_eq!(rt; ran.code, 0);
     let again = run_with(&rt, alloc, "replay|script.js", &ran.log, NONE)?;
-    assert_eq!(rt; again.code, 0);
+    assert!(rt; ran.code == 0 && again.code == 0);
     assert!(rt; again.printed == ran.printed);
     assert!(rt;
         ran.log
             .starts_with(b"bp-log 1\nstrategy simple\nseed 7\nbudget 1000000\n")
     );
-
-    let ordered = "run|--strategy|ordered|--seed|3|script.js";
-    let printed = "event [\"a\"]\ndone \"A\"\nverdict quiet 1\n";
-    tells(&rt, alloc, ordered, DRAWN.as_bytes(), (0, "", printed))
+    Ok(())
 }
 
 #[test]
@@ -79,47 +70,7 @@ fn what_is_not_in_the_log_is_not_printed(rt: HostRuntime) -> Result<(), Fail> {
     };
     for fails in [write, create] {
         let ran = run_with(&rt, alloc, words, DRAWN.as_bytes(), fails)?;
-        assert_eq!(rt; ran.code, 9);
-        assert_eq!(rt; ran.note.as_str(), "write fault");
-        assert!(rt; ran.printed.is_empty());
+        assert!(rt; ran.came_to(9, "write fault", b""));
     }
     Ok(())
-}
-
-#[test]
-fn budget_and_steps_are_as_asked(rt: HostRuntime) -> Result<(), Fail> {
-    let alloc = rt.alloc();
-    let steps = "event [\"t\"]\nevent [\"t\"]\nverdict limit steps 2\n";
-    tells(
-        &rt,
-        alloc,
-        "run|--steps|2|script.js",
-        TURNS.as_bytes(),
-        (6, "", steps),
-    )?;
-    let spent = "verdict spent \"A\"\n";
-    tells(
-        &rt,
-        alloc,
-        "run|--budget|9|script.js",
-        NODES.as_bytes(),
-        (5, "", spent),
-    )?;
-    let done = "done \"A\"\nverdict quiet 0\n";
-    for words in [
-        "run|--budget|10|script.js",
-        "run|--budget|10|--slice|3|--workers|2|script.js",
-    ] {
-        tells(&rt, alloc, words, NODES.as_bytes(), (0, "", done))?;
-    }
-    let mut many = "event [\"t\"]\n".repeat(alloc, 300_000)?;
-    many.push_str("verdict limit steps 300000\n")?;
-    let words = "run|--steps|300000|--workers=1|script.js";
-    tells(&rt, alloc, words, TURNS.as_bytes(), (6, "", many.as_str()))
-}
-
-#[test]
-fn the_large_program_is_measured(rt: HostRuntime) -> Result<(), Fail> {
-    let line = "large 2 events 8 lines 11 bytes 148\n";
-    tells(&rt, rt.alloc(), "large|2", b"", (0, "", line))
 }

@@ -3,7 +3,8 @@
 use crate::world::tells;
 use std::test::Fail;
 
-const TAPS: &str = r#"bp.registerBThread("Add hot", function() {
+/// Two taps that a third b-thread makes take turns.
+pub const TAPS: &str = r#"bp.registerBThread("Add hot", function() {
   for (let i = 0; i < 3; i++) bp.sync({request: bp.Event("hot")});
 });
 bp.registerBThread("Add cold", function() {
@@ -17,7 +18,8 @@ bp.registerBThread("Interleave", function() {
 });
 "#;
 
-const TAKING_TURNS: &str = r#"event ["hot"]
+/// What is printed for them.
+pub const TAKING_TURNS: &str = r#"event ["hot"]
 event ["cold"]
 event ["hot"]
 event ["cold"]
@@ -48,12 +50,11 @@ fn turns_are_taken_under_all_options(rt: HostRuntime) -> Result<(), Fail> {
     Ok(())
 }
 
-// The first word of the random choice is 2 modulo 3 for seed 7, 1 for seed 1, and 0 for seed 0.
-//
-// A line has words, the mark `-->` with a status, a script, and behind `==>` the trace with `;` for each line end.
-const CASES: &str = r#"
+/// The first word of the random choice is 2 modulo 3 for seed 7, 1 for seed 1, and 0 for seed 0.
+pub const CASES: &str = r#"
 run|--strategy=ordered|script.js --> 0 bp.registerBThread("A", () => { bp.sync({request: [bp.Event("a"), bp.Event("b"), bp.Event("c")]}) }) ==> event ["a"];done "A";verdict quiet 1;
 run|--strategy=ordered|--seed|7|script.js --> 0 bp.registerBThread("A", () => { bp.sync({request: [bp.Event("a"), bp.Event("b"), bp.Event("c")]}) }) ==> event ["a"];done "A";verdict quiet 1;
+run|--strategy|ordered|--seed|3|script.js --> 0 bp.registerBThread("A", () => { bp.sync({request: [bp.Event("a"), bp.Event("b"), bp.Event("c")]}) }) ==> event ["a"];done "A";verdict quiet 1;
 run|--seed=7|script.js --> 0 bp.registerBThread("A", () => { bp.sync({request: [bp.Event("a"), bp.Event("b"), bp.Event("c")]}) }) ==> event ["c"];done "A";verdict quiet 1;
 run|--seed|7|--strategy|simple|script.js --> 0 bp.registerBThread("A", () => { bp.sync({request: [bp.Event("a"), bp.Event("b"), bp.Event("c")]}) }) ==> event ["c"];done "A";verdict quiet 1;
 run|--seed=7|--strategy=priority|script.js --> 0 bp.registerBThread("A", () => { bp.sync({request: [bp.Event("a"), bp.Event("b"), bp.Event("c")]}) }) ==> event ["c"];done "A";verdict quiet 1;
@@ -72,16 +73,11 @@ large|100 --> 0 ==> large 100 events 400 lines 501 bytes 7068;
 accept|--|script.js --> 0 bp.log.info(1) ==> accepted;
 "#;
 
-#[test]
-fn options_do_what_they_say(rt: HostRuntime) -> Result<(), Fail> {
-    let alloc = rt.alloc();
-    for line in CASES.trim().lines() {
-        let (words, rest) = line.split_once(" --> ").ok_or("no status")?;
-        let (code, rest) = rest.split_once(" ").ok_or("no script")?;
-        let (script, trace) = rest.split_once("==> ").ok_or("no trace")?;
-        let trace = trace.replace(alloc, ";", "\n")?;
-        let want = (code.parse::<u8>()?, "", trace.as_str());
-        tells(&rt, alloc, words, script.trim().as_bytes(), want)?;
-    }
-    Ok(())
-}
+/// Budgets and steps as asked: a body of ten nodes, and one that makes transitions for ever.
+pub const ASKED: &str = r#"
+run|--steps|2|script.js --> 6 bp.registerBThread("A", () => { while (true) bp.sync({request: bp.Event("t")}) }) ==> event ["t"];event ["t"];verdict limit steps 2;
+run|--steps|300000|--workers=1|script.js --> 6 bp.registerBThread("A", () => { while (true) bp.sync({request: bp.Event("t")}) }) ==> «300000 event ["t"];»verdict limit steps 300000;
+run|--budget|9|script.js --> 5 bp.registerBThread("A", function() { let a = 1 + 2; let b = a; a + b; }); ==> verdict spent "A";
+run|--budget|10|script.js --> 0 bp.registerBThread("A", function() { let a = 1 + 2; let b = a; a + b; }); ==> done "A";verdict quiet 0;
+run|--budget|10|--slice|3|--workers|2|script.js --> 0 bp.registerBThread("A", function() { let a = 1 + 2; let b = a; a + b; }); ==> done "A";verdict quiet 0;
+"#;

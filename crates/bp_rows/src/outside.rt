@@ -1,36 +1,12 @@
 // Reads and writes that fail.
 
+use crate::options::{TAKING_TURNS, TAPS};
 use crate::world::{Fails, NONE, run_with};
 use std::alloc::Global;
 use std::process::Abort;
 use std::sync::Wait;
 use std::test::Fail;
 use std::thread::Threads;
-
-const SCRIPT: &str = r#"bp.registerBThread("Add hot", function() {
-  for (let i = 0; i < 3; i++) bp.sync({request: bp.Event("hot")});
-});
-bp.registerBThread("Add cold", function() {
-  for (let i = 0; i < 3; i++) bp.sync({request: bp.Event("cold")});
-});
-bp.registerBThread("Interleave", function() {
-  while (true) {
-    bp.sync({waitFor: bp.Event("hot"), block: bp.Event("cold")});
-    bp.sync({waitFor: bp.Event("cold"), block: bp.Event("hot")});
-  }
-});
-"#;
-
-const TRACE: &str = r#"event ["hot"]
-event ["cold"]
-event ["hot"]
-event ["cold"]
-event ["hot"]
-done "Add hot"
-event ["cold"]
-done "Add cold"
-verdict quiet 6
-"#;
 
 // What was printed before a write that fails is a prefix of the trace. How many writes there are is not said: a number
 // past them fails none.
@@ -42,17 +18,19 @@ fn a_write_that_fails_leaves_a_prefix(rt: HostRuntime) -> Result<(), Fail> {
             output: &output,
             ..NONE
         };
-        let ran = run_with(&rt, rt.alloc(), "run|script.js", SCRIPT.as_bytes(), fails)?;
+        let ran = run_with(&rt, rt.alloc(), "run|script.js", TAPS.as_bytes(), fails)?;
         let printed = ran.printed.as_slice();
-        assert!(rt; TRACE.as_bytes().starts_with(printed), "write {number}");
-        if printed.len() == TRACE.len() {
-            assert!(rt; number > 1);
-            assert_eq!(rt; ran.code, 0, "write {number}");
-            assert_eq!(rt; ran.note.as_str(), "", "write {number}");
+        assert!(rt;
+            TAKING_TURNS.as_bytes().starts_with(printed),
+            "write {number}"
+        );
+        let is_whole = printed.len() == TAKING_TURNS.len();
+        let ended = if is_whole {
+            number > 1 && ran.code == 0 && ran.note.as_str() == ""
         } else {
-            assert_eq!(rt; ran.code, 9, "write {number}");
-            assert_eq!(rt; ran.note.as_str(), "write fault", "write {number}");
-        }
+            ran.code == 9 && ran.note.as_str() == "write fault"
+        };
+        assert!(rt; ended, "write {number}");
     }
     Ok(())
 }
@@ -63,10 +41,8 @@ fn meets_read_fault<R: Threads + Wait + Sync + Abort>(
     words: &str,
     fails: Fails<'_>,
 ) -> Result<(), Fail> {
-    let ran = run_with(rt, alloc, words, SCRIPT.as_bytes(), fails)?;
-    assert_eq!(rt; ran.code, 8, "{words}");
-    assert_eq!(rt; ran.note.as_str(), "read fault", "{words}");
-    assert!(rt; ran.printed.is_empty(), "{words}");
+    let ran = run_with(rt, alloc, words, TAPS.as_bytes(), fails)?;
+    assert!(rt; ran.came_to(8, "read fault", b""), "{words}");
     Ok(())
 }
 
@@ -100,15 +76,7 @@ fn what_can_not_be_printed_is_not_accepted(rt: HostRuntime) -> Result<(), Fail> 
         output: &[1],
         ..NONE
     };
-    let ran = run_with(
-        &rt,
-        rt.alloc(),
-        "accept|script.js",
-        SCRIPT.as_bytes(),
-        fails,
-    )?;
-    assert_eq!(rt; ran.code, 9);
-    assert_eq!(rt; ran.note.as_str(), "write fault");
-    assert!(rt; ran.printed.is_empty());
+    let ran = run_with(&rt, rt.alloc(), "accept|script.js", TAPS.as_bytes(), fails)?;
+    assert!(rt; ran.came_to(9, "write fault", b""));
     Ok(())
 }

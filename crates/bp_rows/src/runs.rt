@@ -1,10 +1,7 @@
 // Runs that end quiet, and what they print.
 
-use crate::world::print_their_traces;
-use std::test::Fail;
-
 /// What b-threads ask for: requests, what is waited for, what is blocked, and what is drawn.
-const ASKING: &str = r#"
+pub const ASKING: &str = r#"
 # two taps pour, and a third b-thread makes them take turns
 bp.registerBThread("Add hot", function() {
   bp.sync({request: bp.Event("hot")});
@@ -22,7 +19,7 @@ bp.registerBThread("Interleave", function() {
     bp.sync({waitFor: bp.Event("cold"), block: bp.Event("hot")});
   }
 });
---> 0
+run|script.js --> 0
 event ["hot"]
 event ["cold"]
 event ["hot"]
@@ -34,32 +31,32 @@ done "Add cold"
 verdict quiet 6
 
 # nothing
---> 0
+run|script.js --> 0
 verdict quiet 0
 
 # a b-thread without a synchronisation point
 bp.registerBThread("A", function() {});
---> 0
+run|script.js --> 0
 done "A"
 verdict quiet 0
 
 # of two requested events one is blocked
 bp.registerBThread("A", () => { bp.sync({request: [bp.Event("x"), bp.Event("y")]}); });
 bp.registerBThread("B", () => { bp.sync({block: bp.Event("x")}); });
---> 0
+run|script.js --> 0
 event ["y"]
 done "A"
 verdict quiet 1
 
 # a b-thread blocks what it requests
 bp.registerBThread("A", () => { bp.sync({request: bp.Event("x"), block: bp.Event("x")}); });
---> 0
+run|script.js --> 0
 verdict quiet 0
 
 # two request one event, which comes once
 bp.registerBThread("A", () => { bp.sync({request: bp.Event("e")}); });
 bp.registerBThread("B", () => { bp.sync({request: bp.Event("e")}); });
---> 0
+run|script.js --> 0
 event ["e"]
 done "A"
 done "B"
@@ -71,7 +68,7 @@ bp.registerBThread("A", () => {
   bp.sync({request: bp.Event("f", e.data)});
 });
 bp.registerBThread("B", () => { bp.sync({request: bp.Event("e", 7)}); });
---> 0
+run|script.js --> 0
 event ["e",7]
 done "B"
 event ["f",7]
@@ -83,7 +80,7 @@ bp.registerBThread("A", () => {
   for (let i = 0; i < 8; i++) bp.sync({request: [bp.Event("a"), bp.Event("b"), bp.Event("c")]});
   bp.sync({request: bp.Event("d")});
 });
---> 0
+run|script.js --> 0
 event ["a"]
 event ["a"]
 event ["b"]
@@ -101,7 +98,7 @@ bp.registerBThread("B", () => { bp.sync({waitFor: bp.Event("go"), block: bp.Even
 bp.registerBThread("C", () => { bp.sync({waitFor: bp.Event("x")}); bp.log.info("got") })
 bp.enqueueExternalEvent(bp.Event("x"))
 bp.enqueueExternalEvent(bp.Event("go"))
---> 0
+run|script.js --> 0
 external ["go"]
 done "B"
 external ["x"]
@@ -112,7 +109,7 @@ verdict quiet 2
 # requested events come before those of the queue, which nobody has to wait for
 bp.enqueueExternalEvent(bp.Event("x", {b: [1, -2, null], a: {t: true, s: "x"}}));
 bp.registerBThread("A", () => { bp.sync({request: bp.Event("r")}); });
---> 0
+run|script.js --> 0
 event ["r"]
 done "A"
 external ["x",{"a":{"s":"x","t":true},"b":[1,-2,null]}]
@@ -129,7 +126,7 @@ told("negate", small.negate());
 told("list", [[bp.Event("n", 4)], odd]);
 told("none", bp.none);
 for (let i = 1; i < 5; i++) bp.enqueueExternalEvent(bp.Event("n", i));
---> 0
+run|script.js --> 0
 external ["n",1]
 log "and" "1"
 log "or" "1"
@@ -149,7 +146,7 @@ verdict quiet 4
 "#;
 
 /// Whom an event reaches: interrupts and their handlers, what is registered on the way, and the order of merging.
-const REACHING: &str = r#"
+pub const REACHING: &str = r#"
 # a b-thread that is interrupted does not go on, and its handler runs
 bp.registerBThread("A", function() {
   bp.setInterruptHandler(e => { bp.log.info("stop " + e.name); });
@@ -157,7 +154,7 @@ bp.registerBThread("A", function() {
   bp.log.info("never");
 });
 bp.registerBThread("B", function() { bp.sync({request: bp.Event("e")}); });
---> 0
+run|script.js --> 0
 event ["e"]
 log "A" "stop e"
 interrupted "A"
@@ -166,7 +163,7 @@ verdict quiet 1
 
 # a b-thread without a handler is interrupted by the event that it requests
 bp.registerBThread("A", () => { bp.sync({request: bp.Event("e"), interrupt: bp.all}); bp.log.info("never"); });
---> 0
+run|script.js --> 0
 event ["e"]
 interrupted "A"
 verdict quiet 1
@@ -182,7 +179,7 @@ bp.registerBThread("A", () => {
   bp.sync({interrupt: bp.Event("e")});
 });
 bp.registerBThread("B", () => { bp.sync({request: bp.Event("e")}); bp.sync({waitFor: bp.Event("e")}); });
---> 0
+run|script.js --> 0
 event ["e"]
 log "A" "[\"e\"]"
 interrupted "A"
@@ -194,7 +191,7 @@ verdict quiet 2
 # sets that are not needed are not asked
 bp.registerBThread("A", () => { bp.sync({interrupt: bp.Event("e"), waitFor: bp.EventSet("p", e => 1 / 0)}); });
 bp.registerBThread("B", () => { bp.sync({request: bp.Event("e"), waitFor: bp.EventSet("p", e => 1 / 0)}); });
---> 0
+run|script.js --> 0
 event ["e"]
 interrupted "A"
 done "B"
@@ -205,7 +202,7 @@ bp.registerBThread("A", () => { bp.sync({waitFor: bp.Event("e")}); for (let i = 
 bp.registerBThread("B", () => { bp.setInterruptHandler(e => bp.log.info("b")); bp.sync({interrupt: bp.Event("e")}); });
 bp.registerBThread("C", () => { bp.sync({waitFor: bp.Event("e")}); bp.log.info("c"); });
 bp.registerBThread("D", () => { bp.sync({request: bp.Event("e")}); });
---> 0
+run|script.js --> 0
 event ["e"]
 log "A" "a"
 done "A"
@@ -225,7 +222,7 @@ bp.registerBThread("A", function() {
   });
   bp.registerBThread("C", function() { bp.log.info("c"); });
 });
---> 0
+run|script.js --> 0
 event ["a"]
 done "A"
 log "B" "b"
@@ -238,7 +235,7 @@ verdict quiet 1
 
 # a loop registers b-threads that copy its constant
 for (let i = 0; i < 3; i++) { const k = i; bp.registerBThread("t" + k, () => { bp.log.info(k) }) }
---> 0
+run|script.js --> 0
 log "t0" "0"
 done "t0"
 log "t1" "1"
@@ -249,7 +246,7 @@ verdict quiet 0
 "#;
 
 /// What is evaluated and logged.
-const SAYING: &str = r#"
+pub const SAYING: &str = r#"
 # ends of statements are found without semicolons
 const f = () => {
   return
@@ -262,7 +259,7 @@ bp.registerBThread("A", () => {
   bp.log.info(f())
   bp.log.info(h)
 })
---> 0
+run|script.js --> 0
 log "A" "undefined"
 log "A" "2"
 done "A"
@@ -270,7 +267,7 @@ verdict quiet 0
 
 # the top level logs
 bp.log.info("x");
---> 0
+run|script.js --> 0
 log top "x"
 verdict quiet 0
 
@@ -280,7 +277,7 @@ bp.registerBThread("A", () => {
   bp.log.info(undefined);
   for (const kind of kinds) bp.log.info(kind);
 });
---> 0
+run|script.js --> 0
 log "A" "undefined"
 log "A" "null"
 log "A" "true"
@@ -294,7 +291,7 @@ verdict quiet 0
 
 # names and texts are printed as JSON
 bp.registerBThread("a \"b\"\n", () => { bp.log.info('\\ \x01 é €'); });
---> 0
+run|script.js --> 0
 log "a \"b\"\n" "\\ \u0001 é €"
 done "a \"b\"\n"
 verdict quiet 0
@@ -306,7 +303,7 @@ bp.registerBThread("A", () => {
     bp.sync({request: bp.Event("e", r)});
   }
 });
---> 0
+run|script.js --> 0
 event ["e",0]
 event ["e",1]
 event ["e",2]
@@ -316,18 +313,3 @@ event ["e",5]
 done "A"
 verdict quiet 6
 "#;
-
-#[test]
-fn selected_events_are_printed(rt: HostRuntime) -> Result<(), Fail> {
-    print_their_traces(&rt, rt.alloc(), ASKING)
-}
-
-#[test]
-fn what_an_event_does_is_merged_in_order(rt: HostRuntime) -> Result<(), Fail> {
-    print_their_traces(&rt, rt.alloc(), REACHING)
-}
-
-#[test]
-fn what_b_threads_log_is_printed(rt: HostRuntime) -> Result<(), Fail> {
-    print_their_traces(&rt, rt.alloc(), SAYING)
-}

@@ -51,17 +51,11 @@ fn wrong_words_are_told_the_usage(rt: HostRuntime) -> Result<(), Fail> {
     }
     fails_with(&rt, alloc, "", b"", 1, USAGE)?;
     let ran = run_words(&rt, alloc, &[], b"", NONE)?;
-    assert_eq!(rt; ran.code, 1);
-    assert_eq!(rt; ran.note.as_str(), USAGE);
-    assert!(rt; ran.printed.is_empty());
+    assert!(rt; ran.came_to(1, USAGE, b""));
     Ok(())
 }
 
-#[test]
-fn a_name_that_is_not_held_is_a_read_fault(rt: HostRuntime) -> Result<(), Fail> {
-    let alloc = rt.alloc();
-    fails_with(&rt, alloc, "run|other.js", b"", 8, "read fault")?;
-    fails_with(&rt, alloc, "run|-", b"", 8, "read fault")?;
-    fails_with(&rt, alloc, "run|", b"", 8, "read fault")?;
-    fails_with(&rt, alloc, "run|script.js ", b"", 8, "read fault")
-}
+/// Names that are not held.
+pub const NOT_HELD: &str = "
+run|other.js & run|- & run| & run|script.js  --> 8 ==> ! read fault
+";

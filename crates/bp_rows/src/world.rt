@@ -19,6 +19,13 @@ pub struct Ran {
     pub log: Vec<u8>,
 }
 
+impl Ran {
+    /// Whether the command ended with this status and this note, and printed this.
+    pub fn came_to(&self, code: u8, note: &str, printed: &[u8]) -> bool {
+        self.code == code && self.note.as_str() == note && self.printed.as_slice() == printed
+    }
+}
+
 /// The calls that are to fail: of the world, of the script's input, of the output, and of the log.
 #[derive(Clone, Copy)]
 pub struct Fails<'a> {
@@ -83,9 +90,7 @@ pub fn tells<R: Threads + Wait + Sync + Abort>(
 ) -> Result<(), Fail> {
     let (code, note, printed) = want;
     let ran = run_with(rt, alloc, words, script, NONE)?;
-    assert_eq!(rt; ran.note.as_str(), note, "{words}");
-    assert_eq!(rt; ran.code, code, "{words}");
-    assert!(rt; ran.printed.as_slice() == printed.as_bytes(), "{words}");
+    assert!(rt; ran.came_to(code, note, printed.as_bytes()), "{words}");
     Ok(())
 }
 
@@ -101,31 +106,20 @@ pub fn fails_with<R: Threads + Wait + Sync + Abort>(
     tells(rt, alloc, words, script, (code, note, ""))
 }
 
-/// Each script of the table, run, prints its trace and ends with its status, without a note.
-///
-/// Between blank lines stand a line `# WHAT IS SHOWN`, the lines of a script, a line `--> STATUS`, and those of its trace.
-pub fn print_their_traces<R: Threads + Wait + Sync + Abort>(
-    rt: &R,
-    alloc: Global,
-    table: &str,
-) -> Result<(), Fail> {
-    for run in table.trim().split("\n\n") {
-        let (shown, rest) = run.split_once("\n").ok_or("no script")?;
-        let (script, rest) = rest.split_once("--> ").ok_or("no status")?;
-        let (code, trace) = rest.split_once("\n").ok_or("no trace")?;
-        let ran = run_with(rt, alloc, "run|script.js", script.as_bytes(), NONE)?;
-        assert_eq!(rt; ran.note.as_str(), "", "{shown}");
-        assert_eq!(rt; ran.code, code.parse::<u8>()?, "{shown}");
-        let printed = ran.printed.strip_suffix(b"\n").ok_or("no line end")?;
-        assert!(rt; printed == trace.as_bytes(), "{shown}");
-    }
-    Ok(())
-}
-
-/// The bytes of a cell, in which `\n` stands for a line end, and `%` and two digits for a byte.
+/// The bytes of a cell, in which `\n` stands for a line end, `%` and two digits for a byte, and `«N TEXT»` for so many
+/// texts.
 pub fn bytes_of(alloc: Global, cell: &str) -> Result<Vec<u8>, Fail> {
     let text = cell.replace(alloc, "\\n", "\n")?;
     let mut bytes = Vec::new(alloc);
-    percent_decode(text.as_bytes()).append_to(&mut bytes)?;
+    for piece in text.split("«") {
+        let mut rest = piece;
+        if let Some((repeated, behind)) = piece.split_once("»") {
+            let (count, text) = repeated.split_once(" ").ok_or("no number")?;
+            let texts = text.repeat(alloc, count.parse::<usize>()?)?;
+            bytes.extend_from_slice(texts.as_bytes())?;
+            rest = behind;
+        }
+        percent_decode(rest.as_bytes()).append_to(&mut bytes)?;
+    }
     Ok(bytes)
 }

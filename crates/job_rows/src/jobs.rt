@@ -30,28 +30,20 @@ bp.setInterruptHandler(() => {}) --> mode 1
 bp.registerBThread('n', () => {}); bp.enqueueExternalEvent(e) --> register n; enqueue ["e"]; ended
 "#;
 
+/// A budget is one of nodes: a body of ten is spent under nine.
 const TEN_NODES: &str = r#"
 let a = 1 + 2; let b = a; a + b; --> ended
 while (true) {} --> spent
 "#;
 
-#[test]
-fn threads(rt: HostRuntime) -> Result<(), Fail> {
-    agree(&rt, rt.alloc(), Lines::Threads(BUDGET), THREADS)
-}
+const ONE_TOO_FEW: &str = "
+let a = 1 + 2; let b = a; a + b; --> spent
+";
 
 #[test]
-fn handlers(rt: HostRuntime) -> Result<(), Fail> {
-    agree(&rt, rt.alloc(), Lines::Handlers, HANDLERS)
-}
-
-#[test]
-fn a_budget_is_one_of_nodes(rt: HostRuntime) -> Result<(), Fail> {
+fn jobs(rt: HostRuntime) -> Result<(), Fail> {
+    agree(&rt, rt.alloc(), Lines::Threads(BUDGET), THREADS)?;
+    agree(&rt, rt.alloc(), Lines::Handlers, HANDLERS)?;
     agree(&rt, rt.alloc(), Lines::Threads(10), TEN_NODES)?;
-    agree(
-        &rt,
-        rt.alloc(),
-        Lines::Threads(9),
-        "let a = 1 + 2; let b = a; a + b; --> spent",
-    )
+    agree(&rt, rt.alloc(), Lines::Threads(9), ONE_TOO_FEW)
 }

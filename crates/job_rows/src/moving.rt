@@ -4,7 +4,7 @@ ghost use Rattle.js_frames.specs.Places.{plain_ground};
 ghost use Rattle.bp_thread.specs.Jobs.{plain_job, IsOf};
 
 use crate::lines::Lines;
-use crate::programs::{BUDGET, call, first_function, program_of};
+use crate::programs::{BUDGET, call, first_started};
 use crate::telling::push_done;
 use bp_thread::Job;
 use js_data::Memory;
@@ -58,8 +58,7 @@ fn carried_beside<R: Threads + Sync>(rt: &R, ground: &Ground, job: Job) -> Resul
 fn jobs_move_between_threads(rt: HostRuntime) -> Result<(), Fail> {
     let script = "bp.registerBThread('t', () => { bp.log.info(1 + 2); bp.log.info('b') })";
     let lines = Lines::Threads(BUDGET);
-    let mut ground = Ground::bare(rt.alloc(), program_of(rt.alloc(), script)?);
-    let function = first_function(rt.alloc(), &mut ground)?;
+    let (ground, function) = first_started(rt.alloc(), script)?;
     let job = call(rt.alloc(), &ground, function, lines)?;
     let mut moved = carried_beside(&rt, &ground, job)?;
     let mut out = String::new(rt.alloc());

@@ -1,4 +1,4 @@
-//! Programs whose top level has run, and jobs that are carried on to their outcomes.
+//! Programs whose top level has run, the functions that they register, and jobs that are carried on to their outcomes.
 ghost use Rattle.std.specs.Prelude.{◌≡◌, IfOk, OnOk, None, true};
 ghost use Rattle.js_frames.specs.Places.{plain_ground};
 ghost use Rattle.bp_thread.specs.Jobs.{plain_job, IsOf, is_stopped as stops, is_ended as ends};
@@ -16,21 +16,25 @@ use std::test::Fail;
 /// The budget of every body and predicate of which nothing else is said.
 pub const BUDGET: u64 = 100;
 
-/// A program that registers one b-thread, in which the part of a line stands. `\n` there is the end of a line.
+/// The budget of every top level.
+const TOP_BUDGET: u64 = 100_000;
+
+/// The script of a line: its program, or a program that registers one b-thread, in which the part of a line stands. `\n`
+/// there is the end of a line.
 pub fn script_of(alloc: Global, lines: Lines, cell: &str) -> Result<String, AllocError> {
     let (head, tail) = match lines {
-        Lines::Sets => ("bp.sync({waitFor: ", "})"),
-        Lines::Statements => ("bp.sync(", ")"),
-        Lines::Threads(_) | Lines::Handlers => ("", ""),
+        Lines::Top => ("", ""),
+        Lines::Sets => (
+            "bp.registerBThread('t', (e) => { bp.sync({waitFor: ",
+            "})})",
+        ),
+        Lines::Statements => ("bp.registerBThread('t', (e) => { bp.sync(", ")})"),
+        _ => ("bp.registerBThread('t', (e) => { ", "})"),
     };
-    let mut script = String::from_str(alloc, "bp.registerBThread('t', (e) => { ")?;
-    script.push_str(head)?;
-    for part in cell.split("\\n") {
-        script.push_str(part)?;
-        script.push('\n')?;
-    }
+    let mut script = String::from_str(alloc, head)?;
+    script.push_str(cell.replace(alloc, "\\n", "\n")?.as_str())?;
+    script.push_str("\n")?;
     script.push_str(tail)?;
-    script.push_str("})")?;
     Ok(script)
 }
 
@@ -64,13 +68,13 @@ fn is_ended(job: &Job) -> bool
     }
 }
 
-/// Slices of so many nodes, up to the outcome.
-pub fn carry_on(job: &mut Job, ground: &Ground, nodes: u64) -> Result<(), Fail>
+/// Slices of so many nodes, at most so many, up to the outcome.
+pub fn carry_on(job: &mut Job, ground: &Ground, nodes: u64, slices: u64) -> Result<(), Fail>
     requires program { IsOf (plain_ground ground.now).program job.old }
     requires open { (plain_job job.old).outcome ≡ None }
     ensures program { IsOf (plain_ground ground.now).program job.new }
 {
-    for _ in 0..BUDGET + 2 {
+    for _ in 0..slices {
         if job.slice(ground, nodes)? {
             return Ok(());
         }
@@ -78,35 +82,53 @@ pub fn carry_on(job: &mut Job, ground: &Ground, nodes: u64) -> Result<(), Fail>
     Err("no outcome")?
 }
 
-/// The function that was registered first.
-fn registered(effects: Effects) -> Option<Value> {
-    for effect in effects.items {
-        if let Effect::Register(_, function) = effect {
-            return Some(function);
-        }
-    }
-    None
-}
-
-/// The function that a top level registers first, which runs to its end.
-fn run_top(top: &mut Job, ground: &Ground) -> Result<Value, Fail>
+/// Runs the top level to its end.
+fn run_top(top: &mut Job, ground: &Ground) -> Result<(), Fail>
     requires program { IsOf (plain_ground ground.now).program top.old }
     requires open { (plain_job top.old).outcome ≡ None }
     ensures { OnOk result (ends (plain_job top.new).outcome ≡ true) }
 {
-    carry_on(top, ground, 7)?;
+    carry_on(top, ground, 7, TOP_BUDGET)?;
     if !is_ended(top) {
         return Err("the top level did not end")?;
     }
-    Ok(registered(top.take_effects()).ok_or("no b-thread")?)
+    Ok(())
 }
 
-/// The function that a program registers first. The ground gets the constants that its top level leaves.
-pub fn first_function(alloc: Global, ground: &mut Ground) -> Result<Value, Fail> {
-    let mut top = Job::top(alloc, ground, BUDGET)?;
-    let function = run_top(&mut top, ground)?;
+/// The function that the effect registers, if it does.
+fn function_of(effect: Effect) -> Option<Value> {
+    match effect {
+        Effect::Register(_name, function) => Some(function),
+        _other => None,
+    }
+}
+
+/// The functions that were registered, in order.
+fn registered(alloc: Global, effects: Effects) -> Result<Vec<Value>, Fail> {
+    let mut functions = Vec::new(alloc);
+    for effect in effects.items {
+        if let Some(function) = function_of(effect) {
+            functions.push(function)?;
+        }
+    }
+    Ok(functions)
+}
+
+/// The program of the script with the constants that its top level leaves, and the functions that it registers.
+pub fn started(alloc: Global, script: &str) -> Result<(Ground, Vec<Value>), Fail> {
+    let mut ground = Ground::bare(alloc, program_of(alloc, script)?);
+    let mut top = Job::top(alloc, &ground, TOP_BUDGET)?;
+    run_top(&mut top, &ground)?;
+    let functions = registered(alloc, top.take_effects())?;
     ground.fill(top.constants());
-    Ok(function)
+    Ok((ground, functions))
+}
+
+/// The program of the script with the constants that its top level leaves, and the function that it registers first.
+pub fn first_started(alloc: Global, script: &str) -> Result<(Ground, Value), Fail> {
+    let (ground, functions) = started(alloc, script)?;
+    let function = functions.into_iter().next().ok_or("no b-thread")?;
+    Ok((ground, function))
 }
 
 /// A job of this function, which gets the event `e` as its argument.
@@ -117,7 +139,7 @@ pub fn call(alloc: Global, ground: &Ground, function: Value, lines: Lines) -> Re
     let (mode, budget) = match lines {
         Lines::Threads(budget) => (Mode::Thread, budget),
         Lines::Handlers => (Mode::Handler, BUDGET),
-        Lines::Sets | Lines::Statements => (Mode::Thread, BUDGET),
+        _ => (Mode::Thread, BUDGET),
     };
     let name = Text::new(String::from_str(alloc, "t")?);
     let mut args = Vec::new(alloc);

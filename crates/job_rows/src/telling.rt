@@ -32,7 +32,8 @@ fn push_effect(out: &mut String, alloc: Global, effect: &Effect) -> Result<(), A
     }
 }
 
-fn push_effects(out: &mut String, alloc: Global, effects: &Effects) -> Result<(), AllocError> {
+/// The words of the effects.
+pub fn push_effects(out: &mut String, alloc: Global, effects: &Effects) -> Result<(), AllocError> {
     for effect in &effects.items {
         push_effect(out, alloc, effect)?;
     }
@@ -98,7 +99,7 @@ fn push_stop(
     match lines {
         Lines::Sets => push_answers(out, alloc, ground, &statement.wait_for),
         Lines::Statements => push_statement(out, alloc, ground, &statement.copy()?),
-        Lines::Threads(_) | Lines::Handlers => Ok(out.push_str("stop")?),
+        _ => Ok(out.push_str("stop")?),
     }
 }
 
@@ -149,15 +150,12 @@ fn push_slices(
     ensures program { IsOf (plain_ground ground.now).program job.new }
     ensures taken { OnOk result ((plain_job job.new).effects ≡ []) }
 {
-    carry_on(job, ground, nodes)?;
+    carry_on(job, ground, nodes, BUDGET + 2)?;
     push_done(out, alloc, ground, lines, job)
 }
 
 fn has_replies(lines: Lines) -> bool {
-    match lines {
-        Lines::Sets | Lines::Statements => false,
-        Lines::Threads(_) | Lines::Handlers => true,
-    }
+    !matches!(lines, Lines::Sets | Lines::Statements)
 }
 
 /// What the job does, in slices of so many nodes: up to its first stop, or to its end or its last event.

@@ -2,7 +2,17 @@
 #![tactic(auto)]
 
 #[cfg(test)]
+mod lines;
+#[cfg(test)]
+mod names;
+#[cfg(test)]
 mod nestings;
+#[cfg(test)]
+mod numbered;
+#[cfg(test)]
+mod rules;
+#[cfg(test)]
+mod slots;
 #[cfg(test)]
 mod tokens;
 #[cfg(test)]

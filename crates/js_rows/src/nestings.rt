@@ -1,4 +1,5 @@
 //! The edge of nesting: the deepest trees, and one level more.
+use crate::lines::{Lines, agree};
 use crate::trees::shown;
 use std::alloc::Global;
 use std::test::Fail;
@@ -10,16 +11,12 @@ fn nested(alloc: Global, shape: &str, times: usize) -> Result<String, Fail> {
     let (nest, behind) = rest.split_once("»").ok_or("no end")?;
     let (front, rest) = nest.split_once("|").ok_or("no middle")?;
     let (middle, back) = rest.split_once("|").ok_or("no back")?;
-    let mut text = String::from_str(alloc, before)?;
-    for _ in 0..times {
-        text.push_str(front)?;
-    }
-    text.push_str(middle)?;
-    for _ in 0..times {
-        text.push_str(back)?;
-    }
-    text.push_str(behind)?;
-    Ok(text)
+    let (front, back) = (front.repeat(alloc, times)?, back.repeat(alloc, times)?);
+    Ok(format!(in alloc;
+        "{before}{}{middle}{}{behind}",
+        front.as_str(),
+        back.as_str()
+    )?)
 }
 
 // How many times, a text and its tree: so many nest, and with one more there is no tree. First each form that nests,
@@ -62,23 +59,24 @@ const NESTINGS: &str = "
 196 «[|Math.floor(a/b)|]» --> «(list |(call (. Math floor) (/ a b))|)»
 ";
 
+// Whether the shape with its nest so many times has this tree or refusal.
+fn is_shown(alloc: Global, shape: &str, count: usize, want: &str) -> Result<bool, Fail> {
+    let text = nested(alloc, shape, count)?;
+    Ok(shown(alloc, text.as_bytes())?.as_str() == want)
+}
+
+/// Whether so many nest with this tree, and with one more there is none.
+pub fn agrees(alloc: Global, cell: &str, tree: &str) -> Result<bool, Fail> {
+    let (count, shape) = cell.split_once(" ").ok_or("no number")?;
+    let count = count.parse::<usize>()?;
+    let tree = nested(alloc, tree, count)?;
+    Ok(
+        is_shown(alloc, shape, count, tree.as_str())?
+            && is_shown(alloc, shape, count.saturating_add(1), "NoTree(1)")?,
+    )
+}
+
 #[test]
 fn nesting_of_at_most_200(rt: HostRuntime) -> Result<(), Fail> {
-    let alloc = rt.alloc();
-    for line in NESTINGS.trim().lines() {
-        let (left, tree) = line.split_once(" --> ").ok_or("no tree")?;
-        let (count, shape) = left.split_once(" ").ok_or("no number")?;
-        let count = count.parse::<usize>()?;
-        let most = shown(alloc, nested(alloc, shape, count)?.as_str().as_bytes())?;
-        let want = nested(alloc, tree, count)?;
-        assert_eq!(rt; most.as_str(), want.as_str(), "{line}");
-        let past = shown(
-            alloc,
-            nested(alloc, shape, count.saturating_add(1))?
-                .as_str()
-                .as_bytes(),
-        )?;
-        assert_eq!(rt; past.as_str(), "NoTree(1)", "{line}");
-    }
-    Ok(())
+    agree(&rt, rt.alloc(), Lines::Nestings, NESTINGS)
 }

@@ -1,6 +1,7 @@
 //! Bytes and their tokens.
 ghost use Rattle.std.specs.Prelude.{◌≤◌};
 
+use crate::lines::{Lines, agree};
 use js_lexer::{Kind, Token, lex, line_at};
 use percent_encoding::percent_decode;
 use std::alloc::{AllocError, Global};
@@ -46,16 +47,11 @@ fn shown(alloc: Global, bytes: &[u8]) -> Result<String, AllocError> {
     Ok(all)
 }
 
-/// Each line has bytes, some of them as `%` and two digits, and behind `-->` their tokens or refusal.
-fn agree(rt: &impl Abort, alloc: Global, table: &str) -> Result<(), Fail> {
-    for line in table.trim().lines() {
-        let (left, right) = line.split_once("-->").ok_or("no tokens")?;
-        let mut bytes = Vec::new(alloc);
-        percent_decode(left.trim().as_bytes()).append_to(&mut bytes)?;
-        let found = shown(alloc, bytes.as_slice())?;
-        assert_eq!(rt; found.as_str(), right.trim(), "{line}");
-    }
-    Ok(())
+/// Whether the bytes of the cell have these tokens or this refusal.
+pub fn agrees(alloc: Global, cell: &str, want: &str) -> Result<bool, Fail> {
+    let mut bytes = Vec::new(alloc);
+    percent_decode(cell.as_bytes()).append_to(&mut bytes)?;
+    Ok(shown(alloc, bytes.as_slice())?.as_str() == want)
 }
 
 // Numbers in four forms.
@@ -203,20 +199,16 @@ a%ff --> Utf8(1)
 
 #[test]
 fn bytes_have_their_tokens(rt: HostRuntime) -> Result<(), Fail> {
-    let alloc = rt.alloc();
-    agree(&rt, alloc, NUMBERS)?;
-    agree(&rt, alloc, LITERALS)?;
-    agree(&rt, alloc, ESCAPES)?;
-    agree(&rt, alloc, MARKS)?;
-    agree(&rt, alloc, WORDS)?;
-    agree(&rt, alloc, GAPS)?;
-    agree(&rt, alloc, NO_TEXT)
+    for table in [NUMBERS, LITERALS, ESCAPES, MARKS, WORDS, GAPS, NO_TEXT] {
+        agree(&rt, rt.alloc(), Lines::Tokens, table)?;
+    }
+    Ok(())
 }
 
 #[test]
 fn the_longest_text(rt: HostRuntime) -> Result<(), Fail> {
     let blank = vec![in rt.alloc(); b' '; 1_048_576]?;
-    assert_eq!(rt; shown(rt.alloc(), &blank)?.as_str(), "");
+    assert!(rt; shown(rt.alloc(), &blank)?.is_empty());
     Ok(())
 }
 
@@ -224,9 +216,8 @@ fn the_longest_text(rt: HostRuntime) -> Result<(), Fail> {
 fn line_is(rt: &impl Abort, place: u32, line: u32)
     requires { place ≤ 9 }
 {
-    assert_eq!(rt;
-        line_at(b"a\r\nb\n\xe2\x80\xa8c", place),
-        line,
+    assert!(rt;
+        line_at(b"a\r\nb\n\xe2\x80\xa8c", place) == line,
         "at {place}"
     );
 }

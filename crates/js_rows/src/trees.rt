@@ -1,4 +1,5 @@
 //! Texts and their trees.
+use crate::lines::{Lines, agree};
 use js_data::{Text, Whole};
 use js_lexer::lex;
 use js_parser::parse;
@@ -7,7 +8,6 @@ use js_tree::{
     Step, Stmt, StmtForm, Tree,
 };
 use std::alloc::{AllocError, Global};
-use std::process::Abort;
 use std::test::Fail;
 
 /// How many levels of a tree are shown; a call of a member is two.
@@ -69,15 +69,25 @@ fn kind_text(kind: DeclareKind) -> &'static str {
     }
 }
 
-/// An opened list: `(` and its head.
-fn begin(out: &mut String, head: &str) -> Result<(), AllocError> {
-    out.push('(')?;
-    out.push_str(head)
+/// A part of a list.
+#[derive(Clone, Copy)]
+enum Part<'a> {
+    Word(&'a str),
+    Names(&'a [Name]),
+    Expr(&'a Expr),
+    /// An expression that may be absent.
+    Perhaps(&'a Option<Expr>),
+    Exprs(&'a [Expr]),
+    Fields(&'a [Field]),
+    Declarators(&'a [Declarator]),
+    Stmt(&'a Stmt),
+    /// Statements between braces.
+    Block(&'a [Stmt]),
 }
 
-fn word(out: &mut String, text: &Text) -> Result<(), AllocError> {
+fn word(out: &mut String, text: &str) -> Result<(), AllocError> {
     out.push(' ')?;
-    out.push_str(text.as_str())
+    out.push_str(text)
 }
 
 fn quoted(out: &mut String, text: &Text) -> Result<(), AllocError> {
@@ -90,12 +100,6 @@ fn number(out: &mut String, n: Whole) -> Result<(), AllocError> {
     write!(out, "{}", n.get())
 }
 
-fn update(out: &mut String, head: &str, name: &Name) -> Result<(), AllocError> {
-    begin(out, head)?;
-    word(out, &name.text)?;
-    out.push(')')
-}
-
 fn names(out: &mut String, names: &[Name]) -> Result<(), AllocError> {
     out.push_str(" (")?;
     for (place, name) in names.iter().enumerate() {
@@ -105,6 +109,40 @@ fn names(out: &mut String, names: &[Name]) -> Result<(), AllocError> {
         out.push_str(name.text.as_str())?;
     }
     out.push(')')
+}
+
+/// The part behind a blank.
+#[cycle(shown)]
+fn push(out: &mut String, part: &Part<'_>, room: u32) -> Result<(), AllocError> {
+    match part {
+        Part::Word(text) => word(out, text),
+        Part::Names(list) => names(out, list),
+        Part::Expr(tree) => expr(out, " ", tree, room),
+        Part::Perhaps(None) => out.push_str(" _"),
+        Part::Perhaps(Some(tree)) => expr(out, " ", tree, room),
+        Part::Exprs(trees) => exprs(out, trees, room),
+        Part::Fields(trees) => fields(out, trees, room),
+        Part::Declarators(trees) => declarators(out, trees, room),
+        Part::Stmt(tree) => stmt(out, " ", tree, room),
+        Part::Block(trees) => block(out, " {", trees, room),
+    }
+}
+
+/// The parts that are left of a list, and its end.
+#[cycle(shown)]
+fn rest(out: &mut String, parts: &[Part<'_>], room: u32) -> Result<(), AllocError> {
+    for part in parts {
+        push(out, part, room)?;
+    }
+    out.push(')')
+}
+
+/// A list of a head and parts.
+#[cycle(shown)]
+fn list(out: &mut String, head: &str, parts: &[Part<'_>], room: u32) -> Result<(), AllocError> {
+    out.push('(')?;
+    out.push_str(head)?;
+    rest(out, parts, room)
 }
 
 /// An expression behind a text; past the room only dots.
@@ -125,94 +163,34 @@ fn exprs(out: &mut String, trees: &[Expr], room: u32) -> Result<(), AllocError> 
     for tree in trees {
         expr(out, " ", tree, room)?;
     }
-    out.push(')')
-}
-
-#[cycle(shown)]
-fn one(out: &mut String, head: &str, a: &Expr, room: u32) -> Result<(), AllocError> {
-    begin(out, head)?;
-    expr(out, " ", a, room)?;
-    out.push(')')
-}
-
-#[cycle(shown)]
-fn two(out: &mut String, head: &str, a: &Expr, b: &Expr, room: u32) -> Result<(), AllocError> {
-    begin(out, head)?;
-    expr(out, " ", a, room)?;
-    expr(out, " ", b, room)?;
-    out.push(')')
-}
-
-#[cycle(shown)]
-fn three(out: &mut String, a: &Expr, b: &Expr, c: &Expr, room: u32) -> Result<(), AllocError> {
-    begin(out, "?")?;
-    expr(out, " ", a, room)?;
-    expr(out, " ", b, room)?;
-    expr(out, " ", c, room)?;
-    out.push(')')
-}
-
-#[cycle(shown)]
-fn member(out: &mut String, object: &Expr, name: &Text, room: u32) -> Result<(), AllocError> {
-    begin(out, ".")?;
-    expr(out, " ", object, room)?;
-    word(out, name)?;
-    out.push(')')
-}
-
-#[cycle(shown)]
-fn call(out: &mut String, callee: &Expr, trees: &[Expr], room: u32) -> Result<(), AllocError> {
-    begin(out, "call")?;
-    expr(out, " ", callee, room)?;
-    exprs(out, trees, room)
+    Ok(())
 }
 
 #[cycle(shown)]
 fn fields(out: &mut String, trees: &[Field], room: u32) -> Result<(), AllocError> {
-    begin(out, "fields")?;
     for field in trees {
         out.push_str(" (")?;
         out.push_str(field.key.as_str())?;
         expr(out, " ", &field.value, room)?;
         out.push(')')?;
     }
-    out.push(')')
+    Ok(())
 }
 
 #[cycle(shown)]
-fn assign(
-    out: &mut String,
-    head: &str,
-    name: &Name,
-    value: &Expr,
-    room: u32,
-) -> Result<(), AllocError> {
-    begin(out, head)?;
-    word(out, &name.text)?;
-    expr(out, " ", value, room)?;
-    out.push(')')
-}
-
-#[cycle(shown)]
-fn arrow(out: &mut String, params: &[Name], value: &Expr, room: u32) -> Result<(), AllocError> {
-    begin(out, "=>")?;
-    names(out, params)?;
-    expr(out, " ", value, room)?;
-    out.push(')')
-}
-
-#[cycle(shown)]
-fn function(
-    out: &mut String,
-    head: &str,
-    params: &[Name],
-    body: &[Stmt],
-    room: u32,
-) -> Result<(), AllocError> {
-    begin(out, head)?;
-    names(out, params)?;
-    stmts(out, " {", body, room)?;
-    out.push(')')
+fn declarators(out: &mut String, trees: &[Declarator], room: u32) -> Result<(), AllocError> {
+    for tree in trees {
+        match &tree.value {
+            None => word(out, tree.name.text.as_str())?,
+            Some(value) => {
+                out.push_str(" (")?;
+                out.push_str(tree.name.text.as_str())?;
+                expr(out, " ", value, room)?;
+                out.push(')')?;
+            }
+        }
+    }
+    Ok(())
 }
 
 #[cycle(shown)]
@@ -224,67 +202,58 @@ fn form(out: &mut String, form: &Form, room: u32) -> Result<(), AllocError> {
         Form::Truth(false) => out.push_str("false"),
         Form::Null => out.push_str("null"),
         Form::Use(name) => out.push_str(name.text.as_str()),
-        Form::List(trees) => list(out, trees, room),
-        Form::Fields(trees) => fields(out, trees, room),
-        Form::Member(object, name) => member(out, object, name, room),
-        Form::Index(a, i) => two(out, "at", a, i, room),
-        Form::Call(callee, trees) => call(out, callee, trees, room),
-        Form::Unary(sign, a) => one(out, sign_text(*sign), a, room),
-        Form::Update(step, fix, name) => update(out, step_text(*step, *fix), name),
-        Form::Binary(operator, a, b) => two(out, operator_text(*operator), a, b, room),
-        Form::Conditional(a, b, c) => three(out, a, b, c, room),
-        Form::Assign(operator, name, a) => assign(out, assign_text(*operator), name, a, room),
-        Form::ArrowValue(_, params, value) => arrow(out, params, value, room),
-        Form::ArrowBlock(_, params, body) => function(out, "=>", params, body, room),
-        Form::Function(_, params, body) => function(out, "function", params, body, room),
+        Form::List(trees) => list(out, "list", &[Part::Exprs(trees)], room),
+        Form::Fields(trees) => list(out, "fields", &[Part::Fields(trees)], room),
+        Form::Member(a, name) => {
+            list(out, ".", &[Part::Expr(a), Part::Word(name.as_str())], room)
+        }
+        Form::Index(a, i) => list(out, "at", &[Part::Expr(a), Part::Expr(i)], room),
+        Form::Call(f, trees) => list(out, "call", &[Part::Expr(f), Part::Exprs(trees)], room),
+        Form::Unary(sign, a) => list(out, sign_text(*sign), &[Part::Expr(a)], room),
+        Form::Update(step, fix, name) => {
+            let head = step_text(*step, *fix);
+            list(out, head, &[Part::Word(name.text.as_str())], room)
+        }
+        Form::Binary(operator, a, b) => {
+            let head = operator_text(*operator);
+            list(out, head, &[Part::Expr(a), Part::Expr(b)], room)
+        }
+        Form::Conditional(a, b, c) => {
+            list(
+                out,
+                "?",
+                &[Part::Expr(a), Part::Expr(b), Part::Expr(c)],
+                room,
+            )
+        }
+        Form::Assign(operator, name, a) => {
+            let parts = [Part::Word(name.text.as_str()), Part::Expr(a)];
+            list(out, assign_text(*operator), &parts, room)
+        }
+        Form::ArrowValue(_, params, a) => {
+            list(out, "=>", &[Part::Names(params), Part::Expr(a)], room)
+        }
+        Form::ArrowBlock(_, params, body) => {
+            list(out, "=>", &[Part::Names(params), Part::Block(body)], room)
+        }
+        Form::Function(_, params, body) => {
+            list(
+                out,
+                "function",
+                &[Part::Names(params), Part::Block(body)],
+                room,
+            )
+        }
     }
-}
-
-#[cycle(shown)]
-fn list(out: &mut String, trees: &[Expr], room: u32) -> Result<(), AllocError> {
-    begin(out, "list")?;
-    exprs(out, trees, room)
-}
-
-/// An expression that may be absent.
-#[cycle(shown)]
-fn perhaps(out: &mut String, tree: &Option<Expr>, room: u32) -> Result<(), AllocError> {
-    match tree {
-        Some(tree) => expr(out, " ", tree, room),
-        None => out.push_str(" _"),
-    }
-}
-
-#[cycle(shown)]
-fn declarator(out: &mut String, tree: &Declarator, room: u32) -> Result<(), AllocError> {
-    let Some(value) = &tree.value else {
-        return word(out, &tree.name.text);
-    };
-    out.push_str(" (")?;
-    out.push_str(tree.name.text.as_str())?;
-    expr(out, " ", value, room)?;
-    out.push(')')
-}
-
-#[cycle(shown)]
-fn declaration(
-    out: &mut String,
-    kind: DeclareKind,
-    trees: &[Declarator],
-    room: u32,
-) -> Result<(), AllocError> {
-    begin(out, kind_text(kind))?;
-    for tree in trees {
-        declarator(out, tree, room)?;
-    }
-    out.push(')')
 }
 
 #[cycle(shown)]
 fn start(out: &mut String, tree: &Start, room: u32) -> Result<(), AllocError> {
     match tree {
         Start::Nothing => out.push('_'),
-        Start::Declares(_, kind, trees) => declaration(out, *kind, trees, room),
+        Start::Declares(_, kind, trees) => {
+            list(out, kind_text(*kind), &[Part::Declarators(trees)], room)
+        }
         Start::Evaluates(tree) => expr(out, "", tree, room),
     }
 }
@@ -299,9 +268,9 @@ fn stmt(out: &mut String, before: &str, tree: &Stmt, room: u32) -> Result<(), Al
     stmt_form(out, &tree.form, room - 1)
 }
 
-/// Statements, with the brace that closes them.
+/// Statements behind a brace, and the brace that closes them.
 #[cycle(shown)]
-fn stmts(out: &mut String, before: &str, trees: &[Stmt], room: u32) -> Result<(), AllocError> {
+fn block(out: &mut String, before: &str, trees: &[Stmt], room: u32) -> Result<(), AllocError> {
     out.push_str(before)?;
     for (place, tree) in trees.iter().enumerate() {
         stmt(out, if place > 0 { " " } else { "" }, tree, room)?;
@@ -310,86 +279,41 @@ fn stmts(out: &mut String, before: &str, trees: &[Stmt], room: u32) -> Result<()
 }
 
 #[cycle(shown)]
-fn if_alone(out: &mut String, test: &Expr, body: &Stmt, room: u32) -> Result<(), AllocError> {
-    begin(out, "if")?;
-    expr(out, " ", test, room)?;
-    stmt(out, " ", body, room)?;
-    out.push(')')
-}
-
-#[cycle(shown)]
-fn if_else(
-    out: &mut String,
-    test: &Expr,
-    body: &Stmt,
-    other: &Stmt,
-    room: u32,
-) -> Result<(), AllocError> {
-    begin(out, "if")?;
-    expr(out, " ", test, room)?;
-    stmt(out, " ", body, room)?;
-    stmt(out, " ", other, room)?;
-    out.push(')')
-}
-
-#[cycle(shown)]
-fn while_of(out: &mut String, test: &Expr, body: &Stmt, room: u32) -> Result<(), AllocError> {
-    begin(out, "while")?;
-    expr(out, " ", test, room)?;
-    stmt(out, " ", body, room)?;
-    out.push(')')
-}
-
-#[cycle(shown)]
-fn for_three(
-    out: &mut String,
-    first: &Start,
-    test: &Option<Expr>,
-    next: &Option<Expr>,
-    body: &Stmt,
-    room: u32,
-) -> Result<(), AllocError> {
-    out.push_str("(for ")?;
-    start(out, first, room)?;
-    perhaps(out, test, room)?;
-    perhaps(out, next, room)?;
-    stmt(out, " ", body, room)?;
-    out.push(')')
-}
-
-#[cycle(shown)]
-fn for_of(
-    out: &mut String,
-    kind: DeclareKind,
-    name: &Name,
-    list: &Expr,
-    body: &Stmt,
-    room: u32,
-) -> Result<(), AllocError> {
-    out.push_str("(of ")?;
-    out.push_str(kind_text(kind))?;
-    word(out, &name.text)?;
-    expr(out, " ", list, room)?;
-    stmt(out, " ", body, room)?;
-    out.push(')')
-}
-
-#[cycle(shown)]
 fn stmt_form(out: &mut String, form: &StmtForm, room: u32) -> Result<(), AllocError> {
     match form {
         StmtForm::Empty => out.push(';'),
-        StmtForm::Block(trees) => stmts(out, "{", trees, room),
-        StmtForm::Declaration(kind, trees) => declaration(out, *kind, trees, room),
+        StmtForm::Block(trees) => block(out, "{", trees, room),
+        StmtForm::Declaration(kind, trees) => {
+            list(out, kind_text(*kind), &[Part::Declarators(trees)], room)
+        }
         StmtForm::Expression(tree) => expr(out, "", tree, room),
-        StmtForm::If(test, body) => if_alone(out, test, body, room),
-        StmtForm::IfElse(test, body, other) => if_else(out, test, body, other, room),
-        StmtForm::While(test, body) => while_of(out, test, body, room),
-        StmtForm::For(first, test, next, body) => for_three(out, first, test, next, body, room),
-        StmtForm::ForOf(kind, name, list, body) => for_of(out, *kind, name, list, body, room),
+        StmtForm::If(test, body) => list(out, "if", &[Part::Expr(test), Part::Stmt(body)], room),
+        StmtForm::IfElse(test, body, other) => {
+            let parts = [Part::Expr(test), Part::Stmt(body), Part::Stmt(other)];
+            list(out, "if", &parts, room)
+        }
+        StmtForm::While(test, body) => {
+            list(out, "while", &[Part::Expr(test), Part::Stmt(body)], room)
+        }
+        StmtForm::For(first, test, next, body) => {
+            out.push_str("(for ")?;
+            start(out, first, room)?;
+            let parts = [Part::Perhaps(test), Part::Perhaps(next), Part::Stmt(body)];
+            rest(out, &parts, room)
+        }
+        StmtForm::ForOf(kind, name, trees, body) => {
+            let (kind, name) = (Part::Word(kind_text(*kind)), Part::Word(name.text.as_str()));
+            list(
+                out,
+                "of",
+                &[kind, name, Part::Expr(trees), Part::Stmt(body)],
+                room,
+            )
+        }
         StmtForm::Break(_) => out.push_str("break"),
         StmtForm::Continue(_) => out.push_str("continue"),
         StmtForm::ReturnNothing(_) => out.push_str("return"),
-        StmtForm::Return(_, value) => one(out, "return", value, room),
+        StmtForm::Return(_, value) => list(out, "return", &[Part::Expr(value)], room),
     }
 }
 
@@ -397,22 +321,15 @@ fn item(out: &mut String, tree: &Item) -> Result<(), AllocError> {
     match tree {
         Item::Statement(tree) => stmt(out, "", tree, SHOWN),
         Item::Function(_, name, params, body) => {
-            out.push_str("(function ")?;
-            function_of(out, name, params, body)
+            let name = Part::Word(name.text.as_str());
+            list(
+                out,
+                "function",
+                &[name, Part::Names(params), Part::Block(body)],
+                SHOWN,
+            )
         }
     }
-}
-
-fn function_of(
-    out: &mut String,
-    name: &Name,
-    params: &[Name],
-    body: &[Stmt],
-) -> Result<(), AllocError> {
-    out.push_str(name.text.as_str())?;
-    names(out, params)?;
-    stmts(out, " {", body, SHOWN)?;
-    out.push(')')
 }
 
 fn shown_tree(alloc: Global, tree: &Tree) -> Result<String, AllocError> {
@@ -442,15 +359,10 @@ pub fn shown(alloc: Global, bytes: &[u8]) -> Result<String, AllocError> {
     }
 }
 
-/// Each line has a text, in which `\n` stands for a line end, and behind `-->` its tree or refusal.
-fn agree(rt: &impl Abort, alloc: Global, table: &str) -> Result<(), Fail> {
-    for line in table.trim().lines() {
-        let (left, right) = line.split_once("-->").ok_or("no tree")?;
-        let text = left.trim().replace(alloc, "\\n", "\n")?;
-        let found = shown(alloc, text.as_str().as_bytes())?;
-        assert_eq!(rt; found.as_str(), right.trim(), "{line}");
-    }
-    Ok(())
+/// Whether the text of the cell has this tree or this refusal.
+pub fn agrees(alloc: Global, cell: &str, want: &str) -> Result<bool, Fail> {
+    let text = cell.replace(alloc, "\\n", "\n")?;
+    Ok(shown(alloc, text.as_bytes())?.as_str() == want)
 }
 
 // A program lists statements and functions.
@@ -721,15 +633,19 @@ const f = () => {\n  return\n  1\n}\nconst g = x => x\nconst h = g\n(2)\nbp.regi
 
 #[test]
 fn texts_have_their_trees(rt: HostRuntime) -> Result<(), Fail> {
-    let alloc = rt.alloc();
-    agree(&rt, alloc, PROGRAMS)?;
-    agree(&rt, alloc, STATEMENTS)?;
-    agree(&rt, alloc, LOOPS)?;
-    agree(&rt, alloc, BODIES)?;
-    agree(&rt, alloc, ENDS)?;
-    agree(&rt, alloc, ASSIGNMENTS)?;
-    agree(&rt, alloc, OPERATORS)?;
-    agree(&rt, alloc, CALLS)?;
-    agree(&rt, alloc, UNSUPPORTED)?;
-    agree(&rt, alloc, SCRIPT)
+    for table in [
+        PROGRAMS,
+        STATEMENTS,
+        LOOPS,
+        BODIES,
+        ENDS,
+        ASSIGNMENTS,
+        OPERATORS,
+        CALLS,
+        UNSUPPORTED,
+        SCRIPT,
+    ] {
+        agree(&rt, rt.alloc(), Lines::Trees, table)?;
+    }
+    Ok(())
 }

@@ -5,7 +5,7 @@ use crate::told::add_taken;
 use bp_base::MemorySource;
 use bp_inject::{join, start};
 use bp_lanes::{Bell, Ear, Rope, Wake};
-use std::alloc::Global;
+use std::alloc::{AllocError, Global};
 use std::sync::Wait;
 use std::test::Fail;
 use std::thread;
@@ -13,6 +13,11 @@ use std::thread::Threads;
 
 /// How many lines each injector has.
 const LINES: u32 = 200;
+
+const FIRST_CARS: &str =
+    r#"|["car",{"count":0,"from":"north"}]|["car",{"count":1,"from":"south"}]"#;
+
+const LAST_LIGHTS: &str = r#"|["green","east"]|["green","west"]|end"#;
 
 fn direction(number: u32) -> &'static str {
     match number % 4 {
@@ -23,30 +28,31 @@ fn direction(number: u32) -> &'static str {
     }
 }
 
-// The lines, each between these two.
-fn cars(alloc: Global, before: &str, behind: &str) -> Result<String, Fail> {
+fn cars(alloc: Global) -> Result<String, AllocError> {
     let mut text = String::new(alloc);
     for number in 0..LINES {
         let (count, from) = (number % 5, direction(number));
-        text.push_str(before)?;
-        text.push_str(format!(in alloc;
-            "[\"car\",{{\"count\":{},\"from\":\"{}\"}}]",
-            count, from
-        )?.as_str())?;
-        text.push_str(behind)?;
+        write!(
+            text,
+            "[\"car\",{{\"count\":{count},\"from\":\"{from}\"}}]\n"
+        )?;
     }
     Ok(text)
 }
 
-fn lights(alloc: Global, before: &str, behind: &str) -> Result<String, Fail> {
+fn lights(alloc: Global) -> Result<String, AllocError> {
     let mut text = String::new(alloc);
     for number in 0..LINES {
         let light = if number / 4 % 2 == 0 { "red" } else { "green" };
-        text.push_str(before)?;
-        text.push_str(format!(in alloc; "[\"{}\",\"{}\"]", light, direction(number))?.as_str())?;
-        text.push_str(behind)?;
+        write!(text, "[\"{}\",\"{}\"]\n", light, direction(number))?;
     }
     Ok(text)
+}
+
+// Whether these are the items of the lines.
+fn are_of(alloc: Global, items: &str, lines: &str) -> Result<bool, AllocError> {
+    let told = lines.replace(alloc, "\n", "|")?;
+    Ok(items == format!(in alloc; "|{}end", told.as_str())?.as_str())
 }
 
 fn source_of(alloc: Global, text: &str) -> Result<MemorySource, Fail> {
@@ -112,22 +118,11 @@ fn offered<R: Threads + Wait + Sync>(
 #[test]
 fn all_lines_of_a_crossing_come(rt: HostRuntime) -> Result<(), Fail> {
     let alloc = rt.alloc();
-    let (first, second) = (cars(alloc, "", "\n")?, lights(alloc, "", "\n")?);
-    let (first, second) = offered(&rt, alloc, (first.as_str(), second.as_str()))?;
-    let (mut wanted, mut other) = (cars(alloc, "|", "")?, lights(alloc, "|", "")?);
-    wanted.push_str("|end")?;
-    other.push_str("|end")?;
-    assert!(rt;
-        wanted.as_str().starts_with(
-            "|[\"car\",{\"count\":0,\"from\":\"north\"}]|[\"car\",{\"count\":1,\"from\":\"south\"}]"
-        )
-    );
-    assert!(rt;
-        other
-            .as_str()
-            .ends_with("|[\"green\",\"east\"]|[\"green\",\"west\"]|end")
-    );
-    assert!(rt; first == wanted);
-    assert!(rt; second == other);
+    let (cars, lights) = (cars(alloc)?, lights(alloc)?);
+    let (first, second) = offered(&rt, alloc, (cars.as_str(), lights.as_str()))?;
+    assert!(rt; are_of(alloc, first.as_str(), cars.as_str())?);
+    assert!(rt; are_of(alloc, second.as_str(), lights.as_str())?);
+    assert!(rt; first.as_str().starts_with(FIRST_CARS));
+    assert!(rt; second.as_str().ends_with(LAST_LIGHTS));
     Ok(())
 }

@@ -74,7 +74,10 @@ fn a_halted_injector_reads_no_further_line(rt: HostRuntime) -> Result<(), Fail> 
     ];
     let mut turns = 0u32;
     for wanted in rows {
-        assert_eq!(rt; halted_after(&rt, alloc, turns)?.as_str(), wanted);
+        assert!(rt;
+            halted_after(&rt, alloc, turns)?.as_str() == wanted,
+            "{wanted}"
+        );
         turns = turns.saturating_add(1);
     }
     Ok(())
@@ -86,14 +89,14 @@ fn a_halted_bell_ends_an_injector(rt: HostRuntime) -> Result<(), Fail> {
     let (mouth, mut ear) = lane(alloc)?;
     let bell = Bell::new();
     bell.ring(&rt);
-    assert_eq!(rt; bell.wait(&rt, 0), 1);
+    assert!(rt; bell.wait(&rt, 0) == 1);
     assert!(rt; !bell.halted(&rt));
     bell.halt(&rt);
-    assert_eq!(rt; bell.wait(&rt, 1), 1);
+    assert!(rt; bell.wait(&rt, 1) == 1);
     let mut feed = Feed::new(alloc, Drip::new(alloc, LINES, 8, 0)?, mouth);
     let mut rope = Rope::new(&bell);
     let injected = inject(&rt, &mut feed, &mut rope)?;
-    assert_eq!(rt; injected, Injected::Halted);
+    assert!(rt; injected == Injected::Halted);
     assert!(rt; ear.take().is_none());
     Ok(())
 }
@@ -106,7 +109,7 @@ fn ropes_of_one_bell(rt: HostRuntime) -> Result<(), Fail> {
     one.ring(&rt);
     other.wait(&rt);
     one.ring(&rt);
-    assert_eq!(rt; bell.wait(&rt, 1), 2);
+    assert!(rt; bell.wait(&rt, 1) == 2);
     other.wait(&rt);
     assert!(rt; !one.halted(&rt) && !other.halted(&rt));
     one.halt(&rt);

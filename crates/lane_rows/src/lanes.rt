@@ -35,16 +35,16 @@ fn taken(ear: &mut Ear) -> Option<u32>
 fn a_lane_has_room_for_64(rt: HostRuntime) -> Result<(), Fail> {
     let alloc = rt.alloc();
     let (mut mouth, mut ear) = lane(alloc)?;
-    assert_eq!(rt; taken(&mut ear), None);
-    assert_eq!(rt; offered(&mut mouth, 1, 65), 64);
-    assert_eq!(rt; taken(&mut ear), Some(1));
-    assert_eq!(rt; offered(&mut mouth, 65, 2), 1);
-    assert_eq!(rt; taken(&mut ear), Some(2));
+    assert!(rt; taken(&mut ear).is_none());
+    assert!(rt; offered(&mut mouth, 1, 65) == 64);
+    assert!(rt; taken(&mut ear) == Some(1));
+    assert!(rt; offered(&mut mouth, 65, 2) == 1);
+    assert!(rt; taken(&mut ear) == Some(2));
     ear.close(&mut mouth);
     for number in 3..66 {
-        assert_eq!(rt; taken(&mut ear), Some(number));
+        assert!(rt; taken(&mut ear) == Some(number));
     }
-    assert_eq!(rt; taken(&mut ear), None);
+    assert!(rt; taken(&mut ear).is_none());
     Ok(())
 }
 
@@ -52,7 +52,7 @@ fn a_lane_has_room_for_64(rt: HostRuntime) -> Result<(), Fail> {
 fn an_item_waits_for_a_place(rt: HostRuntime) -> Result<(), Fail> {
     let alloc = rt.alloc();
     let (mut mouth, mut ear) = lane(alloc)?;
-    assert_eq!(rt; offered(&mut mouth, 1, 64), 64);
+    assert!(rt; offered(&mut mouth, 1, 64) == 64);
     let source = MemorySource::new(b"[\"x\"]\n[\"y\"]\n".to_vec(alloc)?, Vec::new(alloc));
     let mut feed = Feed::new(alloc, source, mouth);
     let mut fed = Fed::Went;
@@ -60,17 +60,17 @@ fn an_item_waits_for_a_place(rt: HostRuntime) -> Result<(), Fail> {
         if !feed.is_over() {
             fed = feed.turn()?;
         }
-        assert_eq!(rt; fed, Fed::Full);
+        assert!(rt; fed == Fed::Full);
     }
-    assert_eq!(rt; taken(&mut ear), Some(1));
+    assert!(rt; taken(&mut ear) == Some(1));
     if !feed.is_over() {
         fed = feed.turn()?;
     }
-    assert_eq!(rt; fed, Fed::Went);
+    assert!(rt; fed == Fed::Went);
     let mut text = String::new(alloc);
     add_taken(alloc, &mut ear, &mut text)?;
     assert!(rt; text.as_str().ends_with("|bad 64|[\"x\"]"));
     let (source, _) = feed.back();
-    assert_eq!(rt; told(alloc, source)?.as_str(), "|end");
+    assert!(rt; told(alloc, source)?.as_str() == "|end");
     Ok(())
 }

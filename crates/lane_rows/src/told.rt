@@ -6,7 +6,7 @@ use bp_feeds::Feed;
 use bp_lanes::{Ear, lane};
 use bp_log::Item;
 use js_json::event_text;
-use std::alloc::Global;
+use std::alloc::{AllocError, Global};
 use std::test::Fail;
 
 /// The texts of the items that a feed over this source offers, each behind a bar.
@@ -37,13 +37,11 @@ pub fn add_taken(alloc: Global, ear: &mut Ear, text: &mut String) -> Result<(), 
     Ok(())
 }
 
-fn add(alloc: Global, text: &mut String, item: &Item) -> Result<(), Fail> {
-    text.push_str("|")?;
+fn add(alloc: Global, text: &mut String, item: &Item) -> Result<(), AllocError> {
     match item {
-        Item::Offered(event) => text.push_str(event_text(alloc, event)?.as_str())?,
-        Item::Bad(number) => text.push_str(format!(in alloc; "bad {}", number)?.as_str())?,
-        Item::Failed => text.push_str("failed")?,
-        Item::End => text.push_str("end")?,
+        Item::Offered(event) => write!(text, "|{}", event_text(alloc, event)?.as_str()),
+        Item::Bad(number) => write!(text, "|bad {number}"),
+        Item::Failed => text.push_str("|failed"),
+        Item::End => text.push_str("|end"),
     }
-    Ok(())
 }

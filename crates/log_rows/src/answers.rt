@@ -2,9 +2,7 @@
 use bp_base::{MemorySink, MemorySource};
 use bp_log::{write_header, write_record};
 use bp_reader::Reader;
-use percent_encoding::percent_decode;
 use std::alloc::Global;
-use std::process::Abort;
 use std::test::Fail;
 
 /// More than the records of any row.
@@ -41,29 +39,14 @@ pub fn answer(alloc: Global, bytes: &[u8]) -> Result<String, Fail> {
     Ok(String::from_str(alloc, "too many")?)
 }
 
-/// The bytes of a cell, in which `;` stands for a line end and `%` with two digits for a byte.
-fn bytes_of(alloc: Global, cell: &str) -> Result<Vec<u8>, Fail> {
-    let mut bytes = Vec::new(alloc);
-    for part in cell.trim().split_inclusive(';') {
-        match part.strip_suffix(';') {
-            Some(line) => {
-                percent_decode(line.as_bytes()).append_to(&mut bytes)?;
-                bytes.push(b'\n')?;
-            }
-            None => percent_decode(part.as_bytes()).append_to(&mut bytes)?,
-        }
-    }
-    Ok(bytes)
-}
-
-/// Each line has what stands behind the front, the mark `-->`, and its answer.
-pub fn agree(rt: &impl Abort, alloc: Global, front: &str, table: &str) -> Result<(), Fail> {
-    for line in table.trim().lines() {
-        let (cell, want) = line.split_once("-->").ok_or("no answer")?;
-        let mut log = bytes_of(alloc, front)?;
-        log.extend_from_slice(bytes_of(alloc, cell)?.as_slice())?;
-        let found = answer(alloc, log.as_slice())?;
-        assert_eq!(rt; found.as_str(), want.trim(), "{line}");
-    }
-    Ok(())
+/// What is answered where so many letters stand between these two.
+pub fn answer_of_long(
+    alloc: Global,
+    before: &str,
+    count: u32,
+    behind: &str,
+) -> Result<String, Fail> {
+    let letters = "x".repeat(alloc, count as usize)?;
+    let log = format!(in alloc; "{before}{}{behind}", letters.as_str())?;
+    answer(alloc, log.as_str().as_bytes())
 }

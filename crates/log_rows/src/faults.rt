@@ -15,8 +15,8 @@ fn a_failed_read_is_told(rt: HostRuntime) -> Result<(), Fail> {
     let Err(refused) = Reader::open(alloc, source) else {
         return Err(Fail::from("opened"));
     };
-    assert_eq!(rt; refused.fault, LogFault::Read);
-    assert_eq!(rt; refused.source.faults(), 1);
+    assert!(rt; refused.fault == LogFault::Read);
+    assert!(rt; refused.source.faults() == 1);
     Ok(())
 }
 
@@ -34,9 +34,9 @@ fn a_refusal_stays(rt: HostRuntime) -> Result<(), Fail> {
         let Err(fault) = reader.next(alloc) else {
             return Err(Fail::from("read"));
         };
-        assert_eq!(rt; fault, LogFault::Read);
+        assert!(rt; fault == LogFault::Read);
     }
-    assert_eq!(rt; reader.back().faults(), 1);
+    assert!(rt; reader.back().faults() == 1);
     Ok(())
 }
 
@@ -46,11 +46,8 @@ fn a_failed_write_leaves_what_was_written(rt: HostRuntime) -> Result<(), Fail> {
     let alloc = rt.alloc();
     let entry = Record::End(Verdict::Quiet(7));
     let mut sink = MemorySink::new(alloc, 20, Vec::new(alloc))?;
-    assert_eq!(rt; write_record(alloc, &entry, &mut sink), Ok(()));
-    assert_eq!(rt;
-        write_record(alloc, &entry, &mut sink),
-        Err(PrintError::Write)
-    );
-    assert_eq!(rt; sink.written(), b"end quiet 7\n".as_slice());
+    assert!(rt; write_record(alloc, &entry, &mut sink).is_ok());
+    assert!(rt; write_record(alloc, &entry, &mut sink) == Err(PrintError::Write));
+    assert!(rt; sink.written() == b"end quiet 7\n".as_slice());
     Ok(())
 }

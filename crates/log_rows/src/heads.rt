@@ -1,14 +1,14 @@
 //! Headers.
-use crate::answers::{agree, answer};
+use crate::answers::answer_of_long;
+use crate::lines::{Lines, agree};
 use bp_reading::limits::MOST_LINE_BYTES;
-use std::alloc::Global;
 use std::test::Fail;
 
 const HEADS: &str = r#"
 bp-log 1;strategy simple;seed 0;budget 1;steps 1;injectors 0;program 0;;end quiet 0; --> read
 bp-log 1;strategy ordered;seed 18446744073709551615;budget 1000000000;steps 1000000;injectors 16;program 3;%00%0a%ff;end quiet 0; --> read
 bp-log 1;strategy priority;seed 7;budget 1;steps 1;injectors 0;program 1;%0a;end quiet 0; --> read
---> cut
+ --> cut
 bp-log 1 --> cut
 bp-log 2 --> cut
 bp-log 2; --> version
@@ -44,27 +44,14 @@ bp-log 1;strategy simple;seed 0;budget 1;steps 1;injectors 0;program 3;x=1; --> 
 
 #[test]
 fn headers_are_read_exactly(rt: HostRuntime) -> Result<(), Fail> {
-    agree(&rt, rt.alloc(), "", HEADS)
-}
-
-/// So many bytes without a line end behind the front.
-fn long(alloc: Global, front: &str, count: u32) -> Result<Vec<u8>, Fail> {
-    let mut bytes = Vec::new(alloc);
-    bytes.extend_from_slice(front.as_bytes())?;
-    for _ in 0..count {
-        bytes.push(b'x')?;
-    }
-    Ok(bytes)
+    agree(&rt, rt.alloc(), Lines::Read, b"", HEADS)
 }
 
 #[test]
 fn a_line_is_cut_at_its_limit(rt: HostRuntime) -> Result<(), Fail> {
-    let alloc = rt.alloc();
-    let most = long(alloc, "", MOST_LINE_BYTES)?;
-    assert_eq!(rt; answer(alloc, most.as_slice())?.as_str(), "cut");
-    let more = long(alloc, "", MOST_LINE_BYTES + 1)?;
-    assert_eq!(rt; answer(alloc, more.as_slice())?.as_str(), "version");
-    let head = long(alloc, "bp-log 1\n", MOST_LINE_BYTES + 1)?;
-    assert_eq!(rt; answer(alloc, head.as_slice())?.as_str(), "header");
+    let (alloc, past) = (rt.alloc(), MOST_LINE_BYTES + 1);
+    assert!(rt; answer_of_long(alloc, "", MOST_LINE_BYTES, "")?.as_str() == "cut");
+    assert!(rt; answer_of_long(alloc, "", past, "")?.as_str() == "version");
+    assert!(rt; answer_of_long(alloc, "bp-log 1\n", past, "")?.as_str() == "header");
     Ok(())
 }

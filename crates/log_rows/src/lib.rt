@@ -1,4 +1,5 @@
-//! Tests of logs, as tables in which a line is what is read and what is answered.
+//! Tests of the world outside, of the words of the random choice, and of logs and their replays, as tables in which a line
+//! is what is read and what is answered, or what is printed for it and how that ends.
 #![tactic(auto)]
 
 #[cfg(test)]
@@ -8,4 +9,18 @@ mod faults;
 #[cfg(test)]
 mod heads;
 #[cfg(test)]
+mod lines;
+#[cfg(test)]
+mod outside;
+#[cfg(test)]
+mod printed;
+#[cfg(test)]
 mod records;
+#[cfg(test)]
+mod replays;
+#[cfg(test)]
+mod runs;
+#[cfg(test)]
+mod words;
+#[cfg(test)]
+mod worlds;

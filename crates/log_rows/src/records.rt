@@ -1,13 +1,14 @@
 //! Lines of records behind a good header.
-use crate::answers::{agree, answer};
+use crate::answers::{answer, answer_of_long};
+use crate::lines::{Lines, agree};
 use bp_base::MemorySource;
 use bp_reader::Reader;
 use bp_reading::limits::{MOST_LINE_BYTES, MOST_RECORDS};
 use std::alloc::Global;
 use std::test::Fail;
 
-const FRONT: &str =
-    "bp-log 1;strategy simple;seed 0;budget 1000000;steps 100000;injectors 2;program 3;x=1;";
+const FRONT: &[u8] =
+    b"bp-log 1\nstrategy simple\nseed 0\nbudget 1000000\nsteps 100000\ninjectors 2\nprogram 3\nx=1\n";
 
 // Each form, each as it is written.
 const FORMS: &str = r#"
@@ -30,7 +31,7 @@ end limit weight 16777216; --> read
 
 // The log ends too early, or goes on behind its end.
 const ENDS: &str = r#"
---> cut
+ --> cut
 end quiet 0 --> cut
 eof 0; --> cut
 eof 0;end quie --> cut
@@ -119,12 +120,10 @@ end fault "A 1 type; --> line 1
 
 #[test]
 fn records_are_read_exactly(rt: HostRuntime) -> Result<(), Fail> {
-    let alloc = rt.alloc();
-    agree(&rt, alloc, FRONT, FORMS)?;
-    agree(&rt, alloc, FRONT, ENDS)?;
-    agree(&rt, alloc, FRONT, INJECTORS)?;
-    agree(&rt, alloc, FRONT, NUMBERS)?;
-    agree(&rt, alloc, FRONT, SPELLINGS)
+    for table in [FORMS, ENDS, INJECTORS, NUMBERS, SPELLINGS] {
+        agree(&rt, rt.alloc(), Lines::Read, FRONT, table)?;
+    }
+    Ok(())
 }
 
 // The log of a whole run.
@@ -136,56 +135,41 @@ const WHOLE: &[u8] =
 fn a_front_of_a_log_is_cut(rt: HostRuntime) -> Result<(), Fail> {
     let alloc = rt.alloc();
     for size in 0..WHOLE.len() {
-        let found = answer(alloc, &WHOLE[..size])?;
-        assert_eq!(rt; found.as_str(), "cut", "{size}");
+        assert!(rt; answer(alloc, &WHOLE[..size])?.as_str() == "cut", "{size}");
     }
-    assert_eq!(rt; answer(alloc, WHOLE)?.as_str(), "read");
+    assert!(rt; answer(alloc, WHOLE)?.as_str() == "read");
     Ok(())
 }
 
-/// What is answered where so many bytes stand between these two on the first line of a record.
-fn filled(alloc: Global, start: &str, count: u32, end: &str) -> Result<String, Fail> {
-    let mut log = Vec::new(alloc);
-    log.extend_from_slice(
-        b"bp-log 1\nstrategy simple\nseed 0\nbudget 1\nsteps 1\ninjectors 0\nprogram 0\n\n",
-    )?;
-    log.extend_from_slice(start.as_bytes())?;
-    for _ in 0..count {
-        log.push(b'x')?;
-    }
-    log.extend_from_slice(end.as_bytes())?;
-    answer(alloc, log.as_slice())
+const HEAD: &str =
+    "bp-log 1\nstrategy simple\nseed 0\nbudget 1\nsteps 1\ninjectors 0\nprogram 0\n\n";
+
+// Whether this is answered where so many letters stand between these two on the first line of a record.
+fn answers(alloc: Global, line: (&str, u32, &str), want: &str) -> Result<bool, Fail> {
+    let (start, count, end) = line;
+    let before = format!(in alloc; "{HEAD}{start}")?;
+    Ok(answer_of_long(alloc, before.as_str(), count, end)?.as_str() == want)
 }
 
 // An event weighs one more than its name, and its name one more than its bytes.
 #[test]
 fn lines_and_events_have_limits(rt: HostRuntime) -> Result<(), Fail> {
     let alloc = rt.alloc();
-    assert_eq!(rt; filled(alloc, "sel [\"", 1022, "\"]\n")?.as_str(), "cut");
-    assert_eq!(rt; filled(alloc, "sel [\"", 1023, "\"]\n")?.as_str(), "line 1");
-    assert_eq!(rt; filled(alloc, "", MOST_LINE_BYTES, "")?.as_str(), "cut");
-    assert_eq!(rt;
-        filled(alloc, "", MOST_LINE_BYTES + 1, "")?.as_str(),
-        "line 1"
-    );
-    let (start, end) = ("end violated top \"", "\"\n");
-    let room = MOST_LINE_BYTES - 19;
-    assert_eq!(rt; filled(alloc, start, room, end)?.as_str(), "read");
-    assert_eq!(rt; filled(alloc, start, room + 1, end)?.as_str(), "line 1");
+    assert!(rt; answers(alloc, ("sel [\"", 1022, "\"]\n"), "cut")?);
+    assert!(rt; answers(alloc, ("sel [\"", 1023, "\"]\n"), "line 1")?);
+    assert!(rt; answers(alloc, ("", MOST_LINE_BYTES, ""), "cut")?);
+    assert!(rt; answers(alloc, ("", MOST_LINE_BYTES + 1, ""), "line 1")?);
+    let (start, room, end) = ("end violated top \"", MOST_LINE_BYTES - 19, "\"\n");
+    assert!(rt; answers(alloc, (start, room, end), "read")?);
+    assert!(rt; answers(alloc, (start, room + 1, end), "line 1")?);
     Ok(())
 }
 
-/// How the reading of a log ends that has so many equal lines and then this, behind the number of its records.
+// How the reading of a log ends that has so many equal lines and then this, behind the number of its records.
 fn counted(alloc: Global, count: u32, end: &str) -> Result<String, Fail> {
-    let mut log = Vec::new(alloc);
-    log.extend_from_slice(
-        b"bp-log 1\nstrategy simple\nseed 0\nbudget 1\nsteps 1\ninjectors 0\nprogram 0\n\n",
-    )?;
-    for _ in 0..count {
-        log.extend_from_slice(b"sel [\"x\"]\n")?;
-    }
-    log.extend_from_slice(end.as_bytes())?;
-    let source = MemorySource::new(log, Vec::new(alloc));
+    let lines = "sel [\"x\"]\n".repeat(alloc, count as usize)?;
+    let log = format!(in alloc; "{HEAD}{}{end}", lines.as_str())?;
+    let source = MemorySource::new(log.into_bytes(), Vec::new(alloc));
     let Ok((mut reader, _header)) = Reader::open(alloc, source) else {
         return Err(Fail::from("refused"));
     };
@@ -201,8 +185,7 @@ fn counted(alloc: Global, count: u32, end: &str) -> Result<String, Fail> {
 
 #[test]
 fn a_log_has_at_most_2100000_records(rt: HostRuntime) -> Result<(), Fail> {
-    let alloc = rt.alloc();
-    let found = counted(alloc, MOST_RECORDS, "e")?;
-    assert_eq!(rt; found.as_str(), "2100000 line 2100001");
+    let found = counted(rt.alloc(), MOST_RECORDS, "e")?;
+    assert!(rt; found.as_str() == "2100000 line 2100001");
     Ok(())
 }
