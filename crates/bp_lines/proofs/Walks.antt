@@ -1,12 +1,12 @@
 -- Going over bytes.
-use Rattle.std.proofs.Common.{◌≡◌, ◌≢◌, ◌⊎◌, ℕ, suc, ◌+◌, ◌<◌, ◌≤◌, Bool, true, false, cond, List, [], ◌∷◌, ◌++◌, length, get_or, take, drop, Option, Some, None, refl, sym, ap, ◌∙◌, inl, inr, arith, append-nil}
+use Rattle.std.proofs.Common.{◌≡◌, ◌≢◌, ℕ, suc, ◌+◌, ◌<◌, ◌≤◌, Bool, true, false, List, [], ◌∷◌, ◌++◌, length, get_or, take, drop, Option, Some, None, refl, sym, ap, ◌∙◌, inl, inr, arith, append-nil}
 use Rattle.std.specs.Prelude.{◌==◌, ◌&&◌, not}
 use Rattle.std.proofs.Math.Seq.{drop-cons, take-suc, take-append_seam}
 use Rattle.std.proofs.lemmas.Bool.Decides.{eqb_tells}
 use Rattle.std.proofs.lemmas.Bool.{false≢true, and_parts}
 use Rattle.std.proofs.Common.{option_and_then, length-drop, length-append, ap₂}
 use Rattle.bp_reading.proofs.Lines.{some_is, some_none}
-use Rattle.bp_reading.proofs.Again.{chosen, quote_parts}
+use Rattle.bp_reading.proofs.Again.{quote_parts}
 use Rattle.std.proofs.lemmas.List.{drop_all}
 use Rattle.bp_reading.specs.Words.{behind, around, onto_front, to_quote, quoted_front}
 
