@@ -19,14 +19,24 @@ abbrev pub top : ℕ
 top = TOP
 
 abbrev pub entry : Name → Role → ℕ → ℕ → Bool → ℕ → Entry
-entry name role end owner direct given =
-    record { name = name.text; declared = record { role = role; place = name.spot.at; end = end; owner = owner; direct = direct; given = given } }
+entry name role end owner direct given = record {
+  name = name.text;
+  declared = record {
+    role = role;
+    place = name.spot.at;
+    end = end;
+    owner = owner;
+    direct = direct;
+    given = given;
+  };
+}
 
 abbrev pub is_present : PlainPerhaps → Bool
 is_present absent = false
 is_present (present e) = true
 
--- the place from which on the value of a `var` stays that names a parameter: after its declarator, or nowhere where it may run again
+-- the place from which on the value of a `var` stays that names a parameter: after its declarator, or nowhere
+-- where it may run again
 abbrev pub given_at : Bool → PlainPerhaps → ℕ → ℕ
 given_at direct absent end = 0
 given_at direct (present e) end = if direct then end else top
@@ -39,17 +49,20 @@ own_declarator owner direct var_word name value end = []
 
 abbrev pub own_declarators : ℕ → Bool → DeclareKind → PlainDeclarators → List Entry
 own_declarators owner direct kind no_declarators = []
-own_declarators owner direct kind (declarator_in name value end ds) = own_declarator owner direct kind name value end ++ own_declarators owner direct kind ds
+own_declarators owner direct kind (declarator_in name value end ds) =
+    own_declarator owner direct kind name value end ++ own_declarators owner direct kind ds
 
 -- what a declarator of `var` declares
 abbrev pub var_declarator : ℕ → Bool → DeclareKind → Name → PlainPerhaps → ℕ → List Entry
 var_declarator owner direct const_word name value end = []
 var_declarator owner direct let_word name value end = []
-var_declarator owner direct var_word name value end = entry name Var end owner direct (given_at direct value end) ∷ []
+var_declarator owner direct var_word name value end =
+    entry name Var end owner direct (given_at direct value end) ∷ []
 
 abbrev pub var_declarators : ℕ → Bool → DeclareKind → PlainDeclarators → List Entry
 var_declarators owner direct kind no_declarators = []
-var_declarators owner direct kind (declarator_in name value end ds) = var_declarator owner direct kind name value end ++ var_declarators owner direct kind ds
+var_declarators owner direct kind (declarator_in name value end ds) =
+    var_declarator owner direct kind name value end ++ var_declarators owner direct kind ds
 
 -- the `let` and `const` names that a statement declares for the list in which it stands
 abbrev pub own_of : ℕ → Bool → PlainStmt → List Entry
@@ -71,7 +84,8 @@ vars_of_start owner nothing = []
 vars_of_start owner (declared line kind ds) = var_declarators owner false kind ds
 vars_of_start owner (started e) = []
 
--- the `var` names in a statement, at any depth outside inner functions; `direct` says that it stands in the list of its function or of the program
+-- the `var` names in a statement, at any depth outside inner functions; `direct` says that it stands in the
+-- list of its function or of the program
 abbrev mutual
   pub vars_of : ℕ → Bool → PlainStmt → List Entry
   vars_of owner direct (on line form) = vars_of_form owner direct form
@@ -84,7 +98,8 @@ abbrev mutual
   vars_of_form owner direct (if_alone e s) = vars_of owner false s
   vars_of_form owner direct (if_else e s other) = vars_of owner false s ++ vars_of owner false other
   vars_of_form owner direct (while_of e s) = vars_of owner false s
-  vars_of_form owner direct (for_three start test next s) = vars_of_start owner start ++ vars_of owner false s
+  vars_of_form owner direct (for_three start test next s) =
+      vars_of_start owner start ++ vars_of owner false s
   vars_of_form owner direct (for_of kind name e s) = vars_of owner false s
   vars_of_form owner direct (break_of spot) = []
   vars_of_form owner direct (continue_of spot) = []

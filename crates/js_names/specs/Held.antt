@@ -27,4 +27,9 @@ Holds old new hs = (f : ℕ) → held_in new f ≡ fold joins (held_in old f) (h
 
 -- a place before makes the captures of this place
 abbrev pub IsMade : List ℕ → List Seen → Place → Type 0
-IsMade assigned before p = (at : ℕ) × (x : Seen) × (at < length before) × (x ≡ slice_index_or before at x) × (captures_in assigned (place_of x) ≡ captures_in assigned p)
+IsMade assigned before p =
+    (at : ℕ)
+    × (x : Seen)
+    × (at < length before)
+    × (x ≡ slice_index_or before at x)
+    × (captures_in assigned (place_of x) ≡ captures_in assigned p)

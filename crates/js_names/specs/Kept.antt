@@ -22,15 +22,21 @@ stands scopes around what name = record { what = what; name = name; scopes = sco
 
 -- at each place directly in such a scope, which declares its own names, and at each place under more scopes in it
 abbrev pub KeepsEnough : Type 0
-KeepsEnough = (own vars : List Entry) (owner : ℕ) (inside outside : List Scope) (around : Around) (what : What) (name : Name) → (inside ≡ [] → IsOwn own what name)
-    → see (stands (inside ++ inner_scope own vars owner ∷ outside) around what name) ≡ see (stands (inside ++ scope_with own vars false owner ∷ outside) around what name)
+KeepsEnough =
+    (own vars : List Entry) (owner : ℕ) (inside outside : List Scope)
+    (around : Around) (what : What) (name : Name)
+    → (inside ≡ [] → IsOwn own what name)
+    → see (stands (inside ++ inner_scope own vars owner ∷ outside) around what name)
+    ≡ see (stands (inside ++ scope_with own vars false owner ∷ outside) around what name)
 
 -- a place under such a scope is seen as if the scope kept all
 abbrev pub IsSeenAlike : Site → Type 0
 IsSeenAlike s =
-    (own vars : List Entry) (owner : ℕ) (inside outside : List Scope) → s.scopes ≡ inside ++ inner_scope own vars owner ∷ outside
+    (own vars : List Entry) (owner : ℕ) (inside outside : List Scope)
+    → s.scopes ≡ inside ++ inner_scope own vars owner ∷ outside
     → see s ≡ see (stands (inside ++ scope_with own vars false owner ∷ outside) s.around s.what s.name)
 
 -- so is each place of a program
 abbrev pub ProgramsKeepEnough : Type 0
-ProgramsKeepEnough = (items : List PlainItem) → ScopedItems items → AllByRecursion IsSeenAlike (program_sites items)
+ProgramsKeepEnough =
+    (items : List PlainItem) → ScopedItems items → AllByRecursion IsSeenAlike (program_sites items)

@@ -1,4 +1,5 @@
--- What the rules ask of a place: the declaration that its name stands for, and whether it clashes with an earlier one.
+-- What the rules ask of a place: the declaration that its name stands for, and whether it clashes with an
+-- earlier one.
 use Rattle.std.specs.Prelude.{ℕ, Bool, true, false, not, ◌&&◌, ◌||◌, nat_lt, List, [], ◌∷◌, ◌++◌, Option, Some, None, map, if◌then◌else◌}
 use Rattle.js_tree.specs.declared.tree.Name.{Name}
 use Rattle.js_tree.specs.Plain.{PlainItem}
@@ -50,7 +51,8 @@ earlier None o = o
 earlier (Some d) None = Some d
 earlier (Some d) (Some e) = if nat_lt e.place d.place then Some e else Some d
 
--- the declaration of a name in one scope, the first where there are more: a `var` belongs to the function, and not to a block in it
+-- the declaration of a name in one scope, the first where there are more: a `var` belongs to the function,
+-- and not to a block in it
 abbrev pub found_here : Scope → List ℕ → Option Declared
 found_here s q = if s.whole then earlier (s.own q) (s.vars q) else s.own q
 
@@ -84,10 +86,15 @@ repeated (s ∷ ss) q p = is_earlier (s.own q) p || is_earlier (s.vars q) p
 -- a scope from here to the whole function declares the name earlier, and not as a parameter
 unfoldable pub blocked : List Scope → List ℕ → ℕ → Bool
 blocked [] q p = false
-blocked (s ∷ ss) q p = test_of (s.own q) (λ d. nat_lt d.place p && not (is_parameter d.role)) || (not s.whole && blocked ss q p)
+blocked (s ∷ ss) q p =
+    test_of (s.own q) (λ d. nat_lt d.place p && not (is_parameter d.role))
+    || (not s.whole && blocked ss q p)
 
 abbrev pub clashes : What → List Scope → Name → Bool
-clashes (Declares role) scopes name = is_reserved name.text || (if is_var role then blocked scopes name.text name.spot.at else repeated scopes name.text name.spot.at)
+clashes (Declares role) scopes name =
+    is_reserved name.text
+    || (if is_var role then blocked scopes name.text name.spot.at
+    else repeated scopes name.text name.spot.at)
 clashes _ scopes name = false
 
 abbrev pub declared_at : What → List Scope → List ℕ → Option Declared

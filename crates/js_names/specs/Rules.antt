@@ -1,4 +1,5 @@
--- The rules of names: each is a test of a place. The answer is the least place at which one fails, and of the rules that fail there the first one.
+-- The rules of names: each is a test of a place. The answer is the least place at which one fails, and of the
+-- rules that fail there the first one.
 use Rattle.std.specs.Prelude.{ℕ, Bool, true, false, not, ◌&&◌, ◌||◌, nat_eq, nat_lt, List, Option, Some, None, is_some, fold, if◌then◌else◌}
 use Rattle.js_tree.specs.Plain.{PlainItem}
 use Rattle.js_names.specs.declared.limits.TheConstants.{MOST_SLOTS}
@@ -33,9 +34,12 @@ fails_twice p = p.clashes
 abbrev pub fails_const : Place → Bool
 fails_const p = is_assignment p.what && test_of p.declared (λ d. is_const d.role || is_function d.role)
 
--- a variable of an outer function or of the top level, no constant, whose value can't be copied as the inner function begins
+-- a variable of an outer function or of the top level, no constant, whose value can't be copied as the inner
+-- function begins
 abbrev pub fails_capture : List ℕ → Place → Bool
-fails_capture assigned p = is_mention p.what && test_of p.declared (λ d. is_outer assigned p d && not (can_copy assigned d p.around.owner))
+fails_capture assigned p =
+    is_mention p.what
+    && test_of p.declared (λ d. is_outer assigned p d && not (can_copy assigned d p.around.owner))
 
 -- `break` or `continue` outside a loop of its function
 abbrev pub fails_loop_word : Place → Bool
@@ -81,7 +85,9 @@ spot_of (Slots name) = name.spot.at
 spot_of Memory = 0
 
 abbrev pub comes_before : NameFault → NameFault → Bool
-comes_before f g = nat_lt (spot_of f) (spot_of g) || (nat_eq (spot_of f) (spot_of g) && nat_lt (number_of f) (number_of g))
+comes_before f g =
+    nat_lt (spot_of f) (spot_of g)
+    || (nat_eq (spot_of f) (spot_of g) && nat_lt (number_of f) (number_of g))
 
 abbrev pub sooner : Option NameFault → Option NameFault → Option NameFault
 sooner None g = g
@@ -94,4 +100,7 @@ soonest fault ps = fold (λ f p. sooner f (fault p)) None ps
 
 -- the fault of a program: none exactly where no place breaks a rule
 unfoldable pub name_fault : List PlainItem → Option NameFault
-name_fault items = let ps = places items in let assigned = assigned_in ps in soonest (fault_at assigned (slot_count assigned ps)) ps
+name_fault items =
+    let ps = places items in
+    let assigned = assigned_in ps in
+    soonest (fault_at assigned (slot_count assigned ps)) ps

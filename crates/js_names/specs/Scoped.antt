@@ -1,4 +1,5 @@
--- Trees in which each `let` and `const` stands in a list of statements or in the head of a `for`, as in all that tokens spell.
+-- Trees in which each `let` and `const` stands in a list of statements or in the head of a `for`, as in all
+-- that tokens spell.
 use Rattle.std.specs.Prelude.{◌≡◌, Bool, true, false, List, [], ◌∷◌}
 use Rattle.js_tree.specs.declared.tree.DeclareKind.TheVariants.{Const, Let}
 use Rattle.js_tree.specs.Plain as t
@@ -65,7 +66,8 @@ abbrev mutual
   ScopedStmtForm (t.if_alone e s) = ScopedExpr e × ScopedBody s
   ScopedStmtForm (t.if_else e s other) = ScopedExpr e × (ScopedBody s × ScopedBody other)
   ScopedStmtForm (t.while_of e s) = ScopedExpr e × ScopedBody s
-  ScopedStmtForm (t.for_three start test next s) = ScopedStart start × (ScopedPerhaps test × (ScopedPerhaps next × ScopedBody s))
+  ScopedStmtForm (t.for_three start test next s) =
+      ScopedStart start × (ScopedPerhaps test × (ScopedPerhaps next × ScopedBody s))
   ScopedStmtForm (t.for_of kind name e s) = ScopedExpr e × ScopedBody s
   ScopedStmtForm (t.return_of spot e) = ScopedExpr e
   ScopedStmtForm _ = Unit {0}

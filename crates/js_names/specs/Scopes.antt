@@ -11,7 +11,8 @@ use Rattle.js_names.specs.declared.place.Role.TheVariants.{Parameter, Const, Let
 use Rattle.js_names.specs.declared.place.Declared.{Declared}
 use Rattle.js_names.specs.Entries.{Entry, top, entry, own_of_all, own_of_start, vars_of_start, vars_of, vars_of_all, own_of_item, vars_of_item}
 
--- a scope: what its own names are, what the `var`s in it declare, whether it is a whole function's or the program's, and the function that it belongs to
+-- a scope: what its own names are, what the `var`s in it declare, whether it is a whole function's or the
+-- program's, and the function that it belongs to
 pub record Scope : Type 0 where
   pub own : List ℕ → Option Declared
   pub vars : List ℕ → Option Declared
@@ -40,13 +41,19 @@ one_var [] = None
 one_var (d ∷ ds) = merge (Some d) (one_var ds)
 
 abbrev pub scope_with : List Entry → List Entry → Bool → ℕ → Scope
-scope_with own vars whole owner = record { own = λ q. first (named q own); vars = λ q. one_var (named q vars); whole = whole; owner = owner }
+scope_with own vars whole owner = record {
+  own = λ q. first (named q own);
+  vars = λ q. one_var (named q vars);
+  whole = whole;
+  owner = owner;
+}
 
 abbrev pub kept : Bool → Option Declared → Option Declared
 kept is_own None = None
 kept is_own (Some d) = if is_own then Some d else None
 
--- the scope of a block or of a `for`: a `var` in it clashes there with a name of its own alone, so it keeps no other
+-- the scope of a block or of a `for`: a `var` in it clashes there with a name of its own alone, so it keeps
+-- no other
 abbrev pub inner_scope : List Entry → List Entry → ℕ → Scope
 inner_scope own vars owner = record {
   own = λ q. first (named q own);
@@ -73,7 +80,8 @@ block_scope owner ss = inner_scope (own_of_all owner false ss) (vars_of_all owne
 
 -- the scope of a `for` with three parts
 unfoldable pub for_scope : ℕ → PlainStart → PlainStmt → Scope
-for_scope owner start s = inner_scope (own_of_start owner start) (vars_of_start owner start ++ vars_of owner false s) owner
+for_scope owner start s =
+    inner_scope (own_of_start owner start) (vars_of_start owner start ++ vars_of owner false s) owner
 
 abbrev pub each_role : DeclareKind → Role
 each_role const_word = Const
@@ -82,17 +90,21 @@ each_role var_word = Let
 
 -- the scope of the list of a `for`: it has the name, which has no value yet
 unfoldable pub list_scope : ℕ → DeclareKind → Name → Scope
-list_scope owner kind name = scope_with (entry name (each_role kind) top owner false 0 ∷ []) [] false owner
+list_scope owner kind name =
+    scope_with (entry name (each_role kind) top owner false 0 ∷ []) [] false owner
 
 -- the scope of the body of a `for` over a list
 unfoldable pub each_scope : ℕ → DeclareKind → Name → PlainStmt → Scope
-each_scope owner kind name s = inner_scope (entry name (each_role kind) name.spot.at owner false 0 ∷ []) (vars_of owner false s) owner
+each_scope owner kind name s =
+    inner_scope (entry name (each_role kind) name.spot.at owner false 0 ∷ [])
+    (vars_of owner false s) owner
 
 -- the scope of a function, with its parameters
 unfoldable pub function_scope : ℕ → List Name → PlainStmts → Scope
 function_scope owner names ss =
     let vars = vars_of_all owner true ss in
-    scope_with (parameters owner (λ q. one_var (named q vars)) names ++ own_of_all owner true ss) vars true owner
+    scope_with (parameters owner (λ q. one_var (named q vars)) names ++ own_of_all owner true ss)
+    vars true owner
 
 -- the scope of the program
 unfoldable pub program_scope : List PlainItem → Scope

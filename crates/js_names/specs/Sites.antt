@@ -16,7 +16,8 @@ use Rattle.js_names.specs.Scopes.{Scope, block_scope, for_scope, list_scope, eac
 use Rattle.js_names.specs.Forms.{is_undefined, is_reserved, object_of, called_builtin, value_builtin}
 use Rattle.js_names.specs.Spots.{program_spot}
 
--- a place: what stands there, its name, the scopes around it from the innermost, the function around it, and whether a loop of that function is
+-- a place: what stands there, its name, the scopes around it from the innermost, the function around it, and
+-- whether a loop of that function is
 pub record Site : Type 0 where
   pub what : What
   pub name : Name
@@ -24,24 +25,29 @@ pub record Site : Type 0 where
   pub around : Around
 
 abbrev pub site : List Scope → Around → What → Name → List Site
-site scopes around what name = record { what = what; name = name; scopes = scopes; around = around } ∷ []
+site scopes around what name =
+    record { what = what; name = name; scopes = scopes; around = around } ∷ []
 
 abbrev pub word_at : List ℕ → Spot → Name
 word_at text spot = record { text = text; spot = spot }
 
 -- a name that is read: `bp` or `Math` alone is no form, and `undefined` is a value
 abbrev pub read_site : List Scope → Around → Name → List Site
-read_site scopes a name = if is_object name.text then site scopes a What.Misuses name else (if is_undefined name.text then [] else site scopes a What.Reads name)
+read_site scopes a name =
+    if is_object name.text then site scopes a What.Misuses name
+    else (if is_undefined name.text then [] else site scopes a What.Reads name)
 
 -- a name that is assigned or updated
 abbrev pub assign_site : List Scope → Around → Name → List Site
-assign_site scopes a name = if is_reserved name.text then site scopes a What.Misuses name else site scopes a What.Assigns name
+assign_site scopes a name =
+    if is_reserved name.text then site scopes a What.Misuses name else site scopes a What.Assigns name
 
 -- a member: no form of `bp` or `Math` is `Unknown` by both names
 abbrev pub member_sites : List Scope → Around → Option Name → List ℕ → Bool → List Site → List Site
 member_sites scopes a None word is_value sites = sites
 member_sites scopes a (Some object) word is_value sites =
-    if is_value then [] else site scopes a What.Misuses (word_at (object.text ++ codes "." ++ word) object.spot)
+    if is_value then []
+    else site scopes a What.Misuses (word_at (object.text ++ codes "." ++ word) object.spot)
 
 abbrev pub in_function : ℕ → Around
 in_function owner = record { owner = owner; looped = false }
@@ -75,23 +81,31 @@ unfoldable mutual
   form_sites scopes a (use_of name) = read_site scopes a name
   form_sites scopes a (list es) = exprs_sites scopes a es
   form_sites scopes a (fields fs) = fields_sites scopes a fs
-  form_sites scopes a (member e word) = member_sites scopes a (object_of e) word (is_some (value_builtin e word)) (expr_sites scopes a e)
+  form_sites scopes a (member e word) =
+      member_sites scopes a (object_of e) word (is_some (value_builtin e word)) (expr_sites scopes a e)
   form_sites scopes a (index e i) = expr_sites scopes a e ++ expr_sites scopes a i
-  form_sites scopes a (call e es) = (if is_some (called_builtin e) then [] else expr_sites scopes a e) ++ exprs_sites scopes a es
+  form_sites scopes a (call e es) =
+      (if is_some (called_builtin e) then [] else expr_sites scopes a e) ++ exprs_sites scopes a es
   form_sites scopes a (unary s e) = expr_sites scopes a e
   form_sites scopes a (update s f name) = assign_site scopes a name
   form_sites scopes a (binary op l r) = expr_sites scopes a l ++ expr_sites scopes a r
-  form_sites scopes a (conditional l m r) = expr_sites scopes a l ++ (expr_sites scopes a m ++ expr_sites scopes a r)
+  form_sites scopes a (conditional l m r) =
+      expr_sites scopes a l ++ (expr_sites scopes a m ++ expr_sites scopes a r)
   form_sites scopes a (assign op name e) = assign_site scopes a name ++ expr_sites scopes a e
   form_sites scopes a (arrow_value spot names e) =
       let inner = function_scope spot.at names no_stmts ∷ scopes in
-      begin_site inner spot.at spot ++ (parameter_sites inner (in_function spot.at) names ++ expr_sites inner (in_function spot.at) e)
+      begin_site inner spot.at spot
+      ++ (parameter_sites inner (in_function spot.at) names ++ expr_sites inner (in_function spot.at) e)
   form_sites scopes a (arrow_block spot names ss) =
       let inner = function_scope spot.at names ss ∷ scopes in
-      begin_site inner spot.at spot ++ (parameter_sites inner (in_function spot.at) names ++ stmts_sites inner (in_function spot.at) ss)
+      begin_site inner spot.at spot
+      ++ (parameter_sites inner (in_function spot.at) names
+      ++ stmts_sites inner (in_function spot.at) ss)
   form_sites scopes a (function spot names ss) =
       let inner = function_scope spot.at names ss ∷ scopes in
-      begin_site inner spot.at spot ++ (parameter_sites inner (in_function spot.at) names ++ stmts_sites inner (in_function spot.at) ss)
+      begin_site inner spot.at spot
+      ++ (parameter_sites inner (in_function spot.at) names
+      ++ stmts_sites inner (in_function spot.at) ss)
 
   pub exprs_sites : List Scope → Around → PlainExprs → List Site
   exprs_sites scopes a no_exprs = []
@@ -108,7 +122,8 @@ unfoldable mutual
   pub declarators_sites : List Scope → Around → DeclareKind → PlainDeclarators → List Site
   declarators_sites scopes a kind no_declarators = []
   declarators_sites scopes a kind (declarator_in name value end ds) =
-      site scopes a (What.Declares (declared_role kind)) name ++ (perhaps_sites scopes a value ++ declarators_sites scopes a kind ds)
+      site scopes a (What.Declares (declared_role kind)) name
+      ++ (perhaps_sites scopes a value ++ declarators_sites scopes a kind ds)
 
   pub start_sites : List Scope → Around → PlainStart → List Site
   start_sites scopes a nothing = []
@@ -124,19 +139,25 @@ unfoldable mutual
   stmt_form_sites scopes a (declaration kind ds) = declarators_sites scopes a kind ds
   stmt_form_sites scopes a (expression e) = expr_sites scopes a e
   stmt_form_sites scopes a (if_alone e s) = expr_sites scopes a e ++ stmt_sites scopes a s
-  stmt_form_sites scopes a (if_else e s other) = expr_sites scopes a e ++ (stmt_sites scopes a s ++ stmt_sites scopes a other)
+  stmt_form_sites scopes a (if_else e s other) =
+      expr_sites scopes a e ++ (stmt_sites scopes a s ++ stmt_sites scopes a other)
   stmt_form_sites scopes a (while_of e s) = expr_sites scopes a e ++ stmt_sites scopes (in_loop a) s
   stmt_form_sites scopes a (for_three start test next s) =
       let inner = for_scope a.owner start s ∷ scopes in
-      start_sites inner a start ++ (perhaps_sites inner a test ++ (perhaps_sites inner a next ++ stmt_sites inner (in_loop a) s))
+      start_sites inner a start
+      ++ (perhaps_sites inner a test ++ (perhaps_sites inner a next ++ stmt_sites inner (in_loop a) s))
   stmt_form_sites scopes a (for_of kind name e s) =
       let listed = list_scope a.owner kind name ∷ scopes in
       let inner = each_scope a.owner kind name s ∷ scopes in
-      site listed a (What.Declares (each_role kind)) name ++ (expr_sites listed a e ++ stmt_sites inner (in_loop a) s)
+      site listed a (What.Declares (each_role kind)) name
+      ++ (expr_sites listed a e ++ stmt_sites inner (in_loop a) s)
   stmt_form_sites scopes a (break_of spot) = site scopes a What.LoopWord (word_at (codes "break") spot)
-  stmt_form_sites scopes a (continue_of spot) = site scopes a What.LoopWord (word_at (codes "continue") spot)
-  stmt_form_sites scopes a (return_nothing spot) = site scopes a What.Returns (word_at (codes "return") spot)
-  stmt_form_sites scopes a (return_of spot e) = site scopes a What.Returns (word_at (codes "return") spot) ++ expr_sites scopes a e
+  stmt_form_sites scopes a (continue_of spot) =
+      site scopes a What.LoopWord (word_at (codes "continue") spot)
+  stmt_form_sites scopes a (return_nothing spot) =
+      site scopes a What.Returns (word_at (codes "return") spot)
+  stmt_form_sites scopes a (return_of spot e) =
+      site scopes a What.Returns (word_at (codes "return") spot) ++ expr_sites scopes a e
 
   pub stmts_sites : List Scope → Around → PlainStmts → List Site
   stmts_sites scopes a no_stmts = []
@@ -148,9 +169,12 @@ item_sites scopes (statement s) = stmt_sites scopes (in_function top) s
 item_sites scopes (function_of spot name names ss) =
     let inner = function_scope spot.at names ss ∷ scopes in
     site scopes (in_function top) (What.Declares Function) name
-    ++ (begin_site inner spot.at spot ++ (parameter_sites inner (in_function spot.at) names ++ stmts_sites inner (in_function spot.at) ss))
+    ++ (begin_site inner spot.at spot
+    ++ (parameter_sites inner (in_function spot.at) names
+    ++ stmts_sites inner (in_function spot.at) ss))
 
 -- the places of a program
 unfoldable pub program_sites : List PlainItem → List Site
 program_sites items =
-    let scopes = program_scope items ∷ [] in begin_site scopes top (program_spot items) ++ flat_map (item_sites scopes) items
+    let scopes = program_scope items ∷ [] in
+    begin_site scopes top (program_spot items) ++ flat_map (item_sites scopes) items

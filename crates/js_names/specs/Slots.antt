@@ -43,11 +43,13 @@ assigned_in ps = first_uses (filter_map assigned_at ps)
 
 -- a function declaration, or a variable declared directly in the program's list that nothing assigns
 abbrev pub is_constant : List ℕ → Declared → Bool
-is_constant assigned d = is_function d.role || (nat_eq d.owner top && (d.direct && not (is_among d.place assigned)))
+is_constant assigned d =
+    is_function d.role || (nat_eq d.owner top && (d.direct && not (is_among d.place assigned)))
 
 -- its value can be copied where an inner function begins
 abbrev pub can_copy : List ℕ → Declared → ℕ → Bool
-can_copy assigned d begins = (not (is_var d.role) || d.direct) && (not (is_among d.place assigned) && nat_le d.end begins)
+can_copy assigned d begins =
+    (not (is_var d.role) || d.direct) && (not (is_among d.place assigned) && nat_le d.end begins)
 
 -- it belongs to an outer function or to the top level, and is no constant
 abbrev pub is_outer : List ℕ → Place → Declared → Bool
@@ -86,7 +88,8 @@ copies assigned p d = is_mention p.what && (is_outer assigned p d && can_copy as
 -- a variable is copied into each function between its own and the one that mentions it
 abbrev pub captures_of : List ℕ → Place → Option Declared → List Holding
 captures_of assigned p None = []
-captures_of assigned p (Some d) = if copies assigned p d then holds_all d.place (inside d.owner p.functions) else []
+captures_of assigned p (Some d) =
+    if copies assigned p d then holds_all d.place (inside d.owner p.functions) else []
 
 -- the variable that a place declares: a `var` may name a parameter, and then it declares none
 abbrev pub variable_at : What → Option Declared → Option Declared
@@ -108,13 +111,16 @@ variable_in assigned p = variable_of assigned (variable_at p.what p.declared)
 
 -- what the functions hold: their parameters, then their captures, then their other variables that are no constants
 unfoldable pub holdings : List ℕ → List Place → List Holding
-holdings assigned ps = flat_map parameter_in ps ++ (flat_map (captures_in assigned) ps ++ flat_map (variable_in assigned) ps)
+holdings assigned ps =
+    flat_map parameter_in ps
+    ++ (flat_map (captures_in assigned) ps ++ flat_map (variable_in assigned) ps)
 
 -- the variable of each slot of a function
 unfoldable pub slots_of : List ℕ → ℕ → List Place → List ℕ
 slots_of assigned f ps = first_uses (held_by f (holdings assigned ps))
 
--- the variables that a function copies from around it, for itself or for functions in it, in the order of their first uses
+-- the variables that a function copies from around it, for itself or for functions in it, in the order of
+-- their first uses
 unfoldable pub captures : List ℕ → ℕ → List Place → List ℕ
 captures assigned f ps = first_uses (held_by f (flat_map (captures_in assigned) ps))
 

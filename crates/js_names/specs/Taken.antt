@@ -21,7 +21,8 @@ Names = IndexMap (String Global) Declared (BuildHasherDefault FoldHasher)
 
 -- a map took in declarations: of each name it keeps the first
 abbrev pub TakesOwn : Names → Names → List Entry → Type 0
-TakesOwn old new entries = (q : List ℕ) → get_by_text new q ≡ or_else (get_by_text old q) (first (named q entries))
+TakesOwn old new entries =
+    (q : List ℕ) → get_by_text new q ≡ or_else (get_by_text old q) (first (named q entries))
 
 -- the `var`s that a scope keeps: all, or those of its own names
 abbrev pub keeps : Option Names → List ℕ → Bool
@@ -30,14 +31,18 @@ keeps (Some own) q = is_some (get_by_text own q)
 
 -- a map took in the `var`s that are kept
 abbrev pub TakesVars : (List ℕ → Bool) → Names → Names → List Entry → Type 0
-TakesVars keep old new entries = (q : List ℕ) → get_by_text new q ≡ merge (get_by_text old q) (kept (keep q) (one_var (named q entries)))
+TakesVars keep old new entries =
+    (q : List ℕ)
+    → get_by_text new q ≡ merge (get_by_text old q) (kept (keep q) (one_var (named q entries)))
 
 -- what one declarator or statement of a tree declares
 abbrev pub own_of_declarator : ℕ → Bool → DeclareKind → Declarator → List Entry
-own_of_declarator owner direct kind d = let p = plain_declarator d in own_declarator owner direct kind p.name p.value p.end
+own_of_declarator owner direct kind d =
+    let p = plain_declarator d in own_declarator owner direct kind p.name p.value p.end
 
 abbrev pub vars_of_declarator : ℕ → Bool → DeclareKind → Declarator → List Entry
-vars_of_declarator owner direct kind d = let p = plain_declarator d in var_declarator owner direct kind p.name p.value p.end
+vars_of_declarator owner direct kind d =
+    let p = plain_declarator d in var_declarator owner direct kind p.name p.value p.end
 
 abbrev pub own_of_stmt : ℕ → Bool → Stmt → List Entry
 own_of_stmt owner direct s = own_of owner direct (plain_stmt s)

@@ -8,7 +8,12 @@ use Rattle.js_names.specs.Scopes.{Scope}
 use Rattle.js_names.specs.Places.{Place}
 
 abbrev pub scope_of : Held → Scope
-scope_of s = record { own = λ q. get_by_text s.own q; vars = λ q. get_by_text s.vars q; whole = s.whole; owner = s.owner }
+scope_of s = record {
+  own = λ q. get_by_text s.own q;
+  vars = λ q. get_by_text s.vars q;
+  whole = s.whole;
+  owner = s.owner;
+}
 
 -- a stack, whose last scope is the innermost
 unfoldable pub scopes_onto : List Scope → List Held → List Scope
@@ -19,4 +24,11 @@ abbrev pub scopes_of : List Held → List Scope
 scopes_of ss = scopes_onto [] ss
 
 abbrev pub place_of : Seen → Place
-place_of p = record { what = p.what; name = p.name; around = p.around; declared = p.declared; functions = (arc_value p.functions).items; clashes = p.clashes }
+place_of p = record {
+  what = p.what;
+  name = p.name;
+  around = p.around;
+  declared = p.declared;
+  functions = (arc_value p.functions).items;
+  clashes = p.clashes;
+}

@@ -16,23 +16,33 @@ scopes_in w = scopes_of w.scopes.items
 
 -- the walk over a form: the scopes are as before, and the places of the form stand at the end
 abbrev pub Adds : Walk → Walk → List Site → Type 0
-Adds old new sites = (new.scopes.items ≡ old.scopes.items) × (map place_of new.places.items ≡ map place_of old.places.items ++ map see sites)
+Adds old new sites =
+    (new.scopes.items ≡ old.scopes.items)
+    × (map place_of new.places.items ≡ map place_of old.places.items ++ map see sites)
 
 -- one more scope is the innermost
 abbrev pub Entered : Walk → Walk → Held → Type 0
-Entered old new scope = (new.scopes.items ≡ old.scopes.items ++ scope ∷ []) × (new.places.items ≡ old.places.items)
+Entered old new scope =
+    (new.scopes.items ≡ old.scopes.items ++ scope ∷ []) × (new.places.items ≡ old.places.items)
 
 -- a scope that stands for this one is the innermost
 abbrev pub Enters : Walk → Walk → Scope → Type 0
-Enters old new scope = (scopes_in new ≡ scope ∷ scopes_in old) × (new.places.items ≡ old.places.items) × (take (length new.scopes.items - 1) new.scopes.items ≡ old.scopes.items)
+Enters old new scope =
+    (scopes_in new ≡ scope ∷ scopes_in old)
+    × (new.places.items ≡ old.places.items)
+    × (take (length new.scopes.items - 1) new.scopes.items ≡ old.scopes.items)
 
 -- and under it stands the name of a `for` over a list
 abbrev pub EntersEach : Walk → Walk → Around → DeclareKind → Name → Scope → Type 0
 EntersEach old new a kind name scope =
     (scopes_in new ≡ scope ∷ scopes_in old)
-    × (map place_of new.places.items ≡ map place_of old.places.items ++ map see (site (scope ∷ scopes_in old) a (What.Declares (each_role kind)) name))
+    × (map place_of new.places.items
+    ≡ map place_of old.places.items
+    ++ map see (site (scope ∷ scopes_in old) a (What.Declares (each_role kind)) name))
     × (take (length new.scopes.items - 1) new.scopes.items ≡ old.scopes.items)
 
 -- the innermost scope is gone
 abbrev pub Left : Walk → Walk → Type 0
-Left old new = (new.scopes.items ≡ take (length old.scopes.items - 1) old.scopes.items) × (new.places.items ≡ old.places.items)
+Left old new =
+    (new.scopes.items ≡ take (length old.scopes.items - 1) old.scopes.items)
+    × (new.places.items ≡ old.places.items)

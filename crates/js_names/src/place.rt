@@ -28,7 +28,8 @@ pub struct Declared {
     pub end: u32,
     /// The place of the function that it belongs to.
     pub owner: u32,
-    /// It stands directly in the list of statements of its function or of the program, and, for a `var`, nowhere else.
+    /// It stands directly in the list of statements of its function or of the program, and, for a `var`,
+    /// nowhere else.
     pub direct: bool,
     /// For a `var`, the place after the last of its declarators with a value, or `TOP` where one is nested; else 0.
     pub given: u32,
