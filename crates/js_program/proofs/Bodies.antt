@@ -1,10 +1,10 @@
 -- What a sound program keeps of each body.
-use Rattle.std.proofs.Common.{◌≡◌, ℕ, ◌+◌, ◌<◌, ◌≤◌, List, [], ◌∷◌, refl, length, arith, Option, Some, None, true}
-use Rattle.std.proofs.lemmas.Bool.{and_parts, leb-true, eqb-true, false≢true}
+use Rattle.std.proofs.Common.{◌≡◌, ℕ, ◌+◌, ◌<◌, ◌≤◌, length, Some, true}
+use Rattle.std.proofs.lemmas.Bool.{and_parts, leb-true}
 use Rattle.std.specs.Prelude.{◌&&◌, nat_le, slice_get}
 use Rattle.std.specs.List.{list_all}
-use Rattle.js_program.specs.PlainProgram.{PlainBody, of_function, PlainProgram, content_parts}
-use Rattle.js_program.specs.Sound.{all_below, node_fits, NodeFits, body_fits, captures_nothing, constant_fits, IsSound}
+use Rattle.js_program.specs.PlainProgram.{PlainBody, PlainProgram, content_parts}
+use Rattle.js_program.specs.Sound.{all_below, node_fits, NodeFits, body_fits, IsSound}
 use Rattle.js_program.proofs.Order.{all_at}
 use Rattle.js_program.proofs.Nodes.{node_below}
 
@@ -34,15 +34,3 @@ function_body p code b h e = every_depth p 0 b (λ depth. all_at (body_fits p 0 
 -- what a body begins with is there
 pub content_below : (p : PlainProgram) (constants : ℕ) (b : PlainBody) (i k : ℕ) → BodyFits p constants b → slice_get (content_parts b.content) i ≡ Some k → k < length p.nodes
 content_below p constants b i k h e = node_below p b.slots constants k (h.content i k e)
-
-no_elements : (xs : List ℕ) → length xs ≡ 0 → xs ≡ []
-no_elements [] e = refl
-no_elements (x ∷ xs) e = absurd (omega arith)
-
-no_captures : (o : Option PlainBody) → captures_nothing o ≡ true → (b : PlainBody) × (o ≡ Some b) × (b.captures ≡ [])
-no_captures None h = absurd (false≢true h)
-no_captures (Some b) h = (b, refl, no_elements b.captures (eqb-true (length b.captures) 0 h))
-
--- a declared function is there, and captures nothing
-pub declared_function : (p : PlainProgram) (k code : ℕ) → IsSound p → slice_get p.constants k ≡ Some (of_function code) → (b : PlainBody) × (slice_get p.functions code ≡ Some b) × (b.captures ≡ [])
-declared_function p k code h e = no_captures (slice_get p.functions code) (all_at (constant_fits p) p.constants k (of_function code) e h.starts)

@@ -8,7 +8,8 @@ use Rattle.js_program.specs.declared.builtin.Modes.{Modes}
 use Rattle.js_program.specs.declared.builtin.Mode.{Mode}
 use Rattle.js_program.specs.declared.builtin.Mode.TheVariants.{Top, Thread, Handler, Predicate}
 
--- a row: the word after the dot, the object before it, whether the form is called, and the modes in which it has its effect
+-- a row: the word after the dot, the object before it, whether the form is called, and the modes in which it
+-- has its effect
 pub record Row : Type 0 where
   pub builtin : Builtin
   pub object : List ℕ
@@ -17,7 +18,13 @@ pub record Row : Type 0 where
   pub modes : List Mode
 
 abbrev pub row : Builtin → List ℕ → List ℕ → Bool → List Mode → Row
-row builtin object word called modes = record { builtin = builtin; object = object; word = word; called = called; modes = modes }
+row builtin object word called modes = record {
+  builtin = builtin;
+  object = object;
+  word = word;
+  called = called;
+  modes = modes;
+}
 
 abbrev pub everywhere : List Mode
 everywhere = Top ∷ Thread ∷ Handler ∷ Predicate ∷ []

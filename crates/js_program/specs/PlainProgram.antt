@@ -1,4 +1,5 @@
--- Resolved programs as plain data. A form has the numbers of its parts, in the order in which they begin in the text.
+-- Resolved programs as plain data. A form has the numbers of its parts, in the order in which they begin in
+-- the text.
 use Rattle.std.specs.Prelude.{ℕ, ℤ, Bool, List, [], ◌∷◌, ◌++◌, Option, option_to_list}
 use Rattle.std.specs.List.{filter_map}
 use Rattle.js_tree.specs.declared.tree.Sign.{Sign}
@@ -115,7 +116,8 @@ parts_of (expression e) = e ∷ []
 parts_of (if_alone test body) = test ∷ body ∷ []
 parts_of (if_else test body other) = test ∷ body ∷ other ∷ []
 parts_of (while_of test body) = test ∷ body ∷ []
-parts_of (for_three slots first test next body) = option_to_list first ++ option_to_list test ++ option_to_list next ++ body ∷ []
+parts_of (for_three slots first test next body) =
+    option_to_list first ++ option_to_list test ++ option_to_list next ++ body ∷ []
 parts_of (for_of slot items body) = items ∷ body ∷ []
 parts_of (return_of e) = e ∷ []
 parts_of _ = []

@@ -1,4 +1,6 @@
--- Every number of a program is in range: the parts of a node are smaller than the node, and slots, captures, constants and functions are there. The top level alone declares constants, and a declared function captures nothing.
+-- Every number of a program is in range: the parts of a node are smaller than the node, and slots, captures,
+-- constants and functions are there. The top level alone declares constants, and a declared function captures
+-- nothing.
 use Rattle.std.specs.Prelude.{ℕ, ◌+◌, ◌<◌, suc, zero, Bool, true, false, ◌&&◌, nat_eq, nat_lt, nat_le, List, [], ◌∷◌, Option, Some, None, IsTrue, length, map, slice_get}
 use Rattle.std.specs.List.{list_all}
 use Rattle.js_program.specs.declared.node.Variable.{Variable}
@@ -54,27 +56,35 @@ function_fits p slots code = captures_fit slots (slice_get p.functions code)
 abbrev pub form_fits : PlainProgram → ℕ → PlainNodeForm → Bool
 form_fits p slots form =
     list_all (variable_fits slots (length p.constants)) (variables_read form)
-    && (all_below slots (slots_named form) && (list_all (function_fits p slots) (function_in form) && keys_fit form))
+    && (all_below slots (slots_named form)
+    && (list_all (function_fits p slots) (function_in form) && keys_fit form))
 
--- a node is there, what it names is there, it declares slots and constants below this number, and its parts pass a test
+-- a node is there, what it names is there, it declares slots and constants below this number, and its parts
+-- pass a test
 abbrev pub found_fits : PlainProgram → ℕ → ℕ → (ℕ → Bool) → Option PlainNode → Bool
 found_fits p slots constants parts_pass None = false
 found_fits p slots constants parts_pass (Some x) =
-    form_fits p slots x.form && (list_all (variable_fits slots constants) (variables_declared x.form) && list_all parts_pass (parts_of x.form))
+    form_fits p slots x.form
+    && (list_all (variable_fits slots constants) (variables_declared x.form)
+    && list_all parts_pass (parts_of x.form))
 
--- a node fits a body with this many slots that declares constants below this number, and so do its parts, down to this depth
+-- a node fits a body with this many slots that declares constants below this number, and so do its parts,
+-- down to this depth
 unfoldable pub node_fits : PlainProgram → ℕ → ℕ → ℕ → ℕ → Bool
 node_fits p slots constants zero n = true
-node_fits p slots constants (suc depth) n = found_fits p slots constants (node_fits p slots constants depth) (slice_get p.nodes n)
+node_fits p slots constants (suc depth) n =
+    found_fits p slots constants (node_fits p slots constants depth) (slice_get p.nodes n)
 
 -- a node fits, however deep
 abbrev pub NodeFits : PlainProgram → ℕ → ℕ → ℕ → Type 0
 NodeFits p slots constants n = (depth : ℕ) → IsTrue (node_fits p slots constants depth n)
 
--- the slots of a body hold its parameters, what it captures, and its `var`s; it declares constants below this number
+-- the slots of a body hold its parameters, what it captures, and its `var`s; it declares constants below this
+-- number
 abbrev pub body_fits : PlainProgram → ℕ → ℕ → PlainBody → Bool
 body_fits p constants depth b =
-    (nat_le (b.parameters + length b.captures) b.slots && all_below b.slots b.vars) && list_all (node_fits p b.slots constants depth) (content_parts b.content)
+    (nat_le (b.parameters + length b.captures) b.slots && all_below b.slots b.vars)
+    && list_all (node_fits p b.slots constants depth) (content_parts b.content)
 
 abbrev pub captures_nothing : Option PlainBody → Bool
 captures_nothing None = false

@@ -73,5 +73,11 @@ plain_constant (OfFunction code) = p.of_function code
 plain_constant Undeclared = p.undeclared
 plain_constant Unset = p.unset
 
-abbrev pub program_with : List PlainNode → List PlainBody → List PlainConstant → PlainBody → PlainProgram
-program_with nodes functions constants top = record { nodes = nodes; functions = functions; constants = constants; top = top }
+abbrev pub program_with :
+    List PlainNode → List PlainBody → List PlainConstant → PlainBody → PlainProgram
+program_with nodes functions constants top = record {
+  nodes = nodes;
+  functions = functions;
+  constants = constants;
+  top = top;
+}

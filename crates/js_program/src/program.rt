@@ -25,9 +25,13 @@ impl Model for Program {
 
     ghost Value = { PlainProgram };
 
-    ghost view = { λ p. program_with (map plain_node p.nodes.items) (map plain_body p.functions.items) (map plain_constant p.constants.items) (plain_body p.top) };
+    ghost view = { λ p. program_with (map plain_node p.nodes.items)
+        (map plain_body p.functions.items) (map plain_constant p.constants.items)
+        (plain_body p.top) };
 
-    ghost invariant = { λ p. IsSound (program_with (map plain_node p.nodes.items) (map plain_body p.functions.items) (map plain_constant p.constants.items) (plain_body p.top)) };
+    ghost invariant = { λ p. IsSound (program_with (map plain_node p.nodes.items)
+        (map plain_body p.functions.items) (map plain_constant p.constants.items)
+        (plain_body p.top)) };
 }
 
 impl Program {
