@@ -208,31 +208,11 @@ named-declared : (assigned constants slots : List ℕ) (o : Option Declared) (v 
 named-declared assigned constants slots None v e = cc
 named-declared assigned constants slots (Some d) v e = (d, refl, cc)
 
--- what the name at a place of the text stands for is there
-pub name_fits : (ps : List Place) (q : Place) (d : Declared) → ArePlaced ps → HasPlace q ps → q.declared ≡ Some d
-    → variable_fits (length (slots_of (assigned_in ps) q.around.owner ps)) (length (constants_of (assigned_in ps) ps)) (named_at ps q.name.spot.at) ≡ true
+-- the name at a place of the text stands for what the place declares
+named_as : (ps : List Place) (q : Place) (d : Declared) → ArePlaced ps → HasPlace q ps → q.declared ≡ Some d
+    → named_at ps q.name.spot.at ≡ variable_with (assigned_in ps) (constants_of (assigned_in ps) ps) (slots_of (assigned_in ps) q.around.owner ps) d
 unfolding named_at
-name_fits ps q d h has e =
-    let assigned = assigned_in ps in
-    let constants = constants_of assigned ps in
-    let slots = λ (f : ℕ). slots_of assigned f ps in
-    let v = variable_with assigned constants (slots q.around.owner) d in
-    let known = known-found name_key (named ps) q.name.spot.at ps q v has refl (ap (named_by assigned constants (slots q.around.owner)) e) in
-    let r : Place = known.0 in
-    let w : Variable = known.1 in
-    let m = named-declared assigned constants (slots r.around.owner) r.declared w known.4 in
-    let c : Declared = m.0 in
-    let owner : r.around.owner ≡ q.around.owner = ap (λ (z : Place). z.around.owner) (h.apart r q known.2 has (ap is_some m.1) (ap is_some e) known.3) in
-    let fits : variable_fits (length (slots r.around.owner)) (length constants) (variable_with assigned constants (slots r.around.owner) c) ≡ true =
-    with_fits assigned constants (slots r.around.owner) c ((h.known r known.2).found c m.1).0.constant (name_slot ps r c known.2 (h.known r known.2) (h.capture r known.2) m.1)
-    in
-    ap (λ o. variable_fits (length (slots q.around.owner)) (length constants) (unwrap_or o (Slot 0))) known.5
-    ∙ subst (λ f. variable_fits (length (slots f)) (length constants) w ≡ true) owner (subst (λ z. variable_fits (length (slots r.around.owner)) (length constants) z ≡ true) m.2 fits)
-
--- and it is one in a slot, unless it is a constant
-pub name_in_slot : (ps : List Place) (q : Place) (d : Declared) → ArePlaced ps → HasPlace q ps → q.declared ≡ Some d → is_constant (assigned_in ps) d ≡ false → variable_fits (length (slots_of (assigned_in ps) q.around.owner ps)) 0 (named_at ps q.name.spot.at) ≡ true
-unfolding named_at
-name_in_slot ps q d h has e constant =
+named_as ps q d h has e =
     let assigned = assigned_in ps in
     let constants = constants_of assigned ps in
     let slots = λ (f : ℕ). slots_of assigned f ps in
@@ -244,9 +224,24 @@ name_in_slot ps q d h has e constant =
     let same : r ≡ q = h.apart r q known.2 has (ap is_some m.1) (ap is_some e) known.3 in
     let there : Some m.0 ≡ Some d = sym m.1 ∙ (ap (λ (z : Place). z.declared) same ∙ e) in
     let is : m.0 ≡ d = cc in
-    let fits : variable_fits (length (slots q.around.owner)) 0 v ≡ true = slot_fits assigned constants (slots q.around.owner) d constant (name_slot ps q d has (h.known q has) (h.capture q has) e constant) in
-    let here : v ≡ w = ap (λ (z : Place). variable_with assigned constants (slots z.around.owner) d) (sym same) ∙ (ap (variable_with assigned constants (slots r.around.owner)) (sym is) ∙ m.2) in
-    ap (λ o. variable_fits (length (slots q.around.owner)) 0 (unwrap_or o (Slot 0))) known.5 ∙ subst (λ z. variable_fits (length (slots q.around.owner)) 0 z ≡ true) here fits
+    ap (λ o. unwrap_or o (Slot 0)) known.5 ∙ (sym m.2 ∙ (ap (variable_with assigned constants (slots r.around.owner)) is ∙ ap (λ (z : Place). variable_with assigned constants (slots z.around.owner) d) same))
+
+-- that is there
+pub name_fits : (ps : List Place) (q : Place) (d : Declared) → ArePlaced ps → HasPlace q ps → q.declared ≡ Some d
+    → variable_fits (length (slots_of (assigned_in ps) q.around.owner ps)) (length (constants_of (assigned_in ps) ps)) (named_at ps q.name.spot.at) ≡ true
+name_fits ps q d h has e =
+    let assigned = assigned_in ps in
+    let constants = constants_of assigned ps in
+    let slots = slots_of assigned q.around.owner ps in
+    subst (λ z. variable_fits (length slots) (length constants) z ≡ true) (sym (named_as ps q d h has e)) (with_fits assigned constants slots d ((h.known q has).found d e).0.constant (name_slot ps q d has (h.known q has) (h.capture q has) e))
+
+-- and it is one in a slot, unless it is a constant
+pub name_in_slot : (ps : List Place) (q : Place) (d : Declared) → ArePlaced ps → HasPlace q ps → q.declared ≡ Some d → is_constant (assigned_in ps) d ≡ false → variable_fits (length (slots_of (assigned_in ps) q.around.owner ps)) 0 (named_at ps q.name.spot.at) ≡ true
+name_in_slot ps q d h has e constant =
+    let assigned = assigned_in ps in
+    let constants = constants_of assigned ps in
+    let slots = slots_of assigned q.around.owner ps in
+    subst (λ z. variable_fits (length slots) 0 z ≡ true) (sym (named_as ps q d h has e)) (slot_fits assigned constants slots d constant (name_slot ps q d has (h.known q has) (h.capture q has) e constant))
 
 -- what a function copies for a place, the function around it copies too, unless it declares that
 chain-next : (ps : List Place) (owner f : ℕ) (fs : List ℕ) → IsChain ps fs → In f (inside owner fs) → In owner fs → (around_of ps f ≡ owner) ⊎ In (around_of ps f) (inside owner fs)

@@ -48,7 +48,8 @@ pub record Emits (old new : Emitter) (numbers : List ℕ) (piece : Piece) : Type
   pub parts : numbers ≡ piece.parts
 
 -- and this is the form that they are the parts of
-pub record Forms (old new : Emitter) (node : NodeForm) (shape : List ℕ → PlainNodeForm) (piece : Piece) : Type 0 where
+pub record Forms (old new : Emitter) (node : NodeForm) (shape : List ℕ → PlainNodeForm)
+    (piece : Piece) : Type 0 where
   pub adds : Adds old new piece
   pub form : plain_node_form node ≡ shape piece.parts
 
@@ -59,12 +60,17 @@ abbrev pub FormsStmt : List Place → Emitter → Emitter → NodeForm → Plain
 FormsStmt ps old new form f = Forms old new form (stmt_node ps f) (stmt_parts ps (count old) f)
 
 -- declared variables with the numbers of their values
-pub record EmitsDeclarators (ps : List Place) (old new : Emitter) (declared : List Declared) (ds : List Declarator) : Type 0 where
+pub record EmitsDeclarators (ps : List Place) (old new : Emitter) (declared : List Declared)
+    (ds : List Declarator) : Type 0 where
   pub adds : Adds old new (declarators_piece ps (count old) (declarators_of (map plain_declarator ds)))
-  pub declared_are : map plain_declared declared ≡ declared_of ps (declarators_of (map plain_declarator ds)) (declarators_piece ps (count old) (declarators_of (map plain_declarator ds))).parts
+  pub declared_are :
+      map plain_declared declared
+      ≡ declared_of ps (declarators_of (map plain_declarator ds))
+      (declarators_piece ps (count old) (declarators_of (map plain_declarator ds))).parts
 
 -- a part that may be absent
-pub record EmitsPerhaps (old new : Emitter) (number : Option ℕ) (present : Bool) (piece : Piece) : Type 0 where
+pub record EmitsPerhaps (old new : Emitter) (number : Option ℕ) (present : Bool)
+    (piece : Piece) : Type 0 where
   pub adds : Adds old new piece
   pub parts : option_to_list number ≡ piece.parts
   pub same : is_some number ≡ present
@@ -83,7 +89,9 @@ is_divide _ = false
 
 -- a call of a form of the language
 abbrev pub FormsBuiltin : List Place → Emitter → Emitter → NodeForm → Builtin → PlainExprs → Type 0
-FormsBuiltin ps old new form f es = Forms old new form (call_node (Some f) None (floors_division (Some f) es)) (arguments_piece ps (count old) (floors_division (Some f) es) es)
+FormsBuiltin ps old new form f es =
+    Forms old new form (call_node (Some f) None (floors_division (Some f) es))
+    (arguments_piece ps (count old) (floors_division (Some f) es) es)
 
 -- what is called: a form of the language, a method with its word, or anything else with its number
 
@@ -109,12 +117,14 @@ called_piece ps b e = if is_some (method_of e) then expr_parts ps b e else expr_
 abbrev pub callee_piece : List Place → ℕ → PlainExpr → Piece
 callee_piece ps b e = if is_some (called_builtin e) then none else called_piece ps b e
 
-pub record EmitsCalled (ps : List Place) (old new : Emitter) (called : Called) (e : PlainExpr) : Type 0 where
+pub record EmitsCalled (ps : List Place) (old new : Emitter) (called : Called)
+    (e : PlainExpr) : Type 0 where
   pub emits : Emits old new (parts_in called) (called_piece ps (count old) e)
   pub builtin : builtin_in called ≡ None
   pub word : word_in called ≡ method_of e
 
-pub record EmittedCallee (ps : List Place) (old new : Emitter) (called : Called) (e : PlainExpr) : Type 0 where
+pub record EmittedCallee (ps : List Place) (old new : Emitter) (called : Called)
+    (e : PlainExpr) : Type 0 where
   pub emits : Emits old new (parts_in called) (callee_piece ps (count old) e)
   pub builtin : builtin_in called ≡ called_builtin e
   pub word : called_builtin e ≡ None → word_in called ≡ method_of e
@@ -125,7 +135,9 @@ EmitsCallee ps old new called e = EmittedCallee ps old new called e
 -- the arguments of a call, after what is called
 abbrev pub FormsCall : List Place → Emitter → Emitter → NodeForm → Called → PlainExprs → Type 0
 FormsCall ps old new form called es =
-    Forms old new form (λ parts. call_node (builtin_in called) (word_in called) (floors_division (builtin_in called) es) (parts_in called ++ parts))
+    Forms old new form
+    (λ parts. call_node (builtin_in called) (word_in called)
+    (floors_division (builtin_in called) es) (parts_in called ++ parts))
     (arguments_piece ps (count old) (floors_division (builtin_in called) es) es)
 
 -- one more function, before those from this place on

@@ -9,4 +9,7 @@ use Rattle.js_names.specs.Sites.{program_sites}
 
 -- each place of a tree that tokens spell is seen as if each block kept every `var` in it
 abbrev pub SpelledTreesKeepEnough : Type 0
-SpelledTreesKeepEnough = (ts : List Token) (items : List PlainItem) → SpellsTree ts items → AllByRecursion IsSeenAlike (program_sites items)
+SpelledTreesKeepEnough =
+    (ts : List Token) (items : List PlainItem)
+    → SpellsTree ts items
+    → AllByRecursion IsSeenAlike (program_sites items)

@@ -25,7 +25,8 @@ begins_with_division (t.expr_in e es) = is_division e
 
 -- the word of a method that is called
 abbrev pub method_of : PlainExpr → Option (List ℕ)
-method_of (t.at parens line (t.member e word)) = if is_some (value_builtin e word) then None else Some word
+method_of (t.at parens line (t.member e word)) =
+    if is_some (value_builtin e word) then None else Some word
 method_of _ = None
 
 abbrev pub is_floor : Builtin → Bool
@@ -37,7 +38,9 @@ floors_division None es = false
 floors_division (Some f) es = is_floor f && begins_with_division es
 
 abbrev pub call_node : Option Builtin → Option (List ℕ) → Bool → List ℕ → PlainNodeForm
-call_node (Some f) word is_division parts = if is_division then n.floor_divide (part 0 parts) (part 1 parts) (drop 2 parts) else n.builtin f parts
+call_node (Some f) word is_division parts =
+    if is_division then n.floor_divide (part 0 parts) (part 1 parts) (drop 2 parts)
+    else n.builtin f parts
 call_node None (Some word) is_division parts = n.method (part 0 parts) word (drop 1 parts)
 call_node None None is_division parts = n.call (part 0 parts) (drop 1 parts)
 
@@ -56,12 +59,14 @@ expr_node ps (t.number i) parts = n.number i
 expr_node ps (t.words text) parts = n.words text
 expr_node ps (t.truth b) parts = n.truth b
 expr_node ps t.null parts = n.null
-expr_node ps (t.use_of name) parts = if is_undefined name.text then n.undefined else n.read (named_at ps name.spot.at)
+expr_node ps (t.use_of name) parts =
+    if is_undefined name.text then n.undefined else n.read (named_at ps name.spot.at)
 expr_node ps (t.list es) parts = n.list parts
 expr_node ps (t.fields fs) parts = n.fields (keys_of fs) parts
 expr_node ps (t.member e word) parts = member_node (value_builtin e word) word parts
 expr_node ps (t.index e i) parts = n.index (part 0 parts) (part 1 parts)
-expr_node ps (t.call e es) parts = call_node (called_builtin e) (method_of e) (floors_division (called_builtin e) es) parts
+expr_node ps (t.call e es) parts =
+    call_node (called_builtin e) (method_of e) (floors_division (called_builtin e) es) parts
 expr_node ps (t.unary s e) parts = n.unary s (part 0 parts)
 expr_node ps (t.update s f name) parts = n.update s f (slot_at ps name.spot.at)
 expr_node ps (t.binary op l r) parts = n.binary op (part 0 parts) (part 1 parts)
@@ -87,7 +92,8 @@ parts_after true parts = drop 1 parts
 abbrev pub declared_of : List Place → PlainDeclarators → List ℕ → List PlainDeclared
 declared_of ps t.no_declarators parts = []
 declared_of ps (t.declarator_in name value end ds) parts =
-    record { variable = named_at ps name.spot.at; value = perhaps_part (is_present value) parts } ∷ declared_of ps ds (parts_after (is_present value) parts)
+    record { variable = named_at ps name.spot.at; value = perhaps_part (is_present value) parts }
+    ∷ declared_of ps ds (parts_after (is_present value) parts)
 
 abbrev pub has_start : PlainStart → Bool
 has_start t.nothing = false
@@ -98,7 +104,8 @@ abbrev pub for_node : List ℕ → Bool → Bool → Bool → List ℕ → Plain
 for_node slots start test next parts =
     let later = parts_after start parts in
     let last = parts_after test later in
-    n.for_three slots (perhaps_part start parts) (perhaps_part test later) (perhaps_part next last) (part 0 (parts_after next last))
+    n.for_three slots (perhaps_part start parts) (perhaps_part test later) (perhaps_part next last)
+    (part 0 (parts_after next last))
 
 abbrev pub stmt_node : List Place → PlainStmtForm → List ℕ → PlainNodeForm
 stmt_node ps t.empty parts = n.empty
@@ -108,8 +115,11 @@ stmt_node ps (t.expression e) parts = n.expression (part 0 parts)
 stmt_node ps (t.if_alone e s) parts = n.if_alone (part 0 parts) (part 1 parts)
 stmt_node ps (t.if_else e s other) parts = n.if_else (part 0 parts) (part 1 parts) (part 2 parts)
 stmt_node ps (t.while_of e s) parts = n.while_of (part 0 parts) (part 1 parts)
-stmt_node ps (t.for_three start test next s) parts = for_node (fresh ps (own_of_start 0 start)) (has_start start) (is_present test) (is_present next) parts
-stmt_node ps (t.for_of kind name e s) parts = n.for_of (slot_at ps name.spot.at) (part 0 parts) (part 1 parts)
+stmt_node ps (t.for_three start test next s) parts =
+    for_node (fresh ps (own_of_start 0 start)) (has_start start) (is_present test) (is_present next)
+    parts
+stmt_node ps (t.for_of kind name e s) parts =
+    n.for_of (slot_at ps name.spot.at) (part 0 parts) (part 1 parts)
 stmt_node ps (t.break_of spot) parts = n.break_of
 stmt_node ps (t.continue_of spot) parts = n.continue_of
 stmt_node ps (t.return_nothing spot) parts = n.return_nothing

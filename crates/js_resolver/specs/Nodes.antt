@@ -1,4 +1,5 @@
--- Nodes, numbered in the order in which their forms end in the text, and functions in the order of their first tokens.
+-- Nodes, numbered in the order in which their forms end in the text, and functions in the order of their
+-- first tokens.
 use Rattle.std.specs.Prelude.{ℕ, Bool, List, [], ◌∷◌, is_some, if◌then◌else◌}
 use Rattle.js_tree.specs.Plain as t
 use Rattle.js_tree.specs.Plain.{PlainExpr, PlainForm, PlainExprs, PlainFields, PlainPerhaps, PlainDeclarators, PlainStart, PlainStmt, PlainStmtForm, PlainStmts, PlainItem}
@@ -28,30 +29,42 @@ unfoldable mutual
   form_parts ps b (t.member e word) = if is_some (value_builtin e word) then none else expr_piece ps b e
   form_parts ps b (t.index e i) = let x = expr_piece ps b e in beside x (expr_piece ps (after b x) i)
   form_parts ps b (t.call e es) =
-      let x = if is_some (called_builtin e) then none else (if is_some (method_of e) then expr_parts ps b e else expr_piece ps b e) in
+      let x =
+      if is_some (called_builtin e) then none
+      else (if is_some (method_of e) then expr_parts ps b e else expr_piece ps b e) in
       beside x (arguments_piece ps (after b x) (floors_division (called_builtin e) es) es)
   form_parts ps b (t.unary s e) = expr_piece ps b e
   form_parts ps b (t.update s f name) = none
-  form_parts ps b (t.binary op l r) = let x = expr_piece ps b l in beside x (expr_piece ps (after b x) r)
+  form_parts ps b (t.binary op l r) =
+      let x = expr_piece ps b l in beside x (expr_piece ps (after b x) r)
   form_parts ps b (t.conditional l m r) =
-      let x = expr_piece ps b l in let y = beside x (expr_piece ps (after b x) m) in beside y (expr_piece ps (after b y) r)
+      let x = expr_piece ps b l in
+      let y = beside x (expr_piece ps (after b x) m) in
+      beside y (expr_piece ps (after b y) r)
   form_parts ps b (t.assign op name e) = expr_piece ps b e
-  form_parts ps b (t.arrow_value spot names e) = function_piece ps spot names one_value (expr_piece ps b e)
-  form_parts ps b (t.arrow_block spot names ss) = function_piece ps spot names n.statements (stmts_piece ps b ss)
-  form_parts ps b (t.function spot names ss) = function_piece ps spot names n.statements (stmts_piece ps b ss)
+  form_parts ps b (t.arrow_value spot names e) =
+      function_piece ps spot names one_value (expr_piece ps b e)
+  form_parts ps b (t.arrow_block spot names ss) =
+      function_piece ps spot names n.statements (stmts_piece ps b ss)
+  form_parts ps b (t.function spot names ss) =
+      function_piece ps spot names n.statements (stmts_piece ps b ss)
 
   pub exprs_piece : List Place → ℕ → PlainExprs → Piece
   exprs_piece ps b t.no_exprs = none
-  exprs_piece ps b (t.expr_in e es) = let x = expr_piece ps b e in beside x (exprs_piece ps (after b x) es)
+  exprs_piece ps b (t.expr_in e es) =
+      let x = expr_piece ps b e in beside x (exprs_piece ps (after b x) es)
 
   -- the operands of a division that is rounded down are parts themselves
   pub arguments_piece : List Place → ℕ → Bool → PlainExprs → Piece
   arguments_piece ps b opens t.no_exprs = none
-  arguments_piece ps b opens (t.expr_in e es) = let x = if opens then expr_parts ps b e else expr_piece ps b e in beside x (exprs_piece ps (after b x) es)
+  arguments_piece ps b opens (t.expr_in e es) =
+      let x = if opens then expr_parts ps b e else expr_piece ps b e in
+      beside x (exprs_piece ps (after b x) es)
 
   pub fields_piece : List Place → ℕ → PlainFields → Piece
   fields_piece ps b t.no_fields = none
-  fields_piece ps b (t.field_in key e fs) = let x = expr_piece ps b e in beside x (fields_piece ps (after b x) fs)
+  fields_piece ps b (t.field_in key e fs) =
+      let x = expr_piece ps b e in beside x (fields_piece ps (after b x) fs)
 
   pub perhaps_piece : List Place → ℕ → PlainPerhaps → Piece
   perhaps_piece ps b t.absent = none
@@ -59,11 +72,13 @@ unfoldable mutual
 
   pub declarators_piece : List Place → ℕ → PlainDeclarators → Piece
   declarators_piece ps b t.no_declarators = none
-  declarators_piece ps b (t.declarator_in name value end ds) = let x = perhaps_piece ps b value in beside x (declarators_piece ps (after b x) ds)
+  declarators_piece ps b (t.declarator_in name value end ds) =
+      let x = perhaps_piece ps b value in beside x (declarators_piece ps (after b x) ds)
 
   pub start_piece : List Place → ℕ → PlainStart → Piece
   start_piece ps b t.nothing = none
-  start_piece ps b (t.declared line kind ds) = closed b line (λ parts. n.declaration kind (declared_of ps ds parts)) (declarators_piece ps b ds)
+  start_piece ps b (t.declared line kind ds) =
+      closed b line (λ parts. n.declaration kind (declared_of ps ds parts)) (declarators_piece ps b ds)
   start_piece ps b (t.started e) = expr_piece ps b e
 
   pub stmt_piece : List Place → ℕ → PlainStmt → Piece
@@ -76,14 +91,17 @@ unfoldable mutual
   stmt_parts ps b (t.expression e) = expr_piece ps b e
   stmt_parts ps b (t.if_alone e s) = let x = expr_piece ps b e in beside x (stmt_piece ps (after b x) s)
   stmt_parts ps b (t.if_else e s other) =
-      let x = expr_piece ps b e in let y = beside x (stmt_piece ps (after b x) s) in beside y (stmt_piece ps (after b y) other)
+      let x = expr_piece ps b e in
+      let y = beside x (stmt_piece ps (after b x) s) in
+      beside y (stmt_piece ps (after b y) other)
   stmt_parts ps b (t.while_of e s) = let x = expr_piece ps b e in beside x (stmt_piece ps (after b x) s)
   stmt_parts ps b (t.for_three start test next s) =
       let x = start_piece ps b start in
       let y = beside x (perhaps_piece ps (after b x) test) in
       let z = beside y (perhaps_piece ps (after b y) next) in
       beside z (stmt_piece ps (after b z) s)
-  stmt_parts ps b (t.for_of kind name e s) = let x = expr_piece ps b e in beside x (stmt_piece ps (after b x) s)
+  stmt_parts ps b (t.for_of kind name e s) =
+      let x = expr_piece ps b e in beside x (stmt_piece ps (after b x) s)
   stmt_parts ps b (t.break_of spot) = none
   stmt_parts ps b (t.continue_of spot) = none
   stmt_parts ps b (t.return_nothing spot) = none
@@ -91,12 +109,14 @@ unfoldable mutual
 
   pub stmts_piece : List Place → ℕ → PlainStmts → Piece
   stmts_piece ps b t.no_stmts = none
-  stmts_piece ps b (t.stmt_in s ss) = let x = stmt_piece ps b s in beside x (stmts_piece ps (after b x) ss)
+  stmts_piece ps b (t.stmt_in s ss) =
+      let x = stmt_piece ps b s in beside x (stmts_piece ps (after b x) ss)
 
 -- a function declaration is no node
 unfoldable pub item_piece : List Place → ℕ → PlainItem → Piece
 item_piece ps b (t.statement s) = stmt_piece ps b s
-item_piece ps b (t.function_of spot name names ss) = function_piece ps spot names n.statements (stmts_piece ps b ss)
+item_piece ps b (t.function_of spot name names ss) =
+    function_piece ps spot names n.statements (stmts_piece ps b ss)
 
 unfoldable pub items_piece : List Place → ℕ → List PlainItem → Piece
 items_piece ps b [] = none

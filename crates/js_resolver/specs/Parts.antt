@@ -14,10 +14,13 @@ use Rattle.js_resolver.specs.Nodes.{items_piece}
 use Rattle.js_resolver.specs.Resolved.{constant_of}
 
 abbrev pub plain_parts : Parts → PlainProgram
-plain_parts p = v.program_with (map plain_node p.nodes.items) (map plain_body p.functions.items) (map plain_constant p.constants.items) (plain_body p.top)
+plain_parts p =
+    v.program_with (map plain_node p.nodes.items) (map plain_body p.functions.items)
+    (map plain_constant p.constants.items) (plain_body p.top)
 
 -- the program of these items, whose places these are
 abbrev pub parts_from : List PlainItem → List Place → PlainProgram
 parts_from items ps =
     let x = items_piece ps 0 items in
-    v.program_with x.nodes x.functions (map (constant_of items ps) (constants_of (assigned_in ps) ps)) (body_of ps top 0 (statements x.parts) (first_line ps))
+    v.program_with x.nodes x.functions (map (constant_of items ps) (constants_of (assigned_in ps) ps))
+    (body_of ps top 0 (statements x.parts) (first_line ps))

@@ -17,7 +17,11 @@ abbrev pub none : Piece
 none = record { nodes = []; functions = []; parts = [] }
 
 abbrev pub beside : Piece → Piece → Piece
-beside x y = record { nodes = x.nodes ++ y.nodes; functions = x.functions ++ y.functions; parts = x.parts ++ y.parts }
+beside x y = record {
+  nodes = x.nodes ++ y.nodes;
+  functions = x.functions ++ y.functions;
+  parts = x.parts ++ y.parts;
+}
 
 -- the number after the nodes of a piece that begins at b
 abbrev pub after : ℕ → Piece → ℕ
@@ -25,7 +29,11 @@ after b x = b + length x.nodes
 
 -- the form that these are the parts of: its own node comes last
 abbrev pub closed : ℕ → ℕ → (List ℕ → PlainNodeForm) → Piece → Piece
-closed b line form x = record { nodes = x.nodes ++ record { line = line; form = form x.parts } ∷ []; functions = x.functions; parts = after b x ∷ [] }
+closed b line form x = record {
+  nodes = x.nodes ++ record { line = line; form = form x.parts } ∷ [];
+  functions = x.functions;
+  parts = after b x ∷ [];
+}
 
 -- the number of the part that stands at this place among the parts
 abbrev pub part : ℕ → List ℕ → ℕ
@@ -33,8 +41,11 @@ part k parts = get_or parts k 0
 
 -- a function, whose statements are no parts of it
 abbrev pub function_piece : List Place → Spot → List Name → (List ℕ → PlainContent) → Piece → Piece
-function_piece ps spot names content x =
-    record { nodes = x.nodes; functions = body_of ps spot.at (length names) (content x.parts) spot.line ∷ x.functions; parts = [] }
+function_piece ps spot names content x = record {
+  nodes = x.nodes;
+  functions = body_of ps spot.at (length names) (content x.parts) spot.line ∷ x.functions;
+  parts = [];
+}
 
 abbrev pub one_value : List ℕ → PlainContent
 one_value parts = n.one_value (part 0 parts)

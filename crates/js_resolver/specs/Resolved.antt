@@ -16,14 +16,18 @@ use Rattle.js_resolver.specs.Nodes.{items_piece}
 -- a function declaration whose name stands at a place is a constant with its value from the start
 abbrev pub function_named : List Place → ℕ → PlainItem → Option PlainConstant
 function_named ps v (statement s) = None
-function_named ps v (function_of spot name names ss) = if nat_eq name.spot.at v then Some (of_function (code_at ps spot.at)) else None
+function_named ps v (function_of spot name names ss) =
+    if nat_eq name.spot.at v then Some (of_function (code_at ps spot.at)) else None
 
 abbrev pub constant_there : ℕ → Option Declared → Option PlainConstant
 constant_there v None = None
-constant_there v (Some d) = if nat_eq d.place v then Some (if is_var d.role then unset else undeclared) else None
+constant_there v (Some d) =
+    if nat_eq d.place v then Some (if is_var d.role then unset else undeclared) else None
 
 abbrev pub constant_of : List PlainItem → List Place → ℕ → PlainConstant
-constant_of items ps v = first_some (first_some undeclared (map (λ (p : Place). constant_there v p.declared) ps)) (map (function_named ps v) items)
+constant_of items ps v =
+    first_some (first_some undeclared (map (λ (p : Place). constant_there v p.declared) ps))
+    (map (function_named ps v) items)
 
 abbrev pub program_with : List PlainItem → List Place → Piece → PlainProgram
 program_with items ps x = record {

@@ -10,7 +10,8 @@ Known A = IndexMap ℕ A (BuildHasherDefault FoldHasher)
 
 -- a map took in what a place knows of a key, unless it knew something
 abbrev pub Notes : {A : Type 0} → Known A → Known A → ℕ → Option A → Type 0
-Notes old new key value = (q : ℕ) → get nat_eq new q ≡ or_else (get nat_eq old q) (if nat_eq key q then value else None)
+Notes old new key value =
+    (q : ℕ) → get nat_eq new q ≡ or_else (get nat_eq old q) (if nat_eq key q then value else None)
 
 -- the line of the first place, which is the first token of the program
 abbrev pub first_line : List Place → ℕ

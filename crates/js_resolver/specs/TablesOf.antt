@@ -10,7 +10,8 @@ use Rattle.js_names.specs.Held.{Sets, held_in}
 use Rattle.js_resolver.specs.Tables.{Known}
 use Rattle.js_resolver.specs.Variables.{named_at, code_at, around_of, index_in}
 
-pub record AreTablesOf (variables : Known Variable) (declared functions : List ℕ) (outer : Known ℕ) (held copied unset : Sets) (ps : List Place) : Type 0 where
+pub record AreTablesOf (variables : Known Variable) (declared functions : List ℕ) (outer : Known ℕ)
+    (held copied unset : Sets) (ps : List Place) : Type 0 where
   pub named : (q : ℕ) → unwrap_or (get nat_eq variables q) (Slot 0) ≡ named_at ps q
   pub constants : declared ≡ constants_of (assigned_in ps) ps
   pub codes : (q : ℕ) → index_in functions q ≡ code_at ps q

@@ -15,7 +15,8 @@ index_in xs x = unwrap_or (position (nat_eq x) xs) 0
 -- a variable as a function with these slots names it
 abbrev pub variable_with : List ℕ → List ℕ → List ℕ → Declared → Variable
 variable_with assigned constants slots d =
-    if is_constant assigned d then Constant (index_in constants d.place) else Slot (index_in slots d.place)
+    if is_constant assigned d then Constant (index_in constants d.place)
+    else Slot (index_in slots d.place)
 
 abbrev pub named_by : List ℕ → List ℕ → List ℕ → Option Declared → Option Variable
 named_by assigned constants slots None = None
@@ -41,13 +42,16 @@ abbrev pub owner_key : Place → ℕ
 owner_key p = p.around.owner
 
 abbrev pub named : List Place → Place → Option Variable
-named ps p = let assigned = assigned_in ps in named_there assigned (constants_of assigned ps) (λ f. slots_of assigned f ps) p
+named ps p =
+    let assigned = assigned_in ps in
+    named_there assigned (constants_of assigned ps) (λ f. slots_of assigned f ps) p
 
 -- what the name at a place of the text stands for
 unfoldable pub named_at : List Place → ℕ → Variable
 named_at ps at = unwrap_or (known_in name_key (named ps) at ps) (Slot 0)
 
--- the slot of a variable: nothing that is assigned, updated or not yet declared is a constant, where no rule of names is broken
+-- the slot of a variable: nothing that is assigned, updated or not yet declared is a constant, where no rule
+-- of names is broken
 abbrev pub slot_of : Variable → ℕ
 slot_of (Slot n) = n
 slot_of (Constant n) = 0
@@ -83,11 +87,14 @@ slots_among slots variables = map (index_in slots) variables
 
 -- the slots of a function's `var`s
 abbrev pub var_slots : List Place → ℕ → List ℕ
-var_slots ps f = let assigned = assigned_in ps in slots_among (slots_of assigned f ps) (vars_of assigned f ps)
+var_slots ps f =
+    let assigned = assigned_in ps in slots_among (slots_of assigned f ps) (vars_of assigned f ps)
 
 -- for each captured value, its slot in the function around
 abbrev pub capture_slots : List Place → ℕ → List ℕ
-capture_slots ps f = let assigned = assigned_in ps in slots_among (slots_of assigned (around_of ps f) ps) (captures assigned f ps)
+capture_slots ps f =
+    let assigned = assigned_in ps in
+    slots_among (slots_of assigned (around_of ps f) ps) (captures assigned f ps)
 
 -- the function f, with what a call of it runs
 unfoldable pub body_of : List Place → ℕ → ℕ → PlainContent → ℕ → PlainBody

@@ -541,8 +541,8 @@ fn emit_stmts(
     Ok(numbers)
 }
 
-/// A function with this content, before the functions inside it. Each function moves those inside it by one place, so
-/// that a function is moved as often as functions stand around it, which nesting keeps few.
+/// A function with this content, before the functions inside it. Each function moves those inside it by one
+/// place, so that a function is moved as often as functions stand around it, which nesting keeps few.
 fn put_body(
     tables: &NameTables,
     emitter: &mut Emitter,
