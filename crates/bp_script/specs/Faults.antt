@@ -14,7 +14,8 @@ IsScriptFault bytes (ScriptFault.Refused refusal) = IsRefused bytes refusal
 IsScriptFault bytes ScriptFault.Memory = Unit {0}
 
 abbrev pub fault_of_parse : ParseFault → ScriptFault
-fault_of_parse (ParseFault.Unsupported line) = ScriptFault.Refused (Refusal.OnLine line Kind.Unsupported)
+fault_of_parse (ParseFault.Unsupported line) =
+    ScriptFault.Refused (Refusal.OnLine line Kind.Unsupported)
 fault_of_parse (ParseFault.NoTree line) = ScriptFault.Refused (Refusal.OnLine line Kind.NoTree)
 fault_of_parse ParseFault.Memory = ScriptFault.Memory
 

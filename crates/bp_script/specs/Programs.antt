@@ -47,24 +47,37 @@ pub record IsProgram (bytes : List ℕ) (program : PlainProgram) : Type 0 where
 
 -- the first place that is no token has this flaw, on this line
 abbrev pub HasFlaw : List ℕ → Flaw → ℕ → Type 0
-HasFlaw bytes what line = (length bytes ≤ MOST_BYTES) × IsUtf8 bytes × ((place : ℕ) × Refused bytes what place × (line ≡ line_of bytes place))
+HasFlaw bytes what line =
+    (length bytes ≤ MOST_BYTES)
+    × IsUtf8 bytes
+    × ((place : ℕ) × Refused bytes what place × (line ≡ line_of bytes place))
 
 -- a token is refused, the first on this line
 abbrev pub HasRefusedToken : List ℕ → ℕ → Type 0
-HasRefusedToken bytes line = (tokens : List Token) × AreCut bytes tokens × (first_unsupported false tokens ≡ Some line)
+HasRefusedToken bytes line =
+    (tokens : List Token) × AreCut bytes tokens × (first_unsupported false tokens ≡ Some line)
 
 -- the first byte that is no part of UTF-8 stands on this line
 abbrev pub IsNoText : List ℕ → ℕ → Type 0
-IsNoText bytes line = (length bytes ≤ MOST_BYTES) × ¬ (IsUtf8 bytes) × ((place : ℕ) × IsValidUpTo bytes place × (line ≡ line_of bytes place))
+IsNoText bytes line =
+    (length bytes ≤ MOST_BYTES)
+    × ¬ (IsUtf8 bytes)
+    × ((place : ℕ) × IsValidUpTo bytes place × (line ≡ line_of bytes place))
 
 -- none of the tokens is refused, and they spell no tree that is not nested too deep; the line is that of one of
 -- them, or 1 where there is none
 abbrev pub HasNoSpelling : List ℕ → ℕ → Type 0
-HasNoSpelling bytes line = (tokens : List Token) × AreCut bytes tokens × (first_unsupported false tokens ≡ None) × HasNoTree MOST_NESTING tokens × IsLineIn tokens line
+HasNoSpelling bytes line =
+    (tokens : List Token)
+    × AreCut bytes tokens
+    × (first_unsupported false tokens ≡ None)
+    × HasNoTree MOST_NESTING tokens
+    × IsLineIn tokens line
 
 -- they spell a tree whose first breach of a rule of names is this one
 abbrev pub HasNameFault : List ℕ → NameFault → Type 0
-HasNameFault bytes fault = (tree : List PlainItem) × AreSpelled bytes tree × (name_fault tree ≡ Some fault)
+HasNameFault bytes fault =
+    (tree : List PlainItem) × AreSpelled bytes tree × (name_fault tree ≡ Some fault)
 
 -- one of this kind stands on this line
 abbrev pub BreaksRule : List ℕ → ℕ → (Name → NameFault) → Type 0
@@ -90,7 +103,11 @@ fault_of Rule.Const name = NameFault.AssignConst name
 fault_of Rule.Capture name = NameFault.Capture name
 
 abbrev pub IsBroken : List ℕ → ℕ → Rule → List ℕ → Type 0
-IsBroken bytes line rule text = (name : Name) × HasNameFault bytes (fault_of rule name) × (line ≡ name.spot.line) × (text ≡ name.text)
+IsBroken bytes line rule text =
+    (name : Name)
+    × HasNameFault bytes (fault_of rule name)
+    × (line ≡ name.spot.line)
+    × (text ≡ name.text)
 
 -- the bytes are refused so
 abbrev pub IsRefused : List ℕ → Refusal → Type 0
@@ -100,7 +117,8 @@ IsRefused bytes (Refusal.OfName line rule text) = IsBroken bytes line rule text
 
 -- no bytes are both accepted and refused
 abbrev pub NeverBoth : List ℕ → Type 0
-NeverBoth bytes = (tree : List PlainItem) (refusal : Refusal) → AreAccepted bytes tree → ¬ (IsRefused bytes refusal)
+NeverBoth bytes =
+    (tree : List PlainItem) (refusal : Refusal) → AreAccepted bytes tree → ¬ (IsRefused bytes refusal)
 
 -- the bytes are one program
 abbrev pub OneProgram : List ℕ → Type 0
@@ -108,4 +126,7 @@ OneProgram bytes = (a b : PlainProgram) → IsProgram bytes a → IsProgram byte
 
 -- and each accepted tree is a program
 abbrev pub EachIsProgram : List ℕ → Type 0
-EachIsProgram bytes = (tree : List PlainItem) → AreAccepted bytes tree → (program : PlainProgram) × IsProgram bytes program
+EachIsProgram bytes =
+    (tree : List PlainItem)
+    → AreAccepted bytes tree
+    → (program : PlainProgram) × IsProgram bytes program

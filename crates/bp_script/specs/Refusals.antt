@@ -27,7 +27,8 @@ abbrev pub line_note : ℕ → List ℕ → List ℕ
 line_note line kind = codes "refused line " ++ (decimal line ++ (codes ": " ++ kind))
 
 abbrev pub named_note : ℕ → List ℕ → List ℕ → List ℕ
-named_note line rule name = codes "refused line " ++ (decimal line ++ (codes ": " ++ (rule ++ (codes " " ++ name))))
+named_note line rule name =
+    codes "refused line " ++ (decimal line ++ (codes ": " ++ (rule ++ (codes " " ++ name))))
 
 abbrev pub note_of : Refusal → List ℕ
 note_of Refusal.TooLong = codes "refused: too long"
