@@ -6,6 +6,7 @@ use Rattle.std.specs.Str.{bytes_eq, is_utf8}
 use Rattle.std.proofs.lemmas.Bool.Decides.{eqb_tells}
 use Rattle.std.proofs.lemmas.Bool.{eqb-true}
 use Rattle.std.proofs.lemmas.Slice.Eq.{bytes_eq-Decides}
+use Rattle.std.proofs.lemmas.Option.{same_Some, cond_some}
 use Rattle.serde_json.specs.Find.{as_str}
 use Rattle.serde_json.specs.Read.{read}
 use Rattle.js_data.specs.Event.{PlainEvent}
@@ -26,7 +27,7 @@ use Rattle.bp_log.specs.declared.verdict.Verdict.{Verdict}
 use Rattle.bp_log.specs.declared.verdict.Verdict.TheVariants as verdict
 use Rattle.bp_reading.specs.Words.{behind, around, number_at, number_behind, numbers_at, most_32, if_compact, compact_event_at, if_quoted, text_at, onto_front, to_quote, quoted_front}
 use Rattle.bp_reading.specs.Lines.{top_at, thread_at, place_at, quiet_at, steps_at, if_same, limit_at, bad_end_at, limits_at, numbered_at, said_at, violated_at, fault_at, kind_at, blamed_at, faulty_at, spent_by, spent_at, placed_at, verdict_at, handed_at, in_at, bad_at, eof_at, sel_at, end_at, record_at}
-use Rattle.bp_reading.proofs.Lines.{some_is, some_none}
+use Rattle.bp_reading.proofs.Lines.{some_none}
 use Rattle.bp_reading.proofs.Numbers.{number_text}
 use Rattle.bp_reading.proofs.Spelled.{spelled_verdict, spelled_record, record_is}
 
@@ -34,7 +35,7 @@ use Rattle.bp_reading.proofs.Spelled.{spelled_verdict, spelled_record, record_is
 
 pub mapped : {A B : Type 0} (f : A → B) (o : Option A) (y : B) → option_map f o ≡ Some y → (x : A) × (o ≡ Some x) × (f x ≡ y)
 mapped f None y h = absurd (some_none h)
-mapped f (Some x) y h = (x, refl, some_is (f x) y h)
+mapped f (Some x) y h = (x, refl, same_Some (f x) y h)
 
 pub chained : {A B : Type 0} (f : A → Option B) (o : Option A) (y : B) → option_and_then f o ≡ Some y → (x : A) × (o ≡ Some x) × (f x ≡ Some y)
 chained f None y h = absurd (some_none h)
@@ -48,14 +49,9 @@ pub chosen : {A : Type 0} (t : Bool) (x y z : A) → cond t x y ≡ z → ((t �
 chosen true x y z h = inl (refl, h)
 chosen false x y z h = inr (refl, h)
 
--- the value, where the test holds
-pub tested : {A : Type 0} (t : Bool) (x y : A) → cond t (Some x) None ≡ Some y → (t ≡ true) × (x ≡ y)
-tested true x y h = (refl, some_is x y h)
-tested false x y h = absurd (some_none h)
-
 -- the value, where the test holds, else one of the rest
 tried : {A : Type 0} (t : Bool) (x : A) (o : Option A) (y : A) → cond t (Some x) o ≡ Some y → ((t ≡ true) × (x ≡ y)) ⊎ (o ≡ Some y)
-tried true x o y h = inl (refl, some_is x y h)
+tried true x o y h = inl (refl, same_Some x y h)
 tried false x o y h = inr h
 
 pub same_bytes : (a b : List ℕ) → bytes_eq a b ≡ true → a ≡ b
@@ -64,7 +60,7 @@ same_bytes a b h = (bytes_eq-Decides a b).0 h
 -- ---- words
 
 pub behind_spelled : (w bytes rest : List ℕ) → behind w bytes ≡ Some rest → bytes ≡ w ++ rest
-behind_spelled [] bytes rest h = some_is bytes rest h
+behind_spelled [] bytes rest h = same_Some bytes rest h
 behind_spelled (c ∷ w) [] rest h = absurd (some_none h)
 behind_spelled (c ∷ w) (b ∷ bytes) rest h = elim (eqb_tells b c) [
   | inl same ↦ ap₂ (λ (x : ℕ) (xs : List ℕ). x ∷ xs) same.1 (behind_spelled w bytes rest (rw same.0 at h))
@@ -74,14 +70,14 @@ behind_spelled (c ∷ w) (b ∷ bytes) rest h = elim (eqb_tells b c) [
 pub onto_front_parts : (b : ℕ) (o : Option (List ℕ × List ℕ)) (front more : List ℕ) → onto_front b o ≡ Some (front, more) → (f : List ℕ) × (front ≡ b ∷ f) × (o ≡ Some (f, more))
 onto_front_parts b None front more h = absurd (some_none h)
 onto_front_parts b (Some p) front more h =
-    let s = some_is _ _ h in
+    let s = same_Some _ _ h in
     (p.0, sym (ap (λ (q : List ℕ × List ℕ). q.0) s), ap (λ (m : List ℕ). Some (p.0, m)) (ap (λ (q : List ℕ × List ℕ). q.1) s))
 
 around_spelled : (c : ℕ) (bytes a b : List ℕ) → around c bytes ≡ Some (a, b) → bytes ≡ a ++ (c ∷ b)
 around_spelled c [] a b h = absurd (some_none h)
 around_spelled c (x ∷ bytes) a b h = elim (eqb_tells x c) [
   | inl same ↦
-      let s = some_is _ _ (rw same.0 at h) in
+      let s = same_Some _ _ (rw same.0 at h) in
       ap₂ (λ (y : ℕ) (ys : List ℕ). y ∷ ys) same.1 (ap (λ (q : List ℕ × List ℕ). q.1) s) ∙ ap (λ (l : List ℕ). l ++ (c ∷ b)) (ap (λ (q : List ℕ × List ℕ). q.0) s)
   | inr other ↦
       let p = onto_front_parts x (around c bytes) a b (rw other.0 at h) in
@@ -109,14 +105,14 @@ numbers_spelled bytes p h =
 event_spelled : (bytes : List ℕ) (e : PlainEvent) → compact_event_at bytes ≡ Some e → bytes ≡ event_text e
 event_spelled bytes e h =
     let a = chained (if_compact bytes) (event_at bytes) e h in
-    let b = tested (bytes_eq (event_text a.0) bytes) a.0 e a.2 in
+    let b = cond_some (bytes_eq (event_text a.0) bytes) a.0 e a.2 in
     sym (same_bytes (event_text a.0) bytes b.0) ∙ ap (λ (x : PlainEvent). event_text x) b.1
 
 pub text_spelled : (bytes s : List ℕ) → text_at bytes ≡ Some s → bytes ≡ quoted_text s
 text_spelled bytes s h = elim (chosen (is_utf8 bytes) _ _ _ h) [
   | inl good ↦
       let a = chained (if_quoted bytes) (option_and_then as_str (read bytes)) s good.1 in
-      let b = tested (bytes_eq (quoted_text a.0) bytes) a.0 s a.2 in
+      let b = cond_some (bytes_eq (quoted_text a.0) bytes) a.0 s a.2 in
       sym (same_bytes (quoted_text a.0) bytes b.0) ∙ ap (λ (x : List ℕ). quoted_text x) b.1
   | inr bad ↦ absurd (some_none bad.1)
 ]
@@ -125,7 +121,7 @@ pub quote_parts : (bytes : List ℕ) (escaped : Bool) (front more : List ℕ) �
 quote_parts [] escaped front more h = absurd (some_none h)
 quote_parts (b ∷ bytes) escaped front more h = elim (chosen (not escaped && (b == 34)) _ _ _ h) [
   | inl here ↦
-      let s = some_is _ _ here.1 in
+      let s = same_Some _ _ here.1 in
       ap₂ (λ (x y : List ℕ). x ++ y) (ap (λ (q : List ℕ × List ℕ). q.0) s) (ap (λ (q : List ℕ × List ℕ). q.1) s)
   | inr past ↦
       let p = onto_front_parts b _ front more past.1 in
@@ -191,7 +187,7 @@ fault_spelled name g h =
                                                                 elim (tried (bytes_eq name (codes "statement")) fault.Statement _ g h10) [
                                                                   | inl a ↦ named name (codes "statement") fault.Statement g refl a
                                                                   | inr h11 ↦
-                                                                      named name (codes "truth") fault.Truth g refl (tested (bytes_eq name (codes "truth")) fault.Truth g h11)
+                                                                      named name (codes "truth") fault.Truth g refl (cond_some (bytes_eq name (codes "truth")) fault.Truth g h11)
                                                                 ]
                                                           ]
                                                     ]
@@ -215,7 +211,7 @@ strategy_spelled name t h =
           elim (tried (bytes_eq name (codes "ordered")) Ordered _ t h1) [
             | inl a ↦ titled name (codes "ordered") Ordered t refl a
             | inr h2 ↦
-                titled name (codes "priority") Priority t refl (tested (bytes_eq name (codes "priority")) Priority t h2)
+                titled name (codes "priority") Priority t refl (cond_some (bytes_eq name (codes "priority")) Priority t h2)
           ]
     ]
 
@@ -224,7 +220,7 @@ strategy_spelled name t h =
 limit_spelled : (word line : List ℕ) (limit : ℕ) (v w : Verdict) → limit < 2 ^ 64 → limit_at word limit v line ≡ Some w → (line ≡ word ++ decimal limit) × (v ≡ w)
 limit_spelled word line limit v w small h =
     let a = chained (if_same limit v) (number_behind word limit line) w h in
-    let b = tested (a.0 == limit) v w a.2 in
+    let b = cond_some (a.0 == limit) v w a.2 in
     (word_spelled word line limit a.0 small a.1 ∙ ap (λ (n : ℕ). word ++ decimal n) (eqb-true a.0 limit b.0), b.1)
 
 quiet_spelled : (line : List ℕ) (v : Verdict) → quiet_at line ≡ Some v → line ≡ spelled_verdict v
@@ -284,7 +280,7 @@ faulty_spelled line v h =
     behind_spelled (codes "fault ") line a.0 a.1 ∙ ap (λ (t : List ℕ). codes "fault " ++ t) rest ∙ ap spelled_verdict f.2
 
 pub spent_parts : (p : Place) (bytes : List ℕ) (v : Verdict) → spent_by p bytes ≡ Some v → (bytes ≡ []) × (verdict.Spent p ≡ v)
-spent_parts p [] v h = (refl, some_is _ _ h)
+spent_parts p [] v h = (refl, same_Some _ _ h)
 spent_parts p (b ∷ bytes) v h = absurd (some_none h)
 
 spent_spelled : (line : List ℕ) (v : Verdict) → spent_at line ≡ Some v → line ≡ spelled_verdict v

@@ -2,6 +2,7 @@
 use Rattle.std.proofs.Common.{◌≡◌, ◌∙◌, ℕ, ◌<◌, ◌≤◌, ◌^◌, true, false, List, [], ◌∷◌, length, Option, Some, None, Ok, refl, sym, ap, subst, inl, inr, arith}
 use Rattle.std.specs.Prelude.{nat_le, codes}
 use Rattle.std.proofs.lemmas.Bool.{leb-true, leb-false}
+use Rattle.std.proofs.lemmas.Option.{cond_some}
 use Rattle.bp_log.specs.Options.{PlainOptions, AreOptions}
 use Rattle.bp_log.specs.Header.{PlainHeader}
 use Rattle.bp_log.specs.Logs.{records_text, log_text}
@@ -17,7 +18,7 @@ use Rattle.bp_reading.specs.Laws.{IsHeader, AreRecords, Stands, ReadLogsAreTexts
 use Rattle.bp_reading.proofs.Lines.{some_none}
 use Rattle.bp_reading.proofs.Back.{record_back}
 use Rattle.bp_reading.proofs.Law.{header_then, header_regrouped}
-use Rattle.bp_reading.proofs.Again.{chained, chosen, tested, record_again}
+use Rattle.bp_reading.proofs.Again.{chained, chosen, record_again}
 use Rattle.bp_reading.proofs.Told.{ok_is, bound, said_parts, program_again, header_again, line_short, goes_on, front_finished, front_found, ends_no_line, many_no_line, records_again, complete_again}
 use Rattle.bp_reading.proofs.Ranges.{word_most, record_low}
 
@@ -28,7 +29,7 @@ unfolding field_at
 field_fits w bytes rest least most n small h =
     let p = said_parts header (field w least most) (line_at MOST_LINE_BYTES bytes) n rest h in
     let q = chained (from_least least) (number_behind w most p.0) n p.2 in
-    let r = tested (nat_le least q.0) q.0 n q.2 in
+    let r = cond_some (nat_le least q.0) q.0 n q.2 in
     subst (λ (m : ℕ). (least ≤ m) × (m ≤ most)) r.1 (leb-true least q.0 r.0, word_most w p.0 most q.0 small q.1)
 
 choice_fits : (bytes rest : List ℕ) (c : Strategy × ℕ) → choice_at bytes ≡ Ok (c, rest) → c.1 < 2 ^ 64
@@ -103,7 +104,7 @@ unfolding next_at
 found_line s bytes rest r h =
     let p = front_found s (front_at s bytes) r rest h in
     let q = chained (if_stands s) (record_at p.0) r p.2 in
-    let t = tested (can_stand s q.0) q.0 r q.2 in
+    let t = cond_some (can_stand s q.0) q.0 r q.2 in
     (p.0, front_fits s bytes p.0 rest p.1, q.1 ∙ ap (λ (x : Record). Some x) t.1, subst (λ (x : Record). can_stand s x ≡ true) t.1 t.0)
 
 records_stand : (rs : List Record) (s : Stage) (bytes : List ℕ) → Says s bytes rs None → Stands s rs

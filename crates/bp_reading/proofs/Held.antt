@@ -5,6 +5,7 @@ use Rattle.std.specs.Fmt.{signed_decimal}
 use Rattle.std.proofs.lemmas.Bool.{ltb-true, lt-ltb}
 use Rattle.std.proofs.lemmas.Fmt.{IsAscii-decimal}
 use Rattle.std.proofs.lemmas.Str.{is_utf8-from_IsUtf8}
+use Rattle.std.proofs.lemmas.Option.{same_Some, cond_some}
 use Rattle.json.proofs.Printed.Utf8.{are_ascii}
 use Rattle.serde_json.specs.Data as json
 use Rattle.serde_json.specs.Find.{as_i64, as_str, as_array}
@@ -13,8 +14,8 @@ use Rattle.js_data.specs.Data.{PlainData, null, truth, whole, words, list, field
 use Rattle.js_data.specs.Event.{PlainEvent, IsHeldExtra}
 use Rattle.js_data.specs.JsonText.{data_text, data_list_text, data_fields_text, extra_text, quoted_text, comma}
 use Rattle.js_json.specs.Json.{if_whole, data_from, list_from, fields_from, event_of_parts, event_of_items, event_from}
-use Rattle.bp_reading.proofs.Lines.{some_is, some_none}
-use Rattle.bp_reading.proofs.Again.{mapped, chained, tested}
+use Rattle.bp_reading.proofs.Lines.{some_none}
+use Rattle.bp_reading.proofs.Again.{mapped, chained}
 use Rattle.bp_reading.proofs.Unquoted.{past_ascii, utf8_unquoted}
 
 -- where its text begins what is UTF-8, the data is held, and UTF-8 stands behind it
@@ -84,13 +85,13 @@ one_field key d fs h k later rest u =
 
 mutual
   held_data : (j : json.Data) (d : PlainData) → data_from j ≡ Some d → Held d
-  held_data json.null d h = subst Held (some_is null d h) (λ rest u. (tt, past_ascii (codes "null") rest refl u))
-  held_data (json.boolean b) d h = subst Held (some_is (truth b) d h) (held_truth b)
+  held_data json.null d h = subst Held (same_Some null d h) (λ rest u. (tt, past_ascii (codes "null") rest refl u))
+  held_data (json.boolean b) d h = subst Held (same_Some (truth b) d h) (held_truth b)
   held_data (json.number n) d h =
       let a = chained if_whole (as_i64 n) d h in
-      let b = tested (is_whole a.0) (whole a.0) d a.2 in
+      let b = cond_some (is_whole a.0) (whole a.0) d a.2 in
       subst Held b.1 (held_whole a.0 b.0)
-  held_data (json.string s) d h = subst Held (some_is (words s) d h) (held_words s)
+  held_data (json.string s) d h = subst Held (same_Some (words s) d h) (held_words s)
   held_data (json.array js) d h =
       let a = mapped list (list_from js) d h in
       subst Held a.2 (held_in_list a.0 (held_list js a.0 a.1))
@@ -99,14 +100,14 @@ mutual
       subst Held a.2 (held_in_fields a.0 (held_fields ms a.0 a.1))
 
   held_list : (js : json.Items) (ds : DataList) → list_from js ≡ Some ds → HeldList ds
-  held_list json.no_items ds h = subst HeldList (some_is no_data ds h) no_more_data
+  held_list json.no_items ds h = subst HeldList (same_Some no_data ds h) no_more_data
   held_list (json.item j js) ds h =
       let a = chained (λ (x : PlainData). option_map (item x) (list_from js)) (data_from j) ds h in
       let b = mapped (item a.0) (list_from js) ds a.2 in
       subst HeldList b.2 (one_item a.0 b.0 (held_data j a.0 a.1) (held_list js b.0 b.1))
 
   held_fields : (ms : json.Members) (fs : DataFields) → fields_from ms ≡ Some fs → HeldFields fs
-  held_fields json.no_members fs h = subst HeldFields (some_is no_fields fs h) no_more_fields
+  held_fields json.no_members fs h = subst HeldFields (same_Some no_fields fs h) no_more_fields
   held_fields (json.member k j ms) fs h =
       let a = chained (λ (x : PlainData). option_map (field k x) (fields_from ms)) (data_from j) fs h in
       let b = mapped (field k a.0) (fields_from ms) fs a.2 in
@@ -119,7 +120,7 @@ abbrev HasHeld : PlainEvent → Type 0
 HasHeld e = IsUtf8 (extra_text e.extra) → IsHeldExtra e.extra
 
 held_parts : (name : List ℕ) (js : json.Items) (e : PlainEvent) → event_of_parts name js ≡ Some e → HasHeld e
-held_parts name json.no_items e h = subst HasHeld (some_is _ e h) (λ u. tt)
+held_parts name json.no_items e h = subst HasHeld (same_Some _ e h) (λ u. tt)
 held_parts name (json.item j json.no_items) e h =
     let a = mapped _ (data_from j) e h in
     subst HasHeld a.2 (λ u. (held_data j a.0 a.1 (93 ∷ []) (past_ascii (44 ∷ []) (data_text a.0 ++ (93 ∷ [])) refl u)).0)

@@ -4,6 +4,7 @@ use Rattle.std.specs.Prelude.{decimal, codes}
 use Rattle.std.proofs.Math.Seq.{take-append_seam}
 use Rattle.std.proofs.lemmas.List.{append_cancel_left}
 use Rattle.std.proofs.lemmas.Fmt.{decimal_injective}
+use Rattle.std.proofs.lemmas.Option.{same_Some}
 use Rattle.bp_log.specs.Options.{PlainOptions, AreOptions}
 use Rattle.bp_log.specs.Header.{PlainHeader}
 use Rattle.bp_log.specs.Logs.{record_text, records_text, log_text, header_text, options_text, strategy_name, strategy_at}
@@ -12,14 +13,14 @@ use Rattle.bp_log.specs.declared.options.Strategy.TheVariants.{Simple, Ordered, 
 use Rattle.bp_log.specs.declared.record.Record.{Record}
 use Rattle.bp_reading.specs.Lines.{record_at}
 use Rattle.bp_reading.specs.Laws.{IsHeader, IsRecord, AreRecords, OneReading}
-use Rattle.bp_reading.proofs.Lines.{lacks, cut_same, Same, some_is}
+use Rattle.bp_reading.proofs.Lines.{lacks, cut_same, Same}
 use Rattle.bp_reading.proofs.Numbers.{lacks-decimal}
 use Rattle.bp_reading.proofs.Spelled.{six, options_then, options_regrouped}
 use Rattle.bp_reading.proofs.Texts.{lacks-record}
 use Rattle.bp_reading.proofs.Back.{record_back}
 
 record_same : (r s : Record) → IsRecord r → IsRecord s → record_text r ≡ record_text s → r ≡ s
-record_same r s h k t = some_is r s (sym (record_back r h) ∙ ap record_at t ∙ record_back s k)
+record_same r s h k t = same_Some r s (sym (record_back r h) ∙ ap record_at t ∙ record_back s k)
 
 -- a number that ends at a byte below the digits
 number_cut : (c m n : ℕ) (x y : List ℕ) → c < 48 → m < 2 ^ 64 → n < 2 ^ 64 → decimal m ++ c ∷ x ≡ decimal n ++ c ∷ y → (m ≡ n) × (x ≡ y)
@@ -63,7 +64,7 @@ lacks-strategy Priority = refl
 strategy_cut : (s t : Strategy) (x y : List ℕ) → strategy_name s ++ 10 ∷ x ≡ strategy_name t ++ 10 ∷ y → (s ≡ t) × (x ≡ y)
 strategy_cut s t x y e =
     let c = cut_same 10 (strategy_name s) (strategy_name t) x y (lacks-strategy s) (lacks-strategy t) e in
-    (some_is s t (sym (strategy_back s) ∙ ap strategy_at c.front ∙ strategy_back t), c.rest)
+    (same_Some s t (sym (strategy_back s) ∙ ap strategy_at c.front ∙ strategy_back t), c.rest)
 
 -- a header's text, and what follows
 unfoldable pub header_then : PlainHeader → List ℕ → List ℕ

@@ -3,6 +3,7 @@ use Rattle.std.proofs.Common.{◌≡◌, ℕ, ◌-◌, ◌≤◌, Bool, true, fa
 use Rattle.std.proofs.lemmas.Bool.Decides.{eqb_tells}
 use Rattle.std.proofs.lemmas.Bool.{false≢true}
 use Rattle.std.specs.Prelude.{◌==◌}
+use Rattle.std.proofs.lemmas.Option.{same_Some}
 use Rattle.bp_reading.specs.Words.{around}
 use Rattle.bp_reading.specs.Heads.{line_at, whole}
 
@@ -38,9 +39,6 @@ around_is c (x ∷ a) rest h =
     let p = lacks_parts c x a h in
     rw (p.other, around_is c a rest p.rest) refl
 
-pub some_is : {A : Type 0} (x y : A) → Some x ≡ Some y → x ≡ y
-some_is x y h = ap (λ (o : Option _). elim o [ Some z ↦ z | None ↦ x ]) h
-
 is_none : {A : Type 0} → Option A → Bool
 is_none None = true
 is_none (Some x) = false
@@ -56,7 +54,7 @@ pub record Same (a b x y : List ℕ) : Type 0 where
 -- two lists with such a byte are cut at the same place
 pub cut_same : (c : ℕ) (a b x y : List ℕ) → lacks c a ≡ true → lacks c b ≡ true → a ++ c ∷ x ≡ b ++ c ∷ y → Same a b x y
 cut_same c a b x y h k e =
-    let s : (a, x) ≡ (b, y) = some_is _ _ (sym (around_is c a x h) ∙ ap (around c) e ∙ around_is c b y k) in
+    let s : (a, x) ≡ (b, y) = same_Some _ _ (sym (around_is c a x h) ∙ ap (around c) e ∙ around_is c b y k) in
     record { front = ap (λ (p : List ℕ × List ℕ). p.0) s; rest = ap (λ (p : List ℕ × List ℕ). p.1) s }
 
 -- the first line

@@ -1,13 +1,14 @@
 -- Numbers in decimal.
-use Rattle.std.proofs.Common.{◌≡◌, ℕ, ◌+◌, ◌%◌, ◌^◌, ◌<◌, ◌≤◌, Bool, true, false, cond, List, [], ◌∷◌, length, get_or, Some, None, refl, sym, ap, ◌∙◌, inl, inr, arith, rules}
+use Rattle.std.proofs.Common.{◌≡◌, ℕ, ◌+◌, ◌%◌, ◌^◌, ◌<◌, ◌≤◌, true, false, List, [], ◌∷◌, length, get_or, Some, refl, sym, ap, ◌∙◌, inl, inr, arith, rules}
 use Rattle.std.specs.Prelude.{not, decimal}
 use Rattle.std.specs.Str.{all_ascii_digits}
 use Rattle.std.proofs.lemmas.Bool.Decides.{eqb_tells}
-use Rattle.std.proofs.lemmas.Bool.{false≢true, and_parts, le-leb, leb-true, cases_eq}
+use Rattle.std.proofs.lemmas.Bool.{false≢true, and_parts, le-leb, leb-true, cases_eq, false_from_ne_true, not-true}
 use Rattle.std.proofs.lemmas.Fmt.{decimal_by_steps, decimal_nonempty, first_decimal, decimal_digit, digits_decimal, digits_value-decimal, decimal-digits_value}
 use Rattle.std.proofs.lemmas.Str.Parse.{IsNumeralModel, numerals_by_fold}
+use Rattle.std.proofs.lemmas.Option.{cond_some}
 use Rattle.bp_reading.specs.Words.{value_on, is_front_zero, is_numeral, number_at}
-use Rattle.bp_reading.proofs.Lines.{lacks, lacks-append, some_is, some_none}
+use Rattle.bp_reading.proofs.Lines.{lacks, lacks-append}
 
 pub own : IsNumeralModel (λ ds. all_ascii_digits ds ≡ true) (value_on 0)
 own = numerals_by_fold _ (search rules) value_on (search rules)
@@ -29,14 +30,10 @@ front_zero_not [] h e = absurd (omega (arith, e))
 front_zero_not (c ∷ []) h e = refl
 front_zero_not (c ∷ d ∷ ds) h e = elim (eqb_tells c 48) [ inl same ↦ absurd (false≢true (sym h ∙ same.0)) | inr other ↦ absurd (other.1 e) ]
 
-is_false : (b : Bool) → (b ≡ true → ⊥) → b ≡ false
-is_false true h = absurd (h refl)
-is_false false h = refl
-
 no_front_zero : (n : ℕ) → n < 2 ^ 64 → is_front_zero (decimal n) ≡ false
 no_front_zero n small = elim (cases_eq n 0) [
   | inl none ↦ rw (none, decimal_digit 0 (omega arith)) refl
-  | inr some ↦ is_false _ (λ z. let p = front_zero_is (decimal n) z in omega (arith, p.0, first_decimal n (omega (arith, some)) small))
+  | inr some ↦ false_from_ne_true _ (λ z. let p = front_zero_is (decimal n) z in omega (arith, p.0, first_decimal n (omega (arith, some)) small))
 ]
 
 numeral_of : (ds : List ℕ) → 0 < length ds → all_ascii_digits ds ≡ true → is_front_zero ds ≡ false → is_numeral ds ≡ true
@@ -54,24 +51,16 @@ pub record Numeral (ds : List ℕ) : Type 0 where
   pub digits : all_ascii_digits ds ≡ true
   pub front : is_front_zero ds ≡ false
 
-not_true : (b : Bool) → not b ≡ true → b ≡ false
-not_true true h = absurd (false≢true h)
-not_true false h = refl
-
 pub numeral_parts : (ds : List ℕ) → is_numeral ds ≡ true → Numeral ds
 numeral_parts [] h = absurd (false≢true h)
 numeral_parts (c ∷ cs) h =
     let p = and_parts (all_ascii_digits (c ∷ cs)) (not (is_front_zero (c ∷ cs))) h in
-    record { some = omega arith; digits = p.0; front = not_true _ p.1 }
-
-if_some : {A : Type 0} (b : Bool) (x y : A) → cond b (Some x) None ≡ Some y → (b ≡ true) × (x ≡ y)
-if_some true x y h = (refl, some_is x y h)
-if_some false x y h = absurd (some_none h)
+    record { some = omega arith; digits = p.0; front = not-true _ p.1 }
 
 -- what is read as a number is its text
 pub number_text : (most n : ℕ) (ds : List ℕ) → most < 2 ^ 64 → number_at most ds ≡ Some n → (ds ≡ decimal n) × (n ≤ most)
 number_text most n ds small h =
-    let p = if_some _ (value_on 0 ds) n h in
+    let p = cond_some _ (value_on 0 ds) n h in
     let q = and_parts _ _ p.0 in
     let d = numeral_parts ds q.0 in
     let fits : value_on 0 ds ≤ most = leb-true _ _ q.1 in

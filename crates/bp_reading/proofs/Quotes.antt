@@ -1,17 +1,14 @@
 -- Texts in quotation marks.
-use Rattle.std.proofs.Common.{◌≡◌, ℕ, zero, suc, ◌<◌, Bool, true, false, cond, List, [], ◌∷◌, ◌++◌, Option, Some, refl, sym, ap, ◌∙◌, inl, inr, arith, append_assoc, append-nil, subst}
+use Rattle.std.proofs.Common.{◌≡◌, ℕ, zero, suc, ◌<◌, Bool, true, false, cond, List, [], ◌∷◌, ◌++◌, Option, Some, refl, sym, ap, ◌∙◌, inl, inr, arith, append_assoc, subst}
 use Rattle.std.proofs.lemmas.Bool.Decides.{eqb_tells}
 use Rattle.std.proofs.lemmas.Bool.{false≢true, cases_lt, cases_eq, and_parts}
 use Rattle.std.specs.Prelude.{◌==◌, ◌&&◌, not, flat_map}
-use Rattle.json.specs.Token.{Token, string}
-use Rattle.json.specs.Print.{print_from, escape_byte, quoted, ArePrintable}
-use Rattle.json.specs.Lex.{tokens}
-use Rattle.json.proofs.Printed.Tokens.{tokens-print}
+use Rattle.json.specs.Print.{escape_byte}
 use Rattle.json.proofs.Printed.Strings.{escape_byte_plain}
 use Rattle.js_data.specs.JsonText.{quoted_text, escaped_byte}
-use Rattle.js_json.proofs.Escapes.{quoted_is, escape_byte_is}
+use Rattle.js_json.proofs.Escapes.{escape_byte_is}
 use Rattle.bp_reading.specs.Words.{to_quote, onto_front}
-use Rattle.bp_reading.proofs.Lines.{lacks, lacks-append, some_is, Same}
+use Rattle.bp_reading.proofs.Lines.{lacks, lacks-append}
 
 -- ---- each escape: no LF, no quotation mark that ends the text, no backslash left open
 
@@ -92,32 +89,3 @@ to_quote_is s r =
     ap (to_quote false) (append_assoc (flat_map escaped_byte s) (34 ∷ []) r)
     ∙ body s (34 ∷ r)
     ∙ onto_all_is (flat_map escaped_byte s) (34 ∷ []) r
-
-tail : List ℕ → List ℕ
-tail [] = []
-tail (x ∷ xs) = xs
-
-tail_same : (x y : ℕ) (xs ys : List ℕ) → x ∷ xs ≡ y ∷ ys → xs ≡ ys
-unfolding tail
-tail_same x y xs ys e = ap tail e
-
-first_string : List Token → List ℕ
-first_string (string s ∷ ts) = s
-first_string _ = []
-
-tokens_quoted : (s : List ℕ) → tokens (quoted_text s) ≡ string s ∷ []
-unfolding ArePrintable print_from
-tokens_quoted s = ap tokens (sym (append-nil (quoted s) ∙ quoted_is s)) ∙ tokens-print (string s ∷ []) (tt, tt)
-
-quoted_injective : (s t : List ℕ) → quoted_text s ≡ quoted_text t → s ≡ t
-unfolding first_string
-quoted_injective s t e = ap first_string (sym (tokens_quoted s) ∙ ap tokens e ∙ tokens_quoted t)
-
--- no quoted text is the front of another
-pub quoted_same : (s t x y : List ℕ) → quoted_text s ++ x ≡ quoted_text t ++ y → Same s t x y
-quoted_same s t x y e =
-    let o = some_is _ _ (sym (to_quote_is s x) ∙ ap (to_quote false) (tail_same _ _ _ _ e) ∙ to_quote_is t y) in
-    record {
-      front = quoted_injective s t (ap (λ (p : List ℕ × List ℕ). 34 ∷ p.0) o);
-      rest = ap (λ (p : List ℕ × List ℕ). p.1) o;
-    }

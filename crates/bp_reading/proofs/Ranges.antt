@@ -4,6 +4,7 @@ use Rattle.std.specs.Prelude.{◌==◌, ◌&&◌, nat_le, codes}
 use Rattle.std.specs.Str.{bytes_eq, is_utf8}
 use Rattle.std.proofs.lemmas.Bool.{and_parts, leb-true}
 use Rattle.std.proofs.lemmas.Str.{IsUtf8-from_is_utf8, is_utf8-from_IsUtf8}
+use Rattle.std.proofs.lemmas.Option.{cond_some}
 use Rattle.serde_json.specs.Read.{read}
 use Rattle.js_data.specs.Event.{PlainEvent, event_weight, event_nesting, IsSortedExtra, IsHeldExtra, IsEvent}
 use Rattle.js_data.specs.JsonText.{event_text, quoted_text, extra_text}
@@ -23,7 +24,7 @@ use Rattle.bp_reading.proofs.Lines.{some_none}
 use Rattle.bp_reading.proofs.Numbers.{number_text}
 use Rattle.bp_reading.proofs.Unquoted.{past_ascii, utf8_unquoted}
 use Rattle.bp_reading.proofs.Held.{held_event}
-use Rattle.bp_reading.proofs.Again.{at_each_record, mapped, chained, either, chosen, tested, spent_parts, text_spelled, same_bytes}
+use Rattle.bp_reading.proofs.Again.{at_each_record, mapped, chained, either, chosen, spent_parts, text_spelled, same_bytes}
 
 -- ---- words
 
@@ -73,7 +74,7 @@ event_read : (bytes : List ℕ) (e : PlainEvent) → event_at bytes ≡ Some e �
 event_read bytes e h = elim (chosen (is_utf8 bytes) _ _ _ h) [
   | inl good ↦
       let a = chained within_limits (option_and_then event_from (read bytes)) e good.1 in
-      let b = tested (nat_le (event_weight a.0) event.MOST_WEIGHT && nat_le (event_nesting a.0) event.MOST_NESTING) a.0 e a.2 in
+      let b = cond_some (nat_le (event_weight a.0) event.MOST_WEIGHT && nat_le (event_nesting a.0) event.MOST_NESTING) a.0 e a.2 in
       let c = and_parts _ _ b.0 in
       let d = chained event_from (read bytes) a.0 a.1 in (
         IsUtf8-from_is_utf8 bytes good.0,
@@ -90,7 +91,7 @@ event_read bytes e h = elim (chosen (is_utf8 bytes) _ _ _ h) [
 event_low : (bytes : List ℕ) (e : PlainEvent) → compact_event_at bytes ≡ Some e → IsEvent e
 event_low bytes e h =
     let a = chained (if_compact bytes) (event_at bytes) e h in
-    let b = tested (bytes_eq (event_text a.0) bytes) a.0 e a.2 in
+    let b = cond_some (bytes_eq (event_text a.0) bytes) a.0 e a.2 in
     let c = event_read bytes a.0 a.1 in
     let text = past_ascii (91 ∷ []) (quoted_text a.0.name ++ extra_text a.0.extra) refl (subst IsUtf8 (sym (same_bytes (event_text a.0) bytes b.0)) c.0) in
     let parts = utf8_unquoted a.0.name (extra_text a.0.extra) text in
@@ -107,7 +108,7 @@ event_low bytes e h =
 limit_low : (word line : List ℕ) (limit : ℕ) (v w : Verdict) → IsVerdict v → limit_at word limit v line ≡ Some w → IsVerdict w
 limit_low word line limit v w fits h =
     let a = chained (if_same limit v) (number_behind word limit line) w h in
-    let b = tested (a.0 == limit) v w a.2 in
+    let b = cond_some (a.0 == limit) v w a.2 in
     subst IsVerdict b.1 fits
 
 quiet_low : (line : List ℕ) (v : Verdict) → quiet_at line ≡ Some v → IsVerdict v

@@ -4,6 +4,7 @@ use Rattle.std.specs.Prelude.{◌==◌, decimal, codes, nat_le, is_ok, if◌then
 use Rattle.std.specs.Str.{bytes_eq}
 use Rattle.std.proofs.lemmas.Bool.Decides.{eqb_tells}
 use Rattle.std.proofs.lemmas.Bool.{false≢true}
+use Rattle.std.proofs.lemmas.Option.{cond_some}
 use Rattle.bp_log.specs.Options.{PlainOptions}
 use Rattle.bp_log.specs.Header.{PlainHeader}
 use Rattle.bp_log.specs.Logs.{record_text, records_text, strategy_name, strategy_at}
@@ -19,7 +20,7 @@ use Rattle.bp_reading.specs.Heads.{Front, nothing, partial, excess, whole, onto,
 use Rattle.bp_reading.specs.Reading.{Stage, after, Says, if_stands, next_record, behind_end, too_many, front_at, Next, found, finished, refused, next_found, next_of, next_at}
 use Rattle.bp_reading.proofs.Spelled.{options_then}
 use Rattle.bp_reading.proofs.Law.{regrouped, header_then}
-use Rattle.bp_reading.proofs.Again.{chained, chosen, tested, same_bytes, behind_spelled, word_spelled, strategy_spelled, record_again}
+use Rattle.bp_reading.proofs.Again.{chained, chosen, same_bytes, behind_spelled, word_spelled, strategy_spelled, record_again}
 
 -- ---- answers taken apart
 
@@ -138,7 +139,7 @@ version_again : (bytes rest : List ℕ) (v : Unit {0}) → version_at bytes ≡ 
 unfolding version_at
 version_again bytes rest v h =
     let p = said_parts version is_version (line_at MOST_LINE_BYTES bytes) v rest h in
-    let q = tested (bytes_eq p.0 (codes "bp-log 1")) tt v p.2 in
+    let q = cond_some (bytes_eq p.0 (codes "bp-log 1")) tt v p.2 in
     line_spelled bytes MOST_LINE_BYTES p.0 rest p.1 ∙ ap (λ (l : List ℕ). l ++ (10 ∷ rest)) (same_bytes p.0 (codes "bp-log 1") q.0)
 
 strategy_again : (bytes rest : List ℕ) (s : Strategy) → strategy_line_at bytes ≡ Ok (s, rest) → bytes ≡ codes "strategy " ++ (strategy_name s ++ (10 ∷ rest))
@@ -154,7 +155,7 @@ unfolding field_at
 field_again w bytes rest least most n small h =
     let p = said_parts header (field w least most) (line_at MOST_LINE_BYTES bytes) n rest h in
     let q = chained (from_least least) (number_behind w most p.0) n p.2 in
-    let r = tested (nat_le least q.0) q.0 n q.2 in
+    let r = cond_some (nat_le least q.0) q.0 n q.2 in
     line_spelled bytes MOST_LINE_BYTES p.0 rest p.1
     ∙ ap (λ (l : List ℕ). l ++ (10 ∷ rest)) (word_spelled w p.0 most q.0 small q.1 ∙ ap (λ (m : ℕ). w ++ decimal m) r.1)
     ∙ append_assoc w (decimal n) (10 ∷ rest)
@@ -328,7 +329,7 @@ unfolding next_at
 found_again s bytes rest r h =
     let p = front_found s (front_at s bytes) r rest h in
     let q = chained (if_stands s) (record_at p.0) r p.2 in
-    let t = tested _ q.0 r q.2 in
+    let t = cond_some _ q.0 r q.2 in
     front_line s bytes p.0 rest p.1 ∙ ap (λ (l : List ℕ). l ++ (10 ∷ rest)) (record_again p.0 q.0 q.1 ∙ ap (λ (x : Record). record_text x) t.1)
 
 pub records_again : (rs : List Record) (s : Stage) (bytes : List ℕ) → Says s bytes rs None → bytes ≡ records_text rs

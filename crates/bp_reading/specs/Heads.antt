@@ -29,7 +29,9 @@ onto b excess = excess
 -- the first line, of at most `room` bytes
 abbrev pub line_at : ℕ → List ℕ → Front
 line_at room [] = partial
-line_at room (b ∷ bytes) = if b == 10 then whole [] bytes else (if room == 0 then excess else onto b (line_at (room - 1) bytes))
+line_at room (b ∷ bytes) =
+    if b == 10 then whole [] bytes else
+    (if room == 0 then excess else onto b (line_at (room - 1) bytes))
 
 -- ---- what is refused
 
@@ -110,7 +112,16 @@ options_at bytes = do
   choice ← choice_at bytes
   limits ← limits_at choice.1
   injectors ← field_at (codes "injectors ") 0 MOST_INJECTORS limits.1
-  Ok (record { strategy = choice.0.0; seed = choice.0.1; budget = limits.0.0; steps = limits.0.1; injectors = injectors.0 }, injectors.1)
+  Ok (
+    record {
+      strategy = choice.0.0;
+      seed = choice.0.1;
+      budget = limits.0.0;
+      steps = limits.0.1;
+      injectors = injectors.0;
+    },
+    injectors.1,
+  )
 
 unfoldable pub header_at : List ℕ → Result (PlainHeader × List ℕ) Refusal
 header_at bytes = do

@@ -54,20 +54,24 @@ AreRecords (r ∷ rs) = IsRecord r × AreRecords rs
 -- no two pairs of a header and a list of records have one text
 abbrev pub OneReading : Type 0
 OneReading =
-    (h g : PlainHeader) (rs ss : List Record) → IsHeader h → IsHeader g → AreRecords rs → AreRecords ss →
+    (h g : PlainHeader) (rs ss : List Record) →
+    IsHeader h → IsHeader g → AreRecords rs → AreRecords ss →
     log_text h rs ≡ log_text g ss → (h ≡ g) × (rs ≡ ss)
 
 -- the records can stand, one after another, each on a line that isn't too long, and the last is `end`
 abbrev pub Stands : Stage → List Record → Type 0
 Stands s [] = s.ended ≡ true
 Stands s (r ∷ rs) =
-    (s.ended ≡ false) × (s.lines < MOST_RECORDS) × (can_stand s r ≡ true) × (length (record_text r) ≤ MOST_LINE_BYTES) × Stands (after s r) rs
+    (s.ended ≡ false) × (s.lines < MOST_RECORDS) × (can_stand s r ≡ true) ×
+    (length (record_text r) ≤ MOST_LINE_BYTES) × Stands (after s r) rs
 
 -- the text of a header and a complete list says that header and that list
 abbrev pub LogsAreRead : Type 0
 LogsAreRead =
-    (h : PlainHeader) (rs : List Record) → IsHeader h → AreRecords rs → Stands (first_stage h.options.injectors) rs →
-    (header_at (log_text h rs) ≡ Ok (h, records_text rs)) × Says (first_stage h.options.injectors) (records_text rs) rs None
+    (h : PlainHeader) (rs : List Record) →
+    IsHeader h → AreRecords rs → Stands (first_stage h.options.injectors) rs →
+    (header_at (log_text h rs) ≡ Ok (h, records_text rs)) ×
+    Says (first_stage h.options.injectors) (records_text rs) rs None
 
 -- the bytes are the text of the header and the records, which are complete and break no rule of lines
 pub record IsLog (bytes : List ℕ) (h : PlainHeader) (rs : List Record) : Type 0 where

@@ -19,7 +19,8 @@ abbrev pub top_at : List ℕ → Option (Place × List ℕ)
 top_at bytes = option_map (λ rest. (Top, rest)) (behind (codes "top") bytes)
 
 abbrev pub thread_at : List ℕ → Option (Place × List ℕ)
-thread_at bytes = option_and_then (λ p. option_map (λ name. (Thread name, p.1)) (text_at p.0)) (quoted_front bytes)
+thread_at bytes =
+    option_and_then (λ p. option_map (λ name. (Thread name, p.1)) (text_at p.0)) (quoted_front bytes)
 
 -- the place at the front, and what stands behind it
 abbrev pub place_at : List ℕ → Option (Place × List ℕ)
@@ -41,7 +42,8 @@ abbrev pub limit_at : List ℕ → ℕ → Verdict → List ℕ → Option Verdi
 limit_at word limit v line = option_and_then (if_same limit v) (number_behind word limit line)
 
 abbrev pub bad_end_at : List ℕ → Option Verdict
-bad_end_at line = option_map (λ p. verdict.Bad p.0 p.1) (option_and_then numbers_at (behind (codes "bad ") line))
+bad_end_at line =
+    option_map (λ p. verdict.Bad p.0 p.1) (option_and_then numbers_at (behind (codes "bad ") line))
 
 abbrev pub limits_at : List ℕ → Option Verdict
 limits_at line =
@@ -50,14 +52,19 @@ limits_at line =
     (limit_at (codes "limit weight ") MOST_WEIGHT verdict.Weight line))
 
 abbrev pub numbered_at : List ℕ → Option Verdict
-numbered_at line = option_or (quiet_at line) (option_or (steps_at line) (option_or (limits_at line) (bad_end_at line)))
+numbered_at line =
+    option_or (quiet_at line)
+    (option_or (steps_at line)
+    (option_or (limits_at line) (bad_end_at line)))
 
 -- a blank and a text
 abbrev pub said_at : Place × List ℕ → Option Verdict
-said_at p = option_and_then (λ rest. option_map (verdict.Violated p.0) (text_at rest)) (behind (32 ∷ []) p.1)
+said_at p =
+    option_and_then (λ rest. option_map (verdict.Violated p.0) (text_at rest)) (behind (32 ∷ []) p.1)
 
 abbrev pub violated_at : List ℕ → Option Verdict
-violated_at line = option_and_then (λ rest. option_and_then said_at (place_at rest)) (behind (codes "violated ") line)
+violated_at line =
+    option_and_then (λ rest. option_and_then said_at (place_at rest)) (behind (codes "violated ") line)
 
 -- the fault of a name
 abbrev pub fault_at : List ℕ → Option Fault
@@ -78,14 +85,18 @@ fault_at name =
 -- a number, one blank, and the name of a fault
 abbrev pub kind_at : Place → List ℕ → Option Verdict
 kind_at place bytes =
-    option_and_then (λ p. option_and_then (λ n. option_map (verdict.Fault place n) (fault_at p.1)) (number_at most_32 p.0)) (around 32 bytes)
+    option_and_then
+    (λ p. option_and_then (λ n. option_map (verdict.Fault place n) (fault_at p.1))
+    (number_at most_32 p.0))
+    (around 32 bytes)
 
 -- a blank, and the kind
 abbrev pub blamed_at : Place × List ℕ → Option Verdict
 blamed_at p = option_and_then (kind_at p.0) (behind (32 ∷ []) p.1)
 
 abbrev pub faulty_at : List ℕ → Option Verdict
-faulty_at line = option_and_then (λ rest. option_and_then blamed_at (place_at rest)) (behind (codes "fault ") line)
+faulty_at line =
+    option_and_then (λ rest. option_and_then blamed_at (place_at rest)) (behind (codes "fault ") line)
 
 -- nothing stands behind the place
 abbrev pub spent_by : Place → List ℕ → Option Verdict
@@ -93,7 +104,9 @@ spent_by place [] = Some (verdict.Spent place)
 spent_by place (b ∷ bytes) = None
 
 abbrev pub spent_at : List ℕ → Option Verdict
-spent_at line = option_and_then (λ rest. option_and_then (λ p. spent_by p.0 p.1) (place_at rest)) (behind (codes "spent ") line)
+spent_at line =
+    option_and_then (λ rest. option_and_then (λ p. spent_by p.0 p.1) (place_at rest))
+    (behind (codes "spent ") line)
 
 abbrev pub placed_at : List ℕ → Option Verdict
 placed_at line = option_or (violated_at line) (option_or (faulty_at line) (spent_at line))
@@ -104,7 +117,10 @@ verdict_at line = option_or (numbered_at line) (placed_at line)
 -- ---- records
 
 abbrev pub handed_at : List ℕ → Option Record
-handed_at bytes = option_and_then (λ p. option_and_then (λ j. option_map (In j) (compact_event_at p.1)) (number_at most_32 p.0)) (around 32 bytes)
+handed_at bytes =
+    option_and_then
+    (λ p. option_and_then (λ j. option_map (In j) (compact_event_at p.1)) (number_at most_32 p.0))
+    (around 32 bytes)
 
 abbrev pub in_at : List ℕ → Option Record
 in_at line = option_and_then handed_at (behind (codes "in ") line)
@@ -123,4 +139,8 @@ end_at line = option_map End (option_and_then verdict_at (behind (codes "end ") 
 
 -- the record that a line, without its LF, says
 unfoldable pub record_at : List ℕ → Option Record
-record_at line = option_or (in_at line) (option_or (bad_at line) (option_or (eof_at line) (option_or (sel_at line) (end_at line))))
+record_at line =
+    option_or (in_at line)
+    (option_or (bad_at line)
+    (option_or (eof_at line)
+    (option_or (sel_at line) (end_at line))))

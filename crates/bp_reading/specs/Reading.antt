@@ -9,8 +9,8 @@ use Rattle.bp_reading.specs.declared.limits.TheConstants.{MOST_LINE_BYTES, MOST_
 use Rattle.bp_reading.specs.Lines.{record_at}
 use Rattle.bp_reading.specs.Heads.{Front, nothing, partial, excess, whole, line_at, Refusal, record_line, cut}
 
--- what is known of the records before: how many injectors there are, which of them have ended, how many lines
--- there were, and whether the last was `end`
+-- what is known of the records before: how many injectors there are, which of them have ended, how many
+-- lines there were, and whether the last was `end`
 pub record Stage : Type 0 where
   pub injectors : ℕ
   pub over : List ℕ
@@ -63,7 +63,8 @@ too_many (b ∷ bytes) = excess
 -- what the bytes begin with at this stage
 abbrev pub front_at : Stage → List ℕ → Front
 front_at s bytes =
-    if s.ended then behind_end bytes else (if nat_le MOST_RECORDS s.lines then too_many bytes else line_at MOST_LINE_BYTES bytes)
+    if s.ended then behind_end bytes else
+    (if nat_le MOST_RECORDS s.lines then too_many bytes else line_at MOST_LINE_BYTES bytes)
 
 -- a record and the bytes behind its line, the good end, or a refusal
 pub data Next : Type 0 where
@@ -89,4 +90,5 @@ next_at s bytes = next_of s (front_at s bytes)
 abbrev pub Says : Stage → List ℕ → List Record → Option Refusal → Type 0
 Says s bytes [] None = next_at s bytes ≡ finished
 Says s bytes [] (Some f) = next_at s bytes ≡ refused f
-Says s bytes (r ∷ rs) f = (rest : List ℕ) × (next_at s bytes ≡ found r rest) × Says (after s r) rest rs f
+Says s bytes (r ∷ rs) f =
+    (rest : List ℕ) × (next_at s bytes ≡ found r rest) × Says (after s r) rest rs f

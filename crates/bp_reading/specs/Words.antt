@@ -24,7 +24,8 @@ is_numeral (c ∷ cs) = all_ascii_digits (c ∷ cs) && not (is_front_zero (c ∷
 
 -- the number, at most `most`, that the bytes are in decimal
 abbrev pub number_at : ℕ → List ℕ → Option ℕ
-number_at most bytes = if is_numeral bytes && nat_le (value_on 0 bytes) most then Some (value_on 0 bytes) else None
+number_at most bytes =
+    if is_numeral bytes && nat_le (value_on 0 bytes) most then Some (value_on 0 bytes) else None
 
 -- the greatest numbers of 32 and of 64 bits
 abbrev pub most_32 : ℕ
@@ -44,7 +45,8 @@ behind (w ∷ word) (b ∷ bytes) = if b == w then behind word bytes else None
 -- what stands before the first such byte, and behind it
 abbrev pub around : ℕ → List ℕ → Option (List ℕ × List ℕ)
 around c [] = None
-around c (b ∷ bytes) = if b == c then Some ([], bytes) else option_map (λ p. (b ∷ p.0, p.1)) (around c bytes)
+around c (b ∷ bytes) =
+    if b == c then Some ([], bytes) else option_map (λ p. (b ∷ p.0, p.1)) (around c bytes)
 
 -- the number, at most `most`, behind a word
 abbrev pub number_behind : List ℕ → ℕ → List ℕ → Option ℕ
@@ -53,7 +55,10 @@ number_behind word most bytes = option_and_then (number_at most) (behind word by
 -- two numbers of 32 bits with one blank between them
 abbrev pub numbers_at : List ℕ → Option (ℕ × ℕ)
 numbers_at bytes =
-    option_and_then (λ p. option_and_then (λ m. option_map (λ n. (m, n)) (number_at most_32 p.1)) (number_at most_32 p.0)) (around 32 bytes)
+    option_and_then
+    (λ p. option_and_then (λ m. option_map (λ n. (m, n)) (number_at most_32 p.1))
+    (number_at most_32 p.0))
+    (around 32 bytes)
 
 -- ---- events and texts
 
@@ -69,7 +74,10 @@ if_quoted bytes s = if bytes_eq (quoted_text s) bytes then Some s else None
 
 -- the text whose quoted text the bytes are
 abbrev pub text_at : List ℕ → Option (List ℕ)
-text_at bytes = if is_utf8 bytes then option_and_then (if_quoted bytes) (option_and_then as_str (read bytes)) else None
+text_at bytes =
+    if is_utf8 bytes
+    then option_and_then (if_quoted bytes) (option_and_then as_str (read bytes))
+    else None
 
 abbrev pub onto_front : ℕ → Option (List ℕ × List ℕ) → Option (List ℕ × List ℕ)
 onto_front b = option_map (λ p. (b ∷ p.0, p.1))
@@ -77,8 +85,11 @@ onto_front b = option_map (λ p. (b ∷ p.0, p.1))
 -- the bytes up to the first quotation mark that no backslash escapes, and those behind it
 abbrev pub to_quote : Bool → List ℕ → Option (List ℕ × List ℕ)
 to_quote escaped [] = None
-to_quote escaped (b ∷ bytes) = if not escaped && (b == 34) then Some (b ∷ [], bytes) else onto_front b (to_quote (not escaped && (b == 92)) bytes)
+to_quote escaped (b ∷ bytes) =
+    if not escaped && (b == 34) then Some (b ∷ [], bytes) else
+    onto_front b (to_quote (not escaped && (b == 92)) bytes)
 
 -- the bytes from a quotation mark to the one that closes it, and those behind it
 abbrev pub quoted_front : List ℕ → Option (List ℕ × List ℕ)
-quoted_front bytes = option_and_then (λ rest. onto_front 34 (to_quote false rest)) (behind (34 ∷ []) bytes)
+quoted_front bytes =
+    option_and_then (λ rest. onto_front 34 (to_quote false rest)) (behind (34 ∷ []) bytes)
