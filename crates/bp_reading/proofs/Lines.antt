@@ -1,7 +1,7 @@
 -- Lists up to a byte.
 use Rattle.std.proofs.Common.{◌≡◌, ℕ, ◌-◌, ◌≤◌, Bool, true, false, cond, List, [], ◌∷◌, ◌++◌, length, Option, Some, None, refl, sym, ap, ◌∙◌, inl, inr, arith}
 use Rattle.std.proofs.lemmas.Bool.Decides.{eqb_tells}
-use Rattle.std.proofs.lemmas.Bool.{false≢true}
+use Rattle.std.proofs.lemmas.Bool.{false≢true, eq-eqb}
 use Rattle.std.specs.Prelude.{◌==◌}
 use Rattle.std.proofs.lemmas.Option.{same_Some}
 use Rattle.bp_reading.specs.Words.{around}
@@ -29,12 +29,9 @@ lacks_parts c x xs h = elim (eqb_tells x c) [
   | inr other ↦ record { other = other.0; rest = rw other.0 at h }
 ]
 
-same_byte : (c : ℕ) → (c == c) ≡ true
-same_byte c = elim (eqb_tells c c) [ inl same ↦ same.0 | inr other ↦ absurd (other.1 refl) ]
-
 -- what stands before the first such byte
 pub around_is : (c : ℕ) (a rest : List ℕ) → lacks c a ≡ true → around c (a ++ c ∷ rest) ≡ Some (a, rest)
-around_is c [] rest h = rw (same_byte c) refl
+around_is c [] rest h = rw (eq-eqb c c refl) refl
 around_is c (x ∷ a) rest h =
     let p = lacks_parts c x a h in
     rw (p.other, around_is c a rest p.rest) refl

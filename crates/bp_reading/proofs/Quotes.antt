@@ -1,7 +1,6 @@
 -- Texts in quotation marks.
 use Rattle.std.proofs.Common.{◌≡◌, ℕ, zero, suc, ◌<◌, Bool, true, false, cond, List, [], ◌∷◌, ◌++◌, Option, Some, refl, sym, ap, ◌∙◌, inl, inr, arith, append_assoc, subst}
-use Rattle.std.proofs.lemmas.Bool.Decides.{eqb_tells}
-use Rattle.std.proofs.lemmas.Bool.{false≢true, cases_lt, cases_eq, and_parts}
+use Rattle.std.proofs.lemmas.Bool.{false≢true, cases_lt, cases_eq, and_parts, ne_eqb}
 use Rattle.std.specs.Prelude.{◌==◌, ◌&&◌, not, flat_map}
 use Rattle.json.specs.Print.{escape_byte}
 use Rattle.json.proofs.Printed.Strings.{escape_byte_plain}
@@ -33,14 +32,11 @@ all_good : good_below 128 ≡ true
 unfolding escape_byte
 all_good = refl
 
-not_that : (x n : ℕ) → (x ≡ n → ⊥) → (x == n) ≡ false
-not_that x n h = elim (eqb_tells x n) [ inl same ↦ absurd (h same.1) | inr other ↦ other.0 ]
-
 good_escape : (x : ℕ) → good (escaped_byte x) ≡ true
 good_escape x = elim (cases_lt x 128) [
   | inl small ↦ subst (λ bs. good bs ≡ true) (escape_byte_is x) (below 128 all_good x small)
   | inr big ↦ subst (λ bs. good bs ≡ true) (sym (escape_byte_plain x (λ e. omega arith) (λ e. omega arith) (omega arith)) ∙ escape_byte_is x)
-      (rw (not_that x 10 (λ e. omega arith), not_that x 34 (λ e. omega arith), not_that x 92 (λ e. omega arith)) refl)
+      (rw (ne_eqb x 10 (λ e. omega arith), ne_eqb x 34 (λ e. omega arith), ne_eqb x 92 (λ e. omega arith)) refl)
 ]
 
 lacks_body : (s : List ℕ) → lacks 10 (flat_map escaped_byte s) ≡ true
