@@ -1,7 +1,7 @@
 -- A line that is taken byte by byte.
-use Rattle.std.proofs.Common.{◌≡◌, ◌≢◌, ℕ, ◌-◌, ◌<◌, false, List, [], ◌∷◌, ◌++◌, Option, Some, None, refl, sym, ap, ◌∙◌, inl, inr, arith, option_map}
-use Rattle.std.specs.Prelude.{◌==◌, IfSome, IsSomeAnd}
-use Rattle.std.proofs.lemmas.Bool.Decides.{eqb_tells}
+use Rattle.std.proofs.Common.{◌≡◌, ◌≢◌, ℕ, ◌-◌, ◌<◌, List, [], ◌∷◌, ◌++◌, Option, Some, None, refl, sym, ap, ◌∙◌, arith, option_map}
+use Rattle.std.specs.Prelude.{IfSome, IsSomeAnd}
+use Rattle.std.proofs.lemmas.Bool.{ne_eqb}
 use Rattle.bp_reading.specs.Heads.{Front, partial, excess, whole, onto, line_at}
 use Rattle.bp_base.specs.Pieces.{GivesSome}
 use Rattle.bp_reader.specs.Fed.{Comes}
@@ -14,9 +14,6 @@ onto_line (b ∷ bytes) front = onto b (onto_line bytes front)
 -- these bytes of the line were taken, and so much room is left
 abbrev pub Along : Option (List ℕ) → Option (List ℕ) → List ℕ → ℕ → Type 0
 Along before after line room = IfSome before (λ bytes. IsSomeAnd after (λ rest. line_at MOST_LINE_BYTES bytes ≡ onto_line line (line_at room rest)))
-
-not_that : (x n : ℕ) → x ≢ n → (x == n) ≡ false
-not_that x n h = elim (eqb_tells x n) [ inl same ↦ absurd (h same.1) | inr other ↦ other.0 ]
 
 onto_whole : (line rest : List ℕ) → onto_line line (whole [] rest) ≡ whole line rest
 onto_whole [] rest = refl
@@ -35,14 +32,10 @@ onto_push [] b f = refl
 onto_push (c ∷ line) b f = ap (onto c) (onto_push line b f)
 
 byte_taken : (room b : ℕ) (rest : List ℕ) → b ≢ 10 → 0 < room → line_at room (b ∷ rest) ≡ onto b (line_at (room - 1) rest)
-byte_taken room b rest h r = rw (not_that b 10 h, not_that room 0 (λ e. omega (arith, e, r))) refl
+byte_taken room b rest h r = rw (ne_eqb b 10 h, ne_eqb room 0 (λ e. omega (arith, e, r))) refl
 
 byte_over : (room b : ℕ) (rest : List ℕ) → b ≢ 10 → room ≡ 0 → line_at room (b ∷ rest) ≡ excess
-byte_over room b rest h r = rw (not_that b 10 h, r) refl
-
-pub starts : (before : Option (List ℕ)) (room : ℕ) → room ≡ MOST_LINE_BYTES → Along before before [] room
-starts None room e = tt
-starts (Some bytes) room e = rw e refl
+byte_over room b rest h r = rw (ne_eqb b 10 h, r) refl
 
 pub ends : (before a b : Option (List ℕ)) (line : List ℕ) (room : ℕ) → Along before a line room → Comes a None b → IfSome before (λ bytes. line_at MOST_LINE_BYTES bytes ≡ partial)
 ends None a b line room h k = tt

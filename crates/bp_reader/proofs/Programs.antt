@@ -12,10 +12,6 @@ onto_program front read = read >>= λ p. Ok (front ++ p.0, p.1)
 abbrev pub Along : Option (List ℕ) → Option (List ℕ) → ℕ → List ℕ → ℕ → Type 0
 Along before after size taken more = IfSome before (λ bytes. IsSomeAnd after (λ rest. program_at size bytes ≡ onto_program taken (program_at more rest)))
 
-onto_nothing : (r : Result (List ℕ × List ℕ) Refusal) → r ≡ onto_program [] r
-onto_nothing (Ok p) = refl
-onto_nothing (Err f) = refl
-
 onto_push : (taken : List ℕ) (b : ℕ) (r : Result (List ℕ × List ℕ) Refusal) → onto_program taken (r >>= λ p. Ok (b ∷ p.0, p.1)) ≡ onto_program (taken ++ b ∷ []) r
 onto_push taken b (Ok p) = ap (λ (t : List ℕ). Ok (t, p.1)) (sym (append_assoc taken (b ∷ []) p.0))
 onto_push taken b (Err f) = refl
@@ -36,10 +32,6 @@ last_good rest = refl
 last_bad : (b : ℕ) (rest : List ℕ) → b ≢ 10 → program_at 0 (b ∷ rest) ≡ Err header
 unfolding program_at
 last_bad b rest h = elim (eqb_tells b 10) [ inl same ↦ absurd (h same.1) | inr other ↦ rw other.0 refl ]
-
-pub starts : (before : Option (List ℕ)) (size more : ℕ) → more ≡ size → Along before before size [] more
-starts None size more e = tt
-starts (Some bytes) size more e = rw e (onto_nothing (program_at size bytes))
 
 pub ends : (before a b : Option (List ℕ)) (size more : ℕ) (taken : List ℕ) → Along before a size taken more → Comes a None b → IfSome before (λ bytes. program_at size bytes ≡ Err cut)
 ends None a b size more taken h k = tt

@@ -18,6 +18,7 @@ abbrev pub MeansRead : {X : Type 0} → LogFault → Result (X × List ℕ) Refu
 MeansRead f read = IfSome (refusal_of f) (λ r. read ≡ Err r)
 
 -- what was answered, seen by view, is what the definition reads
-abbrev pub Gets : {A X : Type 0} → (A → X) → Result A LogFault → Result (X × List ℕ) Refusal → Option (List ℕ) → Type 0
+abbrev pub Gets : {A X : Type 0} →
+    (A → X) → Result A LogFault → Result (X × List ℕ) Refusal → Option (List ℕ) → Type 0
 Gets view (Ok x) read after = IsSomeAnd after (λ rest. read ≡ Ok (view x, rest))
 Gets view (Err f) read after = MeansRead f read

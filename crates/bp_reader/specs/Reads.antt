@@ -6,8 +6,8 @@ use Rattle.bp_reading.specs.Reading.{Stage, Next, found, finished, refused, afte
 use Rattle.bp_reader.specs.declared.fault.LogFault.{LogFault}
 use Rattle.bp_reader.specs.Gets.{refusal_of}
 
--- where a reader stands: the bytes still to come, where the source tells them, how often it failed, what is
--- known of the records before, and what was refused
+-- where a reader stands: the bytes still to come, where the source tells them, how often it failed,
+-- what is known of the records before, and what was refused
 pub record Standing : Type 0 where
   pub left : Option (List ℕ)
   pub faults : ℕ
@@ -34,7 +34,8 @@ IsStageAfter before (Ok (Some r)) s = s ≡ stage_after before r
 IsStageAfter before (Ok None) s = s ≡ before
 IsStageAfter before (Err f) s = s ≡ before
 
--- A record comes where none before was the end, and fewer than the most came; behind the end no record comes.
+-- A record comes where none before was the end, and fewer than the most came; behind the end no record
+-- comes.
 abbrev pub ComesInTime : Stage → Result (Option Record) LogFault → Type 0
 ComesInTime s (Ok (Some r)) = (s.ended ≡ false) × (s.lines < MOST_RECORDS)
 ComesInTime s (Ok None) = s.ended ≡ true

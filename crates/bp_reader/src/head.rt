@@ -15,7 +15,8 @@ use std::alloc::Global;
 /// The first line.
 #[tactic(auto, unfolding(bp_reading::specs::Heads::version_at))]
 fn version_of<S: Source>(alloc: Global, input: &mut Input<S>) -> Result<(), LogFault>
-    ensures gets { IfSome input.old.left (λ bytes. Gets (λ _. tt) result (version_at bytes) input.new.left) }
+    ensures gets { IfSome input.old.left
+        (λ bytes. Gets (λ _. tt) result (version_at bytes) input.new.left) }
     ensures cause { IsErrOf result LogFault.Read → Rose input.old.faults input.new.faults }
     ensures counts { input.old.faults ≤ input.new.faults }
 {
@@ -43,7 +44,8 @@ fn named(line: &[u8]) -> Option<Strategy>
 /// The line of the strategy.
 #[tactic(auto, unfolding(bp_reading::specs::Heads::strategy_line_at))]
 fn strategy_of<S: Source>(alloc: Global, input: &mut Input<S>) -> Result<Strategy, LogFault>
-    ensures gets { IfSome input.old.left (λ bytes. Gets (λ s. s) result (strategy_line_at bytes) input.new.left) }
+    ensures gets { IfSome input.old.left
+        (λ bytes. Gets (λ s. s) result (strategy_line_at bytes) input.new.left) }
     ensures cause { IsErrOf result LogFault.Read → Rose input.old.faults input.new.faults }
     ensures counts { input.old.faults ≤ input.new.faults }
 {
@@ -80,7 +82,8 @@ fn field_of<S: Source>(
     least: u64,
     most: u64,
 ) -> Result<u64, LogFault>
-    ensures gets { IfSome input.old.left (λ bytes. Gets (λ n. n) result (field_at word.now least most bytes) input.new.left) }
+    ensures gets { IfSome input.old.left
+        (λ bytes. Gets (λ n. n) result (field_at word.now least most bytes) input.new.left) }
     ensures from { IfOk result (λ n. least ≤ n) }
     ensures within { IfOk result (λ n. n ≤ most) }
     ensures cause { IsErrOf result LogFault.Read → Rose input.old.faults input.new.faults }
@@ -103,7 +106,8 @@ fn program_of<S: Source>(
     input: &mut Input<S>,
     size: u64,
 ) -> Result<Vec<u8>, LogFault>
-    ensures gets { IfSome input.old.left (λ bytes. Gets (λ v. v.items) result (program_at size bytes) input.new.left) }
+    ensures gets { IfSome input.old.left
+        (λ bytes. Gets (λ v. v.items) result (program_at size bytes) input.new.left) }
     ensures within { IfOk result (λ v. length v.items ≤ size) }
     ensures cause { IsErrOf result LogFault.Read → Rose input.old.faults input.new.faults }
     ensures counts { input.old.faults ≤ input.new.faults }
@@ -127,7 +131,8 @@ fn program_of<S: Source>(
 /// The first line, the strategy and the seed.
 #[tactic(auto, unfolding(bp_reading::specs::Heads::choice_at))]
 fn choice_of<S: Source>(alloc: Global, input: &mut Input<S>) -> Result<(Strategy, u64), LogFault>
-    ensures gets { IfSome input.old.left (λ bytes. Gets (λ p. p) result (choice_at bytes) input.new.left) }
+    ensures gets { IfSome input.old.left
+        (λ bytes. Gets (λ p. p) result (choice_at bytes) input.new.left) }
     ensures cause { IsErrOf result LogFault.Read → Rose input.old.faults input.new.faults }
     ensures counts { input.old.faults ≤ input.new.faults }
 {
@@ -140,7 +145,8 @@ fn choice_of<S: Source>(alloc: Global, input: &mut Input<S>) -> Result<(Strategy
 /// The budget and the steps.
 #[tactic(auto, unfolding(bp_reading::specs::Heads::limits_at))]
 fn limits_of<S: Source>(alloc: Global, input: &mut Input<S>) -> Result<(u64, u32), LogFault>
-    ensures gets { IfSome input.old.left (λ bytes. Gets (λ p. p) result (limits_at bytes) input.new.left) }
+    ensures gets { IfSome input.old.left
+        (λ bytes. Gets (λ p. p) result (limits_at bytes) input.new.left) }
     ensures budget { IfOk result (λ p. (1 ≤ p.0) × (p.0 ≤ MOST_BUDGET)) }
     ensures steps { IfOk result (λ p. (1 ≤ p.1) × (p.1 ≤ MOST_STEPS)) }
     ensures cause { IsErrOf result LogFault.Read → Rose input.old.faults input.new.faults }
@@ -154,7 +160,8 @@ fn limits_of<S: Source>(alloc: Global, input: &mut Input<S>) -> Result<(u64, u32
 /// The first line and the options.
 #[tactic(auto, unfolding(bp_reading::specs::Heads::options_at))]
 fn options_of<S: Source>(alloc: Global, input: &mut Input<S>) -> Result<Options, LogFault>
-    ensures gets { IfSome input.old.left (λ bytes. Gets (λ o. o) result (options_at bytes) input.new.left) }
+    ensures gets { IfSome input.old.left
+        (λ bytes. Gets (λ o. o) result (options_at bytes) input.new.left) }
     ensures cause { IsErrOf result LogFault.Read → Rose input.old.faults input.new.faults }
     ensures counts { input.old.faults ≤ input.new.faults }
 {
@@ -170,7 +177,8 @@ fn options_of<S: Source>(alloc: Global, input: &mut Input<S>) -> Result<Options,
 /// The header.
 #[tactic(auto, unfolding(bp_reading::specs::Heads::header_at))]
 pub fn header_of<S: Source>(alloc: Global, input: &mut Input<S>) -> Result<Header, LogFault>
-    ensures gets { IfSome input.old.left (λ bytes. Gets (λ h. h) result (header_at bytes) input.new.left) }
+    ensures gets { IfSome input.old.left
+        (λ bytes. Gets (λ h. h) result (header_at bytes) input.new.left) }
     ensures cause { IsErrOf result LogFault.Read → Rose input.old.faults input.new.faults }
     ensures counts { input.old.faults ≤ input.new.faults }
 {

@@ -11,7 +11,7 @@ use std::alloc::{AllocError, AllocFailed, Global};
 use std::marker::Model;
 
 /// Why nothing is answered.
-#[derive(Clone, Copy, Debug, PartialEq, Eq)]
+#[derive(Clone, Copy)]
 pub enum Fault {
     /// The source failed.
     Read,
@@ -53,7 +53,6 @@ impl From<Failed> for Fault {
 }
 
 /// A line, without its LF.
-#[derive(Debug)]
 pub enum Taken {
     /// The line.
     Line(Vec<u8>),
@@ -139,7 +138,8 @@ impl<S: Source> Input<S> {
 
     /// The next line, of at most 1,048,576 bytes.
     pub fn line(&mut self, alloc: Global) -> Result<Taken, Fault>
-        ensures line { IfOk result (λ t. IfSome self.old.left (λ bytes. IsFront t (line_at MOST_LINE_BYTES bytes) self.new.left)) }
+        ensures line { IfOk result (λ t. IfSome self.old.left
+            (λ bytes. IsFront t (line_at MOST_LINE_BYTES bytes) self.new.left)) }
         ensures cause { IsErrOf result Fault.Read → Rose self.old.faults self.new.faults }
         ensures counts { self.old.faults ≤ self.new.faults }
     {

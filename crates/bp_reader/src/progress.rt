@@ -25,7 +25,12 @@ impl Model for Progress {
 
     ghost Value = { Stage };
 
-    ghost view = { λ p. record { injectors = p.injectors; over = p.over.items; lines = p.lines; ended = p.ended } };
+    ghost view = { λ p. record {
+      injectors = p.injectors;
+      over = p.over.items;
+      lines = p.lines;
+      ended = p.ended;
+    } };
 
     ghost invariant = { λ p. p.lines ≤ MOST_RECORDS };
 }

@@ -30,7 +30,12 @@ impl<S: Source> Model for Reader<S> {
 
     ghost Value = { Standing };
 
-    ghost view = { λ r. record { left = r.input.left; faults = r.input.faults; stage = r.progress; refusal = r.refusal } };
+    ghost view = { λ r. record {
+      left = r.input.left;
+      faults = r.input.faults;
+      stage = r.progress;
+      refusal = r.refusal;
+    } };
 }
 
 /// A log whose header was refused.
@@ -47,7 +52,8 @@ fn behind_end<S: Source>(
     input: &mut Input<S>,
     progress: &Progress,
 ) -> Result<Option<Record>, LogFault>
-    ensures tells { IfSome input.old.left (λ bytes. Tells result (next_of progress.now (ends bytes)) input.new.left) }
+    ensures tells { IfSome input.old.left
+        (λ bytes. Tells result (next_of progress.now (ends bytes)) input.new.left) }
     ensures none { IfOk result (λ r. r ≡ None) }
     ensures cause { IsErrOf result LogFault.Read → Rose input.old.faults input.new.faults }
     ensures counts { input.old.faults ≤ input.new.faults }
@@ -61,7 +67,8 @@ fn behind_end<S: Source>(
 
 /// What stands behind the last line that may come.
 fn behind_last<S: Source>(input: &mut Input<S>, progress: &Progress) -> LogFault
-    ensures tells { IfSome input.old.left (λ bytes. MeansNext result (next_of progress.now (too_many bytes))) }
+    ensures tells { IfSome input.old.left
+        (λ bytes. MeansNext result (next_of progress.now (too_many bytes))) }
     ensures cause { result ≡ LogFault.Read → Rose input.old.faults input.new.faults }
     ensures counts { input.old.faults ≤ input.new.faults }
 {
@@ -79,7 +86,9 @@ fn next_line<S: Source>(
     progress: &mut Progress,
 ) -> Result<Record, LogFault>
     requires { progress.old.lines < MOST_RECORDS }
-    ensures tells { IfSome input.old.left (λ bytes. TellsRecord result (next_of progress.old (line_at MOST_LINE_BYTES bytes)) input.new.left) }
+    ensures tells { IfSome input.old.left
+        (λ bytes. TellsRecord result (next_of progress.old (line_at MOST_LINE_BYTES bytes))
+        input.new.left) }
     ensures stage { IfOk result (λ r. progress.new ≡ after progress.old r) }
     ensures failed { OnErr result (progress.new ≡ progress.old) }
     ensures cause { IsErrOf result LogFault.Read → Rose input.old.faults input.new.faults }
@@ -106,7 +115,8 @@ fn step<S: Source>(
     input: &mut Input<S>,
     progress: &mut Progress,
 ) -> Result<Option<Record>, LogFault>
-    ensures tells { IfSome input.old.left (λ bytes. Tells result (next_at progress.old bytes) input.new.left) }
+    ensures tells { IfSome input.old.left
+        (λ bytes. Tells result (next_at progress.old bytes) input.new.left) }
     ensures stage { IsStageAfter progress.old result progress.new }
     ensures time { ComesInTime progress.old result }
     ensures cause { IsErrOf result LogFault.Read → Rose input.old.faults input.new.faults }
@@ -165,13 +175,15 @@ impl<S: Source> Reader<S> {
     /// The next record, or `None` behind the end. After a refusal it answers the same one.
     pub fn next(&mut self, alloc: Global) -> Result<Option<Record>, LogFault>
         ensures tells { self.old.refusal ≡ None
-            → IfSome self.old.left (λ bytes. Tells result (next_at self.old.stage bytes) self.new.left) }
+            → IfSome self.old.left
+            (λ bytes. Tells result (next_at self.old.stage bytes) self.new.left) }
         ensures stage { self.old.refusal ≡ None → IsStageAfter self.old.stage result self.new.stage }
         ensures time { self.old.refusal ≡ None → ComesInTime self.old.stage result }
         ensures again { IfSome self.old.refusal
             (λ f. (result ≡ Err f) × (self.new ≡ self.old)) }
         ensures kept { IsRefusalAfter result self.new.refusal }
-        ensures cause { self.old.refusal ≡ None → IsErrOf result LogFault.Read → Rose self.old.faults self.new.faults }
+        ensures cause { self.old.refusal ≡ None
+            → IsErrOf result LogFault.Read → Rose self.old.faults self.new.faults }
         ensures counts { self.old.faults ≤ self.new.faults }
     {
         if let Some(fault) = self.refusal {
