@@ -1,24 +1,20 @@
 -- Numbers that are parsed.
-use Rattle.std.proofs.Common.{◌≡◌, ◌≢◌, ℕ, ◌<◌, ◌≤◌, ◌^◌, Bool, true, false, List, [], ◌∷◌, length, get_or, Some, None, Result, Ok, Err, refl, arith}
+use Rattle.std.proofs.Common.{◌≡◌, ◌≢◌, ℕ, ◌<◌, ◌≤◌, ◌^◌, true, false, List, [], ◌∷◌, length, get_or, Some, None, Result, Ok, Err, refl, arith}
 use Rattle.std.specs.Prelude.{◌&&◌, nat_le}
 use Rattle.std.specs.Result.{OkIff}
 use Rattle.std.specs.Str.{all_ascii_digits, IsUtf8}
 use Rattle.std.specs.Str.Parse.{ParsesUnsigned}
-use Rattle.std.proofs.lemmas.Bool.{and_parts, le-leb, leb-true}
+use Rattle.std.proofs.lemmas.Bool.{and_parts, le-leb, leb-true, false_from_ne_true}
 use Rattle.std.proofs.lemmas.Str.Parse.{parse_plain}
 use Rattle.std.proofs.lemmas.Str.{IsUtf8-from_ascii}
 use Rattle.std.proofs.lemmas.Fmt.{IsAscii-from_digits}
 use Rattle.bp_reading.specs.Words.{number_at, is_numeral, value_on, is_front_zero}
 use Rattle.bp_reading.proofs.Numbers.{own, numeral_parts, Numeral}
 
-is_false : (b : Bool) → (b ≡ true → ⊥) → b ≡ false
-is_false true h = absurd (h refl)
-is_false false h = refl
-
 pub number_none : (most : ℕ) (ds : List ℕ) → (Numeral ds → value_on 0 ds ≤ most → ⊥) → number_at most ds ≡ None
 number_none most ds h =
     let no : (is_numeral ds && nat_le (value_on 0 ds) most) ≡ false =
-    is_false _ (λ t. let p = and_parts _ _ t in h (numeral_parts ds p.0) (leb-true _ _ p.1)) in
+    false_from_ne_true _ (λ t. let p = and_parts _ _ t in h (numeral_parts ds p.0) (leb-true _ _ p.1)) in
     rw no refl
 
 numeral_of : (ds : List ℕ) → 0 < length ds → all_ascii_digits ds ≡ true → is_front_zero ds ≡ false → is_numeral ds ≡ true

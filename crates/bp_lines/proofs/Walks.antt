@@ -3,11 +3,12 @@ use Rattle.std.proofs.Common.{◌≡◌, ◌≢◌, ℕ, suc, ◌+◌, ◌<◌, 
 use Rattle.std.specs.Prelude.{◌==◌, ◌&&◌, not}
 use Rattle.std.proofs.Math.Seq.{drop-cons, take-suc, take-append_seam}
 use Rattle.std.proofs.lemmas.Bool.Decides.{eqb_tells}
-use Rattle.std.proofs.lemmas.Bool.{false≢true, and_parts}
+use Rattle.std.proofs.lemmas.Bool.{and_parts, not-true, ne_eqb, eq-eqb, eqb-true}
 use Rattle.std.proofs.Common.{option_and_then, length-drop, length-append, ap₂}
-use Rattle.bp_reading.proofs.Lines.{some_is, some_none}
+use Rattle.bp_reading.proofs.Lines.{some_none}
 use Rattle.bp_reading.proofs.Again.{quote_parts}
 use Rattle.std.proofs.lemmas.List.{drop_all}
+use Rattle.std.proofs.lemmas.Option.{same_Some}
 use Rattle.bp_reading.specs.Words.{behind, around, onto_front, to_quote, quoted_front}
 
 abbrev pub onto_all : List ℕ → Option (List ℕ × List ℕ) → Option (List ℕ × List ℕ)
@@ -26,19 +27,13 @@ onto_all-append : (bs cs : List ℕ) (o : Option (List ℕ × List ℕ)) → ont
 onto_all-append [] cs o = refl
 onto_all-append (b ∷ bs) cs o = ap (onto_front b) (onto_all-append bs cs o)
 
-not_that : (x n : ℕ) → x ≢ n → (x == n) ≡ false
-not_that x n h = elim (eqb_tells x n) [ inl same ↦ absurd (h same.1) | inr other ↦ other.0 ]
-
-is_that : (x n : ℕ) → x ≡ n → (x == n) ≡ true
-is_that x n h = elim (eqb_tells x n) [ inl same ↦ same.0 | inr other ↦ absurd (other.1 h) ]
-
 -- ---- around
 
 around_found : (c i : ℕ) (bytes : List ℕ) → i < length bytes → get_or bytes i 0 ≡ c → around c (drop i bytes) ≡ Some ([], drop (suc i) bytes)
-around_found c i bytes h e = rw (drop-cons bytes i 0 h, is_that _ _ e) refl
+around_found c i bytes h e = rw (drop-cons bytes i 0 h, eq-eqb _ _ e) refl
 
 around_passed : (c i : ℕ) (bytes : List ℕ) → i < length bytes → get_or bytes i 0 ≢ c → around c (drop i bytes) ≡ onto_front (get_or bytes i 0) (around c (drop (suc i) bytes))
-around_passed c i bytes h e = rw (drop-cons bytes i 0 h, not_that _ _ e) refl
+around_passed c i bytes h e = rw (drop-cons bytes i 0 h, ne_eqb _ _ e) refl
 
 pub around_here : (c i : ℕ) (bytes : List ℕ) → around c bytes ≡ onto_all (take i bytes) (around c (drop i bytes)) → i < length bytes → get_or bytes i 0 ≡ c → around c bytes ≡ Some (take i bytes, drop (suc i) bytes)
 around_here c i bytes inv h e =
@@ -54,11 +49,8 @@ around_more c i bytes inv h e =
 
 -- ---- behind
 
-pub behind_more : (i : ℕ) (word bytes : List ℕ) → i < length word → i < length bytes → get_or bytes i 0 ≡ get_or word i 0 → behind (drop i word) (drop i bytes) ≡ behind (drop (suc i) word) (drop (suc i) bytes)
-behind_more i word bytes h k e = rw (drop-cons bytes i 0 k, drop-cons word i 0 h, is_that _ _ e) refl
-
 pub behind_differs : (i : ℕ) (word bytes : List ℕ) → i < length word → i < length bytes → get_or bytes i 0 ≢ get_or word i 0 → behind (drop i word) (drop i bytes) ≡ None
-behind_differs i word bytes h k e = rw (drop-cons bytes i 0 k, drop-cons word i 0 h, not_that _ _ e) refl
+behind_differs i word bytes h k e = rw (drop-cons bytes i 0 k, drop-cons word i 0 h, ne_eqb _ _ e) refl
 
 behind_none : (word : List ℕ) → 0 < length word → behind word [] ≡ None
 behind_none [] h = absurd (omega (arith, h))
@@ -100,7 +92,7 @@ quote_nowhere escaped i bytes inv h = inv ∙ ap (onto_all (take i bytes)) (ap (
 behind_parts : (bytes rest : List ℕ) → behind (34 ∷ []) bytes ≡ Some rest → bytes ≡ 34 ∷ rest
 behind_parts [] rest h = absurd (some_none h)
 behind_parts (b ∷ bytes) rest h = elim (eqb_tells b 34) [
-  | inl same ↦ ap₂ (λ (x : ℕ) (xs : List ℕ). x ∷ xs) same.1 (some_is bytes rest (rw same.0 at h))
+  | inl same ↦ ap₂ (λ (x : ℕ) (xs : List ℕ). x ∷ xs) same.1 (same_Some bytes rest (rw same.0 at h))
   | inr other ↦ absurd (some_none (rw other.0 at h))
 ]
 
@@ -117,18 +109,11 @@ opens bytes rest front more h k =
       fits = rw e (omega (arith, length-append (34 ∷ front) more));
     }
 
-not_true : (b : Bool) → not b ≡ true → b ≡ false
-not_true true h = absurd (false≢true h)
-not_true false h = refl
-
-that : (x n : ℕ) → (x == n) ≡ true → x ≡ n
-that x n h = elim (eqb_tells x n) [ inl same ↦ same.1 | inr other ↦ absurd (false≢true (sym other.0 ∙ h)) ]
-
 pub quote_marked : (escaped : Bool) (i : ℕ) (bytes : List ℕ) → to_quote false bytes ≡ onto_all (take i bytes) (to_quote escaped (drop i bytes)) → i < length bytes
     → (not escaped && (get_or bytes i 0 == 34)) ≡ true → to_quote false bytes ≡ Some (take (suc i) bytes, drop (suc i) bytes)
 quote_marked escaped i bytes inv h e =
     let p = and_parts (not escaped) (get_or bytes i 0 == 34) e in
-    quote_here i bytes (rw (not_true escaped p.0) at inv) h (that _ _ p.1)
+    quote_here i bytes (rw (not-true escaped p.0) at inv) h (eqb-true _ _ p.1)
 
 pub opened : (bytes rest front more : List ℕ) → behind (34 ∷ []) bytes ≡ Some rest → to_quote false rest ≡ Some (front, more) → Some (take (length front + 1) bytes, more) ≡ quoted_front bytes
 opened bytes rest front more h k =
