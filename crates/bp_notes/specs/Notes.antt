@@ -11,4 +11,5 @@ expected_text (Some r) = record_text r
 -- the record of this number is not the one that is expected
 abbrev pub differing : ℕ → Option Record → Record → List ℕ
 differing number expected found =
-    codes "record " ++ (decimal number ++ (codes " expected " ++ (expected_text expected ++ (codes " found " ++ record_text found))))
+    codes "record " ++ (decimal number
+    ++ (codes " expected " ++ (expected_text expected ++ (codes " found " ++ record_text found))))
