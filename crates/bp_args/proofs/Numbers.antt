@@ -1,30 +1,23 @@
 -- Numbers of a word.
-use Rattle.std.proofs.Common.{◌≡◌, ◌≢◌, ℕ, ◌<◌, ◌≤◌, ◌^◌, Bool, true, false, List, length, get_or, Some, None, Result, Ok, Err, refl, arith}
+use Rattle.std.proofs.Common.{◌≡◌, ◌≢◌, ℕ, ◌<◌, ◌≤◌, ◌^◌, true, false, List, length, get_or, Some, None, Result, Ok, Err, refl, arith}
 use Rattle.std.specs.Prelude.{◌&&◌, nat_lt, nat_le}
 use Rattle.std.specs.Str.{all_ascii_digits}
 use Rattle.std.specs.Str.Parse.{ParsesUnsigned}
-use Rattle.std.proofs.lemmas.Bool.{and_parts, le-leb, leb-true, lt-ltb, ltb-true}
+use Rattle.std.proofs.lemmas.Bool.{and_parts, le-leb, leb-true, lt-ltb, ltb-true, false_from_ne_true}
 use Rattle.bp_reading.specs.Words.{value_on}
 use Rattle.bp_lines.proofs.Decimals.{parsed, parses}
 use Rattle.bp_args.specs.declared.said.TheConstants.{MOST_DIGITS}
 use Rattle.bp_args.specs.Said.{number_word}
 
-pub is_false : (b : Bool) → (b ≡ true → ⊥) → b ≡ false
-is_false true h = absurd (h refl)
-is_false false h = refl
-
 word_none : (most : ℕ) (ds : List ℕ) → (all_ascii_digits ds ≡ true → 0 < length ds → value_on 0 ds ≤ most → length ds ≤ MOST_DIGITS → ⊥) → number_word most ds ≡ None
 word_none most ds h =
     let no : (nat_lt 0 (length ds) && (nat_le (length ds) MOST_DIGITS && (all_ascii_digits ds && nat_le (value_on 0 ds) most))) ≡ false =
-    is_false _ (λ t.
+    false_from_ne_true _ (λ t.
     let a = and_parts _ _ t in
     let b = and_parts _ _ a.1 in
     let c = and_parts _ _ b.1 in
     h c.0 (ltb-true _ _ a.0) (leb-true _ _ c.1) (leb-true _ _ b.0)) in
     rw no refl
-
-pub too_long : (most : ℕ) (ds : List ℕ) → MOST_DIGITS < length ds → number_word most ds ≡ None
-too_long most ds h = word_none most ds (λ _ _ _ n. omega (arith, h, n))
 
 pub refused : {E : Type 0} (most : ℕ) (ds : List ℕ) (r : Result ℕ E) (e : E) → most < 2 ^ 64 → ParsesUnsigned 64 10 ds r → r ≡ Err e → get_or ds 0 0 ≢ 43 → number_word most ds ≡ None
 refused most ds r e small h is p =

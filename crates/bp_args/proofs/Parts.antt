@@ -2,10 +2,9 @@
 use Rattle.std.proofs.Common.{◌≡◌, ℕ, ◌<◌, false, List, length, Option, Some, None, option_map, refl, arith, Bor}
 use Rattle.std.specs.Prelude.{◌==◌, nat_lt, MatchOption, eqb}
 use Rattle.std.specs.List.{position_or_len, before_first, after_first}
-use Rattle.std.proofs.lemmas.Bool.{lt-ltb, ltb-true}
+use Rattle.std.proofs.lemmas.Bool.{lt-ltb, ltb-true, false_from_ne_true}
 use Rattle.std.proofs.lemmas.Str.Pattern.{split_once_first, IsSplitOnceResult}
 use Rattle.bp_args.specs.Said.{parts_at}
-use Rattle.bp_args.proofs.Numbers.{is_false}
 
 abbrev IsCut : ℕ → List ℕ → Option (Bor (List ℕ) × Bor (List ℕ)) → Type 0
 IsCut c bs r = MatchOption r (position_or_len (λ b. eqb b c) bs ≡ length bs)
@@ -13,7 +12,7 @@ IsCut c bs r = MatchOption r (position_or_len (λ b. eqb b c) bs ≡ length bs)
 
 cut : (c : ℕ) (bs : List ℕ) (r : Option (Bor (List ℕ) × Bor (List ℕ))) → IsCut c bs r → option_map (λ p. (p.0.now, p.1.now)) r ≡ parts_at c bs
 cut c bs None h =
-    let no : nat_lt (position_or_len (λ b. b == c) bs) (length bs) ≡ false = is_false _ (λ t. let k = ltb-true _ _ t in omega (arith, k, h)) in
+    let no : nat_lt (position_or_len (λ b. b == c) bs) (length bs) ≡ false = false_from_ne_true _ (λ t. let k = ltb-true _ _ t in omega (arith, k, h)) in
     rw no refl
 cut c bs (Some x) h = rw (lt-ltb _ _ h.0, h.1, h.2) refl
 

@@ -1,11 +1,10 @@
 -- Options, workers and slice in their ranges.
 use Rattle.std.proofs.Common.{◌≡◌, true, Option, Some, None, refl, ap, arith}
 use Rattle.std.specs.Prelude.{SomeIff, if◌then◌else◌}
-use Rattle.std.proofs.lemmas.Bool.{and_parts, le-leb, leb-true}
+use Rattle.std.proofs.lemmas.Bool.{and_parts, le-leb, leb-true, false_from_ne_true}
 use Rattle.bp_log.specs.Options.{PlainOptions, AreOptions}
 use Rattle.bp_log.specs.Beside.{PlainBeside, AreBeside}
 use Rattle.bp_args.specs.Command.{in_range, beside_in_range}
-use Rattle.bp_args.proofs.Numbers.{is_false}
 
 are_in_range : (o : PlainOptions) → AreOptions o → in_range o ≡ true
 are_in_range o h = rw (le-leb _ _ h.some_budget, le-leb _ _ h.budget, le-leb _ _ h.some_steps, le-leb _ _ h.steps) refl
@@ -25,7 +24,7 @@ are_options o e h =
 
 pub told : (o : PlainOptions) (r : Option PlainOptions) → o.injectors ≡ 0 → SomeIff r (AreOptions o) o → r ≡ (if in_range o then Some o else None)
 told o (Some p) e h = rw (are_in_range o h.0) (ap (λ (q : PlainOptions). Some q) h.1)
-told o None e h = rw (is_false (in_range o) (λ t. h (are_options o e t))) refl
+told o None e h = rw (false_from_ne_true (in_range o) (λ t. h (are_options o e t))) refl
 
 beside_are_in_range : (b : PlainBeside) → AreBeside b → beside_in_range b ≡ true
 beside_are_in_range b h = rw (le-leb _ _ h.some_workers, le-leb _ _ h.workers, le-leb _ _ h.some_slice, le-leb _ _ h.slice) refl
@@ -44,4 +43,4 @@ are_beside b h =
 
 pub told_beside : (b : PlainBeside) (r : Option PlainBeside) → SomeIff r (AreBeside b) b → r ≡ (if beside_in_range b then Some b else None)
 told_beside b (Some p) h = rw (beside_are_in_range b h.0) (ap (λ (q : PlainBeside). Some q) h.1)
-told_beside b None h = rw (is_false (beside_in_range b) (λ t. h (are_beside b t))) refl
+told_beside b None h = rw (false_from_ne_true (beside_in_range b) (λ t. h (are_beside b t))) refl

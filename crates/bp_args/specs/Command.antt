@@ -32,10 +32,14 @@ beside_of s = record {
 
 -- the numbers are in their ranges
 abbrev pub in_range : PlainOptions → Bool
-in_range o = nat_le 1 o.budget && (nat_le o.budget MOST_BUDGET && (nat_le 1 o.steps && nat_le o.steps MOST_STEPS))
+in_range o =
+    nat_le 1 o.budget && (nat_le o.budget MOST_BUDGET
+    && (nat_le 1 o.steps && nat_le o.steps MOST_STEPS))
 
 abbrev pub beside_in_range : PlainBeside → Bool
-beside_in_range b = nat_le 1 b.workers && (nat_le b.workers MOST_WORKERS && (nat_le 1 b.slice && nat_le b.slice MOST_SLICE))
+beside_in_range b =
+    nat_le 1 b.workers && (nat_le b.workers MOST_WORKERS
+    && (nat_le 1 b.slice && nat_le b.slice MOST_SLICE))
 
 -- the log has another name than the program
 abbrev pub is_apart : List ℕ → Option (List ℕ) → Bool
@@ -45,7 +49,12 @@ is_apart program (Some log) = not (bytes_eq log program)
 abbrev pub run_with : Said → List ℕ → Option Command
 run_with s program =
     if in_range (options_of s) && (beside_in_range (beside_of s) && is_apart program s.log)
-    then Some (command.Run (record { program = program; log = s.log; options = options_of s; beside = beside_of s }))
+    then Some (command.Run (record {
+      program = program;
+      log = s.log;
+      options = options_of s;
+      beside = beside_of s;
+    }))
     else None
 
 -- no option is said
@@ -75,7 +84,8 @@ command_with verb s =
     else if bytes_eq verb (codes "run") then run_of s
     else if bytes_eq verb (codes "replay") then option_map command.Replay (bare_name s)
     else if bytes_eq verb (codes "accept") then option_map command.Accept (bare_name s)
-    else if bytes_eq verb (codes "large") then option_map command.Large (option_and_then large_of (bare_name s))
+    else if bytes_eq verb (codes "large")
+    then option_map command.Large (option_and_then large_of (bare_name s))
     else None
 
 -- the command that the words are

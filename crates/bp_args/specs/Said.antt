@@ -20,7 +20,10 @@ is_name (b ∷ c ∷ rest) = if b == 45 then false else true
 -- a number is one digit or more, but not too many, and at most `most`
 abbrev pub number_word : ℕ → List ℕ → Option ℕ
 number_word most word =
-    if nat_lt 0 (length word) && (nat_le (length word) MOST_DIGITS && (all_ascii_digits word && nat_le (value_on 0 word) most)) then Some (value_on 0 word) else None
+    if nat_lt 0 (length word) && (nat_le (length word) MOST_DIGITS
+    && (all_ascii_digits word && nat_le (value_on 0 word) most))
+    then Some (value_on 0 word)
+    else None
 
 abbrev pub key_of : List ℕ → Option Key
 key_of word =
@@ -46,13 +49,20 @@ some_text (b ∷ bytes) = Some (b ∷ bytes)
 
 -- the option gets the value
 abbrev pub set : Said → Key → List ℕ → Option Said
-set s Log v = option_map (λ o. record s { waiting = Any; log = o }) (once s.log (some_text v))
-set s Strategy v = option_map (λ o. record s { waiting = Any; strategy = o }) (once s.strategy (strategy_at v))
-set s Seed v = option_map (λ o. record s { waiting = Any; seed = o }) (once s.seed (number_word most_64 v))
-set s Budget v = option_map (λ o. record s { waiting = Any; budget = o }) (once s.budget (number_word most_64 v))
-set s Steps v = option_map (λ o. record s { waiting = Any; steps = o }) (once s.steps (number_word most_32 v))
-set s Workers v = option_map (λ o. record s { waiting = Any; workers = o }) (once s.workers (number_word most_32 v))
-set s Slice v = option_map (λ o. record s { waiting = Any; slice = o }) (once s.slice (number_word most_64 v))
+set s Log v =
+    option_map (λ o. record s { waiting = Any; log = o }) (once s.log (some_text v))
+set s Strategy v =
+    option_map (λ o. record s { waiting = Any; strategy = o }) (once s.strategy (strategy_at v))
+set s Seed v =
+    option_map (λ o. record s { waiting = Any; seed = o }) (once s.seed (number_word most_64 v))
+set s Budget v =
+    option_map (λ o. record s { waiting = Any; budget = o }) (once s.budget (number_word most_64 v))
+set s Steps v =
+    option_map (λ o. record s { waiting = Any; steps = o }) (once s.steps (number_word most_32 v))
+set s Workers v =
+    option_map (λ o. record s { waiting = Any; workers = o }) (once s.workers (number_word most_32 v))
+set s Slice v =
+    option_map (λ o. record s { waiting = Any; slice = o }) (once s.slice (number_word most_64 v))
 
 -- the word is the one name
 abbrev pub name : Said → List ℕ → Option Said
@@ -61,7 +71,9 @@ name s word = option_map (λ o. record s { name = o }) (once s.name (Some word))
 -- what stands before the first such byte, and behind it
 abbrev pub parts_at : ℕ → List ℕ → Option (List ℕ × List ℕ)
 parts_at c word =
-    if nat_lt (position_or_len (λ b. b == c) word) (length word) then Some (before_first (λ b. b == c) word, after_first (λ b. b == c) word) else None
+    if nat_lt (position_or_len (λ b. b == c) word) (length word)
+    then Some (before_first (λ b. b == c) word, after_first (λ b. b == c) word)
+    else None
 
 -- an option, with its value behind `=` or in the next word
 abbrev pub option_in : Said → List ℕ → Option (List ℕ × List ℕ) → Option Said

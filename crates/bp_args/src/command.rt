@@ -34,7 +34,8 @@ pub enum Command {
     Replay(Text),
     /// The program of this name is accepted or refused, and not run.
     Accept(Text),
-    /// A program that the command makes itself is run, with 1 to 4,000 b-threads, and its text is measured.
+    /// A program that the command makes itself is run, with 1 to 4,000 b-threads, and its text is
+    /// measured.
     Large(u32),
 }
 
@@ -74,7 +75,8 @@ fn options_of(said: &Said) -> Option<Options>
 
 /// Workers and slice as they are said, or `None` exactly where one is out of its range.
 fn beside_of(said: &Said) -> Option<Beside>
-    ensures { result ≡ (if beside_in_range (beside_of said.now) then Some (beside_of said.now) else None) }
+    ensures { result
+        ≡ (if beside_in_range (beside_of said.now) then Some (beside_of said.now) else None) }
 {
     let defaults = Beside::defaults();
     let workers = said.workers.unwrap_or(defaults.workers());
@@ -152,7 +154,8 @@ fn command_with(verb: &str, said: Said) -> Option<Command>
 /// What the words behind the first say.
 fn said_of(alloc: Global, words: &[String]) -> Result<Said, Usage>
     ensures said { IfOk result (λ s. said_on nothing_said (map string_bytes words.now) ≡ Some s) }
-    ensures wrong { IsErrOf result Usage.Wrong → said_on nothing_said (map string_bytes words.now) ≡ None }
+    ensures wrong { IsErrOf result Usage.Wrong
+        → said_on nothing_said (map string_bytes words.now) ≡ None }
 {
     let mut said = Said::new();
     for word in words {

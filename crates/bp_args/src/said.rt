@@ -13,7 +13,7 @@ use std::alloc::Global;
 pub const MOST_DIGITS: usize = 20;
 
 /// An option of `run`.
-#[derive(Clone, Copy, Debug, PartialEq, Eq)]
+#[derive(Clone, Copy)]
 pub enum Key {
     /// The name of the log.
     Log,
@@ -32,7 +32,7 @@ pub enum Key {
 }
 
 /// What the next word may be.
-#[derive(Clone, Copy, Debug, PartialEq, Eq)]
+#[derive(Clone, Copy)]
 pub enum Waiting {
     /// A name, an option or `--`.
     Any,
@@ -43,7 +43,6 @@ pub enum Waiting {
 }
 
 /// What the words said so far.
-#[derive(Debug)]
 pub struct Said {
     /// What the next word may be.
     pub waiting: Waiting,
@@ -266,8 +265,10 @@ impl Said {
 
     /// The word is an option, which waits for its value or has it behind `=`.
     fn option(&mut self, alloc: Global, word: &str) -> Result<(), Usage>
-        ensures said { IfOk result (λ _. option_in self.old word.now (parts_at 61 word.now) ≡ Some self.new) }
-        ensures wrong { IsErrOf result Usage.Wrong → option_in self.old word.now (parts_at 61 word.now) ≡ None }
+        ensures said { IfOk result
+            (λ _. option_in self.old word.now (parts_at 61 word.now) ≡ Some self.new) }
+        ensures wrong { IsErrOf result Usage.Wrong
+            → option_in self.old word.now (parts_at 61 word.now) ≡ None }
     {
         let Some((before, value)) = parts_of(word) else {
             let Some(key) = key_of(word.as_bytes()) else {
