@@ -6,7 +6,8 @@ use Rattle.bp_reading.specs.Reading.{first_stage}
 use Rattle.bp_reading.specs.Laws.{AreRecords, Stands}
 use Rattle.bp_code.specs.Code.{records_alone}
 
--- The records of the run without injectors can stand, one after another, each on a line that isn't too long, and the last is `end`.
+-- The records of the run without injectors can stand, one after another, each on a line that isn't too
+-- long, and the last is `end`.
 abbrev pub RecordsStand : Type 0
 RecordsStand =
     (program : PlainProgram) (options : PlainOptions) → AreOptions options → options.injectors ≡ 0 →
