@@ -151,9 +151,6 @@ module _ (first c : Course) (program : c.program ≡ first.program) (options : c
 
 -- ---- the end
 
-abbrev pub IsEndOf : Record → Verdict → Type 0
-IsEndOf r v = r ≡ End v
-
 end_at : (rs : List Record) (r : Record) (v : Verdict) → verdict_of (rs ++ r ∷ []) ≡ Some v → r ≡ End v
 end_at [] (In j e) v h = absurd (cc)
 end_at [] (Bad j n) v h = absurd (cc)

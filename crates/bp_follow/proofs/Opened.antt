@@ -1,18 +1,16 @@
 -- A run before the first record of its log.
-use Rattle.std.proofs.Common.{◌≡◌, ℕ, false, List, [], ◌++◌, refl, ap, sym, subst, Option, Some, None, Err}
-use Rattle.std.specs.Prelude.{IfSome, Result}
+use Rattle.std.proofs.Common.{◌≡◌, ℕ, false, List, [], ◌++◌, refl, ap, sym, Option, Some, None, Err}
+use Rattle.std.specs.Prelude.{IfSome}
 use Rattle.js_program.specs.PlainProgram.{PlainProgram}
 use Rattle.bp_log.specs.Options.{PlainOptions}
-use Rattle.bp_log.specs.declared.verdict.Verdict.{Verdict}
 use Rattle.bp_reading.specs.Reading.{Stage, first_stage}
 use Rattle.bp_run.specs.Settling.{opening}
 use Rattle.bp_run.specs.Story.{story, story_from}
 use Rattle.bp_arbiter.specs.Arbiters.{PlainArbiter, StandsFor, opened, is_lent}
 use Rattle.bp_serve.specs.Pages.{ShowsFront}
 use Rattle.bp_serve.proofs.Pieces.{shows_page}
-use Rattle.bp_follow.specs.declared.fault.ReplayFault.{ReplayFault}
 use Rattle.bp_follow.specs.declared.fault.ReplayFault.TheVariants as fault
-use Rattle.bp_follow.specs.Courses.{Course, text_in}
+use Rattle.bp_follow.specs.Courses.{text_in}
 use Rattle.bp_follow.specs.Following.{first_course, first_of, IsOnWay, Tells}
 use Rattle.bp_follow.proofs.Tales.{reads_first}
 
@@ -31,14 +29,6 @@ on_way_first a r u s =
 
 pub on_way_opened : (program : PlainProgram) (options : PlainOptions) (a : PlainArbiter) → a ≡ opened program options → StandsFor a [] [] opening → IsOnWay (first_of a) [] a
 on_way_opened program options a e s = on_way_first a (ap (λ (x : PlainArbiter). x.records) e) (ap (λ (x : PlainArbiter). is_lent x.phase) e) s
-
-pub first_opened : (program : PlainProgram) (options : PlainOptions) (a : PlainArbiter) → a ≡ opened program options → first_of a ≡ first_course program options
-first_opened program options a e = ap (λ (x : PlainArbiter). first_of x) e
-
-pub tells_opened : (program : PlainProgram) (options : PlainOptions) (a : PlainArbiter) → a ≡ opened program options → (rest : Option (List ℕ)) (before later : Option (List ℕ)) (page : List ℕ) (result : Result Verdict ReplayFault) →
-    IfSome rest (λ bytes. Tells (first_of a) bytes before page later result) → IfSome rest (λ bytes. Tells (first_course program options) bytes before page later result)
-tells_opened program options a e rest before later page result h =
-    subst (λ (c : Course). IfSome rest (λ bytes. Tells c bytes before page later result)) (first_opened program options a e) h
 
 -- memory was wanting before anything ran
 pub tells_nothing : (program : PlainProgram) (options : PlainOptions) (rest : Option (List ℕ)) (s : Stage) (before : Option (List ℕ)) (page : List ℕ) → s ≡ first_stage options.injectors → ShowsFront before (text_in (first_course program options)) page before →

@@ -1,6 +1,6 @@
 -- What is printed as a log is followed.
-use Rattle.std.proofs.Common.{◌≡◌, inl, inr, ℕ, true, false, List, [], ◌∷◌, ◌++◌, length, refl, ap, sym, ◌∙◌, subst, append_assoc, length-append, arith, Option, Some, None, Ok, Err, IsSome}
-use Rattle.std.specs.Prelude.{Result, OnOk, OnErr}
+use Rattle.std.proofs.Common.{◌≡◌, inl, inr, true, false, List, [], ◌∷◌, ◌++◌, refl, ap, sym, ◌∙◌, subst, append_assoc, Option, Some, None, Ok, Err, IsSome}
+use Rattle.std.specs.Prelude.{Result, OnOk}
 use Rattle.std.proofs.lemmas.List.{append_cancel_left}
 use Rattle.js_meaning.specs.Bodies.{Origin}
 use Rattle.bp_log.specs.Records.{is_complete, verdict_of}
@@ -16,19 +16,13 @@ use Rattle.bp_thread.specs.declared.job.Job.{Job}
 use Rattle.bp_floor.specs.declared.phase.Phase.{Phase}
 use Rattle.bp_floor.specs.declared.phase.Phase.TheVariants.{Ready, Lent, Rest, Over}
 use Rattle.bp_floor.specs.Floors.{is_idle}
-use Rattle.bp_arbiter.specs.Arbiters.{PlainArbiter, Recounts, StandsFor, StandsSomewhere, options_in, stand_in, is_lent}
+use Rattle.bp_arbiter.specs.Arbiters.{PlainArbiter, Recounts, StandsFor, options_in, stand_in, is_lent}
 use Rattle.bp_serve.specs.Turning.{StandsAfter, Closes, Settles}
 use Rattle.bp_serve.proofs.Way.{same_code, recounts_at}
 use Rattle.bp_follow.specs.Courses.{Course, code_in}
-use Rattle.bp_follow.specs.Following.{Runs, IsOnWay, StaysAt, IsThere, IsOnSomeWay, IsSaid}
+use Rattle.bp_follow.specs.Following.{Runs, IsOnWay, StaysAt, IsThere, IsSaid}
 use Rattle.bp_follow.proofs.Tales.{one_more, end_told}
 use Rattle.bp_follow.proofs.Steps.{recounts_course}
-
-pub on_way_somewhere : (a : PlainArbiter) → IsOnSomeWay a → StandsSomewhere a
-on_way_somewhere a w = let s = (w.2).stands in record { taken = w.1; pair = s.0; stands = s.1 }
-
-pub on_way_unlent : (a : PlainArbiter) → IsOnSomeWay a → is_lent a.phase ≡ false
-on_way_unlent a w = (w.2).unlent
 
 verdict_none : (rs : List Record) → is_complete rs ≡ false → verdict_of rs ≡ None
 verdict_none [] h = refl
@@ -128,40 +122,8 @@ module _ (c : Course) (taken : List Line) (a mid b : PlainArbiter) (lines said :
   pub settled : Settled c w.more b said
   settled = elim s.recorded [ inl h ↦ settled_on h | inr k ↦ settled_over k ]
 
--- ---- all lines but the last
-
-abbrev tail_of : {A : Type 0} → List A → List A
-tail_of [] = []
-tail_of (x ∷ xs) = xs
-
-longer : {A : Type 0} (ys : List A) (b : A) (n : ℕ) → n ≡ length (ys ++ b ∷ []) → n ≡ 0 → ⊥
-longer ys b n h e = let k = length-append ys (b ∷ []) in omega (arith, h, e, k)
-
-fronts : {A : Type 0} (xs ys : List A) (a b : A) → xs ++ a ∷ [] ≡ ys ++ b ∷ [] → xs ≡ ys
-fronts [] [] a b h = refl
-fronts [] (y ∷ ys) a b h = absurd (longer ys b 0 (ap (λ (l : List _). length (tail_of l)) h) refl)
-fronts (x ∷ xs) [] a b h = absurd (longer xs a 0 (ap (λ (l : List _). length (tail_of l)) (sym h)) refl)
-fronts (x ∷ xs) (y ∷ ys) a b h =
-    let e : x ≡ y = cc in
-    let t : xs ≡ ys = fronts xs ys a b (ap (λ (l : List _). tail_of l) h) in cc
-
--- the front that was split off is the one before the last
-pub split_front : (lines before front : List Line) (last l : Line) → lines ≡ front ++ l ∷ [] → lines ≡ before ++ last ∷ [] → front ≡ before
-split_front lines before front last l h k = fronts front before l last (sym h ∙ k)
-
-pub no_front : (lines before : List Line) (last : Line) → length lines ≡ 0 → lines ≡ before ++ last ∷ [] → lines ≡ before
-no_front lines before last n h = absurd (longer before last 0 (sym n ∙ ap (λ (l : List Line). length l) h) refl)
-
 -- ---- answers
 
 pub ok_any : {T E X : Type 0} (r : Result T E) → X → OnOk r X
 ok_any (Ok t) x = x
 ok_any (Err e) x = tt
-
-pub ok_map : {T E X Y : Type 0} (r : Result T E) → (X → Y) → OnOk r X → OnOk r Y
-ok_map (Ok t) f x = f x
-ok_map (Err e) f x = tt
-
-pub err_map : {T E X Y : Type 0} (r : Result T E) → (X → Y) → OnErr r X → OnErr r Y
-err_map (Ok t) f x = tt
-err_map (Err e) f x = f x

@@ -1,5 +1,5 @@
 -- One record of a log, followed.
-use Rattle.std.proofs.Common.{◌≡◌, ℕ, ◌<◌, Bool, true, false, not, ◌&&◌, nat_eq, nat_lt, List, [], ◌∷◌, ◌++◌, length, refl, ap, sym, ◌∙◌, subst, arith, Option, Some, None, Ok, Err, length-append}
+use Rattle.std.proofs.Common.{◌≡◌, ℕ, ◌<◌, Bool, true, false, ◌&&◌, nat_eq, nat_lt, List, [], ◌∷◌, ◌++◌, length, refl, ap, sym, ◌∙◌, subst, arith, Option, Some, None, Ok, Err, length-append}
 use Rattle.std.specs.Prelude.{Result, option_to_list}
 use Rattle.std.specs.List.{list_any}
 use Rattle.js_meaning.specs.Bodies.{Origin}
@@ -23,14 +23,14 @@ use Rattle.bp_arbiter.specs.declared.picked.Picked.{Picked}
 use Rattle.bp_arbiter.specs.declared.picked.Picked.TheVariants as picked
 use Rattle.bp_arbiter.specs.Arbiters as arbiter
 use Rattle.bp_arbiter.specs.Arbiters.{PlainArbiter, Recounts, StandsFor, Shows, options_in, stand_in, is_lent}
-use Rattle.bp_arbiter.specs.Absorbing.{is_failed, fits, with_item, absorbed}
+use Rattle.bp_arbiter.specs.Absorbing.{with_item, absorbed}
 use Rattle.bp_arbiter.specs.Picking.{picked_of, after_pick, phase_after}
 use Rattle.bp_serve.specs.Turning.{StandsAfter}
 use Rattle.bp_serve.proofs.Way.{same_code, recounts_at, recounts_in, coming_at}
 use Rattle.bp_follow.specs.declared.fault.ReplayFault.{ReplayFault}
 use Rattle.bp_follow.specs.declared.fault.ReplayFault.TheVariants as fault
 use Rattle.bp_follow.specs.Courses.{Course, code_in, coming, led}
-use Rattle.bp_follow.specs.Following.{Runs, IsOnWay, StaysAt, IsThere, IsSomewhere, IsSaidBy, is_item, enters, onto, Makes, Compared, Followed}
+use Rattle.bp_follow.specs.Following.{Runs, IsOnWay, StaysAt, IsThere, IsSomewhere, IsSaidBy, enters, onto, Makes, Compared, Followed}
 use Rattle.bp_follow.proofs.Tales.{one_record, one_more, more_lines, MakesOther, leads_nowhere, leads_nowhere_over, verdict_next, reads_after}
 
 same_some : {A : Type 0} (x : Option A) (c d : A) → x ≡ Some c → x ≡ Some d → c ≡ d
@@ -76,10 +76,6 @@ unread_above a n j e w r h =
     let t = w.1 in
     not_any (list_any (nat_eq j) a.reading)
     (λ k. h (subst (λ (m : ℕ). j < m) (ap (λ o. o.injectors) (sym (t.runs).options) ∙ sym e) ((t.runs).reads j (ap (λ (xs : List ℕ). list_any (nat_eq j) xs) (reading_at c a t r) ∙ k))))
-
-pub not_not : (b c : Bool) → c ≡ not b → not c ≡ b
-not_not true c h = ap not h
-not_not false c h = ap not h
 
 -- what may enter is seen by the arbiter
 pub enters_same : (c : Course) (a : PlainArbiter) (r : Record) → IsThere c a → a.phase ≡ Rest → (a.broken ≡ false → is_idle a.phase ≡ true → (d : Configuration Origin) → Recounts a d → Shows (stand_in a) d.stand) →
@@ -161,44 +157,6 @@ makes_on c a b (Sel e) runs p q rs u s = (told c a b (Sel e) runs p q rs u s, le
 makes_on c a b (End v) runs p q rs u s = (told c a b (End v) runs p q rs u s, led_is c a b (End v) runs p q rs u s, rs)
 
 -- ---- an item
-
-pub item_entering : (a : PlainArbiter) (r : Record) → enters a.reading (stand_in a) r ≡ true → is_item r ≡ true
-item_entering a (In j e) h = refl
-item_entering a (Bad j n) h = refl
-item_entering a (Eof j) h = refl
-item_entering a (Sel e) h = absurd (cc)
-item_entering a (End v) h = absurd (cc)
-
-first_of_two : (a b : Bool) → (a && b) ≡ true → a ≡ true
-first_of_two true b h = refl
-first_of_two false b h = absurd (cc)
-
-second_of_two : (a b : Bool) → (a && b) ≡ true → b ≡ true
-second_of_two true b h = h
-second_of_two false b h = absurd (cc)
-
--- its injector is read
-pub read_entering : (a : PlainArbiter) (r : Record) (k : ℕ) (i : Item) → IsSaidBy r k i → enters a.reading (stand_in a) r ≡ true → list_any (nat_eq k) a.reading ≡ true
-read_entering a (In j e) k i s h = ap (λ (n : ℕ). list_any (nat_eq n) a.reading) s.0 ∙ first_of_two (list_any (nat_eq j) a.reading) (has_room (stand_in a)) h
-read_entering a (Bad j n) k i s h = ap (λ (n : ℕ). list_any (nat_eq n) a.reading) s.0 ∙ h
-read_entering a (Eof j) k i s h = ap (λ (n : ℕ). list_any (nat_eq n) a.reading) s.0 ∙ h
-read_entering a (Sel e) k i s h = absurd s
-read_entering a (End v) k i s h = absurd s
-
-pub sound_entering : (r : Record) (k : ℕ) (i : Item) → IsSaidBy r k i → is_failed i ≡ false
-sound_entering (In j e) k i s = ap is_failed s.1
-sound_entering (Bad j n) k i s = ap is_failed s.1
-sound_entering (Eof j) k i s = ap is_failed s.1
-sound_entering (Sel e) k i s = absurd s
-sound_entering (End v) k i s = absurd s
-
--- and there is room
-pub fits_entering : (a : PlainArbiter) (r : Record) (k : ℕ) (i : Item) → IsSaidBy r k i → enters a.reading (stand_in a) r ≡ true → fits (stand_in a) i ≡ true
-fits_entering a (In j e) k i s h = ap (λ (x : Item). fits (stand_in a) x) s.1 ∙ second_of_two (list_any (nat_eq j) a.reading) (has_room (stand_in a)) h
-fits_entering a (Bad j n) k i s h = ap (λ (x : Item). fits (stand_in a) x) s.1
-fits_entering a (Eof j) k i s h = ap (λ (x : Item). fits (stand_in a) x) s.1
-fits_entering a (Sel e) k i s h = absurd s
-fits_entering a (End v) k i s h = absurd s
 
 -- the arbiter once a record has entered
 record Entered (c : Course) (r : Record) (a b : PlainArbiter) : Type 0 where

@@ -1,5 +1,5 @@
 -- One more record of a story.
-use Rattle.std.proofs.Common.{◌≡◌, ℕ, ◌<◌, Bool, true, false, not, ◌&&◌, ◌||◌, ◌⊎◌, inl, inr, eqb-true, nat_eq, zero, suc, List, [], ◌∷◌, ◌++◌, refl, ap, sym, ◌∙◌, Option, Some, None, filter, arith}
+use Rattle.std.proofs.Common.{◌≡◌, ℕ, ◌<◌, Bool, true, false, not, ◌&&◌, ◌||◌, inl, inr, eqb-true, nat_eq, zero, suc, List, [], ◌∷◌, ◌++◌, refl, ap, sym, ◌∙◌, Option, Some, None, filter, arith}
 use Rattle.std.specs.Prelude.{option_and_then, if◌then◌else◌}
 use Rattle.std.specs.List.{list_any}
 use Rattle.js_data.specs.Event.{PlainEvent, same_event}
@@ -13,6 +13,7 @@ use Rattle.bp_log.specs.declared.verdict.Verdict.{Verdict}
 use Rattle.bp_log.proofs.Equality.{verdict_path}
 use Rattle.js_data.proofs.SameEvent.{same_event-sound}
 use Rattle.std.proofs.lemmas.List.Folds.{list_any-append}
+use Rattle.std.proofs.lemmas.Bool.{and_right, and_left, or_cases}
 use Rattle.bp_run.specs.Bodies.{Code}
 use Rattle.bp_run.specs.Configuration.{Configuration, below}
 use Rattle.bp_run.specs.Settling.{initial}
@@ -68,10 +69,6 @@ not_ended c v (Selects ch r) h = refl
 not_ended c v Waits h = refl
 not_ended c v (Ends w) h = if_none (same_verdict v w) (over_with c v) (λ k. h (End w) refl (ap (λ (f : Verdict). End f) (sym (verdict_path v w k))))
 
-and_false : (a b : Bool) → b ≡ false → (a && b) ≡ false
-and_false true b h = h
-and_false false b h = refl
-
 shut : (a b c : Bool) → (b && c) ≡ false → ((a && b) && c) ≡ false
 shut true b c h = h
 shut false b c h = refl
@@ -84,18 +81,14 @@ none_at false x h = refl
 pub leads_nowhere : {O S : Type 0} (l : Code O S) (o : PlainOptions) (c : Configuration O) (r : Record) → enters c.reading c.stand r ≡ false → MakesOther (next l o c) r → after_record l o c r ≡ None
 unfolding after_record
 leads_nowhere l o c (In j e) h k = none_at _ _ (shut (not (is_over c)) (list_any (nat_eq j) c.reading) (has_room c.stand) h)
-leads_nowhere l o c (Bad j n) h k = none_at _ _ (and_false (not (is_over c)) (list_any (nat_eq j) c.reading) h)
-leads_nowhere l o c (Eof j) h k = none_at _ _ (and_false (not (is_over c)) (list_any (nat_eq j) c.reading) h)
+leads_nowhere l o c (Bad j n) h k = none_at _ _ (and_right (not (is_over c)) (list_any (nat_eq j) c.reading) h)
+leads_nowhere l o c (Eof j) h k = none_at _ _ (and_right (not (is_over c)) (list_any (nat_eq j) c.reading) h)
 leads_nowhere l o c (Sel e) h k = not_selected l c e (next l o c) k
 leads_nowhere l o c (End v) h k = not_ended c v (next l o c) k
 
 closed : (a b c : Bool) → a ≡ false → ((a && b) && c) ≡ false
 closed false b c h = refl
 closed true b c h = absurd (cc)
-
-closed_two : (a b : Bool) → a ≡ false → (a && b) ≡ false
-closed_two false b h = refl
-closed_two true b h = absurd (cc)
 
 over_is : {O : Type 0} (c : Configuration O) (v : Option Verdict) (w : Verdict) → c.stand.verdict ≡ v → v ≡ Some w → not (elim v [ None ↦ false | Some u ↦ true ]) ≡ false
 over_is c None w h e = absurd (cc)
@@ -105,8 +98,8 @@ over_is c (Some v) w h e = refl
 pub leads_nowhere_over : {O S : Type 0} (l : Code O S) (o : PlainOptions) (c : Configuration O) (w : Verdict) (r : Record) → c.stand.verdict ≡ Some w → MakesOther (next l o c) r → after_record l o c r ≡ None
 unfolding after_record
 leads_nowhere_over l o c w (In j e) h k = none_at _ _ (closed (not (is_over c)) (list_any (nat_eq j) c.reading) (has_room c.stand) (over_is c c.stand.verdict w refl h))
-leads_nowhere_over l o c w (Bad j n) h k = none_at _ _ (closed_two (not (is_over c)) (list_any (nat_eq j) c.reading) (over_is c c.stand.verdict w refl h))
-leads_nowhere_over l o c w (Eof j) h k = none_at _ _ (closed_two (not (is_over c)) (list_any (nat_eq j) c.reading) (over_is c c.stand.verdict w refl h))
+leads_nowhere_over l o c w (Bad j n) h k = none_at _ _ (and_left (not (is_over c)) (list_any (nat_eq j) c.reading) (over_is c c.stand.verdict w refl h))
+leads_nowhere_over l o c w (Eof j) h k = none_at _ _ (and_left (not (is_over c)) (list_any (nat_eq j) c.reading) (over_is c c.stand.verdict w refl h))
 leads_nowhere_over l o c w (Sel e) h k = not_selected l c e (next l o c) k
 leads_nowhere_over l o c w (End v) h k = not_ended c v (next l o c) k
 
@@ -137,23 +130,19 @@ end_told l o c d v h = ended_told c d v (next l o c) h
 
 -- ---- the injectors that are read
 
-either : (a b : Bool) → (a || b) ≡ true → (a ≡ true) ⊎ (b ≡ true)
-either true b h = inl refl
-either false b h = inr h
-
 is_it : (j n : ℕ) → (nat_eq j n || false) ≡ true → j ≡ n
-is_it j n h = eqb-true j n (elim (either (nat_eq j n) false h) [ inl k ↦ k | inr k ↦ absurd (cc) ])
+is_it j n h = eqb-true j n (elim (or_cases (nat_eq j n) false h) [ inl k ↦ k | inr k ↦ absurd (cc) ])
 
 below_any : (n j : ℕ) → list_any (nat_eq j) (below n) ≡ true → j < n
 below_any zero j h = absurd (cc)
 below_any (suc n) j h =
-    elim (either (list_any (nat_eq j) (below n)) (nat_eq j n || false) (sym (list_any-append (nat_eq j) (below n) (n ∷ [])) ∙ h)) [
+    elim (or_cases (list_any (nat_eq j) (below n)) (nat_eq j n || false) (sym (list_any-append (nat_eq j) (below n) (n ∷ [])) ∙ h)) [
       | inl k ↦ let less = below_any n j k in omega (arith, less)
       | inr k ↦ let same = is_it j n k in omega (arith, same)
     ]
 
 any_kept : (q p : ℕ → Bool) (x : ℕ) (xs : List ℕ) (b : Bool) → (list_any q (filter p xs) ≡ true → list_any q xs ≡ true) → list_any q (if b then x ∷ filter p xs else filter p xs) ≡ true → (q x || list_any q xs) ≡ true
-any_kept q p x xs true ih h = elim (either (q x) (list_any q (filter p xs)) h) [ inl k ↦ rw k refl | inr k ↦ or_right (q x) (list_any q xs) (ih k) ]
+any_kept q p x xs true ih h = elim (or_cases (q x) (list_any q (filter p xs)) h) [ inl k ↦ rw k refl | inr k ↦ or_right (q x) (list_any q xs) (ih k) ]
   where
     or_right : (a b : Bool) → b ≡ true → (a || b) ≡ true
     or_right true b h = refl

@@ -40,7 +40,8 @@ led c r = after_record (code_in c) c.options c.told r
 -- at this stage the bytes begin with these records; behind them that stage and those bytes are left
 abbrev pub BeginsWith : Stage → List ℕ → List Record → Stage → List ℕ → Type 0
 BeginsWith s bytes [] t left = (t ≡ s) × (left ≡ bytes)
-BeginsWith s bytes (r ∷ rs) t left = (rest : List ℕ) × (next_at s bytes ≡ found r rest) × BeginsWith (after s r) rest rs t left
+BeginsWith s bytes (r ∷ rs) t left =
+    (rest : List ℕ) × (next_at s bytes ≡ found r rest) × BeginsWith (after s r) rest rs t left
 
 -- the bytes behind a header begin with the records of this course, which are a story
 pub record Follows (rest : List ℕ) (c : Course) (s : Stage) (left : List ℕ) : Type 0 where

@@ -11,7 +11,8 @@ use Rattle.bp_follow.specs.declared.fault.ReplayFault.TheVariants.{Log, Differs,
 use Rattle.bp_follow.specs.Courses.{Course, coming, led}
 
 -- the log has a further record, to which the run does not come: it makes another, or waits
-pub record Parts (c : Course) (s : Stage) (left : List ℕ) (number : ℕ) (expected : Option Record) (other : Record) : Type 0 where
+pub record Parts (c : Course) (s : Stage) (left : List ℕ) (number : ℕ)
+    (expected : Option Record) (other : Record) : Type 0 where
   pub behind : List ℕ
   pub reads : next_at s left ≡ found other behind
   pub number_is : number ≡ length c.records + 1

@@ -42,7 +42,12 @@ pub record Runs (c : Course) (a : PlainArbiter) : Type 0 where
 
 -- before anything was recorded
 abbrev pub first_course : PlainProgram → PlainOptions → Course
-first_course program options = record { program = program; options = options; records = []; told = initial (code_of program options) options.injectors }
+first_course program options = record {
+  program = program;
+  options = options;
+  records = [];
+  told = initial (code_of program options) options.injectors;
+}
 
 abbrev pub first_of : PlainArbiter → Course
 first_of a = first_course a.floor.base.program (options_in a)
@@ -50,10 +55,12 @@ first_of a = first_course a.floor.base.program (options_in a)
 -- Where the run has ended the verdict's line is left out; it has ended exactly at `Over`.
 pub record IsSaid (a : PlainArbiter) (lines said : List Line) : Type 0 where
   pub going : verdict_of a.records ≡ None → said ≡ lines
-  pub ended : IsSome (verdict_of a.records) → (before : List Line) (last : Line) → lines ≡ before ++ last ∷ [] → said ≡ before
+  pub ended : IsSome (verdict_of a.records) →
+      (before : List Line) (last : Line) → lines ≡ before ++ last ∷ [] → said ≡ before
   pub over : a.phase ≡ Over → IsSome (verdict_of a.records)
 
--- The arbiter's records are those of the course, and these lines of it were taken; what is to be run next may not have run.
+-- The arbiter's records are those of the course, and these lines of it were taken; what is to be run
+-- next may not have run.
 pub record IsOnWay (c : Course) (taken : List Line) (a : PlainArbiter) : Type 0 where
   pub runs : Runs c a
   pub records : a.records ≡ c.records
@@ -67,7 +74,8 @@ abbrev pub StaysAt : Course → PlainArbiter → Phase → Type 0
 StaysAt c a Ready = ⊥
 StaysAt c a Lent = ⊥
 StaysAt c a Rest = (a.records ≡ c.records) × StandsAfter a c.told.stand.lines
-StaysAt c a Over = (v : Verdict) × (a.records ≡ c.records ++ End v ∷ []) × (c.told.stand.verdict ≡ Some v)
+StaysAt c a Over =
+    (v : Verdict) × (a.records ≡ c.records ++ End v ∷ []) × (c.told.stand.verdict ≡ Some v)
 
 -- All that is to be run has run, and the lines of the course were taken.
 pub record IsThere (c : Course) (a : PlainArbiter) : Type 0 where
@@ -96,7 +104,8 @@ IsSaidBy (Eof j) k i = (k ≡ j) × (i ≡ item.End)
 IsSaidBy (Sel e) k i = ⊥
 IsSaidBy (End v) k i = ⊥
 
--- the record is that of an item which may enter, where these injectors are read and the b-threads stand so, without a verdict
+-- the record is that of an item which may enter, where these injectors are read and the b-threads stand
+-- so, without a verdict
 abbrev pub enters : {O : Type 0} → List ℕ → Stand O → Record → Bool
 enters reading stand (In j e) = list_any (nat_eq j) reading && has_room stand
 enters reading stand (Bad j n) = list_any (nat_eq j) reading
@@ -121,7 +130,8 @@ Makes c r a = (d : Configuration Origin) × (led c r ≡ Some d) × GoesOn c r d
 abbrev pub Compared : Record → Record → ℕ → Result (Unit {0}) ReplayFault → Type 0
 Compared made r n (Ok x) = made ≡ r
 Compared made r n (Err (Log f)) = ⊥
-Compared made r n (Err (Differs number expected other)) = (number ≡ n) × (other ≡ r) × (expected ≡ Some made) × ¬ (made ≡ r)
+Compared made r n (Err (Differs number expected other)) =
+    (number ≡ n) × (other ≡ r) × (expected ≡ Some made) × ¬ (made ≡ r)
 Compared made r n (Err Program) = ⊥
 Compared made r n (Err Write) = ⊥
 Compared made r n (Err Memory) = Unit {0}
@@ -136,8 +146,10 @@ Followed c r n a (Err Program) = ⊥
 Followed c r n a (Err Write) = ⊥
 Followed c r n a (Err Memory) = Unit {0}
 
--- the text was put on the page, and what was on it is written or still there; of a front after a failed write or want of memory
-abbrev pub Shown : Result Verdict ReplayFault → Option (List ℕ) → List ℕ → List ℕ → Option (List ℕ) → Type 0
+-- the text was put on the page, and what was on it is written or still there; of a front after a failed
+-- write or want of memory
+abbrev pub Shown : Result Verdict ReplayFault →
+    Option (List ℕ) → List ℕ → List ℕ → Option (List ℕ) → Type 0
 Shown (Err Write) before text page after = ShowsFront before text page after
 Shown (Err Memory) before text page after = ShowsFront before text page after
 Shown _ before text page after = Shows before text page after
@@ -151,8 +163,10 @@ Finishes v next (Err Program) = ⊥
 Finishes v next (Err Write) = Unit {0}
 Finishes v next (Err Memory) = Unit {0}
 
--- the records that are still to be read were followed so far, from the first of this course on, and so it ended
-pub record Tells (first : Course) (rest : List ℕ) (before : Option (List ℕ)) (page : List ℕ) (after : Option (List ℕ)) (ended : Result Verdict ReplayFault) : Type 0 where
+-- the records that are still to be read were followed so far, from the first of this course on, and so
+-- it ended
+pub record Tells (first : Course) (rest : List ℕ) (before : Option (List ℕ)) (page : List ℕ)
+    (after : Option (List ℕ)) (ended : Result Verdict ReplayFault) : Type 0 where
   pub course : Course
   pub program : course.program ≡ first.program
   pub options : course.options ≡ first.options

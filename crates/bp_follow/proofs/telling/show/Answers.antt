@@ -1,11 +1,12 @@
 use Rattle.std.proofs.Common.{◌≡◌, ◌∙◌, ◌++◌, List, sym, subst, rules}
+use Rattle.std.proofs.lemmas.Result.{on_ok_weaker, on_err_weaker}
 use Rattle.bp_log.specs.Texts.{lines_text}
 use Rattle.bp_log.specs.declared.trace.Line.{Line as Told}
 use Rattle.bp_arbiter.specs.Arbiters.{StandsFor}
 use Rattle.bp_serve.specs.Pages.{Shows, ShowsFront}
 use Rattle.bp_follow.specs.Courses.{Course}
 use Rattle.bp_follow.specs.Following.{IsOnWay}
-use Rattle.bp_follow.proofs.Shows.{Settled, settled, ok_any, ok_map, err_map}
+use Rattle.bp_follow.proofs.Shows.{Settled, settled, ok_any}
 use Rattle.bp_follow.proofs.telling.show.Goals as goal
 
 pub returns-clause-there : goal.returns-clause-there
@@ -28,7 +29,7 @@ returns-clause-shows g c =
     (t.taken ∙ sym same) c.keeps.ensures.exact t.ground t.options t.records t.phase
     (λ jobs ls p s. subst (λ (xs : List Told). StandsFor c.take_lines-lines.new.self jobs (ls ++ xs) p) (sym same) (t.stands jobs ls p s))
     c.said.ensures in
-    ok_map c.print.result
+    on_ok_weaker c.print.result
     (λ s d taken w. subst (λ (xs : List Told). Shows (g.K.Sink.written c.args.out.now) (c.args.page.now ++ lines_text xs) c.print.new.self (g.K.Sink.written c.print.new.out)) ((here d taken w).said_is) s)
     c.print.ensures.shows
 
@@ -41,6 +42,6 @@ returns-clause-front g c =
     (t.taken ∙ sym same) c.keeps.ensures.exact t.ground t.options t.records t.phase
     (λ jobs ls p s. subst (λ (xs : List Told). StandsFor c.take_lines-lines.new.self jobs (ls ++ xs) p) (sym same) (t.stands jobs ls p s))
     c.said.ensures in
-    err_map c.print.result
+    on_err_weaker c.print.result
     (λ s d taken w. subst (λ (xs : List Told). ShowsFront (g.K.Sink.written c.args.out.now) (c.args.page.now ++ lines_text xs) c.print.new.self (g.K.Sink.written c.print.new.out)) ((here d taken w).said_is) s)
     c.print.ensures.front
