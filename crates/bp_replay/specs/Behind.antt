@@ -21,7 +21,8 @@ HasNoProgram header (Err Write) = ⊥
 HasNoProgram header (Err Memory) = Unit {0}
 
 -- what was told is written
-pub record ReplaysBehind (header : PlainHeader) (rest : List ℕ) (before after : Option (List ℕ)) (ended : Result Verdict ReplayFault) : Type 0 where
+pub record ReplaysBehind (header : PlainHeader) (rest : List ℕ) (before after : Option (List ℕ))
+    (ended : Result Verdict ReplayFault) : Type 0 where
   pub course : Course
   pub program : IsProgram header.program course.program
   pub options : course.options ≡ header.options
@@ -31,5 +32,7 @@ pub record ReplaysBehind (header : PlainHeader) (rest : List ℕ) (before after 
   pub ends : EndsAt course stage left ended
   pub prints : Prints ended before (text_in course) after
 
-abbrev pub EndsBehind : PlainHeader → List ℕ → Option (List ℕ) → Option (List ℕ) → Result Verdict ReplayFault → Type 0
-EndsBehind header rest before after ended = (HasNoProgram header ended × (after ≡ before)) ⊎ ReplaysBehind header rest before after ended
+abbrev pub EndsBehind : PlainHeader → List ℕ →
+    Option (List ℕ) → Option (List ℕ) → Result Verdict ReplayFault → Type 0
+EndsBehind header rest before after ended =
+    (HasNoProgram header ended × (after ≡ before)) ⊎ ReplaysBehind header rest before after ended

@@ -31,7 +31,8 @@ IsTrouble (Err Write) = Unit {0}
 IsTrouble (Err Memory) = Unit {0}
 
 -- the bytes are the log of a run of this program, which has this text
-pub record IsLogOf (bytes : List ℕ) (header : PlainHeader) (records : List Record) (program : PlainProgram) (text : List ℕ) : Type 0 where
+pub record IsLogOf (bytes : List ℕ) (header : PlainHeader) (records : List Record)
+    (program : PlainProgram) (text : List ℕ) : Type 0 where
   pub bytes_are : bytes ≡ log_text header records
   pub header_is : IsHeader header
   pub records_are : AreRecords records
@@ -40,7 +41,8 @@ pub record IsLogOf (bytes : List ℕ) (header : PlainHeader) (records : List Rec
   pub text_is : text_of program header.options records ≡ Some text
 
 -- the text was written, and the answer is the verdict of the records
-pub record TellsAll (records : List Record) (text : List ℕ) (before after : Option (List ℕ)) (ended : Result Verdict ReplayFault) : Type 0 where
+pub record TellsAll (records : List Record) (text : List ℕ) (before after : Option (List ℕ))
+    (ended : Result Verdict ReplayFault) : Type 0 where
   pub verdict : Verdict
   pub ended_is : ended ≡ Ok verdict
   pub verdict_is : verdict_of records ≡ Some verdict
@@ -49,18 +51,26 @@ pub record TellsAll (records : List Record) (text : List ℕ) (before after : Op
 -- A replay of the log of a run tells the run: its whole text and its verdict.
 abbrev pub ReplaysTellTheRun : Type 0
 ReplaysTellTheRun =
-    (bytes : List ℕ) (header : PlainHeader) (records : List Record) (program : PlainProgram) (text : List ℕ) (before after : Option (List ℕ)) (ended : Result Verdict ReplayFault) →
-    IsLogOf bytes header records program text → IsReplay bytes before after ended → IsTrouble ended ⊎ TellsAll records text before after ended
+    (bytes : List ℕ) (header : PlainHeader) (records : List Record) (program : PlainProgram)
+    (text : List ℕ) (before after : Option (List ℕ)) (ended : Result Verdict ReplayFault) →
+    IsLogOf bytes header records program text → IsReplay bytes before after ended →
+    IsTrouble ended ⊎ TellsAll records text before after ended
 
--- each replay of these bytes prints this text and answers this verdict, unless reading or writing failed or memory was wanting
+-- each replay of these bytes prints this text and answers this verdict, unless reading or writing
+-- failed or memory was wanting
 abbrev pub Retells : List ℕ → List ℕ → Verdict → Type 0
 Retells bytes text verdict =
-    (before after : Option (List ℕ)) (ended : Result Verdict ReplayFault) → IsReplay bytes before after ended → IsTrouble ended ⊎ ((ended ≡ Ok verdict) × Appends before text after)
+    (before after : Option (List ℕ)) (ended : Result Verdict ReplayFault) →
+    IsReplay bytes before after ended →
+    IsTrouble ended ⊎ ((ended ≡ Ok verdict) × Appends before text after)
 
--- The log of the run of an accepted program without injectors replays to the text and the verdict of that run. Of its records no more is asked than what records keep by their types.
+-- The log of the run of an accepted program without injectors replays to the text and the verdict of
+-- that run. Of its records no more is asked than what records keep by their types.
 abbrev pub LogsOfRunsReplay : Type 0
 LogsOfRunsReplay =
     (header : PlainHeader) (program : PlainProgram) (text : List ℕ) (verdict : Verdict) →
-    IsHeader header → header.options.injectors ≡ 0 → IsProgram header.program program → AreRecords (records_alone program header.options) →
-    text_alone program header.options ≡ Some text → verdict_of (records_alone program header.options) ≡ Some verdict →
+    IsHeader header → header.options.injectors ≡ 0 → IsProgram header.program program →
+    AreRecords (records_alone program header.options) →
+    text_alone program header.options ≡ Some text →
+    verdict_of (records_alone program header.options) ≡ Some verdict →
     Retells (log_text header (records_alone program header.options)) text verdict

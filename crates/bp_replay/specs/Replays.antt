@@ -27,7 +27,8 @@ Prints (Err Memory) before text after = AppendsFront before text after
 Prints _ before text after = Appends before text after
 
 -- a replay of these bytes came so far, printed the text of that, and ended so
-pub record Replays (bytes : List ℕ) (before after : Option (List ℕ)) (ended : Result Verdict ReplayFault) : Type 0 where
+pub record Replays (bytes : List ℕ) (before after : Option (List ℕ))
+    (ended : Result Verdict ReplayFault) : Type 0 where
   pub course : Course
   pub rest : List ℕ
   pub heads : Heads bytes course rest
@@ -40,7 +41,8 @@ pub record Replays (bytes : List ℕ) (before after : Option (List ℕ)) (ended 
 -- the bytes have a header whose program is refused
 abbrev pub HasRefusedProgram : List ℕ → Type 0
 HasRefusedProgram bytes =
-    (header : PlainHeader) × (rest : List ℕ) × (header_at bytes ≡ Ok (header, rest)) × ((refusal : Refusal) × IsRefused header.program refusal)
+    (header : PlainHeader) × (rest : List ℕ) × (header_at bytes ≡ Ok (header, rest)) ×
+    ((refusal : Refusal) × IsRefused header.program refusal)
 
 -- why a replay of these bytes ends before a record is read
 abbrev pub HasNoRun : List ℕ → Result Verdict ReplayFault → Type 0
@@ -51,6 +53,8 @@ HasNoRun bytes (Err Program) = HasRefusedProgram bytes
 HasNoRun bytes (Err Write) = ⊥
 HasNoRun bytes (Err Memory) = Unit {0}
 
--- A replay of these bytes ends so: nothing was printed and no record read, or so far as it came the text was printed.
+-- A replay of these bytes ends so: nothing was printed and no record read, or so far as it came the
+-- text was printed.
 abbrev pub IsReplay : List ℕ → Option (List ℕ) → Option (List ℕ) → Result Verdict ReplayFault → Type 0
-IsReplay bytes before after ended = (HasNoRun bytes ended × (after ≡ before)) ⊎ Replays bytes before after ended
+IsReplay bytes before after ended =
+    (HasNoRun bytes ended × (after ≡ before)) ⊎ Replays bytes before after ended
