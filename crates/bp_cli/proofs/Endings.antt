@@ -132,9 +132,6 @@ asks_unloaded c name rest holds unread before after (Ran verdict) e u h = absurd
 asks_unloaded c name rest holds unread before after NotWritten e u h = absurd u
 asks_unloaded c name rest holds unread before after (BadLog fault) e u h = absurd u
 
-asks_all : (c : Command) (before after : Option (List (List ℕ))) (conclusion : Conclusion) → WasAsked before (names_of c) after → AsksFor conclusion (names_of c) (names_of c) → AsksIn (Some c) before after conclusion
-asks_all c before after conclusion h k = (names_of c, k, h)
-
 -- a run that keeps no log
 pub asks_unlogged : (asked : Run) (program : PlainProgram) (o : PlainOptions) (unwritten whole partly : Type 0) (b a : Option (List ℕ)) (before after : Option (List (List ℕ))) (conclusion : Conclusion) → asked.log ≡ None →
     RunEnds program o unwritten whole partly b a conclusion → Asks before asked.program after → AsksIn (Some (command.Run asked)) before after conclusion
@@ -428,10 +425,6 @@ ends_wanting (Some (command.Replay log)) unread unwritten same = (tt, inl (inr r
 ends_wanting (Some (command.Run asked)) unread unwritten same = inl (refl, refl)
 ends_wanting (Some (command.Accept program)) unread unwritten same = inl (refl, refl)
 ends_wanting (Some (command.Large n)) unread unwritten same = inl (refl, refl)
-
-pub refuses_replayed : (log : List ℕ) (holds : Option Holdings) (code : ℕ) → Refuses (Some (command.Replay log)) holds code
-refuses_replayed log None code = tt
-refuses_replayed log (Some held) code = tt
 
 caused_by : (ended : Result Verdict ReplayFault) (unread unwritten : Type 0) → (IsErrOf ended (ReplayFault.Log log_fault.Read) → unread) → (IsErrOf ended ReplayFault.Write → unwritten) → IsCaused unread unwritten (replayed_of ended)
 caused_by (Ok v) unread unwritten r w = tt

@@ -16,7 +16,8 @@ names_of (Large n) = []
 abbrev pub WasAsked : Option (List (List ℕ)) → List (List ℕ) → Option (List (List ℕ)) → Type 0
 WasAsked before names after = IfSome before (λ asked. after ≡ Some (asked ++ names))
 
--- so many of its names a command asks for that ends so: the first where that was not read or is refused, some where memory was wanting, and else all
+-- so many of its names a command asks for that ends so: the first where that was not read or is
+-- refused, some where memory was wanting, and else all
 abbrev pub AsksFor : Conclusion → List (List ℕ) → List (List ℕ) → Type 0
 AsksFor NotRead names asked = asked ≡ take 1 names
 AsksFor (Refused refusal) names asked = asked ≡ take 1 names
@@ -28,7 +29,8 @@ AsksFor NotWritten names asked = asked ≡ names
 AsksFor (BadLog fault) names asked = asked ≡ names
 
 -- words that are no command ask for nothing
-abbrev pub AsksIn : Option Command → Option (List (List ℕ)) → Option (List (List ℕ)) → Conclusion → Type 0
+abbrev pub AsksIn : Option Command →
+    Option (List (List ℕ)) → Option (List (List ℕ)) → Conclusion → Type 0
 AsksIn None before after conclusion = after ≡ before
 AsksIn (Some command) before after conclusion =
     (asked : List (List ℕ)) × AsksFor conclusion (names_of command) asked × WasAsked before asked after

@@ -32,13 +32,15 @@ OfBytes command holds P = IsSomeAnd command (λ c. (bytes : List ℕ) × IsGiven
 abbrev pub TellsPartly : Command → List ℕ → Outside → Outside → Type 0
 TellsPartly (Run asked) bytes before after = RunsPartly asked bytes before after
 TellsPartly (Accept program) bytes before after = SaysAcceptedPartly bytes before after
-TellsPartly (Large n) bytes before after = MeasuresPartly n before.printed after.printed × (after.holds ≡ before.holds)
+TellsPartly (Large n) bytes before after =
+    MeasuresPartly n before.printed after.printed × (after.holds ≡ before.holds)
 TellsPartly (Replay log) bytes before after = ⊥
 
 -- what runs these bytes came to the verdict, and all that is told of it came outside
 abbrev pub ComesTo : Command → List ℕ → Outside → Outside → Verdict → Type 0
 ComesTo (Run asked) bytes before after v = RunsTo asked bytes before after v
-ComesTo (Large n) bytes before after v = MeasuresTo n before.printed after.printed v × (after.holds ≡ before.holds)
+ComesTo (Large n) bytes before after v =
+    MeasuresTo n before.printed after.printed v × (after.holds ≡ before.holds)
 ComesTo (Accept program) bytes before after v = ⊥
 ComesTo (Replay log) bytes before after v = ⊥
 
@@ -51,24 +53,31 @@ Accepts (Replay log) bytes before after = ⊥
 
 -- the bytes are refused so, and nothing came of it outside; the large program is never refused
 abbrev pub IsRefusedAt : Command → List ℕ → Refusal → Outside → Outside → Type 0
-IsRefusedAt (Run asked) bytes refusal before after = IsRefused bytes refusal × IsAsBefore before after
-IsRefusedAt (Accept program) bytes refusal before after = IsRefused bytes refusal × IsAsBefore before after
+IsRefusedAt (Run asked) bytes refusal before after =
+    IsRefused bytes refusal × IsAsBefore before after
+IsRefusedAt (Accept program) bytes refusal before after =
+    IsRefused bytes refusal × IsAsBefore before after
 IsRefusedAt (Large n) bytes refusal before after = ⊥
 IsRefusedAt (Replay log) bytes refusal before after = ⊥
 
--- where memory was wanting and something came outside: while a run went on, or for the note of a failed write
+-- where memory was wanting and something came outside: while a run went on, or for the note of a failed
+-- write
 abbrev pub WantsAmid : Command → List ℕ → Type 0 → Outside → Outside → Type 0
 WantsAmid (Run asked) bytes unwritten before after = RunsPartly asked bytes before after
-WantsAmid (Accept program) bytes unwritten before after = unwritten × SaysAcceptedPartly bytes before after
-WantsAmid (Large n) bytes unwritten before after = unwritten × TellsPartly (Large n) bytes before after
+WantsAmid (Accept program) bytes unwritten before after =
+    unwritten × SaysAcceptedPartly bytes before after
+WantsAmid (Large n) bytes unwritten before after =
+    unwritten × TellsPartly (Large n) bytes before after
 WantsAmid (Replay log) bytes unwritten before after = ⊥
 
 -- why what is done to these bytes ends so, where writing failed or not, and what came of it outside
 abbrev pub EndsOn : Command → List ℕ → Type 0 → Outside → Outside → Conclusion → Type 0
 EndsOn command bytes unwritten before after Accepted = Accepts command bytes before after
 EndsOn command bytes unwritten before after (Ran v) = ComesTo command bytes before after v
-EndsOn command bytes unwritten before after (Refused refusal) = IsRefusedAt command bytes refusal before after
-EndsOn command bytes unwritten before after NotWritten = unwritten × TellsPartly command bytes before after
+EndsOn command bytes unwritten before after (Refused refusal) =
+    IsRefusedAt command bytes refusal before after
+EndsOn command bytes unwritten before after NotWritten =
+    unwritten × TellsPartly command bytes before after
 EndsOn command bytes unwritten before after NoMemory = WantsAmid command bytes unwritten before after
 EndsOn command bytes unwritten before after NoCommand = ⊥
 EndsOn command bytes unwritten before after NotRead = ⊥
@@ -79,20 +88,27 @@ abbrev pub EndsIn : Option Command → Type 0 → Type 0 → Outside → Outside
 EndsIn command unread unwritten before after NoCommand = (command ≡ None) × IsAsBefore before after
 EndsIn command unread unwritten before after NotRead = IsSome command × unread × IsAsBefore before after
 EndsIn command unread unwritten before after NoMemory =
-    IsAsBefore before after ⊎ OfBytes command before.holds (λ c bytes. EndsOn c bytes unwritten before after NoMemory)
+    IsAsBefore before after
+    ⊎ OfBytes command before.holds (λ c bytes. EndsOn c bytes unwritten before after NoMemory)
 EndsIn command unread unwritten before after conclusion =
     OfBytes command before.holds (λ c bytes. EndsOn c bytes unwritten before after conclusion)
 
 -- the same of each command: a replay ends in its own way
 abbrev pub EndsSo : Option Command → Type 0 → Type 0 → Outside → Outside → Conclusion → Type 0
-EndsSo (Some (Replay log)) unread unwritten before after conclusion = ReplayEnds log unread unwritten before after conclusion
-EndsSo (Some (Run asked)) unread unwritten before after conclusion = EndsIn (Some (Run asked)) unread unwritten before after conclusion
-EndsSo (Some (Accept program)) unread unwritten before after conclusion = EndsIn (Some (Accept program)) unread unwritten before after conclusion
-EndsSo (Some (Large n)) unread unwritten before after conclusion = EndsIn (Some (Large n)) unread unwritten before after conclusion
-EndsSo None unread unwritten before after conclusion = EndsIn None unread unwritten before after conclusion
+EndsSo (Some (Replay log)) unread unwritten before after conclusion =
+    ReplayEnds log unread unwritten before after conclusion
+EndsSo (Some (Run asked)) unread unwritten before after conclusion =
+    EndsIn (Some (Run asked)) unread unwritten before after conclusion
+EndsSo (Some (Accept program)) unread unwritten before after conclusion =
+    EndsIn (Some (Accept program)) unread unwritten before after conclusion
+EndsSo (Some (Large n)) unread unwritten before after conclusion =
+    EndsIn (Some (Large n)) unread unwritten before after conclusion
+EndsSo None unread unwritten before after conclusion =
+    EndsIn None unread unwritten before after conclusion
 
 -- the code and the note are those of a conclusion in which the command ends, and for which it asks
-pub record Ends (command : Option Command) (unread unwritten : Type 0) (before after : Outside) (code : ℕ) (note : List ℕ) : Type 0 where
+pub record Ends (command : Option Command) (unread unwritten : Type 0) (before after : Outside)
+    (code : ℕ) (note : List ℕ) : Type 0 where
   pub conclusion : Conclusion
   pub status : IsStatusOf code note conclusion
   pub asks : AsksIn command before.asked after.asked conclusion

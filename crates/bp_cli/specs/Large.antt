@@ -24,26 +24,31 @@ is_selection (End v) = false
 unfoldable pub large_line : ℕ → List Record → List ℕ → List ℕ
 large_line n records text =
     codes "large " ++ (decimal n ++ (codes " events " ++ (decimal (count_by is_selection records)
-    ++ (codes " lines " ++ (decimal (count_by (λ byte. byte == 10) text) ++ (codes " bytes " ++ (decimal (length text) ++ codes "\n")))))))
+    ++ (codes " lines " ++ (decimal (count_by (λ byte. byte == 10) text)
+    ++ (codes " bytes " ++ (decimal (length text) ++ codes "\n")))))))
 
 -- the line of the one run of the program under the default options
 abbrev pub line_of : ℕ → PlainProgram → List ℕ → List ℕ
 line_of n program text = large_line n (records_alone program default_options) text
 
--- the program of so many b-threads is accepted, its run ends in this verdict, and the line of that run was printed
+-- the program of so many b-threads is accepted, its run ends in this verdict, and the line of that run
+-- was printed
 pub record MeasuresTo (n : ℕ) (before after : Option (List ℕ)) (v : Verdict) : Type 0 where
   pub program : PlainProgram
   pub is_program : IsProgram (large_program n) program
   pub verdict : verdict_alone program default_options ≡ Some v
-  pub prints : IsSomeAnd (text_alone program default_options) (λ text. Appends before (line_of n program text) after)
+  pub prints : IsSomeAnd (text_alone program default_options)
+      (λ text. Appends before (line_of n program text) after)
 
 -- the program of so many b-threads is accepted, and a front of the line of its run was printed
 pub record MeasuresPartly (n : ℕ) (before after : Option (List ℕ)) : Type 0 where
   pub program : PlainProgram
   pub is_program : IsProgram (large_program n) program
-  pub prints : IsSomeAnd (text_alone program default_options) (λ text. AppendsFront before (line_of n program text) after)
+  pub prints : IsSomeAnd (text_alone program default_options)
+      (λ text. AppendsFront before (line_of n program text) after)
 
--- why measuring the program of so many b-threads ends so, where writing failed or not: it is never refused
+-- why measuring the program of so many b-threads ends so, where writing failed or not: it is never
+-- refused
 abbrev pub MeasureEnds : ℕ → Type 0 → Option (List ℕ) → Option (List ℕ) → Conclusion → Type 0
 MeasureEnds n unwritten before after (Ran v) = MeasuresTo n before after v
 MeasureEnds n unwritten before after NotWritten = unwritten × MeasuresPartly n before after

@@ -8,7 +8,8 @@ use Rattle.bp_cli.specs.Outside.{IsUnder}
 
 -- why there is no accepted program of that name, where reading failed or not
 abbrev pub IsUnloaded : Option Holdings → List ℕ → Type 0 → Conclusion → Type 0
-IsUnloaded holds name unread (Refused refusal) = (bytes : List ℕ) × IsUnder holds name bytes × IsRefused bytes refusal
+IsUnloaded holds name unread (Refused refusal) =
+    (bytes : List ℕ) × IsUnder holds name bytes × IsRefused bytes refusal
 IsUnloaded holds name unread NotRead = unread
 IsUnloaded holds name unread NoMemory = Unit {0}
 IsUnloaded holds name unread NoCommand = ⊥

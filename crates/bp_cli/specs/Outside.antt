@@ -2,7 +2,8 @@
 use Rattle.std.specs.Prelude.{◌≡◌, ℕ, List, Option, Some, IfSome}
 use Rattle.bp_base.specs.Worlds.{Holdings}
 
--- what the world holds and what it was asked for, where it tells it, and what was printed, where the output tells it
+-- what the world holds and what it was asked for, where it tells it, and what was printed, where the
+-- output tells it
 pub record Outside : Type 0 where
   pub holds : Option Holdings
   pub asked : Option (List (List ℕ))

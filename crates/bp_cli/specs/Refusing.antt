@@ -19,8 +19,10 @@ program_of (Accept program) = Some program
 program_of (Replay log) = None
 program_of (Large n) = None
 
--- where the world tells that the program is refused, the code is 2, unless reading failed or memory was wanting
+-- where the world tells that the program is refused, the code is 2, unless reading failed or memory was
+-- wanting
 abbrev pub Refuses : Option Command → Option Holdings → ℕ → Type 0
 Refuses command holds code =
-    IfSome holds (λ held. IfSome (option_and_then program_of command) (λ name. IfSome (held name) (λ bytes.
+    IfSome holds (λ held. IfSome (option_and_then program_of command)
+    (λ name. IfSome (held name) (λ bytes.
     (refusal : Refusal) → IsRefused bytes refusal → (code ≡ 2) ⊎ ((code ≡ 8) ⊎ (code ≡ 10)))))

@@ -11,7 +11,8 @@ use Rattle.bp_cli.specs.declared.conclusion.Conclusion.{Conclusion}
 use Rattle.bp_cli.specs.declared.conclusion.Conclusion.TheVariants.{NoCommand, Refused, Accepted, Ran, NotRead, NotWritten, NoMemory, BadLog}
 use Rattle.bp_cli.specs.Outside.{Outside, IsAsBefore}
 
--- the conclusion where reading or writing failed or memory was wanting; where it is none of these the log is bad
+-- the conclusion where reading or writing failed or memory was wanting; where it is none of these the
+-- log is bad
 abbrev pub trouble_of : ReplayFault → Option Conclusion
 trouble_of (Log log.Version) = None
 trouble_of (Log log.Header) = None
@@ -29,11 +30,13 @@ abbrev pub replayed_of : Result Verdict ReplayFault → Conclusion
 replayed_of (Ok v) = Ran v
 replayed_of (Err fault) = unwrap_or (trouble_of fault) (BadLog fault)
 
--- the command ends as a replay of the bytes that the world holds under the name, where it tells them, which printed what a replay that ends so prints
+-- the command ends as a replay of the bytes that the world holds under the name, where it tells them,
+-- which printed what a replay that ends so prints
 pub record ReplaysTo (name : List ℕ) (before after : Outside) (conclusion : Conclusion) : Type 0 where
   pub ended : Result Verdict ReplayFault
   pub is_conclusion : conclusion ≡ replayed_of ended
-  pub ends : IfSome before.holds (λ held. IsSomeAnd (held name) (λ bytes. replays.IsReplay bytes before.printed after.printed ended))
+  pub ends : IfSome before.holds (λ held. IsSomeAnd (held name)
+      (λ bytes. replays.IsReplay bytes before.printed after.printed ended))
   pub holds : after.holds ≡ before.holds
 
 -- a failure has its cause
@@ -54,7 +57,8 @@ IsUnopened c = (c ≡ NotRead) ⊎ (c ≡ NoMemory)
 -- why the command that replays the log of that name ends so
 abbrev pub ReplayEnds : List ℕ → Type 0 → Type 0 → Outside → Outside → Conclusion → Type 0
 ReplayEnds name unread unwritten before after c =
-    IsCaused unread unwritten c × ((IsUnopened c × IsAsBefore before after) ⊎ ReplaysTo name before after c)
+    IsCaused unread unwritten c
+    × ((IsUnopened c × IsAsBefore before after) ⊎ ReplaysTo name before after c)
 
 -- ---- what a bad log is told
 

@@ -20,9 +20,11 @@ use Rattle.bp_cli.specs.declared.conclusion.Conclusion.{Conclusion}
 use Rattle.bp_cli.specs.declared.conclusion.Conclusion.TheVariants.{NoCommand, Refused, Accepted, Ran, NotRead, NotWritten, NoMemory, BadLog}
 use Rattle.bp_cli.specs.Outside.{Outside, IsAsBefore}
 
--- the text is now under the name, and under each other name what was there, where the world tells what it holds
+-- the text is now under the name, and under each other name what was there, where the world tells what
+-- it holds
 abbrev pub Holds : Option Holdings → List ℕ → List ℕ → Option Holdings → Type 0
-Holds before name text after = IfSome before (λ held. IsSomeAnd after (λ holds. Sets held name text holds))
+Holds before name text after =
+    IfSome before (λ held. IsSomeAnd after (λ holds. Sets held name text holds))
 
 -- the same of a front of the text
 abbrev pub HoldsFront : Option Holdings → List ℕ → List ℕ → Option Holdings → Type 0
@@ -40,13 +42,15 @@ log_alone header program = log_text header (records_alone program header.options
 
 -- the first records of the run stand in what is held under the name, behind the header, and what was
 -- printed is of their text
-pub record HoldsBehind (name : List ℕ) (header : PlainHeader) (program : PlainProgram) (before after : Outside) : Type 0 where
+pub record HoldsBehind (name : List ℕ) (header : PlainHeader) (program : PlainProgram)
+    (before after : Outside) : Type 0 where
   pub records : List Record
   pub later : List Record
   pub is_run : records ++ later ≡ records_alone program header.options
   pub more : List ℕ
   pub kept : Holds before.holds name (log_text header records ++ more) after.holds
-  pub printed : IsSomeAnd (text_of program header.options records) (λ text. AppendsFront before.printed text after.printed)
+  pub printed : IsSomeAnd (text_of program header.options records)
+      (λ text. AppendsFront before.printed text after.printed)
 
 -- the world holds what it held, and nothing was printed; or it holds a front of the log, in which the
 -- records of all that was printed stand
@@ -54,34 +58,42 @@ abbrev pub KeepsLogFront : Option (List ℕ) → Outside → PlainHeader → Pla
 KeepsLogFront None before header program after = after.holds ≡ before.holds
 KeepsLogFront (Some name) before header program after =
     IsAsBefore before after
-    ⊎ (HoldsFront before.holds name (log_alone header program) after.holds × ((after.printed ≡ before.printed) ⊎ HoldsBehind name header program before after))
+    ⊎ (HoldsFront before.holds name (log_alone header program) after.holds
+    × ((after.printed ≡ before.printed) ⊎ HoldsBehind name header program before after))
 
 abbrev pub header_of : Run → List ℕ → PlainHeader
 header_of asked bytes = record { options = asked.options; program = bytes }
 
--- the bytes are a program whose run under the options that were asked for ends in this verdict; its text was printed; where a log
--- is kept, it is held; and each replay of the log of this run that meets no trouble prints the same text and comes to the same verdict
+-- the bytes are a program whose run under the options that were asked for ends in this verdict; its
+-- text was printed; where a log is kept, it is held; and each replay of the log of this run that meets
+-- no trouble prints the same text and comes to the same verdict
 pub record RunsTo (asked : Run) (bytes : List ℕ) (before after : Outside) (v : Verdict) : Type 0 where
   pub program : PlainProgram
   pub is_program : IsProgram bytes program
   pub verdict : verdict_alone program asked.options ≡ Some v
-  pub prints : IsSomeAnd (text_alone program asked.options) (λ text. Appends before.printed text after.printed)
+  pub prints : IsSomeAnd (text_alone program asked.options)
+      (λ text. Appends before.printed text after.printed)
   pub keeps : KeepsLog asked.log before.holds (log_alone (header_of asked bytes) program) after.holds
-  pub replays : IsSomeAnd (text_alone program asked.options) (λ text. Retells (log_alone (header_of asked bytes) program) text v)
+  pub replays : IsSomeAnd (text_alone program asked.options)
+      (λ text. Retells (log_alone (header_of asked bytes) program) text v)
 
--- the bytes are a program; a front of the text of its run was printed, and a front of its log is held in which the records of
--- that text stand, or nothing was printed and the world holds what it held
+-- the bytes are a program; a front of the text of its run was printed, and a front of its log is held
+-- in which the records of that text stand, or nothing was printed and the world holds what it held
 pub record RunsPartly (asked : Run) (bytes : List ℕ) (before after : Outside) : Type 0 where
   pub program : PlainProgram
   pub is_program : IsProgram bytes program
-  pub prints : IsSomeAnd (text_alone program asked.options) (λ text. AppendsFront before.printed text after.printed)
+  pub prints : IsSomeAnd (text_alone program asked.options)
+      (λ text. AppendsFront before.printed text after.printed)
   pub keeps : KeepsLogFront asked.log before (header_of asked bytes) program after
 
--- Why a run of this program ends so (`unwritten`: writing failed); how much of its text was printed; what holds besides where all
--- was told (`whole`) and where not (`partly`); and what its records keep by their types.
-abbrev pub RunEnds : PlainProgram → PlainOptions → Type 0 → Type 0 → Type 0 → Option (List ℕ) → Option (List ℕ) → Conclusion → Type 0
+-- Why a run of this program ends so (`unwritten`: writing failed); how much of its text was printed;
+-- what holds besides where all was told (`whole`) and where not (`partly`); and what its records keep
+-- by their types.
+abbrev pub RunEnds : PlainProgram → PlainOptions → Type 0 → Type 0 → Type 0 →
+    Option (List ℕ) → Option (List ℕ) → Conclusion → Type 0
 RunEnds program options unwritten whole partly before after (Ran v) =
-    (verdict_alone program options ≡ Some v) × IsSomeAnd (text_alone program options) (λ text. Appends before text after) × whole
+    (verdict_alone program options ≡ Some v)
+    × IsSomeAnd (text_alone program options) (λ text. Appends before text after) × whole
     × AreRecords (records_alone program options)
 RunEnds program options unwritten whole partly before after NotWritten =
     unwritten × IsSomeAnd (text_alone program options) (λ text. AppendsFront before text after) × partly

@@ -20,4 +20,5 @@ SaysAccepted bytes before after =
 -- the same of a front of the line
 abbrev pub SaysAcceptedPartly : List ℕ → Outside → Outside → Type 0
 SaysAcceptedPartly bytes before after =
-    IsAccepted bytes × AppendsFront before.printed accepted_line after.printed × (after.holds ≡ before.holds)
+    IsAccepted bytes × AppendsFront before.printed accepted_line after.printed
+    × (after.holds ≡ before.holds)

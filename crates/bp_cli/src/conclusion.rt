@@ -23,7 +23,6 @@ const READ_FAULT: &str = "read fault";
 const WRITE_FAULT: &str = "write fault";
 
 /// How a command ends.
-#[derive(Debug)]
 pub enum Conclusion {
     /// The words are no command.
     NoCommand,

@@ -48,7 +48,8 @@ fn newlines(text: &[u8]) -> usize
 
 /// How many lines and how many bytes. Its only error is want of memory.
 fn sizes_of(alloc: Global, lines: usize, bytes: usize) -> Result<String, Memory>
-    ensures { IfOk result (λ s. string_bytes s ≡ decimal lines ++ (codes " bytes " ++ (decimal bytes ++ codes "\n"))) }
+    ensures { IfOk result
+        (λ s. string_bytes s ≡ decimal lines ++ (codes " bytes " ++ (decimal bytes ++ codes "\n"))) }
 {
     format!(in alloc; "{lines} bytes {bytes}\n")
 }

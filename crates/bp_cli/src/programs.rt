@@ -35,11 +35,13 @@ pub(crate) fn run_program<R: Threads + Wait + Sync, W: World, K: Sink>(
     requires alone { asked.now.options.injectors ≡ 0 }
     ensures ends { let before = outside (W.holds world.old) (W.asked world.old) (K.written out.old) in
         let after = outside (W.holds world.new) (W.asked world.new) (K.written out.new) in
-        EndsIn (Some (command.Run asked.now)) (Rose (W.read_faults world.old) (W.read_faults world.new))
+        EndsIn (Some (command.Run asked.now))
+        (Rose (W.read_faults world.old) (W.read_faults world.new))
         (Rose (K.faults out.old) (K.faults out.new)
         ⊎ Rose (W.write_faults world.old) (W.write_faults world.new))
         before after result }
-    ensures asks { AsksIn (Some (command.Run asked.now)) (W.asked world.old) (W.asked world.new) result }
+    ensures asks { AsksIn (Some (command.Run asked.now))
+        (W.asked world.old) (W.asked world.new) result }
     ensures refuses { Refuses (Some (command.Run asked.now)) (W.holds world.old) (code_of result) }
     ensures read_counts { W.read_faults world.old ≤ W.read_faults world.new }
     ensures write_counts { W.write_faults world.old ≤ W.write_faults world.new }
@@ -78,11 +80,13 @@ pub(crate) fn accept_program<W: World, K: Sink>(
 ) -> Conclusion
     ensures ends { let before = outside (W.holds world.old) (W.asked world.old) (K.written out.old) in
         let after = outside (W.holds world.new) (W.asked world.new) (K.written out.new) in
-        EndsIn (Some (command.Accept name.now)) (Rose (W.read_faults world.old) (W.read_faults world.new))
+        EndsIn (Some (command.Accept name.now))
+        (Rose (W.read_faults world.old) (W.read_faults world.new))
         (Rose (K.faults out.old) (K.faults out.new)
         ⊎ Rose (W.write_faults world.old) (W.write_faults world.new))
         before after result }
-    ensures asks { AsksIn (Some (command.Accept name.now)) (W.asked world.old) (W.asked world.new) result }
+    ensures asks { AsksIn (Some (command.Accept name.now))
+        (W.asked world.old) (W.asked world.new) result }
     ensures refuses { Refuses (Some (command.Accept name.now)) (W.holds world.old) (code_of result) }
     ensures read_counts { W.read_faults world.old ≤ W.read_faults world.new }
     ensures write_counts { W.write_faults world.old ≤ W.write_faults world.new }

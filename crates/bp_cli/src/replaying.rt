@@ -25,7 +25,8 @@ pub(crate) fn replay_log<W: World, K: Sink>(
         (Rose (K.faults out.old) (K.faults out.new)
         ⊎ Rose (W.write_faults world.old) (W.write_faults world.new))
         before after result }
-    ensures asks { AsksIn (Some (command.Replay name.now)) (W.asked world.old) (W.asked world.new) result }
+    ensures asks { AsksIn (Some (command.Replay name.now))
+        (W.asked world.old) (W.asked world.new) result }
     ensures read_counts { W.read_faults world.old ≤ W.read_faults world.new }
     ensures write_counts { W.write_faults world.old ≤ W.write_faults world.new }
     ensures counts { K.faults out.old ≤ K.faults out.new }
