@@ -1,15 +1,14 @@
 -- What holds of an injector once it was joined.
-use Rattle.std.proofs.Common.{◌≡◌, ◌⊎◌, ⊎_elim, ◌↔◌, ℕ, true, List, [], ◌++◌, Option, None, option_to_list, sym, ap, ◌∙◌, subst, arith}
+use Rattle.std.proofs.Common.{◌≡◌, ◌⊎◌, ⊎_elim, ◌↔◌, ℕ, true, List, [], ◌++◌, Option, option_to_list, sym, ap, ◌∙◌, subst, arith}
 use Rattle.std.proofs.lemmas.Bool.{or_cases, or_left}
 use Rattle.std.proofs.lemmas.List.Folds.{list_any-append}
 use Rattle.bp_base.specs.Counts.{Rose}
 use Rattle.bp_log.specs.declared.item.Item.{Item}
-use Rattle.bp_lanes.specs.declared.ends.Mouth.{Mouth}
 use Rattle.bp_lanes.specs.Lanes.{offered}
 use Rattle.bp_feeds.specs.declared.feed.Feed.{Feed}
 use Rattle.bp_feeds.specs.Items.{is_fault, has_fault, has_last}
 use Rattle.bp_feeds.specs.Reading.{BeginsItems}
-use Rattle.bp_feeds.specs.Feeds.{given, is_over, StandsTo, GoesOn}
+use Rattle.bp_feeds.specs.Feeds.{given, is_over, GoesOn}
 use Rattle.bp_feeds.proofs.Going.{rose_on, rose_from, stands_on}
 use Rattle.bp_inject.specs.Injectors.{IsFrom, CameBack}
 use Rattle.bp_inject.proofs.Begins.{begins, over_is_last}
@@ -28,17 +27,6 @@ module _ {S : Type 0} (left : S → Option (List ℕ)) (faults : S → ℕ) wher
         (fault_of (given old) g.more (given new) g.all h);
     counts = omega (arith, f.counts, g.counts);
   }
-
-  -- a new feed is a feed of its source
-  pub from_new : (source : S) (mouth : Mouth) (feed : Feed S) → feed.lines.source ≡ source → feed.mouth ≡ mouth → feed.kept ≡ None → offered mouth ≡ []
-      → StandsTo left (left source) (offered mouth) feed → IsFrom left faults source feed
-  from_new source mouth feed e m k none s =
-      let nothing : given feed ≡ [] = ap (λ x. offered x ++ option_to_list feed.kept) m ∙ ap (λ l. l ++ option_to_list feed.kept) none ∙ ap option_to_list k in
-      record {
-        stands = subst (λ b. StandsTo left (left source) b feed) none s;
-        cause = λ h. (let b : has_fault [] ≡ true = ap has_fault (sym nothing) ∙ h in cc);
-        counts = omega (arith, ap faults e);
-      }
 
   -- a feed that came back, having offered these items
   pub came_back : (source : S) (feed end : Feed S) (back : S) (offers : List Item) (over : Type 0) → IsFrom left faults source feed → GoesOn left faults feed end

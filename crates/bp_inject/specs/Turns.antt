@@ -10,8 +10,10 @@ use Rattle.bp_inject.specs.declared.beside.NotOver.{NotOver}
 use Rattle.bp_inject.specs.declared.beside.Turned.{Turned}
 
 module _ {S : Type 0} where
-  -- a feed was taken from here, and it went on to the one that is given back, which is over exactly where this was answered
-  pub record IsTurned (left : S → Option (List ℕ)) (faults : S → ℕ) (intake : Consumer (Feed S) Global NotOver) (turned : Turned S) : Type 0 where
+  -- a feed was taken from here, and it went on to the one that is given back, which is over exactly
+  -- where this was answered
+  pub record IsTurned (left : S → Option (List ℕ)) (faults : S → ℕ)
+      (intake : Consumer (Feed S) Global NotOver) (turned : Turned S) : Type 0 where
     pub handed : Feed S
     pub takes : received turned.intake ≡ received intake ++ handed ∷ []
     pub same : SameConsumer intake turned.intake

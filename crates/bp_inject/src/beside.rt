@@ -1,4 +1,5 @@
-//! What the thread of an injector runs. It is handed its feed once it was made, through a ring with one place.
+//! What the thread of an injector runs. It is handed its feed once it was made, through a ring with one
+//! place.
 ghost use Rattle.bp_inject.specs.Turns.{IsTurned};
 
 use crate::injecting::{Injected, inject};

@@ -21,8 +21,9 @@ pub enum Injected {
     Halted,
 }
 
-/// Makes turns of the feed until it is over or there is a halt, rings after each turn that went on, and waits while
-/// an item finds no place. Halted, it reads no further line: where its wake was found halted before, it reads nothing.
+/// Makes turns of the feed until it is over or there is a halt, rings after each turn that went on, and
+/// waits while an item finds no place. Halted, it reads no further line: where its wake was found
+/// halted before, it reads nothing.
 ///
 /// # Errors
 ///

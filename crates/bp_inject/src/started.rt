@@ -48,8 +48,9 @@ fn thread_of<'s, S: Source + Send + Drop + 's, R: Threads + Wait + Sync, E>(
     }
 }
 
-/// Starts the thread of an injector, which makes the turns of a feed over the source. Where no thread can be made, the
-/// feed comes back. Either way it is unread: a thread is handed its feed once it was made.
+/// Starts the thread of an injector, which makes the turns of a feed over the source. Where no thread
+/// can be made, the feed comes back. Either way it is unread: a thread is handed its feed once it was
+/// made.
 ///
 /// # Errors
 ///
@@ -107,10 +108,10 @@ impl<S: Source + Drop> Beside<S> {
     }
 }
 
-/// Joins the thread of an injector, and compares the ends of its lane. What was taken, and then what is still to be
-/// taken, begins the items of the source's bytes, apart from a last fault, which comes only where the source failed.
-/// It answers as `inject` did in the thread: `Over` exactly where the last item is among them. One that had no thread
-/// is halted where it is not over.
+/// Joins the thread of an injector, and compares the ends of its lane. What was taken, and then what is
+/// still to be taken, begins the items of the source's bytes, apart from a last fault, which comes only
+/// where the source failed. It answers as `inject` did in the thread: `Over` exactly where the last
+/// item is among them. One that had no thread is halted where it is not over.
 ///
 /// # Errors
 ///
