@@ -1,11 +1,11 @@
 -- A whole job that was carried out is the job carried to its outcome.
-use Rattle.std.proofs.Common.{◌≡◌, ℕ, suc, ◌<◌, List, [], ◌∷◌, length, map, slice_index_or, refl, ap, ◌∙◌, arith}
+use Rattle.std.proofs.Common.{◌≡◌, ℕ, List, ap, ◌∙◌}
 use Rattle.js_data.specs.Event.{PlainEvent}
 use Rattle.js_meaning.specs.State.{Ground}
 use Rattle.js_meaning.specs.Bodies.{Origin}
 use Rattle.bp_thread.specs.declared.job.Job.{Job}
 use Rattle.bp_thread.specs.Jobs.{PlainJob, plain_job, IsSame, StandsFor, IsWhole}
-use Rattle.bp_thread.specs.Carried.{carried, CarriedOut, AreCarriedOut}
+use Rattle.bp_thread.specs.Carried.{carried, CarriedOut}
 use Rattle.bp_thread.proofs.Standing.{whole_done}
 
 -- a whole job stands for its body
@@ -23,19 +23,3 @@ module _ (base : Ground) (budget : ℕ) where
 
   pub carried_out : (e x : Job) → IsWhole base budget e → CarriedOut base budget e x → plain_job x ≡ carried base budget (plain_job e)
   carried_out e x w c = whole_done base budget x ((c.carries).whole w) c.outcome ∙ same_carried (plain_job e) (plain_job x) (c.carries).same
-
-  all_done : (before after : List Job) → length after ≡ length before → ((k : ℕ) (d : Job) → k < length before → IsWhole base budget (slice_index_or before k d)) →
-      ((k : ℕ) (d e : Job) → k < length before → CarriedOut base budget (slice_index_or before k d) (slice_index_or after k e)) →
-      map plain_job after ≡ map (carried base budget) (map plain_job before)
-  all_done [] [] n w c = refl
-  all_done [] (x ∷ xs) n w c = absurd (omega arith)
-  all_done (e ∷ es) [] n w c = absurd (omega arith)
-  all_done (e ∷ es) (x ∷ xs) n w c =
-      let head = carried_out e x (w 0 e (omega arith)) (c 0 e x (omega arith)) in
-      let tail = all_done es xs (omega arith) (λ k d h. w (suc k) d (omega arith)) (λ k d f h. c (suc k) d f (omega arith)) in
-      ap (λ j. j ∷ map plain_job xs) head ∙ ap (λ js. carried base budget (plain_job e) ∷ js) tail
-
-  -- whole jobs that were carried out are the jobs carried to their outcomes, in order
-  pub all_carried_out : (before after : List Job) → ((k : ℕ) (d : Job) → k < length before → IsWhole base budget (slice_index_or before k d)) → AreCarriedOut base budget before after →
-      map plain_job after ≡ map (carried base budget) (map plain_job before)
-  all_carried_out before after w a = all_done before after a.as_many w a.each

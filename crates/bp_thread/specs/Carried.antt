@@ -15,8 +15,8 @@ carried base budget j = record j {
   outcome = Some (outcome_of (evaluation base budget j.origin j.replies));
 }
 
--- x is the job e, carried on: number, name, origin and replies are e's, it stands for its body if e did, its effects are whole if e's were,
--- and it is of the ground's program if e was
+-- x is the job e, carried on: number, name, origin and replies are e's, it stands for its body if e
+-- did, its effects are whole if e's were, and it is of the ground's program if e was
 pub record Carries (base : Ground) (budget : ℕ) (e x : Job) : Type 0 where
   pub same : IsSame (plain_job e) (plain_job x)
   pub stands : StandsFor base budget e → StandsFor base budget x
@@ -31,7 +31,8 @@ pub record CarriedOut (base : Ground) (budget : ℕ) (e x : Job) : Type 0 where
 -- the same jobs in the same order, each carried to its outcome
 pub record AreCarriedOut (base : Ground) (budget : ℕ) (before after : List Job) : Type 0 where
   pub as_many : length after ≡ length before
-  pub each : (k : ℕ) (d e : Job) → k < length before → CarriedOut base budget (slice_index_or before k d) (slice_index_or after k e)
+  pub each : (k : ℕ) (d e : Job) → k < length before
+      → CarriedOut base budget (slice_index_or before k d) (slice_index_or after k e)
 
 -- no two jobs have one number
 abbrev pub HaveDistinctNumbers : List Job → Type 0

@@ -61,16 +61,19 @@ abbrev pub IsOutcome : js.Outcome → List Effect → Option (run.Outcome PlainS
 IsOutcome o made None = Unit {0}
 IsOutcome o made (Some outcome) = (outcome ≡ outcome_of o) × (effects_of o ≡ made)
 
--- The job stands for its body with its replies, under this ground and budget, where so many nodes have begun since the last of them and these effects were made
--- over all of them: its machine, carried on, comes to the outcome of the body.
+-- The job stands for its body with its replies, under this ground and budget, where so many nodes have
+-- begun since the last of them and these effects were made over all of them: its machine, carried on,
+-- comes to the outcome of the body.
 pub record StandsAt (base : Ground) (budget begun : ℕ) (made : List Effect) (j : Job) : Type 0 where
   pub machine : Machine
   pub there : j.machine ≡ Some machine
   pub stands : Stands base budget (plain_origin j.origin) j.replies begun made machine
   pub all_taken : untaken machine ≡ []
   pub handler : (plain_job j).handler ≡ fold handler_after None made
-  pub outcome : IsOutcome (evaluation base budget (plain_origin j.origin) j.replies) made (plain_job j).outcome
-  pub constants : is_ended (plain_job j).outcome ≡ true → constants_by machine ≡ constants_left (evaluation base budget (plain_origin j.origin) j.replies)
+  pub outcome :
+      IsOutcome (evaluation base budget (plain_origin j.origin) j.replies) made (plain_job j).outcome
+  pub constants : is_ended (plain_job j).outcome ≡ true
+      → constants_by machine ≡ constants_left (evaluation base budget (plain_origin j.origin) j.replies)
 
 -- the same, however many nodes have begun
 pub record StandsFor (base : Ground) (budget : ℕ) (j : Job) : Type 0 where
@@ -83,7 +86,8 @@ pub record IsWhole (base : Ground) (budget : ℕ) (j : Job) : Type 0 where
   pub begun : ℕ
   pub before : List Effect
   pub stands : StandsAt base budget begun (before ++ plain_effects j.effects) j
-  pub since : let o = evaluation base budget (plain_origin j.origin) j.replies in effects_of o ≡ before ++ effects_since o
+  pub since : let o = evaluation base budget (plain_origin j.origin) j.replies in
+      effects_of o ≡ before ++ effects_since o
 
 -- number, name, origin and replies stay
 pub record IsSame (old new : PlainJob) : Type 0 where
@@ -92,13 +96,18 @@ pub record IsSame (old new : PlainJob) : Type 0 where
   pub origin : new.origin ≡ old.origin
   pub replies : new.replies ≡ old.replies
 
--- One slice of a job: at most so many nodes began. Where the outcome is not there, just so many began, another must begin, and budget is left;
--- where it is there, the body has begun all of its nodes since its start or its last reply.
-pub record Sliced (base : Ground) (budget begun : ℕ) (made : List Effect) (nodes : ℕ) (done : Bool) (old new : Job) : Type 0 where
+-- One slice of a job: at most so many nodes began. Where the outcome is not there, just so many began,
+-- another must begin, and budget is left; where it is there, the body has begun all of its nodes since
+-- its start or its last reply.
+pub record Sliced (base : Ground) (budget begun : ℕ) (made : List Effect) (nodes : ℕ) (done : Bool)
+    (old new : Job) : Type 0 where
   pub more : ℕ
   pub few : more ≤ nodes
   pub fresh : List Effect
   pub effects : plain_effects new.effects ≡ plain_effects old.effects ++ fresh
   pub stands : StandsAt base budget (begun + more) (made ++ fresh) new
-  pub waits : done ≡ false → Waits (evaluation base budget (plain_origin old.origin) old.replies) begun more nodes budget
-  pub reached : done ≡ true → let o = evaluation base budget (plain_origin old.origin) old.replies in (left_by o).fuel + (begun + more) ≡ budget
+  pub waits : done ≡ false
+      → Waits (evaluation base budget (plain_origin old.origin) old.replies) begun more nodes budget
+  pub reached : done ≡ true
+      → let o = evaluation base budget (plain_origin old.origin) old.replies in
+      (left_by o).fuel + (begun + more) ≡ budget

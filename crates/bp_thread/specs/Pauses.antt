@@ -13,7 +13,8 @@ asked_outcome (Some asked) (Some line) = Some (stopped_with (statement_of asked.
 asked_outcome _ _ = None
 
 -- none where the machine can go on
-abbrev pub outcome_of_pause : Pause → Option (PlainValue × PlainValue) → Option ℕ → Option (run.Outcome PlainSet)
+abbrev pub outcome_of_pause : Pause → Option (PlainValue × PlainValue) → Option ℕ
+    → Option (run.Outcome PlainSet)
 outcome_of_pause pause.More asked line = None
 outcome_of_pause pause.AtSync asked line = asked_outcome asked line
 outcome_of_pause pause.Ended asked line = Some run.Outcome.Ended
