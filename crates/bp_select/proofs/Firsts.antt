@@ -62,10 +62,6 @@ or_end false = refl
 -- ---- the keys of all
 
 module _ {A : Type 0} (f : A → PlainEvent) where
-  pub any_mapped : (e : PlainEvent) (xs : List A) → list_any (same_event e) (map f xs) ≡ list_any (λ x. same_event e (f x)) xs
-  any_mapped e [] = refl
-  any_mapped e (x ∷ xs) = ap (λ (b : Bool). same_event e (f x) || b) (any_mapped e xs)
-
   abbrev pub later : PlainEvent → ℕ → List A → Bool
   later e i xs = list_any (same_event e) (map f (drop i xs))
 
@@ -86,9 +82,6 @@ found_here p all i r whole h k m w = sym (w ∙ ap (λ (xs : List PlainEvent). f
 pub found_later : (p : PlainEvent → Bool) (all : List PlainEvent) (i : ℕ) (r : PlainEvent) (whole : Option PlainEvent) → i < length all → r ≡ get_or all i r → p r ≡ false → whole ≡ find p (drop i all) →
     whole ≡ find p (drop (i + 1) all)
 found_later p all i r whole h k m w = w ∙ ap (λ (xs : List PlainEvent). find p xs) (drop_is all i r h k) ∙ (rw m refl)
-
-pub found_none : (p : PlainEvent → Bool) (all : List PlainEvent) (i : ℕ) (whole : Option PlainEvent) → length all ≤ i → whole ≡ find p (drop i all) → None ≡ whole
-found_none p all i whole h w = sym (w ∙ ap (λ (xs : List PlainEvent). find p xs) (drop_end all i h))
 
 find_at : (p q : PlainEvent → Bool) (x : PlainEvent) (xs : List PlainEvent) → p x ≡ q x → find p xs ≡ find q xs → find p (x ∷ xs) ≡ find q (x ∷ xs)
 find_at p q x xs h k = rw (h, k) refl

@@ -5,7 +5,7 @@ use Rattle.js_data.specs.Event.{PlainEvent}
 use Rattle.js_value.specs.Value.{PlainSet}
 use Rattle.bp_sets.specs.declared.fault.SetFault.TheVariants as set_fault
 use Rattle.bp_run.specs.Bodies as run
-use Rattle.bp_run.specs.Selecting.{Live, Has, Asked, by_number, both, blocked, unblocked, first_unblocked, blocker}
+use Rattle.bp_run.specs.Selecting.{Live, Has, Asked, by_number, both, blocked, unblocked, blocker}
 use Rattle.bp_select.specs.declared.bench.Stated.{Stated}
 use Rattle.bp_select.specs.declared.answers.SelectFault.{SelectFault}
 use Rattle.bp_select.specs.declared.answers.SelectFault.TheVariants.{Set, Memory}
@@ -89,13 +89,6 @@ abbrev pub behind : List PlainEvent → Asked (List PlainEvent) → Asked (List 
 behind kept (Ok r) = Ok (kept ++ r)
 behind kept (Err z) = Err z
 
-behind_none : (x : Asked (List PlainEvent)) → x ≡ behind [] x
-behind_none (Ok r) = refl
-behind_none (Err z) = refl
-
-pub unblocked_first : (has : Has PlainSet) (ts : List (Live PlainSet)) (all : List PlainEvent) → unblocked has ts all ≡ behind [] (unblocked has ts (drop 0 all))
-unblocked_first has ts all = behind_none (unblocked has ts all)
-
 behind_one : (kept : List PlainEvent) (e : PlainEvent) (b : Bool) (x : Asked (List PlainEvent)) →
     behind kept (let first : Asked Bool = Ok b in both (λ c rest. if c then rest else e ∷ rest) first x) ≡ behind (if b then kept else kept ++ e ∷ []) x
 behind_one kept e true (Ok r) = refl
@@ -134,34 +127,6 @@ module _ {A : Type 0} (f : A → PlainEvent) (has : Has PlainSet) (ts : List (Li
   unblocked_fault all i x kept g h k w q =
       fault_on (blocked has ts (f x)) (unblocked has ts (map f all)) g
       (λ z m. w ∙ ap (λ (xs : List A). behind (map f kept) (unblocked has ts (map f xs))) (drop_is all i x h k) ∙ (rw m refl)) q
-
--- ---- the queue
-
-first_of : (has : Has PlainSet) (ts : List (Live PlainSet)) (i : ℕ) (e : PlainEvent) (rest : List PlainEvent) (b : Bool) → blocked has ts e ≡ Ok b →
-    first_unblocked has ts i (e ∷ rest) ≡ (if b then first_unblocked has ts (suc i) rest else Ok (Some i))
-first_of has ts i e rest true h = rw (h, first_unblocked) refl
-first_of has ts i e rest false h = rw (h, first_unblocked) refl
-
-pub first_step : (has : Has PlainSet) (ts : List (Live PlainSet)) (all : List PlainEvent) (i : ℕ) (e : PlainEvent) → i < length all → e ≡ get_or all i e → blocked has ts e ≡ Ok true →
-    first_unblocked has ts 0 all ≡ first_unblocked has ts i (drop i all) → first_unblocked has ts 0 all ≡ first_unblocked has ts (i + 1) (drop (i + 1) all)
-first_step has ts all i e h k m w =
-    w ∙ ap (λ (xs : List PlainEvent). first_unblocked has ts i xs) (drop_is all i e h k) ∙ first_of has ts i e (drop (i + 1) all) true m
-    ∙ ap (λ (n : ℕ). first_unblocked has ts n (drop (i + 1) all)) (sym (add-one i))
-
-pub first_found : (has : Has PlainSet) (ts : List (Live PlainSet)) (all : List PlainEvent) (i : ℕ) (e : PlainEvent) → i < length all → e ≡ get_or all i e → blocked has ts e ≡ Ok false →
-    first_unblocked has ts 0 all ≡ first_unblocked has ts i (drop i all) → first_unblocked has ts 0 all ≡ Ok (Some i)
-first_found has ts all i e h k m w =
-    w ∙ ap (λ (xs : List PlainEvent). first_unblocked has ts i xs) (drop_is all i e h k) ∙ first_of has ts i e (drop (i + 1) all) false m
-
-pub first_none : (has : Has PlainSet) (ts : List (Live PlainSet)) (all : List PlainEvent) (i : ℕ) → length all ≤ i →
-    first_unblocked has ts 0 all ≡ first_unblocked has ts i (drop i all) → first_unblocked has ts 0 all ≡ Ok None
-first_none has ts all i h w = w ∙ ap (λ (xs : List PlainEvent). first_unblocked has ts i xs) (drop_end all i h)
-
-pub first_fault : (has : Has PlainSet) (ts : List (Live PlainSet)) (all : List PlainEvent) (i : ℕ) (e : PlainEvent) (f : SelectFault) → i < length all → e ≡ get_or all i e →
-    first_unblocked has ts 0 all ≡ first_unblocked has ts i (drop i all) → FaultAs (blocked has ts e) f → FaultAs (first_unblocked has ts 0 all) f
-first_fault has ts all i e f h k w q =
-    fault_on (blocked has ts e) (first_unblocked has ts 0 all) f
-    (λ z m. w ∙ ap (λ (xs : List PlainEvent). first_unblocked has ts i xs) (drop_is all i e h k) ∙ (rw (m, first_unblocked) refl)) q
 
 -- ---- who blocks
 

@@ -7,9 +7,8 @@ use Rattle.std.proofs.lemmas.Option.{slice_get-map, slice_get-get_or, slice_get_
 use Rattle.js_data.specs.Event.{PlainEvent}
 use Rattle.js_value.specs.Value.{PlainSet}
 use Rattle.bp_log.specs.declared.options.Strategy.{Strategy}
-use Rattle.bp_log.specs.declared.options.Strategy.TheVariants.{Simple, Ordered, Priority}
 use Rattle.bp_run.specs.Selecting.{Live, Has, Asked, Enabled, without_fault, unblocked, first_unblocked, candidates, or_queued, selectable}
-use Rattle.bp_run.specs.Choosing.{Choice, remaining, drawn_of, chosen, choice}
+use Rattle.bp_run.specs.Choosing.{Choice, drawn_of, chosen, choice}
 use Rattle.bp_select.specs.declared.answers.SelectFault.{SelectFault}
 use Rattle.bp_select.specs.declared.answers.Choice as answer
 use Rattle.bp_select.specs.declared.answers.Choice.TheVariants as answers
@@ -107,16 +106,6 @@ from_within n place (answers.External i) h f = f i h
 from_within n place answers.Nothing h f = tt
 
 -- ---- the choice
-
-remaining_none : (s : Strategy) (ts : List (Live PlainSet)) → remaining s ts [] ≡ []
-remaining_none Simple ts = refl
-remaining_none Ordered ts = refl
-remaining_none Priority ts = refl
-
-pub chosen_inner : (word : ℕ → ℕ) (s : Strategy) (ts : List (Live PlainSet)) (queue : List PlainEvent) (d : ℕ) (inner : List PlainEvent) →
-    chosen word s ts queue d inner None ≡ drawn_of word d (remaining s ts inner)
-chosen_inner word s ts queue d [] = rw (remaining_none s ts) refl
-chosen_inner word s ts queue d (e ∷ es) = refl
 
 -- the choice, from what can be selected
 pub choice_of : (has : Has PlainSet) (word : ℕ → ℕ) (s : Strategy) (ts : List (Live PlainSet)) (queue : List PlainEvent) (d : ℕ) (x : Enabled) → selectable has ts queue ≡ Ok x →

@@ -1,46 +1,19 @@
 -- Steps of the reach.
-use Rattle.std.proofs.Common.{◌≡◌, ℕ, ◌+◌, ◌<◌, ◌≤◌, Bool, true, false, List, [], ◌∷◌, ◌++◌, length, map, drop, get_or, refl, ap, sym, ◌∙◌, append_assoc, append-nil, Option, Some, None, Ok, Err, filter_map}
+use Rattle.std.proofs.Common.{◌≡◌, ℕ, ◌+◌, ◌<◌, ◌≤◌, List, [], ◌∷◌, ◌++◌, length, map, drop, get_or, refl, ap, sym, ◌∙◌, append_assoc, append-nil, Option, Some, None, Ok, Err, filter_map}
 use Rattle.std.specs.Prelude.{option_to_list}
 use Rattle.std.specs.List.{cons_option}
 use Rattle.std.proofs.lemmas.List.Elements.{filter_map-append}
 use Rattle.js_data.specs.Event.{PlainEvent}
 use Rattle.js_value.specs.Value.{PlainSet}
 use Rattle.bp_run.specs.Bodies as run
-use Rattle.bp_run.specs.Selecting.{Live, Has, Asked, by_number, both, without_fault, requests}
-use Rattle.bp_run.specs.Choosing.{Touched, touched, reach, moves_if}
-use Rattle.bp_run.specs.Choosing.Touched.{Moves, Interrupts}
+use Rattle.bp_run.specs.Selecting.{Has, Asked, both}
+use Rattle.bp_run.specs.Choosing.{Touched, touched, reach}
 use Rattle.bp_select.specs.declared.bench.Stated.{Stated}
 use Rattle.bp_select.specs.declared.answers.SelectFault.{SelectFault}
 use Rattle.bp_select.specs.declared.answers.Reach.{Reach}
 use Rattle.bp_select.specs.Lives.{live_of}
 use Rattle.bp_select.specs.Answers.{FaultAs, move_of, interrupt_of, IsReach}
 use Rattle.bp_select.proofs.Questions.{drop_is, drop_end, fault_on}
-
--- ---- one b-thread
-
-pub touched_interrupted : (has : Has PlainSet) (e : PlainEvent) (t : Live PlainSet) → by_number t.number (has t.statement.interrupt e) ≡ Ok true → touched has e t ≡ Ok (Some (Interrupts t.number))
-touched_interrupted has e t h = rw (h, touched) refl
-
-pub touched_requested : (has : Has PlainSet) (e : PlainEvent) (t : Live PlainSet) (r : Bool) → by_number t.number (has t.statement.interrupt e) ≡ Ok false → r ≡ requests e t → r ≡ true →
-    touched has e t ≡ Ok (Some (Moves t.number))
-touched_requested has e t r h k m = let q : requests e t ≡ true = sym k ∙ m in rw (h, q, touched) refl
-
-touched_waiting : (has : Has PlainSet) (e : PlainEvent) (t : Live PlainSet) (r : Bool) → by_number t.number (has t.statement.interrupt e) ≡ Ok false → r ≡ requests e t → r ≡ false →
-    touched has e t ≡ without_fault (moves_if t.number) (by_number t.number (has t.statement.wait_for e))
-touched_waiting has e t r h k m = let q : requests e t ≡ false = sym k ∙ m in rw (h, q, touched) refl
-
-pub touched_waits : (has : Has PlainSet) (e : PlainEvent) (t : Live PlainSet) (r w : Bool) → by_number t.number (has t.statement.interrupt e) ≡ Ok false → r ≡ requests e t → r ≡ false →
-    by_number t.number (has t.statement.wait_for e) ≡ Ok w → touched has e t ≡ Ok (moves_if t.number w)
-touched_waits has e t r w h k m n = touched_waiting has e t r h k m ∙ ap (λ (x : Asked Bool). without_fault (moves_if t.number) x) n
-
-pub interrupt_fault : (has : Has PlainSet) (e : PlainEvent) (t : Live PlainSet) (f : SelectFault) → FaultAs (by_number t.number (has t.statement.interrupt e)) f → FaultAs (touched has e t) f
-interrupt_fault has e t f h = fault_on (by_number t.number (has t.statement.interrupt e)) (touched has e t) f (λ z k. rw (k, touched) refl) h
-
-pub wait_fault : (has : Has PlainSet) (e : PlainEvent) (t : Live PlainSet) (r : Bool) (f : SelectFault) → by_number t.number (has t.statement.interrupt e) ≡ Ok false → r ≡ requests e t → r ≡ false →
-    FaultAs (by_number t.number (has t.statement.wait_for e)) f → FaultAs (touched has e t) f
-wait_fault has e t r f h k m q =
-    fault_on (by_number t.number (has t.statement.wait_for e)) (touched has e t) f
-    (λ z n. touched_waiting has e t r h k m ∙ ap (λ (x : Asked Bool). without_fault (moves_if t.number) x) n) q
 
 -- ---- all of them
 
@@ -54,14 +27,6 @@ pub record Reaches (has : Has PlainSet) (e : PlainEvent) (all rest : List Stated
   pub rest_is : reach has e (map live_of all) ≡ after so_far (reach has e (map live_of rest))
   pub moved_is : moved ≡ filter_map move_of so_far
   pub interrupted_is : interrupted ≡ filter_map interrupt_of so_far
-
-after_none : (x : Asked (List Touched)) → x ≡ after [] x
-after_none (Ok r) = refl
-after_none (Err z) = refl
-
-pub reaches_first : (has : Has PlainSet) (e : PlainEvent) (all : List Stated) (moved interrupted : List ℕ) → moved ≡ [] → interrupted ≡ [] → Reaches has e all (drop 0 all) moved interrupted
-reaches_first has e all moved interrupted h k =
-    record { so_far = []; rest_is = after_none (reach has e (map live_of all)); moved_is = h; interrupted_is = k }
 
 after_one : (so : List Touched) (o : Option Touched) (x : Asked (List Touched)) →
     after so (let first : Asked (Option Touched) = Ok o in both cons_option first x) ≡ after (so ++ option_to_list o) x

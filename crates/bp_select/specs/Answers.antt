@@ -34,7 +34,8 @@ enabled_of x = record { inner = x.inner.items; outer = x.outer }
 -- the chosen event, where so many words were drawn afterwards
 abbrev pub chosen_of : List PlainEvent → ℕ → Choice → Option choosing.Choice
 chosen_of queue drawn (Internal e) = Some (record { event = e; place = None; drawn = drawn })
-chosen_of queue drawn (External place) = option_map (λ e. record { event = e; place = Some place; drawn = drawn }) (slice_get queue place)
+chosen_of queue drawn (External place) =
+    option_map (λ e. record { event = e; place = Some place; drawn = drawn }) (slice_get queue place)
 chosen_of queue drawn Nothing = None
 
 -- an event of the queue is the one at this place

@@ -23,7 +23,8 @@ same_equivalence f = record {
   congr = λ a b c h. same_along (f a) (f b) (f c) h;
 }
 
-pub same_partial : {K : Type 0} (f : K → PlainEvent) → IsPartialEquivalence (λ a b. same_event (f a) (f b))
+pub same_partial : {K : Type 0} (f : K → PlainEvent)
+    → IsPartialEquivalence (λ a b. same_event (f a) (f b))
 same_partial f = record {
   symm = λ a b. same_sym (f a) (f b);
   trans = λ a b c h k. same_along (f a) (f b) (f c) h ∙ k;

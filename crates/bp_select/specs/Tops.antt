@@ -19,7 +19,8 @@ raised (Some a) p = if int_le a p then p else a
 -- one more request of e
 abbrev pub with_request : ℤ → List Top → PlainEvent → List Top
 with_request p [] e = (e, p) ∷ []
-with_request p (x ∷ xs) e = if same_event e x.0 then (x.0, raised (Some x.1) p) ∷ xs else x ∷ with_request p xs e
+with_request p (x ∷ xs) e =
+    if same_event e x.0 then (x.0, raised (Some x.1) p) ∷ xs else x ∷ with_request p xs e
 
 abbrev pub with_requests : ℤ → List Top → List PlainEvent → List Top
 with_requests p xs [] = xs

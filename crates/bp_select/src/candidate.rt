@@ -5,7 +5,7 @@ use bp_log::Memory;
 use js_data::Event;
 
 /// A requested event, and the greatest priority with which it is requested.
-#[derive(Debug, Clone, Copy)]
+#[derive(Clone, Copy)]
 pub(crate) struct Candidate<'a> {
     /// The event.
     pub event: &'a Event,

@@ -8,7 +8,7 @@ use js_data::Event;
 use std::hash::{Hash, Hasher};
 
 /// An event as a key of a map. Two keys are equal exactly where their events are.
-#[derive(Debug, Clone, Copy)]
+#[derive(Clone, Copy)]
 pub(crate) struct Key<'a> {
     /// The event.
     pub event: &'a Event,

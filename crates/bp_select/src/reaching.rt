@@ -16,7 +16,7 @@ use js_frames::Ground;
 use std::alloc::Global;
 
 /// What an event does to a b-thread.
-#[derive(Debug, Clone, Copy, PartialEq, Eq)]
+#[derive(Clone, Copy)]
 pub(crate) enum Touch {
     /// Nothing.
     Stays,

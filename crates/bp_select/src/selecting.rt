@@ -24,7 +24,7 @@ use js_frames::Ground;
 use std::alloc::Global;
 
 /// What can be selected.
-#[derive(Debug, Drop)]
+#[derive(Drop)]
 pub(crate) enum Free<'a> {
     /// These candidates.
     Inner(Vec<Candidate<'a>>),
