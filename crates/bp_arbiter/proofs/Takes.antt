@@ -86,14 +86,6 @@ taken_sound seed a g ls h1 h2 h3 h4 h5 s =
           record { jobs = k.jobs; taken = k.taken ++ ls; pair = k.pair; stands = taken_stands a g ls t k.jobs k.taken k.pair k.stands; unlent = k.unlent; keeps = taken_keeps a g ls t k.keeps };
     }
 
-pub stands_taken : (a : PlainArbiter) (g : PlainFloor) (ls : List Line) → a.floor.pair ≡ before ls g.pair → g.phase ≡ a.floor.phase → g.broken ≡ a.floor.broken → g.base ≡ a.floor.base → g.options ≡ a.floor.options →
-    (jobs : List Job) (taken : List Line) (p : Pair Origin) → StandsFor a jobs taken p → StandsFor (record a { floor = g }) jobs (taken ++ ls) p
-stands_taken a g ls h1 h2 h3 h4 h5 = taken_stands a g ls (record { pair = h1; phase = h2; broken = h3; base = h4; options = h5 })
-
-pub tells_taken : (a : PlainArbiter) (g : PlainFloor) (ls : List Line) → a.floor.pair ≡ before ls g.pair → g.phase ≡ a.floor.phase → g.broken ≡ a.floor.broken → g.base ≡ a.floor.base → g.options ≡ a.floor.options →
-    (taken : List Line) → Tells a taken → Tells (record a { floor = g }) (taken ++ ls)
-tells_taken a g ls h1 h2 h3 h4 h5 = taken_tells a g ls (record { pair = h1; phase = h2; broken = h3; base = h4; options = h5 })
-
 -- where it is idle, its lines are all that the story has
 pub exact_now : (a : PlainArbiter) → (a.broken ≡ false → IsStanding a) → (a.floor.broken ≡ false → IsPhased a.floor) → (taken : List Line) (p : Pair Origin) → StandsFor a [] taken p → is_idle a.phase ≡ true →
     (c : Configuration Origin) → Recounts a c → c.stand.lines ≡ taken ++ (stand_in a).lines

@@ -26,7 +26,7 @@ use Rattle.bp_arbiter.specs.Sound.{IsSound, IsStanding}
 use Rattle.bp_arbiter.specs.Picking.{after_pick, picked_of, phase_after}
 use Rattle.bp_arbiter.specs.Runs.{seen, next_in, configuration_of, HasCome, IsBeside, IsUnheard}
 use Rattle.bp_arbiter.proofs.Told.{tells_same}
-use Rattle.bp_arbiter.proofs.Standing.{sound_of, sound_broken}
+use Rattle.bp_arbiter.proofs.Standing.{sound_of}
 use Rattle.bp_arbiter.proofs.Picks.{next_is, stands_on, phase_come, moved_not_over as not_over}
 
 -- an arbiter whose memory was never wanting, in this phase
@@ -156,10 +156,6 @@ module _ (a : PlainArbiter) (r r' : Run) (i : IsAt Rest a r) (b : IsBeside r r')
   -- after want of memory
   pub unheard_tells : (f : Phase) (w : Bool) → IsUnheard r r' → (taken : List Line) → Tells (seen r Rest false) taken → Tells (seen r' f w) taken
   unheard_tells f w u taken t = tells_same (seen r Rest false) (seen r' f w) taken b.program b.options u.records u.lines t
-
-  pub unheard_sound : IsUnheard r r' → IsSound r'.draw.seed (seen r' Rest true)
-  unheard_sound u =
-      sound_broken r'.draw.seed (seen r' Rest true) (i.sound).taken seed_same (ap is_complete u.records ∙ going) (unheard_tells Rest true u (i.sound).taken (i.sound).tells) refl
 
   recorded_at : (n : Next) → HasCome r n r' → r'.records.records ≡ r.records.records ++ option_to_list (record_of n)
   recorded_at (Ends v) h = h.records

@@ -50,6 +50,10 @@ absorbed j (item.Offered e) a =
       records = a.records ++ In j e ∷ [];
     }
 absorbed j (item.Bad n) a =
-    record a { reading = unread j a.reading; bad = first_bad a.bad j n; records = a.records ++ Bad j n ∷ [] }
+    record a {
+      reading = unread j a.reading;
+      bad = first_bad a.bad j n;
+      records = a.records ++ Bad j n ∷ [];
+    }
 absorbed j item.Failed a = a
 absorbed j item.End a = record a { reading = unread j a.reading; records = a.records ++ Eof j ∷ [] }

@@ -17,7 +17,8 @@ use Rattle.bp_floor.specs.Forgetting.{forget}
 use Rattle.bp_floor.specs.Floors.{PlainFloor, StandsWith, code_on}
 use Rattle.bp_arbiter.specs.Calls.{RunCalls}
 
--- An arbiter: its floor, the words drawn, the injectors that have not ended, the first bad line, what was recorded, and what can be done.
+-- An arbiter: its floor, the words drawn, the injectors that have not ended, the first bad line, what
+-- was recorded, and what can be done.
 pub record PlainArbiter : Type 0 where
   pub floor : PlainFloor
   pub drawn : ℕ
@@ -32,7 +33,8 @@ pub record PlainArbiter : Type 0 where
 abbrev pub opened : PlainProgram → PlainOptions → PlainArbiter
 opened program o =
     record {
-      floor = record { base = bare program; options = o; pair = opening; phase = Ready; broken = false };
+      floor =
+          record { base = bare program; options = o; pair = opening; phase = Ready; broken = false };
       drawn = 0;
       reading = below o.injectors;
       bad = None;
@@ -67,8 +69,10 @@ IsDrawn Lent drawn told = drawn ≡ told
 IsDrawn Rest drawn told = drawn ≡ told
 IsDrawn Over drawn told = told ≤ drawn
 
--- The arbiter, after these lines were taken and together with the jobs that are lent, stands for a pair: the pair settles to the story of the records.
-pub record StandsFor (a : PlainArbiter) (jobs : List Job) (taken : List Line) (p : Pair Origin) : Type 0 where
+-- The arbiter, after these lines were taken and together with the jobs that are lent, stands for a
+-- pair: the pair settles to the story of the records.
+pub record StandsFor (a : PlainArbiter) (jobs : List Job) (taken : List Line) (p : Pair Origin)
+    : Type 0 where
   pub whole : a.broken ≡ false
   pub told : Configuration Origin
   pub story : Recounts a told
@@ -85,7 +89,8 @@ pub record StandsSomewhere (a : PlainArbiter) : Type 0 where
   pub pair : Pair Origin
   pub stands : StandsFor a [] taken pair
 
--- The records are a story, also after want of memory: the lines taken, then those to be taken, then the rest are its lines.
+-- The records are a story, also after want of memory: the lines taken, then those to be taken, then the
+-- rest are its lines.
 pub record Tells (a : PlainArbiter) (taken : List Line) : Type 0 where
   pub told : Configuration Origin
   pub story : Recounts a told
@@ -109,12 +114,15 @@ pub record HadMemory (old new : PlainArbiter) : Type 0 where
   pub before : old.broken ≡ false
   pub after : new.broken ≡ false
 
--- After want of memory nothing was recorded, and what can be done is as before. Of each pair that the arbiter stood for with such jobs, the lines taken and to be taken are the first of the story's. Where memory had been wanting before, nothing has changed.
+-- After want of memory nothing was recorded, and what can be done is as before. Of each pair that the
+-- arbiter stood for with such jobs, the lines taken and to be taken are the first of the story's. Where
+-- memory had been wanting before, nothing has changed.
 pub record IsGivenUp (IsLent : List Job → Type 0) (old new : PlainArbiter) : Type 0 where
   pub broken : new.broken ≡ true
   pub records : new.records ≡ old.records
   pub phase : new.phase ≡ old.phase
-  pub tells : (jobs : List Job) (taken : List Line) (p : Pair Origin) → IsLent jobs → StandsFor old jobs taken p → Tells new taken
+  pub tells : (jobs : List Job) (taken : List Line) (p : Pair Origin) → IsLent jobs
+      → StandsFor old jobs taken p → Tells new taken
   pub stays : old.broken ≡ true → new ≡ old
 
 -- what an arbiter keeps unless memory was wanting

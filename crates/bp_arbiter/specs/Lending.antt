@@ -11,7 +11,8 @@ use Rattle.bp_code.specs.Code.{ground_for}
 use Rattle.bp_floor.specs.Lending.{AreLent, filled_pair, standing}
 use Rattle.bp_arbiter.specs.Arbiters.{PlainArbiter, StandsFor, options_in}
 
--- a job of the ground's program that is to be carried on, with its effects whole; the ground is that of its body
+-- a job of the ground's program that is to be carried on, with its effects whole; the ground is that of
+-- its body
 pub record CanRun (base : Ground) (budget : ℕ) (j : Job) : Type 0 where
   pub ground : base ≡ ground_for base.program budget (plain_job j).origin
   pub of_program : IsOf base.program j
@@ -23,10 +24,12 @@ abbrev pub AllCanRun : Ground → ℕ → List Job → Type 0
 AllCanRun base budget [] = Unit {0}
 AllCanRun base budget (j ∷ js) = CanRun base budget j × AllCanRun base budget js
 
--- the jobs are those of what is to be run, in order, and each stands at the start of its slices on the arbiter's ground
+-- the jobs are those of what is to be run, in order, and each stands at the start of its slices on the
+-- arbiter's ground
 pub record AreOut (a : PlainArbiter) (jobs : List Job) : Type 0 where
   pub can_run : AllCanRun a.floor.base (options_in a).budget jobs
-  pub lent : AreLent a.floor.base.program (options_in a) (standing (filled_pair jobs a.floor.pair).stand.threads) a.floor.pair.entries jobs
+  pub lent : AreLent a.floor.base.program (options_in a)
+      (standing (filled_pair jobs a.floor.pair).stand.threads) a.floor.pair.entries jobs
 
 -- the jobs are the lent ones, in the same order, each carried to its outcome with its effects whole
 abbrev pub AreReturned : PlainArbiter → List Job → List Job → Type 0

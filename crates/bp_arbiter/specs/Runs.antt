@@ -20,11 +20,20 @@ use Rattle.bp_arbiter.specs.Arbiters.{PlainArbiter}
 -- the arbiter of this run
 abbrev pub seen : Run → Phase → Bool → PlainArbiter
 seen r phase broken =
-    record { floor = r.floor; drawn = r.draw.drawn; reading = r.reading; bad = r.bad; records = r.records.records; phase = phase; broken = broken }
+    record {
+      floor = r.floor;
+      drawn = r.draw.drawn;
+      reading = r.reading;
+      bad = r.bad;
+      records = r.records.records;
+      phase = phase;
+      broken = broken;
+    }
 
 -- where it stands, by what its floor shows
 abbrev pub configuration_of : Run → Configuration Origin
-configuration_of r = record { stand = r.floor.pair.stand; drawn = r.draw.drawn; reading = r.reading; bad = r.bad }
+configuration_of r =
+    record { stand = r.floor.pair.stand; drawn = r.draw.drawn; reading = r.reading; bad = r.bad }
 
 -- what comes next there
 abbrev pub next_in : Run → Next
@@ -32,7 +41,9 @@ next_in r = next (code_on r.floor) r.floor.options (configuration_of r)
 
 -- what comes next where this event is chosen, after its word
 abbrev pub next_chosen_in : Run → PlainEvent → Option ℕ → Next
-next_chosen_in r e place = next_choice (code_on r.floor) r.floor.options (configuration_of r) (Ok (Some (record { event = e; place = place; drawn = r.draw.drawn })))
+next_chosen_in r e place =
+    next_choice (code_on r.floor) r.floor.options (configuration_of r)
+    (Ok (Some (record { event = e; place = place; drawn = r.draw.drawn })))
 
 -- what comes next where nothing can be chosen
 abbrev pub next_idle_in : Run → Next
@@ -70,8 +81,10 @@ pub record IsEnded (old : Run) (v : Verdict) (new : Run) : Type 0 where
 
 -- an event is selected
 pub record IsMoved (old : Run) (ch : Choice) (reached : List Touched) (new : Run) : Type 0 where
-  pub reach_is : reach (code_on old.floor).has ch.event (live (code_on old.floor) old.floor.pair.stand) ≡ Ok reached
-  pub pair_is : new.floor.pair ≡ forgotten the_top (stepped (code_on old.floor) old.floor.pair.stand ch.event ch.place reached)
+  pub reach_is : reach (code_on old.floor).has ch.event (live (code_on old.floor) old.floor.pair.stand)
+      ≡ Ok reached
+  pub pair_is : new.floor.pair
+      ≡ forgotten the_top (stepped (code_on old.floor) old.floor.pair.stand ch.event ch.place reached)
   pub phase_is : new.floor.phase ≡ phase_of new.floor.pair
   pub whole : new.floor.broken ≡ false
   pub records : new.records.records ≡ old.records.records ++ Sel ch.event ∷ []

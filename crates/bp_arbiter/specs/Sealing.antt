@@ -35,7 +35,8 @@ turned_in r jobs = forgotten the_top (turn (code_on r.floor) (filled_pair jobs r
 
 -- where the floor stands for a pair, its turn stands for the turn of the pair
 pub record Turns (r : Run) (jobs : List Job) : Type 0 where
-  pub stands : (taken : List Line) (p : Pair Origin) → StandsWith r.floor jobs taken p → forgotten the_top (turn (code_on r.floor) p) ≡ before taken (turned_in r jobs)
+  pub stands : (taken : List Line) (p : Pair Origin) → StandsWith r.floor jobs taken p
+      → forgotten the_top (turn (code_on r.floor) p) ≡ before taken (turned_in r jobs)
 
 -- the turn is merged, and its verdict has its line and its record
 pub record IsTurned (old : Run) (jobs : List Job) (new : Run) : Type 0 where

@@ -75,7 +75,16 @@ impl Model for Arbiter {
 
     ghost Value = { PlainArbiter };
 
-    ghost coded = { Prim.hlevel (codes, event_code, value_code, e.the_row.coded, v.the_row.coded, r.the_row.coded, s.the_row.coded, ph.the_row.coded) };
+    ghost coded = { Prim.hlevel (
+      codes,
+      event_code,
+      value_code,
+      e.the_row.coded,
+      v.the_row.coded,
+      r.the_row.coded,
+      s.the_row.coded,
+      ph.the_row.coded,
+    ) };
 
     ghost view = { λ a. seen a.run a.phase a.broken };
 
@@ -126,8 +135,8 @@ impl Arbiter {
         self.phase
     }
 
-    /// The floor: at `Rest` and `Over` its queue, transitions and live b-threads are those of the story, until
-    /// memory is wanting. Takes no memory.
+    /// The floor: at `Rest` and `Over` its queue, transitions and live b-threads are those of the
+    /// story, until memory is wanting. Takes no memory.
     pub fn floor(&self) -> &Floor
         ensures floor { result.now ≡ self.now.floor }
         ensures shows { self.now.broken ≡ false → is_idle self.now.phase ≡ true →

@@ -7,7 +7,7 @@ use std::alloc::Global;
 use std::marker::Model;
 
 /// Records that are added to. Contracts see the list, and whether one more has its place already.
-#[derive(Debug, Drop)]
+#[derive(Drop)]
 pub struct RecordList {
     items: Vec<Record>,
 }

@@ -100,8 +100,8 @@ impl Run {
         }
     }
 
-    /// Selects an event that was chosen, unless it would pass a limit or its reach is at fault. Its only error
-    /// is want of memory.
+    /// Selects an event that was chosen, unless it would pass a limit or its reach is at fault. Its
+    /// only error is want of memory.
     fn select(&mut self, alloc: Global, event: Event, place: Option<u32>) -> Result<Picked, Memory>
         requires rest { self.old.floor.phase ≡ phase.Rest }
         requires can { CanGo self.old.floor event place }
@@ -226,7 +226,8 @@ impl Run {
         }
     }
 
-    /// Merges what the lent jobs did; a verdict gets its line and its record. Its only error is want of memory.
+    /// Merges what the lent jobs did; a verdict gets its line and its record. Its only error is want of
+    /// memory.
     pub fn seal(&mut self, alloc: Global, jobs: Vec<Job>) -> Result<Phase, Memory>
         requires lent { self.old.floor.phase ≡ phase.Lent }
         requires whole { self.old.floor.broken ≡ false }
