@@ -1,10 +1,10 @@
 -- Jobs that are taken out of their list and put back, over plain variables.
-use Rattle.std.proofs.Common.{◌≡◌, ◌≢◌, ℕ, zero, drop, add-one, append_assoc, length-drop, length-append, below_more, suc, ◌+◌, ◌<◌, ◌≤◌, Bool, false, cond, eqb, eq-eqb, ne_eqb, List, [], ◌∷◌, ◌++◌, map, All, length, get_or, set, length-set, get_or-set_same, get_or-set_other, ◌⊎◌, inl, inr, refl, sym, ap, ◌∙◌, subst, arith, Option, Some, None, IsSome, is_some, Result, Ok, Err, IfOk}
+use Rattle.std.proofs.Common.{◌≡◌, ◌≢◌, ℕ, zero, drop, add-one, append_assoc, length-append, below_more, suc, ◌+◌, ◌<◌, ◌≤◌, Bool, false, cond, eqb, eq-eqb, ne_eqb, List, [], ◌∷◌, ◌++◌, map, All, length, get_or, set, length-set, get_or-set_same, get_or-set_other, ◌⊎◌, inl, inr, refl, sym, ap, ◌∙◌, subst, arith, Option, Some, None, IsSome, is_some, Result, Ok, Err, IfOk}
 use Rattle.std.proofs.lemmas.Bool.{cases_eq}
 use Rattle.std.proofs.lemmas.List.{length-map, get_or_append_left, get_or-map}
 use Rattle.std.proofs.Math.Seq.{get_or-append_seam}
 use Rattle.std.proofs.lemmas.List.Sums.{sum_by-cons, sum_by-append}
-use Rattle.std.proofs.lemmas.List.Elements.{All-push, All-head, All-tail, All-cons, All-nil}
+use Rattle.std.proofs.lemmas.List.Elements.{All-push, All-head, All-tail, All-cons}
 use Rattle.js_meaning.specs.State.{Ground}
 use Rattle.bp_thread.specs.declared.job.Job.{Job}
 use Rattle.bp_thread.specs.Jobs.{plain_job, IsOf}
@@ -12,7 +12,7 @@ use Rattle.bp_thread.specs.Carried.{CarriedOut, AreCarriedOut}
 use Rattle.bp_thread.proofs.Standing.{false_true}
 use Rattle.bp_pool.specs.declared.seat.Seat.{Seat}
 use Rattle.bp_pool.specs.Carrying.{IsCarriedOn, Each}
-use Rattle.bp_pool.specs.Seats.{CanTurn, Turned, IsSeat, seats_of, IsOutOrSeated, AreSeated, StaySeated}
+use Rattle.bp_pool.specs.Seats.{Turned, IsSeat, seats_of, IsOutOrSeated, AreSeated, StaySeated}
 use Rattle.bp_pool.proofs.Going.{itself, onward, carries_itself}
 
 -- 1 for a seat of the place k, and else 0
@@ -51,10 +51,6 @@ drop_next [] (suc n) x rest e = cc
 drop_next (y ∷ ys) zero x rest e = (omega arith, (λ d. cc), cc)
 drop_next (y ∷ ys) (suc n) x rest e = let h = drop_next ys n x rest e in (omega arith, (λ d. h.1 d), rw add-one (rw add-one at h.2))
 
-no_more : {X : Type 0} (xs : List X) → xs ++ [] ≡ xs
-no_more [] = refl
-no_more (x ∷ xs) = ap (λ l. x ∷ l) (no_more xs)
-
 -- ---- jobs are taken out of their list
 
 -- the first jobs have been looked at, and these are left
@@ -64,15 +60,6 @@ pub record TakenOut (base : Ground) (jobs : List Job) (done : List (Option Job))
   pub each : (k : ℕ) (d : Job) (o : Option Job) → k < length done → IsOutOrSeated base (get_or jobs k d) (get_or done k o) (seats_of k seats)
   pub own : All (IsSeat base jobs) seats
   pub still : All (λ (s : Seat). (plain_job s.job).outcome ≡ None) seats
-
-pub none_taken : (base : Ground) (jobs rest : List Job) (done : List (Option Job)) (seats : List Seat) → done ≡ [] → seats ≡ [] → rest ≡ jobs → TakenOut base jobs done seats rest
-none_taken base jobs rest done seats a b c = record {
-  left = ap (λ (l : List (Option Job)). drop (length l) jobs) a ∙ sym c;
-  within = omega (arith, ap length a);
-  each = λ k d o lt. absurd (omega (arith, lt, ap length a));
-  own = subst (All (IsSeat base jobs)) (sym b) (All-nil _);
-  still = subst (All (λ (s : Seat). (plain_job s.job).outcome ≡ None)) (sym b) (All-nil _);
-}
 
 -- the next job has its outcome, and stays in the list
 pub stays_in : (base : Ground) (jobs rest after : List Job) (done more : List (Option Job)) (seats : List Seat) (x : Job) → TakenOut base jobs done seats rest → rest ≡ x ∷ after →
@@ -126,12 +113,6 @@ gets_seat base jobs rest after done more seats many x s t step all out at here a
       still = subst (All (λ (u : Seat). (plain_job u.job).outcome ≡ None)) (sym put) (All-push (λ (u : Seat). (plain_job u.job).outcome ≡ None) seats s t.still (ap (λ (j : Job). (plain_job j).outcome) job ∙ out));
     }
 
-pub all_taken : (base : Ground) (jobs rest : List Job) (done : List (Option Job)) (seats : List Seat) → TakenOut base jobs done seats rest → length rest ≡ 0 → AreSeated base jobs done seats
-all_taken base jobs rest done seats t none =
-    let w = t.within in
-    let many : length done ≡ length jobs = omega (arith, w, none, ap length t.left, length-drop {A = Job}) in
-    record { as_many = many; each = λ k d o lt. t.each k d o (omega (arith, lt, many)); own = t.own }
-
 -- ---- jobs are put back at their places
 
 -- some seats were looked at: these are left of them, and these are still to be looked at
@@ -139,14 +120,6 @@ pub record PuttingBack (base : Ground) (before : List (Option Job)) (seats : Lis
   pub seated : StaySeated base before seats done (left ++ rest)
   pub within : All (λ (s : Seat). s.place < length done) rest
   pub still : All (λ (s : Seat). (plain_job s.job).outcome ≡ None) left
-
-pub none_back : (base : Ground) (before : List (Option Job)) (seats left rest : List Seat) → left ≡ [] → rest ≡ seats → All (λ (s : Seat). s.place < length before) seats →
-    PuttingBack base before seats before left rest
-none_back base before seats left rest a b w = record {
-  seated = record { stay = λ jobs h. subst (AreSeated base jobs before) (sym (ap (λ (l : List Seat). l ++ rest) a ∙ b)) h };
-  within = subst (All (λ (s : Seat). s.place < length before)) (sym b) w;
-  still = subst (All (λ (s : Seat). (plain_job s.job).outcome ≡ None)) (sym a) (All-nil _);
-}
 
 -- the next seat's job has no outcome
 pub keeps_seat : (base : Ground) (before done : List (Option Job)) (seats left more rest after : List Seat) (s : Seat) → PuttingBack base before seats done left rest → rest ≡ s ∷ after →
@@ -208,10 +181,6 @@ place_within done rest after s parts n all step e long =
     let place : parts.0 ≡ s.place = ap (λ (x : ℕ × Job). x.0) e in
     omega (arith, here, place, long)
 
-pub all_back : (base : Ground) (before done : List (Option Job)) (seats left rest : List Seat) → PuttingBack base before seats done left rest → length rest ≡ 0 → StaySeated base before seats done left
-all_back base before done seats left [] p e = record { stay = λ jobs h. subst (AreSeated base jobs done) (no_more left) (p.seated.stay jobs h) }
-all_back base before done seats left (s ∷ rest) p e = absurd (omega arith)
-
 -- ---- rounds
 
 same_places : (k : ℕ) (base : Ground) (old new : List Seat) → Each (Turned base) old new → seats_of k new ≡ seats_of k old
@@ -247,9 +216,6 @@ round_seated base jobs done old new a h = record {
   own = λ k d lt. (let m = h.as_many in let low : k < length old = omega (arith, lt, m) in
       seat_turned base jobs (get_or old k d) (get_or new k d) (a.own k d low) (h.each k d d low));
 }
-
-pub can_turn : (base : Ground) (jobs : List Job) (done : List (Option Job)) (seats : List Seat) → AreSeated base jobs done seats → All (λ (s : Seat). (plain_job s.job).outcome ≡ None) seats → All (CanTurn base) seats
-can_turn base jobs done seats a open_ k d lt = record { of_program = (a.own k d lt).of_program; still = open_ k d lt }
 
 -- each seat is of a place of the list
 pub seats_within : (base : Ground) (jobs : List Job) (done : List (Option Job)) (seats : List Seat) → AreSeated base jobs done seats → All (λ (s : Seat). s.place < length done) seats
@@ -293,25 +259,12 @@ pub record Gathered (done : List (Option Job)) (jobs : List Job) (rest : List (O
   pub same : map (λ (j : Job). Some j) jobs ++ rest ≡ done
   pub there : All (λ (o : Option Job). IsSome o) rest
 
-pub none_gathered : (done rest : List (Option Job)) (jobs : List Job) → jobs ≡ [] → rest ≡ done → All (λ (o : Option Job). IsSome o) done → Gathered done jobs rest
-none_gathered done rest jobs a b h = record {
-  same = ap (λ (l : List Job). map (λ (j : Job). Some j) l ++ rest) a ∙ b;
-  there = subst (All (λ (o : Option Job). IsSome o)) (sym b) h;
-}
-
 pub gathered_next : (done rest after : List (Option Job)) (jobs more : List Job) (x : Job) → Gathered done jobs rest → rest ≡ Some x ∷ after → more ≡ jobs ++ x ∷ [] → Gathered done more after
 gathered_next done rest after jobs more x g step is = record {
   same = ap (λ (l : List Job). map (λ (j : Job). Some j) l ++ after) is ∙ ap (λ (l : List (Option Job)). l ++ after) (map_push (λ (j : Job). Some j) jobs x)
       ∙ append_assoc (map (λ (j : Job). Some j) jobs) (Some x ∷ []) after ∙ ap (λ (l : List (Option Job)). map (λ (j : Job). Some j) jobs ++ l) (sym step) ∙ g.same;
   there = All-tail (λ (o : Option Job). IsSome o) (Some x) after (subst (All (λ (o : Option Job). IsSome o)) step g.there);
 }
-
-pub none_missing : (done rest after : List (Option Job)) (jobs : List Job) → Gathered done jobs rest → rest ≡ None ∷ after → ⊥
-none_missing done rest after jobs g step = false_true (All-head (λ (o : Option Job). IsSome o) None after (subst (All (λ (o : Option Job). IsSome o)) step g.there))
-
-pub gathered_all : (done rest : List (Option Job)) (jobs : List Job) → Gathered done jobs rest → length rest ≡ 0 → map (λ (j : Job). Some j) jobs ≡ done
-gathered_all done [] jobs g e = sym (no_more (map (λ (j : Job). Some j) jobs)) ∙ g.same
-gathered_all done (o ∷ rest) jobs g e = absurd (omega arith)
 
 pub all_out_if : {V E : Type 0} (r : Result V E) (items : V → List Job) (base : Ground) (jobs : List Job) (done : List (Option Job)) (seats : List Seat) → AreSeated base jobs done seats →
     IfOk r (λ v. map (λ (j : Job). Some j) (items v) ≡ done) → (budget : ℕ) → IfOk r (λ v. AreCarriedOut base budget jobs (items v))
