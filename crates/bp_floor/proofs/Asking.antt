@@ -8,7 +8,6 @@ use Rattle.bp_run.specs.Selecting.{Has, Live, Asked, live}
 use Rattle.bp_meaning.specs.Membership.{member}
 use Rattle.bp_select.specs.declared.answers.SelectFault.{SelectFault}
 use Rattle.bp_select.specs.Answers.{AnswersAs}
-use Rattle.bp_select.specs.Benches.{PlainBench, Fits}
 use Rattle.bp_floor.specs.declared.board.Board.{Board}
 use Rattle.bp_floor.specs.Programs.{code_of}
 use Rattle.bp_floor.specs.Boards.{stand_of}
@@ -25,36 +24,9 @@ has_at_rest base o b budget s h =
 pub live_at_rest : (base : Ground) (o : PlainOptions) (b : Board) → IsResting base o b → b.bench.live ≡ live (code_of base.program o) (stand_of b)
 live_at_rest base o b s = bench_live (record { program = base.program; options = o }) base b s
 
-pub fits_at_rest : (base : Ground) (o : PlainOptions) (b : Board) (budget : ℕ) → IsResting base o b → budget ≡ o.budget → Fits b.bench base budget
-fits_at_rest base o b budget s h =
-    let r : Running = record { program = base.program; options = o } in
-    subst (λ (n : ℕ). Fits b.bench base n) (sym h) (subst (λ (g : Ground). Fits b.bench g o.budget) (sym (rest_ground r base b s)) s.fits)
-
 -- what the bench answers is what the definitions say of the board
 pub asked_at_rest : {A B : Type 0} (base : Ground) (o : PlainOptions) (b : Board) (budget : ℕ) (view : B → A) (ask : Has PlainSet → List (Live PlainSet) → Asked A) (result : Result B SelectFault) → IsResting base o b → budget ≡ o.budget →
     AnswersAs view (ask (member base budget) b.bench.live) result → AnswersAs view (ask (code_of base.program o).has (live (code_of base.program o) (stand_of b))) result
 asked_at_rest base o b budget view ask result s h a =
     subst (λ (ts : List (Live PlainSet)). AnswersAs view (ask (code_of base.program o).has ts) result) (live_at_rest base o b s)
     (subst (λ (has : Has PlainSet). AnswersAs view (ask has b.bench.live) result) (has_at_rest base o b budget s h) a)
-
--- and it is still at rest
-pub rests_after : (base : Ground) (o : PlainOptions) (b : Board) (bench : PlainBench) (budget : ℕ) → IsResting base o b → budget ≡ o.budget → bench.live ≡ b.bench.live → Fits bench base budget → IsResting base o (record b { bench = bench })
-rests_after base o b bench budget s h l f =
-    let r : Running = record { program = base.program; options = o } in
-    record {
-      own = s.own;
-      waiting = s.waiting;
-      ready = s.ready;
-      mirror = l ∙ s.mirror;
-      fits = subst (λ (g : Ground). Fits bench g o.budget) (rest_ground r base b s) (subst (λ (n : ℕ). Fits bench base n) h f);
-      few = s.few;
-      room = s.room;
-      alone = s.alone;
-      below = s.below;
-      rises = s.rises;
-      program_is = s.program_is;
-      ground_is = s.ground_is;
-      at_phase = s.at_phase;
-      light = s.light;
-      counted = s.counted;
-    }

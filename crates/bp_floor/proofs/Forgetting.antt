@@ -165,9 +165,6 @@ turn_forgotten l o p h =
     ∙ merged_forgets o (map (ran l p.stand) p.entries) (record { stand = p.stand; entries = [] })
 
 -- ---- the turn of a pair that a floor stands for
-pub forgotten_before : {O : Type 0} (o : O) (ls : List Line) (p : Pair O) → forgotten o (before ls p) ≡ before ls (forgotten o p)
-forgotten_before o ls p = refl
-
 pub turn_stands : {O S : Type 0} (l : Code O S) (o : O) (taken : List Line) (p q : Pair O) → forgotten o p ≡ before taken q → AreGoing p.stand.threads p.entries →
     forgotten o (turn l p) ≡ before taken (forgotten o (turn l q))
 turn_stands l o taken p q h g =

@@ -10,7 +10,6 @@ use Rattle.bp_code.specs.Code.{ground_for}
 use Rattle.bp_run.specs.Configuration.{Thread, Stand}
 use Rattle.bp_run.specs.Settling.{Body, Entry}
 use Rattle.bp_run.specs.Choosing.{Touched}
-use Rattle.bp_run.specs.Numbers.{number_in}
 use Rattle.bp_run.specs.Story.{handler_body, entry_of}
 use Rattle.bp_meaning.specs.After.{handler}
 use Rattle.bp_thread.specs.declared.job.Job.{Job}
@@ -77,17 +76,6 @@ pub record Entering (e : PlainEvent) (all left : List Touched) (ss : List PlainS
   pub standing : AreStanding left ss
   pub entered : (r : Running) (s : Stand Origin) → AreOwn r.program r.options 0 ss → s.threads ≡ map seated ss →
       wave ++ map (entry_of (code_of r.program r.options) s e) left ≡ map (entry_of (code_of r.program r.options) s e) all
-
-pub entering_start : (e : PlainEvent) (all left : List Touched) (ss : List PlainSeat) (wave : List (Entry Origin)) → AreStanding all ss → left ≡ all → wave ≡ [] → Entering e all left ss wave
-entering_start e all left ss wave h l w =
-    subst (λ (xs : List Touched). Entering e all xs ss wave) (sym l) (record {
-      standing = h;
-      entered = λ r s own t. ap (λ (ns : List (Entry Origin)). ns ++ map (entry_of (code_of r.program r.options) s e) all) w;
-    })
-
-pub entering_standing : (e : PlainEvent) (all left : List Touched) (ss : List PlainSeat) (wave : List (Entry Origin)) (x : Touched) (rest : List Touched) → Entering e all left ss wave → left ≡ x ∷ rest →
-    IsStanding (slice_get ss (number_in x))
-entering_standing e all left ss wave x rest h k = let s = subst (λ (xs : List Touched). AreStanding xs ss) k h.standing in s.0
 
 pub entering_next : (e : PlainEvent) (all left : List Touched) (ss : List PlainSeat) (wave more : List (Entry Origin)) (x : Touched) (rest : List Touched) (n : Entry Origin) → Entering e all left ss wave → left ≡ x ∷ rest →
     ((r : Running) (s : Stand Origin) → AreOwn r.program r.options 0 ss → s.threads ≡ map seated ss → n ≡ entry_of (code_of r.program r.options) s e x) → more ≡ wave ++ n ∷ [] → Entering e all rest ss more

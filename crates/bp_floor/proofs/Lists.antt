@@ -28,11 +28,6 @@ change_twice f g i [] = refl
 change_twice f g zero (x ∷ xs) = refl
 change_twice f g (suc i) (x ∷ xs) = ap (λ ys. x ∷ ys) (change_twice f g i xs)
 
-pub change_here : {A : Type 0} (f : A → A) (i : ℕ) (xs : List A) (x : A) → slice_get xs i ≡ Some x → slice_get (change f i xs) i ≡ Some (f x)
-change_here f i [] x h = absurd (cc)
-change_here f zero (y ∷ ys) x h = let e : y ≡ x = cc in ap (λ z. Some (f z)) e
-change_here f (suc i) (y ∷ ys) x h = change_here f i ys x h
-
 pub change_apart : {A : Type 0} (f : A → A) (i j : ℕ) (xs : List A) → (i ≡ j → ⊥) → slice_get (change f i xs) j ≡ slice_get xs j
 change_apart f i j [] h = refl
 change_apart f zero zero (y ∷ ys) h = absurd (h refl)
@@ -84,12 +79,6 @@ pub change_map_at : {A B : Type 0} (v : A → B) (f : A → A) (g : B → B) (i 
 change_map_at v f g i [] h = refl
 change_map_at v f g zero (x ∷ xs) h = ap (λ y. y ∷ map v xs) (h x refl)
 change_map_at v f g (suc i) (x ∷ xs) h = ap (λ ys. v x ∷ ys) (change_map_at v f g i xs h)
-
--- changes of all, one after the other
-pub change_split : {A : Type 0} (f : A → A) (xs : List A) (d : A) (ys : List A) (i : ℕ) → i ≡ length xs → change f i (xs ++ d ∷ ys) ≡ xs ++ f d ∷ ys
-change_split f [] d ys i h = rw h refl
-change_split f (x ∷ xs) d ys zero h = absurd (omega (arith, h))
-change_split f (x ∷ xs) d ys (suc i) h = ap (λ zs. x ∷ zs) (change_split f xs d ys i (omega (arith, h)))
 
 -- so many were changed
 abbrev pub changed_first : {A : Type 0} → (A → A) → ℕ → List A → List A

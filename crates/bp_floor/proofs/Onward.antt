@@ -15,9 +15,8 @@ use Rattle.bp_run.specs.Bodies.Effect.{Register}
 use Rattle.bp_log.specs.declared.verdict.Place.{Place}
 use Rattle.bp_log.specs.declared.verdict.Verdict.TheVariants as verdict
 use Rattle.std.proofs.lemmas.Bool.{eq-eqb}
-use Rattle.std.proofs.lemmas.List.{map-append}
 use Rattle.bp_code.specs.Code.{ground_for}
-use Rattle.bp_run.specs.Configuration.{Thread, change}
+use Rattle.bp_run.specs.Configuration.{change}
 use Rattle.bp_run.specs.Settling.{Entry, Pair, Ran, registered, merged, stopped, with_effect, with_effects, with_part, unless_over}
 use Rattle.bp_run.specs.Settling.Entry.{Runs}
 use Rattle.bp_run.specs.Selecting.{Live}
@@ -81,20 +80,6 @@ admitted r first base o b new name callee j on low s w bench queue of p whole k 
       few = subst (λ (ss : List PlainSeat). length ss ≤ MOST_THREADS) (sym s) (omega (arith, low, len));
       room = subst (λ (q : List PlainEvent). length q ≤ MOST_WAITING) (sym queue) room;
     }
-
--- the pair after that
-pub pair_admitted : (b new : Board) (name : List ℕ) (callee : PlainValue) (j : Job) → new.seats ≡ b.seats ++ record { name = name; job = Some j; ended = false } ∷ [] → new.wave ≡ b.wave ++ Runs (length b.seats) ∷ [] →
-    new.queue ≡ b.queue → new.transitions ≡ b.transitions → new.weight ≡ b.weight → new.lines ≡ b.lines → new.verdict ≡ b.verdict →
-    plain_job j ≡ record { number = length b.seats; name = name; origin = function mode.Thread callee []; replies = []; effects = []; handler = None; outcome = None } →
-    pair_of new ≡ registered name (function mode.Thread callee []) (pair_of b)
-pair_admitted b new name callee j s w q t g l v p =
-    let seat : PlainSeat = record { name = name; job = Some j; ended = false } in
-    let one : seated seat ≡ record { name = name; origin = function mode.Thread callee []; replies = []; ended = false } =
-    ap (λ (x : PlainJob). let y : Thread Origin = record { name = name; origin = x.origin; replies = x.replies; ended = false } in y) p in
-    let threads : map seated new.seats ≡ map seated b.seats ++ record { name = name; origin = function mode.Thread callee []; replies = []; ended = false } ∷ [] =
-    ap (λ (ss : List PlainSeat). map seated ss) s ∙ map-append seated b.seats (seat ∷ []) ∙ ap (λ (x : Thread Origin). map seated b.seats ++ x ∷ []) one in
-    let wave : new.wave ≡ b.wave ++ Runs (length (map seated b.seats)) ∷ [] = w ∙ ap (λ (n : ℕ). b.wave ++ Runs n ∷ []) (sym (map_length seated b.seats)) in
-    rw (threads, wave, q, t, g, l, v) refl
 
 -- ---- a b-thread has come to its end
 

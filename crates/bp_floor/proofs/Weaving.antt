@@ -1,5 +1,5 @@
 -- Two rising lists of numbers are woven into the touches that they were taken from.
-use Rattle.std.proofs.Common.{◌≡◌, ℕ, zero, suc, ◌+◌, ◌<◌, true, false, List, [], ◌∷◌, ◌++◌, length, map, drop, refl, sym, ap, ◌∙◌, arith, append_assoc, append-nil, Option, Some, None, slice_get, nat_lt}
+use Rattle.std.proofs.Common.{◌≡◌, ℕ, zero, suc, ◌+◌, ◌<◌, true, false, List, [], ◌∷◌, ◌++◌, length, map, drop, refl, sym, ap, ◌∙◌, arith, append_assoc, Option, Some, None, slice_get, nat_lt}
 use Rattle.std.specs.List.{filter_map}
 use Rattle.std.proofs.lemmas.Bool.{lt-ltb, le-ltb}
 use Rattle.bp_run.specs.Choosing.{Touched}
@@ -146,10 +146,3 @@ weaves_none reach m i n done w low f = record {
       let x = w.weaves xs h r in
       absurd (weave_ends reach.moved.items reach.interrupted.items m i n low f x.rest x.counted x.rises x.moves x.stops);
 }
-
-nothing_left : (done rest xs : List Touched) (n : ℕ) → n + length rest ≡ n → done ++ rest ≡ xs → done ≡ xs
-nothing_left done [] xs n c h = sym (append-nil done) ∙ h
-nothing_left done (x ∷ rest) xs n c h = absurd (omega (arith, c))
-
-pub weaves_end : (reach : Reach) (m i n : ℕ) (done : List Touched) → Weaves reach m i n done → n ≡ length reach.moved.items + length reach.interrupted.items → (xs : List Touched) → IsReach xs reach → Rises (map number_in xs) → done ≡ xs
-weaves_end reach m i n done w e xs h r = let x = w.weaves xs h r in let c = x.counted in nothing_left done x.rest xs n (omega (arith, c, e)) x.all

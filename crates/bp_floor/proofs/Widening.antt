@@ -10,7 +10,7 @@ use Rattle.bp_run.specs.Bodies.Outcome.{Stopped, Ended, Broken, Violated, Spent}
 use Rattle.bp_run.specs.Settling.{Entry, Pair, Ran, unless_at, unless_over, stopped, queued, registered, with_effect, with_effects, with_end, with_outcome, with_part, merged, place_of}
 use Rattle.bp_run.specs.Settling.Entry.{The_top, Runs, Stops}
 use Rattle.bp_floor.specs.Parts.{unstated, unstated_part, unstated_ran}
-use Rattle.bp_floor.specs.Kept.{IsBelow, AreBelow}
+use Rattle.bp_floor.specs.Kept.{IsBelow}
 use Rattle.bp_floor.proofs.Lists.{change_length}
 
 pub record Wider {O : Type 0} (p q : Pair O) : Type 0 where
@@ -73,10 +73,6 @@ pub below_more : {O : Type 0} (n m : ℕ) (e : Entry O) → n ≤ m → IsBelow 
 below_more n m The_top h k = k
 below_more n m (Runs i) h k = omega (arith, h, k)
 below_more n m (Stops i e) h k = omega (arith, h, k)
-
-pub all_below_more : {O : Type 0} (n m : ℕ) (es : List (Entry O)) → n ≤ m → AreBelow n es → AreBelow m es
-all_below_more n m [] h k = k
-all_below_more n m (e ∷ es) h k = (below_more n m e h k.0, all_below_more n m es h k.1)
 
 -- ---- what is stated is not read
 

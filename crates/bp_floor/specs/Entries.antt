@@ -9,7 +9,11 @@ use Rattle.bp_floor.specs.declared.entry.Entry.{Entry}
 use Rattle.bp_floor.specs.declared.entry.Entry.TheVariants.{Top, Runs, Stops}
 
 abbrev pub handler_seen : Handler → run.Body Origin
-handler_seen h = record { origin = function mode.Handler (plain_value h.function) (plain_value h.argument ∷ []); replies = [] }
+handler_seen h =
+    record {
+      origin = function mode.Handler (plain_value h.function) (plain_value h.argument ∷ []);
+      replies = [];
+    }
 
 abbrev pub entry_seen : Entry → run.Entry Origin
 entry_seen Top = run.Entry.The_top

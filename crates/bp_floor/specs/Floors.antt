@@ -34,7 +34,8 @@ use Rattle.bp_floor.specs.Kept.{Running, AreBelow, Rises, runs_in}
 use Rattle.bp_floor.specs.Lending.{AreDone, filled_pair, standing}
 use Rattle.bp_floor.specs.Returning.{RunsAlone, ground_at}
 
--- A floor: its ground, its options, and where its b-threads stand, with the lines that were not taken yet. Those that have ended, and those whose jobs are lent, show no body.
+-- A floor: its ground, its options, and where its b-threads stand, with the lines that were not taken
+-- yet. Those that have ended, and those whose jobs are lent, show no body.
 pub record PlainFloor : Type 0 where
   pub base : Ground
   pub options : PlainOptions
@@ -54,7 +55,8 @@ has_on f = (code_on f).has
 abbrev pub live_on : PlainFloor → List (Live PlainSet)
 live_on f = live (code_on f) f.pair.stand
 
--- A floor from which these lines were taken stands for a pair: with the bodies of those that have ended forgotten, the pair is the floor's own behind the lines.
+-- A floor from which these lines were taken stands for a pair: with the bodies of those that have ended
+-- forgotten, the pair is the floor's own behind the lines.
 abbrev pub StandsFor : PlainFloor → List Line → Pair Origin → Type 0
 StandsFor f taken p = forgotten the_top p ≡ before taken f.pair
 
@@ -64,7 +66,9 @@ StandsWith f jobs taken p = forgotten the_top p ≡ before taken (filled_pair jo
 
 -- The jobs are the lent ones, each carried to its outcome with its effects whole.
 abbrev pub AreBack : PlainFloor → List Job → Type 0
-AreBack f jobs = AreDone f.base.program f.options (standing (filled_pair jobs f.pair).stand.threads) f.pair.entries jobs
+AreBack f jobs =
+    AreDone f.base.program f.options (standing (filled_pair jobs f.pair).stand.threads)
+    f.pair.entries jobs
 
 abbrev pub phase_at : Option Verdict → List (Entry Origin) → Phase
 phase_at (Some v) ns = Over
@@ -155,9 +159,11 @@ pub record CanGo (f : PlainFloor) (e : PlainEvent) (place : Option ℕ) : Type 0
 -- the verdict with which an event stops the run, where its reach is at fault or the run would weigh too much
 abbrev pub stop_at_reach : Stand Origin → PlainEvent → Asked (List Touched) → Option Verdict
 stop_at_reach s e (Err x) = Some (fault_verdict s x)
-stop_at_reach s e (Ok xs) = if nat_lt MOST_WEIGHT (weight_after s e xs) then Some verdict.Weight else None
+stop_at_reach s e (Ok xs) =
+    if nat_lt MOST_WEIGHT (weight_after s e xs) then Some verdict.Weight else None
 
--- the verdict of a fault of a set, in the name of the b-thread of this number; want of memory is no fault of a set
+-- the verdict of a fault of a set, in the name of the b-thread of this number; want of memory is no
+-- fault of a set
 abbrev pub told_verdict : Stand Origin → ℕ → set.SetFault → Option Verdict
 told_verdict s n (set_fault.Broken f line) = Some (fault_verdict s (n, SetFault.Broken f line))
 told_verdict s n set_fault.Spent = Some (fault_verdict s (n, SetFault.Spent))
@@ -180,12 +186,15 @@ abbrev pub GoesAs : PlainFloor → PlainEvent → Option ℕ → Went → PlainF
 GoesAs f e place Moved g = IsMoved f e place g
 GoesAs f e place (Stopped v) g = (stop_of f e ≡ Some v) × (g ≡ f)
 
--- What a pair shows on a floor that stands for it: all but the bodies and the replies of those that have ended, and the lines that were taken.
+-- What a pair shows on a floor that stands for it: all but the bodies and the replies of those that
+-- have ended, and the lines that were taken.
 pub record ShowsOf (f : PlainFloor) (p : Pair Origin) : Type 0 where
-  pub stops : (e : PlainEvent) → stop_of f e ≡ stop_at_reach p.stand e (reach (has_on f) e (live (code_on f) p.stand))
+  pub stops : (e : PlainEvent)
+      → stop_of f e ≡ stop_at_reach p.stand e (reach (has_on f) e (live (code_on f) p.stand))
   pub live : live_on f ≡ live (code_on f) p.stand
   pub threads : f.pair.stand.threads ≡ map (forget the_top) p.stand.threads
-  pub names : (i : ℕ) → name_in (slice_get f.pair.stand.threads i) ≡ name_in (slice_get p.stand.threads i)
+  pub names : (i : ℕ)
+      → name_in (slice_get f.pair.stand.threads i) ≡ name_in (slice_get p.stand.threads i)
   pub going : not_ended f.pair.stand ≡ not_ended p.stand
   pub queue : f.pair.stand.queue ≡ p.stand.queue
   pub transitions : f.pair.stand.transitions ≡ p.stand.transitions
@@ -193,8 +202,12 @@ pub record ShowsOf (f : PlainFloor) (p : Pair Origin) : Type 0 where
   pub verdict : f.pair.stand.verdict ≡ p.stand.verdict
   pub entries : f.pair.entries ≡ p.entries
 
--- A floor that stood for this pair goes on: it stands for the transition, or the event stops the run and it stands for what it stood for.
-abbrev pub GoesFrom : Code Origin PlainSet → List Line → Pair Origin → PlainEvent → Option ℕ → Went → PlainFloor → Type 0
+-- A floor that stood for this pair goes on: it stands for the transition, or the event stops the run
+-- and it stands for what it stood for.
+abbrev pub GoesFrom : Code Origin PlainSet → List Line → Pair Origin → PlainEvent → Option ℕ → Went
+    → PlainFloor → Type 0
 GoesFrom l taken p e place Moved g =
-    (reached : List Touched) × (reach l.has e (live l p.stand) ≡ Ok reached) × StandsFor g taken (stepped l p.stand e place reached)
-GoesFrom l taken p e place (Stopped v) g = (stop_at_reach p.stand e (reach l.has e (live l p.stand)) ≡ Some v) × StandsFor g taken p
+    (reached : List Touched) × (reach l.has e (live l p.stand) ≡ Ok reached)
+    × StandsFor g taken (stepped l p.stand e place reached)
+GoesFrom l taken p e place (Stopped v) g =
+    (stop_at_reach p.stand e (reach l.has e (live l p.stand)) ≡ Some v) × StandsFor g taken p

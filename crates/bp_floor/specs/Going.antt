@@ -26,7 +26,8 @@ IsResting base o b = IsSoundOn base o b Rest
 
 -- a board as a floor whose jobs are not lent
 abbrev pub floor_on : Ground → PlainOptions → Board → PlainFloor
-floor_on base o b = record { base = base; options = o; pair = pair_of b; phase = phase_of (pair_of b); broken = false }
+floor_on base o b =
+    record { base = base; options = o; pair = pair_of b; phase = phase_of (pair_of b); broken = false }
 
 -- whom an event reaches, and what the run weighs afterwards
 pub record IsReached (f : PlainFloor) (e : PlainEvent) (r : Reach) (weight : ℕ) : Type 0 where

@@ -52,7 +52,8 @@ pub record IsOn (r : Running) (base : Ground) (o : PlainOptions) : Type 0 where
   pub ground_is : base ≡ ground_of r.program r.options.budget
   pub options_are : o ≡ r.options
 
--- The jobs are the b-threads' own; those that have no outcome are to be run, and were registered after the first so many; what is stated stands on the bench.
+-- The jobs are the b-threads' own; those that have no outcome are to be run, and were registered after
+-- the first so many; what is stated stands on the bench.
 pub record IsKept (r : Running) (first : ℕ) (b : Board) : Type 0 where
   pub own : AreOwn r.program r.options 0 b.seats
   pub waiting : where_from is_waiting 0 b.seats ≡ runs_in b.wave

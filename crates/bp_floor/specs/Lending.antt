@@ -21,39 +21,48 @@ pub record IsJobOf (program : PlainProgram) (n : ℕ) (b : Body Origin) (j : Job
   pub of_program : IsOf program j
 
 -- before it is carried on, under the program's options and on the ground of its body
-pub record IsLent (program : PlainProgram) (o : PlainOptions) (n : ℕ) (b : Body Origin) (j : Job) : Type 0 where
+pub record IsLent (program : PlainProgram) (o : PlainOptions) (n : ℕ) (b : Body Origin) (j : Job)
+    : Type 0 where
   pub job : IsJobOf program n b j
   pub effects : (plain_job j).effects ≡ []
   pub outcome : (plain_job j).outcome ≡ None
   pub whole : IsWhole (ground_for program o.budget b.origin) o.budget j
 
 -- carried to its outcome
-pub record IsCarried (program : PlainProgram) (o : PlainOptions) (n : ℕ) (b : Body Origin) (j : Job) : Type 0 where
+pub record IsCarried (program : PlainProgram) (o : PlainOptions) (n : ℕ) (b : Body Origin) (j : Job)
+    : Type 0 where
   pub job : IsJobOf program n b j
   pub outcome : (plain_job j).outcome ≡ Some ((code_of program o).after b.origin b.replies).outcome
   pub stands : StandsFor (ground_for program o.budget b.origin) o.budget j
 
 -- carried to its outcome, with its effects whole
-pub record IsDone (program : PlainProgram) (o : PlainOptions) (n : ℕ) (b : Body Origin) (j : Job) : Type 0 where
+pub record IsDone (program : PlainProgram) (o : PlainOptions) (n : ℕ) (b : Body Origin) (j : Job)
+    : Type 0 where
   pub carried : IsCarried program o n b j
-  pub effects : map effect_of (plain_job j).effects ≡ ((code_of program o).after b.origin b.replies).effects
+  pub effects :
+      map effect_of (plain_job j).effects ≡ ((code_of program o).after b.origin b.replies).effects
 
 -- The jobs are those of the entries that have a body, in order, and each is as `Is` says.
-abbrev pub JobFor : (ℕ → Body Origin → Job → Type 0) → ℕ → Option (Body Origin) → List Job → (List Job → Type 0) → Type 0
+abbrev pub JobFor : (ℕ → Body Origin → Job → Type 0) → ℕ → Option (Body Origin) → List Job
+    → (List Job → Type 0) → Type 0
 JobFor Is n None js rest = rest js
 JobFor Is n (Some b) [] rest = ⊥
 JobFor Is n (Some b) (j ∷ js) rest = Is n b j × rest js
 
-abbrev pub AreJobs : (ℕ → Body Origin → Job → Type 0) → PlainProgram → PlainOptions → Stand Origin → List (Entry Origin) → List Job → Type 0
+abbrev pub AreJobs : (ℕ → Body Origin → Job → Type 0) → PlainProgram → PlainOptions → Stand Origin
+    → List (Entry Origin) → List Job → Type 0
 AreJobs Is program o s [] js = js ≡ []
-AreJobs Is program o s (n ∷ ns) js = JobFor Is (number_of n) (body_of (code_of program o) s n) js (AreJobs Is program o s ns)
+AreJobs Is program o s (n ∷ ns) js =
+    JobFor Is (number_of n) (body_of (code_of program o) s n) js (AreJobs Is program o s ns)
 
 -- lent out: before they run
-abbrev pub AreLent : PlainProgram → PlainOptions → Stand Origin → List (Entry Origin) → List Job → Type 0
+abbrev pub AreLent : PlainProgram → PlainOptions → Stand Origin → List (Entry Origin) → List Job
+    → Type 0
 AreLent program o s ns js = AreJobs (IsLent program o) program o s ns js
 
 -- come back
-abbrev pub AreDone : PlainProgram → PlainOptions → Stand Origin → List (Entry Origin) → List Job → Type 0
+abbrev pub AreDone : PlainProgram → PlainOptions → Stand Origin → List (Entry Origin) → List Job
+    → Type 0
 AreDone program o s ns js = AreJobs (IsDone program o) program o s ns js
 
 -- a b-thread whose job is back

@@ -24,7 +24,8 @@ ending_seen (Violated t) = run.Outcome.Violated t
 ending_seen Spent = run.Outcome.Spent
 
 abbrev pub part_seen : declared.Part → Part Origin (Unit {0})
-part_seen p = record { effects = map effect_of (plain_effects p.effects); outcome = ending_seen p.ending }
+part_seen p =
+    record { effects = map effect_of (plain_effects p.effects); outcome = ending_seen p.ending }
 
 abbrev pub ran_seen : declared_ran.Ran → Ran Origin (Unit {0})
 ran_seen r = record { entry = entry_seen r.entry; part = part_seen r.part }

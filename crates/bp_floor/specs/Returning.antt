@@ -42,7 +42,8 @@ RunsAlone (Runs i ∷ ns) = AreLater ns
 RunsAlone (Stops i b ∷ ns) = AreLater ns
 
 -- The jobs of these entries are still to be put back.
-pub record IsBack (r : Running) (base : Ground) (ns : List (Entry Origin)) (js : List Job) (b : Board) : Type 0 where
+pub record IsBack (r : Running) (base : Ground) (ns : List (Entry Origin)) (js : List Job) (b : Board)
+    : Type 0 where
   pub done : AreDone r.program r.options (standing (filled ns js (map seated b.seats))) ns js
   pub alone : RunsAlone ns
   pub below : AreBelow (length b.seats) ns
@@ -67,13 +68,18 @@ pub record IsSameBut (old new : Board) : Type 0 where
 
 -- what a body of these b-threads does, without what it states
 abbrev pub part_in : Running → List (Thread Origin) → Entry Origin → Part Origin (Unit {0})
-part_in r ts n = let l = code_of r.program r.options in unstated_part (part_of l (body_of l (standing ts) n))
+part_in r ts n =
+    let l = code_of r.program r.options in unstated_part (part_of l (body_of l (standing ts) n))
 
 -- The job of an entry, if it has a body, is put back, and what the body did is this.
-pub record Puts (n : Entry Origin) (js : List Job) (base : Ground) (old : Board) (ks : List Job) (left : Ground) (new : Board) (part : Part Origin (Unit {0})) : Type 0 where
-  pub back : (r : Running) (ns : List (Entry Origin)) → IsBack r base (n ∷ ns) js old → IsBack r left ns ks new
-  pub threads : (r : Running) (ns : List (Entry Origin)) → IsBack r base (n ∷ ns) js old → filled ns ks (map seated new.seats) ≡ filled (n ∷ ns) js (map seated old.seats)
-  pub part_is : (r : Running) (ns : List (Entry Origin)) → IsBack r base (n ∷ ns) js old → part ≡ part_in r (filled (n ∷ ns) js (map seated old.seats)) n
+pub record Puts (n : Entry Origin) (js : List Job) (base : Ground) (old : Board) (ks : List Job)
+    (left : Ground) (new : Board) (part : Part Origin (Unit {0})) : Type 0 where
+  pub back : (r : Running) (ns : List (Entry Origin)) → IsBack r base (n ∷ ns) js old
+      → IsBack r left ns ks new
+  pub threads : (r : Running) (ns : List (Entry Origin)) → IsBack r base (n ∷ ns) js old
+      → filled ns ks (map seated new.seats) ≡ filled (n ∷ ns) js (map seated old.seats)
+  pub part_is : (r : Running) (ns : List (Entry Origin)) → IsBack r base (n ∷ ns) js old
+      → part ≡ part_in r (filled (n ∷ ns) js (map seated old.seats)) n
   pub same : IsSameBut old new
 
 -- a job is in its place, and what it states stands on the bench
@@ -94,7 +100,9 @@ pub record IsTaken (j k : Job) : Type 0 where
 -- the constants are those that the top level leaves
 abbrev pub IsFilled : Job → Ground → Ground → Type 0
 IsFilled j old new =
-    (r : Running) (n : ℕ) → IsCarried r.program r.options n (record { origin = the_top; replies = [] }) j → old ≡ bare r.program → new ≡ ground_of r.program r.options.budget
+    (r : Running) (n : ℕ)
+    → IsCarried r.program r.options n (record { origin = the_top; replies = [] }) j
+    → old ≡ bare r.program → new ≡ ground_of r.program r.options.budget
 
 -- a job whose effects were taken goes to its place: only a b-thread's own is kept
 abbrev pub IsKeptBy : Entry Origin → Job → Ground → Board → Ground → Board → Type 0
@@ -113,7 +121,8 @@ abbrev pub ran_in : Running → List (Thread Origin) → Entry Origin → Ran Or
 ran_in r ts n = record { entry = n; part = part_in r ts n }
 
 -- All jobs of these entries are back, the b-threads are these, and this is what the bodies did.
-pub record AreAllBack (r : Running) (ns : List (Entry Origin)) (ts : List (Thread Origin)) (left : Ground) (b : Board) (rans : List (Ran Origin (Unit {0}))) : Type 0 where
+pub record AreAllBack (r : Running) (ns : List (Entry Origin)) (ts : List (Thread Origin))
+    (left : Ground) (b : Board) (rans : List (Ran Origin (Unit {0}))) : Type 0 where
   pub back : IsBack r left [] [] b
   pub threads : map seated b.seats ≡ ts
   pub rans_are : rans ≡ map (ran_in r ts) ns
@@ -122,5 +131,8 @@ abbrev pub entry_in : Ran Origin (Unit {0}) → Entry Origin
 entry_in r = r.entry
 
 -- what these bodies did is merged, and those that have ended are forgotten
-abbrev pub turned_apart : Running → List (Entry Origin) → List (Thread Origin) → Stand Origin → Pair Origin
-turned_apart r ns ts s = forgotten the_top (merged (map (ran_in r ts) ns) (record { stand = record s { threads = ts }; entries = [] }))
+abbrev pub turned_apart : Running → List (Entry Origin) → List (Thread Origin) → Stand Origin
+    → Pair Origin
+turned_apart r ns ts s =
+    forgotten the_top (merged (map (ran_in r ts) ns)
+    (record { stand = record s { threads = ts }; entries = [] }))

@@ -30,7 +30,8 @@ replies_in (Some j) = (plain_job j).replies
 
 -- a b-thread as the definitions see it; one whose job is not there has neither body nor replies
 abbrev pub seated : PlainSeat → Thread Origin
-seated s = record { name = s.name; origin = origin_in s.job; replies = replies_in s.job; ended = s.ended }
+seated s =
+    record { name = s.name; origin = origin_in s.job; replies = replies_in s.job; ended = s.ended }
 
 abbrev pub outcome_in : Option Job → Option (Outcome PlainSet)
 outcome_in None = None
@@ -66,9 +67,12 @@ pub record IsOwn (program : PlainProgram) (o : PlainOptions) (n : ℕ) (j : Job)
   pub number_is : (plain_job j).number ≡ n
   pub of_program : IsOf program j
   pub effects : (plain_job j).effects ≡ []
-  pub whole : (plain_job j).outcome ≡ None → IsWhole (ground_for program o.budget (plain_job j).origin) o.budget j
-  pub stands : (x : Outcome PlainSet) → (plain_job j).outcome ≡ Some x → StandsFor (ground_for program o.budget (plain_job j).origin) o.budget j
-  pub outcome : (x : Outcome PlainSet) → (plain_job j).outcome ≡ Some x → x ≡ ((code_of program o).after (plain_job j).origin (plain_job j).replies).outcome
+  pub whole : (plain_job j).outcome ≡ None
+      → IsWhole (ground_for program o.budget (plain_job j).origin) o.budget j
+  pub stands : (x : Outcome PlainSet) → (plain_job j).outcome ≡ Some x
+      → StandsFor (ground_for program o.budget (plain_job j).origin) o.budget j
+  pub outcome : (x : Outcome PlainSet) → (plain_job j).outcome ≡ Some x
+      → x ≡ ((code_of program o).after (plain_job j).origin (plain_job j).replies).outcome
 
 abbrev pub IsOwnIn : PlainProgram → PlainOptions → ℕ → Option Job → Type 0
 IsOwnIn program o n None = Unit {0}

@@ -38,7 +38,8 @@ handler_at e f = record { origin = function mode.Handler f (value.event e ∷ []
 -- where its outcome is there, the handler of a job is that of its body
 abbrev pub HasHandler : Job → Type 0
 HasHandler j =
-    (base : Ground) (budget : ℕ) → StandsFor base budget j → IsSome (plain_job j).outcome → (plain_job j).handler ≡ handler base budget (plain_job j).origin (plain_job j).replies
+    (base : Ground) (budget : ℕ) → StandsFor base budget j → IsSome (plain_job j).outcome
+    → (plain_job j).handler ≡ handler base budget (plain_job j).origin (plain_job j).replies
 
 -- a b-thread that stands at its synchronisation point
 pub record IsStanding (o : Option PlainSeat) : Type 0 where
@@ -56,7 +57,8 @@ pub record IsGivenTo (e : PlainEvent) (i : ℕ) (old new : List PlainSeat) : Typ
   pub given : Job
   pub old_is : (s : PlainSeat) → slice_get old i ≡ Some s → s.job ≡ Some job
   pub seats : new ≡ change (λ s. record s { job = Some given }) i old
-  pub plain : plain_job given ≡ record (plain_job job) { replies = (plain_job job).replies ++ e ∷ []; outcome = None }
+  pub plain : plain_job given
+      ≡ record (plain_job job) { replies = (plain_job job).replies ++ e ∷ []; outcome = None }
   pub of_program : (program : PlainProgram) → IsOf program job → IsOf program given
   pub whole : (base : Ground) (budget : ℕ) → StandsFor base budget job → IsWhole base budget given
 
@@ -69,7 +71,8 @@ pub record IsSilent (i : ℕ) (old new : Board) : Type 0 where
 -- what an event does to a b-thread
 abbrev pub IsTouch : PlainEvent → Touched → Board → Board → Type 0
 IsTouch e (to.Moves i) old new = IsGivenTo e i old.seats new.seats × IsSilent i old new
-IsTouch e (to.Interrupts i) old new = (new.seats ≡ change (λ s. record s { ended = true }) i old.seats) × IsSilent i old new
+IsTouch e (to.Interrupts i) old new =
+    (new.seats ≡ change (λ s. record s { ended = true }) i old.seats) × IsSilent i old new
 
 -- those that are reached stand at their points
 abbrev pub AreStanding : List Touched → List PlainSeat → Type 0
@@ -93,7 +96,8 @@ pub record CanTouch (r : Running) (xs : List Touched) (b : Board) : Type 0 where
   pub rises : Rises (map number_in xs)
 
 -- all of them were reached
-pub record IsTouchedBy (r : Running) (e : PlainEvent) (xs : List Touched) (old new : Board) : Type 0 where
+pub record IsTouchedBy (r : Running) (e : PlainEvent) (xs : List Touched) (old new : Board)
+    : Type 0 where
   pub threads : map seated new.seats ≡ touch_all e xs (map seated old.seats)
   pub own : AreOwn r.program r.options 0 new.seats
   pub waiting : where_from is_waiting 0 new.seats ≡ moves_in xs
@@ -105,9 +109,17 @@ pub record IsTouchedBy (r : Running) (e : PlainEvent) (xs : List Touched) (old n
   pub same : IsSameBut old new
 
 -- where a run stands after the event, with what is to be run
-abbrev pub moved_pair : Stand Origin → PlainEvent → Option ℕ → List Touched → ℕ → List (Entry Origin) → Pair Origin
+abbrev pub moved_pair : Stand Origin → PlainEvent → Option ℕ → List Touched → ℕ → List (Entry Origin)
+    → Pair Origin
 moved_pair s e place xs weight ns =
     record {
-      stand = record s { threads = touch_all e xs s.threads; queue = without s.queue place; transitions = s.transitions + 1; weight = weight; lines = s.lines ++ line_of_choice e place ∷ [] };
+      stand =
+          record s {
+            threads = touch_all e xs s.threads;
+            queue = without s.queue place;
+            transitions = s.transitions + 1;
+            weight = weight;
+            lines = s.lines ++ line_of_choice e place ∷ [];
+          };
       entries = ns;
     }

@@ -73,11 +73,27 @@ impl Model for Floor {
 
     ghost Value = { PlainFloor };
 
-    ghost coded = { Prim.hlevel (codes, event_code, value_code, e.the_row.coded, v.the_row.coded, s.the_row.coded, ph.the_row.coded) };
+    ghost coded = { Prim.hlevel (
+      codes,
+      event_code,
+      value_code,
+      e.the_row.coded,
+      v.the_row.coded,
+      s.the_row.coded,
+      ph.the_row.coded,
+    ) };
 
-    ghost view = { λ f. record { base = plain_ground f.ground; options = f.options; pair = pair_of f.board; phase = f.phase; broken = f.broken } };
+    ghost view = { λ f. record {
+      base = plain_ground f.ground;
+      options = f.options;
+      pair = pair_of f.board;
+      phase = f.phase;
+      broken = f.broken;
+    } };
 
-    ghost invariant = { λ f. f.broken ≡ false → IsSound (record { program = f.ground.program; options = f.options }) (plain_ground f.ground) f.board f.phase };
+    ghost invariant = { λ f. f.broken ≡ false
+        → IsSound (record { program = f.ground.program; options = f.options })
+        (plain_ground f.ground) f.board f.phase };
 }
 
 impl Floor {
