@@ -1,13 +1,12 @@
 -- A log that is kept, or none, from one moment to the next.
 use Rattle.std.proofs.Common.{◌≡◌, ◌⊎◌, ℕ, ◌≤◌, List, [], ◌++◌, refl, ap, sym, subst, ◌∙◌, append_assoc, append-nil, arith, inl, inr, Option, Some, None, Ok, Err}
 use Rattle.std.specs.Prelude.{Result, OnOk, OnErr}
-use Rattle.bp_base.specs.Counts.{Rose}
 use Rattle.bp_base.specs.Pieces.{Appends, AppendsFront}
 use Rattle.bp_base.proofs.Appending.{appends-on}
 use Rattle.bp_log.specs.Header.{PlainHeader}
 use Rattle.bp_log.specs.Logs.{header_text, records_text, log_text}
 use Rattle.bp_log.specs.declared.record.Record.{Record}
-use Rattle.bp_serve.specs.Logging.{OfLog, LogGets, LogGetsFront, LogHolds, LogWaits, LogShows, LogShowsFront, LogFails, LogStays}
+use Rattle.bp_serve.specs.Logging.{OfLog, LogGets, LogGetsFront, LogHolds, LogWaits, LogShows, LogShowsFront, LogStays}
 use Rattle.bp_serve.specs.Pages.{Shows, ShowsFront}
 use Rattle.bp_serve.proofs.Pieces.{appends_nothing, let_go, shows_page, shows_on, shows_stop, front_on, shows_put, shows_part, written_all, written_front, written_part, written_front_part}
 
@@ -216,14 +215,3 @@ module _ {L : Type 0} (made_as : L → Option (List ℕ)) (faults : L → ℕ) w
   stays_on a b c s t =
       of_log_on (λ l m. (made_as m ≡ made_as l) × (faults l ≤ faults m)) (λ l m. (made_as m ≡ made_as l) × (faults l ≤ faults m)) (λ l m. (made_as m ≡ made_as l) × (faults l ≤ faults m))
       (λ x y z r q. (q.0 ∙ r.0, let f = r.1 in let g = q.1 in omega (arith, f, g))) a b c s t
-
-rose_on : (a b c : ℕ) → a ≤ b → Rose b c → Rose a c
-rose_on a b c h (inl r) = inl (omega (arith, h, r))
-rose_on a b c h (inr r) = inr r
-
--- it stayed, and failed then
-pub fails_on : {L : Type 0} (made_as : L → Option (List ℕ)) (faults : L → ℕ) (a b c : Option L) → LogStays made_as faults a b → LogFails faults b c → LogFails faults a c
-fails_on made_as faults None b c s f = elim b as (λ o. LogStays made_as faults None o → LogFails faults o c → ⊥) [ None ↦ λ p q. q | Some y ↦ λ p q. p ] s f
-fails_on made_as faults (Some x) None c s f = absurd s
-fails_on made_as faults (Some x) (Some y) None s f = absurd f
-fails_on made_as faults (Some x) (Some y) (Some z) s f = rose_on (faults x) (faults y) (faults z) s.1 f

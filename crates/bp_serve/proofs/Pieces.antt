@@ -30,9 +30,6 @@ shows_page a page = record { front = []; is_text = refl; written = appends_nothi
 pub shows_written : (a b : Option (List ℕ)) (text page : List ℕ) → page ≡ [] → Appends a text b → Shows a text page b
 shows_written a b text page e h = record { front = text; is_text = sym (ap (λ (p : List ℕ). text ++ p) e ∙ append-nil text); written = h }
 
-pub front_written : (a b : Option (List ℕ)) (text page : List ℕ) → page ≡ [] → AppendsFront a text b → ShowsFront a text page b
-front_written a b text page e h = record { shown = h.0; rest = h.1; is_text = h.2; shows = shows_written a b h.0 page e h.3 }
-
 -- a further text was put on the page
 pub shows_put : (a b : Option (List ℕ)) (text page more next whole : List ℕ) → next ≡ page ++ more → whole ≡ text ++ more → Shows a text page b → Shows a whole next b
 shows_put a b text page more next whole e w s =

@@ -2,7 +2,7 @@
 use Rattle.std.proofs.Common.{◌≡◌, ℕ, zero, suc, ◌+◌, ◌<◌, ◌≤◌, Bool, false, List, [], ◌∷◌, length, slice_index_or, sym, subst, arith}
 use Rattle.js_meaning.specs.State.{Ground, Effect}
 use Rattle.bp_thread.specs.declared.job.Job.{Job}
-use Rattle.bp_thread.specs.Jobs.{StandsAt, IsWhole, Sliced}
+use Rattle.bp_thread.specs.Jobs.{StandsAt, Sliced}
 use Rattle.bp_arbiter.specs.Lending.{CanRun, AllCanRun}
 
 -- so many slices were made of the job, and each began a node of the budget
@@ -14,9 +14,6 @@ pub record Begun (base : Ground) (budget slices : ℕ) (j : Job) : Type 0 where
   pub within : 0 < slices → begun < budget
 
 module _ (base : Ground) (budget : ℕ) where
-  pub begun_first : (j : Job) → IsWhole base budget j → Begun base budget 0 j
-  begun_first j w = record { begun = w.begun; made = _; stands = w.stands; each = omega arith; within = λ h. absurd (omega arith) }
-
   pub begun_next : (slices nodes : ℕ) (done : Bool) (old new : Job) → (b : Begun base budget slices old) → 0 < nodes → done ≡ false → Sliced base budget b.begun b.made nodes done old new →
       Begun base budget (slices + 1) new
   begun_next slices nodes done old new b h e s =
@@ -31,10 +28,6 @@ module _ (base : Ground) (budget : ℕ) where
         each = omega (arith, whole, each, h);
         within = λ _. left;
       }
-
-  -- there are fewer slices than nodes in the budget
-  pub begun_all : (j : Job) → 0 < budget → Begun base budget budget j → ⊥
-  begun_all j h b = let each = b.each in let within = b.within h in omega (arith, each, within)
 
 -- ---- many jobs
 

@@ -15,7 +15,9 @@ use Rattle.bp_serve.specs.Pages.{ShowsFront}
 
 -- the first records of the run stand in the log, behind its head, and what was printed is of their
 -- text
-pub record IsBehind (L : Type 0) (written : L → Option (List ℕ)) (l : Code Origin PlainSet) (o : PlainOptions) (head : List ℕ) (before after : Option (List ℕ)) (old new : Option L) : Type 0 where
+pub record IsBehind (L : Type 0) (written : L → Option (List ℕ)) (l : Code Origin PlainSet)
+    (o : PlainOptions) (head : List ℕ) (before after : Option (List ℕ)) (old new : Option L)
+    : Type 0 where
   pub records : List Record
   pub later : List Record
   pub is_run : records ++ later ≡ alone l o
@@ -23,17 +25,23 @@ pub record IsBehind (L : Type 0) (written : L → Option (List ℕ)) (l : Code O
   pub printed : IsSomeAnd (text l o records) (λ t. AppendsFront before t after)
 
 -- nothing was printed, or it is behind the log
-abbrev pub PrintsBehind : {L : Type 0} → (L → Option (List ℕ)) → Code Origin PlainSet → PlainOptions → List ℕ → Option (List ℕ) → Option (List ℕ) → Option L → Option L → Type 0
-PrintsBehind written l o head before after old new = (after ≡ before) ⊎ IsBehind _ written l o head before after old new
+abbrev pub PrintsBehind : {L : Type 0} → (L → Option (List ℕ)) → Code Origin PlainSet → PlainOptions
+    → List ℕ → Option (List ℕ) → Option (List ℕ) → Option L → Option L → Type 0
+PrintsBehind written l o head before after old new =
+    (after ≡ before) ⊎ IsBehind _ written l o head before after old new
 
 -- the same while text waits on pages: first records of the run stand in the log or wait for it, and
 -- what was printed or waits to be is of their text
-pub record StaysBehind (L : Type 0) (written : L → Option (List ℕ)) (l : Code Origin PlainSet) (o : PlainOptions) (head : List ℕ) (before : Option (List ℕ)) (lines : List ℕ) (after : Option (List ℕ)) (old : Option L) (page : List ℕ) (new : Option L) : Type 0 where
+pub record StaysBehind (L : Type 0) (written : L → Option (List ℕ)) (l : Code Origin PlainSet)
+    (o : PlainOptions) (head : List ℕ) (before : Option (List ℕ)) (lines : List ℕ)
+    (after : Option (List ℕ)) (old : Option L) (page : List ℕ) (new : Option L) : Type 0 where
   pub records : List Record
   pub later : List Record
   pub is_run : records ++ later ≡ alone l o
   pub logged : LogWaits written old (head ++ records_text records) page new
   pub told : IsSomeAnd (text l o records) (λ t. ShowsFront before t lines after)
 
-abbrev pub TellsBehind : {L : Type 0} → (L → Option (List ℕ)) → Code Origin PlainSet → PlainOptions → List ℕ → Option (List ℕ) → List ℕ → Option (List ℕ) → Option L → List ℕ → Option L → Type 0
-TellsBehind written l o head before lines after old page new = StaysBehind _ written l o head before lines after old page new
+abbrev pub TellsBehind : {L : Type 0} → (L → Option (List ℕ)) → Code Origin PlainSet → PlainOptions
+    → List ℕ → Option (List ℕ) → List ℕ → Option (List ℕ) → Option L → List ℕ → Option L → Type 0
+TellsBehind written l o head before lines after old page new =
+    StaysBehind _ written l o head before lines after old page new

@@ -24,7 +24,8 @@ abbrev pub text_in : PlainArbiter → Option (List ℕ)
 text_in a = text (code_in a) (options_in a) (records_in a)
 
 -- the records lead to c, and the run without injectors goes on from there
-pub record Ahead (l : Code Origin PlainSet) (o : PlainOptions) (records : List Record) (c : Configuration Origin) : Type 0 where
+pub record Ahead (l : Code Origin PlainSet) (o : PlainOptions) (records : List Record)
+    (c : Configuration Origin) : Type 0 where
   pub story_is : story l o records ≡ Some c
   pub incomplete : is_complete records ≡ false
   pub left : ℕ
@@ -42,7 +43,8 @@ OnTheWay l o Rest records = (c : Configuration Origin) × Ahead l o records c
 OnTheWay l o Over records = records ≡ alone l o
 
 -- The arbiter serves the run without injectors of this code, and these lines were taken.
-pub record Underway (l : Code Origin PlainSet) (o : PlainOptions) (a : PlainArbiter) (taken : List Line) : Type 0 where
+pub record Underway (l : Code Origin PlainSet) (o : PlainOptions) (a : PlainArbiter) (taken : List Line)
+    : Type 0 where
   pub code : code_in a ≡ l
   pub options : options_in a ≡ o
   pub pair : Pair Origin
@@ -52,7 +54,8 @@ pub record Underway (l : Code Origin PlainSet) (o : PlainOptions) (a : PlainArbi
 -- the same run is served, and no line was taken
 abbrev pub KeepsUnderway : PlainArbiter → PlainArbiter → Type 0
 KeepsUnderway old new =
-    (l : Code Origin PlainSet) (o : PlainOptions) (taken : List Line) → Underway l o old taken → Underway l o new taken
+    (l : Code Origin PlainSet) (o : PlainOptions) (taken : List Line)
+    → Underway l o old taken → Underway l o new taken
 
 -- the text of the run begins with that of these lines
 pub record Begins (l : Code Origin PlainSet) (o : PlainOptions) (lines : List Line) : Type 0 where
@@ -62,9 +65,13 @@ pub record Begins (l : Code Origin PlainSet) (o : PlainOptions) (lines : List Li
 -- After the lines of this arbiter were taken the same run is served; its text begins with all that
 -- was taken, as does that of the records so far, and at the end is no more than that.
 pub record TakesLines (old new : PlainArbiter) : Type 0 where
-  pub keeps : (l : Code Origin PlainSet) (o : PlainOptions) (taken : List Line) → Underway l o old taken → Underway l o new (taken ++ (stand_in old).lines)
-  pub begins : (l : Code Origin PlainSet) (o : PlainOptions) (taken : List Line) → o.injectors ≡ 0 → Underway l o old taken → Begins l o (taken ++ (stand_in old).lines)
-  pub so_far : (l : Code Origin PlainSet) (o : PlainOptions) (taken : List Line) → Underway l o old taken →
-      (rest : List ℕ) × (text l o old.records ≡ Some (lines_text (taken ++ (stand_in old).lines) ++ rest))
-  pub whole : (l : Code Origin PlainSet) (o : PlainOptions) (taken : List Line) → Underway l o old taken → old.phase ≡ Over →
-      text l o (alone l o) ≡ Some (lines_text (taken ++ (stand_in old).lines))
+  pub keeps : (l : Code Origin PlainSet) (o : PlainOptions) (taken : List Line)
+      → Underway l o old taken → Underway l o new (taken ++ (stand_in old).lines)
+  pub begins : (l : Code Origin PlainSet) (o : PlainOptions) (taken : List Line) → o.injectors ≡ 0
+      → Underway l o old taken → Begins l o (taken ++ (stand_in old).lines)
+  pub so_far : (l : Code Origin PlainSet) (o : PlainOptions) (taken : List Line)
+      → Underway l o old taken → (rest : List ℕ)
+      × (text l o old.records ≡ Some (lines_text (taken ++ (stand_in old).lines) ++ rest))
+  pub whole : (l : Code Origin PlainSet) (o : PlainOptions) (taken : List Line)
+      → Underway l o old taken → old.phase ≡ Over
+      → text l o (alone l o) ≡ Some (lines_text (taken ++ (stand_in old).lines))

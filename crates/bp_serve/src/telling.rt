@@ -15,7 +15,7 @@ use std::alloc::{AllocError, Global};
 
 /// What a run tells and was not written yet. No line is written before the records that it comes of
 /// are.
-#[derive(Debug, Drop)]
+#[derive(Drop)]
 pub(crate) struct Telling {
     /// The lines for the output.
     lines: Page,
