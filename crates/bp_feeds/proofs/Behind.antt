@@ -1,10 +1,10 @@
 -- What follows whole lines is cut and judged on its own.
-use Rattle.std.proofs.Common.{◌≡◌, ◌⊎◌, ⊎_elim, ℕ, ◌+◌, Bool, true, false, List, [], ◌∷◌, ◌++◌, Option, Some, None, length, drop, option_to_list, refl, sym, ap, ◌∙◌, append_assoc, append-nil, arith}
+use Rattle.std.proofs.Common.{◌≡◌, ⊎_elim, ℕ, ◌+◌, Bool, true, false, List, [], ◌∷◌, ◌++◌, Option, Some, None, length, drop, option_to_list, refl, sym, ap, ◌∙◌, append_assoc, append-nil, arith}
 use Rattle.std.specs.Prelude.{if◌then◌else◌}
 use Rattle.std.proofs.lemmas.Bool.{or_parts, or_from}
 use Rattle.bp_log.specs.declared.item.Item.{Item}
 use Rattle.bp_log.specs.declared.item.Item.TheVariants.{Failed}
-use Rattle.bp_feeds.specs.Items.{is_break, before_lines, lines_of, before_whole, whole_lines, is_last, is_fault, has_fault, has_last, followed, item_of, items_from, items, items_before_fault}
+use Rattle.bp_feeds.specs.Items.{is_break, before_lines, lines_of, before_whole, whole_lines, is_last, is_fault, has_fault, has_last, followed, item_of, items_from, items_before_fault}
 use Rattle.bp_feeds.specs.Reading.{AreWholeLines, IsBetweenLines, ItemsFollow}
 use Rattle.bp_feeds.proofs.Cuts.{sound}
 

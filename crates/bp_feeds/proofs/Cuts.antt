@@ -1,5 +1,5 @@
 -- How bytes are cut into lines, and what the items of a first line are.
-use Rattle.std.proofs.Common.{◌≡◌, ℕ, zero, suc, ◌+◌, ◌<◌, ◌≤◌, Bool, true, false, List, [], ◌∷◌, ◌++◌, Option, Some, None, length, take, drop, option_to_list, refl, sym, ap, ◌∙◌, append_assoc, append-nil, length-append, length-take-le, arith}
+use Rattle.std.proofs.Common.{◌≡◌, ℕ, zero, suc, ◌+◌, ◌<◌, ◌≤◌, Bool, true, false, List, [], ◌∷◌, ◌++◌, Option, Some, None, length, take, drop, option_to_list, refl, sym, ap, ◌∙◌, append_assoc, length-append, length-take-le, arith}
 use Rattle.std.specs.Prelude.{◌==◌, nat_lt, slice_index, if◌then◌else◌}
 use Rattle.std.proofs.lemmas.Bool.{or_parts, or_from, or_left, or_right, false_from_ne_true}
 use Rattle.std.proofs.lemmas.Bool.Decides.{nat_tests}
@@ -11,7 +11,7 @@ use Rattle.bp_log.specs.declared.item.Item.{Item}
 use Rattle.bp_log.specs.declared.item.Item.TheVariants.{Bad, Failed}
 use Rattle.bp_feeds.specs.declared.limits.TheConstants.{MOST_LINES, MOST_LENGTH}
 use Rattle.bp_feeds.specs.Reading.{IsTooLong}
-use Rattle.bp_feeds.specs.Items.{is_break, has_break, has_line, before_lines, lines_of, before_whole, whole_lines, is_past, is_blank, event_item, is_last, ends, is_end, has_end, has_fault, followed, item_of, items_from}
+use Rattle.bp_feeds.specs.Items.{is_break, has_break, before_lines, lines_of, before_whole, whole_lines, is_past, is_blank, event_item, is_last, ends, is_end, has_end, has_fault, followed, item_of, items_from}
 
 pub unbroken_both : (xs ys : List ℕ) → has_break xs ≡ false → has_break ys ≡ false → has_break (xs ++ ys) ≡ false
 unbroken_both xs ys a b = list_any-append is_break xs ys ∙ or_from (has_break xs) (has_break ys) a b
@@ -186,11 +186,3 @@ held_behind line block skipped more e s b = ap (λ l. l ++ skipped) e ∙ s ∙ 
 
 pub unbroken_behind : (line block : List ℕ) → has_break line ≡ false → block ≡ [] → has_break (line ++ block) ≡ false
 unbroken_behind line block u e = unbroken_both line block u (ap has_break e)
-
--- where a line is whole or too long, the line and the block are not both within the limit and without LF
-pub has_no_line : (bytes line block : List ℕ) → bytes ≡ line ++ block → has_break line ≡ false → block ≡ [] → length line ≤ MOST_LENGTH → has_line bytes ≡ true → ⊥
-has_no_line bytes line block e u none short t =
-    let same : bytes ≡ line = e ∙ ap (λ b. line ++ b) none ∙ append-nil line in
-    let few : nat_lt MOST_LENGTH (length line) ≡ false = grind (arith, nat_tests) in
-    let f : has_line bytes ≡ false = ap has_line same ∙ or_from (has_break line) (nat_lt MOST_LENGTH (length line)) u few in
-    cc

@@ -16,10 +16,6 @@ use Rattle.bp_feeds.proofs.Behind.{whole_behind, lines_follow, whole_follow}
 
 -- ---- what comes of a source
 
-gives_nothing : (o : Option (List ℕ)) → Gives o [] o
-gives_nothing None = tt
-gives_nothing (Some l) = refl
-
 pub gives_on : (a : Option (List ℕ)) (p : List ℕ) (b : Option (List ℕ)) (q : List ℕ) (c : Option (List ℕ)) → Gives a p b → Gives b q c → Gives a (p ++ q) c
 gives_on None p b q c g h = tt
 gives_on (Some x) p None q c g h = absurd g
@@ -194,11 +190,6 @@ end_told old new w0 h0 w1 l1 = record {
       (lines_follow took given old.number [] w [] End ∙ ap items (sym w.all), all);
 }
 
-pub end_after : (old new : Reading) → old.reached ≡ Last → new.reached ≡ Ended → new.left ≡ old.left → ReadsOn old (End ∷ []) new
-end_after old new w0 w1 l1 =
-    of_held old new (End ∷ []) (λ start took given h.
-    from_parts start took (given ++ End ∷ []) new Ended new.held new.number old.left w1 refl refl l1 h.taken (to_parts start took given old Last old.held w0 refl h))
-
 -- ---- more bytes of the same
 
 pub same_read : (start : Option (List ℕ)) (took : List ℕ) (given : List Item) (a b : Reading) (s : IsSameReading a b) → HasRead start took given a → HasRead start (took ++ s.came) given b
@@ -236,9 +227,6 @@ after_last old mid new more s r = record {
   on = λ start took given h.
       r.on start (took ++ s.same.came) given (all_came start took old.left s.same.came h.taken s.all) (same_read start took given old mid s.same h);
 }
-
-pub same_reading : (a : Reading) → a.reached ≡ Within → IsSameReading a a
-same_reading a w = record { was = w; is = w; number = refl; came = []; held = sym (append-nil a.held); given = gives_nothing a.left }
 
 pub same_held : (a b c : Reading) → IsSameReading a b → c.held ≡ b.held → c.number ≡ b.number → c.reached ≡ b.reached → c.left ≡ b.left → IsSameReading a c
 same_held a b c s held number reached left = record {

@@ -15,7 +15,8 @@ module _ {S : Type 0} where
 
   -- how far the lines were read, by what the source has left
   abbrev pub reading_of : (S → Option (List ℕ)) → LineReader S → Reading
-  reading_of left l = record { held = held l; number = l.number; reached = l.reached; left = left l.source }
+  reading_of left l =
+      record { held = held l; number = l.number; reached = l.reached; left = left l.source }
 
   -- what was offered, and then what is kept
   abbrev pub given : Feed S → List Item
@@ -25,14 +26,17 @@ module _ {S : Type 0} where
   abbrev pub is_over : Feed S → Bool
   is_over f = is_read f.lines.reached && is_none f.kept
 
-  -- behind what stood there before, the feed has given the items that it read of a source that had so much left at the start
-  pub record StandsTo (left : S → Option (List ℕ)) (start : Option (List ℕ)) (before : List Item) (f : Feed S) : Type 0 where
+  -- behind what stood there before, the feed has given the items that it read of a source that had so
+  -- much left at the start
+  pub record StandsTo (left : S → Option (List ℕ)) (start : Option (List ℕ)) (before : List Item)
+      (f : Feed S) : Type 0 where
     pub took : List ℕ
     pub gave : List Item
     pub all : given f ≡ before ++ gave
     pub read : HasRead start took gave (reading_of left f.lines)
 
-  -- The feed went on: on the same lane it gave the items more that it read; a fault is among them only where the source failed.
+  -- The feed went on: on the same lane it gave the items more that it read; a fault is among them only
+  -- where the source failed.
   pub record GoesOn (left : S → Option (List ℕ)) (faults : S → ℕ) (old new : Feed S) : Type 0 where
     pub lane : IsSameMouth old.mouth new.mouth
     pub more : List Item

@@ -23,7 +23,8 @@ abbrev pub before_lines : ℕ → List (List ℕ) → List (List ℕ)
 before_lines b [] = (b ∷ []) ∷ []
 before_lines b (line ∷ lines) = (b ∷ line) ∷ lines
 
--- the lines of the bytes, each without the LF that ends it; the last may have none, and is a line where it is not empty
+-- the lines of the bytes, each without the LF that ends it; the last may have none, and is a line where
+-- it is not empty
 abbrev pub lines_of : List ℕ → List (List ℕ)
 lines_of [] = []
 lines_of (b ∷ bytes) = if is_break b then [] ∷ lines_of bytes else before_lines b (lines_of bytes)
@@ -36,7 +37,8 @@ before_whole b (line ∷ lines) = (b ∷ line) ∷ lines
 -- the lines of the bytes that end with LF
 abbrev pub whole_lines : List ℕ → List (List ℕ)
 whole_lines [] = []
-whole_lines (b ∷ bytes) = if is_break b then [] ∷ whole_lines bytes else before_whole b (whole_lines bytes)
+whole_lines (b ∷ bytes) =
+    if is_break b then [] ∷ whole_lines bytes else before_whole b (whole_lines bytes)
 
 -- a space, a tab or CR
 abbrev pub is_space : ℕ → Bool
@@ -93,10 +95,12 @@ abbrev pub followed : Option Item → List Item → List Item
 followed None items = items
 followed (Some item) items = if is_last item then item ∷ [] else item ∷ items
 
--- the items of the lines, the first of which has this number, and behind them what is last where no line is bad
+-- the items of the lines, the first of which has this number, and behind them what is last where no
+-- line is bad
 abbrev pub items_from : List (List ℕ) → ℕ → Item → List Item
 items_from [] number last = last ∷ []
-items_from (line ∷ lines) number last = followed (item_of number line) (items_from lines (number + 1) last)
+items_from (line ∷ lines) number last =
+    followed (item_of number line) (items_from lines (number + 1) last)
 
 -- the items of an injector's bytes
 abbrev pub items : List ℕ → List Item

@@ -9,8 +9,8 @@ use Rattle.bp_feeds.specs.declared.reached.Reached.{Reached}
 use Rattle.bp_feeds.specs.declared.reached.Reached.TheVariants.{Within, Last, Ended, Broken, Faulted}
 use Rattle.bp_feeds.specs.Items.{lines_of, whole_lines, items_from, items, items_before_fault, has_break, has_last, has_end, has_fault}
 
--- a reading of lines: the bytes that were taken of the source and belong to no line that was dealt with, the number of the next
--- line, what was reached, and what the source has left, where it tells it
+-- a reading of lines: the bytes that were taken of the source and belong to no line that was dealt
+-- with, the number of the next line, what was reached, and what the source has left, where it tells it
 pub record Reading : Type 0 where
   pub held : List ℕ
   pub number : ℕ
@@ -27,10 +27,12 @@ is_read _ = true
 abbrev pub AreWholeLines : List ℕ → Type 0
 AreWholeLines bytes = (bytes ≡ []) ⊎ ((front : List ℕ) × (bytes ≡ front ++ 10 ∷ []))
 
--- The reading stands between two lines. Of the bytes that were taken, `passed` are the lines that it has behind it, all of them whole,
--- and the others are held. It gave the items of these lines, of which none is bad; so if the source failed now, its fault would
--- follow them at once. The next line has the next number.
-pub record IsBetweenLines (took : List ℕ) (given : List Item) (number : ℕ) (held : List ℕ) : Type 0 where
+-- The reading stands between two lines. Of the bytes that were taken, `passed` are the lines that it
+-- has behind it, all of them whole, and the others are held. It gave the items of these lines, of which
+-- none is bad; so if the source failed now, its fault would follow them at once. The next line has the
+-- next number.
+pub record IsBetweenLines (took : List ℕ) (given : List Item) (number : ℕ) (held : List ℕ)
+    : Type 0 where
   pub passed : List ℕ
   pub all : took ≡ passed ++ held
   pub whole : AreWholeLines passed
@@ -44,23 +46,28 @@ IsAll start bytes = IfSome start (λ all. all ≡ bytes)
 -- whatever follows these bytes, its items, the first line of which has this number, follow these
 abbrev pub Follows : List ℕ → List Item → ℕ → Type 0
 Follows bytes given number = (more : List ℕ) (last : Item)
-    → (given ++ items_from (lines_of more) number last ≡ items_from (lines_of (bytes ++ more)) 1 last)
-    × (given ++ items_from (whole_lines more) number last ≡ items_from (whole_lines (bytes ++ more)) 1 last)
+    → (given ++ items_from (lines_of more) number last
+    ≡ items_from (lines_of (bytes ++ more)) 1 last)
+    × (given ++ items_from (whole_lines more) number last
+    ≡ items_from (whole_lines (bytes ++ more)) 1 last)
 
--- the items that were given are those of whole lines exactly where the items of whatever follows these lines follow them
+-- the items that were given are those of whole lines exactly where the items of whatever follows these
+-- lines follow them
 abbrev pub ItemsFollow : Type 0
 ItemsFollow = (passed : List ℕ) (given : List Item) → AreWholeLines passed
-    → (given ++ Failed ∷ [] ≡ items_before_fault passed) ↔ Follows passed given (length (whole_lines passed) + 1)
+    → (given ++ Failed ∷ [] ≡ items_before_fault passed)
+    ↔ Follows passed given (length (whole_lines passed) + 1)
 
--- the items go up to a bad line: they are all items of the bytes that were taken and the rest, and the end is not among them
+-- the items go up to a bad line: they are all items of the bytes that were taken and the rest, and the
+-- end is not among them
 pub record IsBroken (start : Option (List ℕ)) (took : List ℕ) (given : List Item) : Type 0 where
   pub rest : List ℕ
   pub told : IsAll start (took ++ rest)
   pub all : given ≡ items (took ++ rest)
   pub endless : has_end given ≡ false
 
--- what the items are that were given of the bytes that were taken: those of the lines so far; all but the end; all; all, up to
--- a bad line; or those before a fault
+-- what the items are that were given of the bytes that were taken: those of the lines so far; all but
+-- the end; all; all, up to a bad line; or those before a fault
 abbrev pub HasReached : Reached → Option (List ℕ) → List ℕ → List Item → ℕ → List ℕ → Type 0
 HasReached Within start took given number held = IsBetweenLines took given number held
 HasReached Last start took given number held = (given ++ End ∷ [] ≡ items took) × IsAll start took
@@ -69,7 +76,8 @@ HasReached Broken start took given number held = IsBroken start took given
 HasReached Faulted start took given number held = given ≡ items_before_fault took
 
 -- these bytes were taken of a source that had so much left at the start, and these items were read of them
-pub record HasRead (start : Option (List ℕ)) (took : List ℕ) (given : List Item) (r : Reading) : Type 0 where
+pub record HasRead (start : Option (List ℕ)) (took : List ℕ) (given : List Item) (r : Reading)
+    : Type 0 where
   pub taken : Gives start took r.left
   pub is : HasReached r.reached start took given r.number r.held
 
@@ -113,9 +121,9 @@ pub record EndsInFault (took rest : List ℕ) (given : List Item) : Type 0 where
   pub last : given ≡ begun ++ Failed ∷ []
   pub broken : given ≡ items_before_fault took
 
--- Bytes were taken of a source that had so much left at the start, and others are left; where it tells what it has, these are its
--- bytes. The items begin theirs, apart from a last fault; where the last of them is among the items, they are all, and where it is
--- the end, nothing is left.
+-- Bytes were taken of a source that had so much left at the start, and others are left; where it tells
+-- what it has, these are its bytes. The items begin theirs, apart from a last fault; where the last of
+-- them is among the items, they are all, and where it is the end, nothing is left.
 pub record BeginsItems (start left : Option (List ℕ)) (given : List Item) : Type 0 where
   pub took : List ℕ
   pub rest : List ℕ

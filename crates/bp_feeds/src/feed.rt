@@ -98,9 +98,9 @@ impl<S: Source> Feed<S> {
         }
     }
 
-    /// Makes one turn: offers the item that is kept, or else reads to the end of one line and offers its item.
-    /// An item that finds no place is kept. The source is asked only where no whole line is held, nor one that is
-    /// too long.
+    /// Makes one turn: offers the item that is kept, or else reads to the end of one line and offers
+    /// its item. An item that finds no place is kept. The source is asked only where no whole line is
+    /// held, nor one that is too long.
     ///
     /// # Errors
     ///

@@ -175,8 +175,8 @@ impl<S: Source> LineReader<S> {
         Ok(item)
     }
 
-    /// Reads to the end of one line, and answers its item. None comes for a line that is skipped. The source is
-    /// asked only where no whole line is held.
+    /// Reads to the end of one line, and answers its item. None comes for a line that is skipped. The
+    /// source is asked only where no whole line is held.
     ///
     /// # Errors
     ///

@@ -1,7 +1,7 @@
 //! What a reading of lines has reached.
 
 /// What was reached.
-#[derive(Clone, Copy, Debug, PartialEq, Eq)]
+#[derive(Clone, Copy, PartialEq, Eq)]
 pub enum Reached {
     /// A line, or the end, is still to come.
     Within,
@@ -16,7 +16,7 @@ pub enum Reached {
 }
 
 /// What stands at the front of what is still to be dealt with.
-#[derive(Clone, Copy, Debug, PartialEq, Eq)]
+#[derive(Clone, Copy)]
 pub enum Moved {
     /// A line, with its LF.
     Line,
@@ -27,7 +27,7 @@ pub enum Moved {
 }
 
 /// What comes next.
-#[derive(Clone, Copy, Debug, PartialEq, Eq)]
+#[derive(Clone, Copy)]
 pub enum Gathered {
     /// A line, with its LF.
     Line,
