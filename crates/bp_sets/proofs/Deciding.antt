@@ -1,16 +1,12 @@
 -- Sets are asked from left to right, and the first fault is the answer.
-use Rattle.std.proofs.Common.{◌≡◌, ℕ, zero, suc, ◌+◌, ◌<◌, ◌≤◌, Bool, true, false, List, [], ◌∷◌, length, drop, get_or, Result, Ok, Err, refl, sym, ap, ◌∙◌, arith}
+use Rattle.std.proofs.Common.{◌≡◌, ℕ, zero, suc, ◌+◌, ◌<◌, ◌≤◌, true, false, List, [], ◌∷◌, length, drop, get_or, Ok, Err, refl, sym, arith}
 use Rattle.std.proofs.Math.ListN.{drop_of_length-le}
 use Rattle.js_data.specs.Event.{PlainEvent}
 use Rattle.js_value.specs.Value.{PlainSet}
 use Rattle.js_value.specs.Sizes.{set_size, sets_size}
 use Rattle.js_value.specs.Views.{set_list_of}
 use Rattle.js_meaning.specs.State.{Ground}
-use Rattle.bp_run.specs.Bodies.{SetFault as Told}
 use Rattle.bp_meaning.specs.Membership.{Membership, member, member_of_any}
-use Rattle.bp_sets.specs.declared.fault.SetFault.{SetFault}
-use Rattle.bp_sets.specs.declared.fault.SetFault.TheVariants.{Broken, Spent, NotTruth, Memory}
-use Rattle.bp_sets.specs.Answers.{TellsAs}
 
 -- a set of a list is smaller than the list
 pub set_below : (ss : List PlainSet) (i : ℕ) (s : PlainSet) → i < length ss → s ≡ get_or ss i s → set_size s < sets_size (set_list_of ss)
@@ -18,22 +14,8 @@ set_below [] i s h e = absurd (omega arith)
 set_below (t ∷ ss) zero s h e = rw e (omega arith)
 set_below (t ∷ ss) (suc i) s h e = omega (arith, set_below ss i s (omega arith) e)
 
--- what passes faults on tells the fault that it was told
-pub passed_on : (f : Membership → Membership) → ((x : Told) → f (Err x) ≡ Err x) → (m : Membership) (e : SetFault) → TellsAs m (Err e) → TellsAs (f m) (Err e)
-passed_on f h m (Broken fault line) t = ap f t ∙ h _
-passed_on f h m Spent t = ap f t ∙ h _
-passed_on f h m (NotTruth line) t = ap f t ∙ h _
-passed_on f h m Memory t = tt
-
--- what goes on after an answer tells what the rest tells
-pub goes_on : (f : Membership → Membership) (b : Bool) (m rest : Membership) (r : Result Bool SetFault) → m ≡ Ok b → f (Ok b) ≡ rest → TellsAs rest r → TellsAs (f m) r
-goes_on f b m rest r e g t = rw (e, g) t
-
 abbrev pub or_then : Membership → Membership → Membership
 or_then rest m = elim m [ Err f ↦ Err f | Ok b ↦ elim b [ true ↦ Ok true | false ↦ rest ] ]
-
-abbrev pub and_then : Membership → Membership → Membership
-and_then rest m = elim m [ Err f ↦ Err f | Ok b ↦ elim b [ true ↦ rest | false ↦ Ok false ] ]
 
 module _ (base : Ground) (budget : ℕ) (e : PlainEvent) where
   at_place : (ss : List PlainSet) (i : ℕ) (s : PlainSet) → i < length ss → s ≡ get_or ss i s →
