@@ -88,9 +88,6 @@ mutual
   data_fields_back d.no_fields = refl
   data_fields_back (d.field k x fs) = rw (text_back k, data_back x, data_fields_back fs)
 
-abbrev pub data_code : Coded PlainData
-data_code = code_by Gv itself data_to data_from data_back
-
 -- ---- events
 
 abbrev pub extra_to : Option PlainData → Gv

@@ -105,7 +105,8 @@ abbrev mutual
 
   pub same_data_fields : DataFields → DataFields → Bool
   same_data_fields no_fields no_fields = true
-  same_data_fields (field k d fs) (field l e gs) = bytes_eq k l && same_data d e && same_data_fields fs gs
+  same_data_fields (field k d fs) (field l e gs) =
+      bytes_eq k l && same_data d e && same_data_fields fs gs
   same_data_fields _ _ = false
 
 -- What each piece of data holds by its types: texts are UTF-8, and numbers are in range.

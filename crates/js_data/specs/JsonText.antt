@@ -18,7 +18,8 @@ escaped_byte x =
     (if x == 10 then codes "\\n" else
     (if x == 12 then codes "\\f" else
     (if x == 13 then codes "\\r" else
-    (if nat_lt x 32 then codes "\\u00" ++ (digit_char (x / 16) ∷ digit_char (x % 16) ∷ []) else x ∷ []))))))
+    (if nat_lt x 32 then codes "\\u00" ++ (digit_char (x / 16) ∷ digit_char (x % 16) ∷ [])
+    else x ∷ []))))))
 
 abbrev pub quoted_text : List ℕ → List ℕ
 quoted_text s = 34 ∷ (flat_map escaped_byte s ++ 34 ∷ [])
@@ -46,7 +47,8 @@ abbrev mutual
 
   pub data_fields_text : Bool → DataFields → List ℕ
   data_fields_text later no_fields = 125 ∷ []
-  data_fields_text later (field k d fs) = comma later ++ (quoted_text k ++ 58 ∷ (data_text d ++ data_fields_text true fs))
+  data_fields_text later (field k d fs) =
+      comma later ++ (quoted_text k ++ 58 ∷ (data_text d ++ data_fields_text true fs))
 
 abbrev pub extra_text : Option PlainData → List ℕ
 extra_text None = 93 ∷ []

@@ -15,10 +15,6 @@ pub data_in-of : (ds : List PlainData) → data_in (data_list_of ds) ≡ ds
 data_in-of [] = refl
 data_in-of (d ∷ ds) = ap (λ es. d ∷ es) (data_in-of ds)
 
-pub of-data_in : (ds : DataList) → data_list_of (data_in ds) ≡ ds
-of-data_in no_data = refl
-of-data_in (item d ds) = ap (item d) (of-data_in ds)
-
 abbrev pub data_fields_of : List (List ℕ × PlainData) → DataFields
 data_fields_of [] = no_fields
 data_fields_of (f ∷ fs) = field f.0 f.1 (data_fields_of fs)
@@ -30,7 +26,3 @@ data_fields_in (field k d fs) = (k, d) ∷ data_fields_in fs
 pub data_fields_in-of : (fs : List (List ℕ × PlainData)) → data_fields_in (data_fields_of fs) ≡ fs
 data_fields_in-of [] = refl
 data_fields_in-of (f ∷ fs) = ap (λ gs. f ∷ gs) (data_fields_in-of fs)
-
-pub of-data_fields_in : (fs : DataFields) → data_fields_of (data_fields_in fs) ≡ fs
-of-data_fields_in no_fields = refl
-of-data_fields_in (field k d fs) = ap (field k d) (of-data_fields_in fs)

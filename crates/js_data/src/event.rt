@@ -186,7 +186,8 @@ impl Event {
 }
 
 fn same_extra(left: &Option<Data>, right: &Option<Data>) -> bool
-    ensures { result ≡ extra_is_same (option_map plain_data left.now) (option_map plain_data right.now) }
+    ensures { result
+        ≡ extra_is_same (option_map plain_data left.now) (option_map plain_data right.now) }
 {
     match (left, right) {
         (None, None) => true,
