@@ -91,7 +91,8 @@ pub ordered_takes_the_first : printed (record default_options { strategy = Order
 unfolding turn settle_in settle initial selectable choice reach step next after_record story_from story alone_from alone line_text lines_text text digits evaluation ground_of eval within turns_of
 ordered_takes_the_first = refl
 
--- a program whose constants its b-threads read: const x = bp.Event("x"); bp.registerBThread("A", () => { bp.sync({request: x}) })
+-- a program whose constants its b-threads read: const x = bp.Event("x");
+-- bp.registerBThread("A", () => { bp.sync({request: x}) })
 pub constants_are_seen :
     counted_alone (program
     (one (p.words (codes "x")) ∷ one (p.builtin form.Event (0 ∷ [])) ∷ one (p.declaration Const (record { variable = Constant 0; value = Some 1 } ∷ []))

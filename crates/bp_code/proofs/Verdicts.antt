@@ -80,7 +80,8 @@ pub each_turn_has_its_own : counted_alone (program
 unfolding turn settle_in settle initial selectable choice reach step next after_record story_from story alone_from alone line_text lines_text text digits evaluation ground_of eval within turns_of
 each_turn_has_its_own = refl
 
--- ---- an injector: B waits for go and blocks x, C waits for x; the blocked event keeps its place and is overtaken
+-- ---- an injector: B waits for go and blocks x, C waits for x; the blocked event keeps its place and
+-- is overtaken
 
 abbrev got : PlainProgram
 got =

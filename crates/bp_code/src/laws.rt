@@ -23,57 +23,73 @@ use bp_log::limits::MOST_THREADS;
 /// With no injectors there is exactly one complete list of records that is a story of the program.
 pub fn one_run()
     ensures is_one { (p : PlainProgram) (o : PlainOptions) → o.injectors ≡ 0 →
-        (c : Configuration Origin) × (told (code_of p o) o (records_alone p o) ≡ Some c) × Complete (records_alone p o) }
-    ensures is_only { (p : PlainProgram) (o : PlainOptions) (records : List Record) (c : Configuration Origin) →
-        o.injectors ≡ 0 → told (code_of p o) o records ≡ Some c → Complete records → records ≡ records_alone p o }
+        (c : Configuration Origin) × (told (code_of p o) o (records_alone p o) ≡ Some c)
+        × Complete (records_alone p o) }
+    ensures is_only { (p : PlainProgram) (o : PlainOptions) (records : List Record)
+        (c : Configuration Origin) →
+        o.injectors ≡ 0 → told (code_of p o) o records ≡ Some c → Complete records →
+        records ≡ records_alone p o }
 {}
 
 /// The text of a prefix of the records is a prefix of the text.
 pub fn prefix_prints_prefix()
     ensures { (p : PlainProgram) (o : PlainOptions) (records more : List Record) (whole : List ℕ) →
         text_of p o (records ++ more) ≡ Some whole →
-        (front : List ℕ) × (rest : List ℕ) × (text_of p o records ≡ Some front) × (whole ≡ front ++ rest) }
+        (front : List ℕ) × (rest : List ℕ) × (text_of p o records ≡ Some front)
+        × (whole ≡ front ++ rest) }
 {}
 
 /// Nothing follows the record of the end.
 pub fn nothing_follows_the_end()
-    ensures { (p : PlainProgram) (o : PlainOptions) (records more : List Record) (v : Verdict) (entry : Record) →
+    ensures { (p : PlainProgram) (o : PlainOptions) (records more : List Record) (v : Verdict)
+        (entry : Record) →
         told (code_of p o) o (records ++ recorded.End v ∷ entry ∷ more) ≡ None }
 {}
 
 /// A pair with a verdict or without an entry settles to where it stands, and each other one to what
 /// its turn settles to.
 pub fn turns_settle()
-    ensures rests { (p : PlainProgram) (o : PlainOptions) (q : Pair Origin) → at_rest q ≡ true → settle (code_of p o) q ≡ q.stand }
-    ensures turns { (p : PlainProgram) (o : PlainOptions) (q : Pair Origin) → length q.stand.threads ≤ MOST_THREADS → at_rest q ≡ false →
+    ensures rests { (p : PlainProgram) (o : PlainOptions) (q : Pair Origin) → at_rest q ≡ true →
+        settle (code_of p o) q ≡ q.stand }
+    ensures turns { (p : PlainProgram) (o : PlainOptions) (q : Pair Origin) →
+        length q.stand.threads ≤ MOST_THREADS → at_rest q ≡ false →
         settle (code_of p o) q ≡ settle (code_of p o) (turn (code_of p o) q) }
 {}
 
 /// What is selected is requested by a live b-thread or waits in the queue, and no live b-thread
 /// blocks it.
 pub fn selected_is_requested_and_not_blocked()
-    ensures { (p : PlainProgram) (o : PlainOptions) (c : Configuration Origin) (ch : Choice) (reached : List Touched) →
-        next (code_of p o) o c ≡ story.Next.Selects ch reached → IsChosen (code_of p o).has (live (code_of p o) c.stand) c.stand.queue ch }
+    ensures { (p : PlainProgram) (o : PlainOptions) (c : Configuration Origin) (ch : Choice)
+        (reached : List Touched) →
+        next (code_of p o) o c ≡ story.Next.Selects ch reached →
+        IsChosen (code_of p o).has (live (code_of p o) c.stand) c.stand.queue ch }
 {}
 
 /// Where no set is at fault, an event is chosen exactly where some event is requested or waits in the
 /// queue and no live b-thread blocks it; the words are those of the seed.
 pub fn something_is_chosen_where_it_can_be()
     ensures chosen { (p : PlainProgram) (o : PlainOptions) (c : Configuration Origin) (ch : Choice) →
-        choice (code_of p o).has (draw_word o.seed) o.strategy (live (code_of p o) c.stand) c.stand.queue c.drawn ≡ Ok (Some ch) →
+        choice (code_of p o).has (draw_word o.seed) o.strategy (live (code_of p o) c.stand) c.stand.queue
+        c.drawn ≡ Ok (Some ch) →
         IsChosen (code_of p o).has (live (code_of p o) c.stand) c.stand.queue ch }
     ensures nothing { (p : PlainProgram) (o : PlainOptions) (c : Configuration Origin) →
-        choice (code_of p o).has (draw_word o.seed) o.strategy (live (code_of p o) c.stand) c.stand.queue c.drawn ≡ Ok None →
+        choice (code_of p o).has (draw_word o.seed) o.strategy (live (code_of p o) c.stand) c.stand.queue
+        c.drawn ≡ Ok None →
         AllBlocked (code_of p o).has (live (code_of p o) c.stand) c.stand.queue }
 {}
 
 /// A selected event does to each b-thread what the b-thread's own statement says: it moves, it ends,
 /// or it stays as it is.
 pub fn only_the_reached_move_or_end()
-    ensures says { (p : PlainProgram) (o : PlainOptions) (c : Configuration Origin) (ch : Choice) (reached : List Touched) →
-        next (code_of p o) o c ≡ story.Next.Selects ch reached → (i : ℕ) (t : Thread Origin) → slice_get c.stand.threads i ≡ Some t →
+    ensures says { (p : PlainProgram) (o : PlainOptions) (c : Configuration Origin) (ch : Choice)
+        (reached : List Touched) →
+        next (code_of p o) o c ≡ story.Next.Selects ch reached → (i : ℕ) (t : Thread Origin) →
+        slice_get c.stand.threads i ≡ Some t →
         touch_of (code_of p o).has ch.event (stated (code_of p o) i t) ≡ Ok (touch_at i reached) }
-    ensures does { (p : PlainProgram) (o : PlainOptions) (c : Configuration Origin) (ch : Choice) (reached : List Touched) →
-        next (code_of p o) o c ≡ story.Next.Selects ch reached → (i : ℕ) (t : Thread Origin) → slice_get c.stand.threads i ≡ Some t →
-        slice_get (step c.stand ch.event ch.place reached).threads i ≡ Some (after_touch ch.event (touch_at i reached) t) }
+    ensures does { (p : PlainProgram) (o : PlainOptions) (c : Configuration Origin) (ch : Choice)
+        (reached : List Touched) →
+        next (code_of p o) o c ≡ story.Next.Selects ch reached → (i : ℕ) (t : Thread Origin) →
+        slice_get c.stand.threads i ≡ Some t →
+        slice_get (step c.stand ch.event ch.place reached).threads i
+        ≡ Some (after_touch ch.event (touch_at i reached) t) }
 {}
