@@ -1,4 +1,5 @@
--- Calls that are made to fail. Calls are numbered from 1, and the number stands still as a count of faults does.
+-- Calls that are made to fail. Calls are numbered from 1, and the number stands still as a count of
+-- faults does.
 use Rattle.std.specs.Prelude.{ℕ, Bool, ◌==◌, List}
 use Rattle.std.specs.List.{list_any}
 use Rattle.bp_base.specs.Counts.{raised}

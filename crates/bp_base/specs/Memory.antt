@@ -23,7 +23,8 @@ pub record Store : Type 0 where
 -- whether a piece is not taken: it is to fail, or passes the room; a piece of no bytes is always taken
 abbrev pub refuses : Store → List ℕ → Bool
 refuses store piece =
-    nat_lt 0 (length piece) && (is_to_fail store.calls || nat_lt store.room (length store.written + length piece))
+    nat_lt 0 (length piece) &&
+    (is_to_fail store.calls || nat_lt store.room (length store.written + length piece))
 
 -- the calls after a piece was offered; one of no bytes is not counted
 abbrev pub offered : Store → List ℕ → Plan
@@ -53,7 +54,15 @@ pub record Files : Type 0 where
 -- a world that holds nothing yet
 abbrev pub empty_files : ℕ → List ℕ → Files
 empty_files room fails =
-    record { room = room; held = []; failing = []; asked = []; calls = planned fails; read_faults = 0; write_faults = 0 }
+    record {
+      room = room;
+      held = [];
+      failing = [];
+      asked = [];
+      calls = planned fails;
+      read_faults = 0;
+      write_faults = 0;
+    }
 
 -- whether a name can be opened now: this call is not to fail, and something is held under the name
 abbrev pub can_open : Files → List ℕ → Bool
@@ -70,4 +79,12 @@ asked_for files name = record files { asked = files.asked ++ name ∷ []; calls 
 -- an output of that name to which nothing is written yet
 abbrev pub output : Files → List ℕ → Made
 output files name =
-    record { name = name; store = record { written = []; room = files.room; calls = planned (failing_under files name); faults = 0 } }
+    record {
+      name = name;
+      store = record {
+        written = [];
+        room = files.room;
+        calls = planned (failing_under files name);
+        faults = 0;
+      };
+    }

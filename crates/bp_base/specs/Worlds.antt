@@ -19,10 +19,12 @@ abbrev pub Sets : Holdings → List ℕ → List ℕ → Holdings → Type 0
 Sets before name bytes after =
     (after name ≡ Some bytes) × ((other : List ℕ) → ¬ (other ≡ name) → after other ≡ before other)
 
--- what was written is now held under the name, where the world tells what it holds and the output what was written
+-- what was written is now held under the name, where the world tells what it holds and the output what
+-- was written
 abbrev pub Keeps : Option Holdings → List ℕ → Option (List ℕ) → Option Holdings → Type 0
 Keeps before name written after =
-    IfSome before (λ held. IfSome written (λ bytes. IsSomeAnd after (λ holds. Sets held name bytes holds)))
+    IfSome before
+    (λ held. IfSome written (λ bytes. IsSomeAnd after (λ holds. Sets held name bytes holds)))
 
 -- an output tells no name or this one
 abbrev pub IsMadeAs : Option (List ℕ) → List ℕ → Type 0

@@ -123,7 +123,8 @@ impl Model for MemorySink {
 
     ghost Value = { Store };
 
-    ghost view = { λ s. record { written = s.bytes.items; room = s.room; calls = s.calls; faults = s.faults } };
+    ghost view = { λ s.
+        record { written = s.bytes.items; room = s.room; calls = s.calls; faults = s.faults } };
 
     ghost invariant = { λ s. (vec_len s.bytes ≤ s.room) × (s.room ≤ vec_capacity s.bytes) };
 }
@@ -133,7 +134,8 @@ impl MemorySink {
     /// can't fail and isn't counted. The room is taken here.
     pub fn new(alloc: Global, room: u64, fails: Vec<u64>) -> Result<MemorySink, Memory>
         ensures { IfOk result
-            (λ sink. sink ≡ record { written = []; room = room; calls = planned fails.items; faults = 0 }) }
+            (λ sink. sink
+            ≡ record { written = []; room = room; calls = planned fails.items; faults = 0 }) }
     {
         Ok(MemorySink {
             bytes: Vec::with_capacity(alloc, room as usize)?,

@@ -63,7 +63,8 @@ pub trait Sink {
         ensures within { IfOk result (λ n. n ≤ length bytes.now) }
         ensures some { 0 < length bytes.now → IfOk result (λ n. 0 < n) }
         ensures empty { length bytes.now ≡ 0 → result ≡ Ok 0 }
-        ensures appended { IfOk result (λ n. Appends (written self.old) (take n bytes.now) (written self.new)) }
+        ensures appended { IfOk result
+            (λ n. Appends (written self.old) (take n bytes.now) (written self.new)) }
 
         ensures failed { OnErr result (written self.new ≡ written self.old) }
         ensures cause { OnErr result (Rose (faults self.old) (faults self.new)) }
@@ -126,10 +127,12 @@ pub trait World {
 
     /// Opens what is held under the name. `Failed` is answered where nothing is, and where the world fails.
     fn open(&mut self, name: &str) -> Result<Self::Input, WorldError>
-        ensures content { IfOk result (λ input. Opens (holds self.old) name.now (Self.Input.left input)) }
+        ensures content { IfOk result
+            (λ input. Opens (holds self.old) name.now (Self.Input.left input)) }
         ensures fresh { IfOk result (λ input. Self.Input.faults input ≡ 0) }
 
-        ensures cause { IsErrOf result WorldError.Failed → Rose (read_faults self.old) (read_faults self.new) }
+        ensures cause { IsErrOf result WorldError.Failed →
+            Rose (read_faults self.old) (read_faults self.new) }
         ensures counts { read_faults self.old ≤ read_faults self.new }
 
         ensures asks { OnOk result (Asks (asked self.old) name.now (asked self.new)) }
@@ -141,11 +144,13 @@ pub trait World {
 
     /// Makes an output of this name, to which nothing is written. It is held under the name once it is closed.
     fn create(&mut self, name: &str) -> Result<Self::Output, WorldError>
-        ensures empty { IfOk result (λ output. IfSome (holds self.old) (λ _. Self.Output.written output ≡ Some [])) }
+        ensures empty { IfOk result
+            (λ output. IfSome (holds self.old) (λ _. Self.Output.written output ≡ Some [])) }
         ensures fresh { IfOk result (λ output. Self.Output.faults output ≡ 0) }
         ensures made { IfOk result (λ output. IsMadeAs (Self.Output.made_as output) name.now) }
 
-        ensures cause { IsErrOf result WorldError.Failed → Rose (write_faults self.old) (write_faults self.new) }
+        ensures cause { IsErrOf result WorldError.Failed →
+            Rose (write_faults self.old) (write_faults self.new) }
         ensures counts { write_faults self.old ≤ write_faults self.new }
 
         ensures asks { OnOk result (Asks (asked self.old) name.now (asked self.new)) }
@@ -157,7 +162,8 @@ pub trait World {
 
     /// Closes an input. Where it has failed, the world's count rises.
     fn close_input(&mut self, input: Self::Input)
-        ensures risen { 0 < Self.Input.faults input → Rose (read_faults self.old) (read_faults self.new) }
+        ensures risen { 0 < Self.Input.faults input →
+            Rose (read_faults self.old) (read_faults self.new) }
         ensures clean { Self.Input.faults input ≡ 0 → read_faults self.new ≡ read_faults self.old }
         ensures counts { read_faults self.old ≤ read_faults self.new }
         ensures asked { asked self.new ≡ asked self.old }
@@ -169,7 +175,8 @@ pub trait World {
     fn close_output(&mut self, name: &str, output: Self::Output)
         requires { IsMadeAs (Self.Output.made_as output) name.now }
         ensures sets { Keeps (holds self.old) name.now (Self.Output.written output) (holds self.new) }
-        ensures risen { 0 < Self.Output.faults output → Rose (write_faults self.old) (write_faults self.new) }
+        ensures risen { 0 < Self.Output.faults output →
+            Rose (write_faults self.old) (write_faults self.new) }
         ensures clean { Self.Output.faults output ≡ 0 → write_faults self.new ≡ write_faults self.old }
         ensures counts { write_faults self.old ≤ write_faults self.new }
         ensures asked { asked self.new ≡ asked self.old }

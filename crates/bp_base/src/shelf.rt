@@ -29,7 +29,8 @@ impl<T> Entry<T> {
     where
         T: Drop,
         ensures { IfOk result
-            (λ entry. (string_bytes entry.value.name ≡ string_bytes name) × (entry.value.list.items ≡ list.items)) }
+            (λ entry. (string_bytes entry.value.name ≡ string_bytes name)
+            × (entry.value.list.items ≡ list.items)) }
     {
         let rest = Shelf::Empty;
         Ok(Box::new(alloc, Entry { name, list, rest })?)

@@ -201,7 +201,9 @@ impl MemoryWorld {
 
     fn input(&self, name: &str) -> Result<Option<MemorySource>, Memory>
         ensures { IfOk result (λ input. input
-            ≡ option_map (λ bytes. supply bytes (failing_under self.now name.now)) (under self.now.held name.now)) }
+            ≡ option_map
+            (λ bytes. supply bytes (failing_under self.now name.now))
+            (under self.now.held name.now)) }
     {
         let Some(bytes) = find(&self.held, name) else {
             return Ok(None);
@@ -228,14 +230,17 @@ impl World for MemoryWorld {
     ghost write_faults = { λ w. w.write_faults };
 
     fn open(&mut self, name: &str) -> Result<MemorySource, WorldError>
-        ensures content { IfOk result (λ input. Opens (Some (under self.old.held)) name.now (Some input.left)) }
+        ensures content { IfOk result
+            (λ input. Opens (Some (under self.old.held)) name.now (Some input.left)) }
         ensures fresh { IfOk result (λ input. input.faults ≡ 0) }
-        ensures cause { IsErrOf result WorldError.Failed → Rose self.old.read_faults self.new.read_faults }
+        ensures cause { IsErrOf result WorldError.Failed →
+            Rose self.old.read_faults self.new.read_faults }
         ensures counts { self.old.read_faults ≤ self.new.read_faults }
         ensures asks { OnOk result (Asks (Some self.old.asked) name.now (Some self.new.asked)) }
         ensures asks_failed { IsErrOf result WorldError.Failed
             → Asks (Some self.old.asked) name.now (Some self.new.asked) }
-        ensures asks_nothing { IsErrOf result WorldError.Memory → Some self.new.asked ≡ Some self.old.asked }
+        ensures asks_nothing { IsErrOf result WorldError.Memory →
+            Some self.new.asked ≡ Some self.old.asked }
         ensures keeps { Some (under self.new.held) ≡ Some (under self.old.held) }
         ensures writes { self.new.write_faults ≡ self.old.write_faults }
 
@@ -264,12 +269,14 @@ impl World for MemoryWorld {
         ensures empty { IfOk result (λ made. Some made.store.written ≡ Some []) }
         ensures fresh { IfOk result (λ made. made.store.faults ≡ 0) }
         ensures made { IfOk result (λ made. made.name ≡ name.now) }
-        ensures cause { IsErrOf result WorldError.Failed → Rose self.old.write_faults self.new.write_faults }
+        ensures cause { IsErrOf result WorldError.Failed →
+            Rose self.old.write_faults self.new.write_faults }
         ensures counts { self.old.write_faults ≤ self.new.write_faults }
         ensures asks { OnOk result (Asks (Some self.old.asked) name.now (Some self.new.asked)) }
         ensures asks_failed { IsErrOf result WorldError.Failed
             → Asks (Some self.old.asked) name.now (Some self.new.asked) }
-        ensures asks_nothing { IsErrOf result WorldError.Memory → Some self.new.asked ≡ Some self.old.asked }
+        ensures asks_nothing { IsErrOf result WorldError.Memory →
+            Some self.new.asked ≡ Some self.old.asked }
         ensures keeps { Some (under self.new.held) ≡ Some (under self.old.held) }
         ensures reads { self.new.read_faults ≡ self.old.read_faults }
 
@@ -308,15 +315,18 @@ impl World for MemoryWorld {
 
     fn close_output(&mut self, name: &str, output: MemoryOutput)
         requires { output.name ≡ name.now }
-        ensures sets { Keeps (Some (under self.old.held)) name.now (Some output.store.written) (Some (under self.new.held)) }
+        ensures sets { Keeps (Some (under self.old.held)) name.now (Some output.store.written)
+            (Some (under self.new.held)) }
         ensures risen { 0 < output.store.faults → Rose self.old.write_faults self.new.write_faults }
         ensures clean { output.store.faults ≡ 0 → self.new.write_faults ≡ self.old.write_faults }
         ensures counts { self.old.write_faults ≤ self.new.write_faults }
         ensures asked { Some self.new.asked ≡ Some self.old.asked }
         ensures reads { self.new.read_faults ≡ self.old.read_faults }
 
-        ensures raised { 0 < output.store.faults → self.new.write_faults ≡ raised self.old.write_faults }
-        ensures rest { self.new ≡ record self.old { held = self.new.held; write_faults = self.new.write_faults } }
+        ensures raised { 0 < output.store.faults →
+            self.new.write_faults ≡ raised self.old.write_faults }
+        ensures rest { self.new
+            ≡ record self.old { held = self.new.held; write_faults = self.new.write_faults } }
     {
         let (entry, faults) = output.into_entry();
         put(&mut self.held, entry);
