@@ -1,4 +1,5 @@
--- What is selected is requested by some or waits in the queue, and is blocked by none; and something is chosen wherever something can be.
+-- What is selected is requested by some or waits in the queue, and is blocked by none; and something is
+-- chosen wherever something can be.
 use Rattle.std.proofs.Common.{◌≡◌, ℕ, zero, suc, ◌+◌, ◌<◌, ◌%◌, Bool, true, false, not, ◌&&◌, ◌||◌, List, [], ◌∷◌, length, refl, sym, ap, ◌∙◌, subst, arith, Option, Some, None, Ok, Err, if◌then◌else◌, filter, find, flat_map, cond, slice_get, option_map, ◌⊎◌, inl, inr}
 use Rattle.std.specs.Prelude.{ℤ, pos, negsuc, int_le, leb}
 use Rattle.std.specs.List.{list_any, list_all}
@@ -46,11 +47,6 @@ pub among_candidates : {S : Type 0} (e : PlainEvent) (ts : List (Live S)) → am
 among_candidates e ts = any-distinct (same_event e) (flat_map (λ t. t.statement.request) ts) ∙ among_requests e ts
 
 -- ---- those that nobody blocks
-
--- e is blocked or kept
-abbrev Kept : {S : Type 0} → Has S → List (Live S) → List PlainEvent → PlainEvent → Bool → Type 0
-Kept has ts xs e true = among e xs ≡ true
-Kept has ts xs e false = Unit {0}
 
 or_true : (a b : Bool) → b ≡ true → (a || b) ≡ true
 or_true true b h = refl

@@ -106,10 +106,6 @@ selects_steps l o c ch r h k =
     let g : (c.stand.transitions ≡ o.steps) → ⊥ = λ e. (let t : nat_eq c.stand.transitions o.steps ≡ true = eq-eqb c.stand.transitions o.steps e in cc) in
     omega (arith, g)
 
--- an event is selected only where the weight of the run stays within its limit
-pub selects_light : {O S : Type 0} (l : Code O S) (o : PlainOptions) (c : Configuration O) (ch : Choice) (r : List Touched) → next l o c ≡ Selects ch r → weight_after c.stand ch.event r ≤ MOST_WEIGHT
-selects_light l o c ch r h = (selects l o c ch r h).light
-
 -- an item can't come where no injector is read
 comes_not : {O : Type 0} (c : Configuration O) (j : ℕ) → c.reading ≡ [] → may_come c j ≡ true → ⊥
 comes_not c j h k =

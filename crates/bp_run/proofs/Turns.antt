@@ -8,8 +8,8 @@ use Rattle.bp_log.specs.declared.verdict.Place.{Place}
 use Rattle.bp_run.specs.Bodies.{Code, Part, Effect, Outcome}
 use Rattle.bp_run.specs.Bodies.Effect.{Says, Enqueue, Register, Handler}
 use Rattle.bp_run.specs.Bodies.Outcome.{Stopped, Ended, Broken, Violated, Spent}
-use Rattle.bp_run.specs.Configuration.{Stand, change, below}
-use Rattle.bp_run.specs.Settling.{Entry, Pair, Ran, ran, unless_at, unless_over, stopped, queued, registered, with_effect, with_effects, with_end, with_outcome, with_part, merged, turn, at_rest, settle_in, settle, place_of, opening, initial}
+use Rattle.bp_run.specs.Configuration.{change}
+use Rattle.bp_run.specs.Settling.{Entry, Pair, Ran, ran, unless_at, unless_over, stopped, queued, registered, with_effect, with_effects, with_end, with_outcome, with_part, merged, turn, at_rest, settle_in, settle, place_of}
 use Rattle.bp_run.specs.Settling.Entry.{The_top, Runs, Stops}
 
 -- as many entries as b-threads came, and no b-thread past the limit
@@ -149,15 +149,6 @@ rest_at : {O : Type 0} (v : Option Verdict) (ns : List (Entry O)) → is_some v 
 rest_at None ns h = absurd (cc)
 rest_at (Some v) ns h = refl
 
-empty_at : (v : Option Verdict) → (elim v [ None ↦ true | Some w ↦ true ]) ≡ true
-empty_at None = refl
-empty_at (Some v) = refl
-
-restless_at : {O : Type 0} (v : Option Verdict) (ns : List (Entry O)) → is_some v ≡ false → (ns ≡ [] → ⊥) → (elim v [ None ↦ elim ns [ [] ↦ true | n ∷ more ↦ false ] | Some w ↦ true ]) ≡ false
-restless_at (Some v) ns h k = absurd (cc)
-restless_at None [] h k = absurd (k refl)
-restless_at None (n ∷ ns) h k = refl
-
 -- a pair at rest settles to itself
 pub settle-rest : {O S : Type 0} (l : Code O S) (p : Pair O) → at_rest p ≡ true → settle l p ≡ p.stand
 unfolding settle
@@ -166,18 +157,3 @@ settle-rest l p h = settled l (MOST_THREADS + 1) p h
 -- nothing is run where there is a verdict
 pub settle_over : {O S : Type 0} (l : Code O S) (p : Pair O) → is_some p.stand.verdict ≡ true → settle l p ≡ p.stand
 settle_over l p h = settle-rest l p (rest_at p.stand.verdict p.entries h)
-
--- nor where nobody is to be run
-pub settle_nobody : {O S : Type 0} (l : Code O S) (p : Pair O) → p.entries ≡ [] → settle l p ≡ p.stand
-settle_nobody l p h = settle-rest l p (rw h (empty_at p.stand.verdict))
-
--- a turn that leaves nobody to be run is all
-pub settle_once : {O S : Type 0} (l : Code O S) (p : Pair O) → is_some p.stand.verdict ≡ false → (p.entries ≡ [] → ⊥) → (turn l p).entries ≡ [] → settle l p ≡ (turn l p).stand
-unfolding settle
-settle_once l p h k e = unsettled l MOST_THREADS p (restless_at p.stand.verdict p.entries h k) ∙ settled l MOST_THREADS (turn l p) (rw e (empty_at (turn l p).stand.verdict))
-
--- the first turn is that of the top level
-pub initial_from : {O S : Type 0} (l : Code O S) (injectors : ℕ) → initial l injectors ≡ record { stand = settle l (turn l opening); drawn = 0; reading = below injectors; bad = None }
-unfolding initial
-initial_from l injectors =
-    ap (λ (s : Stand _). record { stand = s; drawn = 0; reading = below injectors; bad = None }) (sym (settle-turn l opening (omega arith) refl))

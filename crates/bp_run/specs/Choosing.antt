@@ -8,7 +8,11 @@ use Rattle.bp_run.specs.Selecting.{Live, Has, Asked, by_number, both, without_fa
 
 -- whether e is the first request of the b-thread that is among these events
 abbrev pub is_first_of : {Set : Type 0} → List PlainEvent → PlainEvent → Live Set → Bool
-is_first_of inner e t = elim (find (λ r. list_any (same_event r) inner) t.statement.request) [ None ↦ false | Some r ↦ same_event r e ]
+is_first_of inner e t =
+    elim (find (λ r. list_any (same_event r) inner) t.statement.request) [
+      | None ↦ false
+      | Some r ↦ same_event r e
+    ]
 
 abbrev pub greater : ℤ → Option ℤ → Option ℤ
 greater a None = Some a
@@ -17,7 +21,8 @@ greater a (Some b) = if int_le a b then Some b else Some a
 -- the greatest priority with which e is requested
 abbrev pub priority_of : {Set : Type 0} → List (Live Set) → PlainEvent → Option ℤ
 priority_of [] e = None
-priority_of (t ∷ ts) e = if requests e t then greater t.statement.priority (priority_of ts e) else priority_of ts e
+priority_of (t ∷ ts) e =
+    if requests e t then greater t.statement.priority (priority_of ts e) else priority_of ts e
 
 abbrev pub at_most : Option ℤ → Option ℤ → Bool
 at_most None b = true
@@ -50,15 +55,19 @@ drawn_of word drawn (e ∷ f ∷ rest) =
 -- an event of the queue draws nothing
 abbrev pub queued_at : ℕ → List PlainEvent → Option ℕ → Option Choice
 queued_at drawn queue None = None
-queued_at drawn queue (Some place) = option_map (λ e. record { event = e; place = Some place; drawn = drawn }) (slice_get queue place)
+queued_at drawn queue (Some place) =
+    option_map (λ e. record { event = e; place = Some place; drawn = drawn }) (slice_get queue place)
 
-abbrev pub chosen : {Set : Type 0} → (ℕ → ℕ) → Strategy → List (Live Set) → List PlainEvent → ℕ → List PlainEvent → Option ℕ → Option Choice
+abbrev pub chosen : {Set : Type 0} → (ℕ → ℕ) → Strategy → List (Live Set) → List PlainEvent → ℕ →
+    List PlainEvent → Option ℕ → Option Choice
 chosen word s ts queue drawn [] outer = queued_at drawn queue outer
 chosen word s ts queue drawn (e ∷ es) outer = drawn_of word drawn (remaining s ts (e ∷ es))
 
 -- the choice where so many words were drawn; nothing, where nothing is selectable
-unfoldable pub choice : {Set : Type 0} → Has Set → (ℕ → ℕ) → Strategy → List (Live Set) → List PlainEvent → ℕ → Asked (Option Choice)
-choice has word s ts queue drawn = without_fault (λ x. chosen word s ts queue drawn x.inner x.outer) (selectable has ts queue)
+unfoldable pub choice : {Set : Type 0} → Has Set → (ℕ → ℕ) → Strategy → List (Live Set) →
+    List PlainEvent → ℕ → Asked (Option Choice)
+choice has word s ts queue drawn =
+    without_fault (λ x. chosen word s ts queue drawn x.inner x.outer) (selectable has ts queue)
 
 -- what an event does to a b-thread: it goes on, or it is interrupted
 pub data Touched : Type 0 where

@@ -9,10 +9,12 @@ abbrev pub Stands : {Set : Type 0} → List (Live Set) → List PlainEvent → P
 Stands ts queue e None = requested ts e ≡ true
 Stands ts queue e (Some place) = slice_get queue place ≡ Some e
 
-pub record IsChosen {Set : Type 0} (has : Has Set) (ts : List (Live Set)) (queue : List PlainEvent) (ch : Choice) : Type 0 where
+pub record IsChosen {Set : Type 0} (has : Has Set) (ts : List (Live Set)) (queue : List PlainEvent)
+    (ch : Choice) : Type 0 where
   pub stands : Stands ts queue ch.event ch.place
   pub free : blocked has ts ch.event ≡ Ok false
 
 -- every event that stands somewhere is blocked
 abbrev pub AllBlocked : {Set : Type 0} → Has Set → List (Live Set) → List PlainEvent → Type 0
-AllBlocked has ts queue = (e : PlainEvent) (place : Option ℕ) → Stands ts queue e place → blocked has ts e ≡ Ok true
+AllBlocked has ts queue =
+    (e : PlainEvent) (place : Option ℕ) → Stands ts queue e place → blocked has ts e ≡ Ok true

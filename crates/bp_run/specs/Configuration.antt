@@ -11,7 +11,8 @@ pub record Thread (Origin : Type 0) : Type 0 where
   pub replies : List PlainEvent
   pub ended : Bool
 
--- where the b-threads of a run stand: in registration order, with the queue, what was counted, the lines and the verdict
+-- where the b-threads of a run stand: in registration order, with the queue, what was counted, the
+-- lines and the verdict
 pub record Stand (Origin : Type 0) : Type 0 where
   pub threads : List (Thread Origin)
   pub queue : List PlainEvent

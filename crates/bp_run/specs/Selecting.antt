@@ -22,7 +22,8 @@ at_stop n Spent = None
 abbrev pub stated : {Origin Set : Type 0} → Code Origin Set → ℕ → Thread Origin → Option (Live Set)
 stated l n t = if t.ended then None else at_stop n (l.after t.origin t.replies).outcome
 
-abbrev pub live_from : {Origin Set : Type 0} → Code Origin Set → ℕ → List (Thread Origin) → List (Live Set)
+abbrev pub live_from : {Origin Set : Type 0} → Code Origin Set → ℕ → List (Thread Origin) →
+    List (Live Set)
 live_from l n [] = []
 live_from l n (t ∷ ts) = cons_option (stated l n t) (live_from l (suc n) ts)
 
@@ -56,18 +57,25 @@ without_fault f (Ok a) = Ok (f a)
 -- whether some block set has e; every one is asked
 abbrev pub blocked : {Set : Type 0} → Has Set → List (Live Set) → PlainEvent → Asked Bool
 blocked has [] e = Ok false
-blocked has (t ∷ ts) e = both (λ a b. a || b) (by_number t.number (has t.statement.block e)) (blocked has ts e)
+blocked has (t ∷ ts) e =
+    both (λ a b. a || b) (by_number t.number (has t.statement.block e)) (blocked has ts e)
 
 -- those of the events that nobody blocks
-abbrev pub unblocked : {Set : Type 0} → Has Set → List (Live Set) → List PlainEvent → Asked (List PlainEvent)
+abbrev pub unblocked : {Set : Type 0} → Has Set → List (Live Set) → List PlainEvent →
+    Asked (List PlainEvent)
 unblocked has ts [] = Ok []
-unblocked has ts (e ∷ es) = both (λ b rest. if b then rest else e ∷ rest) (blocked has ts e) (unblocked has ts es)
+unblocked has ts (e ∷ es) =
+    both (λ b rest. if b then rest else e ∷ rest) (blocked has ts e) (unblocked has ts es)
 
 -- the place of the first event of the queue that nobody blocks; asking stops there
-abbrev pub first_unblocked : {Set : Type 0} → Has Set → List (Live Set) → ℕ → List PlainEvent → Asked (Option ℕ)
+abbrev pub first_unblocked : {Set : Type 0} → Has Set → List (Live Set) → ℕ → List PlainEvent →
+    Asked (Option ℕ)
 first_unblocked has ts place [] = Ok None
 first_unblocked has ts place (e ∷ es) =
-    elim (blocked has ts e) [ Err x ↦ Err x | Ok b ↦ elim b [ true ↦ first_unblocked has ts (suc place) es | false ↦ Ok (Some place) ] ]
+    elim (blocked has ts e) [
+      | Err x ↦ Err x
+      | Ok b ↦ elim b [ true ↦ first_unblocked has ts (suc place) es | false ↦ Ok (Some place) ]
+    ]
 
 -- in order of first appearance
 abbrev pub distinct : List PlainEvent → List PlainEvent
@@ -82,10 +90,12 @@ pub record Enabled : Type 0 where
   pub inner : List PlainEvent
   pub outer : Option ℕ
 
-abbrev pub or_queued : {Set : Type 0} → Has Set → List (Live Set) → List PlainEvent → Asked (List PlainEvent) → Asked Enabled
+abbrev pub or_queued : {Set : Type 0} → Has Set → List (Live Set) → List PlainEvent →
+    Asked (List PlainEvent) → Asked Enabled
 or_queued has ts queue (Err x) = Err x
 or_queued has ts queue (Ok (e ∷ es)) = Ok (record { inner = e ∷ es; outer = None })
-or_queued has ts queue (Ok []) = without_fault (λ place. record { inner = []; outer = place }) (first_unblocked has ts 0 queue)
+or_queued has ts queue (Ok []) =
+    without_fault (λ place. record { inner = []; outer = place }) (first_unblocked has ts 0 queue)
 
 unfoldable pub selectable : {Set : Type 0} → Has Set → List (Live Set) → List PlainEvent → Asked Enabled
 selectable has ts queue = or_queued has ts queue (unblocked has ts (candidates ts))
@@ -94,7 +104,10 @@ selectable has ts queue = or_queued has ts queue (unblocked has ts (candidates t
 unfoldable pub blocker : {Set : Type 0} → Has Set → List (Live Set) → PlainEvent → Asked (Option ℕ)
 blocker has [] e = Ok None
 blocker has (t ∷ ts) e =
-    elim (has t.statement.block e) [ Err f ↦ Err (t.number, f) | Ok b ↦ elim b [ true ↦ Ok (Some t.number) | false ↦ blocker has ts e ] ]
+    elim (has t.statement.block e) [
+      | Err f ↦ Err (t.number, f)
+      | Ok b ↦ elim b [ true ↦ Ok (Some t.number) | false ↦ blocker has ts e ]
+    ]
 
 abbrev pub requests : {Set : Type 0} → PlainEvent → Live Set → Bool
 requests e t = list_any (same_event e) t.statement.request

@@ -18,7 +18,8 @@ pub record Body (Origin : Type 0) : Type 0 where
   pub origin : Origin
   pub replies : List PlainEvent
 
--- what is to be run: the top level, a b-thread that moved or was registered, or the handler of one that was interrupted, if it set one
+-- what is to be run: the top level, a b-thread that moved or was registered, or the handler of one that
+-- was interrupted, if it set one
 pub data Entry (Origin : Type 0) : Type 0 where
   The_top : Entry Origin
   Runs : ℕ → Entry Origin
@@ -34,7 +35,8 @@ own_body None = None
 own_body (Some t) = Some (record { origin = t.origin; replies = t.replies })
 
 -- the body of an entry; an interrupted b-thread without a handler has none
-abbrev pub body_of : {Origin Set : Type 0} → Code Origin Set → Stand Origin → Entry Origin → Option (Body Origin)
+abbrev pub body_of : {Origin Set : Type 0} → Code Origin Set → Stand Origin → Entry Origin →
+    Option (Body Origin)
 body_of l s The_top = Some (record { origin = l.top; replies = [] })
 body_of l s (Runs i) = own_body (slice_get s.threads i)
 body_of l s (Stops i b) = b
@@ -49,7 +51,8 @@ place_of s The_top = Top
 place_of s (Runs i) = Named (name_in (slice_get s.threads i))
 place_of s (Stops i b) = Named (name_in (slice_get s.threads i))
 
-abbrev pub unless_at : {Origin : Type 0} → Option Verdict → (Pair Origin → Pair Origin) → Pair Origin → Pair Origin
+abbrev pub unless_at : {Origin : Type 0} → Option Verdict → (Pair Origin → Pair Origin) → Pair Origin →
+    Pair Origin
 unless_at None f p = f p
 unless_at (Some v) f p = p
 
@@ -69,7 +72,10 @@ queued e s = record s { queue = s.queue ++ e ∷ [] }
 abbrev pub registered : {Origin : Type 0} → List ℕ → Origin → Pair Origin → Pair Origin
 registered name o p =
     record {
-      stand = record p.stand { threads = p.stand.threads ++ record { name = name; origin = o; replies = []; ended = false } ∷ [] };
+      stand = record p.stand {
+        threads =
+            p.stand.threads ++ record { name = name; origin = o; replies = []; ended = false } ∷ [];
+      };
       entries = p.entries ++ Runs (length p.stand.threads) ∷ [];
     }
 
@@ -79,7 +85,8 @@ ended i s = record s { threads = change (λ t. record t { ended = true }) i s.th
 abbrev pub with_effect : {Origin : Type 0} → Place → Effect Origin → Pair Origin → Pair Origin
 with_effect at (Says text) p = said (Log at text) p
 with_effect at (Enqueue e) p =
-    if length p.stand.queue == MOST_WAITING then stopped verdict.Queue p else record p { stand = queued e p.stand }
+    if length p.stand.queue == MOST_WAITING then stopped verdict.Queue p
+    else record p { stand = queued e p.stand }
 with_effect at (Register name o) p =
     if length p.stand.threads == MOST_THREADS then stopped verdict.Threads p else registered name o p
 with_effect at Handler p = p
@@ -91,7 +98,9 @@ with_effects at (x ∷ xs) p = with_effects at xs (unless_over (with_effect at x
 -- no line for the top level; an interrupted b-thread has ended by its transition
 abbrev pub with_end : {Origin : Type 0} → Entry Origin → Pair Origin → Pair Origin
 with_end The_top p = p
-with_end (Runs i) p = let q = said (Done (name_in (slice_get p.stand.threads i))) p in record q { stand = ended i q.stand }
+with_end (Runs i) p =
+    let q = said (Done (name_in (slice_get p.stand.threads i))) p
+    in record q { stand = ended i q.stand }
 with_end (Stops i b) p = said (Interrupted (name_in (slice_get p.stand.threads i))) p
 
 abbrev pub with_outcome : {Origin Set : Type 0} → Entry Origin → Outcome Set → Pair Origin → Pair Origin
@@ -102,8 +111,10 @@ with_outcome n (Violated t) p = stopped (verdict.Violated (place_of p.stand n) t
 with_outcome n Spent p = stopped (verdict.Spent (place_of p.stand n)) p
 
 -- what one entry does: its effects in the order in which it made them, then its outcome
-abbrev pub with_part : {Origin Set : Type 0} → Entry Origin → Part Origin Set → Pair Origin → Pair Origin
-with_part n part p = unless_over (with_outcome n part.outcome) (with_effects (place_of p.stand n) part.effects p)
+abbrev pub with_part : {Origin Set : Type 0} → Entry Origin → Part Origin Set → Pair Origin →
+    Pair Origin
+with_part n part p =
+    unless_over (with_outcome n part.outcome) (with_effects (place_of p.stand n) part.effects p)
 
 -- an entry, and what its body did
 pub record Ran (Origin Set : Type 0) : Type 0 where
@@ -117,19 +128,22 @@ abbrev pub merged : {Origin Set : Type 0} → List (Ran Origin Set) → Pair Ori
 merged [] p = p
 merged (r ∷ rs) p = merged rs (unless_over (with_part r.entry r.part) p)
 
--- the entries run from where they stand, and are merged in order; the newly registered are the entries of the next turn
+-- the entries run from where they stand, and are merged in order; the newly registered are the entries
+-- of the next turn
 unfoldable pub turn : {Origin Set : Type 0} → Code Origin Set → Pair Origin → Pair Origin
 turn l p = merged (map (ran l p.stand) p.entries) (record { stand = p.stand; entries = [] })
 
 -- there is a verdict, or nothing is left to run
 abbrev pub at_rest : {Origin : Type 0} → Pair Origin → Bool
-at_rest p = elim p.stand.verdict [ None ↦ elim p.entries [ [] ↦ true | n ∷ ns ↦ false ] | Some v ↦ true ]
+at_rest p =
+    elim p.stand.verdict [ None ↦ elim p.entries [ [] ↦ true | n ∷ ns ↦ false ] | Some v ↦ true ]
 
 unfoldable pub settle_in : {Origin Set : Type 0} → Code Origin Set → ℕ → Pair Origin → Stand Origin
 settle_in l zero p = p.stand
 settle_in l (suc turns) p = elim (at_rest p) [ true ↦ p.stand | false ↦ settle_in l turns (turn l p) ]
 
--- turn after turn, until the pair is at rest: each turn after the first has a b-thread that the one before it registered
+-- turn after turn, until the pair is at rest: each turn after the first has a b-thread that the one
+-- before it registered
 unfoldable pub settle : {Origin Set : Type 0} → Code Origin Set → Pair Origin → Stand Origin
 settle l p = settle_in l (MOST_THREADS + 1) p
 
@@ -138,12 +152,8 @@ abbrev pub opening : {Origin : Type 0} → Pair Origin
 opening = record { stand = empty; entries = The_top ∷ [] }
 
 unfoldable pub initial : {Origin Set : Type 0} → Code Origin Set → ℕ → Configuration Origin
-initial l injectors = record { stand = settle l opening; drawn = 0; reading = below injectors; bad = None }
-
--- a pair after so many turns
-abbrev pub turned : {Origin Set : Type 0} → Code Origin Set → ℕ → Pair Origin → Pair Origin
-turned l zero p = p
-turned l (suc k) p = turned l k (turn l p)
+initial l injectors =
+    record { stand = settle l opening; drawn = 0; reading = below injectors; bad = None }
 
 -- the same pair, with lines before its own
 abbrev pub before : {Origin : Type 0} → List Line → Pair Origin → Pair Origin

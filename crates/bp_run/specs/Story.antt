@@ -35,11 +35,13 @@ is_move (Moves i) = true
 is_move (Interrupts i) = false
 
 -- a b-thread that moves receives e; one that is interrupted ends
-abbrev pub touch : {Origin : Type 0} → PlainEvent → Touched → List (Thread Origin) → List (Thread Origin)
+abbrev pub touch : {Origin : Type 0} → PlainEvent → Touched → List (Thread Origin) →
+    List (Thread Origin)
 touch e (Moves i) ts = change (λ t. record t { replies = t.replies ++ e ∷ [] }) i ts
 touch e (Interrupts i) ts = change (λ t. record t { ended = true }) i ts
 
-abbrev pub touch_all : {Origin : Type 0} → PlainEvent → List Touched → List (Thread Origin) → List (Thread Origin)
+abbrev pub touch_all : {Origin : Type 0} → PlainEvent → List Touched → List (Thread Origin) →
+    List (Thread Origin)
 touch_all e [] ts = ts
 touch_all e (n ∷ ns) ts = touch_all e ns (touch e n ts)
 
@@ -48,7 +50,8 @@ abbrev pub weight_after : {Origin : Type 0} → Stand Origin → PlainEvent → 
 weight_after s e reached = s.weight + event_weight e * (1 + count_by is_move reached)
 
 -- the transition itself, before anything runs
-unfoldable pub step : {Origin : Type 0} → Stand Origin → PlainEvent → Option ℕ → List Touched → Stand Origin
+unfoldable pub step : {Origin : Type 0} → Stand Origin → PlainEvent → Option ℕ → List Touched →
+    Stand Origin
 step s e place reached =
     record s {
       threads = touch_all e reached s.threads;
@@ -59,21 +62,28 @@ step s e place reached =
     }
 
 -- the run of its handler at e, if it set one by then
-abbrev pub handler_body : {Origin Set : Type 0} → Code Origin Set → PlainEvent → Option (Thread Origin) → Option (Body Origin)
+abbrev pub handler_body : {Origin Set : Type 0} → Code Origin Set → PlainEvent →
+    Option (Thread Origin) → Option (Body Origin)
 handler_body l e None = None
-handler_body l e (Some t) = option_map (λ o. record { origin = o; replies = [] }) (l.handling t.origin t.replies e)
+handler_body l e (Some t) =
+    option_map (λ o. record { origin = o; replies = [] }) (l.handling t.origin t.replies e)
 
-abbrev pub entry_of : {Origin Set : Type 0} → Code Origin Set → Stand Origin → PlainEvent → Touched → Entry Origin
+abbrev pub entry_of : {Origin Set : Type 0} → Code Origin Set → Stand Origin → PlainEvent → Touched →
+    Entry Origin
 entry_of l s e (Moves i) = Runs i
 entry_of l s e (Interrupts i) = Stops i (handler_body l e (slice_get s.threads i))
 
 -- the transition, and what is to be run after it
-abbrev pub stepped : {Origin Set : Type 0} → Code Origin Set → Stand Origin → PlainEvent → Option ℕ → List Touched → Pair Origin
-stepped l s e place reached = record { stand = step s e place reached; entries = map (entry_of l s e) reached }
+abbrev pub stepped : {Origin Set : Type 0} → Code Origin Set → Stand Origin → PlainEvent → Option ℕ →
+    List Touched → Pair Origin
+stepped l s e place reached =
+    record { stand = step s e place reached; entries = map (entry_of l s e) reached }
 
 -- the transition, and all that runs after it
-abbrev pub move : {Origin Set : Type 0} → Code Origin Set → Configuration Origin → Choice → List Touched → Configuration Origin
-move l c ch reached = record c { stand = settle l (stepped l c.stand ch.event ch.place reached); drawn = ch.drawn }
+abbrev pub move : {Origin Set : Type 0} → Code Origin Set → Configuration Origin → Choice →
+    List Touched → Configuration Origin
+move l c ch reached =
+    record c { stand = settle l (stepped l c.stand ch.event ch.place reached); drawn = ch.drawn }
 
 -- what comes next
 pub data Next : Type 0 where
@@ -94,7 +104,8 @@ fault_verdict s x = set_verdict (name_in (slice_get s.threads x.0)) x.1
 abbrev pub next_chosen : {Origin : Type 0} → Stand Origin → Choice → Asked (List Touched) → Next
 next_chosen s ch (Err x) = Ends (fault_verdict s x)
 next_chosen s ch (Ok reached) =
-    if nat_lt MOST_WEIGHT (weight_after s ch.event reached) then Ends verdict.Weight else Selects ch reached
+    if nat_lt MOST_WEIGHT (weight_after s ch.event reached) then Ends verdict.Weight
+    else Selects ch reached
 
 -- nothing is selectable
 abbrev pub next_idle : {Origin : Type 0} → Configuration Origin → Option (ℕ × ℕ) → Next
@@ -104,18 +115,22 @@ next_idle c None =
     else if length c.reading == 0 then Ends (verdict.Quiet c.stand.transitions)
     else Waits
 
-abbrev pub next_choice : {Origin Set : Type 0} → Code Origin Set → PlainOptions → Configuration Origin → Asked (Option Choice) → Next
+abbrev pub next_choice : {Origin Set : Type 0} → Code Origin Set → PlainOptions → Configuration Origin →
+    Asked (Option Choice) → Next
 next_choice l o c (Err x) = Ends (fault_verdict c.stand x)
 next_choice l o c (Ok None) = next_idle c c.bad
 next_choice l o c (Ok (Some ch)) =
     if c.stand.transitions == o.steps then Ends (verdict.Steps o.steps)
     else next_chosen c.stand ch (reach l.has ch.event (live l c.stand))
 
-abbrev pub next_unless : {Origin Set : Type 0} → Code Origin Set → PlainOptions → Configuration Origin → Option Verdict → Next
+abbrev pub next_unless : {Origin Set : Type 0} → Code Origin Set → PlainOptions → Configuration Origin →
+    Option Verdict → Next
 next_unless l o c (Some v) = Ends v
-next_unless l o c None = next_choice l o c (choice l.has l.word o.strategy (live l c.stand) c.stand.queue c.drawn)
+next_unless l o c None =
+    next_choice l o c (choice l.has l.word o.strategy (live l c.stand) c.stand.queue c.drawn)
 
-unfoldable pub next : {Origin Set : Type 0} → Code Origin Set → PlainOptions → Configuration Origin → Next
+unfoldable pub next : {Origin Set : Type 0} → Code Origin Set → PlainOptions →
+    Configuration Origin → Next
 next l o c = next_unless l o c c.stand.verdict
 
 abbrev pub is_over : {Origin : Type 0} → Configuration Origin → Bool
@@ -136,10 +151,12 @@ abbrev pub first_bad : Option (ℕ × ℕ) → ℕ → ℕ → Option (ℕ × �
 first_bad None j n = Some (j, n)
 first_bad (Some b) j n = Some b
 
-abbrev pub if_selected : {Origin Set : Type 0} → Code Origin Set → Configuration Origin → PlainEvent → Next → Option (Configuration Origin)
+abbrev pub if_selected : {Origin Set : Type 0} → Code Origin Set → Configuration Origin → PlainEvent →
+    Next → Option (Configuration Origin)
 if_selected l c e (Ends v) = None
 if_selected l c e Waits = None
-if_selected l c e (Selects ch reached) = if same_event e ch.event then Some (move l c ch reached) else None
+if_selected l c e (Selects ch reached) =
+    if same_event e ch.event then Some (move l c ch reached) else None
 
 abbrev pub over : {Origin : Type 0} → Stand Origin → Verdict → Stand Origin
 over s v = record s { verdict = Some v; lines = s.lines ++ trace.Verdict v ∷ [] }
@@ -147,30 +164,37 @@ over s v = record s { verdict = Some v; lines = s.lines ++ trace.Verdict v ∷ [
 abbrev pub over_with : {Origin : Type 0} → Configuration Origin → Verdict → Configuration Origin
 over_with c v = record c { stand = over c.stand v }
 
-abbrev pub if_ended : {Origin : Type 0} → Configuration Origin → Verdict → Next → Option (Configuration Origin)
+abbrev pub if_ended : {Origin : Type 0} → Configuration Origin → Verdict → Next →
+    Option (Configuration Origin)
 if_ended c v (Ends w) = if same_verdict v w then Some (over_with c v) else None
 if_ended c v Waits = None
 if_ended c v (Selects ch reached) = None
 
 -- the configuration after one record
-unfoldable pub after_record : {Origin Set : Type 0} → Code Origin Set → PlainOptions → Configuration Origin → Record → Option (Configuration Origin)
-after_record l o c (In j e) = if may_come c j && has_room c.stand then Some (record c { stand = queued e c.stand }) else None
-after_record l o c (Bad j n) = if may_come c j then Some (record (read_out c j) { bad = first_bad c.bad j n }) else None
+unfoldable pub after_record : {Origin Set : Type 0} → Code Origin Set → PlainOptions →
+    Configuration Origin → Record → Option (Configuration Origin)
+after_record l o c (In j e) =
+    if may_come c j && has_room c.stand then Some (record c { stand = queued e c.stand }) else None
+after_record l o c (Bad j n) =
+    if may_come c j then Some (record (read_out c j) { bad = first_bad c.bad j n }) else None
 after_record l o c (Eof j) = if may_come c j then Some (read_out c j) else None
 after_record l o c (Sel e) = if_selected l c e (next l o c)
 after_record l o c (End v) = if_ended c v (next l o c)
 
 -- the records lead from a configuration to this one, or to nothing where they don't; nothing follows an end
-unfoldable pub story_from : {Origin Set : Type 0} → Code Origin Set → PlainOptions → List Record → Configuration Origin → Option (Configuration Origin)
+unfoldable pub story_from : {Origin Set : Type 0} → Code Origin Set → PlainOptions → List Record →
+    Configuration Origin → Option (Configuration Origin)
 story_from l o [] c = Some c
 story_from l o (End v ∷ r ∷ rs) c = None
 story_from l o (r ∷ rs) c = option_and_then (story_from l o rs) (after_record l o c r)
 
-unfoldable pub story : {Origin Set : Type 0} → Code Origin Set → PlainOptions → List Record → Option (Configuration Origin)
+unfoldable pub story : {Origin Set : Type 0} → Code Origin Set → PlainOptions → List Record →
+    Option (Configuration Origin)
 story l o records = story_from l o records (initial l o.injectors)
 
 -- the run without injectors: at most the options' number of steps, then the end
-unfoldable pub alone_from : {Origin Set : Type 0} → Code Origin Set → PlainOptions → ℕ → Configuration Origin → List Record
+unfoldable pub alone_from : {Origin Set : Type 0} → Code Origin Set → PlainOptions → ℕ →
+    Configuration Origin → List Record
 alone_from l o zero c = []
 alone_from l o (suc steps) c =
     elim (next l o c) [
@@ -188,7 +212,8 @@ record_of (Ends v) = Some (End v)
 record_of (Selects ch reached) = Some (Sel ch.event)
 record_of Waits = None
 
-abbrev pub after_next : {Origin Set : Type 0} → Code Origin Set → Configuration Origin → Next → Configuration Origin
+abbrev pub after_next : {Origin Set : Type 0} → Code Origin Set → Configuration Origin → Next →
+    Configuration Origin
 after_next l c (Ends v) = over_with c v
 after_next l c (Selects ch reached) = move l c ch reached
 after_next l c Waits = c

@@ -23,42 +23,49 @@ use bp_log::limits::MOST_THREADS;
 pub fn one_run()
     ensures is_one { (l : Code ℕ (Option PlainEvent)) (o : PlainOptions) → o.injectors ≡ 0 →
         (c : Configuration ℕ) × (told l o (alone l o) ≡ Some c) × Complete (alone l o) }
-    ensures is_only { (l : Code ℕ (Option PlainEvent)) (o : PlainOptions) (records : List Record) (c : Configuration ℕ) →
+    ensures is_only { (l : Code ℕ (Option PlainEvent)) (o : PlainOptions) (records : List Record)
+        (c : Configuration ℕ) →
         o.injectors ≡ 0 → told l o records ≡ Some c → Complete records → records ≡ alone l o }
 {}
 
 /// The text of a prefix of the records is a prefix of the text.
 pub fn prefix_prints_prefix()
-    ensures { (l : Code ℕ (Option PlainEvent)) (o : PlainOptions) (records more : List Record) (whole : List ℕ) →
+    ensures { (l : Code ℕ (Option PlainEvent)) (o : PlainOptions) (records more : List Record)
+        (whole : List ℕ) →
         text l o (records ++ more) ≡ Some whole →
         (front : List ℕ) × (rest : List ℕ) × (text l o records ≡ Some front) × (whole ≡ front ++ rest) }
 {}
 
 /// Nothing follows the record of the end.
 pub fn nothing_follows_the_end()
-    ensures { (l : Code ℕ (Option PlainEvent)) (o : PlainOptions) (records more : List Record) (v : Verdict) (entry : Record) →
+    ensures { (l : Code ℕ (Option PlainEvent)) (o : PlainOptions) (records more : List Record)
+        (v : Verdict) (entry : Record) →
         told l o (records ++ recorded.End v ∷ entry ∷ more) ≡ None }
 {}
 
 /// A pair with a verdict or without an entry settles to where it stands, and each other one to what
 /// its turn settles to.
 pub fn turns_settle()
-    ensures rests { (l : Code ℕ (Option PlainEvent)) (p : Pair ℕ) → at_rest p ≡ true → settle l p ≡ p.stand }
-    ensures turns { (l : Code ℕ (Option PlainEvent)) (p : Pair ℕ) → length p.stand.threads ≤ MOST_THREADS → at_rest p ≡ false →
+    ensures rests { (l : Code ℕ (Option PlainEvent)) (p : Pair ℕ) → at_rest p ≡ true →
+        settle l p ≡ p.stand }
+    ensures turns { (l : Code ℕ (Option PlainEvent)) (p : Pair ℕ) →
+        length p.stand.threads ≤ MOST_THREADS → at_rest p ≡ false →
         settle l p ≡ settle l (turn l p) }
 {}
 
 /// What is selected is requested by a live b-thread or waits in the queue, and no live b-thread
 /// blocks it.
 pub fn selected_is_requested_and_not_blocked()
-    ensures { (l : Code ℕ (Option PlainEvent)) (o : PlainOptions) (c : Configuration ℕ) (ch : Choice) (reached : List Touched) →
+    ensures { (l : Code ℕ (Option PlainEvent)) (o : PlainOptions) (c : Configuration ℕ) (ch : Choice)
+        (reached : List Touched) →
         next l o c ≡ story.Next.Selects ch reached → IsChosen l.has (live l c.stand) c.stand.queue ch }
 {}
 
 /// Where no set is at fault, an event is chosen exactly where some event is requested or waits in the
 /// queue and no live b-thread blocks it.
 pub fn something_is_chosen_where_it_can_be()
-    ensures chosen { (l : Code ℕ (Option PlainEvent)) (o : PlainOptions) (c : Configuration ℕ) (ch : Choice) →
+    ensures chosen { (l : Code ℕ (Option PlainEvent)) (o : PlainOptions) (c : Configuration ℕ)
+        (ch : Choice) →
         choice l.has l.word o.strategy (live l c.stand) c.stand.queue c.drawn ≡ Ok (Some ch) →
         IsChosen l.has (live l c.stand) c.stand.queue ch }
     ensures nothing { (l : Code ℕ (Option PlainEvent)) (o : PlainOptions) (c : Configuration ℕ) →
@@ -69,21 +76,30 @@ pub fn something_is_chosen_where_it_can_be()
 /// A selected event does to each b-thread what the b-thread's own statement says: it moves, it ends,
 /// or it stays as it is. As many b-threads are there afterwards.
 pub fn only_the_reached_move_or_end()
-    ensures says { (l : Code ℕ (Option PlainEvent)) (o : PlainOptions) (c : Configuration ℕ) (ch : Choice) (reached : List Touched) →
-        next l o c ≡ story.Next.Selects ch reached → (i : ℕ) (t : Thread ℕ) → slice_get c.stand.threads i ≡ Some t →
+    ensures says { (l : Code ℕ (Option PlainEvent)) (o : PlainOptions) (c : Configuration ℕ)
+        (ch : Choice) (reached : List Touched) →
+        next l o c ≡ story.Next.Selects ch reached → (i : ℕ) (t : Thread ℕ) →
+        slice_get c.stand.threads i ≡ Some t →
         touch_of l.has ch.event (stated l i t) ≡ Ok (touch_at i reached) }
-    ensures does { (l : Code ℕ (Option PlainEvent)) (o : PlainOptions) (c : Configuration ℕ) (ch : Choice) (reached : List Touched) →
-        next l o c ≡ story.Next.Selects ch reached → (i : ℕ) (t : Thread ℕ) → slice_get c.stand.threads i ≡ Some t →
-        slice_get (step c.stand ch.event ch.place reached).threads i ≡ Some (after_touch ch.event (touch_at i reached) t) }
-    ensures count { (l : Code ℕ (Option PlainEvent)) (o : PlainOptions) (c : Configuration ℕ) (ch : Choice) (reached : List Touched) →
+    ensures does { (l : Code ℕ (Option PlainEvent)) (o : PlainOptions) (c : Configuration ℕ)
+        (ch : Choice) (reached : List Touched) →
+        next l o c ≡ story.Next.Selects ch reached → (i : ℕ) (t : Thread ℕ) →
+        slice_get c.stand.threads i ≡ Some t →
+        slice_get (step c.stand ch.event ch.place reached).threads i
+        ≡ Some (after_touch ch.event (touch_at i reached) t) }
+    ensures count { (l : Code ℕ (Option PlainEvent)) (o : PlainOptions) (c : Configuration ℕ)
+        (ch : Choice) (reached : List Touched) →
         length (step c.stand ch.event ch.place reached).threads ≡ length c.stand.threads }
 {}
 
 /// What runs after a transition, and after a turn, are distinct registered b-threads.
 pub fn entries_are_distinct()
-    ensures moved { (l : Code ℕ (Option PlainEvent)) (o : PlainOptions) (c : Configuration ℕ) (ch : Choice) (reached : List Touched) →
+    ensures moved { (l : Code ℕ (Option PlainEvent)) (o : PlainOptions) (c : Configuration ℕ)
+        (ch : Choice) (reached : List Touched) →
         next l o c ≡ story.Next.Selects ch reached →
-        IsRising 0 (length c.stand.threads) (map number_of (stepped l c.stand ch.event ch.place reached).entries) }
+        IsRising 0 (length c.stand.threads)
+        (map number_of (stepped l c.stand ch.event ch.place reached).entries) }
     ensures turned { (l : Code ℕ (Option PlainEvent)) (p : Pair ℕ) →
-        IsRising (length p.stand.threads) (length (turn l p).stand.threads) (map number_of (turn l p).entries) }
+        IsRising (length p.stand.threads) (length (turn l p).stand.threads)
+        (map number_of (turn l p).entries) }
 {}
