@@ -84,7 +84,8 @@ too_deep = refl
 
 -- ---- variables
 
--- for (let i = 0; i < 2; i++) { if (i === 1) x; let x = 7 }: declared in the first turn, and not yet in the second
+-- for (let i = 0; i < 2; i++) { if (i === 1) x; let x = 7 }: declared in the first turn, and not yet in
+-- the second
 pub early_in_the_second_turn : comes_to Thread 100
     (whole 0 ∷ one (p.declaration Let (given 0 0 ∷ [])) ∷ slot 0 ∷ whole 2 ∷ one (p.binary op.Less 2 3) ∷ one (p.update Increment After 0)
     ∷ slot 0 ∷ whole 1 ∷ one (p.binary op.Same 6 7) ∷ on 3 (p.read (Slot 1)) ∷ on 3 (p.expression 9) ∷ one (p.if_alone 8 10)
@@ -113,7 +114,8 @@ pub assigned_before_declared : comes_to Thread 100
 unfolding evaluation eval within
 assigned_before_declared = refl
 
--- (function(a, b) { return b })(1), and with three arguments: a missing one is undefined, and one too many is dropped
+-- (function(a, b) { return b })(1), and with three arguments: a missing one is undefined, and one too
+-- many is dropped
 abbrev second_of : List ℕ → List PlainNode
 second_of arguments = one (p.function 1) ∷ whole 1 ∷ whole 2 ∷ whole 3 ∷ one (p.call 0 arguments) ∷ one (p.return_of 4) ∷ slot 1 ∷ one (p.return_of 6) ∷ []
 
@@ -156,7 +158,8 @@ pub no_function_at_the_deepest :
 unfolding eval within
 no_function_at_the_deepest = refl
 
--- let c = 9; let f = a => c; return f(1, 2): an argument that no parameter takes is dropped, and stands in no slot
+-- let c = 9; let f = a => c; return f(1, 2): an argument that no parameter takes is dropped, and stands
+-- in no slot
 pub dropped_argument : comes_to Thread 100
     (whole 9 ∷ one (p.declaration Let (given 0 0 ∷ [])) ∷ one (p.function 1) ∷ one (p.declaration Let (given 1 2 ∷ [])) ∷ slot 1 ∷ whole 1 ∷ whole 2 ∷ one (p.call 4 (5 ∷ 6 ∷ [])) ∷ one (p.return_of 7) ∷ slot 1 ∷ [])
     (statements 2 (1 ∷ 3 ∷ 8 ∷ []) ∷ record { parameters = 1; slots = 2; captures = 0 ∷ []; vars = []; content = p.one_value 9; line = 1 } ∷ [])

@@ -1,4 +1,5 @@
--- What any outcome leaves follows on the state, and does to the run what the mode allows, under any bound of the recursion.
+-- What any outcome leaves follows on the state, and does to the run what the mode allows, under any
+-- bound of the recursion.
 use Rattle.std.proofs.Common.{◌≡◌, ℕ, zero, suc, true, false, List, [], ◌∷◌, Option, Some, None, refl, sym, ap, ◌∙◌}
 use Rattle.std.specs.Prelude.{slice_get, option_map, length}
 use Rattle.std.proofs.lemmas.Bool.{false≢true}

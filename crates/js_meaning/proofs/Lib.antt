@@ -3,7 +3,6 @@ pub mod Later
 pub mod Following
 pub mod Bound
 pub mod Replies
-pub mod Calling
 pub mod Small
 mod Examples
 mod Loops

@@ -102,7 +102,8 @@ arguments_before_callee = refl
 
 -- ---- forms and modes
 
--- the forms in the order registerBThread, sync, Event, EventSet, all, none, ASSERT, enqueueExternalEvent, setInterruptHandler, log.info, floor
+-- the forms in the order registerBThread, sync, Event, EventSet, all, none, ASSERT,
+-- enqueueExternalEvent, setInterruptHandler, log.info, floor
 abbrev forms_in : Mode → List Bool
 forms_in mode =
     map (has_effect_in mode)

@@ -42,7 +42,8 @@ pub before_declarations : top_comes_to 100 (program
 unfolding evaluation eval within digits
 before_declarations = refl
 
--- const a = 2; const f = () => a; bp.log.info(f()): a function sees the constants so far, and all else what the top level leaves
+-- const a = 2; const f = () => a; bp.log.info(f()): a function sees the constants so far, and all else
+-- what the top level leaves
 abbrev two_constants : PlainProgram
 two_constants =
     program

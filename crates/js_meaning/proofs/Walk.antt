@@ -1,4 +1,5 @@
--- A relation between two ways to go on from a state, which holds of what begins no node and through each way to combine, holds of what every form does.
+-- A relation between two ways to go on from a state, which holds of what begins no node and through
+-- each way to combine, holds of what every form does.
 use Rattle.std.proofs.Common.{◌≡◌, ℕ, suc, ◌+◌, Bool, true, false, cond, List, [], ◌∷◌, ◌++◌, Option, Some, None, Ok, Err, refl}
 use Rattle.std.specs.Prelude.{pos, unwrap_or, nat_lt, codes, drop}
 use Rattle.std.specs.Str.{bytes_eq}

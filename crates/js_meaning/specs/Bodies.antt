@@ -34,7 +34,15 @@ own_constants base (function mode f args) = None
 -- how a body begins, with these replies
 abbrev pub start_of : Ground → ℕ → Origin → List PlainEvent → State
 start_of base budget o replies =
-    record { slots = []; constants = own_constants base o; calls = 0; fuel = budget; replies = replies; effects = []; delivered = 0 }
+    record {
+      slots = [];
+      constants = own_constants base o;
+      calls = 0;
+      fuel = budget;
+      replies = replies;
+      effects = [];
+      delivered = 0;
+    }
 
 -- The top level is no call. A function is called at no line: that fault can't come where it is a function.
 module _ (g : Setting) (ev : ℕ → State → Outcome) where
@@ -44,7 +52,9 @@ module _ (g : Setting) (ev : ℕ → State → Outcome) where
 
 -- The outcome of a body from its start, with these replies.
 unfoldable pub evaluation : Ground → ℕ → Origin → List PlainEvent → Outcome
-evaluation base budget o replies = runs_body (setting_of base budget o) (eval (setting_of base budget o)) o (start_of base budget o replies)
+evaluation base budget o replies =
+    runs_body (setting_of base budget o) (eval (setting_of base budget o)) o
+    (start_of base budget o replies)
 
 -- the constants as the top level leaves them
 abbrev pub constants_left : Outcome → List (Option PlainValue)
@@ -53,4 +63,8 @@ constants_left _ = []
 
 -- what all but the top level stands on
 unfoldable pub ground_of : PlainProgram → ℕ → Ground
-ground_of program budget = record { program = program; constants = constants_left (evaluation (bare program) budget the_top []) }
+ground_of program budget =
+    record {
+      program = program;
+      constants = constants_left (evaluation (bare program) budget the_top []);
+    }

@@ -15,7 +15,8 @@ use Rattle.js_meaning.specs.Variables.{slots_of_call}
 
 -- a function of a number that no function has does nothing
 abbrev pub no_body : PlainBody
-no_body = record { parameters = 0; slots = 0; captures = []; vars = []; content = statements []; line = 0 }
+no_body =
+    record { parameters = 0; slots = 0; captures = []; vars = []; content = statements []; line = 0 }
 
 abbrev pub body_of : PlainProgram → ℕ → PlainBody
 body_of p code = unwrap_or (slice_get p.functions code) no_body
@@ -54,28 +55,34 @@ module _ (ev : ℕ → State → Outcome) where
   -- a body with these captured values and arguments, while so many calls are active
   abbrev pub enters : ℕ → PlainBody → List PlainValue → List PlainValue → State → Outcome
   enters active body captured args s =
-      after_call s.slots s.calls (runs body.content (record s { slots = slots_of_call body captured args; calls = active }))
+      after_call s.slots s.calls
+      (runs body.content (record s { slots = slots_of_call body captured args; calls = active }))
 
 module _ (g : Setting) (ev : ℕ → State → Outcome) where
   -- a call of a value: what is no function can't be called, and neither can one more than may be active
   abbrev pub calls : ℕ → PlainValue → List PlainValue → State → Outcome
   calls line (v.function code captured) args s =
-      cond (nat_lt s.calls MOST_CALLS) (enters ev (s.calls + 1) (body_of g.base.program code) (values_in captured) args) (breaks fault.Depth line) s
+      cond (nat_lt s.calls MOST_CALLS)
+      (enters ev (s.calls + 1) (body_of g.base.program code) (values_in captured) args)
+      (breaks fault.Depth line) s
   calls line _ args s = breaks fault.Mistyped line s
 
   -- `forEach`: the function is called with each element, its index and the list
   abbrev pub for_each_from : ℕ → PlainValue → PlainValue → ℕ → List PlainValue → State → Outcome
   for_each_from line f items index [] s = leaves s
   for_each_from line f items index (x ∷ xs) s =
-      calls line f (x ∷ v.whole (pos index) ∷ items ∷ []) s >>= λ _. for_each_from line f items (suc index) xs
+      calls line f (x ∷ v.whole (pos index) ∷ items ∷ []) s >>= λ _.
+      for_each_from line f items (suc index) xs
 
   abbrev pub for_each_call : ℕ → ValueList → List PlainValue → State → Outcome
-  for_each_call line xs (v.function code captured ∷ others) s = for_each_from line (v.function code captured) (v.list xs) 0 (values_in xs) s
+  for_each_call line xs (v.function code captured ∷ others) s =
+      for_each_from line (v.function code captured) (v.list xs) 0 (values_in xs) s
   for_each_call line xs _ s = breaks fault.Mistyped line s
 
   -- `x.word(args)`
   abbrev pub calls_method : ℕ → List ℕ → PlainValue → List PlainValue → State → Outcome
   calls_method line word (v.fields fs) args s = calls line (field_or_undefined fs word) args s
   calls_method line word (v.list xs) args s =
-      cond (bytes_eq word (codes "forEach")) (for_each_call line xs args) (applies line (method_named word) (v.list xs) args) s
+      cond (bytes_eq word (codes "forEach")) (for_each_call line xs args)
+      (applies line (method_named word) (v.list xs) args) s
   calls_method line word x args s = applies line (method_named word) x args s

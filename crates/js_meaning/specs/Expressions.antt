@@ -86,18 +86,23 @@ updates line fix.Before k old new s = writes line k new s
 updates line fix.After k old new s = writes line k new s >>= λ _. gives old
 
 abbrev pub does_update : ℕ → Step → Fix → ℕ → State → Outcome
-does_update line step fix k s = if_declared line (in_slot k s.slots) (λ v. updates line fix k v (unary_of (step_for step) v)) s
+does_update line step fix k s =
+    if_declared line (in_slot k s.slots) (λ v. updates line fix k v (unary_of (step_for step) v)) s
 
 module _ (ev : ℕ → State → Outcome) where
   -- `x = e` looks at x after e, and `x op= e` reads x before e
   abbrev pub assigns : ℕ → Option Op → ℕ → ℕ → State → Outcome
-  assigns line None k e s = ev e s >>= λ v now. if_declared line (in_slot k now.slots) (λ _. writes line k (Ok v)) now
-  assigns line (Some op) k e s = if_declared line (in_slot k s.slots) (λ v now. ev e now >>= λ w. writes line k (value_of op v w)) s
+  assigns line None k e s =
+      ev e s >>= λ v now. if_declared line (in_slot k now.slots) (λ _. writes line k (Ok v)) now
+  assigns line (Some op) k e s =
+      if_declared line (in_slot k s.slots)
+      (λ v now. ev e now >>= λ w. writes line k (value_of op v w)) s
 
 -- ---- what comes of the values of all parts
 
 module _ (g : Setting) (ev : ℕ → State → Outcome) where
-  -- What a form does with the values of its parts, where it evaluates all of them in order. The forms that do otherwise are in `does`.
+  -- What a form does with the values of its parts, where it evaluates all of them in order. The forms
+  -- that do otherwise are in `does`.
   abbrev pub combines : ℕ → PlainNodeForm → List PlainValue → State → Outcome
   combines line (p.number n) vs s = gives (v.whole n) s
   combines line (p.words text) vs s = answered line (made (v.words text)) s
@@ -105,18 +110,23 @@ module _ (g : Setting) (ev : ℕ → State → Outcome) where
   combines line p.null vs s = gives v.null s
   combines line p.undefined vs s = gives v.undefined s
   combines line (p.read x) vs s = if_declared line (held g.base x s) gives s
-  combines line (p.function code) vs s = answered line (made (v.function code (value_list_of (captured (body_of g.base.program code).captures s.slots)))) s
+  combines line (p.function code) vs s =
+      answered line
+      (made (v.function code (value_list_of (captured (body_of g.base.program code).captures s.slots)))) s
   combines line (p.update step fix k) vs s = does_update line step fix k s
   combines line (p.list ns) vs s = answered line (make_of make.List vs []) s
   combines line (p.fields keys ns) vs s = answered line (make_of make.Fields vs keys) s
   combines line (p.member x word) vs s = answered line (member_of (argument 0 vs) word) s
   combines line (p.index x i) vs s = answered line (index_of (argument 0 vs) (argument 1 vs)) s
   combines line (p.call f arguments) vs s = calls g ev line (argument 0 vs) (drop 1 vs) s
-  combines line (p.method x word arguments) vs s = calls_method g ev line word (argument 0 vs) (drop 1 vs) s
+  combines line (p.method x word arguments) vs s =
+      calls_method g ev line word (argument 0 vs) (drop 1 vs) s
   combines line (p.builtin form arguments) vs s = applies_form g line form vs s
-  combines line (p.floor_divide a b dropped) vs s = answered line (value_of op.FloorDivide (argument 0 vs) (argument 1 vs)) s
+  combines line (p.floor_divide a b dropped) vs s =
+      answered line (value_of op.FloorDivide (argument 0 vs) (argument 1 vs)) s
   combines line (p.unary sign e) vs s = answered line (unary_of (unary_for sign) (argument 0 vs)) s
-  combines line (p.binary operator a b) vs s = answered line (by_rule (op_for operator) (argument 0 vs) (argument 1 vs)) s
+  combines line (p.binary operator a b) vs s =
+      answered line (by_rule (op_for operator) (argument 0 vs) (argument 1 vs)) s
   combines line p.break_of vs s = went broke s
   combines line p.continue_of vs s = went continued s
   combines line p.return_nothing vs s = went (returned v.undefined) s

@@ -21,16 +21,20 @@ abbrev pub does_to_run : Effect → State → Outcome
 does_to_run x s = leaves (record s { effects = s.effects ++ x ∷ [] })
 
 abbrev pub registers_thread : ℕ → PlainValue → PlainValue → State → Outcome
-registers_thread line (v.words name) (v.function code captured) s = does_to_run (registers name (v.function code captured)) s
+registers_thread line (v.words name) (v.function code captured) s =
+    does_to_run (registers name (v.function code captured)) s
 registers_thread line _ _ s = breaks fault.Mistyped line s
 
--- stops where no reply is left; a reply is the value, the effects so far are delivered, and the whole budget may be spent again
+-- stops where no reply is left; a reply is the value, the effects so far are delivered, and the whole
+-- budget may be spent again
 abbrev pub asks : ℕ → ℕ → PlainValue → PlainValue → List PlainEvent → State → Outcome
 asks budget line statement priority [] s = stopped statement priority line (left_of s)
-asks budget line statement priority (e ∷ es) s = gives (v.event e) (record s { fuel = budget; replies = es; delivered = length s.effects })
+asks budget line statement priority (e ∷ es) s =
+    gives (v.event e) (record s { fuel = budget; replies = es; delivered = length s.effects })
 
 abbrev pub asserted : ℕ → PlainValue → PlainValue → State → Outcome
-asserted line condition (v.words text) s = cond (is_truthy condition) leaves (λ now. violated text (left_of now)) s
+asserted line condition (v.words text) s =
+    cond (is_truthy condition) leaves (λ now. violated text (left_of now)) s
 asserted line condition _ s = breaks fault.Mistyped line s
 
 abbrev pub enqueues_event : ℕ → PlainValue → State → Outcome
@@ -58,8 +62,10 @@ floors line (v.whole n) s = gives (v.whole n) s
 floors line _ s = breaks fault.Mistyped line s
 
 abbrev pub takes_effect : ℕ → ℕ → Builtin → List PlainValue → State → Outcome
-takes_effect budget line form.RegisterBThread args s = registers_thread line (argument 0 args) (argument 1 args) s
-takes_effect budget line form.Sync args s = asks budget line (argument 0 args) (argument 1 args) s.replies s
+takes_effect budget line form.RegisterBThread args s =
+    registers_thread line (argument 0 args) (argument 1 args) s
+takes_effect budget line form.Sync args s =
+    asks budget line (argument 0 args) (argument 1 args) s.replies s
 takes_effect budget line form.Event args s = answered line (make_of make.Event args []) s
 takes_effect budget line form.EventSet args s = answered line (make_of make.Set args []) s
 takes_effect budget line form.All args s = gives (v.set v.all) s
@@ -72,4 +78,5 @@ takes_effect budget line form.Floor args s = floors line (argument 0 args) s
 
 -- in a mode where the form has no effect it is the fault `mode`
 abbrev pub applies_form : Setting → ℕ → Builtin → List PlainValue → State → Outcome
-applies_form g line f args s = cond (has_effect_in g.mode f) (takes_effect g.budget line f args) (breaks fault.Mode line) s
+applies_form g line f args s =
+    cond (has_effect_in g.mode f) (takes_effect g.budget line f args) (breaks fault.Mode line) s

@@ -3,7 +3,8 @@ use Rattle.std.specs.Prelude.{◌≡◌, ◌≤◌, ℕ, List, [], length, ◌++
 use Rattle.js_data.specs.Event.{PlainEvent}
 use Rattle.js_meaning.specs.State.{Effect, State, Left, left_of, Outcome, went, broken, violated, spent, stopped}
 
--- What is left follows on a state: effects were added at the end, and fuel rose at a reply alone, to no more than the budget.
+-- What is left follows on a state: effects were added at the end, and fuel rose at a reply alone, to no
+-- more than the budget.
 pub record Beyond (budget : ℕ) (s : State) (l : Left) : Type 0 where
   pub added : List Effect
   pub effects : l.effects ≡ s.effects ++ added

@@ -9,8 +9,10 @@ use Rattle.js_meaning.specs.Calls.{sequence, in_order}
 use Rattle.js_meaning.specs.Expressions.{op_before, assigns, combines}
 use Rattle.js_meaning.specs.Statements.{does_declaration, does_if, does_if_else, does_or, does_and, perhaps, turns, does_for_of}
 
--- What a node does after it has begun: `ev` gives what its parts do, and `repeat test body next` the turns of a loop.
-module _ (g : Setting) (ev : ℕ → State → Outcome) (repeat : Option ℕ → ℕ → Option ℕ → State → Outcome) where
+-- What a node does after it has begun: `ev` gives what its parts do, and `repeat test body next` the
+-- turns of a loop.
+module _ (g : Setting) (ev : ℕ → State → Outcome)
+    (repeat : Option ℕ → ℕ → Option ℕ → State → Outcome) where
   abbrev pub does : ℕ → PlainNodeForm → State → Outcome
   does line (p.binary operator.Or a b) s = does_or ev a b s
   does line (p.binary operator.And a b) s = does_and ev a b s
@@ -21,7 +23,8 @@ module _ (g : Setting) (ev : ℕ → State → Outcome) (repeat : Option ℕ →
   does line (p.if_alone test body) s = does_if ev test body s
   does line (p.if_else test body other) s = does_if_else ev test body other s
   does line (p.while_of test body) s = repeat (Some test) body None s
-  does line (p.for_three slots first test next body) s = perhaps ev first (undeclare slots s) >>= λ _. repeat test body next
+  does line (p.for_three slots first test next body) s =
+      perhaps ev first (undeclare slots s) >>= λ _. repeat test body next
   does line (p.for_of k items body) s = does_for_of ev line k items body s
   -- all others evaluate their parts in order, and then combine the values
   does line form s = in_order ev (parts_of form) [] (combines g ev line form) s
@@ -39,10 +42,13 @@ begins_with (suc fuel) go s = go (record s { fuel = fuel })
 abbrev pub begins : (State → Outcome) → State → Outcome
 begins go s = begins_with s.fuel go s
 
--- The outcome of a node. `bound` is at least the number of nodes that the fuel and the replies still allow: it makes this a recursion on a number, and is never met.
+-- The outcome of a node. `bound` is at least the number of nodes that the fuel and the replies still
+-- allow: it makes this a recursion on a number, and is never met.
 unfoldable pub within : Setting → ℕ → ℕ → State → Outcome
 within g zero n s = spends s
-within g (suc bound) n s = begins (does_node g (within g bound) (turns (within g bound) bound) (slice_get g.base.program.nodes n)) s
+within g (suc bound) n s =
+    begins (does_node g (within g bound) (turns (within g bound) bound)
+    (slice_get g.base.program.nodes n)) s
 
 -- the nodes that the fuel and the replies still allow
 abbrev pub allowed : ℕ → State → ℕ

@@ -11,7 +11,8 @@ abbrev pub acts : Mode → Bool
 acts Predicate = false
 acts _ = true
 
--- Where forms do not act there are no effects; a stop and a violation come only where their forms have their effect.
+-- Where forms do not act there are no effects; a stop and a violation come only where their forms have
+-- their effect.
 abbrev pub OnlyAnswers : Mode → State → Outcome → Type 0
 OnlyAnswers mode before (went c s) = acts mode ≡ false → s.effects ≡ before.effects
 OnlyAnswers mode before (broken f line l) = acts mode ≡ false → l.effects ≡ before.effects

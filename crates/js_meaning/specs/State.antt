@@ -30,7 +30,8 @@ pub data Effect : Type 0 where
 pub record State : Type 0 where
   -- the variables of the function that runs: nothing where one is not declared yet
   pub slots : List (Option PlainValue)
-  -- in the evaluation of the top level the constants so far; in every other one none, since they are the ground's
+  -- in the evaluation of the top level the constants so far; in every other one none, since they are
+  -- the ground's
   pub constants : Option (List (Option PlainValue))
   -- how many calls are active
   pub calls : ℕ

@@ -33,7 +33,8 @@ module _ (ev : ℕ → State → Outcome) where
 
   abbrev pub does_declaration : DeclareKind → List PlainDeclared → State → Outcome
   does_declaration kind [] s = leaves s
-  does_declaration kind (d ∷ ds) s = declares kind d.variable d.value s >>= λ _. does_declaration kind ds
+  does_declaration kind (d ∷ ds) s =
+      declares kind d.variable d.value s >>= λ _. does_declaration kind ds
 
   -- ---- branches
 
@@ -66,7 +67,8 @@ module _ (ev : ℕ → State → Outcome) where
   -- a turn: the test, the body, what comes between two turns, and the loop again
   abbrev pub one_turn : Option ℕ → ℕ → Option ℕ → (State → Outcome) → State → Outcome
   one_turn test body next again s =
-      tests test s >>= λ v. cond (is_truthy v) (λ now. after_turn (ev body now) (λ later. perhaps next later >>= λ _. again)) leaves
+      tests test s >>= λ v. cond (is_truthy v)
+      (λ now. after_turn (ev body now) (λ later. perhaps next later >>= λ _. again)) leaves
 
   -- at most so many turns
   abbrev pub turns : ℕ → Option ℕ → ℕ → Option ℕ → State → Outcome

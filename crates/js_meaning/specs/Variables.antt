@@ -23,7 +23,8 @@ set_slot k v s = record s { slots = slice_set s.slots k v }
 -- a declared variable gets its value; constants are declared by the top level alone
 abbrev pub set_variable : Variable → PlainValue → State → State
 set_variable (Slot k) v s = set_slot k (Some v) s
-set_variable (Constant k) v s = record s { constants = option_map (λ cs. slice_set cs k (Some v)) s.constants }
+set_variable (Constant k) v s =
+    record s { constants = option_map (λ cs. slice_set cs k (Some v)) s.constants }
 
 -- as a block begins, its variables are not declared yet
 abbrev pub undeclare : List ℕ → State → State
@@ -45,12 +46,14 @@ padded count vs = take count vs ++ replicate (count - length vs) undefined
 abbrev pub slots_of_call : PlainBody → List PlainValue → List PlainValue → List (Option PlainValue)
 slots_of_call body captured args =
     fold (λ slots k. slice_set slots k (Some undefined))
-    (map Some (padded body.parameters args ++ captured) ++ replicate (body.slots - (body.parameters + length captured)) None)
+    (map Some (padded body.parameters args ++ captured) ++
+    replicate (body.slots - (body.parameters + length captured)) None)
     body.vars
 
 -- ---- functions and constants
 
--- the values that stand in these slots now; each is declared wherever a program that is accepted makes a function
+-- the values that stand in these slots now; each is declared wherever a program that is accepted makes
+-- a function
 abbrev pub captured : List ℕ → List (Option PlainValue) → List PlainValue
 captured ks slots = map (λ k. unwrap_or (in_slot k slots) undefined) ks
 

@@ -25,10 +25,12 @@ pub fn loops_turn_again()
 
 /// Under any larger bound of the recursion the outcome is the same.
 pub fn any_larger_bound_serves()
-    ensures { (g : Setting) (bound n : ℕ) (s : State) → allowed g.budget s ≤ bound → within g bound n s ≡ eval g n s }
+    ensures { (g : Setting) (bound n : ℕ) (s : State) → allowed g.budget s ≤ bound →
+        within g bound n s ≡ eval g n s }
 {}
 
-/// What an evaluation leaves follows on what it found, and where a node completes at least one node less is allowed.
+/// What an evaluation leaves follows on what it found, and where a node completes at least one node
+/// less is allowed.
 pub fn evaluation_goes_on()
     ensures node { (g : Setting) (n : ℕ) (s : State) → Follows g.budget s (eval g n s) }
     ensures body { (base : Ground) (budget : ℕ) (o : Origin) (replies : List PlainEvent) →
@@ -37,7 +39,8 @@ pub fn evaluation_goes_on()
         eval g n s ≡ went c t → allowed g.budget t ≤ allowed g.budget s - 1 }
 {}
 
-/// Where forms do not act, in predicates, an evaluation has no effects; it stops in b-threads alone, and violates nothing in predicates.
+/// Where forms do not act, in predicates, an evaluation has no effects; it stops in b-threads alone,
+/// and violates nothing in predicates.
 pub fn modes_limit_evaluation()
     ensures node { (g : Setting) (n : ℕ) (s : State) → OnlyAnswers g.mode s (eval g n s) }
     ensures body { (base : Ground) (budget : ℕ) (o : Origin) (replies : List PlainEvent) →
@@ -46,14 +49,18 @@ pub fn modes_limit_evaluation()
 
 /// Outside of the top level the constants are those of the ground.
 pub fn only_the_top_level_declares_constants()
-    ensures node { (g : Setting) (n : ℕ) (s : State) → s.constants ≡ None → StandsOnGround (eval g n s) }
-    ensures body { (base : Ground) (budget : ℕ) (mode : Mode) (f : PlainValue) (args : List PlainValue) (replies : List PlainEvent) →
+    ensures node { (g : Setting) (n : ℕ) (s : State) → s.constants ≡ None →
+        StandsOnGround (eval g n s) }
+    ensures body { (base : Ground) (budget : ℕ) (mode : Mode) (f : PlainValue) (args : List PlainValue)
+        (replies : List PlainEvent) →
         StandsOnGround (evaluation base budget (function mode f args) replies) }
 {}
 
-/// With more replies an evaluation that stopped goes on behind the effects that it made, and every other one is the same.
+/// With more replies an evaluation that stopped goes on behind the effects that it made, and every
+/// other one is the same.
 pub fn more_replies_go_on()
-    ensures node { (g : Setting) (n : ℕ) (s : State) (more : List PlainEvent) → GoesOn more (eval g n s) (eval g n (with_more more s)) }
+    ensures node { (g : Setting) (n : ℕ) (s : State) (more : List PlainEvent) →
+        GoesOn more (eval g n s) (eval g n (with_more more s)) }
     ensures body { (base : Ground) (budget : ℕ) (o : Origin) (replies more : List PlainEvent) →
         GoesOn more (evaluation base budget o replies) (evaluation base budget o (replies ++ more)) }
 {}
