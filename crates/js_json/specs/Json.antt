@@ -28,11 +28,13 @@ abbrev mutual
 
   pub fields_from : json.Members → Option DataFields
   fields_from json.no_members = Some no_fields
-  fields_from (json.member k d ms) = option_and_then (λ x. option_map (field k x) (fields_from ms)) (data_from d)
+  fields_from (json.member k d ms) =
+      option_and_then (λ x. option_map (field k x) (fields_from ms)) (data_from d)
 
 abbrev pub event_of_parts : List ℕ → json.Items → Option PlainEvent
 event_of_parts name json.no_items = Some (record { name = name; extra = None })
-event_of_parts name (json.item d json.no_items) = option_map (λ x. record { name = name; extra = Some x }) (data_from d)
+event_of_parts name (json.item d json.no_items) =
+    option_map (λ x. record { name = name; extra = Some x }) (data_from d)
 event_of_parts name (json.item d (json.item e ds)) = None
 
 abbrev pub event_of_items : json.Items → Option PlainEvent
@@ -43,8 +45,12 @@ abbrev pub event_from : json.Data → Option PlainEvent
 event_from d = option_and_then event_of_items (as_array d)
 
 abbrev pub within_limits : PlainEvent → Option PlainEvent
-within_limits e = if nat_le (event_weight e) event.MOST_WEIGHT && nat_le (event_nesting e) event.MOST_NESTING then Some e else None
+within_limits e =
+    if nat_le (event_weight e) event.MOST_WEIGHT && nat_le (event_nesting e) event.MOST_NESTING then Some e
+    else None
 
 -- the event that these bytes are the text of
 abbrev pub event_at : List ℕ → Option PlainEvent
-event_at bytes = if is_utf8 bytes then option_and_then within_limits (option_and_then event_from (read bytes)) else None
+event_at bytes =
+    if is_utf8 bytes then option_and_then within_limits (option_and_then event_from (read bytes))
+    else None

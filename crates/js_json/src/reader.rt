@@ -137,7 +137,8 @@ fn fields_of(
 }
 
 fn parts_of(alloc: Global, json: &Json) -> Result<Option<(Text, Option<Data>)>, Memory>
-    ensures { IfOk result (λ o. option_map (λ p. record { name = p.0; extra = option_map plain_data p.1 }) o
+    ensures { IfOk result
+        (λ o. option_map (λ p. record { name = p.0; extra = option_map plain_data p.1 }) o
         ≡ event_from (view json.now)) }
 {
     match json.as_array() {
@@ -147,7 +148,8 @@ fn parts_of(alloc: Global, json: &Json) -> Result<Option<(Text, Option<Data>)>, 
 }
 
 fn parts_of_items(alloc: Global, items: &Vec<Json>) -> Result<Option<(Text, Option<Data>)>, Memory>
-    ensures { IfOk result (λ o. option_map (λ p. record { name = p.0; extra = option_map plain_data p.1 }) o
+    ensures { IfOk result
+        (λ o. option_map (λ p. record { name = p.0; extra = option_map plain_data p.1 }) o
         ≡ event_of_items (items_view items.now.items)) }
 {
     match items.as_slice() {
