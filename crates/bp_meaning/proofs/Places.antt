@@ -47,7 +47,8 @@ pub nested_block : statement_of
     })
 nested_block = refl
 
--- {requests: a}: a word that is no key; {request: [[a]]}: a list in a list; {request: bp.all}: a set; and what is no fields
+-- {requests: a}: a word that is no key; {request: [[a]]}: a list in a list; {request: bp.all}: a set;
+-- and what is no fields
 pub unknown_key : statement_of (one_field (codes "requests") (v.event a)) v.undefined ≡ None
 unknown_key = refl
 
@@ -87,7 +88,8 @@ interrupting_undefined = refl
 
 -- ---- bodies
 
--- bp.log.info("1"); bp.sync({}); bp.log.info("2"); bp.setInterruptHandler(f); bp.sync({}); bp.setInterruptHandler(g); bp.sync({requests: 1});  (the last on line 7)
+-- bp.log.info("1"); bp.sync({}); bp.log.info("2"); bp.setInterruptHandler(f); bp.sync({});
+-- bp.setInterruptHandler(g); bp.sync({requests: 1});  (the last on line 7)
 abbrev two_stops : List PlainNode
 two_stops =
     one (p.words (codes "1")) ∷ one (p.builtin form.LogInfo (0 ∷ [])) ∷ one (p.expression 1)

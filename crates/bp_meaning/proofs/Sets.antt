@@ -21,7 +21,8 @@ use Rattle.bp_meaning.specs.Membership.{member, Membership}
 abbrev predicate : ℕ → ℕ → PlainBody
 predicate line n = record { parameters = 1; slots = 1; captures = []; vars = []; content = p.one_value n; line = line }
 
--- the predicates: 0 is e => 1, on line 3; 1 is e => e.name === "y"; 2 is e => 1 / 0; 3 is e => { while (true) {} }; 4 is e => e.name === c with a captured c; 5 is e => bp.log.info(e)
+-- the predicates: 0 is e => 1, on line 3; 1 is e => e.name === "y"; 2 is e => 1 / 0; 3 is
+-- e => { while (true) {} }; 4 is e => e.name === c with a captured c; 5 is e => bp.log.info(e)
 abbrev base : Ground
 base =
     of_functions

@@ -29,7 +29,8 @@ outcome_of (js.went c s) = run.Outcome.Ended
 outcome_of (js.broken f line left) = run.Outcome.Broken f line
 outcome_of (js.violated text left) = run.Outcome.Violated text
 outcome_of (js.spent left) = run.Outcome.Spent
-outcome_of (js.stopped statement priority line left) = stopped_with (statement_of statement priority) line
+outcome_of (js.stopped statement priority line left) =
+    stopped_with (statement_of statement priority) line
 
 abbrev pub part_of : js.Outcome → Part Origin PlainSet
 part_of o = record { effects = map effect_of (js.effects_since o); outcome = outcome_of o }
@@ -46,8 +47,10 @@ handler_after earlier _ = earlier
 
 -- the handler that was set last, over all replies
 abbrev pub handler : Ground → ℕ → Origin → List PlainEvent → Option PlainValue
-handler base budget o replies = fold handler_after None (js.effects_of (evaluation base budget o replies))
+handler base budget o replies =
+    fold handler_after None (js.effects_of (evaluation base budget o replies))
 
 -- the run of the handler at the event that interrupted the body
 abbrev pub handling : Ground → ℕ → Origin → List PlainEvent → PlainEvent → Option Origin
-handling base budget o replies e = option_map (λ f. function Handler f (v.event e ∷ [])) (handler base budget o replies)
+handling base budget o replies e =
+    option_map (λ f. function Handler f (v.event e ∷ [])) (handler base budget o replies)

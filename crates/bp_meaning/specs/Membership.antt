@@ -24,7 +24,8 @@ truth_answered line _ = Err (NotTruth line)
 -- a predicate is called with the event, and with the whole budget
 abbrev pub asks_predicate : Ground → ℕ → ℕ → ValueList → PlainEvent → Membership
 asks_predicate base budget code captured e =
-    truth_answered (body_of base.program code).line (evaluation base budget (function Predicate (v.function code captured) (v.event e ∷ [])) [])
+    truth_answered (body_of base.program code).line
+    (evaluation base budget (function Predicate (v.function code captured) (v.event e ∷ [])) [])
 
 abbrev pub opposite : Membership → Membership
 opposite (Ok b) = Ok (not b)
@@ -37,7 +38,8 @@ exactly_one (Ok a) (Err f) = Err f
 exactly_one (Ok true) (Ok b) = Ok (not b)
 exactly_one (Ok false) (Ok b) = Ok b
 
--- From left to right: `any` and `or` ask up to the first yes, `and` up to the first no, and `xor` asks both. A fault is the answer.
+-- From left to right: `any` and `or` ask up to the first yes, `and` up to the first no, and `xor` asks
+-- both. A fault is the answer.
 abbrev mutual
   pub member : Ground → ℕ → PlainSet → PlainEvent → Membership
   member base budget (v.only f) e = Ok (same_event f e)
@@ -45,9 +47,15 @@ abbrev mutual
   member base budget v.all e = Ok true
   member base budget v.nothing e = Ok false
   member base budget (v.or s t) e =
-      elim (member base budget s e) [ Err f ↦ Err f | Ok b ↦ elim b [ true ↦ Ok true | false ↦ member base budget t e ] ]
+      elim (member base budget s e) [
+        | Err f ↦ Err f
+        | Ok b ↦ elim b [ true ↦ Ok true | false ↦ member base budget t e ]
+      ]
   member base budget (v.and s t) e =
-      elim (member base budget s e) [ Err f ↦ Err f | Ok b ↦ elim b [ true ↦ member base budget t e | false ↦ Ok false ] ]
+      elim (member base budget s e) [
+        | Err f ↦ Err f
+        | Ok b ↦ elim b [ true ↦ member base budget t e | false ↦ Ok false ]
+      ]
   member base budget (v.xor s t) e = exactly_one (member base budget s e) (member base budget t e)
   member base budget (v.negate s) e = opposite (member base budget s e)
   member base budget (v.predicate name code captured) e = asks_predicate base budget code captured e
@@ -55,4 +63,7 @@ abbrev mutual
   pub member_of_any : Ground → ℕ → SetList → PlainEvent → Membership
   member_of_any base budget v.no_sets e = Ok false
   member_of_any base budget (v.set_in s ss) e =
-      elim (member base budget s e) [ Err f ↦ Err f | Ok b ↦ elim b [ true ↦ Ok true | false ↦ member_of_any base budget ss e ] ]
+      elim (member base budget s e) [
+        | Err f ↦ Err f
+        | Ok b ↦ elim b [ true ↦ Ok true | false ↦ member_of_any base budget ss e ]
+      ]

@@ -13,7 +13,8 @@ use Rattle.bp_run.specs.Bodies.{Statement}
 -- the keys of a statement
 abbrev pub is_key : List ℕ → Bool
 is_key key =
-    bytes_eq key (codes "request") || bytes_eq key (codes "waitFor") || bytes_eq key (codes "block") || bytes_eq key (codes "interrupt")
+    bytes_eq key (codes "request") || bytes_eq key (codes "waitFor") || bytes_eq key (codes "block") ||
+    bytes_eq key (codes "interrupt")
 
 -- an event, if both are there
 abbrev pub events_with : Option PlainEvent → Option (List PlainEvent) → Option (List PlainEvent)
@@ -46,17 +47,28 @@ priority_stated v.undefined = Some (pos 0)
 priority_stated (v.whole n) = Some n
 priority_stated _ = None
 
-abbrev pub statement_with : Option (List PlainEvent) → Option PlainSet → Option PlainSet → Option PlainSet → Option ℤ → Option (Statement PlainSet)
+abbrev pub statement_with : Option (List PlainEvent) → Option PlainSet → Option PlainSet →
+    Option PlainSet → Option ℤ → Option (Statement PlainSet)
 statement_with (Some request) (Some wait_for) (Some block) (Some interrupt) (Some priority) =
-    Some (record { request = request; wait_for = wait_for; block = block; interrupt = interrupt; priority = priority })
+    Some (record {
+      request = request;
+      wait_for = wait_for;
+      block = block;
+      interrupt = interrupt;
+      priority = priority;
+    })
 statement_with _ _ _ _ _ = None
 
 abbrev pub statement_in : ValueFields → PlainValue → Option (Statement PlainSet)
 statement_in fs priority =
-    statement_with (requested (field_or_undefined fs (codes "request"))) (set_stated (field_or_undefined fs (codes "waitFor")))
-    (set_stated (field_or_undefined fs (codes "block"))) (set_stated (field_or_undefined fs (codes "interrupt"))) (priority_stated priority)
+    statement_with (requested (field_or_undefined fs (codes "request")))
+    (set_stated (field_or_undefined fs (codes "waitFor")))
+    (set_stated (field_or_undefined fs (codes "block")))
+    (set_stated (field_or_undefined fs (codes "interrupt"))) (priority_stated priority)
 
 -- fields with these keys alone; nothing where the two values are no statement
 abbrev pub statement_of : PlainValue → PlainValue → Option (Statement PlainSet)
-statement_of (v.fields fs) priority = if list_all (λ (f : List ℕ × PlainValue). is_key f.0) (fields_in fs) then statement_in fs priority else None
+statement_of (v.fields fs) priority =
+    if list_all (λ (f : List ℕ × PlainValue). is_key f.0) (fields_in fs) then statement_in fs priority
+    else None
 statement_of _ priority = None
