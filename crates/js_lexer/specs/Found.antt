@@ -20,9 +20,11 @@ IsFound piece (Ok (Token kind sort n)) = record {
 IsFound piece (Err (Refused flaw n)) = piece ≡ refused flaw n
 IsFound piece (Err Memory) = ⊤
 
--- so many bytes of a literal are read: what they stand for is behind the content, and what is left is the rest of it
+-- so many bytes of a literal are read: what they stand for is behind the content, and what is left is the
+-- rest of it
 pub record Read (quote : ℕ) (rest before after : List ℕ) (n : ℕ) : Type 0 where
-  pub same : (size : ℕ) → behind before size (literal quote 0 rest) ≡ behind after (size + n) (literal quote 0 (drop n rest))
+  pub same : (size : ℕ) → behind before size (literal quote 0 rest) ≡
+      behind after (size + n) (literal quote 0 (drop n rest))
   pub boundary : IsCharBoundary rest n
   pub some : 0 < n
 
@@ -34,5 +36,6 @@ stuck size (b ∷ bs) = refused Escape (1 + size)
 -- the content behind so many bytes, after a step
 abbrev pub IsRead : ℕ → List ℕ → List ℕ → List ℕ → ℕ → Result ℕ Stop → Type 0
 IsRead quote rest before after size (Ok n) = Read quote rest before after n
-IsRead quote rest before after size (Err (Refused flaw n)) = quoted (behind before size (literal quote 0 rest)) ≡ refused flaw n
+IsRead quote rest before after size (Err (Refused flaw n)) =
+    quoted (behind before size (literal quote 0 rest)) ≡ refused flaw n
 IsRead quote rest before after size (Err Memory) = ⊤

@@ -13,7 +13,8 @@ use Rattle.js_lexer.specs.Words.{all_words, all_marks}
 use Rattle.js_lexer.specs.Numbers.{base_of, number_size, number_value, is_unsupported_end}
 use Rattle.js_lexer.specs.Literals.{Literal, closed, unclosed, wrong, literal}
 
--- nothing; white space, a line end or a comment of so many bytes; a token of so many bytes; or a refusal so many bytes on
+-- nothing; white space, a line end or a comment of so many bytes; a token of so many bytes; or a refusal
+-- so many bytes on
 pub data Piece : Type 0 where
   nothing : Piece
   gap : ℕ → Piece
@@ -70,7 +71,8 @@ gap_or (suc n) other = gap (suc n)
 abbrev pub comment_or_mark : List ℕ → Piece
 comment_or_mark bs =
     if begins bs (codes "//") then gap (size_of_line bs) else (
-    if begins bs (codes "/*") then block (size_to_close (drop 2 bs)) else mark bs (front_in all_marks bs))
+    if begins bs (codes "/*") then block (size_to_close (drop 2 bs))
+    else mark bs (front_in all_marks bs))
 
 -- white space or a line end, or else these
 abbrev pub gap_or_mark : List ℕ → Piece
@@ -80,7 +82,8 @@ gap_or_mark bs = gap_or (blank_size bs) (gap_or (line_end_size bs) (comment_or_m
 abbrev pub front : List ℕ → Piece
 front [] = nothing
 front (b ∷ bs) =
-    if is_name_start b then token (name_kind (take (name_size (b ∷ bs)) (b ∷ bs))) (name_size (b ∷ bs)) else (
+    if is_name_start b then token (name_kind (take (name_size (b ∷ bs)) (b ∷ bs)))
+    (name_size (b ∷ bs)) else (
     if is_digit b then number (b ∷ bs) else (
     if is_quote b then quoted (literal b 0 bs) else (
     if nat_eq b backtick || is_dot_digit b bs then refused Unsupported 0 else gap_or_mark (b ∷ bs))))

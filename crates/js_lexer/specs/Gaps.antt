@@ -7,10 +7,12 @@ use Rattle.js_lexer.specs.Bytes.{begins}
 abbrev pub begins_separator : List ℕ → Bool
 begins_separator bs = begins bs (226 ∷ (128 ∷ (168 ∷ []))) || begins bs (226 ∷ (128 ∷ (169 ∷ [])))
 
--- how many bytes of white space stand in front: tab, vertical tab, form feed and space are 1, U+00A0 is 2, U+FEFF is 3
+-- how many bytes of white space stand in front: tab, vertical tab, form feed and space are 1, U+00A0 is 2,
+-- U+FEFF is 3
 abbrev pub blank_size : List ℕ → ℕ
 blank_size bs =
-    if begins bs (tab ∷ []) || begins bs (vertical_tab ∷ []) || begins bs (form_feed ∷ []) || begins bs (space ∷ []) then 1 else (
+    if begins bs (tab ∷ []) || begins bs (vertical_tab ∷ []) || begins bs (form_feed ∷ []) ||
+    begins bs (space ∷ []) then 1 else (
     if begins bs (194 ∷ (160 ∷ [])) then 2 else (
     if begins bs (239 ∷ (187 ∷ (191 ∷ []))) then 3 else 0))
 
@@ -46,4 +48,5 @@ size_of_line (b ∷ bs) = if nat_eq (line_end_size (b ∷ bs)) 0 then suc (size_
 -- how many bytes there are with the first */
 abbrev pub size_to_close : List ℕ → Option ℕ
 size_to_close [] = None
-size_to_close (b ∷ bs) = if begins (b ∷ bs) (codes "*/") then Some 2 else option_map suc (size_to_close bs)
+size_to_close (b ∷ bs) = if begins (b ∷ bs) (codes "*/") then Some 2
+    else option_map suc (size_to_close bs)

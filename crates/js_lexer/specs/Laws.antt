@@ -16,15 +16,19 @@ OneCutting bytes = (tokens others : List Token) → Cut bytes tokens → Cut byt
 
 -- a text is refused for one flaw at one place
 abbrev pub OneRefusal : List ℕ → Type 0
-OneRefusal bytes = (one other : Flaw) (here there : ℕ) → Refused bytes one here → Refused bytes other there → (one ≡ other) × (here ≡ there)
+OneRefusal bytes = (one other : Flaw) (here there : ℕ) → Refused bytes one here →
+    Refused bytes other there → (one ≡ other) × (here ≡ there)
 
 -- no text is both cut and refused
 abbrev pub NeverBoth : List ℕ → Type 0
-NeverBoth bytes = (tokens : List Token) (flaw : Flaw) (place : ℕ) → Cut bytes tokens → ¬ (Refused bytes flaw place)
+NeverBoth bytes = (tokens : List Token) (flaw : Flaw) (place : ℕ) → Cut bytes tokens →
+    ¬ (Refused bytes flaw place)
 
 -- each text is cut or refused
 abbrev pub CutOrRefused : List ℕ → Type 0
-CutOrRefused bytes = ((tokens : List Token) × Cut bytes tokens) ⊎ ((flaw : Flaw) × (place : ℕ) × Refused bytes flaw place)
+CutOrRefused bytes =
+    ((tokens : List Token) × Cut bytes tokens) ⊎ ((flaw : Flaw) × (place : ℕ) ×
+    Refused bytes flaw place)
 
 -- a name, a word and a mark hold the bytes that they are
 abbrev pub IsSpelled : Kind → List ℕ → Type 0
@@ -53,8 +57,10 @@ TokensInOrder bytes = (tokens : List Token) → Cut bytes tokens → ArePlaced b
 -- the entries with which the text begins have at most so many bytes
 abbrev pub none_longer : ℕ → List (List ℕ × ℕ) → List ℕ → Bool
 none_longer n [] bytes = true
-none_longer n (e ∷ es) bytes = (not (begins bytes e.0) || nat_le (length e.0) n) && none_longer n es bytes
+none_longer n (e ∷ es) bytes = (not (begins bytes e.0) || nat_le (length e.0) n) &&
+    none_longer n es bytes
 
 -- no mark with which the text begins is longer than the one that is read
 abbrev pub LongestMark : List ℕ → Type 0
-LongestMark bytes = (n : ℕ) → front_in all_marks bytes ≡ Some n → none_longer n (marks ++ unsupported_marks) bytes ≡ true
+LongestMark bytes = (n : ℕ) → front_in all_marks bytes ≡ Some n →
+    none_longer n (marks ++ unsupported_marks) bytes ≡ true

@@ -11,7 +11,8 @@ is_break b = nat_eq b line_feed || nat_eq b carriage_return
 
 -- the number that two and four hexadecimal digits in front are
 abbrev pub two_digits : List ℕ → Option ℕ
-two_digits (a ∷ (b ∷ bs)) = if is_digit_of 16 a && is_digit_of 16 b then Some (16 * digit_value a + digit_value b) else None
+two_digits (a ∷ (b ∷ bs)) = if is_digit_of 16 a && is_digit_of 16 b
+    then Some (16 * digit_value a + digit_value b) else None
 two_digits _ = None
 
 abbrev pub joined : Option ℕ → Option ℕ → Option ℕ
@@ -51,7 +52,8 @@ low_escape high None = None
 low_escape high (Some low) = if is_low low then character 11 (paired high low) else None
 
 abbrev pub second_half : ℕ → List ℕ → Option Escape
-second_half high bs = if begins bs (backslash ∷ (small_u ∷ [])) then low_escape high (four_digits (drop 2 bs)) else None
+second_half high bs = if begins bs (backslash ∷ (small_u ∷ []))
+    then low_escape high (four_digits (drop 2 bs)) else None
 
 -- behind u: four digits
 abbrev pub unit_escape : List ℕ → Option ℕ → Option Escape
@@ -61,12 +63,14 @@ unit_escape bs (Some n) = if is_high n then second_half n (drop 4 bs) else chara
 -- behind u{ : at least one digit, and }
 abbrev pub braced_escape : List ℕ → Option Escape
 braced_escape bs =
-    if nat_lt 0 (digits_size 16 bs) && begins (drop (digits_size 16 bs) bs) (close_brace ∷ []) then character (3 + digits_size 16 bs) (digits_value 16 0 bs)
+    if nat_lt 0 (digits_size 16 bs) && begins (drop (digits_size 16 bs) bs) (close_brace ∷ [])
+    then character (3 + digits_size 16 bs) (digits_value 16 0 bs)
     else None
 
 -- behind u
 abbrev pub unicode_escape : List ℕ → Option Escape
-unicode_escape bs = if begins bs (open_brace ∷ []) then braced_escape (drop 1 bs) else unit_escape bs (four_digits bs)
+unicode_escape bs = if begins bs (open_brace ∷ []) then braced_escape (drop 1 bs)
+    else unit_escape bs (four_digits bs)
 
 -- behind 0: no digit
 abbrev pub zero_escape : List ℕ → Option Escape
@@ -105,9 +109,11 @@ escape (b ∷ bs) =
 -- how many bytes that stand for themselves stand in front
 abbrev pub plain_size : ℕ → List ℕ → ℕ
 plain_size quote [] = 0
-plain_size quote (b ∷ bs) = if nat_eq b quote then 0 else (if is_break b then 0 else (if nat_eq b backslash then 0 else suc (plain_size quote bs)))
+plain_size quote (b ∷ bs) = if nat_eq b quote then 0
+    else (if is_break b then 0 else (if nat_eq b backslash then 0 else suc (plain_size quote bs)))
 
--- a literal from behind its quote on: its content, and how many bytes it has with the other quote; without that quote; or how many bytes
+-- a literal from behind its quote on: its content, and how many bytes it has with the other quote; without
+-- that quote; or how many bytes
 -- stand before the backslash of a wrong escape
 pub data Literal : Type 0 where
   closed : List ℕ → ℕ → Literal
@@ -137,6 +143,7 @@ literal quote skip [] = unclosed
 literal quote zero (b ∷ bs) =
     if nat_eq b quote then closed [] 1 else (
     if is_break b then unclosed else (
-    if nat_eq b backslash then if_escape bs (escape bs) (λ e. behind (spelled e.1) 1 (literal quote e.0 bs))
+    if nat_eq b backslash then if_escape bs (escape bs)
+    (λ e. behind (spelled e.1) 1 (literal quote e.0 bs))
     else behind (b ∷ []) 1 (literal quote 0 bs)))
 literal quote (suc skip) (b ∷ bs) = behind [] 1 (literal quote skip bs)

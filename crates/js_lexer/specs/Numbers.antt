@@ -1,4 +1,5 @@
--- Numbers: 0, a digit from 1 to 9 and digits, and 0x, 0o, 0b (or the capital letter) with digits of that base.
+-- Numbers: 0, a digit from 1 to 9 and digits, and 0x, 0o, 0b (or the capital letter) with digits of that
+-- base.
 use Rattle.std.specs.Prelude.{ℕ, suc, ◌+◌, ◌-◌, ◌*◌, nat_eq, nat_le, nat_lt, Bool, false, ◌&&◌, ◌||◌, List, [], ◌∷◌, drop, if◌then◌else◌}
 use Rattle.js_lexer.specs.Characters.{dot, digit_0, capital_a, capital_b, capital_e, capital_f, capital_o, capital_x, underscore, small_a, small_b, small_e, small_f, small_n, small_o, small_x}
 use Rattle.js_lexer.specs.Bytes.{is_digit}
@@ -21,11 +22,13 @@ digits_size base (b ∷ bs) = if is_digit_of base b then suc (digits_size base b
 -- the number that they are, behind digits that are `value`
 abbrev pub digits_value : ℕ → ℕ → List ℕ → ℕ
 digits_value base value [] = value
-digits_value base value (b ∷ bs) = if is_digit_of base b then digits_value base (base * value + digit_value b) bs else value
+digits_value base value (b ∷ bs) =
+    if is_digit_of base b then digits_value base (base * value + digit_value b) bs else value
 
 -- 0, one of two letters, and at least one digit of the base
 abbrev pub has_base : ℕ → ℕ → ℕ → List ℕ → Bool
-has_base base small capital (z ∷ (l ∷ (d ∷ bs))) = nat_eq z digit_0 && (nat_eq l small || nat_eq l capital) && is_digit_of base d
+has_base base small capital (z ∷ (l ∷ (d ∷ bs))) =
+    nat_eq z digit_0 && (nat_eq l small || nat_eq l capital) && is_digit_of base d
 has_base base small capital _ = false
 
 -- the base that the bytes in front say
@@ -45,10 +48,12 @@ decimal_value [] = 0
 decimal_value (b ∷ bs) = if nat_eq b digit_0 then 0 else digits_value 10 0 (b ∷ bs)
 
 abbrev pub number_size : List ℕ → ℕ
-number_size bs = if nat_eq (base_of bs) 10 then decimal_size bs else 2 + digits_size (base_of bs) (drop 2 bs)
+number_size bs = if nat_eq (base_of bs) 10 then decimal_size bs
+    else 2 + digits_size (base_of bs) (drop 2 bs)
 
 abbrev pub number_value : List ℕ → ℕ
-number_value bs = if nat_eq (base_of bs) 10 then decimal_value bs else digits_value (base_of bs) 0 (drop 2 bs)
+number_value bs = if nat_eq (base_of bs) 10 then decimal_value bs
+    else digits_value (base_of bs) 0 (drop 2 bs)
 
 -- what makes a number directly before it unsupported: . _ n, and behind a decimal one e E and digits
 abbrev pub is_unsupported_end : ℕ → ℕ → Bool

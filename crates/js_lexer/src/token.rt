@@ -22,8 +22,8 @@ pub enum Kind {
     Mark(Text),
 }
 
-// It is let go by one call, written out: so a function that lets a token go has one thing to show for it, and not
-// one for each kind.
+// It is let go by one call, written out: so a function that lets a token go has one thing to show for it,
+// and not one for each kind.
 impl Drop for Kind {
     fn drop(self) {
         match self {
@@ -96,7 +96,7 @@ pub enum Flaw {
 }
 
 /// What stands in front, before the text's end.
-#[derive(Debug, Drop)]
+#[derive(Drop)]
 pub enum Found {
     /// White space, a line end or a comment, of so many bytes.
     Gap(usize),
@@ -105,7 +105,7 @@ pub enum Found {
 }
 
 /// Why no token is answered: what is wrong and how many bytes on, or want of memory.
-#[derive(Debug, Clone, Copy, PartialEq, Eq)]
+#[derive(Clone, Copy)]
 pub enum Stop {
     /// A flaw so many bytes on.
     Refused(Flaw, usize),
