@@ -38,7 +38,8 @@ at_first reads [] = None
 at_first reads (t ∷ ts) = reads t ts
 
 -- behind the first token, which holds this; else there is no tree
-abbrev pub IsTaken : {A : Type 0} → (Token → Option A) → List Token → List Token → Result A Stop → Type 0
+abbrev pub IsTaken : {A : Type 0} → (Token → Option A) → List Token → List Token →
+    Result A Stop → Type 0
 IsTaken g before behind (Ok a) = (t : Token) × (before ≡ t ∷ behind) × (g t ≡ Some a)
 IsTaken g before behind (Err (NoTree left)) = first g before ≡ None
 IsTaken g before behind (Err Memory) = Unit {0}
