@@ -154,7 +154,8 @@ fn chain(
     requires measured { first.depth ≡ nesting (plain_expr first.tree) }
     requires within { first.depth ≤ inner + 1 }
     ensures { IsRead plain_expr nesting
-        (run (operated_step inner (readers inner) line level) (plain_expr first.tree)) (inner + 1) 0 cursor.old cursor.new result }
+        (run (operated_step inner (readers inner) line level) (plain_expr first.tree)) (inner + 1) 0
+        cursor.old cursor.new result }
 {
     let mut left = first;
     'more: loop {
@@ -453,7 +454,8 @@ fn declarator(cursor: &mut Cursor<'_>, kind: DeclareKind, inner: u32) -> Answer<
 #[cycle(descent)]
 #[tactic(auto, using(crate::proofs::Using::declarators_turn, crate::proofs::Using::map_push_declarator, crate::proofs::Using::deepest_push_declarator, crate::proofs::Using::next_declarator_stop))]
 fn declarators(cursor: &mut Cursor<'_>, kind: DeclareKind, inner: u32) -> Answer<Vec<Declarator>>
-    ensures { IsRead (λ ds. map plain_declarator ds.items) (λ ds. deepest_declarator (declarators_of ds))
+    ensures { IsRead (λ ds. map plain_declarator ds.items)
+        (λ ds. deepest_declarator (declarators_of ds))
         (declarators_of_kind inner (readers inner) kind) inner 1 cursor.old cursor.new result }
 {
     let tree = Vec::new(cursor.alloc);
