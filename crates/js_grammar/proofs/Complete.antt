@@ -1,5 +1,5 @@
 -- What is spelled with nesting within the room, the readers give.
-use Rattle.std.proofs.Common.{◌≡◌, ◌⊎◌, inl, inr, ℕ, zero, suc, ◌≤◌, ◌<◌, Bool, true, false, not, ◌&&◌, ◌||◌, if◌then◌else◌, List, [], ◌∷◌, ◌++◌, length, Option, Some, None, is_some, refl, ap, ◌∙◌, arith, append_assoc, append-nil}
+use Rattle.std.proofs.Common.{◌≡◌, ℕ, zero, suc, ◌≤◌, ◌<◌, Bool, true, false, not, ◌&&◌, ◌||◌, if◌then◌else◌, List, [], ◌∷◌, ◌++◌, length, Option, Some, None, is_some, refl, ap, ◌∙◌, arith, append_assoc, append-nil}
 use Rattle.std.proofs.lemmas.Bool.{le-leb}
 use Rattle.js_lexer.specs.declared.token.Token.{Token}
 use Rattle.js_lexer.specs.declared.token.Kind.{Kind}
@@ -177,16 +177,7 @@ pub paren-unnamed : (t : Token) → sort t ≡ LeftParen → named t ≡ None
 unfolding named sort
 paren-unnamed t h = name-none t.kind (spot t) h
 
-declare-from : (k : Sort) (d : DeclareKind) → sort_declare k ≡ Some d → (k ≡ Const) ⊎ ((k ≡ Let) ⊎ (k ≡ Var))
-declare-from Const d h = inl refl
-declare-from Let d h = inr (inl refl)
-declare-from Var d h = inr (inr refl)
-declare-from _ d h = cc
-
 -- one step each
-
-within-yes : {B : Type 0} (n room : ℕ) (o : Option B) → n ≤ room → within n room o ≡ o
-within-yes n room o h = rw (le-leb n room h) refl
 
 less-back : (b : Bool) (n m : ℕ) → one_less_if b n ≤ m → n ≤ suc m
 less-back true n m h = omega arith

@@ -117,14 +117,7 @@ one_more-sound : (t : Token) (ts r : List Token) (n : ℕ) (u : Token) (e : Plai
     sort u ≡ RightParen → ReadsExpr (suc n) Primary (t ∷ ts) (exprs.one_more e) r
 one_more-sound t ts r n u (at p line f) h s k = (round h s.0 k, omega (arith, s.1))
 
-pub less-one : (b : Bool) (n m : ℕ) → n ≤ suc m → one_less_if b n ≤ suc m
-less-one true n m h = omega arith
-less-one false n m h = h
-
 -- tests that speak of one thing
-
-is_some-some : {A : Type 0} (o : Option A) (x : A) → o ≡ Some x → is_some o ≡ true
-is_some-some o x h = rw h refl
 
 sign_absent : (t : Token) (ts : List Token) → sign t ≡ None → step t ≡ None → starts_sign (t ∷ ts) ≡ false
 sign_absent t ts h k = rw (h, k) refl

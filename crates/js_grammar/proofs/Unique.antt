@@ -1,24 +1,16 @@
 -- Tokens spell at most one tree, and what reading all of them says of it.
 use Rattle.std.proofs.Common.{◌≡◌, ℕ, suc, max, List, [], Some, None, ap, subst, arith}
 use Rattle.js_lexer.specs.declared.token.Token.{Token}
-use Rattle.js_tree.specs.Plain.{PlainExpr, PlainItem}
-use Rattle.js_tree.specs.Nesting.{nesting, deepest_item}
-use Rattle.js_grammar.specs.Grammar.{Level, Spells, SpellsTree}
+use Rattle.js_tree.specs.Plain.{PlainItem}
+use Rattle.js_tree.specs.Nesting.{deepest_item}
+use Rattle.js_grammar.specs.Grammar.{SpellsTree}
 use Rattle.js_grammar.specs.Trees.{IsTree, HasNoTree}
 use Rattle.js_grammar.specs.Statements as stmts
 use Rattle.js_grammar.specs.Reading.{Found}
 use Rattle.js_grammar.specs.Reader.{readers}
 use Rattle.js_grammar.proofs.Steps.{Gives}
 use Rattle.js_grammar.proofs.Sound.{readers-sound, items-sound, AllItems}
-use Rattle.js_grammar.proofs.Complete.{spells-read, items-read}
-
-pub spelled_once : (l : Level) (ts : List Token) (e e' : PlainExpr) (r r' : List Token) → Spells l ts e r → Spells l ts e' r' → (e ≡ e') × (r ≡ r')
-spelled_once l ts e e' r r' d d' =
-    let n = max (nesting e) (nesting e') in
-    let left : (readers n).expr l ts ≡ Some (e, r) = spells-read d n (omega arith) in
-    let right : (readers n).expr l ts ≡ Some (e', r') = spells-read d' n (omega arith) in
-    let same : ◌≡◌ {A = PlainExpr × List Token} (e, r) (e', r') = cc in
-    (ap (λ (x : PlainExpr × List Token). x.0) same, ap (λ (x : PlainExpr × List Token). x.1) same)
+use Rattle.js_grammar.proofs.Complete.{items-read}
 
 pub tree_once : (ts : List Token) (is is' : List PlainItem) → SpellsTree ts is → SpellsTree ts is' → is ≡ is'
 tree_once ts is is' d d' =

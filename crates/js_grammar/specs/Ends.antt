@@ -21,10 +21,12 @@ can_continue Update Sort.Plus = true
 can_continue Update Sort.Minus = true
 can_continue _ _ = false
 
--- `;` may be absent here: before `}`, at the text's end, and before a token on another line that does not go on with the statement
+-- `;` may be absent here: before `}`, at the text's end, and before a token on another line that does not
+-- go on with the statement
 abbrev pub end_absent : Ending → List Token → Bool
 end_absent ending [] = true
-end_absent ending (t ∷ ts) = is Sort.RightBrace t || (t.new_line && not (is Sort.Semicolon t) && not (can_continue ending (sort t)))
+end_absent ending (t ∷ ts) = is Sort.RightBrace t ||
+    (t.new_line && not (is Sort.Semicolon t) && not (can_continue ending (sort t)))
 
 -- a `return` ends here without a value
 abbrev pub ends_return : List Token → Bool

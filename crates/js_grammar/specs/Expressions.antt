@@ -33,11 +33,13 @@ one_more (at n line form) = at (suc n) line form
 module _ (room : ℕ) (inner : Readers) where
   abbrev pub next_element : Sort → List PlainExpr → List Token → Option (Turn (List PlainExpr))
   next_element c es [] = None
-  next_element c es (t ∷ ts) = if is c t then Some (done es ts) else (if is Comma t then Some (again es ts) else None)
+  next_element c es (t ∷ ts) = if is c t then Some (done es ts)
+      else (if is Comma t then Some (again es ts) else None)
 
   abbrev pub elements_step : Sort → List PlainExpr → List Token → Option (Turn (List PlainExpr))
   elements_step c es [] = None
-  elements_step c es (t ∷ ts) = if is c t then Some (done es ts) else and_then (inner.expr Assignment (t ∷ ts)) (λ e r. next_element c (es ++ e ∷ []) r)
+  elements_step c es (t ∷ ts) = if is c t then Some (done es ts)
+      else and_then (inner.expr Assignment (t ∷ ts)) (λ e r. next_element c (es ++ e ∷ []) r)
 
   abbrev pub elements : Sort → List Token → Found (List PlainExpr)
   elements c ts = run (elements_step c) [] ts
@@ -47,18 +49,23 @@ module _ (room : ℕ) (inner : Readers) where
 
   -- a name alone
   abbrev pub field_alone : Token → List Token → Found PlainField
-  field_alone t ts = within 1 room (if_some (named t) (λ x. Some (record { key = x.text; value = at 0 t.line (p.use_of x) }, ts)))
+  field_alone t ts =
+      within 1 room (if_some (named t)
+      (λ x. Some (record { key = x.text; value = at 0 t.line (p.use_of x) }, ts)))
 
   abbrev pub field_at : Token → List Token → Found PlainField
-  field_at t ts = if starts Colon ts then if_some (key t) (λ x. pair_at x (tail ts)) else field_alone t ts
+  field_at t ts = if starts Colon ts then if_some (key t) (λ x. pair_at x (tail ts))
+      else field_alone t ts
 
   abbrev pub next_field : List PlainField → List Token → Option (Turn (List PlainField))
   next_field fs [] = None
-  next_field fs (t ∷ ts) = if is RightBrace t then Some (done fs ts) else (if is Comma t then Some (again fs ts) else None)
+  next_field fs (t ∷ ts) = if is RightBrace t then Some (done fs ts)
+      else (if is Comma t then Some (again fs ts) else None)
 
   abbrev pub fields_step : List PlainField → List Token → Option (Turn (List PlainField))
   fields_step fs [] = None
-  fields_step fs (t ∷ ts) = if is RightBrace t then Some (done fs ts) else and_then (field_at t ts) (λ f r. next_field (fs ++ f ∷ []) r)
+  fields_step fs (t ∷ ts) = if is RightBrace t then Some (done fs ts)
+      else and_then (field_at t ts) (λ f r. next_field (fs ++ f ∷ []) r)
 
   abbrev pub fields : List Token → Found (List PlainField)
   fields ts = run fields_step [] ts
@@ -66,11 +73,13 @@ module _ (room : ℕ) (inner : Readers) where
   abbrev pub value_at : PlainDeclarator → DeclareKind → Name → List Token → Found PlainDeclarator
   value_at alone k x [] = if is_const k then None else Some (alone, [])
   value_at alone k x (t ∷ ts) = if is Set t
-      then and_then (inner.expr Assignment ts) (λ e r. Some (record { name = x; value = present e; end = end_before ts r }, r))
+      then and_then (inner.expr Assignment ts)
+      (λ e r. Some (record { name = x; value = present e; end = end_before ts r }, r))
       else (if is_const k then None else Some (alone, t ∷ ts))
 
   abbrev pub declarator_at : DeclareKind → Token → List Token → Found PlainDeclarator
-  declarator_at k t ts = if_some (named t) (λ x. value_at (record { name = x; value = absent; end = t.to }) k x ts)
+  declarator_at k t ts =
+      if_some (named t) (λ x. value_at (record { name = x; value = absent; end = t.to }) k x ts)
 
   abbrev pub declarator : DeclareKind → List Token → Found PlainDeclarator
   declarator k [] = None
@@ -80,14 +89,16 @@ module _ (room : ℕ) (inner : Readers) where
   next_declarator ds [] = Some (done ds [])
   next_declarator ds (t ∷ ts) = if is Comma t then Some (again ds ts) else Some (done ds (t ∷ ts))
 
-  abbrev pub declarators_step : DeclareKind → List PlainDeclarator → List Token → Option (Turn (List PlainDeclarator))
+  abbrev pub declarators_step : DeclareKind → List PlainDeclarator → List Token →
+      Option (Turn (List PlainDeclarator))
   declarators_step k ds ts = and_then (declarator k ts) (λ d r. next_declarator (ds ++ d ∷ []) r)
 
   abbrev pub declarators_of_kind : DeclareKind → List Token → Found (List PlainDeclarator)
   declarators_of_kind k ts = run (declarators_step k) [] ts
 
   abbrev pub statements_step : List PlainStmt → List Token → Option (Turn (List PlainStmt))
-  statements_step ss ts = if starts_end ts then Some (done ss ts) else and_then (inner.stmt ts) (λ s r. Some (again (ss ++ s ∷ []) r))
+  statements_step ss ts = if starts_end ts then Some (done ss ts)
+      else and_then (inner.stmt ts) (λ s r. Some (again (ss ++ s ∷ []) r))
 
   abbrev pub statements : List Token → Found (List PlainStmt)
   statements ts = run statements_step [] ts
@@ -97,10 +108,13 @@ module _ (room : ℕ) (inner : Readers) where
   closed_statements ts = and_then (statements ts) (λ ss r. after RightBrace r (λ m. Some (ss, m)))
 
   abbrev pub round_at : List Token → Found PlainExpr
-  round_at ts = and_then (inner.expr Assignment ts) (λ e r. after RightParen r (λ m. Some (one_more e, m)))
+  round_at ts = and_then (inner.expr Assignment ts)
+      (λ e r. after RightParen r (λ m. Some (one_more e, m)))
 
   abbrev pub function_at : Token → List Token → Found PlainExpr
-  function_at t ts = and_then (opening ts) (λ xs r. and_then (closed_statements r) (λ ss m. Some (at 0 t.line (p.function (spot t) xs (stmts_of ss)), m)))
+  function_at t ts =
+      and_then (opening ts) (λ xs r. and_then (closed_statements r)
+      (λ ss m. Some (at 0 t.line (p.function (spot t) xs (stmts_of ss)), m)))
 
   abbrev pub primary_at : Sort → Token → List Token → Found PlainExpr
   primary_at Sort.Number t ts = number_at t ts
@@ -110,8 +124,10 @@ module _ (room : ℕ) (inner : Readers) where
   primary_at False t ts = Some (at 0 t.line (p.truth false), ts)
   primary_at Null t ts = Some (at 0 t.line p.null, ts)
   primary_at LeftParen t ts = round_at ts
-  primary_at LeftBracket t ts = and_then (elements RightBracket ts) (λ es r. Some (at 0 t.line (p.list (exprs_of es)), r))
-  primary_at LeftBrace t ts = and_then (fields ts) (λ fs r. Some (at 0 t.line (p.fields (fields_of fs)), r))
+  primary_at LeftBracket t ts =
+      and_then (elements RightBracket ts) (λ es r. Some (at 0 t.line (p.list (exprs_of es)), r))
+  primary_at LeftBrace t ts =
+      and_then (fields ts) (λ fs r. Some (at 0 t.line (p.fields (fields_of fs)), r))
   primary_at Function t ts = function_at t ts
   primary_at _ t ts = None
 
@@ -120,13 +136,19 @@ module _ (room : ℕ) (inner : Readers) where
   primary (t ∷ ts) = primary_at (sort t) t ts
 
   abbrev pub member_turn : ℕ → PlainExpr → List Token → Option (Turn PlainExpr)
-  member_turn line e ts = within (one_less_if (is_object_name e) (nesting e)) room (after_some member_word ts (λ x r. Some (again (at 0 line (p.member e x)) r)))
+  member_turn line e ts =
+      within (one_less_if (is_object_name e) (nesting e)) room
+      (after_some member_word ts (λ x r. Some (again (at 0 line (p.member e x)) r)))
 
   abbrev pub index_turn : ℕ → PlainExpr → List Token → Option (Turn PlainExpr)
-  index_turn line e ts = within (nesting e) room (and_then (inner.expr Assignment ts) (λ i r. after RightBracket r (λ m. Some (again (at 0 line (p.index e i)) m))))
+  index_turn line e ts =
+      within (nesting e) room (and_then (inner.expr Assignment ts)
+      (λ i r. after RightBracket r (λ m. Some (again (at 0 line (p.index e i)) m))))
 
   abbrev pub call_turn : ℕ → PlainExpr → List Token → Option (Turn PlainExpr)
-  call_turn line e ts = within (one_less_if (is_member e) (nesting e)) room (and_then (elements RightParen ts) (λ es r. Some (again (at 0 line (p.call e (exprs_of es))) r)))
+  call_turn line e ts =
+      within (one_less_if (is_member e) (nesting e)) room
+      (and_then (elements RightParen ts) (λ es r. Some (again (at 0 line (p.call e (exprs_of es))) r)))
 
   abbrev pub called_at : ℕ → PlainExpr → Sort → List Token → List Token → Option (Turn PlainExpr)
   called_at line e Dot all ts = member_turn line e ts
@@ -150,15 +172,19 @@ module _ (room : ℕ) (inner : Readers) where
 
   abbrev pub unary_at : Option Sign → Token → List Token → Found PlainExpr
   unary_at None t ts = step_at (step t) t ts
-  unary_at (Some s) t ts = and_then (inner.expr (Operators 0) ts) (λ e r. Some (at 0 t.line (p.unary s e), r))
+  unary_at (Some s) t ts = and_then (inner.expr (Operators 0) ts)
+      (λ e r. Some (at 0 t.line (p.unary s e), r))
 
   abbrev pub signed : List Token → Found PlainExpr
   signed [] = None
   signed (t ∷ ts) = unary_at (sign t) t ts
 
-  abbrev pub operated_at : ℕ → ℕ → PlainExpr → Option Operator → List Token → List Token → Option (Turn PlainExpr)
+  abbrev pub operated_at : ℕ → ℕ → PlainExpr → Option Operator → List Token → List Token →
+      Option (Turn PlainExpr)
   operated_at line k a None all ts = Some (done a all)
-  operated_at line k a (Some op) all ts = within (nesting a) room (and_then (inner.expr (Operators k) ts) (λ b r. Some (again (at 0 line (p.binary op a b)) r)))
+  operated_at line k a (Some op) all ts =
+      within (nesting a) room (and_then (inner.expr (Operators k) ts)
+      (λ b r. Some (again (at 0 line (p.binary op a b)) r)))
 
   abbrev pub operated_step : ℕ → ℕ → PlainExpr → List Token → Option (Turn PlainExpr)
   operated_step line k a [] = Some (done a [])
@@ -171,7 +197,9 @@ module _ (room : ℕ) (inner : Readers) where
   abbrev pub choice_after : ℕ → PlainExpr → List Token → Found PlainExpr
   choice_after line a [] = Some (a, [])
   choice_after line a (t ∷ ts) = if is Question t
-      then within (nesting a) room (and_then (inner.expr Assignment ts) (λ b r. after Colon r (λ m. and_then (inner.expr Assignment m) (λ c l. Some (at 0 line (p.conditional a b c), l)))))
+      then within (nesting a) room (and_then (inner.expr Assignment ts)
+      (λ b r. after Colon r
+      (λ m. and_then (inner.expr Assignment m) (λ c l. Some (at 0 line (p.conditional a b c), l)))))
       else Some (a, t ∷ ts)
 
   abbrev pub choice : List Token → Found PlainExpr
@@ -180,18 +208,23 @@ module _ (room : ℕ) (inner : Readers) where
   abbrev pub body : Token → List Name → List Token → Found PlainExpr
   body t xs [] = None
   body t xs (u ∷ ts) = if is LeftBrace u
-      then and_then (closed_statements ts) (λ ss m. Some (at 0 t.line (p.arrow_block (spot t) xs (stmts_of ss)), m))
-      else and_then (inner.expr Assignment (u ∷ ts)) (λ e r. Some (at 0 t.line (p.arrow_value (spot t) xs e), r))
+      then and_then (closed_statements ts)
+      (λ ss m. Some (at 0 t.line (p.arrow_block (spot t) xs (stmts_of ss)), m))
+      else and_then (inner.expr Assignment (u ∷ ts))
+      (λ e r. Some (at 0 t.line (p.arrow_value (spot t) xs e), r))
 
   abbrev pub arrow : Token → List Token → Found PlainExpr
   arrow t ts = and_then (header (t ∷ ts)) (body t)
 
   abbrev pub assign_at : Token → List Token → Found PlainExpr
-  assign_at t ts = if_some (named t) (λ x. after_some assign_op ts (λ op m. and_then (inner.expr Assignment m) (λ e r. Some (at 0 t.line (p.assign op x e), r))))
+  assign_at t ts =
+      if_some (named t) (λ x. after_some assign_op ts
+      (λ op m. and_then (inner.expr Assignment m) (λ e r. Some (at 0 t.line (p.assign op x e), r))))
 
   abbrev pub assignment : List Token → Found PlainExpr
   assignment [] = None
-  assignment (t ∷ ts) = if starts_function (t ∷ ts) then arrow t ts else (if starts_assign (t ∷ ts) then assign_at t ts else choice (t ∷ ts))
+  assignment (t ∷ ts) = if starts_function (t ∷ ts) then arrow t ts
+      else (if starts_assign (t ∷ ts) then assign_at t ts else choice (t ∷ ts))
 
   abbrev pub level : Level → List Token → Found PlainExpr
   level Primary ts = primary ts

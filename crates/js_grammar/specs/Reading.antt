@@ -36,7 +36,8 @@ after k [] f = None
 after k (t ∷ ts) f = if is k t then f ts else None
 
 -- goes on behind a token that holds something, as a name
-abbrev pub after_some : {A B : Type 0} → (Token → Option A) → List Token → (A → List Token → Option B) → Option B
+abbrev pub after_some : {A B : Type 0} → (Token → Option A) → List Token →
+    (A → List Token → Option B) → Option B
 after_some g [] f = None
 after_some g (t ∷ ts) f = if_some (g t) (λ x. f x ts)
 
@@ -65,18 +66,21 @@ run step s ts = turns step (suc (length ts)) s ts
 -- `;`, or its absence
 abbrev pub ended_rest : Ending → List Token → Option (List Token)
 ended_rest ends [] = Some []
-ended_rest ends (t ∷ ts) = if is Semicolon t then Some ts else (if end_absent ends (t ∷ ts) then Some (t ∷ ts) else None)
+ended_rest ends (t ∷ ts) = if is Semicolon t then Some ts
+    else (if end_absent ends (t ∷ ts) then Some (t ∷ ts) else None)
 
 abbrev pub ended : {B : Type 0} → Ending → List Token → (List Token → Option B) → Option B
 ended ends ts f = if_some (ended_rest ends ts) f
 
 abbrev pub next_param : List Name → List Token → Option (Turn (List Name))
 next_param xs [] = None
-next_param xs (t ∷ ts) = if is RightParen t then Some (done xs ts) else (if is Comma t then Some (again xs ts) else None)
+next_param xs (t ∷ ts) = if is RightParen t then Some (done xs ts)
+    else (if is Comma t then Some (again xs ts) else None)
 
 abbrev pub params_step : List Name → List Token → Option (Turn (List Name))
 params_step xs [] = None
-params_step xs (t ∷ ts) = if is RightParen t then Some (done xs ts) else if_some (named t) (λ x. next_param (xs ++ x ∷ []) ts)
+params_step xs (t ∷ ts) = if is RightParen t then Some (done xs ts)
+    else if_some (named t) (λ x. next_param (xs ++ x ∷ []) ts)
 
 abbrev pub params : List Token → Found (List Name)
 params ts = run params_step [] ts
@@ -95,7 +99,8 @@ header (t ∷ ts) = header_at (named t) t ts
 
 -- the parameters of a function, and `{`
 abbrev pub opening : List Token → Found (List Name)
-opening ts = after LeftParen ts (λ ms. and_then (params ms) (λ xs r. after LeftBrace r (λ m. Some (xs, m))))
+opening ts =
+    after LeftParen ts (λ ms. and_then (params ms) (λ xs r. after LeftBrace r (λ m. Some (xs, m))))
 
 -- forms without parts
 
@@ -110,7 +115,8 @@ use_at t ts = if_some (named t) (λ x. Some (at 0 t.line (p.use_of x), ts))
 
 -- `++` or `--` behind a name
 abbrev pub postfix_at : Token → List Token → Found PlainExpr
-postfix_at t ts = if_some (named t) (λ x. after_some step ts (λ s r. Some (at 0 t.line (p.update s After x), r)))
+postfix_at t ts =
+    if_some (named t) (λ x. after_some step ts (λ s r. Some (at 0 t.line (p.update s After x), r)))
 
 abbrev pub break_at : Token → List Token → Found PlainStmt
 break_at t ts = ended Closed ts (λ z. Some (on t.line (p.break_of (spot t)), z))

@@ -22,56 +22,73 @@ module _ (room : ℕ) (inner : Readers) where
   body_at ts = if starts_lexical ts then None else inner.stmt ts
 
   abbrev pub test : List Token → Found PlainExpr
-  test ts = after LeftParen ts (λ r. and_then (inner.expr Assignment r) (λ e m. after RightParen m (λ l. Some (e, l))))
+  test ts = after LeftParen ts (λ r. and_then (inner.expr Assignment r)
+      (λ e m. after RightParen m (λ l. Some (e, l))))
 
   abbrev pub else_after : ℕ → PlainExpr → PlainStmt → List Token → Found PlainStmt
   else_after line e s [] = Some (on line (p.if_alone e s), [])
-  else_after line e s (t ∷ ts) = if is Else t then and_then (body_at ts) (λ z r. Some (on line (p.if_else e s z), r)) else Some (on line (p.if_alone e s), t ∷ ts)
+  else_after line e s (t ∷ ts) =
+      if is Else t then and_then (body_at ts) (λ z r. Some (on line (p.if_else e s z), r))
+      else Some (on line (p.if_alone e s), t ∷ ts)
 
   abbrev pub block_at : ℕ → List Token → Found PlainStmt
-  block_at line ts = and_then (closed_statements room inner ts) (λ ss m. Some (on line (p.block (stmts_of ss)), m))
+  block_at line ts = and_then (closed_statements room inner ts)
+      (λ ss m. Some (on line (p.block (stmts_of ss)), m))
 
   abbrev pub declaration_at : ℕ → DeclareKind → List Token → Found PlainStmt
-  declaration_at line k ts = and_then (declarators_of_kind room inner k ts) (λ ds l. ended (declarators_ending ds) l (λ z. Some (on line (p.declaration k (declarators_of ds)), z)))
+  declaration_at line k ts = and_then (declarators_of_kind room inner k ts)
+      (λ ds l. ended (declarators_ending ds) l
+      (λ z. Some (on line (p.declaration k (declarators_of ds)), z)))
 
   abbrev pub if_at : ℕ → List Token → Found PlainStmt
   if_at line ts = and_then (test ts) (λ e l. and_then (body_at l) (else_after line e))
 
   abbrev pub while_at : ℕ → List Token → Found PlainStmt
-  while_at line ts = and_then (test ts) (λ e l. and_then (body_at l) (λ s z. Some (on line (p.while_of e s), z)))
+  while_at line ts =
+      and_then (test ts) (λ e l. and_then (body_at l) (λ s z. Some (on line (p.while_of e s), z)))
 
   abbrev pub start_at : Option DeclareKind → Token → List Token → Found PlainStart
   start_at None t ts = and_then (inner.expr Assignment (t ∷ ts)) (λ e r. Some (p.started e, r))
-  start_at (Some k) t ts = and_then (inner.declarators k ts) (λ ds r. Some (p.declared t.line k (declarators_of ds), r))
+  start_at (Some k) t ts = and_then (inner.declarators k ts)
+      (λ ds r. Some (p.declared t.line k (declarators_of ds), r))
 
   abbrev pub start : List Token → Found PlainStart
   start [] = None
   start (t ∷ ts) = if is Semicolon t then Some (p.nothing, t ∷ ts) else start_at (declares t) t ts
 
   abbrev pub perhaps : Sort → List Token → Found PlainPerhaps
-  perhaps c ts = if starts c ts then Some (absent, ts) else and_then (inner.expr Assignment ts) (λ e r. Some (present e, r))
+  perhaps c ts = if starts c ts then Some (absent, ts)
+      else and_then (inner.expr Assignment ts) (λ e r. Some (present e, r))
 
   abbrev pub for_three_at : ℕ → List Token → Found PlainStmt
-  for_three_at line ts = and_then (start ts) (λ first r. after Semicolon r (λ ms. and_then (perhaps Semicolon ms) (λ e l.
-      after Semicolon l (λ ns. and_then (perhaps RightParen ns) (λ next m. after RightParen m (λ ls. and_then (body_at ls) (λ s z.
+  for_three_at line ts =
+      and_then (start ts) (λ first r. after Semicolon r (λ ms. and_then (perhaps Semicolon ms) (λ e l.
+      after Semicolon l (λ ns. and_then (perhaps RightParen ns)
+      (λ next m. after RightParen m (λ ls. and_then (body_at ls) (λ s z.
       Some (on line (p.for_three first e next s), z))))))))
 
   -- behind `of`
   abbrev pub of_at : ℕ → DeclareKind → Name → List Token → Found PlainStmt
-  of_at line k x ts = and_then (inner.expr Assignment ts) (λ e r. after RightParen r (λ m. and_then (body_at m) (λ s z. Some (on line (p.for_of k x e s), z))))
+  of_at line k x ts = and_then (inner.expr Assignment ts)
+      (λ e r. after RightParen r
+      (λ m. and_then (body_at m) (λ s z. Some (on line (p.for_of k x e s), z))))
 
   abbrev pub for_of_at : ℕ → List Token → Found PlainStmt
   for_of_at line ts = after_some lexical ts (λ k r. after_some named r (λ x m. of_at line k x (tail m)))
 
   abbrev pub for_at : ℕ → List Token → Found PlainStmt
-  for_at line ts = after LeftParen ts (λ r. if starts_for_of r then for_of_at line r else for_three_at line r)
+  for_at line ts =
+      after LeftParen ts (λ r. if starts_for_of r then for_of_at line r else for_three_at line r)
 
   abbrev pub return_at : Token → List Token → Found PlainStmt
-  return_at t ts = if ends_return ts then ended Closed ts (λ z. Some (on t.line (p.return_nothing (spot t)), z))
-      else and_then (inner.expr Assignment ts) (λ e l. ended (ending e) l (λ z. Some (on t.line (p.return_of (spot t) e), z)))
+  return_at t ts = if ends_return ts
+      then ended Closed ts (λ z. Some (on t.line (p.return_nothing (spot t)), z))
+      else and_then (inner.expr Assignment ts)
+      (λ e l. ended (ending e) l (λ z. Some (on t.line (p.return_of (spot t) e), z)))
 
   abbrev pub expression_at : Token → List Token → Found PlainStmt
-  expression_at t ts = and_then (inner.expr Assignment (t ∷ ts)) (λ e l. ended (ending e) l (λ z. Some (on t.line (p.expression e), z)))
+  expression_at t ts = and_then (inner.expr Assignment (t ∷ ts))
+      (λ e l. ended (ending e) l (λ z. Some (on t.line (p.expression e), z)))
 
   abbrev pub statement_at : Sort → Token → List Token → Found PlainStmt
   statement_at Semicolon t ts = Some (on t.line p.empty, ts)
@@ -94,11 +111,15 @@ module _ (room : ℕ) (inner : Readers) where
 
   -- a function declaration, behind its word; its statements are the parts
   abbrev pub item_function_at : Token → List Token → Found PlainItem
-  item_function_at t ts = after_some named ts (λ x r. and_then (opening r) (λ xs m. and_then (closed_statements room inner m) (λ ss z. Some (p.function_of (spot t) x xs (stmts_of ss), z))))
+  item_function_at t ts =
+      after_some named ts (λ x r. and_then (opening r)
+      (λ xs m. and_then (closed_statements room inner m)
+      (λ ss z. Some (p.function_of (spot t) x xs (stmts_of ss), z))))
 
   abbrev pub item : List Token → Found PlainItem
   item [] = None
-  item (t ∷ ts) = if is Function t then item_function_at t ts else and_then (statement (t ∷ ts)) (λ s r. Some (p.statement s, r))
+  item (t ∷ ts) = if is Function t then item_function_at t ts
+      else and_then (statement (t ∷ ts)) (λ s r. Some (p.statement s, r))
 
   abbrev pub items_step : List PlainItem → List Token → Option (Turn (List PlainItem))
   items_step is [] = Some (done is [])

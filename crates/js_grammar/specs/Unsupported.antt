@@ -11,7 +11,8 @@ use Rattle.js_grammar.specs.Tokens.{starts}
 abbrev pub is_prototype : List ℕ → Bool → Bool
 is_prototype text colon = colon && bytes_eq text (codes "__proto__")
 
--- by whether the sort is refused, and whether a colon stands directly behind: a refused word may be a key there, a mark may not
+-- by whether the sort is refused, and whether a colon stands directly behind: a refused word may be a key
+-- there, a mark may not
 abbrev pub is_refused : Kind → Bool → Bool → Bool
 is_refused (Kind.Name text) unsupported colon = is_prototype text colon
 is_refused (Kind.Words text) unsupported colon = is_prototype text colon
@@ -23,4 +24,5 @@ is_refused (Kind.Number n) unsupported colon = false
 abbrev pub first_unsupported : Bool → List Token → Option ℕ
 first_unsupported dot [] = None
 first_unsupported dot (t ∷ ts) =
-    if not dot && is_refused t.kind (is Sort.Unsupported t) (starts Sort.Colon ts) then Some t.line else first_unsupported (is Sort.Dot t) ts
+    if not dot && is_refused t.kind (is Sort.Unsupported t) (starts Sort.Colon ts) then Some t.line
+    else first_unsupported (is Sort.Dot t) ts
