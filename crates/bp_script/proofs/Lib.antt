@@ -1,3 +1,4 @@
 pub mod Places
 pub mod Once
 pub mod Programs
+pub mod Refused

@@ -15,7 +15,7 @@ use Rattle.bp_script.specs.Programs.{AreCut, AreSpelled, AreAccepted, HasFlaw, H
 use Rattle.js_names.specs.declared.place.NameFault.{NameFault}
 use Rattle.js_names.specs.Rules.{name_fault}
 
-same_tokens : (bytes : List ℕ) (a b : List Token) → AreCut bytes a → AreCut bytes b → a ≡ b
+pub same_tokens : (bytes : List ℕ) (a b : List Token) → AreCut bytes a → AreCut bytes b → a ≡ b
 same_tokens bytes a b h k = one_cutting bytes a b h.cut k.cut
 
 pub same_tree : (bytes : List ℕ) (a b : List PlainItem) → AreSpelled bytes a → AreSpelled bytes b → a ≡ b
@@ -24,7 +24,7 @@ same_tree bytes a b h k =
     let t : IsTree MOST_NESTING k.tokens a = subst (λ (ts : List Token). IsTree MOST_NESTING ts a) same h.spelled in
     tree_once k.tokens a b t.spelled (k.spelled).spelled
 
-some_none : {A : Type 0} (x : A) → Some x ≡ None → ⊥
+pub some_none : {A : Type 0} (x : A) → Some x ≡ None → ⊥
 some_none x h = cc
 
 no_flaw : (bytes : List ℕ) (tree : List PlainItem) (f : Flaw) (line : ℕ) → AreSpelled bytes tree → HasFlaw bytes f line → ⊥

@@ -1,3 +1,4 @@
 pub mod Refusals
 pub mod Programs
 pub mod Faults
+pub mod Laws
