@@ -5,12 +5,11 @@ use Rattle.js_program.specs.PlainProgram.{PlainProgram, PlainConstant, of_functi
 use Rattle.js_names.specs.declared.place.Declared.{Declared}
 use Rattle.js_names.specs.declared.place.NameFault.{NameFault}
 use Rattle.js_names.specs.Entries.{top}
-use Rattle.js_names.specs.Spots.{program_spot}
 use Rattle.js_names.specs.Places.{Place, places, is_var}
 use Rattle.js_names.specs.Slots.{assigned_in, constants_of}
 use Rattle.js_names.specs.Rules.{name_fault}
 use Rattle.js_resolver.specs.Variables.{code_at, body_of, first_some}
-use Rattle.js_resolver.specs.Pieces.{Piece}
+use Rattle.js_resolver.specs.Tables.{first_line}
 use Rattle.js_resolver.specs.Nodes.{items_piece}
 
 -- a function declaration whose name stands at a place is a constant with its value from the start
@@ -29,17 +28,20 @@ constant_of items ps v =
     first_some (first_some undeclared (map (λ (p : Place). constant_there v p.declared) ps))
     (map (function_named ps v) items)
 
-abbrev pub program_with : List PlainItem → List Place → Piece → PlainProgram
-program_with items ps x = record {
-  nodes = x.nodes;
-  functions = x.functions;
-  constants = map (constant_of items ps) (constants_of (assigned_in ps) ps);
-  top = body_of ps top 0 (statements x.parts) (program_spot items).line;
-}
+-- the program of these items, whose places these are
+abbrev pub program_from : List PlainItem → List Place → PlainProgram
+program_from items ps =
+    let x = items_piece ps 0 items in
+    record {
+      nodes = x.nodes;
+      functions = x.functions;
+      constants = map (constant_of items ps) (constants_of (assigned_in ps) ps);
+      top = body_of ps top 0 (statements x.parts) (first_line ps);
+    }
 
 -- the program of a tree
 unfoldable pub program_of_tree : List PlainItem → PlainProgram
-program_of_tree items = let ps = places items in program_with items ps (items_piece ps 0 items)
+program_of_tree items = program_from items (places items)
 
 abbrev pub unless_fault : Option NameFault → PlainProgram → Option PlainProgram
 unless_fault None p = Some p

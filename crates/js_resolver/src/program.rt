@@ -11,8 +11,8 @@ ghost use Rattle.js_names.specs.Views.{place_of};
 ghost use Rattle.js_names.specs.Held.{held_in};
 ghost use Rattle.js_resolver.specs.Emits.{Adds, count};
 ghost use Rattle.js_resolver.specs.Nodes.{items_piece};
-ghost use Rattle.js_resolver.specs.Parts.{parts_from, plain_parts};
-ghost use Rattle.js_resolver.specs.Resolved.{resolved};
+ghost use Rattle.js_resolver.specs.Parts.{plain_parts};
+ghost use Rattle.js_resolver.specs.Resolved.{program_from, resolved};
 ghost use Rattle.js_resolver.specs.Spelled.{IsSpelled};
 ghost use Rattle.js_resolver.specs.Tables.{first_line};
 ghost use Rattle.js_resolver.specs.Variables.{body_of};
@@ -51,7 +51,7 @@ fn emit_top(tables: &NameTables, emitter: &mut Emitter, items: &[Item]) -> Resul
 
 /// The parts of the program that these items are, from the tables of its names.
 fn parts_of(alloc: Global, tables: &NameTables, items: &[Item]) -> Result<Parts, AllocError>
-    ensures { IfOk result (λ p. plain_parts p ≡ parts_from (map plain_item items.now) tables.now) }
+    ensures { IfOk result (λ p. plain_parts p ≡ program_from (map plain_item items.now) tables.now) }
 {
     let constants = constant_starts(alloc, tables, items)?;
     let mut emitter = Emitter {
@@ -87,9 +87,9 @@ fn program_of_names(alloc: Global, names: Names, items: &[Item]) -> Result<Progr
     requires slots { (f : _) → held_in names.slots f
         ≡ slots_of (assigned_in (map place_of names.places.items)) f
         (map place_of names.places.items) }
-    requires sound { IsSound (parts_from (map plain_item items.now)
+    requires sound { IsSound (program_from (map plain_item items.now)
         (map place_of names.places.items)) }
-    ensures { IfOk result (λ p. p ≡ parts_from (map plain_item items.now)
+    ensures { IfOk result (λ p. p ≡ program_from (map plain_item items.now)
         (map place_of names.places.items)) }
 {
     let tables = NameTables::new(alloc, names)?;
