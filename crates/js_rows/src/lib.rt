@@ -14,6 +14,8 @@ mod rules;
 #[cfg(test)]
 mod slots;
 #[cfg(test)]
+mod tables;
+#[cfg(test)]
 mod tokens;
 #[cfg(test)]
 mod trees;
