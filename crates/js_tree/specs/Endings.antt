@@ -32,4 +32,5 @@ perhaps_ending (present e) = ending e
 
 -- that of the last one
 abbrev pub declarators_ending : List PlainDeclarator → Ending
-declarators_ending ds = fold (λ (before : Ending) (d : PlainDeclarator). perhaps_ending d.value) Closed ds
+declarators_ending ds =
+    fold (λ (before : Ending) (d : PlainDeclarator). perhaps_ending d.value) Closed ds

@@ -8,7 +8,8 @@ abbrev pub is_object : List ℕ → Bool
 is_object name = bytes_eq name (codes "bp") || bytes_eq name (codes "Math")
 
 abbrev pub is_log_of : PlainExpr → List ℕ → Bool
-is_log_of (at p line (use_of name)) word = bytes_eq name.text (codes "bp") && bytes_eq word (codes "log")
+is_log_of (at p line (use_of name)) word =
+    bytes_eq name.text (codes "bp") && bytes_eq word (codes "log")
 is_log_of _ word = false
 
 -- `bp`, `Math` or `bp.log`: before a dot it is a part of a form's name, and no level of its own
@@ -26,7 +27,8 @@ is_member _ = false
 abbrev pub one_less_if : Bool → ℕ → ℕ
 one_less_if b n = if b then n - 1 else n
 
--- each expression and statement is one level under the one that it is a part of, and one more for each pair of parentheses round it
+-- each expression and statement is one level under the one that it is a part of, and one more for each
+-- pair of parentheses round it
 abbrev mutual
   pub nesting : PlainExpr → ℕ
   nesting (at parens line form) = parens + suc (inside form)
@@ -65,7 +67,8 @@ abbrev mutual
 
   pub deepest_declarator : PlainDeclarators → ℕ
   deepest_declarator no_declarators = 0
-  deepest_declarator (declarator_in name value end ds) = max (perhaps_nesting value) (deepest_declarator ds)
+  deepest_declarator (declarator_in name value end ds) =
+      max (perhaps_nesting value) (deepest_declarator ds)
 
   -- a declaration in the head of a `for` is a level
   pub start_nesting : PlainStart → ℕ
@@ -84,7 +87,9 @@ abbrev mutual
   inside_stmt (if_alone e s) = max (nesting e) (stmt_nesting s)
   inside_stmt (if_else e s other) = max (nesting e) (max (stmt_nesting s) (stmt_nesting other))
   inside_stmt (while_of e s) = max (nesting e) (stmt_nesting s)
-  inside_stmt (for_three start test next s) = max (start_nesting start) (max (perhaps_nesting test) (max (perhaps_nesting next) (stmt_nesting s)))
+  inside_stmt (for_three start test next s) =
+      max (start_nesting start)
+      (max (perhaps_nesting test) (max (perhaps_nesting next) (stmt_nesting s)))
   inside_stmt (for_of kind name e s) = max (nesting e) (stmt_nesting s)
   inside_stmt (break_of spot) = 0
   inside_stmt (continue_of spot) = 0

@@ -10,7 +10,8 @@ use Rattle.js_tree.specs.declared.tree.AssignOp.{AssignOp}
 use Rattle.js_tree.specs.declared.tree.DeclareKind.{DeclareKind}
 
 mutual
-  -- an expression: how many pairs of parentheses stand round it, the line of its first token after them, and its form
+  -- an expression: how many pairs of parentheses stand round it, the line of its first token after them,
+  -- and its form
   pub data PlainExpr : Type 0 where
     at : ℕ → ℕ → PlainForm → PlainExpr
 

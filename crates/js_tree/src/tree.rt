@@ -1,4 +1,5 @@
-//! Trees: programs, statements and expressions, with the places and lines that later refusals and faults name.
+//! Trees: programs, statements and expressions, with the places and lines that later refusals and
+//! faults name.
 
 use js_data::{Text, Whole};
 
@@ -105,7 +106,8 @@ pub enum DeclareKind {
     Var,
 }
 
-/// An expression: its form, the number of pairs of parentheses round it, and the line of its first token after them.
+/// An expression: its form, the number of pairs of parentheses round it, and the line of its first
+/// token after them.
 #[derive(Drop)]
 #[cycle(tree)]
 pub struct Expr {
@@ -142,8 +144,8 @@ pub enum Form {
     Function(Spot, Vec<Name>, Vec<Stmt>),
 }
 
-// The forms are let go by one call each, written out: so a function that lets a tree go has one thing to show for
-// it, and not one for each form.
+// The forms are let go by one call each, written out: so a function that lets a tree go has one thing
+// to show for it, and not one for each form.
 impl Drop for Form {
     #[cycle(tree)]
     fn drop(self) {
