@@ -20,10 +20,12 @@ abbrev pub IsLineIn : List Token → ℕ → Type 0
 IsLineIn [] line = line ≡ 1
 IsLineIn (t ∷ ts) line = Contains (map (λ (x : Token). x.line) (t ∷ ts)) line
 
--- a token is refused, the first of them on the line; or none is, and no tree of nesting at most that of the limit is spelled
+-- a token is refused, the first of them on the line; or none is, and no tree of nesting at most that of
+-- the limit is spelled
 abbrev pub IsParseFault : List Token → ParseFault → Type 0
 IsParseFault ts (ParseFault.Unsupported line) = first_unsupported false ts ≡ Some line
-IsParseFault ts (ParseFault.NoTree line) = (first_unsupported false ts ≡ None) × HasNoTree MOST_NESTING ts × IsLineIn ts line
+IsParseFault ts (ParseFault.NoTree line) =
+    (first_unsupported false ts ≡ None) × HasNoTree MOST_NESTING ts × IsLineIn ts line
 IsParseFault ts ParseFault.Memory = Unit {0}
 
 -- what a program lists next, its nesting at most that of the limit
