@@ -1,12 +1,11 @@
 -- What passes the limit of weight by its parts alone.
-use Rattle.std.proofs.Common.{◌≡◌, ◌≤◌, ℕ, List, [], ◌∷◌, ◌++◌, length, Some, Err, refl, arith, length-append, ◌+◌}
+use Rattle.std.proofs.Common.{◌≡◌, ◌≤◌, List, [], ◌∷◌, length, Err, refl, arith}
 use Rattle.std.proofs.lemmas.Bool.{lt-ltb}
 use Rattle.js_data.specs.declared.fault.Fault.TheVariants as fault
 use Rattle.js_value.specs.Value as v
 use Rattle.js_value.specs.Value.{PlainValue, PlainSet, value_weight, value_list_weight, set_weight}
 use Rattle.js_value.specs.Lists.{value_list_of}
 use Rattle.js_ops.specs.Made.{made}
-use Rattle.js_ops.specs.Operators.{join}
 
 set_weighs : (s : PlainSet) → 1 ≤ set_weight s
 set_weighs (v.only e) = omega arith
@@ -38,7 +37,3 @@ list_weighs (x ∷ xs) = omega (arith, value_weighs x, list_weighs xs)
 -- a list of so many values passes the limit
 pub too_many : (xs : List PlainValue) → 65_536 ≤ length xs → made (v.list (value_list_of xs)) ≡ Err fault.Weight
 too_many xs h = rw (lt-ltb 65_536 (value_weight (v.list (value_list_of xs))) (omega (arith, h, list_weighs xs))) refl
-
--- and so do two texts with so many bytes together
-pub too_long : (s t : List ℕ) → 65_536 ≤ length s + length t → join (Some s) (Some t) ≡ Err fault.Weight
-too_long s t h = rw (lt-ltb 65_536 (value_weight (v.words (s ++ t))) (omega (arith, h, length-append s t))) refl
