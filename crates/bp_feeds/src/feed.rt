@@ -68,7 +68,7 @@ impl<S: Source> Feed<S> {
         self.lines.is_read() && self.kept.is_none()
     }
 
-    // Offers the item, or keeps it.
+    /// Offers the item, or keeps it.
     fn hand_over(&mut self, item: Item) -> Fed
         requires none { self.old.kept ≡ None }
         requires last { is_last item ≡ is_read self.old.lines.reached }

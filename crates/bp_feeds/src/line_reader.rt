@@ -66,7 +66,7 @@ impl<S: Source> LineReader<S> {
         }
     }
 
-    // Moves bytes from the block to the line, up to the first LF.
+    /// Moves bytes from the block to the line, up to the first LF.
     fn move_front(&mut self) -> Result<Moved, Memory>
         ensures same { held self.new ≡ held self.old }
         ensures source { self.new.source ≡ self.old.source }
@@ -92,7 +92,7 @@ impl<S: Source> LineReader<S> {
         Ok(Moved::Line)
     }
 
-    // Reads blocks until the line is whole, or can't become one.
+    /// Reads blocks until the line is whole, or can't become one.
     fn gather(&mut self) -> Result<Gathered, Memory>
         requires { self.old.reached ≡ Reached.Within }
         ensures same { IsSameReading (reading_of S.left self.old) (reading_of S.left self.new) }
@@ -121,7 +121,7 @@ impl<S: Source> LineReader<S> {
         }
     }
 
-    // The item of the line whose LF is next in the block.
+    /// The item of the line whose LF is next in the block.
     fn pass(&mut self) -> Result<Option<Item>, Memory>
         requires within { self.old.reached ≡ Reached.Within }
         requires line { (more : List ℕ) × (self.old.block ≡ 10 ∷ more) }
@@ -146,7 +146,7 @@ impl<S: Source> LineReader<S> {
         Ok(item)
     }
 
-    // The item of the last line, which has no LF, or the end, where the line is empty.
+    /// The item of the last line, which has no LF, or the end, where the line is empty.
     fn pass_last(&mut self) -> Result<Option<Item>, Memory>
         requires within { self.old.reached ≡ Reached.Within }
         requires all { self.old.block ≡ [] }

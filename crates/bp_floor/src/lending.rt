@@ -15,7 +15,7 @@ use js_program::Mode;
 use js_value::copy;
 use std::alloc::Global;
 
-// One more job, if there is one.
+/// One more job, if there is one.
 fn push_some(jobs: &mut Vec<Job>, job: Option<Job>) -> Result<(), Memory>
     ensures { OnOk result (jobs.new.items ≡ jobs.old.items ++ option_to_list job) }
 {

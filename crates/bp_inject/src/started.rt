@@ -32,7 +32,7 @@ pub enum Started<S: Source> {
     Alone(Feed<S>),
 }
 
-// The thread that takes its feed from here, or none where none can be made.
+/// The thread that takes its feed from here, or none where none can be made.
 fn thread_of<'s, S: Source + Send + Drop + 's, R: Threads + Wait + Sync, E>(
     rt: &'s R,
     scope: &Scope<'s, E>,
@@ -87,7 +87,7 @@ pub fn start<'s, S: Source + Send + Drop + 's, R: Threads + Wait + Sync, E>(
 }
 
 impl<S: Source + Drop> Beside<S> {
-    // The feed as the thread left it, and what `inject` answered there.
+    /// The feed as the thread left it, and what `inject` answered there.
     fn joined<R: Threads>(self, rt: &R) -> (Feed<S>, Result<Injected, Memory>)
         requires { IsHanded self }
         ensures on { GoesOn S.left S.faults self.feed.value result.0 }
@@ -141,7 +141,7 @@ pub fn join<S: Source + Drop, R: Threads>(
     }
 }
 
-// What is answered of a feed whose turns were made by others.
+/// What is answered of a feed whose turns were made by others.
 fn answer_of<S: Source>(feed: &Feed<S>) -> Injected
     ensures { (result ≡ Injected.Over) ↔ (is_over feed.now ≡ true) }
 {
@@ -152,7 +152,7 @@ fn answer_of<S: Source>(feed: &Feed<S>) -> Injected
     }
 }
 
-// Compares the ends of the lane, and answers the source.
+/// Compares the ends of the lane, and answers the source.
 fn closed<S: Source>(feed: Feed<S>, ear: &mut Ear) -> S
     requires { IsLane feed.mouth ear.old }
     ensures ear { IsSameEar ear.old ear.new × (taken ear.new ≡ taken ear.old) }

@@ -1,4 +1,4 @@
-// What programs are accepted, and with which words others are refused.
+//! What programs are accepted, and with which words others are refused.
 
 /// Cars are counted, lights change, and jams are told.
 pub const CROSSING: &str = r#"

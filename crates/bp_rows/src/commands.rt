@@ -1,4 +1,4 @@
-// The words of commands.
+//! The words of commands.
 use bp_args::{Command, Run, read};
 use std::alloc::Global;
 use std::test::Fail;

@@ -1,4 +1,4 @@
-// Limits of a run and of a program, each met and just not met.
+//! Limits of a run and of a program, each met and just not met.
 
 /// A run has at most 4,096 b-threads and makes at most 100,000 transitions; at most 16,384 events wait.
 pub const COUNTS: &str = r#"

@@ -1,4 +1,4 @@
-// Logs and replays.
+//! Logs and replays.
 
 use crate::world::{Fails, NONE, run_with, tells};
 use std::test::Fail;

@@ -1,4 +1,4 @@
-// Options of runs, and the large program.
+//! Options of runs, and the large program.
 
 use crate::world::tells;
 use std::test::Fail;
@@ -30,7 +30,7 @@ done "Add cold"
 verdict quiet 6
 "#;
 
-// Whatever the strategy, the seed, the workers and the slice.
+/// Whatever the strategy, the seed, the workers and the slice.
 const SAME: &str = "
 run|--strategy|simple|script.js
 run|--strategy=ordered|script.js

@@ -1,4 +1,4 @@
-// Reads and writes that fail.
+//! Reads and writes that fail.
 
 use crate::options::{TAKING_TURNS, TAPS};
 use crate::world::{Fails, NONE, run_with};
@@ -8,8 +8,8 @@ use std::sync::Wait;
 use std::test::Fail;
 use std::thread::Threads;
 
-// What was printed before a write that fails is a prefix of the trace. How many writes there are is not said: a number
-// past them fails none.
+/// What was printed before a write that fails is a prefix of the trace. How many writes there are is not said: a number
+/// past them fails none.
 #[test]
 fn a_write_that_fails_leaves_a_prefix(rt: HostRuntime) -> Result<(), Fail> {
     for number in 1..=10u64 {
@@ -46,7 +46,7 @@ fn meets_read_fault<R: Threads + Wait + Sync + Abort>(
     Ok(())
 }
 
-// The opening of the script fails, its first read, or its second.
+/// The opening of the script fails, its first read, or its second.
 #[test]
 fn a_read_that_fails_prints_nothing(rt: HostRuntime) -> Result<(), Fail> {
     let alloc = rt.alloc();

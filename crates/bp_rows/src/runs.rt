@@ -1,4 +1,4 @@
-// Runs that end quiet, and what they print.
+//! Runs that end quiet, and what they print.
 
 /// What b-threads ask for: requests, what is waited for, what is blocked, and what is drawn.
 pub const ASKING: &str = r#"

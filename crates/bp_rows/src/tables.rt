@@ -1,4 +1,4 @@
-// Tables, and whether their rows hold.
+//! Tables, and whether their rows hold.
 
 use crate::commands::are_command;
 use crate::world::{NONE, bytes_of, run_with};

@@ -1,4 +1,4 @@
-// Runs that end in another verdict than quiet, with their status.
+//! Runs that end in another verdict than quiet, with their status.
 
 /// Faults of evaluation, with the line on which what is at fault begins.
 pub const FAULTS: &str = r#"

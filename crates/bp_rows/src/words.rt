@@ -1,4 +1,4 @@
-// Words that are no command.
+//! Words that are no command.
 
 use crate::world::{NONE, fails_with, run_words};
 use std::test::Fail;
@@ -6,7 +6,7 @@ use std::test::Fail;
 const USAGE: &str =
     "usage: bp run [OPTIONS] PROGRAM [INJECTOR]... | bp replay LOG | bp accept PROGRAM | bp large N";
 
-// A line has words, with `|` between.
+/// A line has words, with `|` between.
 const WRONG: &str = "
 run
 script.js

@@ -1,4 +1,4 @@
-// Commands over a world in memory.
+//! Commands over a world in memory.
 
 use bp_base::{MemorySink, MemoryWorld};
 use bp_cli::command;

@@ -120,7 +120,7 @@ abbrev pub NeverBoth : List ℕ → Type 0
 NeverBoth bytes =
     (tree : List PlainItem) (refusal : Refusal) → AreAccepted bytes tree → ¬ (IsRefused bytes refusal)
 
--- the bytes are one program
+-- the bytes are at most one program
 abbrev pub OneProgram : List ℕ → Type 0
 OneProgram bytes = (a b : PlainProgram) → IsProgram bytes a → IsProgram bytes b → a ≡ b
 

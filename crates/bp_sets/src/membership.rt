@@ -57,7 +57,7 @@ pub fn contains(
     }
 }
 
-// Asked from the left up to the first yes.
+/// Asked from the left up to the first yes.
 #[cycle(contains)]
 fn any_contains(
     alloc: Global,

@@ -14,7 +14,7 @@ use js_program::{Mode, Program};
 use js_value::{Items, Value, event_value};
 use std::alloc::Global;
 
-// The line on which a function begins; 0 where no function has this number.
+/// The line on which a function begins; 0 where no function has this number.
 fn line_of(program: &Program, code: u32) -> u32
     ensures { result ≡ (body_of program.now code).line }
 {

@@ -1,4 +1,4 @@
-// A row of a table.
+//! A row of a table.
 
 ghost use Rattle.std.specs.Prelude.{◌≡◌, ◌≤◌, length, IsTrue};
 ghost use Rattle.bp_tables.specs.Keys.{key_of, is_within};

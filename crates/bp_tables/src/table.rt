@@ -1,4 +1,4 @@
-// A table of rows.
+//! A table of rows.
 
 ghost use Rattle.std.specs.Prelude.{◌≡◌, ◌≤◌, IsTrue, None, Some, IfSome, MatchOption, length, take};
 ghost use Rattle.bp_tables.specs.Keys.{entries, are_within};

@@ -2,7 +2,7 @@
 
 use crate::job::Job;
 
-// Takes only what may move to another thread and be dropped there.
+/// Takes only what may move to another thread and be dropped there.
 fn moves<T: Send + Drop>(_moved: &T) {}
 
 /// A job may move to another thread and be dropped there. Does nothing.

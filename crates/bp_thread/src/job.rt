@@ -61,7 +61,7 @@ impl Job {
     ghost use Rattle.bp_thread.specs.Jobs.{plain_job, IsOf, IsLost, is_stopped, is_ended, StandsAt, StandsFor, IsWhole, IsSame, Sliced};
     ghost use Rattle.bp_thread.specs.Carried.{carried, Carries};
 
-    // A job that has this machine, which has not begun.
+    /// A job that has this machine, which has not begun.
     fn on(alloc: Global, number: u32, name: Text, origin: Origin, machine: Machine) -> Job
         ensures made { plain_job result ≡ record {
           number = number;
@@ -240,8 +240,8 @@ impl Job {
         Ok(())
     }
 
-    // Carries the body on by at most so many nodes. After want of memory the machine may stand
-    // anywhere.
+    /// Carries the body on by at most so many nodes. After want of memory the machine may stand
+    /// anywhere.
     fn step(&mut self, ground: &Ground, nodes: u64) -> Result<bool, Memory>
         requires program { IsOf (plain_ground ground.now).program self.old }
         requires open { (plain_job self.old).outcome ≡ None }

@@ -11,7 +11,7 @@ use js_data::{Fault, Memory};
 use js_frames::{Machine, Pause};
 use std::alloc::{AllocError, Global};
 
-// At `bp.sync`: the statement, or the fault of values that are none.
+/// At `bp.sync`: the statement, or the fault of values that are none.
 fn outcome_at_sync(alloc: Global, machine: &Machine) -> Result<Outcome, Memory>
     requires { IsSome (asked_by machine.now) }
     ensures { IfOk result (λ o. Some (plain_outcome o)

@@ -55,7 +55,7 @@ fn have_keys(fields: &Pairs) -> bool
     true
 }
 
-// The events of a list of events.
+/// The events of a list of events.
 fn events_of(alloc: Global, items: &Items) -> Result<Events, StatementFault>
     ensures { Reads (λ es. es) (events_in items.now) result }
 {
@@ -69,7 +69,7 @@ fn events_of(alloc: Global, items: &Items) -> Result<Events, StatementFault>
     Ok(events)
 }
 
-// What is requested: an event or a list of events; undefined is the empty list.
+/// What is requested: an event or a list of events; undefined is the empty list.
 fn requested(alloc: Global, stated: Option<&Value>) -> Result<Requests, StatementFault>
     ensures { Reads (λ es. es) (requested_by
         (unwrap_or (option_map (λ v. plain_value v.now) stated.entry) undefined)) result }
@@ -86,7 +86,7 @@ fn requested(alloc: Global, stated: Option<&Value>) -> Result<Requests, Statemen
     }
 }
 
-// An event, a set, or a list of such, nested or not; undefined is the empty list.
+/// An event, a set, or a list of such, nested or not; undefined is the empty list.
 fn set_stated(alloc: Global, stated: Option<&Value>) -> Result<Option<EventSet>, StatementFault>
     ensures { Reads stated_set (set_that_is
         (unwrap_or (option_map (λ v. plain_value v.now) stated.entry) undefined)) result }
@@ -100,7 +100,7 @@ fn set_stated(alloc: Global, stated: Option<&Value>) -> Result<Option<EventSet>,
     }
 }
 
-// A whole number, and 0 for undefined.
+/// A whole number, and 0 for undefined.
 fn priority_stated(value: &Value) -> Result<Whole, StatementFault>
     ensures { Reads (λ n. n) (priority_that_is (plain_value value.now)) result }
 {

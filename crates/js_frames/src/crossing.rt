@@ -3,10 +3,10 @@
 use crate::ground::Ground;
 use crate::machine::Machine;
 
-// Takes only what may move to another thread.
+/// Takes only what may move to another thread.
 fn moves<T: Send>(_moved: &T) {}
 
-// Takes only what may move to another thread and be read by several.
+/// Takes only what may move to another thread and be read by several.
 fn crosses<T: Send + Sync>(_shared: &T) {}
 
 /// A machine may move to another thread. Does nothing.

@@ -62,7 +62,7 @@ inner_scope own vars owner = record {
   owner = owner;
 }
 
--- the same of all `var`s of a name
+-- from where on the values of the `var`s of a name stay as they are, or 0
 abbrev pub given_of : Option Declared → ℕ
 given_of None = 0
 given_of (Some d) = d.given
@@ -83,6 +83,7 @@ unfoldable pub for_scope : ℕ → PlainStart → PlainStmt → Scope
 for_scope owner start s =
     inner_scope (own_of_start owner start) (vars_of_start owner start ++ vars_of owner false s) owner
 
+-- what the name of a `for of` is declared as; no tokens spell one with `var`
 abbrev pub each_role : DeclareKind → Role
 each_role const_word = Const
 each_role let_word = Let

@@ -42,7 +42,7 @@ abbrev pub assign_site : List Scope → Around → Name → List Site
 assign_site scopes a name =
     if is_reserved name.text then site scopes a What.Misuses name else site scopes a What.Assigns name
 
--- a member: no form of `bp` or `Math` is `Unknown` by both names
+-- a member; one of `bp` or `Math` that is no form is misused, and named by both words
 abbrev pub member_sites : List Scope → Around → Option Name → List ℕ → Bool → List Site → List Site
 member_sites scopes a None word is_value sites = sites
 member_sites scopes a (Some object) word is_value sites =

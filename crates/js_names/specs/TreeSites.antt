@@ -19,7 +19,7 @@ use Rattle.std.specs.List.{flat_map}
 use Rattle.js_tree.specs.declared.tree.Field.{Field}
 use Rattle.js_names.specs.Sites.{Site, site, declared_role, begin_site, parameter_sites, in_function, in_loop, expr_sites, perhaps_sites, start_sites, stmt_sites, item_sites}
 
--- a list of trees, as the walk goes over it
+-- the places of a tree, as the walk goes over it
 abbrev pub tree_sites : List Scope → Around → Expr → List Site
 tree_sites scopes a e = expr_sites scopes a (plain_expr e)
 

@@ -24,7 +24,8 @@ pub struct Declared {
     pub role: Role,
     /// The place of the declared name.
     pub place: u32,
-    /// The place from which on it can be copied: after the declarator, or the name's own place where there is none.
+    /// The place from which on it can be copied: after its declarator, its own place where it has none, or `TOP`
+    /// where it can never be copied.
     pub end: u32,
     /// The place of the function that it belongs to.
     pub owner: u32,

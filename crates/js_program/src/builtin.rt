@@ -82,7 +82,7 @@ macro_rules! rows {
     };
 }
 
-// One row for each form, in the order of the enum.
+/// One row for each form, in the order of the enum.
 static ROWS: [FormRow; 11] = rows![
     RegisterBThread, "bp", "registerBThread", true, Acting;
     Sync, "bp", "sync", true, InThreads;
@@ -105,7 +105,7 @@ pub fn form_rows() -> &'static [FormRow; 11]
     &ROWS
 }
 
-// The number of the row.
+/// The number of the row.
 fn place_of(form: Builtin) -> usize
     ensures place { result ≡ form_number form }
     ensures within { result < 11 }
@@ -114,7 +114,7 @@ fn place_of(form: Builtin) -> usize
 }
 
 impl FormRow {
-    // Whether the object and the call are those of the form.
+    /// Whether the object and the call are those of the form.
     fn is_met(&self, object: &str, called: bool) -> bool
         ensures { result ≡ is_met (form_row self.now) object.now called }
     {
@@ -122,7 +122,7 @@ impl FormRow {
     }
 }
 
-// The first row with this word after the dot.
+/// The first row with this word after the dot.
 fn row_named<'a>(rows: &'a [FormRow], word: &str) -> Option<&'a FormRow>
     ensures { option_map (λ r. form_row r.now) result ≡ row_named (map form_row rows.now) word.now }
 {
@@ -134,7 +134,7 @@ fn row_named<'a>(rows: &'a [FormRow], word: &str) -> Option<&'a FormRow>
     None
 }
 
-// The form of the row, where its object and its call are met.
+/// The form of the row, where its object and its call are met.
 fn met(row: Option<&FormRow>, object: &str, called: bool) -> Option<Builtin>
     ensures { result ≡ met (option_map (λ r. form_row r.now) row.entry) object.now called }
 {
@@ -157,7 +157,7 @@ pub fn builtin_of(object: &str, word: &str, called: bool) -> Option<Builtin>
     met(row_named(form_rows(), word), object, called)
 }
 
-// Everywhere but in a predicate.
+/// Everywhere but in a predicate.
 fn acts(mode: Mode) -> bool
     ensures { result ≡ list_any (same_mode mode) acting }
 {
@@ -177,7 +177,7 @@ fn is_thread(mode: Mode) -> bool
 }
 
 impl Modes {
-    // Whether the mode is one of them.
+    /// Whether the mode is one of them.
     #[tactic(auto, using(crate::proofs::Forms::has_anywhere))]
     fn contain(self, mode: Mode) -> bool
         ensures { result ≡ list_any (same_mode mode) (modes_in_row self) }

@@ -2,7 +2,7 @@
 
 use crate::program::Program;
 
-// Takes only what may move to another thread and be read by several.
+/// Takes only what may move to another thread and be read by several.
 fn crosses<T: Send + Sync>(_shared: &T) {}
 
 /// A program may move to another thread, and several threads may read it. Does nothing.

@@ -8,7 +8,8 @@ use crate::node::{Body, ConstantStart, Node};
 use std::marker::Model;
 
 /// A resolved program: nodes with numbers, functions and constants. Each part of a node has a smaller number
-/// than the node, and every number of a node, slot, capture, constant or function is in range.
+/// than the node, every number of a node, slot, capture, constant or function is in range, no function declares
+/// a constant, and a declared function captures nothing.
 #[derive(Drop)]
 pub struct Program {
     nodes: Vec<Node>,

@@ -35,7 +35,7 @@ closed b line form x = record {
   parts = after b x ∷ [];
 }
 
--- the number of the part that stands at this place among the parts
+-- the number of the part that stands at this place among the parts; each form has as many parts as are asked for
 abbrev pub part : ℕ → List ℕ → ℕ
 part k parts = get_or parts k 0
 

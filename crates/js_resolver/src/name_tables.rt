@@ -107,7 +107,7 @@ struct Room {
     vars: Vec<u32>,
 }
 
-/// A number of 32 bits; a greater one is more than memory holds.
+/// A number of 32 bits; no program counts further.
 fn counted(number: usize) -> Result<u32, AllocError>
     ensures { IfOk result (λ n. n ≡ number) }
 {

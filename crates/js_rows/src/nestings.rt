@@ -19,9 +19,9 @@ fn nested(alloc: Global, shape: &str, times: usize) -> Result<String, Fail> {
     )?)
 }
 
-// How many times, a text and its tree: so many nest, and with one more there is no tree. First each form that nests,
-// then what a form's head or list may hold, and then what is no level of its own: `bp`, `Math` and `bp.log` before a
-// dot, and a member that is called; parentheses round them are levels.
+/// How many times, a text and its tree: so many nest, and with one more there is no tree. First each form that nests,
+/// then what a form's head or list may hold, and then what is no level of its own: `bp`, `Math` and `bp.log` before a
+/// dot, and a member that is called; parentheses round them are levels.
 const NESTINGS: &str = "
 200 «{||}» --> «{||}»
 199 «{|;|}» --> «{|;|}»
@@ -59,7 +59,7 @@ const NESTINGS: &str = "
 196 «[|Math.floor(a/b)|]» --> «(list |(call (. Math floor) (/ a b))|)»
 ";
 
-// Whether the shape with its nest so many times has this tree or refusal.
+/// Whether the shape with its nest so many times has this tree or refusal.
 fn is_shown(alloc: Global, shape: &str, count: usize, want: &str) -> Result<bool, Fail> {
     let text = nested(alloc, shape, count)?;
     Ok(shown(alloc, text.as_bytes())?.as_str() == want)

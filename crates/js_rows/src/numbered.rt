@@ -36,7 +36,7 @@ fn shown(alloc: Global, script: &str) -> Result<String, Fail> {
     Ok(out)
 }
 
-// Between blank lines stand the lines of a program, the line `-->`, and those of its numbering.
+/// Between blank lines stand the lines of a program, the line `-->`, and those of its numbering.
 const NUMBERED: &str = r#"
 let total = 1 + 2
 function add(a, b) { return a + b }

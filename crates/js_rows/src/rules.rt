@@ -2,7 +2,7 @@
 use crate::lines::{Lines, agree};
 use std::test::Fail;
 
-// `bp`, `Math` and `undefined` cannot be declared.
+/// `bp`, `Math` and `undefined` cannot be declared.
 const RESERVED: &str = r#"
 let bp --> 1: twice bp
 const Math = 1 --> 1: twice Math
@@ -19,7 +19,7 @@ let bps; let math; let Undefined --> accepted
 let a = {}; a.bp; a.Math; a.undefined --> accepted
 "#;
 
-// `undefined` is a value, at every place of a value.
+/// `undefined` is a value, at every place of a value.
 const UNDEFINED: &str = r#"
 undefined --> accepted
 const a = undefined; a === undefined --> accepted
@@ -31,7 +31,7 @@ undefined++ --> 1: unknown undefined
 --undefined --> 1: unknown undefined
 "#;
 
-// The forms are the only uses of `bp` and `Math`; any other is unknown by the word behind the dot, or by the name.
+/// The forms are the only uses of `bp` and `Math`; any other is unknown by the word behind the dot, or by the name.
 const FORMS: &str = r#"
 bp.registerBThread("a", () => { bp.sync({}); bp.sync({}, 1) }) --> accepted
 bp.Event("e"); bp.Event("e", 1); bp.EventSet("s", e => true); bp.all; bp.none --> accepted
@@ -66,8 +66,8 @@ a.b\n;bp.x --> 1: unknown a
 1;\n\nbp.x --> 3: unknown bp.x
 "#;
 
-// `let`, `const` and function declarations belong to their list of statements, a name of a `for` to the `for`,
-// parameters and `var` to the function or the top level.
+/// `let`, `const` and function declarations belong to their list of statements, a name of a `for` to the `for`,
+/// parameters and `var` to the function or the top level.
 const SCOPES: &str = r#"
 { let a } a --> 1: unknown a
 { const a = 1; a } --> accepted
@@ -90,7 +90,7 @@ function f() { return f } f --> accepted
 function f(a) { }\na --> 2: unknown a
 "#;
 
-// One list of statements declares no name twice by `let` or `const`.
+/// One list of statements declares no name twice by `let` or `const`.
 const BLOCKS: &str = r#"
 let a; let a --> 1: twice a
 const a = 1;\nconst a = 2 --> 2: twice a
@@ -107,7 +107,7 @@ let a;\nfunction a() { } --> 2: twice a
 function a() { }\nlet a --> 2: twice a
 "#;
 
-// A function has no two equal parameters, and the `let` and `const` of its own body differ from them.
+/// A function has no two equal parameters, and the `let` and `const` of its own body differ from them.
 const PARAMETERS: &str = r#"
 (function(a, a) { }) --> 1: twice a
 ((a, b,\na) => 1) --> 2: twice a
@@ -123,8 +123,8 @@ function f(a) {\nlet a } --> 2: twice a
 function f(f) { f } --> accepted
 "#;
 
-// A `var` may stand again and may name a parameter, but not a `let`, `const` or name of `for of` of its function's body
-// or of a block between.
+/// A `var` may stand again and may name a parameter, but not a `let`, `const` or name of `for of` of its function's body
+/// or of a block between.
 const VARS: &str = r#"
 var a; var a; var a = 1 --> accepted
 (function(a) { var a; a }) --> accepted
@@ -146,7 +146,7 @@ let a; (() => { var a; a }) --> accepted
 (a => { let b; if (a) { var b } }) --> 1: twice b
 "#;
 
-// Function declarations have different names, which differ from those of the variables of the top level.
+/// Function declarations have different names, which differ from those of the variables of the top level.
 const FUNCTIONS: &str = r#"
 function f() { } function f() { } --> 1: twice f
 function f() { }\nfunction g() { }\nfunction f() { } --> 3: twice f
@@ -162,7 +162,7 @@ function f() { } (f => f) --> accepted
 function f() { } for (const f of [1]) { f } --> accepted
 "#;
 
-// A name that nothing round it declares is unknown.
+/// A name that nothing round it declares is unknown.
 const UNKNOWN: &str = r#"
 a --> 1: unknown a
 1\n+ b --> 2: unknown b
@@ -182,7 +182,7 @@ of --> 1: unknown of
 console.log(1) --> 1: unknown console
 "#;
 
-// What never changes is not assigned and not updated.
+/// What never changes is not assigned and not updated.
 const CONSTANTS: &str = r#"
 const a = 1; a = 2 --> 1: const a
 const a = 1;\na += 2 --> 2: const a
@@ -202,8 +202,8 @@ let a; a = 1; a++ --> accepted
 (a => { a = 1; a++ }) --> accepted
 "#;
 
-// Function declarations, and what is declared in the program's own list and never assigned besides its declarator, by
-// `var` only once, are constants, and are seen everywhere.
+/// Function declarations, and what is declared in the program's own list and never assigned besides its declarator, by
+/// `var` only once, are constants, and are seen everywhere.
 const SEEN: &str = r#"
 (() => f()); function f() { } --> accepted
 (() => a); const a = 1 --> accepted
@@ -224,10 +224,10 @@ if (true) { var a }\n(() => a) --> 2: capture a
 a; const a = 1 --> accepted
 "#;
 
-// Another variable of an outer function or of the top level is copied into an inner function where it is a parameter,
-// `let`, `const`, name of `for of`, or a `var` that stands once and directly in the list of its function. A `var` with
-// a value that names a parameter is that parameter's declarator where it stands directly in the list of the function;
-// a nested one may run again, so that the parameter is not copied at all.
+/// Another variable of an outer function or of the top level is copied into an inner function where it is a parameter,
+/// `let`, `const`, name of `for of`, or a `var` that stands once and directly in the list of its function. A `var` with
+/// a value that names a parameter is that parameter's declarator where it stands directly in the list of the function;
+/// a nested one may run again, so that the parameter is not copied at all.
 const COPIED: &str = r#"
 (a => () => a) --> accepted
 (() => { let a = 1; (() => a) }) --> accepted
@@ -257,7 +257,7 @@ for (const x of [1]) { (() => x) } --> accepted
 (p => { if (p) { var p = 2 } p }) --> accepted
 "#;
 
-// And nothing assigns or updates it besides its declarator.
+/// And nothing assigns or updates it besides its declarator.
 const UNCHANGED: &str = r#"
 (a => { a = 1; (() => a) }) --> 1: capture a
 (a => { (() => a); a++ }) --> 1: capture a
@@ -273,7 +273,7 @@ for (let i = 0; i < 3; i++) { const k = i; (() => k) } --> accepted
 (() => { let a = 1; { let a = 2; a = 3 } (() => a) }) --> accepted
 "#;
 
-// And the inner function begins behind the end of the declarator: that of a name of `for of` is the name and the list.
+/// And the inner function begins behind the end of the declarator: that of a name of `for of` is the name and the list.
 const BEHIND: &str = r#"
 (() => { (() => a); let a = 1 }) --> 1: capture a
 (() => { const a = () => a }) --> 1: capture a
@@ -295,7 +295,7 @@ for (const x of [() => { const x = 1; x }]) { } --> accepted
 for (const x of [1]) { for (const y of [() => x]) { (() => y) } } --> accepted
 "#;
 
-// `break` and `continue` stand in a loop of their own function.
+/// `break` and `continue` stand in a loop of their own function.
 const LOOP_WORDS: &str = r#"
 break --> 1: loop word
 { continue } --> 1: loop word
@@ -313,7 +313,7 @@ function f() { break } --> 1: loop word
 while (false) { } break --> 1: loop word
 "#;
 
-// `return` does not stand at the top level.
+/// `return` does not stand at the top level.
 const RETURNS: &str = r#"
 return --> 1: return place
 return 1 --> 1: return place
@@ -326,7 +326,7 @@ for (const x of [1]) { return x } --> 1: return place
 (() => { return () => { return } }) --> accepted
 "#;
 
-// The first place of a breach is told: the name that is used or assigned, the later of two names, the word.
+/// The first place of a breach is told: the name that is used or assigned, the later of two names, the word.
 const PLACES: &str = r#"
 a;\nb --> 1: unknown a
 let a = b;\nlet a --> 1: unknown b
@@ -342,7 +342,7 @@ f(() => a, b);\nlet a; a = 1; function f() { } --> 1: capture a
 bp.registerBThread("a",\n() => { c }) --> 2: unknown c
 "#;
 
-// A name that is declared twice stands for the declaration that comes first in the text, a `var` among them.
+/// A name that is declared twice stands for the declaration that comes first in the text, a `var` among them.
 const CLASHES: &str = r#"
 () => { c = 1 };\nvar c = 0;\nfunction c() {} --> 1: capture c
 () => { c = 1 };\nlet c = 0;\nfunction c() {} --> 1: capture c
@@ -356,7 +356,7 @@ a = 1;\nlet a;\nconst a = 1 --> 3: twice a
 () => { var a = 1;\n() => a;\nlet a = 2 } --> 3: twice a
 "#;
 
-// Programs of several rules at once.
+/// Programs of several rules at once.
 const PROGRAMS: &str = r#"
 const a = 1; (a => { let b = a; { let a = b; (() => a) } }) --> accepted
 (a => b => c => d => a + b + c + d) --> accepted

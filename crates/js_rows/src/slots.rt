@@ -4,7 +4,7 @@ use crate::names::{answer, program_of};
 use std::alloc::Global;
 use std::test::Fail;
 
-// The part so many times, each time with another name in place of its `#`.
+/// The part so many times, each time with another name in place of its `#`.
 fn repeat(text: &mut String, part: &str, count: u32) -> Result<(), Fail> {
     let (before, behind) = part.split_once("#").ok_or("no name")?;
     for number in 0..count {
@@ -15,7 +15,7 @@ fn repeat(text: &mut String, part: &str, count: u32) -> Result<(), Fail> {
     Ok(())
 }
 
-// The text with each part between `«` and `»` so many times.
+/// The text with each part between `«` and `»` so many times.
 fn widened(alloc: Global, shape: &str, count: u32) -> Result<String, Fail> {
     let mut text = String::new(alloc);
     for piece in shape.split("«") {
@@ -38,8 +38,8 @@ pub fn agrees(alloc: Global, cell: &str, want: &str) -> Result<bool, Fail> {
     Ok(answer(alloc, program.as_str())?.as_str() == want)
 }
 
-// A function has at most 256 parameters and variables. Each line has a number of names, a program in which what stands
-// between `«` and `»` comes so many times, and its answer.
+/// A function has at most 256 parameters and variables. Each line has a number of names, a program in which what stands
+/// between `«` and `»` comes so many times, and its answer.
 const VARIABLES: &str = r#"
 256 (function(«#,») { }) --> accepted
 257 (function(«#,») { }) --> refused line 1: slots
@@ -61,7 +61,7 @@ const VARIABLES: &str = r#"
 256 (() => { «let #; »(() => { let a }) }) --> accepted
 "#;
 
-// So has the top level, where constants are not counted; its place is the program's first token.
+/// So has the top level, where constants are not counted; its place is the program's first token.
 const TOP_LEVEL: &str = r#"
 257 «let #; » --> accepted
 257 «const # = 1; » --> accepted
@@ -77,8 +77,8 @@ const TOP_LEVEL: &str = r#"
 256 var a; var a; «{ let #; } » --> refused line 1: slots
 "#;
 
-// Of two breaches the one with the smaller place is told, and at one place that of the earlier rule. The place of slots
-// is the program's first token, and a name that cannot be declared takes a slot too.
+/// Of two breaches the one with the smaller place is told, and at one place that of the earlier rule. The place of slots
+/// is the program's first token, and a name that cannot be declared takes a slot too.
 const TIES: &str = r#"
 257 zz; «{ let #; } » --> refused line 1: unknown zz
 257 (zz); «{ let #; } » --> refused line 1: slots
@@ -94,8 +94,8 @@ const TIES: &str = r#"
 257 zz;\n(() => { «let #; »}); --> refused line 1: unknown zz
 "#;
 
-// Captures are counted in the function that uses them, and in those through which they are handed; constants are no
-// captures.
+/// Captures are counted in the function that uses them, and in those through which they are handed; constants are no
+/// captures.
 const CAPTURES: &str = r#"
 256 (() => { «let #; »(() => { «#; »}) }) --> accepted
 256 (() => { «let #; »\n(() => { let a; «#; »}) }) --> refused line 2: slots

@@ -54,7 +54,7 @@ pub fn agrees(alloc: Global, cell: &str, want: &str) -> Result<bool, Fail> {
     Ok(shown(alloc, bytes.as_slice())?.as_str() == want)
 }
 
-// Numbers in four forms.
+/// Numbers in four forms.
 const NUMBERS: &str = r#"
 9007199254740991 --> new number 9007199254740991 0-16 line 1
 9007199254740992 --> NumberRange(0)
@@ -100,7 +100,7 @@ let a = 1.5 --> Unsupported(8)
 1..a --> Unsupported(0)
 "#;
 
-// Literals.
+/// Literals.
 const LITERALS: &str = r#"
 '' --> new text "" 0-2 line 1
 "a'b" --> new text "a'b" 0-5 line 1
@@ -116,7 +116,7 @@ const LITERALS: &str = r#"
 'a%e2%80%a8b' c --> new text "a\u{2028}b" 0-7 line 1 | name c 8-9 line 2
 "#;
 
-// Wrong escapes.
+/// Wrong escapes.
 const ESCAPES: &str = r#"
 '\1' --> Escape(1)
 '\9' --> Escape(1)
@@ -146,7 +146,7 @@ const ESCAPES: &str = r#"
 'ab%0a\x --> OpenText(0)
 "#;
 
-// The longest marks.
+/// The longest marks.
 const MARKS: &str = r#"
 a?.5:1 --> new name a 0-1 line 1 | mark ?. 1-3 line 1 | number 5 3-4 line 1 | mark : 4-5 line 1 | number 1 5-6 line 1
 ...5 --> new mark ... 0-3 line 1 | number 5 3-4 line 1
@@ -166,7 +166,7 @@ a%e2%80%83b --> Character(1)
 %00 --> Character(0)
 "#;
 
-// Names and words.
+/// Names and words.
 const WORDS: &str = r#"
 -->
 a $_0 lets typeof of --> new name a 0-1 line 1 | name $_0 2-5 line 1 | name lets 6-10 line 1 | word typeof 11-17 line 1 | name of 18-20 line 1
@@ -174,7 +174,7 @@ const let var function return if else --> new word const 0-5 line 1 | word let 6
 while for break continue true false null --> new word while 0-5 line 1 | word for 6-9 line 1 | word break 10-15 line 1 | word continue 16-24 line 1 | word true 25-29 line 1 | word false 30-35 line 1 | word null 36-40 line 1
 "#;
 
-// Gaps and lines.
+/// Gaps and lines.
 const GAPS: &str = r#"
 a%0ab%0dc%0d%0ad%e2%80%a8e%e2%80%a9f --> new name a 0-1 line 1 | new name b 2-3 line 2 | new name c 4-5 line 3 | new name d 7-8 line 4 | new name e 11-12 line 5 | new name f 15-16 line 6
 %ef%bb%bfa%c2%a0b%09c%0bd%0ce f --> new name a 3-4 line 1 | name b 6-7 line 1 | name c 8-9 line 1 | name d 10-11 line 1 | name e 12-13 line 1 | name f 14-15 line 1
@@ -189,7 +189,7 @@ a /* --> OpenText(2)
 %0a%0a a --> new name a 3-4 line 3
 "#;
 
-// Bytes that are no text.
+/// Bytes that are no text.
 const NO_TEXT: &str = r#"
 a%ff --> Utf8(1)
 ` %ff --> Utf8(2)
@@ -212,7 +212,7 @@ fn the_longest_text(rt: HostRuntime) -> Result<(), Fail> {
     Ok(())
 }
 
-// The line of a place in a text of four lines.
+/// The line of a place in a text of four lines.
 fn line_is(rt: &impl Abort, place: u32, line: u32)
     requires { place ≤ 9 }
 {

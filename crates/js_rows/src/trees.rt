@@ -365,7 +365,7 @@ pub fn agrees(alloc: Global, cell: &str, want: &str) -> Result<bool, Fail> {
     Ok(shown(alloc, text.as_bytes())?.as_str() == want)
 }
 
-// A program lists statements and functions.
+/// A program lists statements and functions.
 const PROGRAMS: &str = r#"
 -->
 a; b --> a b
@@ -382,7 +382,7 @@ a } --> NoTree(1)
 { a --> NoTree(1)
 "#;
 
-// Statements, by their first token.
+/// Statements, by their first token.
 const STATEMENTS: &str = r#"
 {} --> {}
 { a; { b } } --> {a {b}}
@@ -416,7 +416,7 @@ while (a); --> (while a ;)
 break; continue; return; return a --> break continue return (return a)
 "#;
 
-// Loops with three parts, and over lists.
+/// Loops with three parts, and over lists.
 const LOOPS: &str = r#"
 for (let i = 0; i < 3; i++) a --> (for (let (i 0)) (< i 3) (_++ i) a)
 for (;;) {} --> (for _ _ _ {})
@@ -442,7 +442,7 @@ for (let i = 0; i < 3\ni++) a --> NoTree(2)
 for (a; b; c; d) e --> NoTree(1)
 "#;
 
-// Bodies are no lexical declarations.
+/// Bodies are no lexical declarations.
 const BODIES: &str = r#"
 if (a) let b = 1 --> NoTree(1)
 if (a) const b = 1 --> NoTree(1)
@@ -456,7 +456,7 @@ while (a) { let b } --> (while a {(let b)})
 while (a) while (b) return --> (while a (while b return))
 "#;
 
-// Where the end of a statement may be absent.
+/// Where the end of a statement may be absent.
 const ENDS: &str = r#"
 a b --> NoTree(1)
 a\nb --> a b
@@ -503,7 +503,7 @@ a\n++b --> a (++_ b)
 a ++\nb --> (_++ a) b
 "#;
 
-// Assignments, arrows and conditionals.
+/// Assignments, arrows and conditionals.
 const ASSIGNMENTS: &str = r#"
 a = b = c --> (= a (= b c))
 a += b -= c *= d /= e %= f --> (+= a (-= b (*= c (/= d (%= e f)))))
@@ -537,7 +537,7 @@ a || b ? c : d => e --> (? (|| a b) c (=> (d) e))
 a ? b --> NoTree(1)
 "#;
 
-// Operators, by their level.
+/// Operators, by their level.
 const OPERATORS: &str = r#"
 a - b - c --> (- (- a b) c)
 a - (b - c) --> (- a '(- b c))
@@ -567,7 +567,7 @@ a.b++ --> NoTree(1)
 a\n++ --> NoTree(2)
 "#;
 
-// Calls and primaries.
+/// Calls and primaries.
 const CALLS: &str = r#"
 a.b[c](d).e --> (. (call (at (. a b) c) d) e)
 a.if.switch.__proto__ --> (. (. (. a if) switch) __proto__)
@@ -603,7 +603,7 @@ f(function g() {}) --> NoTree(1)
 a = if --> NoTree(1)
 "#;
 
-// Unsupported tokens come first.
+/// Unsupported tokens come first.
 const UNSUPPORTED: &str = r#"
 switch (a) {} --> Unsupported(1)
 a & b --> Unsupported(1)
@@ -626,7 +626,7 @@ a.b\n~c ^ d --> Unsupported(2)
 let a = 1 let b\nthis --> Unsupported(2)
 "#;
 
-// A script without semicolons.
+/// A script without semicolons.
 const SCRIPT: &str = r#"
 const f = () => {\n  return\n  1\n}\nconst g = x => x\nconst h = g\n(2)\nbp.registerBThread("A", () => {\n  bp.log.info(f())\n  bp.log.info(h)\n})\n --> (const (f (=> () {return 1}))) (const (g (=> (x) x))) (const (h (call g 2))) (call (. bp registerBThread) "A" (=> () {(call (. (. bp log) info) (call f)) (call (. (. bp log) info) h)}))
 "#;

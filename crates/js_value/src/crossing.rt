@@ -2,7 +2,7 @@
 
 use crate::value::{EventSet, Value};
 
-// Takes only what may move to another thread and be read by several.
+/// Takes only what may move to another thread and be read by several.
 fn crosses<T: Send + Sync>(_shared: &T) {}
 
 /// A value may move to another thread, and several threads may read it. Does nothing.

@@ -1,4 +1,4 @@
-// Two injectors of 200 lines, of cars and of lights at a crossing. Their lanes fill up, so that each waits for its places.
+//! Two injectors of 200 lines, of cars and of lights at a crossing. Their lanes fill up, so that each waits for its places.
 ghost use Rattle.bp_lanes.specs.Lanes.{IsSameEar};
 
 use crate::told::add_taken;
@@ -49,7 +49,7 @@ fn lights(alloc: Global) -> Result<String, AllocError> {
     Ok(text)
 }
 
-// Whether these are the items of the lines.
+/// Whether these are the items of the lines.
 fn are_of(alloc: Global, items: &str, lines: &str) -> Result<bool, AllocError> {
     let told = lines.replace(alloc, "\n", "|")?;
     Ok(items == format!(in alloc; "|{}end", told.as_str())?.as_str())
@@ -59,7 +59,7 @@ fn source_of(alloc: Global, text: &str) -> Result<MemorySource, Fail> {
     Ok(MemorySource::new(text.as_bytes().to_vec(alloc)?, Vec::new(alloc)))
 }
 
-// Takes what is there and wakes the injectors, or waits for them, until the end of both was taken.
+/// Takes what is there and wakes the injectors, or waits for them, until the end of both was taken.
 fn take_all<R: Threads + Wait + Sync>(
     rt: &R,
     alloc: Global,
@@ -88,7 +88,7 @@ fn take_all<R: Threads + Wait + Sync>(
     Ok((first, second))
 }
 
-// What two injectors of these texts offer, each on a thread of its own.
+/// What two injectors of these texts offer, each on a thread of its own.
 fn offered<R: Threads + Wait + Sync>(
     rt: &R,
     alloc: Global,

@@ -1,4 +1,4 @@
-// Bells that are halted, and injectors that find a halt.
+//! Bells that are halted, and injectors that find a halt.
 use crate::sources::Drip;
 use crate::told::{add_taken, told};
 use bp_feeds::Feed;
@@ -38,8 +38,8 @@ impl Wake for Countdown {
     }
 }
 
-// What is offered where a halt is found after so many turns, and behind a slash what the source then still gives. It gives one
-// line a read.
+/// What is offered where a halt is found after so many turns, and behind a slash what the source then still gives. It gives one
+/// line a read.
 fn halted_after<R: Threads + Wait + Sync>(
     rt: &R,
     alloc: Global,
@@ -101,7 +101,7 @@ fn a_halted_bell_ends_an_injector(rt: HostRuntime) -> Result<(), Fail> {
     Ok(())
 }
 
-// What one rope does, the others and the bell find.
+/// What one rope does, the others and the bell find.
 #[test]
 fn ropes_of_one_bell(rt: HostRuntime) -> Result<(), Fail> {
     let bell = Bell::new();

@@ -1,4 +1,4 @@
-// Lanes whose ends learn what the other did, and feeds at a full lane.
+//! Lanes whose ends learn what the other did, and feeds at a full lane.
 ghost use Rattle.bp_lanes.specs.Lanes.{IsSameMouth, IsSameEar};
 
 use crate::told::{add_taken, told};
@@ -8,7 +8,7 @@ use bp_lanes::{Ear, Mouth, lane};
 use bp_log::Item;
 use std::test::Fail;
 
-// Offers so many bad lines, by functions that have no leave to wait, and says how many found a place.
+/// Offers so many bad lines, by functions that have no leave to wait, and says how many found a place.
 fn offered(mouth: &mut Mouth, from: u32, count: u32) -> u32
     ensures { IsSameMouth mouth.old mouth.new }
 {
@@ -21,7 +21,7 @@ fn offered(mouth: &mut Mouth, from: u32, count: u32) -> u32
     found
 }
 
-// The number of the bad line that is taken next, by a function that has no leave to wait.
+/// The number of the bad line that is taken next, by a function that has no leave to wait.
 fn taken(ear: &mut Ear) -> Option<u32>
     ensures { IsSameEar ear.old ear.new }
 {

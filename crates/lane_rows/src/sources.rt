@@ -1,4 +1,4 @@
-// Sources of the tests' own. They tell nothing of their content.
+//! Sources of the tests' own. They tell nothing of their content.
 ghost use Rattle.std.specs.Prelude.{None};
 
 use bp_base::{Failed, MemorySource, Source};
@@ -68,7 +68,7 @@ impl<'a> Source for Meeting<'a> {
     }
 }
 
-// Looks until so many have begun, at most 10,000,000 times.
+/// Looks until so many have begun, at most 10,000,000 times.
 fn all_came(begun: &AtomicU64, meets: u64) -> bool {
     for _ in 0..10_000_000 {
         if begun.load(Ordering::SeqCst) >= meets {

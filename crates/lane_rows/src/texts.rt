@@ -1,4 +1,4 @@
-// Texts of injectors and their items, whatever the pieces in which the bytes come.
+//! Texts of injectors and their items, whatever the pieces in which the bytes come.
 use crate::sources::Drip;
 use crate::told::told;
 use bp_base::MemorySource;
@@ -18,12 +18,12 @@ enum Lines {
     Failing,
 }
 
-// Whether these are the items of the bytes, by at most so many a read, where one read fails.
+/// Whether these are the items of the bytes, by at most so many a read, where one read fails.
 fn are(alloc: Global, bytes: &[u8], step: usize, fails: u64, want: &str) -> Result<bool, Fail> {
     Ok(told(alloc, Drip::new(alloc, bytes, step, fails)?)?.as_str() == want)
 }
 
-// Whether these are the items of the bytes, read at once and by at most so many, whatever of these.
+/// Whether these are the items of the bytes, read at once and by at most so many, whatever of these.
 fn are_by(alloc: Global, bytes: &[u8], steps: &[usize], want: &str) -> Result<bool, Fail> {
     for step in steps {
         if !are(alloc, bytes, *step, 0, want)? {
@@ -33,7 +33,7 @@ fn are_by(alloc: Global, bytes: &[u8], steps: &[usize], want: &str) -> Result<bo
     are(alloc, bytes, usize::MAX, 0, want)
 }
 
-// Some of the bytes stand as `%` and two digits.
+/// Some of the bytes stand as `%` and two digits.
 fn push_bytes(bytes: &mut Vec<u8>, cell: &str) -> Result<(), Fail> {
     Ok(percent_decode(cell.as_bytes()).append_to(bytes)?)
 }
@@ -68,7 +68,7 @@ fn agree(rt: &impl Abort, alloc: Global, lines: Lines, table: &str) -> Result<()
     Ok(())
 }
 
-// No lines and one.
+/// No lines and one.
 const ONE: &str = r#"
  --> |end
 %0a --> |end
@@ -87,7 +87,7 @@ const ONE: &str = r#"
 [ "x" , {"b":2,"a":1} ]%0a --> |["x",{"a":1,"b":2}]|end
 "#;
 
-// Several lines.
+/// Several lines.
 const SEVERAL: &str = r#"
 ["a",1]%0a["a",2]%0a["a",3]%0a --> |["a",1]|["a",2]|["a",3]|end
 ["b",1]%0a["b",2]%0a["b",3] --> |["b",1]|["b",2]|["b",3]|end
@@ -103,7 +103,7 @@ const SEVERAL: &str = r#"
 ["x",-9007199254740991]%0a --> |["x",-9007199254740991]|end
 "#;
 
-// Lines that are no events.
+/// Lines that are no events.
 const BAD: &str = r#"
 oops --> |bad 1
 oops%0a --> |bad 1
@@ -137,7 +137,7 @@ oops%0aoops%0a --> |bad 1
 ["x"]%0d["y"]%0a --> |bad 1
 "#;
 
-// A line has at most 32,768 bytes, without its LF.
+/// A line has at most 32,768 bytes, without its LF.
 const PADDED: &str = r#"
 32768: --> |end
 32768:%0a --> |end
@@ -153,7 +153,7 @@ const PADDED: &str = r#"
 
 const THREE: &[u8] = b"[\"a\"]\n[\"b\"]\n[\"c\"]";
 
-// Each read fails in turn.
+/// Each read fails in turn.
 const FAILING: &str = r#"
 1 --> |failed
 2 --> |["a"]|failed
@@ -172,7 +172,7 @@ fn bytes_have_their_items(rt: HostRuntime) -> Result<(), Fail> {
     agree(&rt, alloc, Lines::Failing, FAILING)
 }
 
-// Whether a line of a name of so many letters is bad.
+/// Whether a line of a name of so many letters is bad.
 fn name_is_bad(alloc: Global, letters: usize) -> Result<bool, Fail> {
     let mut line = b"[\"".to_vec(alloc)?;
     line.extend_from_slice(Vec::from_elem(alloc, b'a', letters)?.as_slice())?;

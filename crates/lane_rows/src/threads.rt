@@ -1,4 +1,4 @@
-// Injectors on threads of their own.
+//! Injectors on threads of their own.
 use crate::sources::{Drip, Meeting};
 use crate::told::add_taken;
 use bp_inject::{join, start};
@@ -26,7 +26,7 @@ fn meeting<'a>(alloc: Global, bytes: &[u8], begun: &'a AtomicU64) -> Result<Meet
     })
 }
 
-// The items of two injectors, of which each waits for the first read of the other.
+/// The items of two injectors, of which each waits for the first read of the other.
 fn both<R: Threads + Wait + Sync>(rt: &R, alloc: Global) -> Result<String, Fail> {
     let (begun, bell) = (AtomicU64::new(0), Bell::new());
     let (begun, bell) = (&begun, &bell);

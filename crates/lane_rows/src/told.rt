@@ -1,4 +1,4 @@
-// The items of a feed as text.
+//! The items of a feed as text.
 ghost use Rattle.bp_lanes.specs.Lanes.{IsSameEar};
 
 use bp_base::Source;

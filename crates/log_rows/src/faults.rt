@@ -7,7 +7,7 @@ use std::test::Fail;
 const LOG: &[u8] =
     b"bp-log 1\nstrategy simple\nseed 0\nbudget 1\nsteps 1\ninjectors 0\nprogram 0\n\nend quiet 0\n";
 
-// The first read would give the whole log.
+/// The first read would give the whole log.
 #[test]
 fn a_failed_read_is_told(rt: HostRuntime) -> Result<(), Fail> {
     let alloc = rt.alloc();
@@ -20,8 +20,8 @@ fn a_failed_read_is_told(rt: HostRuntime) -> Result<(), Fail> {
     Ok(())
 }
 
-// The second read would tell that the log is at its end. What was refused is refused again, although the
-// source has come to its end by then.
+/// The second read would tell that the log is at its end. What was refused is refused again, although the
+/// source has come to its end by then.
 #[test]
 fn a_refusal_stays(rt: HostRuntime) -> Result<(), Fail> {
     let alloc = rt.alloc();
@@ -40,7 +40,7 @@ fn a_refusal_stays(rt: HostRuntime) -> Result<(), Fail> {
     Ok(())
 }
 
-// The second line finds no room.
+/// The second line finds no room.
 #[test]
 fn a_failed_write_leaves_what_was_written(rt: HostRuntime) -> Result<(), Fail> {
     let alloc = rt.alloc();

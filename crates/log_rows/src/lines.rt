@@ -15,7 +15,7 @@ pub enum Lines {
     Replayed,
 }
 
-// The front and the bytes of a cell, in which `;` stands for a line end and `%` with two digits for a byte.
+/// The front and the bytes of a cell, in which `;` stands for a line end and `%` with two digits for a byte.
 fn log_of(alloc: Global, front: &[u8], cell: &str) -> Result<Vec<u8>, Fail> {
     let text = cell.replace(alloc, ";", "\n")?;
     let mut log = front.to_vec(alloc)?;

@@ -32,7 +32,7 @@ fn headers_that_are_refused(rt: HostRuntime) -> Result<(), Fail> {
     agree(&rt, rt.alloc(), Lines::Replayed, b"", REFUSED)
 }
 
-// The second read would tell that the log is at its end.
+/// The second read would tell that the log is at its end.
 #[test]
 fn a_failed_read_is_told(rt: HostRuntime) -> Result<(), Fail> {
     let alloc = rt.alloc();
@@ -48,7 +48,7 @@ fn a_failed_read_is_told(rt: HostRuntime) -> Result<(), Fail> {
     Ok(())
 }
 
-// There is no room for the last line.
+/// There is no room for the last line.
 #[test]
 fn a_failed_write_is_told(rt: HostRuntime) -> Result<(), Fail> {
     let alloc = rt.alloc();

@@ -1,9 +1,9 @@
-// Lines of the trace, as text and printed.
+//! Lines of the trace, as text and printed.
 use bp_base::MemorySink;
 use bp_log::{Line, PrintError, Verdict, line_of, print};
 use std::test::Fail;
 
-// The second time the line finds no room.
+/// The second time the line finds no room.
 #[test]
 fn prints_a_line(rt: HostRuntime) -> Result<(), Fail> {
     let alloc = rt.alloc();

@@ -10,7 +10,7 @@ use std::test::Fail;
 const FRONT: &[u8] =
     b"bp-log 1\nstrategy simple\nseed 0\nbudget 1000000\nsteps 100000\ninjectors 2\nprogram 3\nx=1\n";
 
-// Each form, each as it is written.
+/// Each form, each as it is written.
 const FORMS: &str = r#"
 end quiet 0; --> read
 eof 0;eof 1;end quiet 4294967295; --> read
@@ -29,7 +29,7 @@ end limit bthreads 4096; --> read
 end limit weight 16777216; --> read
 "#;
 
-// The log ends too early, or goes on behind its end.
+/// The log ends too early, or goes on behind its end.
 const ENDS: &str = r#"
  --> cut
 end quiet 0 --> cut
@@ -42,7 +42,7 @@ end quiet 0;end quiet 0; --> line 2
 eof 1;end quiet 0;eof 0; --> line 3
 "#;
 
-// Injectors that are not there or have ended.
+/// Injectors that are not there or have ended.
 const INJECTORS: &str = r#"
 eof 2; --> line 1
 in 2 ["x"]; --> line 1
@@ -56,7 +56,7 @@ eof 1;bad 1 1; --> line 2
 eof 1;in 0 ["x"];end quiet 0; --> read
 "#;
 
-// Numbers with a sign, a leading zero, a blank too many, or past their limit.
+/// Numbers with a sign, a leading zero, a blank too many, or past their limit.
 const NUMBERS: &str = r#"
 eof 00; --> line 1
 eof 01; --> line 1
@@ -82,7 +82,7 @@ end limit bthreads 04096; --> line 1
 end limit weight 1; --> line 1
 "#;
 
-// Events in another spelling, and lines of no form.
+/// Events in another spelling, and lines of no form.
 const SPELLINGS: &str = r#"
 sel ["x"]%0d; --> line 1
 sel [ "x"]; --> line 1
@@ -126,11 +126,11 @@ fn records_are_read_exactly(rt: HostRuntime) -> Result<(), Fail> {
     Ok(())
 }
 
-// The log of a whole run.
+/// The log of a whole run.
 const WHOLE: &[u8] =
     b"bp-log 1\nstrategy simple\nseed 0\nbudget 1000000\nsteps 100000\ninjectors 1\nprogram 4\nx=1\n\nin 0 [\"x\"]\neof 0\nsel [\"x\"]\nend quiet 1\n";
 
-// Cut anywhere, a log is cut.
+/// Cut anywhere, a log is cut.
 #[test]
 fn a_front_of_a_log_is_cut(rt: HostRuntime) -> Result<(), Fail> {
     let alloc = rt.alloc();
@@ -144,14 +144,14 @@ fn a_front_of_a_log_is_cut(rt: HostRuntime) -> Result<(), Fail> {
 const HEAD: &str =
     "bp-log 1\nstrategy simple\nseed 0\nbudget 1\nsteps 1\ninjectors 0\nprogram 0\n\n";
 
-// Whether this is answered where so many letters stand between these two on the first line of a record.
+/// Whether this is answered where so many letters stand between these two on the first line of a record.
 fn answers(alloc: Global, line: (&str, u32, &str), want: &str) -> Result<bool, Fail> {
     let (start, count, end) = line;
     let before = format!(in alloc; "{HEAD}{start}")?;
     Ok(answer_of_long(alloc, before.as_str(), count, end)?.as_str() == want)
 }
 
-// An event weighs one more than its name, and its name one more than its bytes.
+/// An event weighs one more than its name, and its name one more than its bytes.
 #[test]
 fn lines_and_events_have_limits(rt: HostRuntime) -> Result<(), Fail> {
     let alloc = rt.alloc();
@@ -165,7 +165,7 @@ fn lines_and_events_have_limits(rt: HostRuntime) -> Result<(), Fail> {
     Ok(())
 }
 
-// How the reading of a log ends that has so many equal lines and then this, behind the number of its records.
+/// How the reading of a log ends that has so many equal lines and then this, behind the number of its records.
 fn counted(alloc: Global, count: u32, end: &str) -> Result<String, Fail> {
     let lines = "sel [\"x\"]\n".repeat(alloc, count as usize)?;
     let log = format!(in alloc; "{HEAD}{}{end}", lines.as_str())?;

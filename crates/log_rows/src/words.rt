@@ -1,9 +1,9 @@
-// The words of the random choice.
+//! The words of the random choice.
 use bp_words::word_of;
 use std::test::Fail;
 
-// Seeds, places and words: those of the seeds 0 and 1 from the published key streams of ChaCha8,
-// the others from another implementation that gives these two. A block has 16 words.
+/// Seeds, places and words: those of the seeds 0 and 1 from the published key streams of ChaCha8,
+/// the others from another implementation that gives these two. A block has 16 words.
 const WORDS: &str = "
 0 0 2fef003e
 0 1 d6405f89

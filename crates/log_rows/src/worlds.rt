@@ -1,4 +1,4 @@
-// Sources, sinks and worlds, in memory and of the system.
+//! Sources, sinks and worlds, in memory and of the system.
 use bp_base::{
     Failed, FileWorld, MemorySink, MemorySource, MemoryWorld, ReadError, Sink, Source, StreamSink,
     World, WorldError, read_all, write_all,
@@ -12,7 +12,7 @@ const NAME: &str = "bp_base_test";
 
 const WRITTEN: &str = "bp_base_written";
 
-// Five bytes, read to their end within a limit, where a call fails; and how often the source failed.
+/// Five bytes, read to their end within a limit, where a call fails; and how often the source failed.
 fn read_is(
     rt: &impl Abort,
     alloc: Global,
@@ -71,7 +71,7 @@ fn a_world_opens_what_it_holds(rt: HostRuntime) -> Result<(), Fail> {
     Ok(())
 }
 
-// An output is held under its name once it is closed, with all that was written, also where a call failed.
+/// An output is held under its name once it is closed, with all that was written, also where a call failed.
 #[test]
 fn a_world_holds_what_was_written(rt: HostRuntime) -> Result<(), Fail> {
     let alloc = rt.alloc();

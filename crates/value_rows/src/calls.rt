@@ -61,7 +61,7 @@ fn unary_operator(name: &str) -> Option<Unary> {
     }
 }
 
-// What the operator or the method of this name answers on these values.
+/// What the operator or the method of this name answers on these values.
 fn on_values(alloc: Global, name: &str, first: &Value, rest: &[Value]) -> Result<String, Fail> {
     if let Some(op) = unary_operator(name) {
         return shown(alloc, unary(op, first));
@@ -76,7 +76,7 @@ fn on_values(alloc: Global, name: &str, first: &Value, rest: &[Value]) -> Result
     }
 }
 
-// What the call of this name answers on these values or, of the makings, makes of them.
+/// What the call of this name answers on these values or, of the makings, makes of them.
 fn called(alloc: Global, name: &str, values: &[Value]) -> Result<String, Fail> {
     match (name, values) {
         ("list", parts) => shown(alloc, make(alloc, Make::List, parts, &[])),
@@ -87,7 +87,7 @@ fn called(alloc: Global, name: &str, values: &[Value]) -> Result<String, Fail> {
     }
 }
 
-// What the call answers on the values of the words, with ` | ` between.
+/// What the call answers on the values of the words, with ` | ` between.
 fn on_words(alloc: Global, name: &str, words: &str) -> Result<String, Fail> {
     let mut values = Vec::new(alloc);
     if !words.is_empty() {
@@ -104,7 +104,7 @@ fn member_of(alloc: Global, words: &str) -> Result<String, Fail> {
     shown(alloc, member(alloc, &value, &text(alloc, name)?))
 }
 
-// The fields of these keys, with the values of these words.
+/// The fields of these keys, with the values of these words.
 fn fields(alloc: Global, names: &[&str], words: &[&str]) -> Result<String, Fail> {
     let (mut keys, mut parts) = (Vec::new(alloc), Vec::new(alloc));
     for name in names {
@@ -122,7 +122,7 @@ fn fields(alloc: Global, names: &[&str], words: &[&str]) -> Result<String, Fail>
     )
 }
 
-// The fields of one key, of one that stands twice, or of three with the values 1, 2 and 3.
+/// The fields of one key, of one that stands twice, or of three with the values 1, 2 and 3.
 fn fields_of(alloc: Global, name: &str, words: &str) -> Result<String, Fail> {
     let (first, rest) = words.split_once(" | ").ok_or("one word")?;
     match name {

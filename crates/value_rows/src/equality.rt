@@ -3,7 +3,7 @@ use crate::calls::answer;
 use std::alloc::Global;
 use std::test::Fail;
 
-// The opposite answer, and the same fault.
+/// The opposite answer, and the same fault.
 fn opposite(word: &str) -> &str {
     match word {
         "true" => "false",

@@ -7,14 +7,14 @@ use percent_encoding::percent_decode;
 use std::alloc::Global;
 use std::test::Fail;
 
-// The bytes of a cell, some of them as `%` and two digits.
+/// The bytes of a cell, some of them as `%` and two digits.
 fn bytes_of(alloc: Global, cell: &str) -> Result<Vec<u8>, Fail> {
     let mut bytes = Vec::new(alloc);
     percent_decode(cell.as_bytes()).append_to(&mut bytes)?;
     Ok(bytes)
 }
 
-// The text of the event that is read from the bytes.
+/// The text of the event that is read from the bytes.
 fn shown(alloc: Global, bytes: &[u8]) -> Result<Text, Fail> {
     match event_of(alloc, bytes) {
         Ok(event) => Ok(event_text(alloc, &event)?),
@@ -76,7 +76,7 @@ null --> no event
 ["%ff"] --> no event
 "#;
 
-// Whether the text of the event that is read from the bytes is what is wanted.
+/// Whether the text of the event that is read from the bytes is what is wanted.
 fn reads_as(alloc: Global, bytes: &[u8], want: &[u8]) -> Result<bool, Fail> {
     Ok(shown(alloc, bytes)?.as_str().as_bytes() == want)
 }
@@ -95,7 +95,7 @@ pub fn agrees(alloc: Global, cell: &str, want: &str) -> Result<bool, Fail> {
     )
 }
 
-// The text of an event whose data are so many lists, one in another, or whose name has so many letters.
+/// The text of an event whose data are so many lists, one in another, or whose name has so many letters.
 fn sized(alloc: Global, cell: &str) -> Result<String, Fail> {
     let (count, name) = cell.split_once(" ").ok_or("no count")?;
     let count = count.parse::<usize>()?;
@@ -134,12 +134,12 @@ fn event(alloc: Global, name: &str, number: i64) -> Result<Event, Fail> {
     Ok(Event::new(text(alloc, name)?, Some(Data::Whole(number)))?)
 }
 
-// Whether the copy of this event is the event of this name with the number 5.
+/// Whether the copy of this event is the event of this name with the number 5.
 fn copies_as_five(alloc: Global, made: &Event, name: &str) -> Result<bool, Fail> {
     Ok(made.copy()?.same(&event(alloc, name, 5)?))
 }
 
-// Whether the copy of the event `go` with the number is the event of this name with the number 5.
+/// Whether the copy of the event `go` with the number is the event of this name with the number 5.
 fn copies(alloc: Global, number: i64, name: &str) -> Result<bool, Fail> {
     copies_as_five(alloc, &event(alloc, "go", number)?, name)
 }
@@ -155,7 +155,7 @@ fn copied_number(event: &Event) -> Result<Option<i64>, Fail> {
     Ok(number_in(&copy_data(event.data().ok_or("no data")?)?))
 }
 
-// Whether the copy of the data of an event with the number is the number.
+/// Whether the copy of the data of an event with the number is the number.
 fn copies_number(alloc: Global, number: i64) -> Result<bool, Fail> {
     Ok(copied_number(&event(alloc, "go", number)?)? == Some(number))
 }
@@ -169,7 +169,7 @@ fn copies_are_the_same(rt: HostRuntime) -> Result<(), Fail> {
     Ok(())
 }
 
-// The name and the text of the data, one behind the other.
+/// The name and the text of the data, one behind the other.
 fn parts_shown(alloc: Global, event: Event) -> Result<String, Fail> {
     let (name, extra) = event.into_parts();
     let mut shown = name.into_string();

@@ -6,7 +6,7 @@ use js_value::{Fault, Op, Value};
 use std::alloc::Global;
 use std::test::Fail;
 
-// One value of each kind.
+/// One value of each kind.
 const KINDS: &str = r#"
 undefined
 null
@@ -20,7 +20,7 @@ all
 function
 "#;
 
-// `t` and `f` for a truth value, `n` for a whole number, `w` for a text, `x` for the fault `type`.
+/// `t` and `f` for a truth value, `n` for a whole number, `w` for a text, `x` for the fault `type`.
 fn mark(answer: &Result<Value, OpFault>) -> char {
     match answer {
         Ok(Value::Truth(true)) => 't',
@@ -32,7 +32,7 @@ fn mark(answer: &Result<Value, OpFault>) -> char {
     }
 }
 
-// The marks of what the operator answers for the value and each kind.
+/// The marks of what the operator answers for the value and each kind.
 fn marks(alloc: Global, op: Op, left: &Value) -> Result<String, Fail> {
     let mut marks = String::new(alloc);
     for right in KINDS.trim().lines() {
@@ -56,7 +56,7 @@ pub fn has_marks(alloc: Global, cell: &str, want: &str) -> Result<bool, Fail> {
     Ok(true)
 }
 
-// Texts are joined, and whole numbers added.
+/// Texts are joined, and whole numbers added.
 const ADDED: &str = r#"
 + : undefined --> xxxxwxxxxx
 + : null --> xxxxwxxxxx
@@ -70,7 +70,7 @@ const ADDED: &str = r#"
 + : function --> xxxxxxxxxx
 "#;
 
-// Only two whole numbers have an answer, a whole number.
+/// Only two whole numbers have an answer, a whole number.
 const WHOLE: &str = r#"
 -, *, /, floor /, % : undefined --> xxxxxxxxxx
 -, *, /, floor /, % : null --> xxxxxxxxxx
@@ -84,7 +84,7 @@ const WHOLE: &str = r#"
 -, *, /, floor /, % : function --> xxxxxxxxxx
 "#;
 
-// Only two whole numbers have an answer, and 7 stands so to 7.
+/// Only two whole numbers have an answer, and 7 stands so to 7.
 const HOLDS: &str = r#"
 <=, >= : undefined --> xxxxxxxxxx
 <=, >= : null --> xxxxxxxxxx
@@ -98,7 +98,7 @@ const HOLDS: &str = r#"
 <=, >= : function --> xxxxxxxxxx
 "#;
 
-// Only two whole numbers have an answer, and 7 does not stand so to 7.
+/// Only two whole numbers have an answer, and 7 does not stand so to 7.
 const FAILS: &str = r#"
 <, > : undefined --> xxxxxxxxxx
 <, > : null --> xxxxxxxxxx
@@ -112,7 +112,7 @@ const FAILS: &str = r#"
 <, > : function --> xxxxxxxxxx
 "#;
 
-// Contents of one kind are compared; lists, fields, sets and functions are not.
+/// Contents of one kind are compared; lists, fields, sets and functions are not.
 const SAME: &str = r#"
 === : undefined --> tfffffffff
 === : null --> ftffffffff
@@ -126,7 +126,7 @@ const SAME: &str = r#"
 === : function --> fffffffffx
 "#;
 
-// The opposite.
+/// The opposite.
 const NOT_SAME: &str = r#"
 !== : undefined --> fttttttttt
 !== : null --> tftttttttt
@@ -140,7 +140,7 @@ const NOT_SAME: &str = r#"
 !== : function --> tttttttttx
 "#;
 
-// `null` and `undefined` are equal, and differ from all else; other kinds are not compared.
+/// `null` and `undefined` are equal, and differ from all else; other kinds are not compared.
 const EQUAL: &str = r#"
 == : undefined --> ttffffffff
 == : null --> ttffffffff
@@ -154,7 +154,7 @@ const EQUAL: &str = r#"
 == : function --> ffxxxxxxxx
 "#;
 
-// The opposite.
+/// The opposite.
 const NOT_EQUAL: &str = r#"
 != : undefined --> fftttttttt
 != : null --> fftttttttt

@@ -3,7 +3,7 @@ use crate::calls::answer;
 use std::alloc::Global;
 use std::test::Fail;
 
-// The name of a fault, or `ok` for a value.
+/// The name of a fault, or `ok` for a value.
 fn outcome(found: &str) -> &str {
     match found {
         "weight" | "nesting" | "type" | "mode" | "memory" => found,
@@ -17,7 +17,7 @@ pub fn ends_in(alloc: Global, call: &str, want: &str) -> Result<bool, Fail> {
     Ok(outcome(answer(alloc, name, words)?.as_str()) == want)
 }
 
-// Texts, lists, fields and sets weigh at most 65536, events at most 1024.
+/// Texts, lists, fields and sets weigh at most 65536, events at most 1024.
 const WEIGHTS: &str = r#"
 + | 65534 letters | "a" --> ok
 + | 65535 letters | "a" --> weight
@@ -49,7 +49,7 @@ event | 1021 letters | null --> ok
 event | 1022 letters | null --> weight
 "#;
 
-// Lists, fields and sets nest at most 64 deep.
+/// Lists, fields and sets nest at most 64 deep.
 const NESTINGS: &str = r#"
 list | 63 lists --> ok
 list | 64 lists --> nesting
@@ -71,7 +71,7 @@ negate | 62 lists joined to all --> ok
 negate | 63 lists joined to all --> nesting
 "#;
 
-// The weight comes before the nesting.
+/// The weight comes before the nesting.
 const BOTH: &str = "
 list | 63 lists | 1 letters --> ok
 list | 64 lists | 1 letters --> nesting

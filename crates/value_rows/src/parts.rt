@@ -1,6 +1,6 @@
 //! Members, places, methods and making.
 
-// Members and places.
+/// Members and places.
 const MEMBERS: &str = r#"
 member | [1,2] | length --> 2
 member | [] | length --> 0
@@ -42,7 +42,7 @@ place | all | 0 --> type
 place | function | 0 --> type
 "#;
 
-// Methods of lists and texts, of events and sets.
+/// Methods of lists and texts, of events and sets.
 const METHODS: &str = r#"
 concat | [1] | [2,3] --> [1,2,3]
 concat | [1] | 2 --> [1,2]
@@ -90,7 +90,7 @@ negate | [] --> type
 negate | null --> type
 "#;
 
-// Lists, events and sets; fields, which are sorted, and of which the last value of a key stays.
+/// Lists, events and sets; fields, which are sorted, and of which the last value of a key stays.
 const MAKING: &str = r#"
 list --> []
 list | 1 | [null] --> [1,[null]]

@@ -29,14 +29,14 @@ fn list(alloc: Global, items: Vec<Value>) -> Result<Value, Fail> {
     Ok(Value::List(Items::new(alloc, items)?))
 }
 
-// `{"key":go}`
+/// `{"key":go}`
 fn fields(alloc: Global) -> Result<Value, Fail> {
     let key = Arc::new(alloc, text(alloc, "key")?)?;
     let fields = vec![in alloc; (key, event(alloc)?)]?;
     Ok(Value::Fields(Pairs::new(alloc, fields)?))
 }
 
-// `[1,{"key":go}]`
+/// `[1,{"key":go}]`
 fn list_of_fields(alloc: Global) -> Result<Value, Fail> {
     let items = vec![in alloc; whole(1)?, fields(alloc)?]?;
     list(alloc, items)
@@ -58,7 +58,7 @@ fn value_named(alloc: Global, name: &str) -> Result<Value, Fail> {
     }
 }
 
-// The weight, the nesting, the truth and the text.
+/// The weight, the nesting, the truth and the text.
 fn shown(alloc: Global, value: &Value) -> Result<String, Fail> {
     let sizes = format!(in alloc; "{} {} {}", weight(value), nesting(value), truthy(value))?;
     match text_of(alloc, value)? {
@@ -156,12 +156,12 @@ pub fn set_agrees(alloc: Global, name: &str, want: &str) -> Result<bool, Fail> {
     Ok(set_is_shown(alloc, &made, want)? && set_is_shown(alloc, &made.copy()?, want)?)
 }
 
-// A list of which one thread reads the weight and lets it go, and another the nesting of its copy.
+/// A list of which one thread reads the weight and lets it go, and another the nesting of its copy.
 fn read_by_two<R: Threads>(rt: &R, one: Value, other: Value) -> (u64, u64) {
     join(rt, move || weight(&one), move || nesting(&other))
 }
 
-// The list and its copy are read and let go by two threads, and a third owner, if there is one, is here.
+/// The list and its copy are read and let go by two threads, and a third owner, if there is one, is here.
 fn weight_and_nesting<R: Threads>(rt: &R, alloc: Global, stays: bool) -> Result<(u64, u64), Fail> {
     let one = list_of_fields(alloc)?;
     let other = copy(&one)?;
@@ -178,7 +178,7 @@ fn two_threads_hold_one_value(rt: HostRuntime) -> Result<(), Fail> {
     Ok(())
 }
 
-// The text, the list and the event that a value gives up.
+/// The text, the list and the event that a value gives up.
 fn parts_given_up(alloc: Global) -> Result<(bool, usize, bool), Fail> {
     let text = words_of(alloc, "ab")?.into_words().map_err(|_| "no text")?;
     let items = list_of_fields(alloc)?.into_list().map_err(|_| "no list")?;

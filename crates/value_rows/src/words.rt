@@ -36,7 +36,7 @@ fn list(alloc: Global, item: Value) -> Result<Value, Fail> {
     Ok(make(alloc, Make::List, &[item], &[])?)
 }
 
-// The fields with the key `a` alone.
+/// The fields with the key `a` alone.
 fn fields(alloc: Global, item: Value) -> Result<Value, Fail> {
     let key = key(alloc, "a")?;
     Ok(make(alloc, Make::Fields, &[item], &[key])?)
@@ -78,12 +78,12 @@ pub fn brackets(alloc: Global, count: usize) -> Result<String, Fail> {
     Ok(line)
 }
 
-// A text of this many bytes, which weighs one more.
+/// A text of this many bytes, which weighs one more.
 fn letters(alloc: Global, count: usize) -> Result<Value, Fail> {
     Ok(words(alloc, Text::new("a".repeat(alloc, count)?))?)
 }
 
-// This many lists, one in another; 2 to 64.
+/// This many lists, one in another; 2 to 64.
 fn lists(alloc: Global, count: usize) -> Result<Value, Fail> {
     let line = brackets(alloc, count.saturating_sub(1))?;
     list(alloc, data(alloc, line.as_str())?)
@@ -122,14 +122,14 @@ pub fn value_of(alloc: Global, word: &str) -> Result<Value, Fail> {
     }
 }
 
-// The JSON of the data of an event without a name.
+/// The JSON of the data of an event without a name.
 fn data_in(alloc: Global, held: &Event) -> Result<String, Fail> {
     let line = event_text(alloc, held)?;
     let front = line.as_str().strip_suffix("]").ok_or("no list")?;
     Ok(String::from_str(alloc, front.strip_prefix("[\"\",").ok_or("no data")?)?)
 }
 
-// The JSON of data, as what stands in the text of an event behind its name; `too large` where no event can hold it.
+/// The JSON of data, as what stands in the text of an event behind its name; `too large` where no event can hold it.
 fn shown_data(alloc: Global, v: Value) -> Result<String, Fail> {
     let name = words(alloc, text(alloc, "")?)?;
     match &make(alloc, Make::Event, &[name, v], &[]) {
@@ -143,7 +143,7 @@ fn shown_event(alloc: Global, event: &Event) -> Result<String, Fail> {
     Ok(format!(in alloc; "event {}", line.as_str())?)
 }
 
-// The line without each place of the part.
+/// The line without each place of the part.
 fn without(alloc: Global, line: &str, part: &str) -> Result<String, Fail> {
     let mut kept = String::new(alloc);
     for piece in line.split(part) {
@@ -152,7 +152,7 @@ fn without(alloc: Global, line: &str, part: &str) -> Result<String, Fail> {
     Ok(kept)
 }
 
-// The line without the sizes that stand beside shared parts, each with two braces behind it.
+/// The line without the sizes that stand beside shared parts, each with two braces behind it.
 fn without_sizes(alloc: Global, line: &str) -> Result<String, Fail> {
     let mut kept = String::new(alloc);
     for piece in line.split(", weight: ") {
@@ -164,14 +164,14 @@ fn without_sizes(alloc: Global, line: &str) -> Result<String, Fail> {
     Ok(kept)
 }
 
-// What the set was made of.
+/// What the set was made of.
 fn shown_set(alloc: Global, set: &EventSet) -> Result<String, Fail> {
     let line = without_sizes(alloc, format!(in alloc; "{set:?}")?.as_str())?;
     let sets = without(alloc, line.as_str(), "EventSet { shared: SetParts { tree: ")?;
     without(alloc, sets.as_str(), "Items { shared: ItemParts { values: ")
 }
 
-// The word of what is no data.
+/// The word of what is no data.
 fn shown_as_no_data(alloc: Global, v: &Value) -> Result<Option<String>, Fail> {
     match v {
         Value::Undefined => Ok(Some(String::from_str(alloc, "undefined")?)),
