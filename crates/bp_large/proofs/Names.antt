@@ -9,7 +9,7 @@ use Rattle.js_grammar.specs.Unsupported.{first_unsupported}
 use Rattle.js_grammar.specs.Sorts.{sort, named, numbered, quoted, member_word, key}
 use Rattle.js_grammar.specs.Operators.{operator_at, sign, step, assign_op}
 use Rattle.js_grammar.specs.Tokens.{declares, lexical, is_of}
-use Rattle.js_names.specs.Scopes.{program_scope, function_scope, block_scope, for_scope, list_scope, each_scope}
+use Rattle.js_names.specs.Scopes.{program_scope, function_scope, block_scope, for_three_scope, list_scope, for_of_scope}
 use Rattle.js_names.specs.Sites.{expr_sites, form_sites, exprs_sites, fields_sites, perhaps_sites, declarators_sites, start_sites, stmt_sites, stmt_form_sites, stmts_sites, item_sites, program_sites}
 use Rattle.js_names.specs.Places.{found, found_var, functions_of, repeated, blocked, see, places}
 use Rattle.js_names.specs.Slots.{assigned_in, holdings, slots_of, slot_count}
@@ -40,7 +40,7 @@ is_read size v supported is named = record { tree = tree_of size v; supported = 
 
 -- a number of so many digits
 pub reads : (size : ℕ) → 0 < size → size ≤ 10 → (v : ℕ) → IsRead (tokens size v)
-unfolding program_scope function_scope block_scope for_scope list_scope each_scope expr_sites form_sites exprs_sites fields_sites perhaps_sites declarators_sites start_sites stmt_sites stmt_form_sites stmts_sites item_sites program_sites found found_var functions_of repeated blocked see places assigned_in holdings slots_of slot_count fault_at name_fault tokens_before tokens_behind tokens sort named numbered quoted member_word key operator_at sign step assign_op declares lexical is_of readers turns run
+unfolding program_scope function_scope block_scope for_three_scope list_scope for_of_scope expr_sites form_sites exprs_sites fields_sites perhaps_sites declarators_sites start_sites stmt_sites stmt_form_sites stmts_sites item_sites program_sites found found_var functions_of repeated blocked see places assigned_in holdings slots_of slot_count fault_at name_fault tokens_before tokens_behind tokens sort named numbered quoted member_word key operator_at sign step assign_op declares lexical is_of readers turns run
 reads zero h l v = absurd (omega (arith, h))
 reads (suc zero) h l v = is_read 1 v refl refl refl
 reads (suc (suc zero)) h l v = is_read 2 v refl refl refl

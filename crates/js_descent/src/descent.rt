@@ -635,7 +635,7 @@ fn for_three(cursor: &mut Cursor<'_>, line: u32, inner: u32) -> Answer<Stmt>
     let body = body(cursor, inner)?;
     let depth = first.depth.max(test.depth.max(last.depth.max(body.depth))) + 1;
     let body = Box::new(cursor.alloc, body.tree)?;
-    let form = StmtForm::For(first.tree, test.tree, last.tree, body);
+    let form = StmtForm::ForThree(first.tree, test.tree, last.tree, body);
     Ok(stmt_at(line, form, depth))
 }
 

@@ -152,7 +152,7 @@ impl Engine {
             NodeForm::If(test, body) => self.wait(*test, Frame::Waiting(Part::When(*body))),
             NodeForm::IfElse(test, yes, no) => self.wait(*test, choice(*yes, *no)),
             NodeForm::While(test, body) => self.test(base, turns(Some(*test), *body, None)),
-            NodeForm::For(slots, first, test, next, body) => {
+            NodeForm::ForThree(slots, first, test, next, body) => {
                 self.start_loop(base, slots, *first, turns(*test, *body, *next))
             }
             NodeForm::ForOf(slot, list, body) => {

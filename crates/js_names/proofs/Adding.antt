@@ -16,12 +16,12 @@ use Rattle.js_tree.specs.declared.tree.Item.{Item}
 use Rattle.js_tree.specs.declared.tree.Tree.{Tree}
 use Rattle.js_tree.specs.Views.{plain_item, plain_tree}
 use Rattle.js_names.specs.Entries.{top}
-use Rattle.js_names.specs.Scopes.{Scope, each_role, program_scope}
+use Rattle.js_names.specs.Scopes.{Scope, for_of_role, program_scope}
 use Rattle.js_names.specs.Spots.{program_spot}
 use Rattle.js_names.specs.Sites.{Site, site, begin_site, item_sites, program_sites}
 use Rattle.js_names.specs.Places.{Place, see, places}
 use Rattle.js_names.specs.Views.{place_of, scope_of, scopes_of, scopes_onto}
-use Rattle.js_names.specs.Walks.{Adds, Enters, EntersEach, Entered, Left, scopes_in}
+use Rattle.js_names.specs.Walks.{Adds, Enters, EntersForOf, Entered, Left, scopes_in}
 use Rattle.js_names.specs.TreeSites.{tree_item_sites}
 use Rattle.js_names.proofs.Taking.{flat_map_take}
 use Rattle.js_names.proofs.Stacks.{scopes_push}
@@ -82,8 +82,8 @@ on_enters (Ok y) a b x scope s e = enters a b x scope s e
 on_enters (Err y) a b x scope s e = tt
 
 -- and the name of a `for` under it
-pub on_enters_each : {A E : Type 0} (r : Result A E) (a b c : Walk) (x : Held) (scope : Scope) (around : Around) (kind : DeclareKind) (role : Role) (name : Name) → scope_of x ≡ scope → Entered a b x → role ≡ each_role kind
-    → OnOk r (Adds b c (site (scopes_in b) around (What.Declares role) name)) → OnOk r (EntersEach a c around kind name scope)
+pub on_enters_each : {A E : Type 0} (r : Result A E) (a b c : Walk) (x : Held) (scope : Scope) (around : Around) (kind : DeclareKind) (role : Role) (name : Name) → scope_of x ≡ scope → Entered a b x → role ≡ for_of_role kind
+    → OnOk r (Adds b c (site (scopes_in b) around (What.Declares role) name)) → OnOk r (EntersForOf a c around kind name scope)
 on_enters_each (Err y) a b c x scope around kind role name s e q k = tt
 on_enters_each (Ok y) a b c x scope around kind role name s e q k =
     let h = enters a b x scope s e in (
@@ -101,12 +101,12 @@ enters_under f a b c d scope e h l = (
   ap (map place_of) l.1 ∙ (h.1 ∙ (ap (λ z. map place_of z ++ map see (f (scopes_in b))) e.1 ∙ ap (λ z. map place_of a.places.items ++ map see (f z)) e.0)),
 )
 
-pub each_under : (f : List Scope → List Site) (a b c d : Walk) (around : Around) (kind : DeclareKind) (name : Name) (scope : Scope) → EntersEach a b around kind name scope → Adds b c (f (scopes_in b)) → Left c d
-    → Adds a d (site (scope ∷ scopes_in a) around (What.Declares (each_role kind)) name ++ f (scope ∷ scopes_in a))
+pub each_under : (f : List Scope → List Site) (a b c d : Walk) (around : Around) (kind : DeclareKind) (name : Name) (scope : Scope) → EntersForOf a b around kind name scope → Adds b c (f (scopes_in b)) → Left c d
+    → Adds a d (site (scope ∷ scopes_in a) around (What.Declares (for_of_role kind)) name ++ f (scope ∷ scopes_in a))
 each_under f a b c d around kind name scope e h l = (
   l.0 ∙ (ap (λ z. take (length z - 1) z) h.0 ∙ e.2),
   ap (map place_of) l.1
-      ∙ added_both (map place_of a.places.items) (map place_of b.places.items) (map place_of c.places.items) (site (scope ∷ scopes_in a) around (What.Declares (each_role kind)) name) (f (scope ∷ scopes_in a)) e.1
+      ∙ added_both (map place_of a.places.items) (map place_of b.places.items) (map place_of c.places.items) (site (scope ∷ scopes_in a) around (What.Declares (for_of_role kind)) name) (f (scope ∷ scopes_in a)) e.1
       (h.1 ∙ ap (λ z. map place_of b.places.items ++ map see (f z)) e.0),
 )
 

@@ -17,7 +17,7 @@ use Rattle.js_names.specs.declared.place.Declared.{Declared}
 use Rattle.js_names.specs.declared.place.What.{What}
 use Rattle.js_names.specs.declared.place.What.TheVariants.{Declares, Reads, Assigns, Misuses}
 use Rattle.js_names.specs.Entries.{Entry, top, entry, own_declarators, own_of, own_of_all, own_of_start, own_of_item, vars_of_all}
-use Rattle.js_names.specs.Scopes.{Scope, named, first, one_var, inner_scope, parameters, block_scope, for_scope, list_scope, each_scope, each_role, function_scope, program_scope}
+use Rattle.js_names.specs.Scopes.{Scope, named, first, one_var, inner_scope, parameters, block_scope, for_three_scope, list_scope, for_of_scope, for_of_role, function_scope, program_scope}
 use Rattle.js_names.specs.Forms.{is_undefined, is_reserved, object_of, called_builtin, value_builtin}
 use Rattle.js_names.specs.Sites.{Site, site, read_site, assign_site, member_sites, in_function, in_loop, begin_site, parameter_sites, expr_sites, form_sites, exprs_sites, fields_sites, perhaps_sites, declarators_sites, start_sites, stmt_sites, stmt_form_sites, stmts_sites, item_sites, program_sites}
 use Rattle.js_names.specs.Places.{is_var, see}
@@ -89,13 +89,13 @@ block_owns : (scopes : List Scope) (o : ℕ) (ss : PlainStmts) → Owns (block_s
 unfolding block_scope
 block_owns scopes o ss = owns_all (block_scope o ss) scopes (own_of_all o false ss) (λ q k. k)
 
-for_owns : (scopes : List Scope) (o : ℕ) (start : PlainStart) (s : PlainStmt) → Owns (for_scope o start s ∷ scopes) (own_of_start o start)
-unfolding for_scope
-for_owns scopes o start s = owns_all (for_scope o start s) scopes (own_of_start o start) (λ q k. k)
+for_owns : (scopes : List Scope) (o : ℕ) (start : PlainStart) (s : PlainStmt) → Owns (for_three_scope o start s ∷ scopes) (own_of_start o start)
+unfolding for_three_scope
+for_owns scopes o start s = owns_all (for_three_scope o start s) scopes (own_of_start o start) (λ q k. k)
 
 list_owns : (scopes : List Scope) (o : ℕ) (kind : DeclareKind) (name : Name) → HasName (list_scope o kind name ∷ scopes) name.text
 unfolding list_scope
-list_owns scopes o kind name = among_first (entry name (each_role kind) top o false 0) []
+list_owns scopes o kind name = among_first (entry name (for_of_role kind) top o false 0) []
 
 -- what the `var`s of a function say of its parameters
 abbrev given_vars : ℕ → PlainStmts → List ℕ → Option Declared
@@ -230,14 +230,14 @@ mutual
       (home_both (stmt_sites scopes a x) (stmt_sites scopes a y) (home_body scopes a x s.1.0) (home_body scopes a y s.1.1))
   home_stmt_form scopes a o d line (t.while_of e x) s w = home_both (expr_sites scopes a e) (stmt_sites scopes (in_loop a) x) (home_expr scopes a e s.0) (home_body scopes (in_loop a) x s.1)
   home_stmt_form scopes a o d line (t.for_three start test next x) s w =
-      let inner = for_scope a.owner start x ∷ scopes in
+      let inner = for_three_scope a.owner start x ∷ scopes in
       let body = stmt_sites inner (in_loop a) x in
       home_both (start_sites inner a start) (perhaps_sites inner a test ++ (perhaps_sites inner a next ++ body)) (home_start inner a a.owner start s.0 (for_owns scopes a.owner start x))
       (home_both (perhaps_sites inner a test) (perhaps_sites inner a next ++ body) (home_perhaps inner a test s.1.0)
       (home_both (perhaps_sites inner a next) body (home_perhaps inner a next s.1.1.0) (home_body inner (in_loop a) x s.1.1.1)))
   home_stmt_form scopes a o d line (t.for_of kind name e x) s w =
       let listed = list_scope a.owner kind name ∷ scopes in
-      let inner = each_scope a.owner kind name x ∷ scopes in
+      let inner = for_of_scope a.owner kind name x ∷ scopes in
       (λ _. list_owns scopes a.owner kind name, home_both (expr_sites listed a e) (stmt_sites inner (in_loop a) x) (home_expr listed a e s.0) (home_body inner (in_loop a) x s.1))
   home_stmt_form scopes a o d line (t.break_of spot) s w = (tt, tt)
   home_stmt_form scopes a o d line (t.continue_of spot) s w = (tt, tt)

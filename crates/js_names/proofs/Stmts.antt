@@ -11,7 +11,7 @@ use Rattle.js_tree.specs.declared.tree.Expr.{Expr}
 use Rattle.js_tree.specs.declared.tree.Declarator.{Declarator, out-Declarator}
 use Rattle.js_tree.specs.declared.tree.Stmt.{Stmt}
 use Rattle.js_tree.specs.declared.tree.Start.{Start, Nothing, Declares, Evaluates}
-use Rattle.js_tree.specs.declared.tree.StmtForm.{StmtForm, Empty, Block, Declaration, Expression, If, IfElse, While, For, ForOf, Break, Continue, ReturnNothing, Return}
+use Rattle.js_tree.specs.declared.tree.StmtForm.{StmtForm, Empty, Block, Declaration, Expression, If, IfElse, While, ForThree, ForOf, Break, Continue, ReturnNothing, Return}
 use Rattle.js_tree.specs.declared.tree.Item.{Item}
 use Rattle.js_tree.specs.declared.tree.Item.TheVariants.{Statement, Function}
 use Rattle.js_tree.specs.Plain.{PlainDeclarator, PlainStmtForm, declarators_of}
@@ -21,7 +21,7 @@ use Rattle.js_names.specs.declared.place.Around.{Around}
 use Rattle.js_names.specs.declared.place.What.{What}
 use Rattle.js_names.specs.declared.place.Role.{Role}
 use Rattle.js_names.specs.Entries.{top}
-use Rattle.js_names.specs.Scopes.{Scope, for_scope}
+use Rattle.js_names.specs.Scopes.{Scope, for_three_scope}
 use Rattle.js_names.specs.Sites.{site, word_at, perhaps_sites, declarators_sites, start_sites, stmt_sites, stmt_form_sites, item_sites, declared_role, in_loop, in_function}
 use Rattle.js_names.specs.TreeSites.{tree_sites, declarator_sites, perhaps_tree_sites, start_tree_sites, tree_stmt_sites, block_sites, for_sites, listed_sites, turn_sites, declared_sites, tree_item_sites}
 use Rattle.js_names.proofs.Exprs.{stmts_flat, body_is}
@@ -103,18 +103,18 @@ while_sites s a i x e b y h d l =
 
 for_parts : (s : List Scope) (a : Around) (b : Start) (t n : Option Expr) (y : Stmt)
     → for_sites s a b t n y
-    ≡ start_tree_sites (for_scope a.owner (plain_start b) (plain_stmt y) ∷ s) a b
-    ++ (perhaps_tree_sites (for_scope a.owner (plain_start b) (plain_stmt y) ∷ s) a t
-    ++ (perhaps_tree_sites (for_scope a.owner (plain_start b) (plain_stmt y) ∷ s) a n ++ tree_stmt_sites (for_scope a.owner (plain_start b) (plain_stmt y) ∷ s) (in_loop a) y))
+    ≡ start_tree_sites (for_three_scope a.owner (plain_start b) (plain_stmt y) ∷ s) a b
+    ++ (perhaps_tree_sites (for_three_scope a.owner (plain_start b) (plain_stmt y) ∷ s) a t
+    ++ (perhaps_tree_sites (for_three_scope a.owner (plain_start b) (plain_stmt y) ∷ s) a n ++ tree_stmt_sites (for_three_scope a.owner (plain_start b) (plain_stmt y) ∷ s) (in_loop a) y))
 for_parts s a b t n y =
-    let inner = for_scope a.owner (plain_start b) (plain_stmt y) ∷ s in
+    let inner = for_three_scope a.owner (plain_start b) (plain_stmt y) ∷ s in
     append_assoc (start_tree_sites inner a b ++ perhaps_tree_sites inner a t) (perhaps_tree_sites inner a n) (tree_stmt_sites inner (in_loop a) y)
     ∙ append_assoc (start_tree_sites inner a b) (perhaps_tree_sites inner a t) (perhaps_tree_sites inner a n ++ tree_stmt_sites inner (in_loop a) y)
 
-pub in_for_sites : (s : List Scope) (a : Around) (x : Stmt) (b : Start) (t n : Option Expr) (o : Box Stmt Global) (y : Stmt) → x.form ≡ For b t n o → y ≡ o.value → for_sites s a b t n y ≡ tree_stmt_sites s a x
+pub in_for_sites : (s : List Scope) (a : Around) (x : Stmt) (b : Start) (t n : Option Expr) (o : Box Stmt Global) (y : Stmt) → x.form ≡ ForThree b t n o → y ≡ o.value → for_sites s a b t n y ≡ tree_stmt_sites s a x
 unfolding stmt_form_sites
 in_for_sites s a x b t n o y h d =
-    ap (for_sites s a b t n) d ∙ (for_parts s a b t n o.value ∙ form_at s a x (For b t n o) _ h (for_is b t n o))
+    ap (for_sites s a b t n) d ∙ (for_parts s a b t n o.value ∙ form_at s a x (ForThree b t n o) _ h (for_is b t n o))
 
 pub in_each_sites : (s : List Scope) (a : Around) (x : Stmt) (k : DeclareKind) (n : Name) (e : Expr) (o : Box Stmt Global) (y : Stmt) → x.form ≡ ForOf k n e o → y ≡ o.value
     → listed_sites s a k n e ++ turn_sites s a k n y ≡ tree_stmt_sites s a x

@@ -19,7 +19,7 @@ use Rattle.js_names.specs.declared.place.Declared.{Declared}
 use Rattle.js_tree.specs.declared.tree.Declarator.{Declarator}
 use Rattle.js_tree.specs.declared.tree.DeclareKind.{DeclareKind}
 use Rattle.js_tree.specs.declared.tree.Stmt.{Stmt}
-use Rattle.js_tree.specs.declared.tree.StmtForm.{Declaration, Block, IfElse, For, If, While, ForOf}
+use Rattle.js_tree.specs.declared.tree.StmtForm.{Declaration, Block, IfElse, ForThree, If, While, ForOf}
 use Rattle.std.specs.Prelude.{Vec, Result, Ok, Err, OnOk}
 use Rattle.js_tree.specs.Plain.{declarators_of, stmts_of}
 use Rattle.js_tree.specs.Views.{plain_declarator, plain_stmt, plain_start}
@@ -215,11 +215,11 @@ vars_of_if_else owner direct s test b o x y e h k =
     ap (λ z. vars_of_stmt owner false z ++ vars_of_stmt owner false y) h ∙ ap (λ z. vars_of_stmt owner false b.value ++ vars_of_stmt owner false z) k
     ∙ sym (ap (vars_of owner direct) (with_form s (IfElse test b o) _ e (if_else_is test b o)))
 
-pub vars_of_for : (owner : ℕ) (direct : Bool) (s : Stmt) (head : Start) (test next : Option Expr) (b : Box Stmt Global) (x : Stmt) → s.form ≡ For head test next b → x ≡ b.value
+pub vars_of_for : (owner : ℕ) (direct : Bool) (s : Stmt) (head : Start) (test next : Option Expr) (b : Box Stmt Global) (x : Stmt) → s.form ≡ ForThree head test next b → x ≡ b.value
     → vars_of_start owner (plain_start head) ++ vars_of_stmt owner false x ≡ vars_of_stmt owner direct s
 vars_of_for owner direct s head test next b x e h =
     ap (λ z. vars_of_start owner (plain_start head) ++ vars_of_stmt owner false z) h
-    ∙ sym (ap (vars_of owner direct) (with_form s (For head test next b) _ e (for_is head test next b)))
+    ∙ sym (ap (vars_of owner direct) (with_form s (ForThree head test next b) _ e (for_is head test next b)))
 
 -- a statement that is the only part of another
 pub vars_of_if : (owner : ℕ) (direct : Bool) (s : Stmt) (test : Expr) (b : Box Stmt Global) (x : Stmt) → s.form ≡ If test b → x ≡ b.value → vars_of_stmt owner false x ≡ vars_of_stmt owner direct s

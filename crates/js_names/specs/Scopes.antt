@@ -79,25 +79,25 @@ unfoldable pub block_scope : ℕ → PlainStmts → Scope
 block_scope owner ss = inner_scope (own_of_all owner false ss) (vars_of_all owner false ss) owner
 
 -- the scope of a `for` with three parts
-unfoldable pub for_scope : ℕ → PlainStart → PlainStmt → Scope
-for_scope owner start s =
+unfoldable pub for_three_scope : ℕ → PlainStart → PlainStmt → Scope
+for_three_scope owner start s =
     inner_scope (own_of_start owner start) (vars_of_start owner start ++ vars_of owner false s) owner
 
 -- what the name of a `for of` is declared as; no tokens spell one with `var`
-abbrev pub each_role : DeclareKind → Role
-each_role const_word = Const
-each_role let_word = Let
-each_role var_word = Let
+abbrev pub for_of_role : DeclareKind → Role
+for_of_role const_word = Const
+for_of_role let_word = Let
+for_of_role var_word = Let
 
 -- the scope of the list of a `for`: it has the name, which has no value yet
 unfoldable pub list_scope : ℕ → DeclareKind → Name → Scope
 list_scope owner kind name =
-    scope_with (entry name (each_role kind) top owner false 0 ∷ []) [] false owner
+    scope_with (entry name (for_of_role kind) top owner false 0 ∷ []) [] false owner
 
 -- the scope of the body of a `for` over a list
-unfoldable pub each_scope : ℕ → DeclareKind → Name → PlainStmt → Scope
-each_scope owner kind name s =
-    inner_scope (entry name (each_role kind) name.spot.at owner false 0 ∷ [])
+unfoldable pub for_of_scope : ℕ → DeclareKind → Name → PlainStmt → Scope
+for_of_scope owner kind name s =
+    inner_scope (entry name (for_of_role kind) name.spot.at owner false 0 ∷ [])
     (vars_of owner false s) owner
 
 -- the scope of a function, with its parameters

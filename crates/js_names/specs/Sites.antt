@@ -12,7 +12,7 @@ use Rattle.js_names.specs.declared.place.Role.TheVariants.{Parameter, Const, Let
 use Rattle.js_names.specs.declared.place.What.{What}
 use Rattle.js_names.specs.declared.place.Around.{Around}
 use Rattle.js_names.specs.Entries.{top}
-use Rattle.js_names.specs.Scopes.{Scope, block_scope, for_scope, list_scope, each_scope, each_role, function_scope, program_scope}
+use Rattle.js_names.specs.Scopes.{Scope, block_scope, for_three_scope, list_scope, for_of_scope, for_of_role, function_scope, program_scope}
 use Rattle.js_names.specs.Forms.{is_undefined, is_reserved, object_of, called_builtin, value_builtin}
 use Rattle.js_names.specs.Spots.{program_spot}
 
@@ -143,13 +143,13 @@ unfoldable mutual
       expr_sites scopes a e ++ (stmt_sites scopes a s ++ stmt_sites scopes a other)
   stmt_form_sites scopes a (while_of e s) = expr_sites scopes a e ++ stmt_sites scopes (in_loop a) s
   stmt_form_sites scopes a (for_three start test next s) =
-      let inner = for_scope a.owner start s ∷ scopes in
+      let inner = for_three_scope a.owner start s ∷ scopes in
       start_sites inner a start
       ++ (perhaps_sites inner a test ++ (perhaps_sites inner a next ++ stmt_sites inner (in_loop a) s))
   stmt_form_sites scopes a (for_of kind name e s) =
       let listed = list_scope a.owner kind name ∷ scopes in
-      let inner = each_scope a.owner kind name s ∷ scopes in
-      site listed a (What.Declares (each_role kind)) name
+      let inner = for_of_scope a.owner kind name s ∷ scopes in
+      site listed a (What.Declares (for_of_role kind)) name
       ++ (expr_sites listed a e ++ stmt_sites inner (in_loop a) s)
   stmt_form_sites scopes a (break_of spot) = site scopes a What.LoopWord (word_at (codes "break") spot)
   stmt_form_sites scopes a (continue_of spot) =

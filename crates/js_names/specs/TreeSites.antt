@@ -6,7 +6,7 @@ use Rattle.js_tree.specs.declared.tree.Stmt.{Stmt}
 use Rattle.js_tree.specs.Views.{perhaps, plain_expr, plain_start, plain_declarator, plain_stmt, plain_item}
 use Rattle.js_tree.specs.declared.tree.Item.{Item}
 use Rattle.js_names.specs.Entries.{top}
-use Rattle.js_names.specs.Scopes.{Scope, block_scope, for_scope, list_scope, each_scope, each_role, function_scope}
+use Rattle.js_names.specs.Scopes.{Scope, block_scope, for_three_scope, list_scope, for_of_scope, for_of_role, function_scope}
 use Rattle.js_names.specs.declared.place.Around.{Around}
 use Rattle.js_names.specs.declared.place.What.{What}
 use Rattle.js_names.specs.declared.place.Role.TheVariants.{Function}
@@ -63,7 +63,7 @@ body_sites scopes spot names ss =
 
 abbrev pub for_sites : List Scope → Around → Start → Option Expr → Option Expr → Stmt → List Site
 for_sites scopes a start test next s =
-    let inner = for_scope a.owner (plain_start start) (plain_stmt s) ∷ scopes in
+    let inner = for_three_scope a.owner (plain_start start) (plain_stmt s) ∷ scopes in
     ((start_tree_sites inner a start ++ perhaps_tree_sites inner a test)
     ++ perhaps_tree_sites inner a next)
     ++ tree_stmt_sites inner (in_loop a) s
@@ -72,12 +72,12 @@ for_sites scopes a start test next s =
 abbrev pub listed_sites : List Scope → Around → DeclareKind → Name → Expr → List Site
 listed_sites scopes a kind name e =
     let inner = list_scope a.owner kind name ∷ scopes in
-    site inner a (What.Declares (each_role kind)) name ++ tree_sites inner a e
+    site inner a (What.Declares (for_of_role kind)) name ++ tree_sites inner a e
 
 -- and its body
 abbrev pub turn_sites : List Scope → Around → DeclareKind → Name → Stmt → List Site
 turn_sites scopes a kind name s =
-    tree_stmt_sites (each_scope a.owner kind name (plain_stmt s) ∷ scopes) (in_loop a) s
+    tree_stmt_sites (for_of_scope a.owner kind name (plain_stmt s) ∷ scopes) (in_loop a) s
 
 abbrev pub declared_sites : List Scope → Spot → Name → List Name → List Stmt → List Site
 declared_sites scopes spot name names ss =

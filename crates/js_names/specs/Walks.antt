@@ -3,7 +3,7 @@ use Rattle.std.specs.Prelude.{◌≡◌, List, [], ◌∷◌, ◌++◌, map, tak
 use Rattle.js_names.specs.declared.scope.Scope.{Scope as Held}
 use Rattle.js_names.specs.declared.scope.Walk.{Walk}
 use Rattle.js_tree.specs.declared.tree.DeclareKind.{DeclareKind}
-use Rattle.js_names.specs.Scopes.{Scope, each_role}
+use Rattle.js_names.specs.Scopes.{Scope, for_of_role}
 use Rattle.js_names.specs.declared.place.Around.{Around}
 use Rattle.js_names.specs.declared.place.What.{What}
 use Rattle.js_tree.specs.declared.tree.Name.{Name}
@@ -33,12 +33,12 @@ Enters old new scope =
     × (take (length new.scopes.items - 1) new.scopes.items ≡ old.scopes.items)
 
 -- and under it stands the name of a `for` over a list
-abbrev pub EntersEach : Walk → Walk → Around → DeclareKind → Name → Scope → Type 0
-EntersEach old new a kind name scope =
+abbrev pub EntersForOf : Walk → Walk → Around → DeclareKind → Name → Scope → Type 0
+EntersForOf old new a kind name scope =
     (scopes_in new ≡ scope ∷ scopes_in old)
     × (map place_of new.places.items
     ≡ map place_of old.places.items
-    ++ map see (site (scope ∷ scopes_in old) a (What.Declares (each_role kind)) name))
+    ++ map see (site (scope ∷ scopes_in old) a (What.Declares (for_of_role kind)) name))
     × (take (length new.scopes.items - 1) new.scopes.items ≡ old.scopes.items)
 
 -- the innermost scope is gone

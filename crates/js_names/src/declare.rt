@@ -272,7 +272,7 @@ pub fn declare_stmt_vars(
             declare_stmt_vars(alloc, map, own, owner, false, other)
         }
         StmtForm::While(_, body) => declare_stmt_vars(alloc, map, own, owner, false, body),
-        StmtForm::For(start, _, _, body) => {
+        StmtForm::ForThree(start, _, _, body) => {
             declare_start_vars(alloc, map, own, owner, start)?;
             declare_stmt_vars(alloc, map, own, owner, false, body)
         }

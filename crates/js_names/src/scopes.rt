@@ -5,7 +5,7 @@ ghost use Rattle.js_tree.specs.Plain.{stmts_of};
 ghost use Rattle.js_tree.specs.Views.{plain_stmt, plain_start, plain_tree};
 ghost use Rattle.std.specs.HashMap.{get_by_text};
 ghost use Rattle.js_names.specs.Entries.{entry};
-ghost use Rattle.js_names.specs.Scopes.{given_of, parameter, parameters, function_scope, block_scope, for_scope, list_scope, each_scope, each_role, program_scope};
+ghost use Rattle.js_names.specs.Scopes.{given_of, parameter, parameters, function_scope, block_scope, for_three_scope, list_scope, for_of_scope, for_of_role, program_scope};
 ghost use Rattle.js_names.specs.Views.{scope_of};
 ghost use Rattle.js_names.specs.Taken.{TakesOwn, TakesVars, in_map, keeps, own_of_tree_item, vars_of_tree_item};
 
@@ -15,7 +15,7 @@ use crate::declare::{
 };
 use crate::place::{Declared, Role};
 use crate::scope::{Scope, TOP};
-use crate::seeing::each_role;
+use crate::seeing::for_of_role;
 use indexmap::IndexMap;
 use js_tree::{DeclareKind, Item, Name, Start, Stmt, Tree};
 use std::alloc::{AllocError, Global};
@@ -37,8 +37,8 @@ pub fn block_scope(alloc: Global, owner: u32, body: &[Stmt]) -> Result<Scope, Al
 }
 
 /// The scope of a `for` with three parts.
-pub fn for_scope(alloc: Global, owner: u32, start: &Start, body: &Stmt) -> Result<Scope, AllocError>
-    ensures { IfOk result (λ s. scope_of s ≡ for_scope owner (plain_start start.now)
+pub fn for_three_scope(alloc: Global, owner: u32, start: &Start, body: &Stmt) -> Result<Scope, AllocError>
+    ensures { IfOk result (λ s. scope_of s ≡ for_three_scope owner (plain_start start.now)
         (plain_stmt body.now)) }
 {
     let mut scope = Scope {
@@ -54,7 +54,7 @@ pub fn for_scope(alloc: Global, owner: u32, start: &Start, body: &Stmt) -> Resul
 }
 
 /// Declares the name of a `for` over a list, which can be copied from this place on.
-fn declare_each(
+fn declare_for_of(
     alloc: Global,
     own: &mut IndexMap<String, Declared>,
     owner: u32,
@@ -63,9 +63,9 @@ fn declare_each(
     end: u32,
 ) -> Result<(), AllocError>
     ensures { OnOk result (TakesOwn own.old own.new
-        (entry name.now (each_role kind) end owner false 0 ∷ [])) }
+        (entry name.now (for_of_role kind) end owner false 0 ∷ [])) }
 {
-    let role = each_role(kind);
+    let role = for_of_role(kind);
     let declared = Declared {
         role,
         place: name.spot.at,
@@ -92,19 +92,19 @@ pub fn list_scope(
         whole: false,
         owner,
     };
-    declare_each(alloc, &mut scope.own, owner, kind, name, TOP)?;
+    declare_for_of(alloc, &mut scope.own, owner, kind, name, TOP)?;
     Ok(scope)
 }
 
 /// The scope of the body of a `for` over a list.
-pub fn each_scope(
+pub fn for_of_scope(
     alloc: Global,
     owner: u32,
     kind: DeclareKind,
     name: &Name,
     body: &Stmt,
 ) -> Result<Scope, AllocError>
-    ensures { IfOk result (λ s. scope_of s ≡ each_scope owner kind name.now (plain_stmt body.now)) }
+    ensures { IfOk result (λ s. scope_of s ≡ for_of_scope owner kind name.now (plain_stmt body.now)) }
 {
     let mut scope = Scope {
         own: IndexMap::new(alloc),
@@ -112,7 +112,7 @@ pub fn each_scope(
         whole: false,
         owner,
     };
-    declare_each(alloc, &mut scope.own, owner, kind, name, name.spot.at)?;
+    declare_for_of(alloc, &mut scope.own, owner, kind, name, name.spot.at)?;
     declare_stmt_vars(alloc, &mut scope.vars, Some(&scope.own), owner, false, body)?;
     Ok(scope)
 }

@@ -2,7 +2,7 @@
 ghost use Rattle.std.specs.Prelude.{◌≡◌, ◌++◌, IfOk, OnOk};
 ghost use Rattle.std.specs.Arc.{arc_value};
 ghost use Rattle.js_names.specs.Sites.{site, read_site, assign_site, begin_site, parameter_sites, in_function, in_loop, declared_role, word_at};
-ghost use Rattle.js_names.specs.Scopes.{each_role};
+ghost use Rattle.js_names.specs.Scopes.{for_of_role};
 ghost use Rattle.js_names.specs.Places.{see, functions_of, owner_in};
 ghost use Rattle.js_names.specs.Views.{place_of, scope_of, scopes_of};
 ghost use Rattle.js_names.specs.Walks.{Adds, Entered, Left, scopes_in};
@@ -172,8 +172,8 @@ pub fn declared_role(kind: DeclareKind) -> Role
 }
 
 /// The role of the name of a `for` over a list.
-pub fn each_role(kind: DeclareKind) -> Role
-    ensures { result ≡ each_role kind }
+pub fn for_of_role(kind: DeclareKind) -> Role
+    ensures { result ≡ for_of_role kind }
 {
     match kind {
         DeclareKind::Const => Role::Const,

@@ -2,12 +2,12 @@
 ghost use Rattle.std.specs.Prelude.{◌≡◌, ◌++◌, IfOk, OnOk, is_some, string_bytes, codes, [], map, if◌then◌else◌};
 ghost use Rattle.std.specs.List.{flat_map};
 ghost use Rattle.js_tree.specs.Views.{plain_expr, plain_start, plain_stmt, plain_tree};
-ghost use Rattle.js_names.specs.Scopes.{block_scope, for_scope, list_scope, each_role, function_scope};
+ghost use Rattle.js_names.specs.Scopes.{block_scope, for_three_scope, list_scope, for_of_role, function_scope};
 ghost use Rattle.js_names.specs.Forms.{object_of, value_builtin, called_builtin};
 ghost use Rattle.js_names.specs.Sites.{site, begin_site, parameter_sites, member_sites, in_function, in_loop, word_at};
 ghost use Rattle.js_names.specs.Places.{places};
 ghost use Rattle.js_names.specs.Views.{place_of};
-ghost use Rattle.js_names.specs.Walks.{Adds, Enters, EntersEach, scopes_in};
+ghost use Rattle.js_names.specs.Walks.{Adds, Enters, EntersForOf, scopes_in};
 ghost use Rattle.js_names.specs.TreeSites.{tree_sites, field_sites, declarator_sites, tree_stmt_sites, tree_item_sites, block_sites, arrow_sites, body_sites, declared_sites, listed_sites, turn_sites, perhaps_tree_sites, start_tree_sites};
 
 use crate::first::program_spot;
@@ -15,10 +15,10 @@ use crate::forms::{called_builtin, object_of, value_builtin};
 use crate::place::{Around, Role, Seen, What};
 use crate::scope::{TOP, Walk};
 use crate::scopes::{
-    block_scope, each_scope, for_scope, function_scope, list_scope, program_scope,
+    block_scope, for_of_scope, for_three_scope, function_scope, list_scope, program_scope,
 };
 use crate::seeing::{
-    declared_role, each_role, enter, in_function, in_loop, leave, put_begin, put_changed, put_name,
+    declared_role, for_of_role, enter, in_function, in_loop, leave, put_begin, put_changed, put_name,
     put_parameters, put_read, put_word,
 };
 use js_data::Text;
@@ -267,7 +267,7 @@ fn put_stmt(walk: &mut Walk, around: Around, stmt: &Stmt) -> Result<(), AllocErr
             put_expr(walk, around, test)?;
             put_stmt(walk, in_loop(around), body)
         }
-        StmtForm::For(start, test, next, body) => {
+        StmtForm::ForThree(start, test, next, body) => {
             enter_for(walk, around, start, body)?;
             put_start(walk, around, start)?;
             put_perhaps(walk, around, test)?;
@@ -320,7 +320,7 @@ fn put_turns(
     ensures { OnOk result (Adds walk.old walk.new
         (turn_sites (scopes_in walk.old) around kind name.now body.now)) }
 {
-    let scope = each_scope(walk.alloc, around.owner, kind, name, body)?;
+    let scope = for_of_scope(walk.alloc, around.owner, kind, name, body)?;
     enter(walk, scope)?;
     put_stmt(walk, in_loop(around), body)?;
     leave(walk);
@@ -365,9 +365,9 @@ fn put_head(walk: &mut Walk, spot: Spot, names: &[Name]) -> Result<(), AllocErro
 /// The scope of a `for` with three parts.
 fn enter_for(walk: &mut Walk, around: Around, start: &Start, body: &Stmt) -> Result<(), AllocError>
     ensures { OnOk result (Enters walk.old walk.new
-        (for_scope around.owner (plain_start start.now) (plain_stmt body.now))) }
+        (for_three_scope around.owner (plain_start start.now) (plain_stmt body.now))) }
 {
-    let scope = for_scope(walk.alloc, around.owner, start, body)?;
+    let scope = for_three_scope(walk.alloc, around.owner, start, body)?;
     enter(walk, scope)
 }
 
@@ -378,12 +378,12 @@ fn enter_list(
     kind: DeclareKind,
     name: &Name,
 ) -> Result<(), AllocError>
-    ensures { OnOk result (EntersEach walk.old walk.new around kind name.now
+    ensures { OnOk result (EntersForOf walk.old walk.new around kind name.now
         (list_scope around.owner kind name.now)) }
 {
     let scope = list_scope(walk.alloc, around.owner, kind, name)?;
     enter(walk, scope)?;
-    put_name(walk, around, What::Declares(each_role(kind)), name)
+    put_name(walk, around, What::Declares(for_of_role(kind)), name)
 }
 
 /// A function declaration.

@@ -65,7 +65,7 @@ pub enum NodeForm {
     IfElse(u32, u32, u32),
     While(u32, u32),
     /// `for (first; test; next) body`, with the slots that are not declared yet as it begins.
-    For(Vec<u32>, Option<u32>, Option<u32>, Option<u32>, u32),
+    ForThree(Vec<u32>, Option<u32>, Option<u32>, Option<u32>, u32),
     /// `for (let x of list) body`, with the slot of `x`, which is not declared yet as the list begins.
     ForOf(u32, u32, u32),
     Break,
@@ -106,7 +106,7 @@ impl Drop for NodeForm {
             NodeForm::If(_, _) => {}
             NodeForm::IfElse(_, _, _) => {}
             NodeForm::While(_, _) => {}
-            NodeForm::For(_, _, _, _, _) => {}
+            NodeForm::ForThree(_, _, _, _, _) => {}
             NodeForm::ForOf(_, _, _) => {}
             NodeForm::Break => {}
             NodeForm::Continue => {}

@@ -11,7 +11,7 @@ use Rattle.js_names.specs.declared.place.Declared.{Declared}
 use Rattle.js_names.specs.declared.place.Around.{Around}
 use Rattle.js_names.specs.declared.place.What.{What}
 use Rattle.js_names.specs.Entries.{top, entry, own_declarator, own_declarators, own_of, own_of_all, own_of_start, own_of_item, var_declarator, var_declarators, vars_of, vars_of_form, vars_of_all, vars_of_start, vars_of_item}
-use Rattle.js_names.specs.Scopes.{Scope, named, first, one_var, parameters, block_scope, for_scope, list_scope, each_scope, each_role, function_scope, program_scope}
+use Rattle.js_names.specs.Scopes.{Scope, named, first, one_var, parameters, block_scope, for_three_scope, list_scope, for_of_scope, for_of_role, function_scope, program_scope}
 use Rattle.js_names.specs.Sites.{Site, site, in_function, parameter_sites, declared_role}
 use Rattle.js_names.specs.Places.{found, found_var, found_here}
 use Rattle.js_resolver.proofs.SoundFound.{in_whole, IsKept, There, AllFound}
@@ -104,18 +104,18 @@ pub block_own : (f : ℕ) (ss : PlainStmts) (scopes : List Scope) → AllThere (
 unfolding block_scope
 block_own f ss scopes = nested_there f (own_of_all f false ss) (block_scope f ss).vars scopes (own_all_of f false false (no_directs false) ss)
 
-pub for_own : (f : ℕ) (start : PlainStart) (s : PlainStmt) (scopes : List Scope) → AllThere (found (for_scope f start s ∷ scopes)) f (in_whole (for_scope f start s ∷ scopes)) (own_of_start f start)
-unfolding for_scope
-for_own f start s scopes = nested_there f (own_of_start f start) (for_scope f start s).vars scopes (own_start_of f start)
+pub for_own : (f : ℕ) (start : PlainStart) (s : PlainStmt) (scopes : List Scope) → AllThere (found (for_three_scope f start s ∷ scopes)) f (in_whole (for_three_scope f start s ∷ scopes)) (own_of_start f start)
+unfolding for_three_scope
+for_own f start s scopes = nested_there f (own_of_start f start) (for_three_scope f start s).vars scopes (own_start_of f start)
 
-each_kept : (f end : ℕ) (kind : DeclareKind) (name : Name) → IsKept f false (entry name (each_role kind) end f false 0).declared
+each_kept : (f end : ℕ) (kind : DeclareKind) (name : Name) → IsKept f false (entry name (for_of_role kind) end f false 0).declared
 each_kept f end const_word name = record { owner = refl; nested = λ e. (refl, refl); inside = λ e. refl }
 each_kept f end let_word name = record { owner = refl; nested = λ e. (refl, refl); inside = λ e. refl }
 each_kept f end var_word name = record { owner = refl; nested = λ e. (refl, refl); inside = λ e. refl }
 
 pub each_own : (f : ℕ) (kind : DeclareKind) (name : Name) (scopes : List Scope) → There (found (list_scope f kind name ∷ scopes)) f (in_whole (list_scope f kind name ∷ scopes)) name.text
 unfolding list_scope
-each_own f kind name scopes = (nested_there f (entry name (each_role kind) top f false 0 ∷ []) (λ q. None) scopes (each_kept f top kind name, tt)).0
+each_own f kind name scopes = (nested_there f (entry name (for_of_role kind) top f false 0 ∷ []) (λ q. None) scopes (each_kept f top kind name, tt)).0
 
 -- the parameters of a function, and what its list declares
 function_own_of : (f : ℕ) (names : List Name) (ss : PlainStmts) → AllOf f true (parameters f (λ q. one_var (named q (vars_of_all f true ss))) names ++ own_of_all f true ss)
@@ -145,17 +145,17 @@ pub block_kept : (f : ℕ) (ss : PlainStmts) (q : List ℕ) (d : Declared) → f
 unfolding block_scope
 block_kept f ss q d h = (first_kept f false (own_of_all f false ss) q d (own_all_of f false false (no_directs false) ss) h).owner
 
-pub for_kept : (f : ℕ) (start : PlainStart) (s : PlainStmt) (q : List ℕ) (d : Declared) → found_here (for_scope f start s) q ≡ Some d → d.owner ≡ f
-unfolding for_scope
+pub for_kept : (f : ℕ) (start : PlainStart) (s : PlainStmt) (q : List ℕ) (d : Declared) → found_here (for_three_scope f start s) q ≡ Some d → d.owner ≡ f
+unfolding for_three_scope
 for_kept f start s q d h = (first_kept f false (own_of_start f start) q d (own_start_of f start) h).owner
 
 pub list_kept : (f : ℕ) (kind : DeclareKind) (name : Name) (q : List ℕ) (d : Declared) → found_here (list_scope f kind name) q ≡ Some d → d.owner ≡ f
 unfolding list_scope
-list_kept f kind name q d h = (first_kept f false (entry name (each_role kind) top f false 0 ∷ []) q d (each_kept f top kind name, tt) h).owner
+list_kept f kind name q d h = (first_kept f false (entry name (for_of_role kind) top f false 0 ∷ []) q d (each_kept f top kind name, tt) h).owner
 
-pub turn_kept : (f : ℕ) (kind : DeclareKind) (name : Name) (s : PlainStmt) (q : List ℕ) (d : Declared) → found_here (each_scope f kind name s) q ≡ Some d → d.owner ≡ f
-unfolding each_scope
-turn_kept f kind name s q d h = (first_kept f false (entry name (each_role kind) name.spot.at f false 0 ∷ []) q d (each_kept f name.spot.at kind name, tt) h).owner
+pub turn_kept : (f : ℕ) (kind : DeclareKind) (name : Name) (s : PlainStmt) (q : List ℕ) (d : Declared) → found_here (for_of_scope f kind name s) q ≡ Some d → d.owner ≡ f
+unfolding for_of_scope
+turn_kept f kind name s q d h = (first_kept f false (entry name (for_of_role kind) name.spot.at f false 0 ∷ []) q d (each_kept f name.spot.at kind name, tt) h).owner
 
 pub function_kept : (f : ℕ) (names : List Name) (ss : PlainStmts) (q : List ℕ) (d : Declared) → found_here (function_scope f names ss) q ≡ Some d → d.owner ≡ f
 unfolding function_scope
@@ -194,7 +194,7 @@ declarator_found scopes a direct const_word name value end h k = (h.0, tt)
 declarator_found scopes a direct let_word name value end h k = (h.0, tt)
 declarator_found scopes a direct var_word name value end h k = (k.0, tt)
 
-pub each_found : (scopes : List Scope) (a : Around) (kind : DeclareKind) (name : Name) → AllFound (site (list_scope a.owner kind name ∷ scopes) a (What.Declares (each_role kind)) name)
+pub each_found : (scopes : List Scope) (a : Around) (kind : DeclareKind) (name : Name) → AllFound (site (list_scope a.owner kind name ∷ scopes) a (What.Declares (for_of_role kind)) name)
 each_found scopes a const_word name = (each_own a.owner const_word name scopes, tt)
 each_found scopes a let_word name = (each_own a.owner let_word name scopes, tt)
 each_found scopes a var_word name = (each_own a.owner var_word name scopes, tt)

@@ -14,7 +14,7 @@ use Rattle.js_names.specs.declared.place.Around.{Around}
 use Rattle.js_names.specs.declared.place.Declared.{Declared}
 use Rattle.js_names.specs.declared.place.What.{What}
 use Rattle.js_names.specs.Entries.{top, own_declarator, own_declarators, own_of, own_of_all, own_of_start, own_of_item, var_declarator, var_declarators, vars_of, vars_of_all, vars_of_start, vars_of_item}
-use Rattle.js_names.specs.Scopes.{Scope, block_scope, for_scope, list_scope, each_scope, function_scope}
+use Rattle.js_names.specs.Scopes.{Scope, block_scope, for_three_scope, list_scope, for_of_scope, function_scope}
 use Rattle.js_names.specs.Forms.{object_of, called_builtin, value_builtin}
 use Rattle.js_names.specs.Sites.{site, declared_role, in_function, in_loop, expr_sites, form_sites, exprs_sites, fields_sites, perhaps_sites, declarators_sites, start_sites, stmt_sites, stmt_form_sites, stmts_sites, item_sites}
 use Rattle.js_names.specs.Places.{found, found_var}
@@ -59,7 +59,7 @@ first_found scopes a direct kind d ds own vars =
     (there_left (found_var scopes) a.owner true (var_declarator a.owner direct kind d.name d.value d.end) (var_declarators a.owner direct kind ds) vars)
 
 mutual
-  unfolding expr_sites form_sites exprs_sites fields_sites perhaps_sites declarators_sites start_sites stmt_sites stmt_form_sites stmts_sites found_var block_scope for_scope each_scope
+  unfolding expr_sites form_sites exprs_sites fields_sites perhaps_sites declarators_sites start_sites stmt_sites stmt_form_sites stmts_sites found_var block_scope for_three_scope for_of_scope
 
   pub spells_spans : {l : Level} {ts rest : List Token} {e : PlainExpr} (scopes : List Scope) (a : Around) → Spells l ts e rest → Spans ts rest (expr_sites scopes a e)
   spells_spans scopes a (number_of h) = after nothing
@@ -172,13 +172,13 @@ mutual
       after (and_then (test_spans scopes a i) (and_then (up_to (body_spans scopes a one s)) (body_spans scopes a other z)))
   statement_spans scopes a direct own vars (while_loop h i s) = after (and_then (test_spans scopes a i) (body_spans scopes (in_loop a) vars s))
   statement_spans scopes a direct own vars (for_three {start = start} {s = x} h i b s j e k n l r) =
-      let inner = for_scope a.owner start x ∷ scopes in
+      let inner = for_three_scope a.owner start x ∷ scopes in
       let head = there_left (found_var scopes) a.owner true (vars_of_start a.owner start) (vars_of a.owner false x) vars in
       let body = there_right (found_var scopes) a.owner true (vars_of_start a.owner start) (vars_of a.owner false x) vars in
       after (after (and_then (up_to (start_spans inner a (for_own a.owner start x scopes) head s)) (and_then (up_to (perhaps_spans inner a e)) (and_then (up_to (perhaps_spans inner a n)) (body_spans inner (in_loop a) body r)))))
   statement_spans scopes a direct own vars (for_of {k = k} {n = n} {s = x} h i j m l s y r) =
       let listed = list_scope a.owner k n ∷ scopes in
-      let inner = each_scope a.owner k n x ∷ scopes in
+      let inner = for_of_scope a.owner k n x ∷ scopes in
       let f = each_found scopes a k n in
       after (after (after (and_then (up_to (at_name _ (name_place _ m) refl f.0)) (and_then (up_to (spells_spans listed a s)) (body_spans inner (in_loop a) vars r)))))
   statement_spans scopes a direct own vars (break_end h e) = ended (at_name _ refl refl tt) e

@@ -14,7 +14,7 @@ use Rattle.js_names.specs.declared.place.Declared.{Declared}
 use Rattle.js_names.specs.declared.place.Role.TheVariants.{Function}
 use Rattle.js_names.specs.declared.place.What.{What}
 use Rattle.js_names.specs.Entries.{Entry, top, own_declarators, own_of, own_of_item, var_declarators, vars_of, vars_of_form, vars_of_all, vars_of_start, vars_of_item}
-use Rattle.js_names.specs.Scopes.{Scope, named, first, one_var, merge, block_scope, for_scope, list_scope, each_scope, function_scope, program_scope}
+use Rattle.js_names.specs.Scopes.{Scope, named, first, one_var, merge, block_scope, for_three_scope, list_scope, for_of_scope, function_scope, program_scope}
 use Rattle.js_names.specs.Spots.{program_spot}
 use Rattle.js_names.specs.Sites.{Site, site, begin_site, parameter_sites, in_function, program_sites, stmts_sites, item_sites}
 use Rattle.js_names.specs.Places.{Place, see, places, found, found_here, or_else, functions_of, declared_at, is_var, is_function}
@@ -189,12 +189,12 @@ inside_function f g h s scopes w owner kept absent k =
     }
 
 inside_closed : (f : ℕ) → IsClosed (IsInside f) f
-unfolding block_scope for_scope list_scope each_scope function_scope
+unfolding block_scope for_three_scope list_scope for_of_scope function_scope
 inside_closed f = record {
   block = λ g ss scopes k. inside_block f g (block_scope g ss) scopes refl (block_kept g ss) k;
-  head = λ g start s scopes k. inside_block f g (for_scope g start s) scopes refl (for_kept g start s) k;
+  head = λ g start s scopes k. inside_block f g (for_three_scope g start s) scopes refl (for_kept g start s) k;
   list = λ g kind name scopes k. inside_block f g (list_scope g kind name) scopes refl (list_kept g kind name) k;
-  turn = λ g kind name s scopes k. inside_block f g (each_scope g kind name s) scopes refl (turn_kept g kind name s) k;
+  turn = λ g kind name s scopes k. inside_block f g (for_of_scope g kind name s) scopes refl (turn_kept g kind name s) k;
   function = λ g h names ss scopes absent k. inside_function f g h (function_scope h names ss) scopes refl refl (function_kept h names ss) absent k;
 }
 
@@ -220,7 +220,7 @@ abbrev IsOutside : ℕ → ℕ → List Scope → Type 0
 IsOutside f g scopes = In f (functions_of scopes) → ⊥
 
 outside_closed : (f : ℕ) → IsClosed (IsOutside f) f
-unfolding functions_of block_scope for_scope list_scope each_scope function_scope
+unfolding functions_of block_scope for_three_scope list_scope for_of_scope function_scope
 outside_closed f = record {
   block = λ g ss scopes k. k;
   head = λ g start s scopes k. k;

@@ -16,7 +16,7 @@ use Rattle.js_program.specs.PlainProgram.{PlainBody, PlainContent}
 use Rattle.js_names.specs.declared.place.Around.{Around}
 use Rattle.js_names.specs.declared.place.What.{What}
 use Rattle.js_names.specs.Entries.{top}
-use Rattle.js_names.specs.Scopes.{Scope, block_scope, for_scope, list_scope, each_scope, function_scope}
+use Rattle.js_names.specs.Scopes.{Scope, block_scope, for_three_scope, list_scope, for_of_scope, function_scope}
 use Rattle.js_names.specs.Forms.{is_undefined, is_reserved, object_of, called_builtin, value_builtin}
 use Rattle.js_names.specs.Sites.{Site, site, read_site, assign_site, member_sites, in_function, in_loop, begin_site, parameter_sites, expr_sites, form_sites, exprs_sites, fields_sites, perhaps_sites, declarators_sites, start_sites, stmt_sites, stmt_form_sites, stmts_sites, item_sites}
 use Rattle.js_names.specs.Places.{Place}
@@ -217,7 +217,7 @@ mutual
       let x = expr_piece ps b e in
       listed_beside ps (expr_sites scopes a e) (stmt_sites scopes (in_loop a) s) x (stmt_piece ps (after b x) s) (expr_listed ps scopes a b e) (stmt_listed ps scopes (in_loop a) (after b x) s)
   stmt_form_listed ps scopes a b (t.for_three start test next s) =
-      let inner = for_scope a.owner start s ∷ scopes in
+      let inner = for_three_scope a.owner start s ∷ scopes in
       let x = start_piece ps b start in
       let y = perhaps_piece ps (after b x) test in
       let c = after b (beside x y) in
@@ -227,7 +227,7 @@ mutual
       (start_listed ps inner a b start) (perhaps_listed ps inner a (after b x) test) (perhaps_listed ps inner a c next) (stmt_listed ps inner (in_loop a) d s)
   stmt_form_listed ps scopes a b (t.for_of kind name e s) =
       let listed = list_scope a.owner kind name ∷ scopes in
-      let inner = each_scope a.owner kind name s ∷ scopes in
+      let inner = for_of_scope a.owner kind name s ∷ scopes in
       let x = expr_piece ps b e in
       listed_beside ps (expr_sites listed a e) (stmt_sites inner (in_loop a) s) x (stmt_piece ps (after b x) s) (expr_listed ps listed a b e) (stmt_listed ps inner (in_loop a) (after b x) s)
   stmt_form_listed ps scopes a b (t.break_of spot) = refl

@@ -11,7 +11,7 @@ use Rattle.js_names.specs.declared.place.Declared.{Declared}
 use Rattle.js_names.specs.declared.place.Role.{Role}
 use Rattle.js_names.specs.declared.place.What.{What}
 use Rattle.js_names.specs.Entries.{top, entry, own_of_all, own_of_start, vars_of_all}
-use Rattle.js_names.specs.Scopes.{Scope, named, first, one_var, parameters, block_scope, for_scope, list_scope, each_scope, each_role, function_scope}
+use Rattle.js_names.specs.Scopes.{Scope, named, first, one_var, parameters, block_scope, for_three_scope, list_scope, for_of_scope, for_of_role, function_scope}
 use Rattle.js_names.specs.Sites.{site, in_function, begin_site, parameter_sites, start_sites, stmts_sites}
 use Rattle.js_names.specs.Places.{Place, see, earlier, found, found_var, found_here, or_else, functions_of}
 use Rattle.js_names.specs.Slots.{is_begin}
@@ -131,37 +131,37 @@ block_known ps scopes a ss k h =
     let s = block_scope a.owner ss in
     scopes_inner ps a.owner s scopes refl (λ q d here e. own_declares ps (found (s ∷ scopes)) a.owner q d (own_of_all a.owner false ss) (stated_all ps (s ∷ scopes) a false ss h) e (here_look s scopes q d here)) k
 
-pub for_known : (ps : List Place) (scopes : List Scope) (a : Around) (start : PlainStart) (body : PlainStmt) → ScopesKnown ps a.owner scopes → AllHave ps (start_sites (for_scope a.owner start body ∷ scopes) a start) → ScopesKnown ps a.owner (for_scope a.owner start body ∷ scopes)
-unfolding for_scope
+pub for_known : (ps : List Place) (scopes : List Scope) (a : Around) (start : PlainStart) (body : PlainStmt) → ScopesKnown ps a.owner scopes → AllHave ps (start_sites (for_three_scope a.owner start body ∷ scopes) a start) → ScopesKnown ps a.owner (for_three_scope a.owner start body ∷ scopes)
+unfolding for_three_scope
 for_known ps scopes a start body k h =
-    let s = for_scope a.owner start body in
+    let s = for_three_scope a.owner start body in
     scopes_inner ps a.owner s scopes refl (λ q d here e. own_declares ps (found (s ∷ scopes)) a.owner q d (own_of_start a.owner start) (stated_start ps (s ∷ scopes) a start h) e (here_look s scopes q d here)) k
 
-pub list_known : (ps : List Place) (scopes : List Scope) (a : Around) (kind : DeclareKind) (name : Name) → ScopesKnown ps a.owner scopes → AllHave ps (site (list_scope a.owner kind name ∷ scopes) a (What.Declares (each_role kind)) name)
+pub list_known : (ps : List Place) (scopes : List Scope) (a : Around) (kind : DeclareKind) (name : Name) → ScopesKnown ps a.owner scopes → AllHave ps (site (list_scope a.owner kind name ∷ scopes) a (What.Declares (for_of_role kind)) name)
     → ScopesKnown ps a.owner (list_scope a.owner kind name ∷ scopes)
 unfolding list_scope
 list_known ps scopes a kind name k h =
     let s = list_scope a.owner kind name in
-    scopes_inner ps a.owner s scopes refl (λ q d here e. own_declares ps (found (s ∷ scopes)) a.owner q d (entry name (each_role kind) top a.owner false 0 ∷ []) (stated_each ps (s ∷ scopes) a top kind name h) e (here_look s scopes q d here)) k
+    scopes_inner ps a.owner s scopes refl (λ q d here e. own_declares ps (found (s ∷ scopes)) a.owner q d (entry name (for_of_role kind) top a.owner false 0 ∷ []) (stated_each ps (s ∷ scopes) a top kind name h) e (here_look s scopes q d here)) k
 
 -- the body has the variable that the list has
-pub each_known : (ps : List Place) (scopes : List Scope) (a : Around) (kind : DeclareKind) (name : Name) (body : PlainStmt) → ScopesKnown ps a.owner scopes → AllHave ps (site (list_scope a.owner kind name ∷ scopes) a (What.Declares (each_role kind)) name)
-    → ScopesKnown ps a.owner (each_scope a.owner kind name body ∷ scopes)
-unfolding list_scope each_scope
+pub each_known : (ps : List Place) (scopes : List Scope) (a : Around) (kind : DeclareKind) (name : Name) (body : PlainStmt) → ScopesKnown ps a.owner scopes → AllHave ps (site (list_scope a.owner kind name ∷ scopes) a (What.Declares (for_of_role kind)) name)
+    → ScopesKnown ps a.owner (for_of_scope a.owner kind name body ∷ scopes)
+unfolding list_scope for_of_scope
 each_known ps scopes a kind name body k h =
     let s = list_scope a.owner kind name in
-    let x : Declared = (entry name (each_role kind) top a.owner false 0).declared in
-    let y : Declared = (entry name (each_role kind) name.spot.at a.owner false 0).declared in
+    let x : Declared = (entry name (for_of_role kind) top a.owner false 0).declared in
+    let y : Declared = (entry name (for_of_role kind) name.spot.at a.owner false 0).declared in
     let own : (q : List ℕ) (d : Declared) (b : Bool) → (bytes_eq name.text q ≡ b) → first (if b then y ∷ [] else []) ≡ Some d → IsDeclared ps d × (d.owner ≡ a.owner) =
     λ q d b. elim b as (λ b. (bytes_eq name.text q ≡ b) → first (if b then y ∷ [] else []) ≡ Some d → IsDeclared ps d × (d.owner ≡ a.owner)) [
       | true ↦ λ m e.
           let found_list : found_here s q ≡ Some x = ap (λ (b : Bool). first (if b then x ∷ [] else [])) m in
-          let r = own_declares ps (found (s ∷ scopes)) a.owner q x (entry name (each_role kind) top a.owner false 0 ∷ []) (stated_each ps (s ∷ scopes) a top kind name h) found_list (here_look s scopes q x found_list) in
+          let r = own_declares ps (found (s ∷ scopes)) a.owner q x (entry name (for_of_role kind) top a.owner false 0 ∷ []) (stated_each ps (s ∷ scopes) a top kind name h) found_list (here_look s scopes q x found_list) in
           declared-is ps a.owner y d e (declared_from ps x name.spot.at r.0, refl)
       | false ↦ λ m e. cc
     ]
     in
-    scopes_inner ps a.owner (each_scope a.owner kind name body) scopes refl (λ q d here e. own q d (bytes_eq name.text q) refl e) k
+    scopes_inner ps a.owner (for_of_scope a.owner kind name body) scopes refl (λ q d here e. own q d (bytes_eq name.text q) refl e) k
 
 pub function_known : (ps : List Place) (scopes : List Scope) (f : ℕ) (spot : Spot) (names : List Name) (ss : PlainStmts) → BeginApart ps → ScopesKnown ps f scopes → AllHave ps (begin_site (function_scope spot.at names ss ∷ scopes) spot.at spot)
     → AllHave ps (parameter_sites (function_scope spot.at names ss ∷ scopes) (in_function spot.at) names) → AllStated ps (found (function_scope spot.at names ss ∷ scopes)) spot.at (own_of_all spot.at true ss)

@@ -19,7 +19,7 @@ use Rattle.js_names.specs.declared.place.Around.{Around}
 use Rattle.js_names.specs.declared.place.Role.TheVariants.{Parameter}
 use Rattle.js_names.specs.declared.place.What.{What}
 use Rattle.js_names.specs.Entries.{Entry, top, is_present, own_of_all, own_of, own_of_start, own_declarators, own_declarator}
-use Rattle.js_names.specs.Scopes.{Scope, each_role, block_scope, for_scope, list_scope, each_scope, function_scope}
+use Rattle.js_names.specs.Scopes.{Scope, for_of_role, block_scope, for_three_scope, list_scope, for_of_scope, function_scope}
 use Rattle.js_names.specs.Forms.{is_undefined, is_reserved, object_of, called_builtin, value_builtin}
 use Rattle.js_names.specs.Sites.{Site, site, read_site, assign_site, declared_role, member_sites, in_function, in_loop, begin_site, parameter_sites, expr_sites, form_sites, exprs_sites, fields_sites, perhaps_sites, declarators_sites, start_sites, stmt_sites, stmt_form_sites, stmts_sites, item_sites}
 use Rattle.js_names.specs.Places.{Place, functions_of, is_var}
@@ -255,7 +255,7 @@ fresh_start p ps scopes a owner t.nothing e h = refl
 fresh_start p ps scopes a owner (t.declared line kind ds) e h = fresh_declarators p ps scopes a owner false kind ds e h
 fresh_start p ps scopes a owner (t.started e) d h = refl
 
-each_no_var : (kind : DeclareKind) (b : Bool) → b ≡ false → (is_var (each_role kind) || b) ≡ false
+each_no_var : (kind : DeclareKind) (b : Bool) → b ≡ false → (is_var (for_of_role kind) || b) ≡ false
 each_no_var const_word b h = h
 each_no_var let_word b h = h
 each_no_var var_word b h = h
@@ -300,16 +300,16 @@ within_block : (scopes : List Scope) (f owner : ℕ) (ss : PlainStmts) → IsWit
 unfolding functions_of block_scope
 within_block scopes f owner ss w x = w x
 
-within_for : (scopes : List Scope) (f owner : ℕ) (start : PlainStart) (s : PlainStmt) → IsWithin scopes f → IsWithin (for_scope owner start s ∷ scopes) f
-unfolding functions_of for_scope
+within_for : (scopes : List Scope) (f owner : ℕ) (start : PlainStart) (s : PlainStmt) → IsWithin scopes f → IsWithin (for_three_scope owner start s ∷ scopes) f
+unfolding functions_of for_three_scope
 within_for scopes f owner start s w x = w x
 
 within_list : (scopes : List Scope) (f owner : ℕ) (kind : DeclareKind) (name : Name) → IsWithin scopes f → IsWithin (list_scope owner kind name ∷ scopes) f
 unfolding functions_of list_scope
 within_list scopes f owner kind name w x = w x
 
-within_each : (scopes : List Scope) (f owner : ℕ) (kind : DeclareKind) (name : Name) (s : PlainStmt) → IsWithin scopes f → IsWithin (each_scope owner kind name s ∷ scopes) f
-unfolding functions_of each_scope
+within_each : (scopes : List Scope) (f owner : ℕ) (kind : DeclareKind) (name : Name) (s : PlainStmt) → IsWithin scopes f → IsWithin (for_of_scope owner kind name s ∷ scopes) f
+unfolding functions_of for_of_scope
 within_each scopes f owner kind name s w x = w x
 
 call_declares : (p : PlainProgram) (ps : List Place) (f : ℕ) (o : Option Builtin) (w : Option (List ℕ)) (floors : Bool) (xs : List ℕ) → DeclaresFit p ps f (call_node o w floors xs)
@@ -365,7 +365,7 @@ expr_declares p ps f _ xs = refl
 
 -- and what a statement's does
 stmt_fine : (p : PlainProgram) (ps : List Place) (scopes : List Scope) (a : Around) (form : PlainStmtForm) (xs : List ℕ) → AllFine p ps (stmt_form_sites scopes a form) → form_fits p (slots_in ps a.owner) (stmt_node ps form xs) ≡ true
-unfolding stmt_form_sites block_scope for_scope list_scope
+unfolding stmt_form_sites block_scope for_three_scope list_scope
 stmt_fine p ps scopes a t.empty xs h = refl
 stmt_fine p ps scopes a (t.block ss) xs h = some_variables _ (fresh_all p ps (block_scope a.owner ss ∷ scopes) a 0 false ss refl h)
 stmt_fine p ps scopes a (t.declaration kind ds) xs h = refl
@@ -374,7 +374,7 @@ stmt_fine p ps scopes a (t.if_alone e s) xs h = refl
 stmt_fine p ps scopes a (t.if_else e s other) xs h = refl
 stmt_fine p ps scopes a (t.while_of e s) xs h = refl
 stmt_fine p ps scopes a (t.for_three start test next s) xs h =
-    let inner = for_scope a.owner start s ∷ scopes in
+    let inner = for_three_scope a.owner start s ∷ scopes in
     some_variables _ (fresh_start p ps inner a 0 start refl (fine_left p ps (start_sites inner a start) (perhaps_sites inner a test ++ (perhaps_sites inner a next ++ stmt_sites inner (in_loop a) s)) h))
 stmt_fine p ps scopes a (t.for_of kind name e s) xs h = one_variable _ (h.0.slot (each_no_var kind _ refl))
 stmt_fine p ps scopes a (t.break_of spot) xs h = refl
@@ -556,7 +556,7 @@ mutual
       let x = expr_piece ps b e in
       yields_beside p ps a.owner b (expr_sites scopes a e) (stmt_sites scopes (in_loop a) s) x (stmt_piece ps (after b x) s) (expr_good p ps scopes a b e w) (stmt_good p ps scopes (in_loop a) (after b x) s w)
   stmt_form_good p ps scopes a b (t.for_three start test next s) w =
-      let inner = for_scope a.owner start s ∷ scopes in
+      let inner = for_three_scope a.owner start s ∷ scopes in
       let v = within_for scopes a.owner a.owner start s w in
       let x = start_piece ps b start in
       let y = perhaps_piece ps (after b x) test in
@@ -567,7 +567,7 @@ mutual
       (start_good p ps inner a b start v) (perhaps_good p ps inner a (after b x) test v) (perhaps_good p ps inner a c next v) (stmt_good p ps inner (in_loop a) d s v)
   stmt_form_good p ps scopes a b (t.for_of kind name e s) w =
       let listed = list_scope a.owner kind name ∷ scopes in
-      let inner = each_scope a.owner kind name s ∷ scopes in
+      let inner = for_of_scope a.owner kind name s ∷ scopes in
       let v = within_each scopes a.owner a.owner kind name s w in
       let x = expr_piece ps b e in
       yields_rest p ps a.owner b _ (expr_sites listed a e ++ stmt_sites inner (in_loop a) s) (beside x (stmt_piece ps (after b x) s))

@@ -16,7 +16,7 @@ use Rattle.js_names.specs.declared.place.Role.{Role}
 use Rattle.js_names.specs.declared.place.Role.TheVariants.{Function}
 use Rattle.js_names.specs.declared.place.What.{What}
 use Rattle.js_names.specs.Entries.{top, own_of_all, vars_of_all, own_of_item, vars_of_item}
-use Rattle.js_names.specs.Scopes.{Scope, block_scope, for_scope, list_scope, each_scope, each_role, function_scope, program_scope}
+use Rattle.js_names.specs.Scopes.{Scope, block_scope, for_three_scope, list_scope, for_of_scope, for_of_role, function_scope, program_scope}
 use Rattle.js_names.specs.Forms.{is_undefined, is_reserved, object_of, called_builtin, value_builtin}
 use Rattle.js_names.specs.Spots.{program_spot}
 use Rattle.js_names.specs.Sites.{Site, site, read_site, assign_site, member_sites, in_function, in_loop, begin_site, parameter_sites, declared_role, program_sites, expr_sites, form_sites, exprs_sites, fields_sites, perhaps_sites, declarators_sites, start_sites, stmt_sites, stmt_form_sites, stmts_sites, item_sites}
@@ -202,17 +202,17 @@ mutual
       knows_append ps (expr_sites scopes a e) (stmt_sites scopes a s ++ stmt_sites scopes a other) (expr_knows ps r scopes a e k) (knows_append ps (stmt_sites scopes a s) (stmt_sites scopes a other) (stmt_knows ps r scopes a s k) (stmt_knows ps r scopes a other k))
   stmt_form_knows ps r scopes a (t.while_of e s) k = knows_append ps (expr_sites scopes a e) (stmt_sites scopes (in_loop a) s) (expr_knows ps r scopes a e k) (stmt_knows ps r scopes (in_loop a) s k)
   stmt_form_knows ps r scopes a (t.for_three start test next s) k = λ h.
-      let inner = for_scope a.owner start s ∷ scopes in
+      let inner = for_three_scope a.owner start s ∷ scopes in
       let last = stmt_sites inner (in_loop a) s in
       let m = for_known ps scopes a start s k (have_left ps (start_sites inner a start) (perhaps_sites inner a test ++ (perhaps_sites inner a next ++ last)) h) in
       knows_append ps (start_sites inner a start) (perhaps_sites inner a test ++ (perhaps_sites inner a next ++ last)) (start_knows ps r inner a start m)
       (knows_append ps (perhaps_sites inner a test) (perhaps_sites inner a next ++ last) (perhaps_knows ps r inner a test m) (knows_append ps (perhaps_sites inner a next) last (perhaps_knows ps r inner a next m) (stmt_knows ps r inner (in_loop a) s m))) h
   stmt_form_knows ps r scopes a (t.for_of kind name e s) k = λ h.
       let listed = list_scope a.owner kind name ∷ scopes in
-      let inner = each_scope a.owner kind name s ∷ scopes in
+      let inner = for_of_scope a.owner kind name s ∷ scopes in
       let m = list_known ps scopes a kind name k (h.0, tt) in
       let body = each_known ps scopes a kind name s k (h.0, tt) in
-      knows_append ps (site listed a (What.Declares (each_role kind)) name) (expr_sites listed a e ++ stmt_sites inner (in_loop a) s) (knows_site ps r listed a (What.Declares (each_role kind)) name m)
+      knows_append ps (site listed a (What.Declares (for_of_role kind)) name) (expr_sites listed a e ++ stmt_sites inner (in_loop a) s) (knows_site ps r listed a (What.Declares (for_of_role kind)) name m)
       (knows_append ps (expr_sites listed a e) (stmt_sites inner (in_loop a) s) (expr_knows ps r listed a e m) (stmt_knows ps r inner (in_loop a) s body)) h
   stmt_form_knows ps r scopes a (t.break_of spot) k = knows_site ps r scopes a What.LoopWord _ k
   stmt_form_knows ps r scopes a (t.continue_of spot) k = knows_site ps r scopes a What.LoopWord _ k

@@ -16,7 +16,7 @@ use Rattle.js_names.specs.declared.place.Role.{Role}
 use Rattle.js_names.specs.declared.place.Role.TheVariants.{Parameter, Const, Let, Var, Function}
 use Rattle.js_names.specs.declared.place.What.{What}
 use Rattle.js_names.specs.Entries.{Entry, top, entry, own_declarator, own_declarators, var_declarator, var_declarators, own_of, own_of_all, own_of_start, vars_of, vars_of_form, vars_of_all, vars_of_start}
-use Rattle.js_names.specs.Scopes.{Scope, named, first, one_var, merge, parameters, block_scope, for_scope, list_scope, each_scope, each_role}
+use Rattle.js_names.specs.Scopes.{Scope, named, first, one_var, merge, parameters, block_scope, for_three_scope, list_scope, for_of_scope, for_of_role}
 use Rattle.js_names.specs.Sites.{Site, site, in_function, in_loop, parameter_sites, declared_role, expr_sites, perhaps_sites, declarators_sites, start_sites, stmt_sites, stmt_form_sites, stmts_sites}
 use Rattle.js_names.specs.Places.{Place, see, found, found_var, is_parameter, is_function}
 use Rattle.js_names.specs.Slots.{held_by, is_among, hold, assigned_in, is_constant, constants_of, constant_at, constant_in, slots_of, parameter_in, parameter_at, variable_in, variable_at, variable_of}
@@ -192,7 +192,7 @@ stated_parameters ps scopes f vars [] h = tt
 stated_parameters ps scopes f vars (x ∷ xs) h =
     (record { place = _; has = h.0; role = Parameter; what = refl; declared = refl; spot = refl; owner = refl; same = refl; parameter = λ k. (refl, refl) }, stated_parameters ps scopes f vars xs h.1)
 
-pub stated_each : (ps : List Place) (scopes : List Scope) (a : Around) (end : ℕ) (kind : DeclareKind) (name : Name) → AllHave ps (site scopes a (What.Declares (each_role kind)) name) → AllStated ps (found scopes) a.owner (entry name (each_role kind) end a.owner false 0 ∷ [])
+pub stated_each : (ps : List Place) (scopes : List Scope) (a : Around) (end : ℕ) (kind : DeclareKind) (name : Name) → AllHave ps (site scopes a (What.Declares (for_of_role kind)) name) → AllStated ps (found scopes) a.owner (entry name (for_of_role kind) end a.owner false 0 ∷ [])
 unfolding see
 stated_each ps scopes a end const_word name h = (record { place = _; has = h.0; role = Const; what = refl; declared = refl; spot = refl; owner = refl; same = refl; parameter = λ k. absurd (false≢true k) }, tt)
 stated_each ps scopes a end let_word name h = (record { place = _; has = h.0; role = Let; what = refl; declared = refl; spot = refl; owner = refl; same = refl; parameter = λ k. absurd (false≢true k) }, tt)
@@ -221,7 +221,7 @@ stated_start_vars ps scopes a (t.declared line kind ds) h = stated_vars ps scope
 stated_start_vars ps scopes a (t.started e) h = tt
 
 mutual
-  unfolding stmt_sites stmt_form_sites stmts_sites found_var block_scope for_scope each_scope
+  unfolding stmt_sites stmt_form_sites stmts_sites found_var block_scope for_three_scope for_of_scope
 
   pub stmt_vars : (ps : List Place) (scopes : List Scope) (a : Around) (direct : Bool) (s : PlainStmt) → AllHave ps (stmt_sites scopes a s) → AllStated ps (found_var scopes) a.owner (vars_of a.owner direct s)
   stmt_vars ps scopes a direct (t.on line form) h = form_vars ps scopes a direct form h
@@ -237,14 +237,14 @@ mutual
       stated_append ps (found_var scopes) a.owner (vars_of a.owner false s) (vars_of a.owner false other) (stmt_vars ps scopes a false s (have_left ps (stmt_sites scopes a s) (stmt_sites scopes a other) k)) (stmt_vars ps scopes a false other (have_right ps (stmt_sites scopes a s) (stmt_sites scopes a other) k))
   form_vars ps scopes a direct (t.while_of e s) h = stmt_vars ps scopes (in_loop a) false s (have_right ps (expr_sites scopes a e) (stmt_sites scopes (in_loop a) s) h)
   form_vars ps scopes a direct (t.for_three start test next s) h =
-      let inner = for_scope a.owner start s ∷ scopes in
+      let inner = for_three_scope a.owner start s ∷ scopes in
       let k = have_right ps (start_sites inner a start) (perhaps_sites inner a test ++ (perhaps_sites inner a next ++ stmt_sites inner (in_loop a) s)) h in
       let m = have_right ps (perhaps_sites inner a test) (perhaps_sites inner a next ++ stmt_sites inner (in_loop a) s) k in
       stated_append ps (found_var scopes) a.owner (vars_of_start a.owner start) (vars_of a.owner false s)
       (stated_start_vars ps inner a start (have_left ps (start_sites inner a start) (perhaps_sites inner a test ++ (perhaps_sites inner a next ++ stmt_sites inner (in_loop a) s)) h))
       (stmt_vars ps inner (in_loop a) false s (have_right ps (perhaps_sites inner a next) (stmt_sites inner (in_loop a) s) m))
   form_vars ps scopes a direct (t.for_of kind name e s) h =
-      let inner = each_scope a.owner kind name s ∷ scopes in stmt_vars ps inner (in_loop a) false s (have_right ps (expr_sites (list_scope a.owner kind name ∷ scopes) a e) (stmt_sites inner (in_loop a) s) h.1)
+      let inner = for_of_scope a.owner kind name s ∷ scopes in stmt_vars ps inner (in_loop a) false s (have_right ps (expr_sites (list_scope a.owner kind name ∷ scopes) a e) (stmt_sites inner (in_loop a) s) h.1)
   form_vars ps scopes a direct (t.break_of spot) h = tt
   form_vars ps scopes a direct (t.continue_of spot) h = tt
   form_vars ps scopes a direct (t.return_nothing spot) h = tt

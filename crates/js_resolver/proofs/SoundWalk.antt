@@ -9,7 +9,7 @@ use Rattle.js_tree.specs.Plain.{PlainExpr, PlainForm, PlainExprs, PlainFields, P
 use Rattle.js_tree.specs.Nesting.{is_object}
 use Rattle.js_names.specs.declared.place.Around.{Around}
 use Rattle.js_names.specs.declared.place.What.{What}
-use Rattle.js_names.specs.Scopes.{Scope, block_scope, for_scope, list_scope, each_scope, each_role, function_scope}
+use Rattle.js_names.specs.Scopes.{Scope, block_scope, for_three_scope, list_scope, for_of_scope, for_of_role, function_scope}
 use Rattle.js_names.specs.Forms.{is_undefined, is_reserved, object_of, called_builtin, value_builtin}
 use Rattle.js_names.specs.Sites.{Site, site, read_site, assign_site, member_sites, in_function, in_loop, begin_site, parameter_sites, declared_role, expr_sites, form_sites, exprs_sites, fields_sites, perhaps_sites, declarators_sites, start_sites, stmt_sites, stmt_form_sites, stmts_sites}
 use Rattle.js_resolver.proofs.SoundFunctions.{begun, begun-append}
@@ -19,9 +19,9 @@ use Rattle.std.proofs.Common.{inl, inr}
 -- what goes on into scopes that begin: those of blocks and loops, and those of all functions but f
 pub record IsClosed (P : ℕ → List Scope → Type 0) (f : ℕ) : Type 0 where
   pub block : (g : ℕ) (ss : PlainStmts) (scopes : List Scope) → P g scopes → P g (block_scope g ss ∷ scopes)
-  pub head : (g : ℕ) (start : PlainStart) (s : PlainStmt) (scopes : List Scope) → P g scopes → P g (for_scope g start s ∷ scopes)
+  pub head : (g : ℕ) (start : PlainStart) (s : PlainStmt) (scopes : List Scope) → P g scopes → P g (for_three_scope g start s ∷ scopes)
   pub list : (g : ℕ) (kind : DeclareKind) (name : Name) (scopes : List Scope) → P g scopes → P g (list_scope g kind name ∷ scopes)
-  pub turn : (g : ℕ) (kind : DeclareKind) (name : Name) (s : PlainStmt) (scopes : List Scope) → P g scopes → P g (each_scope g kind name s ∷ scopes)
+  pub turn : (g : ℕ) (kind : DeclareKind) (name : Name) (s : PlainStmt) (scopes : List Scope) → P g scopes → P g (for_of_scope g kind name s ∷ scopes)
   pub function : (g h : ℕ) (names : List Name) (ss : PlainStmts) (scopes : List Scope) → (h ≡ f → ⊥) → P g scopes → P h (function_scope h names ss ∷ scopes)
 
 abbrev pub AllIn : (ℕ → List Scope → Type 0) → List Site → Type 0
@@ -149,7 +149,7 @@ mutual
       walks_append P f (expr_sites scopes a e) (stmt_sites scopes a s ++ stmt_sites scopes a other) (expr_walks P f r scopes a e k) (walks_append P f (stmt_sites scopes a s) (stmt_sites scopes a other) (stmt_walks P f r scopes a s k) (stmt_walks P f r scopes a other k))
   stmt_form_walks P f r scopes a (t.while_of e s) k = walks_append P f (expr_sites scopes a e) (stmt_sites scopes (in_loop a) s) (expr_walks P f r scopes a e k) (stmt_walks P f r scopes (in_loop a) s k)
   stmt_form_walks P f r scopes a (t.for_three start test next s) k =
-      let inner = for_scope a.owner start s ∷ scopes in
+      let inner = for_three_scope a.owner start s ∷ scopes in
       let last = stmt_sites inner (in_loop a) s in
       let m = r.head a.owner start s scopes k in
       walks_append P f (start_sites inner a start) (perhaps_sites inner a test ++ (perhaps_sites inner a next ++ last)) (start_walks P f r inner a start m)
@@ -157,9 +157,9 @@ mutual
       (walks_append P f (perhaps_sites inner a next) last (perhaps_walks P f r inner a next m) (stmt_walks P f r inner (in_loop a) s m)))
   stmt_form_walks P f r scopes a (t.for_of kind name e s) k =
       let listed = list_scope a.owner kind name ∷ scopes in
-      let inner = each_scope a.owner kind name s ∷ scopes in
+      let inner = for_of_scope a.owner kind name s ∷ scopes in
       let m = r.list a.owner kind name scopes k in
-      walks_append P f (site listed a (What.Declares (each_role kind)) name) (expr_sites listed a e ++ stmt_sites inner (in_loop a) s) (walks_site P f listed a (What.Declares (each_role kind)) name m)
+      walks_append P f (site listed a (What.Declares (for_of_role kind)) name) (expr_sites listed a e ++ stmt_sites inner (in_loop a) s) (walks_site P f listed a (What.Declares (for_of_role kind)) name m)
       (walks_append P f (expr_sites listed a e) (stmt_sites inner (in_loop a) s) (expr_walks P f r listed a e m) (stmt_walks P f r inner (in_loop a) s (r.turn a.owner kind name s scopes k)))
   stmt_form_walks P f r scopes a (t.break_of spot) k = λ absent. (k, tt)
   stmt_form_walks P f r scopes a (t.continue_of spot) k = λ absent. (k, tt)

@@ -10,7 +10,7 @@ use Rattle.js_tree.specs.declared.tree.Declarator.{Declarator}
 use Rattle.js_tree.specs.declared.tree.Expr.{Expr}
 use Rattle.js_tree.specs.declared.tree.Start.{Start, Nothing, Declares, Evaluates}
 use Rattle.js_tree.specs.declared.tree.Stmt.{Stmt}
-use Rattle.js_tree.specs.declared.tree.StmtForm.{StmtForm, Empty, Block, Declaration, Expression, If, IfElse, While, For, ForOf, Break, Continue, ReturnNothing, Return}
+use Rattle.js_tree.specs.declared.tree.StmtForm.{StmtForm, Empty, Block, Declaration, Expression, If, IfElse, While, ForThree, ForOf, Break, Continue, ReturnNothing, Return}
 use Rattle.js_tree.specs.Plain as p
 use Rattle.js_tree.specs.Plain.{declarators_of, stmts_of}
 use Rattle.js_tree.specs.Views.{plain_expr, plain_declarator, plain_start, plain_stmt, plain_stmt_form}
@@ -113,12 +113,12 @@ for_parts vs (Some x) (Some y) (Some z) i = refl
 whole : (a b : Emitter) (o : Option ℕ) (present : Bool) (x : Piece) → EmitsPerhaps a b o present x → Emits a b (option_to_list o) x
 whole a b o present x h = record { adds = h.adds; parts = h.parts }
 
-pub for_arm : (ps : List Place) (a b c d e : Emitter) (f : StmtForm) (s u : Start) (t w : Option Expr) (l : Box Stmt Global) (x : Stmt) (vs : Vec ℕ Global) (i j k : Option ℕ) (m : ℕ) → f ≡ For s t w l → x ≡ l.value → vs.items ≡ fresh ps (own_of_start 0 (plain_start s))
+pub for_arm : (ps : List Place) (a b c d e : Emitter) (f : StmtForm) (s u : Start) (t w : Option Expr) (l : Box Stmt Global) (x : Stmt) (vs : Vec ℕ Global) (i j k : Option ℕ) (m : ℕ) → f ≡ ForThree s t w l → x ≡ l.value → vs.items ≡ fresh ps (own_of_start 0 (plain_start s))
     → EmitsPerhaps a b i (has_start (plain_start s)) (start_piece ps (count a) (plain_start s))
     → EmitsPerhaps b c j (is_present (tree_perhaps t)) (perhaps_piece ps (count b) (tree_perhaps t))
     → EmitsPerhaps c d k (is_present (tree_perhaps w)) (perhaps_piece ps (count c) (tree_perhaps w))
     → Emits d e (m ∷ []) (stmt_piece ps (count d) (plain_stmt x))
-    → FormsStmt ps a e (N.For vs i j k m) (plain_stmt_form f)
+    → FormsStmt ps a e (N.ForThree vs i j k m) (plain_stmt_form f)
 unfolding stmt_parts
 for_arm ps a b c d e f s u t w l x vs i j k m h q v g1 g2 g3 g4 =
     let p1 = start_piece ps (count a) (plain_start s) in
@@ -129,7 +129,7 @@ for_arm ps a b c d e f s u t w l x vs i j k m h q v g1 g2 g3 g4 =
     let h3 = emits_both (λ z. perhaps_piece ps z (tree_perhaps w)) a c d (option_to_list i ++ option_to_list j) (option_to_list k) p2 h2 (whole c d k (is_present (tree_perhaps w)) (perhaps_piece ps (count c) (tree_perhaps w)) g3) in
     let h4 = emits_both (λ z. stmt_piece ps z (plain_stmt x)) a d e ((option_to_list i ++ option_to_list j) ++ option_to_list k) (m ∷ []) p3 h3 g4 in
     let ns = ((option_to_list i ++ option_to_list j) ++ option_to_list k) ++ m ∷ [] in
-    forms_stmt ps a e (N.For vs i j k m) ns (p.for_three (plain_start s) (tree_perhaps t) (tree_perhaps w) (plain_stmt x)) (plain_stmt_form f)
+    forms_stmt ps a e (N.ForThree vs i j k m) ns (p.for_three (plain_start s) (tree_perhaps t) (tree_perhaps w) (plain_stmt x)) (plain_stmt_form f)
     (ap (λ z. p.for_three (plain_start s) (tree_perhaps t) (tree_perhaps w) (plain_stmt z)) q ∙ sym (ap plain_stmt_form h ∙ for_is s t w l)) h4
     (ap (λ z. n.for_three z i j k m) v
     ∙ (for_parts (fresh ps (own_of_start 0 (plain_start s))) i j k m

@@ -499,13 +499,13 @@ fn emit_stmt_form(
             let number = emit_stmt(tables, emitter, body)?;
             Ok(NodeForm::While(tested, number))
         }
-        StmtForm::For(start, test, next, body) => {
+        StmtForm::ForThree(start, test, next, body) => {
             let slots = start_slots(emitter.alloc, tables, start)?;
             let first = emit_start(tables, emitter, start)?;
             let tested = emit_perhaps(tables, emitter, test)?;
             let step = emit_perhaps(tables, emitter, next)?;
             let number = emit_stmt(tables, emitter, body)?;
-            Ok(NodeForm::For(slots, first, tested, step, number))
+            Ok(NodeForm::ForThree(slots, first, tested, step, number))
         }
         StmtForm::ForOf(_, name, list, body) => {
             let slot = tables.slot(name.spot.at);

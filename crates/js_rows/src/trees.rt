@@ -295,7 +295,7 @@ fn stmt_form(out: &mut String, form: &StmtForm, room: u32) -> Result<(), AllocEr
         StmtForm::While(test, body) => {
             list(out, "while", &[Part::Expr(test), Part::Stmt(body)], room)
         }
-        StmtForm::For(first, test, next, body) => {
+        StmtForm::ForThree(first, test, next, body) => {
             out.push_str("(for ")?;
             start(out, first, room)?;
             let parts = [Part::Perhaps(test), Part::Perhaps(next), Part::Stmt(body)];

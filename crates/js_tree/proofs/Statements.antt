@@ -11,8 +11,8 @@ use Rattle.js_tree.specs.declared.tree.Spot.{Spot}
 use Rattle.js_tree.specs.declared.tree.Start.{Start, Nothing, Declares, Evaluates, fold-roll-Start}
 use Rattle.js_tree.specs.declared.tree.Start.TheVariants.{rolls-Nothing, rolls-Declares, rolls-Evaluates}
 use Rattle.js_tree.specs.declared.tree.Stmt.{Stmt, fold_out-Stmt}
-use Rattle.js_tree.specs.declared.tree.StmtForm.{StmtForm, Empty, Declaration, Block, Expression, If, IfElse, While, For, ForOf, Break, Continue, ReturnNothing, Return, fold-roll-StmtForm}
-use Rattle.js_tree.specs.declared.tree.StmtForm.TheVariants.{rolls-Empty, rolls-Declaration, rolls-Block, rolls-Expression, rolls-If, rolls-IfElse, rolls-While, rolls-For, rolls-ForOf, rolls-Break, rolls-Continue, rolls-ReturnNothing, rolls-Return}
+use Rattle.js_tree.specs.declared.tree.StmtForm.{StmtForm, Empty, Declaration, Block, Expression, If, IfElse, While, ForThree, ForOf, Break, Continue, ReturnNothing, Return, fold-roll-StmtForm}
+use Rattle.js_tree.specs.declared.tree.StmtForm.TheVariants.{rolls-Empty, rolls-Declaration, rolls-Block, rolls-Expression, rolls-If, rolls-IfElse, rolls-While, rolls-ForThree, rolls-ForOf, rolls-Break, rolls-Continue, rolls-ReturnNothing, rolls-Return}
 use Rattle.js_tree.specs.Plain as p
 use Rattle.js_tree.specs.Plain.{PlainExpr, PlainForm, PlainField, PlainDeclarator, PlainStart, PlainStmt, PlainStmtForm, declarators_of, stmts_of}
 use Rattle.js_tree.specs.Views.{plain_stmt, plain_stmt_form, plain_start, perhaps, plain_expr, plain_declarator, form_step, start_step, stmt_form_step, declarator_step, expr_step, field_step, stmt_step}
@@ -57,8 +57,8 @@ if_else_is e s o = ap plain_stmt_form (sym (rolls-IfElse e s o)) ∙ search (rul
 pub while_is : (e : Expr) (s : Box Stmt Global) → plain_stmt_form (While e s) ≡ p.while_of (plain_expr e) (plain_stmt s.value)
 while_is e s = ap plain_stmt_form (sym (rolls-While e s)) ∙ search (rules, fold-roll-StmtForm)
 
-pub for_is : (b : Start) (t n : Option Expr) (s : Box Stmt Global) → plain_stmt_form (For b t n s) ≡ p.for_three (plain_start b) (perhaps (option_map plain_expr t)) (perhaps (option_map plain_expr n)) (plain_stmt s.value)
-for_is b t n s = ap plain_stmt_form (sym (rolls-For b t n s)) ∙ search (rules, fold-roll-StmtForm)
+pub for_is : (b : Start) (t n : Option Expr) (s : Box Stmt Global) → plain_stmt_form (ForThree b t n s) ≡ p.for_three (plain_start b) (perhaps (option_map plain_expr t)) (perhaps (option_map plain_expr n)) (plain_stmt s.value)
+for_is b t n s = ap plain_stmt_form (sym (rolls-ForThree b t n s)) ∙ search (rules, fold-roll-StmtForm)
 
 pub for_of_is : (k : DeclareKind) (n : Name) (e : Expr) (s : Box Stmt Global) → plain_stmt_form (ForOf k n e s) ≡ p.for_of k n (plain_expr e) (plain_stmt s.value)
 for_of_is k n e s = ap plain_stmt_form (sym (rolls-ForOf k n e s)) ∙ search (rules, fold-roll-StmtForm)

@@ -55,7 +55,7 @@ stmt_form_step (StmtForm-F.Expression e) = p.expression e
 stmt_form_step (StmtForm-F.If e s) = p.if_alone e s.value
 stmt_form_step (StmtForm-F.IfElse e s other) = p.if_else e s.value other.value
 stmt_form_step (StmtForm-F.While e s) = p.while_of e s.value
-stmt_form_step (StmtForm-F.For start test next s) =
+stmt_form_step (StmtForm-F.ForThree start test next s) =
     p.for_three start (perhaps test) (perhaps next) s.value
 stmt_form_step (StmtForm-F.ForOf kind name e s) = p.for_of kind name e s.value
 stmt_form_step (StmtForm-F.Break spot) = p.break_of spot

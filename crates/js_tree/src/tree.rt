@@ -217,7 +217,7 @@ pub enum StmtForm {
     If(Expr, Box<Stmt>),
     IfElse(Expr, Box<Stmt>, Box<Stmt>),
     While(Expr, Box<Stmt>),
-    For(Start, Option<Expr>, Option<Expr>, Box<Stmt>),
+    ForThree(Start, Option<Expr>, Option<Expr>, Box<Stmt>),
     /// `for (const name of list) body`, or with `let`
     ForOf(DeclareKind, Name, Expr, Box<Stmt>),
     Break(Spot),
@@ -237,7 +237,7 @@ impl Drop for StmtForm {
             StmtForm::If(_, _) => {}
             StmtForm::IfElse(_, _, _) => {}
             StmtForm::While(_, _) => {}
-            StmtForm::For(_, _, _, _) => {}
+            StmtForm::ForThree(_, _, _, _) => {}
             StmtForm::ForOf(_, _, _, _) => {}
             StmtForm::Break(_) => {}
             StmtForm::Continue(_) => {}

@@ -29,13 +29,13 @@ declare_stmt_vars-returns-in_ok-declare_stmt_vars-in-IfElse t c =
     c.in-IfElse.is c.deref-in-IfElse.ensures c.deref-in-IfElse-2.ensures)
     c.in_ok-declare_stmt_vars-in-IfElse.ensures c.declare_stmt_vars-in-IfElse-2.ensures
 
-pub declare_stmt_vars-returns-in_ok-declare_start_vars-in-For :
-    goal.declare_stmt_vars-returns-in_ok-declare_start_vars-in-For
-declare_stmt_vars-returns-in_ok-declare_start_vars-in-For t c =
-    vars_on_ok_both (keeps (option_copied c.args.own)) c.declare_stmt_vars-in-For.result c.args.map.now c.declare_start_vars.new.map c.declare_stmt_vars-in-For.new.map _ _ _
-    (vars_of_for c.args.owner c.args.direct c.args.stmt.now c.in-For.start c.in-For.field-1 c.in-For.field-2 c.in-For.body c.deref-in-For.result.now
-    c.in-For.is c.deref-in-For.ensures)
-    c.in_ok-declare_start_vars-in-For.ensures c.declare_stmt_vars-in-For.ensures
+pub declare_stmt_vars-returns-in_ok-declare_start_vars-in-ForThree :
+    goal.declare_stmt_vars-returns-in_ok-declare_start_vars-in-ForThree
+declare_stmt_vars-returns-in_ok-declare_start_vars-in-ForThree t c =
+    vars_on_ok_both (keeps (option_copied c.args.own)) c.declare_stmt_vars-in-ForThree.result c.args.map.now c.declare_start_vars.new.map c.declare_stmt_vars-in-ForThree.new.map _ _ _
+    (vars_of_for c.args.owner c.args.direct c.args.stmt.now c.in-ForThree.start c.in-ForThree.field-1 c.in-ForThree.field-2 c.in-ForThree.body c.deref-in-ForThree.result.now
+    c.in-ForThree.is c.deref-in-ForThree.ensures)
+    c.in_ok-declare_start_vars-in-ForThree.ensures c.declare_stmt_vars-in-ForThree.ensures
 
 pub declare_stmt_vars-returns-in-If : goal.declare_stmt_vars-returns-in-If
 declare_stmt_vars-returns-in-If t c =

@@ -5,7 +5,7 @@ use Rattle.js_tree.specs.declared.tree.Declarator.{out-Declarator}
 use Rattle.js_tree.specs.Plain.{stmts_of}
 use Rattle.js_tree.specs.Views.{plain_expr, plain_start, plain_stmt}
 use Rattle.js_names.specs.declared.place.What.{What}
-use Rattle.js_names.specs.Scopes.{block_scope, for_scope, list_scope, each_scope, function_scope}
+use Rattle.js_names.specs.Scopes.{block_scope, for_three_scope, list_scope, for_of_scope, function_scope}
 use Rattle.js_names.specs.Forms.{called_builtin}
 use Rattle.js_names.specs.Sites.{site, word_at, assign_site, begin_site, parameter_sites, in_function, in_loop, declared_role}
 use Rattle.js_names.specs.Walks.{Adds, Enters, scopes_in}
@@ -195,16 +195,16 @@ put_stmt-returns-in_ok-put_expr-in-While t c =
     adds_as c.put_stmt-in-While.result c.args.walk.now c.put_stmt-in-While.new.walk _ _ (while_sites (scopes_in c.args.walk.now) c.args.around c.in_loop.result c.args.stmt.now c.in-While.test c.in-While.body c.deref-in-While.result.now c.in-While.is c.deref-in-While.ensures c.in_loop.ensures)
     (adds_then c.put_stmt-in-While.result (λ s. tree_sites s c.args.around c.in-While.test) (λ s. tree_stmt_sites s c.in_loop.result c.deref-in-While.result.now) c.args.walk.now c.put_expr-in-While.new.walk c.put_stmt-in-While.new.walk c.in_ok-put_expr-in-While.ensures c.put_stmt-in-While.ensures)
 
-pub put_stmt-returns-in_ok-put_stmt-in-For : goal.put_stmt-returns-in_ok-put_stmt-in-For
-put_stmt-returns-in_ok-put_stmt-in-For t c =
-    subst (Adds c.args.walk.now c.leave.new.walk) (in_for_sites (scopes_in c.args.walk.now) c.args.around c.args.stmt.now c.in-For.start c.in-For.test c.in-For.next c.in-For.body c.deref-in-For-2.result.now c.in-For.is c.deref-in-For-2.ensures)
-    (enters_under (λ s. ((start_tree_sites s c.args.around c.in-For.start ++ perhaps_tree_sites s c.args.around c.in-For.test) ++ perhaps_tree_sites s c.args.around c.in-For.next) ++ tree_stmt_sites s (in_loop c.args.around) c.deref-in-For-2.result.now) c.args.walk.now c.enter_for.new.walk c.put_stmt-in-For.new.walk c.leave.new.walk (for_scope c.args.around.owner (plain_start c.in-For.start) (plain_stmt c.deref-in-For-2.result.now))
-    (subst (λ z. Enters c.args.walk.now c.enter_for.new.walk (for_scope c.args.around.owner (plain_start c.in-For.start) (plain_stmt z))) (c.deref-in-For.ensures ∙ sym c.deref-in-For-2.ensures) c.in_ok-enter_for-in-For.ensures)
-    (adds_both (λ s. (start_tree_sites s c.args.around c.in-For.start ++ perhaps_tree_sites s c.args.around c.in-For.test) ++ perhaps_tree_sites s c.args.around c.in-For.next) (λ s. tree_stmt_sites s (in_loop c.args.around) c.deref-in-For-2.result.now) c.enter_for.new.walk c.put_perhaps-in-For.new.walk c.put_stmt-in-For.new.walk
-    (adds_both (λ s. start_tree_sites s c.args.around c.in-For.start ++ perhaps_tree_sites s c.args.around c.in-For.test) (λ s. perhaps_tree_sites s c.args.around c.in-For.next) c.enter_for.new.walk c.put_perhaps.new.walk c.put_perhaps-in-For.new.walk
-    (adds_both (λ s. start_tree_sites s c.args.around c.in-For.start) (λ s. perhaps_tree_sites s c.args.around c.in-For.test) c.enter_for.new.walk c.put_start.new.walk c.put_perhaps.new.walk c.in_ok-put_start-in-For.ensures c.in_ok-put_perhaps-in-For.ensures)
-    c.in_ok-put_perhaps-in-For-2.ensures)
-    (subst (λ z. Adds c.put_perhaps-in-For.new.walk c.put_stmt-in-For.new.walk (tree_stmt_sites (scopes_in c.put_perhaps-in-For.new.walk) z c.deref-in-For-2.result.now)) c.in_loop-in-For.ensures c.in_ok-put_stmt-in-For.ensures))
+pub put_stmt-returns-in_ok-put_stmt-in-ForThree : goal.put_stmt-returns-in_ok-put_stmt-in-ForThree
+put_stmt-returns-in_ok-put_stmt-in-ForThree t c =
+    subst (Adds c.args.walk.now c.leave.new.walk) (in_for_sites (scopes_in c.args.walk.now) c.args.around c.args.stmt.now c.in-ForThree.start c.in-ForThree.test c.in-ForThree.next c.in-ForThree.body c.deref-in-ForThree-2.result.now c.in-ForThree.is c.deref-in-ForThree-2.ensures)
+    (enters_under (λ s. ((start_tree_sites s c.args.around c.in-ForThree.start ++ perhaps_tree_sites s c.args.around c.in-ForThree.test) ++ perhaps_tree_sites s c.args.around c.in-ForThree.next) ++ tree_stmt_sites s (in_loop c.args.around) c.deref-in-ForThree-2.result.now) c.args.walk.now c.enter_for.new.walk c.put_stmt-in-ForThree.new.walk c.leave.new.walk (for_three_scope c.args.around.owner (plain_start c.in-ForThree.start) (plain_stmt c.deref-in-ForThree-2.result.now))
+    (subst (λ z. Enters c.args.walk.now c.enter_for.new.walk (for_three_scope c.args.around.owner (plain_start c.in-ForThree.start) (plain_stmt z))) (c.deref-in-ForThree.ensures ∙ sym c.deref-in-ForThree-2.ensures) c.in_ok-enter_for-in-ForThree.ensures)
+    (adds_both (λ s. (start_tree_sites s c.args.around c.in-ForThree.start ++ perhaps_tree_sites s c.args.around c.in-ForThree.test) ++ perhaps_tree_sites s c.args.around c.in-ForThree.next) (λ s. tree_stmt_sites s (in_loop c.args.around) c.deref-in-ForThree-2.result.now) c.enter_for.new.walk c.put_perhaps-in-ForThree.new.walk c.put_stmt-in-ForThree.new.walk
+    (adds_both (λ s. start_tree_sites s c.args.around c.in-ForThree.start ++ perhaps_tree_sites s c.args.around c.in-ForThree.test) (λ s. perhaps_tree_sites s c.args.around c.in-ForThree.next) c.enter_for.new.walk c.put_perhaps.new.walk c.put_perhaps-in-ForThree.new.walk
+    (adds_both (λ s. start_tree_sites s c.args.around c.in-ForThree.start) (λ s. perhaps_tree_sites s c.args.around c.in-ForThree.test) c.enter_for.new.walk c.put_start.new.walk c.put_perhaps.new.walk c.in_ok-put_start-in-ForThree.ensures c.in_ok-put_perhaps-in-ForThree.ensures)
+    c.in_ok-put_perhaps-in-ForThree-2.ensures)
+    (subst (λ z. Adds c.put_perhaps-in-ForThree.new.walk c.put_stmt-in-ForThree.new.walk (tree_stmt_sites (scopes_in c.put_perhaps-in-ForThree.new.walk) z c.deref-in-ForThree-2.result.now)) c.in_loop-in-ForThree.ensures c.in_ok-put_stmt-in-ForThree.ensures))
     c.leave.ensures)
 
 pub put_stmt-returns-in_ok-put_listed-in-ForOf : goal.put_stmt-returns-in_ok-put_listed-in-ForOf
@@ -218,7 +218,7 @@ put_listed-returns t c =
 
 pub put_turns-returns : goal.put_turns-returns
 put_turns-returns t c =
-    adds_under (λ s. tree_stmt_sites s (in_loop c.args.around) c.args.body.now) c.args.walk.now c.enter.new.walk c.put_stmt.new.walk c.leave.new.walk c.in_ok-scope.scope (each_scope c.args.around.owner c.args.kind c.args.name.now (plain_stmt c.args.body.now)) c.in_ok-scope.ensures c.in_ok-enter.ensures
+    adds_under (λ s. tree_stmt_sites s (in_loop c.args.around) c.args.body.now) c.args.walk.now c.enter.new.walk c.put_stmt.new.walk c.leave.new.walk c.in_ok-scope.scope (for_of_scope c.args.around.owner c.args.kind c.args.name.now (plain_stmt c.args.body.now)) c.in_ok-scope.ensures c.in_ok-enter.ensures
     (subst (λ z. Adds c.enter.new.walk c.put_stmt.new.walk (tree_stmt_sites (scopes_in c.enter.new.walk) z c.args.body.now)) c.in_loop.ensures c.in_ok-put_stmt.ensures)
     c.leave.ensures
 

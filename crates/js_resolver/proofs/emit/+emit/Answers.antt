@@ -228,9 +228,9 @@ pub emit_stmt_form-returns-in_ok-second-in-IfElse : goal.emit_stmt_form-returns-
 emit_stmt_form-returns-in_ok-second-in-IfElse t c =
     s.if_else_arm c.args.tables.now c.args.emitter.now c.emit_expr-in-IfElse.new.emitter c.emit_stmt-in-IfElse.new.emitter c.emit_stmt-in-IfElse-2.new.emitter c.args.form.now c.in-IfElse.test c.in-IfElse.body c.in-IfElse.other c.deref-in-IfElse.result.now c.deref-in-IfElse-2.result.now c.in_ok-tested-in-IfElse.tested c.in_ok-first-in-IfElse.first c.in_ok-second-in-IfElse.second c.in-IfElse.is c.deref-in-IfElse.ensures c.deref-in-IfElse-2.ensures c.in_ok-tested-in-IfElse.ensures c.in_ok-first-in-IfElse.ensures c.in_ok-second-in-IfElse.ensures
 
-pub emit_stmt_form-returns-in_ok-number-in-For : goal.emit_stmt_form-returns-in_ok-number-in-For
-emit_stmt_form-returns-in_ok-number-in-For t c =
-    s.for_arm c.args.tables.now c.args.emitter.now c.emit_start.new.emitter c.emit_perhaps.new.emitter c.emit_perhaps-in-For.new.emitter c.emit_stmt-in-For.new.emitter c.args.form.now c.in-For.start c.in-For.start c.in-For.test c.in-For.next c.in-For.body c.deref-in-For.result.now c.in_ok-slots-in-For.slots c.in_ok-first-in-For.first c.in_ok-tested-in-For.tested c.in_ok-step-in-For.step c.in_ok-number-in-For.number c.in-For.is c.deref-in-For.ensures c.in_ok-slots-in-For.ensures c.in_ok-first-in-For.ensures c.in_ok-tested-in-For.ensures c.in_ok-step-in-For.ensures c.in_ok-number-in-For.ensures
+pub emit_stmt_form-returns-in_ok-number-in-ForThree : goal.emit_stmt_form-returns-in_ok-number-in-ForThree
+emit_stmt_form-returns-in_ok-number-in-ForThree t c =
+    s.for_arm c.args.tables.now c.args.emitter.now c.emit_start.new.emitter c.emit_perhaps.new.emitter c.emit_perhaps-in-ForThree.new.emitter c.emit_stmt-in-ForThree.new.emitter c.args.form.now c.in-ForThree.start c.in-ForThree.start c.in-ForThree.test c.in-ForThree.next c.in-ForThree.body c.deref-in-ForThree.result.now c.in_ok-slots-in-ForThree.slots c.in_ok-first-in-ForThree.first c.in_ok-tested-in-ForThree.tested c.in_ok-step-in-ForThree.step c.in_ok-number-in-ForThree.number c.in-ForThree.is c.deref-in-ForThree.ensures c.in_ok-slots-in-ForThree.ensures c.in_ok-first-in-ForThree.ensures c.in_ok-tested-in-ForThree.ensures c.in_ok-step-in-ForThree.ensures c.in_ok-number-in-ForThree.ensures
 
 pub emit_stmt_form-returns-in_ok-number-in-ForOf : goal.emit_stmt_form-returns-in_ok-number-in-ForOf
 emit_stmt_form-returns-in_ok-number-in-ForOf t c =

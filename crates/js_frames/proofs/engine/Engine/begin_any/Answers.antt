@@ -130,13 +130,13 @@ returns-in-While c = begin_means (plain_ground c.args.base.now) (place_of c.args
 pub test-requires-clause-turns : goal.test-requires-clause-turns
 test-requires-clause-turns c = subst (TurnsFit (let p = c.args.base.now in p.program)) (sym c.turns.ensures) (record { test = part_is (plain_ground c.args.base.now) (place_of c.args.self.now) c.args.number c.node_of-node.result.now c.node_of-node.ensures.node _ c.in-While.is c.node_of-node.ensures.parts 0 _ refl; body = part_is (plain_ground c.args.base.now) (place_of c.args.self.now) c.args.number c.node_of-node.result.now c.node_of-node.ensures.node _ c.in-While.is c.node_of-node.ensures.parts 1 _ refl; next = tt })
 
-pub returns-in-For : goal.returns-in-For
-returns-in-For c = begin_means (plain_ground c.args.base.now) (place_of c.args.self.now) c.args.number c.node_of-node.result.now c.node_of-node.ensures.node _ c.in-For.is _ c.start_loop.result _ c.start_loop.ensures (λ s. ap (λ ks. starts_loop (here c.args.base.now c.args.self.now) ks c.in-For.first c.turns-in-For.result s) c.deref-in-For.ensures.value ∙ ap (λ t. starts_loop (here c.args.base.now c.args.self.now) (let v = c.in-For.slots in v.items) c.in-For.first t s) c.turns-in-For.ensures)
+pub returns-in-ForThree : goal.returns-in-ForThree
+returns-in-ForThree c = begin_means (plain_ground c.args.base.now) (place_of c.args.self.now) c.args.number c.node_of-node.result.now c.node_of-node.ensures.node _ c.in-ForThree.is _ c.start_loop.result _ c.start_loop.ensures (λ s. ap (λ ks. starts_loop (here c.args.base.now c.args.self.now) ks c.in-ForThree.first c.turns-in-ForThree.result s) c.deref-in-ForThree.ensures.value ∙ ap (λ t. starts_loop (here c.args.base.now c.args.self.now) (let v = c.in-ForThree.slots in v.items) c.in-ForThree.first t s) c.turns-in-ForThree.ensures)
 
 pub start_loop-requires-clause-first : goal.start_loop-requires-clause-first
-start_loop-requires-clause-first c = (for_parts (let p = c.args.base.now in p.program) c.in-For.first c.in-For.test c.in-For.next c.in-For.body (subst (λ f. AreNodes (let p = c.args.base.now in p.program) (parts_of (plain_node_form f))) c.in-For.is c.node_of-node.ensures.parts)).0
+start_loop-requires-clause-first c = (for_parts (let p = c.args.base.now in p.program) c.in-ForThree.first c.in-ForThree.test c.in-ForThree.next c.in-ForThree.body (subst (λ f. AreNodes (let p = c.args.base.now in p.program) (parts_of (plain_node_form f))) c.in-ForThree.is c.node_of-node.ensures.parts)).0
 
 pub start_loop-requires-clause-turns : goal.start_loop-requires-clause-turns
 start_loop-requires-clause-turns c =
-    let h = for_parts (let p = c.args.base.now in p.program) c.in-For.first c.in-For.test c.in-For.next c.in-For.body (subst (λ f. AreNodes (let p = c.args.base.now in p.program) (parts_of (plain_node_form f))) c.in-For.is c.node_of-node.ensures.parts) in
-    subst (TurnsFit (let p = c.args.base.now in p.program)) (sym c.turns-in-For.ensures) (record { test = h.1; next = h.2; body = h.3 })
+    let h = for_parts (let p = c.args.base.now in p.program) c.in-ForThree.first c.in-ForThree.test c.in-ForThree.next c.in-ForThree.body (subst (λ f. AreNodes (let p = c.args.base.now in p.program) (parts_of (plain_node_form f))) c.in-ForThree.is c.node_of-node.ensures.parts) in
+    subst (TurnsFit (let p = c.args.base.now in p.program)) (sym c.turns-in-ForThree.ensures) (record { test = h.1; next = h.2; body = h.3 })

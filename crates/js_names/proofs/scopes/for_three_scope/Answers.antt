@@ -2,13 +2,13 @@ use Rattle.std.proofs.Common.{false, ◌++◌, Some}
 use Rattle.js_names.specs.Taken.{keeps}
 use Rattle.js_tree.specs.Views.{plain_stmt, plain_start}
 use Rattle.js_names.specs.Entries.{own_of_start, vars_of_start, vars_of}
-use Rattle.js_names.specs.Scopes.{for_scope}
+use Rattle.js_names.specs.Scopes.{for_three_scope}
 use Rattle.js_names.proofs.Making.{inner_made}
 use Rattle.js_names.proofs.Taking.{vars_both}
-use Rattle.js_names.proofs.scopes.for_scope.Goals as goal
+use Rattle.js_names.proofs.scopes.for_three_scope.Goals as goal
 
 pub returns : goal.returns
-unfolding for_scope
+unfolding for_three_scope
 returns c =
     let o = c.args.owner in
     let b = plain_start c.args.start.now in
