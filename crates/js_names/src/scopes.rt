@@ -37,7 +37,12 @@ pub fn block_scope(alloc: Global, owner: u32, body: &[Stmt]) -> Result<Scope, Al
 }
 
 /// The scope of a `for` with three parts.
-pub fn for_three_scope(alloc: Global, owner: u32, start: &Start, body: &Stmt) -> Result<Scope, AllocError>
+pub fn for_three_scope(
+    alloc: Global,
+    owner: u32,
+    start: &Start,
+    body: &Stmt,
+) -> Result<Scope, AllocError>
     ensures { IfOk result (λ s. scope_of s ≡ for_three_scope owner (plain_start start.now)
         (plain_stmt body.now)) }
 {

@@ -18,8 +18,8 @@ use crate::scopes::{
     block_scope, for_of_scope, for_three_scope, function_scope, list_scope, program_scope,
 };
 use crate::seeing::{
-    declared_role, for_of_role, enter, in_function, in_loop, leave, put_begin, put_changed, put_name,
-    put_parameters, put_read, put_word,
+    declared_role, enter, for_of_role, in_function, in_loop, leave, put_begin, put_changed,
+    put_name, put_parameters, put_read, put_word,
 };
 use js_data::Text;
 use js_tree::{
