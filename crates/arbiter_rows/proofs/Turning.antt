@@ -21,7 +21,7 @@ use Rattle.bp_floor.specs.Lending.{AreLent, filled_pair, standing}
 use Rattle.bp_floor.specs.Floors as floors
 use Rattle.bp_floor.specs.Floors.{PlainFloor, StandsFor, StandsWith, IsPhased, code_on, is_idle}
 use Rattle.bp_arbiter.specs.Arbiters.{PlainArbiter, IsDrawn, StandsFor as ArbiterStands}
-use Rattle.bp_arbiter.specs.Lending.{AreOut, AreBack}
+use Rattle.bp_arbiter.specs.Lending.{AreOut}
 use Rattle.bp_arbiter.proofs.Calls.{calls_turned}
 use Rattle.bp_arbiter.proofs.Lends.{lent_out, back_done, filled_same}
 use Rattle.bp_arbiter.proofs.Picks.{unfilled}
