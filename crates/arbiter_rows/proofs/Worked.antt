@@ -2,6 +2,7 @@
 use Rattle.std.proofs.Common.{◌≡◌, ℕ, ◌+◌, ◌%◌, List, [], ◌∷◌, Some, None, Ok, refl, slice_get, option_map}
 use Rattle.std.specs.Prelude.{ℤ, pos, codes}
 use Rattle.js_data.specs.Event.{PlainEvent}
+use Rattle.js_data.proofs.Shared.{named}
 use Rattle.js_value.specs.Value.{PlainSet, nothing, only}
 use Rattle.js_meaning.specs.State.{Ground}
 use Rattle.bp_log.specs.declared.options.Strategy.{Strategy}
@@ -11,17 +12,14 @@ use Rattle.bp_run.specs.Selecting.{Live, Has, selectable}
 use Rattle.bp_run.specs.Choosing.{remaining, choice}
 use Rattle.bp_select.specs.Benches.{placed}
 
-abbrev event : List ℕ → PlainEvent
-event name = record { name = name; extra = None }
-
 abbrev a : PlainEvent
-a = event (codes "a")
+a = named (codes "a")
 
 abbrev b : PlainEvent
-b = event (codes "b")
+b = named (codes "b")
 
 abbrev c : PlainEvent
-c = event (codes "c")
+c = named (codes "c")
 
 -- a b-thread's number, requests, block set and priority
 abbrev states : ℕ → List PlainEvent → PlainSet → ℤ → Live PlainSet

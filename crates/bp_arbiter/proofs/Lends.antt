@@ -26,7 +26,7 @@ use Rattle.bp_arbiter.specs.Arbiters.{PlainArbiter, StandsFor, options_in}
 use Rattle.bp_arbiter.specs.Calls.{is_call, AllCall, HandlerCalls, HandlersCall, RunCalls}
 use Rattle.bp_arbiter.specs.Lending.{CanRun, AllCanRun, AreOut, AreBack}
 use Rattle.bp_floor.proofs.Stepping.{got}
-use Rattle.bp_arbiter.proofs.Seals.{filled_length}
+use Rattle.bp_floor.proofs.Returns.{filled_length}
 
 -- ---- the ground of what is to be run
 

@@ -1,28 +1,20 @@
 -- What comes next doesn't depend on what ended b-threads ran, nor on the lines that were taken.
-use Rattle.std.proofs.Common.{◌≡◌, ℕ, zero, suc, Bool, true, false, List, [], ◌∷◌, ◌++◌, map, refl, sym, ap, ◌∙◌, Option, Some, None, Ok, Err, if◌then◌else◌, ◌==◌, slice_get}
+use Rattle.std.proofs.Common.{◌≡◌, ℕ, List, ◌++◌, refl, sym, ap, ◌∙◌, Option, Some, None, Ok, Err, if◌then◌else◌, ◌==◌}
 use Rattle.bp_log.specs.Options.{PlainOptions}
 use Rattle.bp_log.specs.declared.trace.Line.{Line}
 use Rattle.bp_log.specs.declared.verdict.Verdict.{Verdict}
 use Rattle.bp_log.specs.declared.verdict.Verdict.TheVariants as verdict
 use Rattle.bp_run.specs.Bodies.{Code, SetFault}
-use Rattle.bp_run.specs.Configuration.{Configuration, Stand, Thread, name_in}
+use Rattle.bp_run.specs.Configuration.{Configuration, Stand}
 use Rattle.bp_run.specs.Settling.{Pair, before}
 use Rattle.bp_run.specs.Selecting.{Live, live, Asked}
 use Rattle.bp_run.specs.Choosing.{Choice, choice, Touched, reach}
 use Rattle.bp_run.specs.Story.{Next, next, next_unless, next_choice, next_chosen, next_idle, fault_verdict, set_verdict}
 use Rattle.bp_run.specs.Story.Next.{Ends}
 use Rattle.bp_run.proofs.Stories.{next_lineless}
-use Rattle.bp_floor.specs.Forgetting.{forget, forgotten_in, forgotten}
+use Rattle.bp_floor.specs.Forgetting.{forgotten_in, forgotten}
 use Rattle.bp_floor.proofs.Stepping.{live_forgotten}
-
-name_at : {O : Type 0} (o : O) (b : Bool) (t : Thread O) → t.ended ≡ b → (forget o t).name ≡ t.name
-name_at o true t h = rw h refl
-name_at o false t h = rw h refl
-
-name_forgotten : {O : Type 0} (o : O) (ts : List (Thread O)) (i : ℕ) → name_in (slice_get (map (forget o) ts) i) ≡ name_in (slice_get ts i)
-name_forgotten o [] i = refl
-name_forgotten o (t ∷ ts) zero = name_at o t.ended t refl
-name_forgotten o (t ∷ ts) (suc i) = name_forgotten o ts i
+use Rattle.bp_floor.proofs.Forgetting.{name_forgotten}
 
 fault_forgotten : {O : Type 0} (o : O) (s : Stand O) (x : ℕ × SetFault) → fault_verdict (forgotten_in o s) x ≡ fault_verdict s x
 fault_forgotten o s x = ap (λ (name : List ℕ). set_verdict name x.1) (name_forgotten o s.threads x.0)

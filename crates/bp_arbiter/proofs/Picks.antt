@@ -9,7 +9,6 @@ use Rattle.bp_log.specs.declared.verdict.Verdict.{Verdict}
 use Rattle.bp_run.specs.Bodies.{Code}
 use Rattle.bp_run.specs.Configuration.{Configuration, Stand, Thread}
 use Rattle.bp_run.specs.Settling.{Entry, Pair, before, settle}
-use Rattle.bp_run.specs.Settling.Entry.{The_top, Runs, Stops}
 use Rattle.bp_run.specs.Choosing.{Choice, Touched}
 use Rattle.bp_run.specs.Story.{Next, story, record_of, after_next, over, over_with, move, step, stepped}
 use Rattle.bp_run.specs.Story.Next.{Ends, Selects, Waits}
@@ -18,7 +17,7 @@ use Rattle.bp_run.proofs.Turns.{settle_over}
 use Rattle.bp_floor.specs.declared.phase.Phase.{Phase}
 use Rattle.bp_floor.specs.declared.phase.Phase.TheVariants.{Ready, Lent, Rest, Over}
 use Rattle.bp_floor.specs.Forgetting.{forgotten}
-use Rattle.bp_floor.specs.Lending.{filled, filled_pair}
+use Rattle.bp_floor.specs.Lending.{filled_pair}
 use Rattle.bp_floor.specs.Floors.{PlainFloor, IsPhased, code_on, is_idle, phase_at}
 use Rattle.bp_arbiter.specs.declared.run.Run.{Run}
 use Rattle.bp_arbiter.specs.Arbiters.{PlainArbiter, StandsFor, Recounts, coming, code_in, options_in, IsDrawn, is_over}
@@ -26,6 +25,7 @@ use Rattle.bp_arbiter.specs.Picking.{after_pick, picked_of, phase_after, moved_p
 use Rattle.bp_arbiter.specs.Runs.{seen, configuration_of, next_in, HasCome, IsBeside, IsEnded, IsMoved, IsStill}
 use Rattle.bp_arbiter.proofs.Calls.{calls_stepped}
 use Rattle.bp_floor.proofs.Stepping.{stepped_stands}
+use Rattle.bp_floor.proofs.Returns.{filled_none}
 use Rattle.bp_arbiter.proofs.Nexts.{next_stands}
 use Rattle.bp_arbiter.proofs.Told.{same_told, same_code, same_story, settled_idle, no_verdict}
 
@@ -38,15 +38,9 @@ parts c s d reading bad h k l m =
     ∙ ap (λ (x : List ℕ). record { stand = s; drawn = d; reading = x; bad = c.bad }) l
     ∙ ap (λ (x : Option (ℕ × ℕ)). record { stand = s; drawn = d; reading = reading; bad = x }) m
 
-unfilled_at : (ns : List (Entry Origin)) (ts : List (Thread Origin)) → filled ns [] ts ≡ ts
-unfilled_at [] ts = refl
-unfilled_at (The_top ∷ ns) ts = refl
-unfilled_at (Runs i ∷ ns) ts = refl
-unfilled_at (Stops i b ∷ ns) ts = refl
-
 -- without jobs a pair is what it is
 pub unfilled : (q : Pair Origin) → filled_pair [] q ≡ q
-unfilled q = ap (λ (ts : List (Thread Origin)). record q { stand = record q.stand { threads = ts } }) (unfilled_at q.entries q.stand.threads)
+unfilled q = ap (λ (ts : List (Thread Origin)). record q { stand = record q.stand { threads = ts } }) (filled_none q.entries q.stand.threads)
 
 pub drawn_at : (f : Phase) (drawn told : ℕ) → is_over f ≡ false → drawn ≡ told → IsDrawn f drawn told
 drawn_at Ready drawn told h k = k

@@ -1,5 +1,6 @@
 -- A turn goes on with the story.
 use Rattle.std.proofs.Common.{◌≡◌, ◌≤◌, ◌<◌, ◌+◌, ℕ, zero, suc, true, false, List, [], ◌∷◌, ◌++◌, length, map, refl, sym, ap, ◌∙◌, subst, arith, Option, Some, None, append_assoc, append-nil, length-append, is_some}
+use Rattle.std.proofs.lemmas.List.{length-map}
 use Rattle.js_value.specs.Value.{PlainSet}
 use Rattle.js_meaning.specs.Bodies.{Origin, the_top}
 use Rattle.bp_log.specs.Records.{is_complete}
@@ -9,22 +10,22 @@ use Rattle.bp_log.specs.declared.record.Record.TheVariants.{End}
 use Rattle.bp_log.specs.declared.trace.Line.{Line}
 use Rattle.bp_log.specs.declared.verdict.Verdict.{Verdict}
 use Rattle.bp_run.specs.Bodies.{Code}
-use Rattle.bp_run.specs.Configuration.{Configuration, Stand, Thread, change}
+use Rattle.bp_run.specs.Configuration.{Configuration, Stand, Thread}
 use Rattle.bp_run.specs.Settling.{Entry, Pair, before, settle, turn}
-use Rattle.bp_run.specs.Settling.Entry.{The_top, Runs, Stops}
+use Rattle.bp_run.specs.Settling.Entry.{Runs}
 use Rattle.bp_run.specs.Numbers.{numbers_from}
 use Rattle.bp_run.specs.Story.{next, next_unless, over, over_with}
 use Rattle.bp_run.specs.Story.Next.{Ends}
 use Rattle.bp_run.proofs.Growing.{grown_settle}
 use Rattle.bp_run.proofs.Numbers.{turn_entries}
-use Rattle.bp_run.proofs.Turns.{settle-turn, settle_over, length-change}
+use Rattle.bp_run.proofs.Turns.{settle-turn, settle_over}
 use Rattle.bp_thread.specs.declared.job.Job.{Job}
-use Rattle.bp_thread.specs.Jobs.{plain_job}
 use Rattle.bp_floor.specs.declared.phase.Phase.{Phase}
 use Rattle.bp_floor.specs.declared.phase.Phase.TheVariants.{Ready, Lent, Rest, Over}
 use Rattle.bp_floor.specs.Forgetting.{forget, forgotten}
-use Rattle.bp_floor.specs.Lending.{fill, filled, filled_pair}
+use Rattle.bp_floor.specs.Lending.{filled_pair}
 use Rattle.bp_floor.specs.Floors.{PlainFloor, IsPhased, IsSealed, StandsWith, StandsFor as FloorStands, code_on, is_idle, phase_at, phase_of}
+use Rattle.bp_floor.proofs.Returns.{filled_length}
 use Rattle.bp_arbiter.specs.declared.run.Run.{Run}
 use Rattle.bp_arbiter.specs.Arbiters.{PlainArbiter, StandsFor, Tells, Recounts, coming, code_in, options_in, stand_in, IsDrawn, is_over}
 use Rattle.bp_arbiter.specs.Runs.{seen, IsBeside, ended_floor}
@@ -35,21 +36,6 @@ use Rattle.bp_arbiter.proofs.Told.{same_told, same_code, same_story, at_rest_bus
 
 -- ---- how many b-threads there are
 
-length_map : {A B : Type 0} (f : A → B) (xs : List A) → length (map f xs) ≡ length xs
-length_map f [] = refl
-length_map f (x ∷ xs) = ap (λ (n : ℕ). suc n) (length_map f xs)
-
-pub filled_length : (ns : List (Entry Origin)) (js : List Job) (ts : List (Thread Origin)) → length (filled ns js ts) ≡ length ts
-filled_length [] js ts = refl
-filled_length (The_top ∷ ns) [] ts = refl
-filled_length (Runs i ∷ ns) [] ts = refl
-filled_length (Stops i None ∷ ns) [] ts = refl
-filled_length (Stops i (Some b) ∷ ns) [] ts = refl
-filled_length (The_top ∷ ns) (j ∷ js) ts = filled_length ns js ts
-filled_length (Runs i ∷ ns) (j ∷ js) ts = filled_length ns js (change (fill (plain_job j)) i ts) ∙ length-change (fill (plain_job j)) i ts
-filled_length (Stops i None ∷ ns) (j ∷ js) ts = filled_length ns (j ∷ js) ts
-filled_length (Stops i (Some b) ∷ ns) (j ∷ js) ts = filled_length ns js ts
-
 numbers_length : (first n : ℕ) → length (numbers_from first n) ≡ n
 numbers_length first zero = refl
 numbers_length first (suc n) = length-append (numbers_from first n) ((first + n) ∷ []) ∙ (let e = numbers_length first n in omega (arith, e))
@@ -57,7 +43,7 @@ numbers_length first (suc n) = length-append (numbers_from first n) ((first + n)
 -- as many b-threads as on the floor
 pub as_many : (f : PlainFloor) (jobs : List Job) (taken : List Line) (p : Pair Origin) → StandsWith f jobs taken p → length p.stand.threads ≡ length f.pair.stand.threads
 as_many f jobs taken p h =
-    sym (length_map (forget the_top) p.stand.threads) ∙ ap (λ (x : Pair Origin). length x.stand.threads) h ∙ filled_length f.pair.entries jobs f.pair.stand.threads
+    sym (length-map p.stand.threads (forget the_top)) ∙ ap (λ (x : Pair Origin). length x.stand.threads) h ∙ filled_length f.pair.entries jobs f.pair.stand.threads
 
 -- ---- the verdict
 
@@ -112,7 +98,7 @@ drawn_over Lent drawn told h k = absurd (cc)
 drawn_over Rest drawn told h k = absurd (cc)
 drawn_over Over drawn told h k = omega (arith, k)
 
-ended_verdict : (q : Pair Origin) (v : Option Verdict) → q.stand.verdict ≡ v → (ended_with v q).stand.verdict ≡ v
+pub ended_verdict : (q : Pair Origin) (v : Option Verdict) → q.stand.verdict ≡ v → (ended_with v q).stand.verdict ≡ v
 ended_verdict q None h = h
 ended_verdict q (Some v) h = refl
 
@@ -136,9 +122,9 @@ has_grown r r' jobs t h =
     let w = turn_entries (code_on r.floor) p in
     let some = (ready_entries r'.floor.pair.stand.verdict r'.floor.pair.entries (sym t.phase_is ∙ h)).1 in
     let entries : r'.floor.pair.entries ≡ map Runs (numbers_from (length p.stand.threads) w.0) = ap (λ (x : Pair Origin). x.entries) t.pair_is ∙ ended_entries q q.stand.verdict ∙ w.1 in
-    let count : length r'.floor.pair.entries ≡ w.0 = ap (λ (ns : List (Entry Origin)). length ns) entries ∙ length_map Runs (numbers_from (length p.stand.threads) w.0) ∙ numbers_length (length p.stand.threads) w.0 in
+    let count : length r'.floor.pair.entries ≡ w.0 = ap (λ (ns : List (Entry Origin)). length ns) entries ∙ length-map (numbers_from (length p.stand.threads) w.0) Runs ∙ numbers_length (length p.stand.threads) w.0 in
     let new : length r'.floor.pair.stand.threads ≡ length p.stand.threads + w.0 = ap (λ (x : Pair Origin). length x.stand.threads) t.pair_is ∙ ap (λ (ts : List (Thread Origin)). length ts) (ended_threads q q.stand.verdict)
-    ∙ length_map (forget the_top) (turn (code_on r.floor) p).stand.threads ∙ w.2 in
+    ∙ length-map (turn (code_on r.floor) p).stand.threads (forget the_top) ∙ w.2 in
     let old = filled_length r.floor.pair.entries jobs r.floor.pair.stand.threads in
     omega (arith, some, count, new, old)
 

@@ -15,6 +15,7 @@ use Rattle.bp_floor.specs.declared.phase.Phase.TheVariants.{Ready, Lent, Rest, O
 use Rattle.bp_floor.specs.Forgetting.{forget, forgotten}
 use Rattle.bp_floor.specs.Lending.{filled_pair}
 use Rattle.bp_floor.specs.Floors.{PlainFloor, IsPhased, is_idle}
+use Rattle.bp_floor.proofs.Forgetting.{forget_ended_at}
 use Rattle.bp_arbiter.specs.Arbiters.{PlainArbiter, StandsFor, StandsSomewhere, Tells, Keeps, Recounts, stand_in, Shows, is_lent}
 use Rattle.bp_arbiter.specs.Sound.{IsSound, IsStanding}
 use Rattle.bp_arbiter.proofs.Picks.{unfilled}
@@ -93,10 +94,6 @@ exact_now a s k taken p h i c r =
     let q = (s h.whole).keeps in
     told_lines a [] taken p c h (k q.floor_whole) (ap is_idle q.floor_phase ∙ i) r
 
-ended_at : {O : Type 0} (o : O) (b : Bool) (t : Thread O) → t.ended ≡ b → (forget o t).ended ≡ t.ended
-ended_at o true t h = rw h refl
-ended_at o false t h = rw h refl
-
 counts : {O : Type 0} → ℕ → Thread O → ℕ
 counts n t = n + cond (not t.ended) 1 0
 
@@ -104,7 +101,7 @@ live_from : {O : Type 0} (o : O) (n : ℕ) (ts : List (Thread O)) → fold count
 unfolding counts
 live_from o n [] = refl
 live_from o n (t ∷ ts) =
-    live_from o (n + cond (not (forget o t).ended) 1 0) ts ∙ ap (λ (b : Bool). fold counts (n + cond (not b) 1 0) ts) (ended_at o t.ended t refl)
+    live_from o (n + cond (not (forget o t).ended) 1 0) ts ∙ ap (λ (b : Bool). fold counts (n + cond (not b) 1 0) ts) (forget_ended_at o t.ended t refl)
 
 live_count : {O : Type 0} (o : O) (ts : List (Thread O)) → count_by (λ t. not t.ended) (map (forget o) ts) ≡ count_by (λ t. not t.ended) ts
 unfolding counts

@@ -1,6 +1,5 @@
 -- What each call of an arbiter leaves.
 use Rattle.std.proofs.Common.{◌≡◌, ◌≤◌, ◌+◌, Bool, true, false, List, [], ◌∷◌, ◌++◌, refl, sym, ap, ◌∙◌, subst, arith, option_to_list, append-nil}
-use Rattle.js_data.specs.Event.{PlainEvent}
 use Rattle.js_meaning.specs.Bodies.{Origin, the_top}
 use Rattle.bp_log.specs.Options.{PlainOptions}
 use Rattle.bp_log.specs.Records.{is_complete}
@@ -8,6 +7,7 @@ use Rattle.bp_log.specs.declared.record.Record.{Record}
 use Rattle.bp_log.specs.declared.record.Record.TheVariants.{In, Bad, Eof, Sel, End}
 use Rattle.bp_log.specs.declared.trace.Line.{Line}
 use Rattle.bp_log.specs.declared.verdict.Verdict.{Verdict}
+use Rattle.bp_log.proofs.Complete.{incomplete_on}
 use Rattle.bp_run.specs.Configuration.{Configuration}
 use Rattle.bp_run.specs.Settling.{Pair}
 use Rattle.bp_run.specs.Choosing.{Choice, Touched}
@@ -54,15 +54,6 @@ complete_end (Sel e ∷ rs) v = complete_end rs v
 complete_end (End w ∷ []) v = refl
 complete_end (End w ∷ r ∷ rs) v = complete_end (r ∷ rs) v
 
-complete_sel : (rs : List Record) (e : PlainEvent) → is_complete (rs ++ Sel e ∷ []) ≡ false
-complete_sel [] e = refl
-complete_sel (In j f ∷ rs) e = complete_sel rs e
-complete_sel (Bad j n ∷ rs) e = complete_sel rs e
-complete_sel (Eof j ∷ rs) e = complete_sel rs e
-complete_sel (Sel f ∷ rs) e = complete_sel rs e
-complete_sel (End w ∷ []) e = refl
-complete_sel (End w ∷ r ∷ rs) e = complete_sel (r ∷ rs) e
-
 moved_transitions : (f : PlainFloor) (ch : Choice) (reached : List Touched) (g : PlainFloor) → g.pair ≡ forgotten the_top (stepped (code_on f) f.pair.stand ch.event ch.place reached) →
     g.pair.stand.transitions ≡ f.pair.stand.transitions + 1
 unfolding step
@@ -103,7 +94,7 @@ module _ (a : PlainArbiter) (r r' : Run) (i : IsAt Rest a r) (b : IsBeside r r')
   over_at (Ends v) h =
       ap is_complete h.records ∙ complete_end r.records.records v ∙ sym (ap (λ (f : PlainFloor). is_over f.phase) h.floor)
   over_at (Selects ch reached) h =
-      ap is_complete h.records ∙ complete_sel r.records.records ch.event
+      ap is_complete h.records ∙ incomplete_on r.records.records (Sel ch.event) refl
       ∙ sym (ap is_over (phase_come r r' (Selects ch reached) i.phased rests h) ∙ not_over r'.floor.pair.entries)
   over_at Waits h = ap is_complete h.records ∙ going ∙ sym (ap (λ (f : PlainFloor). is_over f.phase) h.floor ∙ ap is_over rests)
 

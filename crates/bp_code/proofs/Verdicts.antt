@@ -5,6 +5,7 @@ use Rattle.std.specs.Fmt.{digits}
 use Rattle.js_tree.specs.declared.tree.Operator.TheVariants as op
 use Rattle.js_tree.specs.declared.tree.DeclareKind.TheVariants.{Const, Let}
 use Rattle.js_data.specs.Event.{PlainEvent}
+use Rattle.js_data.proofs.Shared.{named}
 use Rattle.bp_log.specs.declared.record.Record.TheVariants.{In, Eof, Sel, End}
 use Rattle.bp_log.specs.declared.verdict.Verdict.TheVariants as verdict
 use Rattle.js_tree.specs.declared.tree.Step.TheVariants.{Increment}
@@ -14,7 +15,7 @@ use Rattle.js_program.specs.PlainProgram as p
 use Rattle.js_program.specs.PlainProgram.{PlainProgram}
 use Rattle.js_meaning.specs.Meaning.{within, eval, turns_of}
 use Rattle.js_meaning.specs.Bodies.{evaluation, ground_of}
-use Rattle.js_meaning.proofs.Small.{event, one, whole, slot, given, body, statements, program}
+use Rattle.js_meaning.proofs.Small.{one, whole, slot, given, body, statements, program}
 use Rattle.bp_log.specs.Options.{default_options}
 use Rattle.bp_run.specs.Settling.{turn, settle_in, settle, initial}
 use Rattle.bp_run.specs.Selecting.{selectable}
@@ -93,10 +94,10 @@ got =
     (statements 0 (14 ∷ []) ∷ statements 0 (19 ∷ 22 ∷ []) ∷ []) [] (statements 0 (3 ∷ 7 ∷ []))
 
 abbrev x : PlainEvent
-x = event (codes "x")
+x = named (codes "x")
 
 abbrev go : PlainEvent
-go = event (codes "go")
+go = named (codes "go")
 
 pub blocked_event_is_overtaken :
     counted got (record default_options { injectors = 1 }) (In 0 x ∷ In 0 go ∷ Eof 0 ∷ Sel go ∷ Sel x ∷ End (verdict.Quiet 2) ∷ [])

@@ -1,6 +1,6 @@
 -- What an ended b-thread ran and received is not read: a pair that has forgotten it goes on as the pair itself.
 use Rattle.std.proofs.Common.{◌≡◌, ℕ, zero, suc, Bool, true, false, List, [], ◌∷◌, ◌++◌, length, map, refl, sym, ap, ◌∙◌, Option, Some, None, if◌then◌else◌, ◌==◌, slice_get}
-use Rattle.std.proofs.lemmas.List.{map-append}
+use Rattle.std.proofs.lemmas.List.{map-append, length-map}
 use Rattle.bp_log.specs.declared.limits.TheConstants.{MOST_WAITING, MOST_THREADS}
 use Rattle.bp_log.specs.declared.trace.Line.{Line}
 use Rattle.bp_log.specs.declared.trace.Line.TheVariants as trace
@@ -26,6 +26,10 @@ forget_name_at : {O : Type 0} (o : O) (b : Bool) (t : Thread O) → t.ended ≡ 
 forget_name_at o true t h = rw h refl
 forget_name_at o false t h = rw h refl
 
+pub forget_ended_at : {O : Type 0} (o : O) (b : Bool) (t : Thread O) → t.ended ≡ b → (forget o t).ended ≡ t.ended
+forget_ended_at o true t h = rw h refl
+forget_ended_at o false t h = rw h refl
+
 forget_name : {O : Type 0} (o : O) (t : Thread O) → (forget o t).name ≡ t.name
 forget_name o t = forget_name_at o t.ended t refl
 
@@ -45,10 +49,6 @@ pub name_forgotten : {O : Type 0} (o : O) (ts : List (Thread O)) (i : ℕ) → n
 name_forgotten o [] i = refl
 name_forgotten o (t ∷ ts) zero = forget_name o t
 name_forgotten o (t ∷ ts) (suc i) = name_forgotten o ts i
-
-pub length_forgotten : {O : Type 0} (o : O) (ts : List (Thread O)) → length (map (forget o) ts) ≡ length ts
-length_forgotten o [] = refl
-length_forgotten o (t ∷ ts) = ap (λ (n : ℕ). suc n) (length_forgotten o ts)
 
 ended_forgotten : {O : Type 0} (o : O) (i : ℕ) (ts : List (Thread O)) →
     map (forget o) (change (λ t. record t { ended = true }) i (map (forget o) ts)) ≡ map (forget o) (change (λ t. record t { ended = true }) i ts)
@@ -88,7 +88,7 @@ registered_forgets o name x p =
     let t : Thread _ = record { name = name; origin = x; replies = []; ended = false } in
     let ts : map (forget o) (map (forget o) p.stand.threads ++ t ∷ []) ≡ map (forget o) (p.stand.threads ++ t ∷ []) =
     map-append (forget o) (map (forget o) p.stand.threads) (t ∷ []) ∙ ap (λ (xs : List (Thread _)). xs ++ t ∷ []) (forgets_twice o p.stand.threads) ∙ sym (map-append (forget o) p.stand.threads (t ∷ [])) in
-    rw (length_forgotten o p.stand.threads) (ap (λ (xs : List (Thread _)). record { stand = record p.stand { threads = xs }; entries = p.entries ++ Runs (length p.stand.threads) ∷ [] }) ts)
+    rw (length-map p.stand.threads (forget o)) (ap (λ (xs : List (Thread _)). record { stand = record p.stand { threads = xs }; entries = p.entries ++ Runs (length p.stand.threads) ∷ [] }) ts)
 
 effect_forgets : {O : Type 0} (o : O) (at : Place) (x : Effect O) (p : Pair O) → Forgets o (with_effect at x) p
 effect_forgets o at (Says t) p = same_threads o (said (trace.Log at t) p)
@@ -96,7 +96,7 @@ effect_forgets o at (Enqueue e) p =
     if_forgets o (length p.stand.queue == MOST_WAITING) (stopped verdict.Queue) (λ q. record q { stand = queued e q.stand }) p
     (same_threads o (stopped verdict.Queue p)) (same_threads o (record p { stand = queued e p.stand }))
 effect_forgets o at (Register name x) p =
-    ap (λ (n : ℕ). forgotten o (if n == MOST_THREADS then stopped verdict.Threads (forgotten o p) else registered name x (forgotten o p))) (length_forgotten o p.stand.threads)
+    ap (λ (n : ℕ). forgotten o (if n == MOST_THREADS then stopped verdict.Threads (forgotten o p) else registered name x (forgotten o p))) (length-map p.stand.threads (forget o))
     ∙ if_forgets o (length p.stand.threads == MOST_THREADS) (stopped verdict.Threads) (registered name x) p (same_threads o (stopped verdict.Threads p)) (registered_forgets o name x p)
 effect_forgets o at Handler p = stays o p
 

@@ -1,7 +1,7 @@
 -- An event that is looked at, and its transition.
 use Rattle.std.proofs.Common.{◌≡◌, ℕ, suc, ◌+◌, ◌<◌, ◌≤◌, ◌++◌, false, List, [], ◌∷◌, length, map, refl, sym, ap, ◌∙◌, subst, arith, Option, Some, None, Result, Ok, Err, MatchOption, HoldsAt, option_map, slice_get}
 use Rattle.std.proofs.lemmas.Option.{slice_get_past, slice_get-get_or}
-use Rattle.std.proofs.lemmas.List.{map-append}
+use Rattle.std.proofs.lemmas.List.{map-append, length-map}
 use Rattle.js_data.specs.Event.{PlainEvent}
 use Rattle.js_value.specs.Value.{PlainSet}
 use Rattle.js_meaning.specs.State.{Ground}
@@ -36,7 +36,6 @@ use Rattle.bp_floor.specs.Going.{IsSoundOn, IsResting, IsReached, floor_on, firs
 use Rattle.bp_floor.proofs.Asking.{has_at_rest, live_at_rest}
 use Rattle.bp_floor.proofs.Gone.{can_touch, moves_run, gone}
 use Rattle.bp_floor.proofs.Looking.{reached_few, faulty_below}
-use Rattle.bp_floor.proofs.Places.{map_length}
 use Rattle.bp_floor.proofs.Weaving.{Weaves}
 
 -- ---- looking
@@ -52,7 +51,7 @@ pub few_at_rest : (base : Ground) (o : PlainOptions) (b : Board) (e : PlainEvent
     AnswersReach (reach (code_of base.program o).has e (live (code_of base.program o) (stand_of b))) (Ok k) → length k.moved.items ≤ MOST_THREADS
 few_at_rest base o b e k s a =
     let few = reached_few (code_of base.program o) (stand_of b) e a.0 k a.1 a.2 in
-    let len = map_length seated b.seats in
+    let len = length-map b.seats seated in
     let most = s.few in
     omega (arith, few, len, most)
 
@@ -60,7 +59,7 @@ pub faulty_at_rest : (base : Ground) (o : PlainOptions) (b : Board) (e : PlainEv
     FaultAs (reach (code_of base.program o).has e (live (code_of base.program o) (stand_of b))) (select_fault.Set n f) → n < length b.seats
 faulty_at_rest base o b e n f h =
     let low = faulty_below (code_of base.program o) (stand_of b) e n f h in
-    let len = map_length seated b.seats in
+    let len = length-map b.seats seated in
     omega (arith, low, len)
 
 -- an event stops the run at a fault with the verdict that is told

@@ -2,6 +2,7 @@
 use Rattle.std.proofs.Common.{◌≡◌, ℕ, ◌+◌, ◌*◌, ◌^◌, ◌<◌, ◌≤◌, List, [], ◌∷◌, length, map, refl, sym, ap, ◌∙◌, subst, arith, Option, Some, None, Ok, IfSome}
 use Rattle.std.proofs.Math.Nat.{one-le-mul}
 use Rattle.std.proofs.lemmas.Option.{slice_get_within}
+use Rattle.std.proofs.lemmas.List.{length-map}
 use Rattle.js_data.specs.Event.{PlainEvent, event_weight}
 use Rattle.js_meaning.specs.State.{Ground}
 use Rattle.js_meaning.specs.Bodies.{Origin, the_top}
@@ -21,14 +22,12 @@ use Rattle.bp_floor.specs.declared.board.Board.{Board}
 use Rattle.bp_floor.specs.Programs.{code_of}
 use Rattle.bp_floor.specs.Seating.{seated}
 use Rattle.bp_floor.specs.Boards.{stand_of, pair_of}
-use Rattle.bp_floor.specs.Forgetting.{forgotten}
+use Rattle.bp_floor.specs.Forgetting.{forgotten, forget}
 use Rattle.bp_floor.specs.Kept.{Running, IsKept, AreBelow, Rises, runs_in}
 use Rattle.bp_floor.specs.Returning.{AreLater, ground_at}
 use Rattle.bp_floor.specs.Touching.{CanTouch, moves_in, moved_pair}
 use Rattle.bp_floor.specs.Floors.{PlainFloor, IsMoved, CanGo, phase_at, phase_of, not_lent, ready_in}
 use Rattle.bp_floor.specs.Going.{IsSoundOn, IsResting, IsReached, floor_on}
-use Rattle.bp_floor.proofs.Forgetting.{length_forgotten}
-use Rattle.bp_floor.proofs.Places.{map_length}
 use Rattle.bp_floor.proofs.Rests.{reached_stand, rising_rises}
 use Rattle.bp_floor.proofs.Returns.{later_alone, later_ground}
 use Rattle.bp_floor.proofs.Sound.{rest_nobody}
@@ -122,7 +121,7 @@ gone base o b new e place k weight wave s q w p kept =
     let later : AreLater new.wave = subst (λ (ns : List (Entry Origin)). AreLater ns) (sym (ap (λ (x : Pair Origin). x.entries) p ∙ w)) (later_touched l (stand_of b) e xs) in
     let rising = reach_rising l.has e (live l (stand_of b)) xs 0 (length (map seated b.seats)) q.reach_is (live_rising l (stand_of b)) in
     let len : length new.seats ≡ length (map seated b.seats) =
-    sym (map_length seated new.seats) ∙ ap (λ (x : Pair Origin). length x.stand.threads) p ∙ length_forgotten the_top (touch_all e xs (map seated b.seats)) ∙ length-touch_all e xs (map seated b.seats) in
+    sym (length-map new.seats seated) ∙ ap (λ (x : Pair Origin). length x.stand.threads) p ∙ length-map (touch_all e xs (map seated b.seats)) (forget the_top) ∙ length-touch_all e xs (map seated b.seats) in
     let below : AreBelow (length new.seats) new.wave =
     subst (λ (ns : List (Entry Origin)). AreBelow (length new.seats) ns) (sym (ap (λ (x : Pair Origin). x.entries) p ∙ w))
     (subst (λ (n : ℕ). AreBelow n (map (entry_of l (stand_of b) e) xs)) (sym len) (below_touched l (stand_of b) e 0 (length (map seated b.seats)) xs rising)) in

@@ -1,5 +1,6 @@
 -- The handler of a b-thread at its point.
 use Rattle.std.proofs.Common.{◌≡◌, ℕ, List, [], ◌∷◌, ◌++◌, append_assoc, append-nil, map, refl, sym, ap, ◌∙◌, subst, Option, Some, None, true, Result, Ok, Err, option_map, slice_get, IfOk, IsSome}
+use Rattle.std.proofs.lemmas.Option.{same_Some}
 use Rattle.js_data.specs.Event.{PlainEvent}
 use Rattle.js_value.specs.Value as value
 use Rattle.js_value.specs.Value.{PlainValue, PlainSet}
@@ -39,9 +40,6 @@ some_some None x h = absurd (cc)
 some_some (Some y) x h = refl
 
 -- the handler of a job at its point
-some_job : (x y : Job) → Some x ≡ Some y → x ≡ y
-some_job x y h = cc
-
 own_handler : (r : Running) (n : ℕ) (j : Job) (e : PlainEvent) (t : Thread Origin) → IsOwn r.program r.options n j → is_stopped (plain_job j).outcome ≡ true → HasHandler j → t.origin ≡ (plain_job j).origin → t.replies ≡ (plain_job j).replies →
     option_map (handler_at e) (plain_job j).handler ≡ handler_body (code_of r.program r.options) e (Some t)
 unfolding code_of
@@ -59,7 +57,7 @@ pub handled : {E : Type 0} (res : Result (Option Handler) E) (ss : List PlainSea
     IfOk res (λ h. (r : Running) → AreOwn r.program r.options 0 ss → option_map handler_seen h ≡ handler_body (code_of r.program r.options) e (slice_get (map seated ss) i))
 handled res ss i e j k g h a =
     let same : Some j ≡ Some k.job = g ∙ ap (λ (x : Option PlainSeat). job_at x) k.is_seat ∙ k.is_job in
-    let eq : j ≡ k.job = some_job j k.job same in
+    let eq : j ≡ k.job = same_Some j k.job same in
     let there : slice_get (map seated ss) i ≡ Some (seated k.seat) = get_map seated ss i k.seat k.is_seat in
     if_ok_then (λ x. option_map handler_seen x ≡ option_map (handler_at e) (plain_job j).handler) _ res
     (λ x w r own.

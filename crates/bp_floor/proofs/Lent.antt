@@ -1,5 +1,7 @@
 -- Jobs are taken out, one after the other.
 use Rattle.std.proofs.Common.{◌≡◌, ℕ, zero, suc, Bool, true, false, not, ◌&&◌, List, [], ◌∷◌, ◌++◌, length, map, refl, sym, ap, ◌∙◌, subst, arith, Option, Some, None, is_none, is_some, option_map, option_to_list, slice_get, append_assoc, append-nil, if◌then◌else◌}
+use Rattle.std.proofs.lemmas.List.{length-map}
+use Rattle.std.proofs.lemmas.Option.{same_Some}
 use Rattle.js_value.specs.Value.{PlainSet}
 use Rattle.js_program.specs.PlainProgram.{PlainProgram}
 use Rattle.js_meaning.specs.Bodies.{Origin, the_top, ground_of}
@@ -10,6 +12,8 @@ use Rattle.bp_run.specs.Bodies.{Outcome}
 use Rattle.bp_run.specs.Configuration.{Thread, change}
 use Rattle.bp_run.specs.Settling.{Body, Entry, own_body}
 use Rattle.bp_run.specs.Settling.Entry.{The_top, Runs, Stops}
+use Rattle.bp_run.proofs.Turns.{length-change}
+use Rattle.bp_run.proofs.Numbers.{changed_elsewhere}
 use Rattle.bp_thread.specs.declared.job.Job.{Job}
 use Rattle.bp_thread.specs.Jobs.{PlainJob, plain_job, IsOf, IsWhole}
 use Rattle.bp_floor.specs.declared.entry.Handler.{Handler}
@@ -23,9 +27,9 @@ use Rattle.bp_floor.specs.Kept.{Running, IsBelow, AreBelow, AreFrom, Rises, runs
 use Rattle.bp_floor.specs.Lending.{JobFor, IsLent, AreLent, fill, filled, standing}
 use Rattle.bp_floor.specs.Returning.{AreLater}
 use Rattle.bp_floor.specs.Lent.{IsStarted, IsGroundOf, Lends, CanLend, AreOut}
-use Rattle.bp_floor.proofs.Lists.{change_length, change_map, change_none, change_twice, change_apart, found, get_map}
-use Rattle.bp_floor.proofs.Places.{where_first0, first_is0, where_rises, where_like, stated_like, own_changed0, own_at0, map_length}
-use Rattle.bp_floor.proofs.Returns.{later_alone, nothing_later}
+use Rattle.bp_floor.proofs.Lists.{change_map, change_none, change_twice, found, get_map}
+use Rattle.bp_floor.proofs.Places.{where_first0, first_is0, where_rises, where_like, stated_like, own_changed0, own_at0}
+use Rattle.bp_floor.proofs.Returns.{later_alone, nothing_later, filled_none}
 
 -- ---- holes
 
@@ -55,7 +59,7 @@ hollow_change (Stops j b ∷ ns) i ts = hollow_change ns i ts
 hollow_apart : (ns : List (Entry Origin)) (i : ℕ) (ts : List (Thread Origin)) → AreFrom (suc i) (runs_in ns) → slice_get (hollow ns ts) i ≡ slice_get ts i
 hollow_apart [] i ts h = refl
 hollow_apart (The_top ∷ ns) i ts h = hollow_apart ns i ts h
-hollow_apart (Runs j ∷ ns) i ts h = let a = h.0 in hollow_apart ns i (change hollow_one j ts) h.1 ∙ change_apart hollow_one j i ts (λ e. omega (arith, a, e))
+hollow_apart (Runs j ∷ ns) i ts h = let a = h.0 in hollow_apart ns i (change hollow_one j ts) h.1 ∙ changed_elsewhere hollow_one j i ts (λ e. omega (arith, a, e))
 hollow_apart (Stops j b ∷ ns) i ts h = hollow_apart ns i ts h
 
 own_is : (ts : List (Thread Origin)) (i : ℕ) (t : Thread Origin) → slice_get ts i ≡ Some t → own_body (slice_get ts i) ≡ Some (record { origin = t.origin; replies = t.replies })
@@ -65,10 +69,6 @@ refill : (j : Job) (t x : Thread Origin) → t.origin ≡ (plain_job j).origin �
 refill j t x h k e =
     let f : x ≡ t = cc in
     rw f (ap (λ (o : Origin). let y : Thread Origin = record t { origin = o; replies = (plain_job j).replies } in y) (sym h) ∙ ap (λ (rs : List _). let y : Thread Origin = record t { replies = rs } in y) (sym k))
-
-filled_nothing : (ns : List (Entry Origin)) (ts : List (Thread Origin)) → filled ns [] ts ≡ ts
-filled_nothing [] ts = refl
-filled_nothing (n ∷ ns) ts = refl
 
 filled_runs : (r : Running) (i : ℕ) (ns : List (Entry Origin)) (js : List Job) (ts us : List (Thread Origin)) (t : Thread Origin) → us ≡ ts → Rises (i ∷ runs_in ns) → AreBelow (length ts) (Runs i ∷ ns) → slice_get ts i ≡ Some t →
     JobFor (IsLent r.program r.options) i (Some (record { origin = t.origin; replies = t.replies })) js (AreLent r.program r.options (standing us) ns) →
@@ -88,7 +88,7 @@ pub filled_hollow : (r : Running) (ns : List (Entry Origin)) (js : List Job) (ts
 filled_hollow r [] js ts us e h b l = refl
 filled_hollow r (The_top ∷ ns) [] ts us e h b l = absurd l
 filled_hollow r (The_top ∷ ns) (j ∷ js) ts us e h b l = filled_hollow r ns js ts us e h b.1 l.1
-filled_hollow r (Stops i None ∷ ns) [] ts us e h b l = sym (filled_nothing ns (hollow ns ts)) ∙ filled_hollow r ns [] ts us e h b.1 l
+filled_hollow r (Stops i None ∷ ns) [] ts us e h b l = sym (filled_none ns (hollow ns ts)) ∙ filled_hollow r ns [] ts us e h b.1 l
 filled_hollow r (Stops i None ∷ ns) (j ∷ js) ts us e h b l = filled_hollow r ns (j ∷ js) ts us e h b.1 l
 filled_hollow r (Stops i (Some x) ∷ ns) [] ts us e h b l = absurd l
 filled_hollow r (Stops i (Some x) ∷ ns) (j ∷ js) ts us e h b l = filled_hollow r ns js ts us e h b.1 l.1
@@ -116,7 +116,7 @@ same_all (Stops i b ∷ ns) ss = same_all ns ss
 same_changed : (ns : List (Entry Origin)) (f : PlainSeat → PlainSeat) (i : ℕ) (ss us : List PlainSeat) → AreFrom (suc i) (runs_in ns) → AreSame ns ss us → AreSame ns (change f i ss) us
 same_changed [] f i ss us h k = tt
 same_changed (The_top ∷ ns) f i ss us h k = same_changed ns f i ss us h k
-same_changed (Runs j ∷ ns) f i ss us h k = let a = h.0 in (change_apart f i j ss (λ e. omega (arith, a, e)) ∙ k.0, same_changed ns f i ss us h.1 k.1)
+same_changed (Runs j ∷ ns) f i ss us h k = let a = h.0 in (changed_elsewhere f i j ss (λ e. omega (arith, a, e)) ∙ k.0, same_changed ns f i ss us h.1 k.1)
 same_changed (Stops j b ∷ ns) f i ss us h k = same_changed ns f i ss us h k
 
 -- Where lending stands: these entries are left, these jobs are out, and with those that are left all will be.
@@ -136,7 +136,7 @@ lending_start r base o ns ss c =
 pub lending_end : (r : Running) (base : Ground) (o : PlainOptions) (all : List (Entry Origin)) (js : List Job) (old ss : List PlainSeat) → CanLend r base o all old → Lending r base o all [] js old ss → AreOut r all js old ss
 lending_end r base o all js old ss c l =
     let lent = subst (λ (ks : List Job). AreLent r.program r.options (standing (map seated old)) all ks) (append-nil js) (l.lent [] refl) in
-    let len = map_length seated old in
+    let len = length-map old seated in
     record {
       lent = lent;
       full = ap (λ (ts : List (Thread Origin)). filled all js ts) l.hollow_is
@@ -154,9 +154,6 @@ later_first r base [] h g = tt
 later_first r base (The_top ∷ ns) h g = absurd h
 later_first r base (Runs i ∷ ns) h g = g
 later_first r base (Stops i b ∷ ns) h g = g
-
-some_seat : (x s : PlainSeat) → Some x ≡ Some s → x ≡ s
-some_seat x s h = cc
 
 and_first : (b : Bool) → (b && true) ≡ true → b ≡ true
 and_first true h = refl
@@ -308,13 +305,13 @@ lend_runs r base o i all ns js more old ss new h l =
       whole = own.whole j.outcome;
     } in
     let rises : Rises (i ∷ runs_in ns) = subst (λ (xs : List ℕ). Rises xs) c.ready (where_rises is_ready 0 ss) in
-    let len : length (change out i ss) ≡ length ss = change_length out i ss in
+    let len : length (change out i ss) ≡ length ss = length-change out i ss in
     let count = l.count in
     subst (λ (us : List PlainSeat). Lending r base o all ns (js ++ more) old us) (sym h.0) (record {
       can = later_can r base o ns (change out i ss) (own_changed0 r.program r.options i out ss c.own (λ x w y. tt))
           (where_first0 is_ready i out ss (runs_in ns) c.ready (λ x w. never_ready x.ended (is_none (outcome_in None)))) c.alone (subst (λ (n : ℕ). AreBelow n ns) (sym len) c.below.1) c.program_is c.ground_is c.options_are;
-      waiting = where_like is_waiting 0 i out ss (λ x w. out_waits x (ap is_ready (some_seat x s (sym w ∙ f.1)) ∙ is)) ∙ l.waiting;
-      stated = stated_like 0 i out ss (λ x w k. out_states k x (ap is_ready (some_seat x s (sym w ∙ f.1)) ∙ is)) ∙ l.stated;
+      waiting = where_like is_waiting 0 i out ss (λ x w. out_waits x (ap is_ready (same_Some x s (sym w ∙ f.1)) ∙ is)) ∙ l.waiting;
+      stated = stated_like 0 i out ss (λ x w k. out_states k x (ap is_ready (same_Some x s (sym w ∙ f.1)) ∙ is)) ∙ l.stated;
       same = same_changed ns out i ss old rises.0 l.same.1;
       lent = lending_more r base o all (Runs i) ns js more old ss l (λ ks k. subst (λ (xs : List Job). AreLent r.program r.options (standing (map seated old)) (Runs i ∷ ns) (xs ++ ks)) (sym one)
           (subst (λ (x : Option (Body Origin)). JobFor (IsLent r.program r.options) i x (j.job ∷ ks) (AreLent r.program r.options (standing (map seated old)) ns)) (sym body) (lent, k)));

@@ -6,11 +6,6 @@ use Rattle.std.specs.declared.vec.IntoIter.{IntoIter}
 use Rattle.std.specs.Vec.Iter.{into_iter_len, into_iter_items}
 use Rattle.bp_run.specs.Configuration.{change}
 
-pub change_length : {A : Type 0} (f : A → A) (i : ℕ) (xs : List A) → length (change f i xs) ≡ length xs
-change_length f i [] = refl
-change_length f zero (x ∷ xs) = refl
-change_length f (suc i) (x ∷ xs) = ap (λ (n : ℕ). suc n) (change_length f i xs)
-
 -- a change seen through a map
 pub change_map : {A B : Type 0} (v : A → B) (f : A → A) (g : B → B) (i : ℕ) (xs : List A) → ((x : A) → v (f x) ≡ g (v x)) → map v (change f i xs) ≡ change g i (map v xs)
 change_map v f g i [] h = refl
@@ -27,13 +22,6 @@ pub change_twice : {A : Type 0} (f g : A → A) (i : ℕ) (xs : List A) → chan
 change_twice f g i [] = refl
 change_twice f g zero (x ∷ xs) = refl
 change_twice f g (suc i) (x ∷ xs) = ap (λ ys. x ∷ ys) (change_twice f g i xs)
-
-pub change_apart : {A : Type 0} (f : A → A) (i j : ℕ) (xs : List A) → (i ≡ j → ⊥) → slice_get (change f i xs) j ≡ slice_get xs j
-change_apart f i j [] h = refl
-change_apart f zero zero (y ∷ ys) h = absurd (h refl)
-change_apart f zero (suc j) (y ∷ ys) h = refl
-change_apart f (suc i) zero (y ∷ ys) h = refl
-change_apart f (suc i) (suc j) (y ∷ ys) h = change_apart f i j ys (λ e. h (ap (λ (n : ℕ). suc n) e))
 
 -- an element that is written
 at_map : {A B : Type 0} (v : A → B) (f : B → B) (xs : List A) (i : ℕ) (d u : A) → i < length (map v xs) → v u ≡ f (v (get_or xs i d)) → map v (set xs i u) ≡ change f i (map v xs)

@@ -10,16 +10,20 @@ use Rattle.js_value.specs.declared.value.Value.{Value}
 use Rattle.js_value.specs.Views.{plain_value}
 use Rattle.bp_log.specs.Options.{PlainOptions}
 use Rattle.bp_log.specs.declared.limits.TheConstants.{MOST_WAITING, MOST_THREADS}
-use Rattle.bp_run.specs.Bodies.{Outcome, Effect}
+use Rattle.bp_run.specs.Bodies.{Effect}
 use Rattle.bp_run.specs.Bodies.Effect.{Register}
 use Rattle.bp_log.specs.declared.verdict.Place.{Place}
 use Rattle.bp_log.specs.declared.verdict.Verdict.TheVariants as verdict
 use Rattle.std.proofs.lemmas.Bool.{eq-eqb}
+use Rattle.std.proofs.lemmas.List.{length-map}
+use Rattle.std.proofs.lemmas.Option.{none-some}
 use Rattle.bp_code.specs.Code.{ground_for}
 use Rattle.bp_run.specs.Configuration.{change}
 use Rattle.bp_run.specs.Settling.{Entry, Pair, Ran, registered, merged, stopped, with_effect, with_effects, with_part, unless_over}
 use Rattle.bp_run.specs.Settling.Entry.{Runs}
 use Rattle.bp_run.specs.Selecting.{Live}
+use Rattle.bp_run.proofs.Turns.{length-change}
+use Rattle.bp_run.proofs.Numbers.{not_equal}
 use Rattle.bp_select.specs.Benches.{PlainBench, placed, Fits}
 use Rattle.bp_thread.specs.declared.job.Job.{Job}
 use Rattle.bp_thread.specs.Jobs.{PlainJob, plain_job, IsOf, IsWhole}
@@ -28,12 +32,9 @@ use Rattle.bp_floor.specs.Seating.{PlainSeat, seated, is_waiting, is_ready, wher
 use Rattle.bp_floor.specs.Boards.{pair_of}
 use Rattle.bp_floor.specs.Kept.{Running, IsOn, IsKept, IsBelow, AreBelow, AreFrom, runs_in}
 use Rattle.bp_floor.specs.Returning.{entry_in}
-use Rattle.bp_floor.proofs.Lists.{change_length, change_map}
-use Rattle.bp_floor.proofs.Places.{where_last0, stated_last, own_last0, from_last, runs_last, not_equal, where_ended0, own_changed0, stated_changed0, map_length}
+use Rattle.bp_floor.proofs.Lists.{change_map}
+use Rattle.bp_floor.proofs.Places.{where_last0, stated_last, own_last0, from_last, runs_last, where_ended0, own_changed0, stated_changed0}
 use Rattle.bp_floor.proofs.Widening.{wider_effects, wider_part, below_more}
-
-none_some : (x : Outcome PlainSet) → None ≡ Some x → ⊥
-none_some x h = absurd (cc)
 
 pub record Onward (base : Ground) (o : PlainOptions) (old new : Board) : Type 0 where
   pub keeps : (r : Running) (first : ℕ) → IsOn r base o → IsKept r first old → IsKept r first new
@@ -59,8 +60,8 @@ admitted r first base o b new name callee j on low s w bench queue of p whole k 
       effects = ap (λ (x : PlainJob). x.effects) p;
       whole = λ _. subst (λ (x : Origin). IsWhole (ground_for r.program r.options.budget x) r.options.budget j) (sym (ap (λ (x : PlainJob). x.origin) p))
           (subst (λ (g : Ground). IsWhole g r.options.budget j) on.ground_is (subst (λ (x : PlainOptions). IsWhole base x.budget j) on.options_are whole));
-      stands = λ x h. absurd (none_some x (sym outcome ∙ h));
-      outcome = λ x h. absurd (none_some x (sym outcome ∙ h));
+      stands = λ x h. absurd (none-some x (sym outcome ∙ h));
+      outcome = λ x h. absurd (none-some x (sym outcome ∙ h));
     } in
     let waits : is_waiting seat ≡ true = rw outcome refl in
     let ready : is_ready seat ≡ true = rw outcome refl in
@@ -87,7 +88,7 @@ pub kept_retired : (r : Running) (first i : ℕ) (b new : Board) → i < length 
     ((base : Ground) (budget : ℕ) → Fits b.bench base budget → Fits new.bench base budget) → new.wave ≡ b.wave → new.queue ≡ b.queue → IsKept r first b → IsKept r first new
 kept_retired r first i b new low old s live fits w q k =
     let end : PlainSeat → PlainSeat = λ x. record x { ended = true } in
-    let len : length (change end i b.seats) ≡ length b.seats = change_length end i b.seats in
+    let len : length (change end i b.seats) ≡ length b.seats = length-change end i b.seats in
     let older = k.older in
     let few = k.few in
     let room = k.room in
@@ -129,8 +130,8 @@ pub merging_next : (base : Ground) (o : PlainOptions) (all left : List (Ran Orig
 merging_next base o all left x old now new m h k =
     let more = (wider_part x.entry x.part (pair_of now)).threads in
     let len : length (map seated new.seats) ≡ length (unless_over (with_part x.entry x.part) (pair_of now)).stand.threads = ap (λ (p : Pair Origin). length p.stand.threads) h in
-    let a = map_length seated new.seats in
-    let b = map_length seated now.seats in
+    let a = length-map new.seats seated in
+    let b = length-map now.seats seated in
     let w = m.wider in
     record {
       merged_is = ap (λ (p : Pair Origin). merged left p) h ∙ m.merged_is;
@@ -144,20 +145,20 @@ pub part_within : (at : Place) (xs : List (Effect Origin)) (b new : Board) (n : 
 part_within at xs b new n h k =
     let more = (wider_effects at xs (pair_of b)).threads in
     let len : length (map seated new.seats) ≡ length (with_effects at xs (pair_of b)).stand.threads = ap (λ (p : Pair Origin). length p.stand.threads) h in
-    let a = map_length seated new.seats in
-    let c = map_length seated b.seats in
+    let a = length-map new.seats seated in
+    let c = length-map b.seats seated in
     below_more (length b.seats) (length new.seats) n (omega (arith, more, len, a, c)) k
 
 -- as many b-threads as may are registered, or fewer
 pub threads_full : (at : Place) (name : List ℕ) (o : Origin) (b : Board) → length b.seats ≡ MOST_THREADS → stopped verdict.Threads (pair_of b) ≡ with_effect at (Register name o) (pair_of b)
 threads_full at name o b h =
-    let e : nat_eq (length (map seated b.seats)) MOST_THREADS ≡ true = eq-eqb (length (map seated b.seats)) MOST_THREADS (map_length seated b.seats ∙ h) in
+    let e : nat_eq (length (map seated b.seats)) MOST_THREADS ≡ true = eq-eqb (length (map seated b.seats)) MOST_THREADS (length-map b.seats seated ∙ h) in
     rw e refl
 
 pub threads_few : (at : Place) (name : List ℕ) (o : Origin) (b : Board) → (length b.seats ≡ MOST_THREADS → ⊥) → registered name o (pair_of b) ≡ with_effect at (Register name o) (pair_of b)
 threads_few at name o b h =
     let e : nat_eq (length (map seated b.seats)) MOST_THREADS ≡ false =
-    not_equal (length (map seated b.seats)) MOST_THREADS (nat_eq (length (map seated b.seats)) MOST_THREADS) refl (λ k. h (sym (map_length seated b.seats) ∙ k)) in
+    not_equal (length (map seated b.seats)) MOST_THREADS (nat_eq (length (map seated b.seats)) MOST_THREADS) refl (λ k. h (sym (length-map b.seats seated) ∙ k)) in
     rw e refl
 
 -- ---- all of them

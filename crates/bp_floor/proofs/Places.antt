@@ -1,6 +1,6 @@
 -- The b-threads of a board: who waits, what is stated, whose jobs they are.
 use Rattle.std.proofs.Common.{◌≡◌, ℕ, zero, suc, ◌+◌, ◌<◌, ◌≤◌, Bool, true, false, not, ◌&&◌, List, [], ◌∷◌, ◌++◌, length, map, refl, sym, ap, ◌∙◌, subst, arith, Option, Some, None, is_none, nat_lt, nat_eq, slice_get, option_map, if◌then◌else◌}
-use Rattle.std.proofs.lemmas.Bool.{lt-ltb, le-ltb, eq-eqb, eqb-true}
+use Rattle.std.proofs.lemmas.Bool.{lt-ltb, le-ltb, eq-eqb}
 use Rattle.std.specs.List.{cons_option}
 use Rattle.js_value.specs.Value.{PlainSet}
 use Rattle.js_program.specs.PlainProgram.{PlainProgram}
@@ -12,15 +12,12 @@ use Rattle.bp_run.specs.Configuration.{Thread, change}
 use Rattle.bp_run.specs.Settling.{Entry}
 use Rattle.bp_run.specs.Settling.Entry.{Runs}
 use Rattle.bp_run.specs.Selecting.{Live}
+use Rattle.bp_run.proofs.Numbers.{not_equal}
 use Rattle.bp_select.specs.Benches.{placed, live_at}
 use Rattle.bp_floor.specs.Forgetting.{forget}
 use Rattle.bp_floor.specs.Seating.{PlainSeat, seated, is_waiting, is_ready, outcome_in, where_from, stop_at, statement_at, stated_from, IsOwnIn, AreOwn, swept}
 use Rattle.bp_floor.specs.Kept.{AreFrom, Rises, runs_in}
 use Rattle.bp_floor.proofs.Lists.{filter_map_last}
-
-pub not_equal : (m i : ℕ) (b : Bool) → nat_eq m i ≡ b → (m ≡ i → ⊥) → b ≡ false
-not_equal m i true h k = absurd (k (eqb-true m i h))
-not_equal m i false h k = refl
 
 -- ---- one more
 
@@ -221,7 +218,7 @@ first_is f n (suc i) (x ∷ ss) rest s h k =
     let w = where_next (f x) n i (where_from f (suc n) ss) rest h in
     first_is f (suc n) i ss rest s w.1 k
 
-open_one : (b o : Bool) → (not b && o) ≡ true → b ≡ false
+pub open_one : (b o : Bool) → (not b && o) ≡ true → b ≡ false
 open_one true o h = absurd (cc)
 open_one false o h = refl
 
@@ -310,10 +307,6 @@ own_at g o n zero (x ∷ ss) s h k =
 own_at g o n (suc i) (x ∷ ss) s h k =
     let m : suc n + i ≡ n + suc i = omega arith in
     subst (λ (j : ℕ). IsOwnIn g o j s.job) m (own_at g o (suc n) i ss s h.1 k)
-
-pub map_length : {A B : Type 0} (f : A → B) (xs : List A) → length (map f xs) ≡ length xs
-map_length f [] = refl
-map_length f (x ∷ xs) = ap (λ (n : ℕ). suc n) (map_length f xs)
 
 -- ---- one more in the midst
 

@@ -2,6 +2,7 @@
 use Rattle.std.proofs.Common.{◌≡◌, ℕ, zero, suc, ◌+◌, ◌<◌, Bool, true, false, not, ◌&&◌, ◌==◌, nat_eq, List, [], ◌∷◌, length, map, refl, sym, ap, ◌∙◌, subst, arith, Option, Some, None, Ok, is_none, is_some, slice_get, if◌then◌else◌}
 use Rattle.std.proofs.lemmas.Bool.{eq-eqb}
 use Rattle.std.specs.List.{cons_option}
+use Rattle.std.proofs.lemmas.List.{length-map}
 use Rattle.js_data.specs.Event.{PlainEvent}
 use Rattle.js_value.specs.Value.{PlainSet}
 use Rattle.js_meaning.specs.Bodies.{Origin}
@@ -18,7 +19,7 @@ use Rattle.bp_floor.specs.Programs.{code_of}
 use Rattle.bp_floor.specs.Seating.{PlainSeat, seated, origin_in, replies_in, outcome_in, is_waiting, where_from, stop_at, statement_at, stated_from, IsOwn, IsOwnIn, AreOwn}
 use Rattle.bp_floor.specs.Kept.{Running, AreFrom, Rises}
 use Rattle.bp_floor.specs.Touching.{IsStanding, AreStanding}
-use Rattle.bp_floor.proofs.Places.{own_at0, none_step, from_lower, map_length}
+use Rattle.bp_floor.proofs.Places.{own_at0, none_step, from_lower}
 use Rattle.bp_floor.proofs.Lists.{found, get_map}
 
 -- one that neither waits nor has ended has its job with an outcome, which is that of its body
@@ -171,5 +172,5 @@ pub reached_stand : (r : Running) (ss : List PlainSeat) (s : Stand Origin) (e : 
 reached_stand r ss s e xs t own w h =
     let l = code_of r.program r.options in
     let rising = reach_rising l.has e (live l s) xs 0 (length s.threads) h (live_rising l s) in
-    let len : length s.threads ≡ length ss = ap (λ (ts : List (Thread Origin)). length ts) t ∙ map_length seated ss in
+    let len : length s.threads ≡ length ss = ap (λ (ts : List (Thread Origin)). length ts) t ∙ length-map ss seated in
     (stand_all r ss s e xs xs t own w h (subst (λ (n : ℕ). AllUnder n xs) len (rising_under 0 (length s.threads) xs rising)) (all_some xs), rising_rises 0 (length s.threads) (map number_in xs) rising)

@@ -1,5 +1,7 @@
 -- Jobs come back, one after the other.
 use Rattle.std.proofs.Common.{◌≡◌, ℕ, zero, suc, ◌<◌, ◌≤◌, Bool, true, false, not, ◌&&◌, List, [], ◌∷◌, ◌++◌, length, map, refl, sym, ap, ◌∙◌, subst, arith, append_assoc, append-nil, Option, Some, None, is_none, is_some, slice_get}
+use Rattle.std.proofs.lemmas.Option.{same_Some}
+use Rattle.std.proofs.lemmas.List.{length-map}
 use Rattle.js_data.specs.Event.{PlainEvent}
 use Rattle.js_value.specs.Value.{PlainValue, PlainSet}
 use Rattle.js_program.specs.PlainProgram.{PlainProgram}
@@ -13,6 +15,7 @@ use Rattle.bp_run.specs.Configuration.{Thread, change}
 use Rattle.bp_run.specs.Settling.{Body, Entry, Ran, body_of, own_body, part_of}
 use Rattle.bp_run.specs.Settling.Entry.{The_top, Runs, Stops}
 use Rattle.bp_run.specs.Numbers.{number_of}
+use Rattle.bp_run.proofs.Turns.{length-change}
 use Rattle.bp_meaning.specs.After.{effect_of, outcome_of}
 use Rattle.bp_select.specs.Benches.{placed, live_at}
 use Rattle.bp_thread.specs.declared.job.Job.{Job}
@@ -25,8 +28,8 @@ use Rattle.bp_floor.specs.Parts.{unstated, unstated_part}
 use Rattle.bp_floor.specs.Kept.{Running, runs_in, AreBelow}
 use Rattle.bp_floor.specs.Lending.{JobFor, IsCarried, IsDone, AreDone, fill, filled, has_body, standing}
 use Rattle.bp_floor.specs.Returning.{ground_at, AreLater, RunsAlone, IsBack, IsSameBut, part_in, Puts, IsTaken, IsKeptBy, IsFilled, ran_in, AreAllBack}
-use Rattle.bp_floor.proofs.Lists.{change_length, change_map}
-use Rattle.bp_floor.proofs.Places.{own_changed0, stated_changed0, where_first0, where_none, where_below0, waits_at0, map_length}
+use Rattle.bp_floor.proofs.Lists.{change_map}
+use Rattle.bp_floor.proofs.Places.{own_changed0, stated_changed0, where_first0, where_none, where_below0, waits_at0}
 
 pub filled_none : (ns : List (Entry Origin)) (ts : List (Thread Origin)) → filled ns [] ts ≡ ts
 filled_none [] ts = refl
@@ -36,7 +39,7 @@ pub filled_length : (ns : List (Entry Origin)) (js : List Job) (ts : List (Threa
 filled_length [] js ts = refl
 filled_length (n ∷ ns) [] ts = refl
 filled_length (The_top ∷ ns) (j ∷ js) ts = filled_length ns js ts
-filled_length (Runs i ∷ ns) (j ∷ js) ts = filled_length ns js (change (fill (plain_job j)) i ts) ∙ change_length (fill (plain_job j)) i ts
+filled_length (Runs i ∷ ns) (j ∷ js) ts = filled_length ns js (change (fill (plain_job j)) i ts) ∙ length-change (fill (plain_job j)) i ts
 filled_length (Stops i None ∷ ns) (j ∷ js) ts = filled_length ns (j ∷ js) ts
 filled_length (Stops i (Some b) ∷ ns) (j ∷ js) ts = filled_length ns js ts
 
@@ -59,9 +62,6 @@ later_ground p budget [] h = refl
 later_ground p budget (The_top ∷ ns) h = absurd h
 later_ground p budget (Runs i ∷ ns) h = refl
 later_ground p budget (Stops i b ∷ ns) h = refl
-
-some_one : {A : Type 0} (x y : A) → Some x ≡ Some y → x ≡ y
-some_one x y h = cc
 
 none_at : (Is : ℕ → Body Origin → Job → Type 0) (n : ℕ) (rest : List Job → Type 0) (o : Option (Body Origin)) → is_some o ≡ true → JobFor Is n o [] rest → ⊥
 none_at Is n rest None h k = absurd (cc)
@@ -116,7 +116,7 @@ idle_back r base i ns js b m =
       ground_is = m.ground_is ∙ sym (later_ground r.program r.options.budget ns m.alone);
     }
 
-same_but : (b : Board) → IsSameBut b b
+pub same_but : (b : Board) → IsSameBut b b
 same_but b = record { queue = refl; transitions = refl; weight = refl; lines = refl; verdict = refl; wave = refl }
 
 ap_same : (old new : Board) → new ≡ old → IsSameBut old new
@@ -138,7 +138,7 @@ none_comes : (r : Running) (base : Ground) (n : Entry Origin) (ns : List (Entry 
 none_comes r base The_top ns b h m = m.done
 none_comes r base (Runs i) ns b h m =
     let low = where_below0 is_waiting b.seats i (runs_in ns) m.waiting in
-    none_at (IsDone r.program r.options) i (AreDone r.program r.options (standing (map seated b.seats)) ns) (own_body (slice_get (map seated b.seats) i)) (own_some (map seated b.seats) i (rw (map_length seated b.seats) low)) m.done
+    none_at (IsDone r.program r.options) i (AreDone r.program r.options (standing (map seated b.seats)) ns) (own_body (slice_get (map seated b.seats) i)) (own_some (map seated b.seats) i (rw (length-map b.seats seated) low)) m.done
 none_comes r base (Stops i (Some x)) ns b h m = m.done
 none_comes r base (Stops i None) ns b h m = absurd (cc)
 
@@ -186,7 +186,7 @@ own_carried r n b j c e =
       whole = λ h. absurd (let o = c.outcome in cc);
       stands = λ x h. subst (λ (o : Origin). StandsFor (ground_for r.program r.options.budget o) r.options.budget j) (sym c.job.origin_is) c.stands;
       outcome = λ x h.
-          let same : x ≡ ((code_of r.program r.options).after b.origin b.replies).outcome = some_one x _ (sym h ∙ c.outcome) in
+          let same : x ≡ ((code_of r.program r.options).after b.origin b.replies).outcome = same_Some x _ (sym h ∙ c.outcome) in
           same ∙ ap (λ (o : Origin). ((code_of r.program r.options).after o b.replies).outcome) (sym c.job.origin_is)
           ∙ ap (λ (rs : List _). ((code_of r.program r.options).after (plain_job j).origin rs).outcome) (sym c.job.replies_are);
     }
@@ -237,7 +237,7 @@ first_runs : (r : Running) (base : Ground) (i : ℕ) (ns : List (Entry Origin)) 
 first_runs r base i ns j js b m =
     let ts = filled (Runs i ∷ ns) (j ∷ js) (map seated b.seats) in
     let low = where_below0 is_waiting b.seats i (runs_in ns) m.waiting in
-    let len = filled_length (Runs i ∷ ns) (j ∷ js) (map seated b.seats) ∙ map_length seated b.seats in
+    let len = filled_length (Runs i ∷ ns) (j ∷ js) (map seated b.seats) ∙ length-map b.seats seated in
     first_at r (Runs i) ts (own_body (slice_get ts i)) j js (AreDone r.program r.options (standing ts) ns) refl (own_some ts i (omega (arith, low, len))) m.done
 
 back_runs : (r : Running) (base left : Ground) (i : ℕ) (ns : List (Entry Origin)) (j k : Job) (js : List Job) (old new : Board) → IsTaken j k → IsKeptBy (Runs i) k base old left new →
@@ -251,7 +251,7 @@ back_runs r base left i ns j k js old new t h m =
     let seats : map seated (change put i old.seats) ≡ change (fill (plain_job j)) i (map seated old.seats) =
     change_map seated put (fill (plain_job k)) i old.seats (λ s. refl) ∙ ap (λ (p : PlainJob). change (fill p) i (map seated old.seats)) t.plain in
     let own : IsOwn r.program r.options i k = own_carried r i f.body k c (ap (λ (p : PlainJob). p.effects) t.plain) in
-    let len : length (change put i old.seats) ≡ length old.seats = change_length put i old.seats in
+    let len : length (change put i old.seats) ≡ length old.seats = length-change put i old.seats in
     let few = m.few in
     let seats_now : map seated new.seats ≡ change (fill (plain_job j)) i (map seated old.seats) = ap (λ (ss : List PlainSeat). map seated ss) h.0.seats ∙ seats in
     let room = m.room in
@@ -313,7 +313,7 @@ puts_kept (Stops i (Some x)) j k js base left old new part b t h p e o =
 
 -- ---- all jobs come back
 
-same_then : (a b c : Board) → IsSameBut a b → IsSameBut b c → IsSameBut a c
+pub same_then : (a b c : Board) → IsSameBut a b → IsSameBut b c → IsSameBut a c
 same_then a b c x y =
     record { queue = y.queue ∙ x.queue; transitions = y.transitions ∙ x.transitions; weight = y.weight ∙ x.weight; lines = y.lines ∙ x.lines; verdict = y.verdict ∙ x.verdict; wave = y.wave ∙ x.wave }
 

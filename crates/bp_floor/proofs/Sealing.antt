@@ -1,5 +1,6 @@
 -- Jobs leave a floor and come back to it.
 use Rattle.std.proofs.Common.{◌≡◌, ℕ, ◌+◌, List, [], ◌∷◌, length, map, refl, sym, ap, ◌∙◌, subst, arith, Bool, Option, Some, None}
+use Rattle.std.proofs.lemmas.List.{length-map}
 use Rattle.js_meaning.specs.State.{Ground}
 use Rattle.js_meaning.specs.Bodies.{Origin, the_top}
 use Rattle.bp_log.specs.Options.{PlainOptions}
@@ -18,17 +19,15 @@ use Rattle.bp_floor.specs.declared.phase.Phase.TheVariants.{Ready, Lent}
 use Rattle.bp_floor.specs.Programs.{code_of}
 use Rattle.bp_floor.specs.Seating.{PlainSeat, seated}
 use Rattle.bp_floor.specs.Boards.{stand_of, pair_of}
-use Rattle.bp_floor.specs.Forgetting.{forgotten, AreGoing}
+use Rattle.bp_floor.specs.Forgetting.{forgotten, AreGoing, forget}
 use Rattle.bp_floor.specs.Kept.{Running, IsKept, IsOn, AreBelow, Rises}
 use Rattle.bp_floor.specs.Lending.{AreDone, filled, filled_pair, standing}
 use Rattle.bp_floor.specs.Returning.{AreLater, IsBack, ground_at}
 use Rattle.bp_floor.specs.Lent.{CanLend, AreOut, IsGroundOf}
 use Rattle.js_program.specs.PlainProgram.{PlainProgram}
 use Rattle.bp_floor.specs.Floors.{PlainFloor, AreBack, IsSound, StandsFor, StandsWith, phase_at, phase_of, code_on}
-use Rattle.bp_floor.proofs.Forgetting.{length_forgotten}
 use Rattle.bp_floor.proofs.Unended.{seats_going, filled_going, turn_of_standing}
 use Rattle.bp_floor.proofs.Gone.{ready_phase, lent_phase}
-use Rattle.bp_floor.proofs.Places.{map_length}
 use Rattle.bp_floor.proofs.Rests.{rising_rises}
 use Rattle.bp_floor.proofs.Returns.{later_alone, later_ground}
 
@@ -125,7 +124,7 @@ sealed_sound r left base b new js s p kept on =
     let wave : new.wave ≡ t.entries = ap (λ (x : Pair Origin). x.entries) p in
     let entries = turn_entries l q in
     let later : AreLater new.wave = subst (λ (ns : List (Entry Origin)). AreLater ns) (sym (wave ∙ entries.1)) (later_runs (numbers_from (length q.stand.threads) entries.0)) in
-    let len : length new.seats ≡ length t.stand.threads = sym (map_length seated new.seats) ∙ ap (λ (x : Pair Origin). length x.stand.threads) p ∙ length_forgotten the_top t.stand.threads in
+    let len : length new.seats ≡ length t.stand.threads = sym (length-map new.seats seated) ∙ ap (λ (x : Pair Origin). length x.stand.threads) p ∙ length-map t.stand.threads (forget the_top) in
     let was = s.light in
     let counted = s.counted in
     record {

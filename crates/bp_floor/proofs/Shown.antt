@@ -16,14 +16,10 @@ use Rattle.bp_floor.specs.declared.went.Went.{Went}
 use Rattle.bp_floor.specs.declared.went.Went.TheVariants.{Moved, Stopped}
 use Rattle.bp_floor.specs.Forgetting.{forget, forgotten_in, forgotten}
 use Rattle.bp_floor.specs.Floors.{PlainFloor, StandsFor, GoesAs, ShowsOf, GoesFrom, code_on, has_on, stop_of, stop_at_reach}
-use Rattle.bp_floor.proofs.Forgetting.{name_forgotten}
+use Rattle.bp_floor.proofs.Forgetting.{name_forgotten, forget_ended_at}
 use Rattle.bp_floor.proofs.Stepping.{live_stands, stepped_stands}
 
 -- ---- what it shows
-
-ended_at : (b : Bool) (t : Thread Origin) → t.ended ≡ b → (forget the_top t).ended ≡ t.ended
-ended_at true t h = rw h refl
-ended_at false t h = rw h refl
 
 one_going : (b : Bool) (n : ℕ) → cond (not b) 1 0 + n ≡ cond (not b) (1 + n) n
 one_going true n = omega arith
@@ -34,7 +30,7 @@ going_step : (t : Thread Origin) (ts : List (Thread Origin)) →
 going_step t ts =
     let n = count_by (λ (x : Thread Origin). not x.ended) (map (forget the_top) ts) in
     sum_by-cons (λ (x : Thread Origin). cond (not x.ended) 1 0) (forget the_top t) (map (forget the_top) ts)
-    ∙ ap (λ (b : Bool). cond (not b) 1 0 + n) (ended_at t.ended t refl) ∙ one_going t.ended n
+    ∙ ap (λ (b : Bool). cond (not b) 1 0 + n) (forget_ended_at the_top t.ended t refl) ∙ one_going t.ended n
 
 -- as many have not ended
 going_forgotten : (ts : List (Thread Origin)) → count_by (λ (x : Thread Origin). not x.ended) (map (forget the_top) ts) ≡ count_by (λ (x : Thread Origin). not x.ended) ts

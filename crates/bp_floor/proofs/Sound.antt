@@ -1,5 +1,6 @@
 -- What a floor keeps.
 use Rattle.std.proofs.Common.{◌≡◌, ◌≤◌, ◌<◌, List, [], ◌∷◌, ◌++◌, length, map, length-append, refl, sym, ap, ◌∙◌, subst, arith, Bool, Option, Some, None, Result, Ok, Err, OnOk, OnErr}
+use Rattle.std.proofs.lemmas.List.{length-map}
 use Rattle.js_data.specs.Event.{PlainEvent}
 use Rattle.js_program.specs.PlainProgram.{PlainProgram}
 use Rattle.js_meaning.specs.State.{Ground}
@@ -23,7 +24,6 @@ use Rattle.bp_floor.specs.Kept.{Running, AreBelow, Rises, runs_in}
 use Rattle.bp_floor.specs.Returning.{RunsAlone, ground_at}
 use Rattle.bp_floor.specs.Floors.{PlainFloor, IsSound, IsPhased, phase_at}
 use Rattle.bp_floor.proofs.Unended.{seats_going}
-use Rattle.bp_floor.proofs.Places.{map_length}
 use Rattle.bp_floor.proofs.Rests.{stated_live}
 
 -- one more event waits
@@ -101,7 +101,7 @@ sound_opened r base b p g s n q t w v a f =
 pub phased : (f : PlainFloor) (b : Board) → f.pair ≡ pair_of b → IsSound (record { program = f.base.program; options = f.options }) f.base b f.phase → IsPhased f
 phased f b e s =
     let few = s.few in
-    let len = map_length seated b.seats in
+    let len = length-map b.seats seated in
     let small : length (map seated b.seats) ≤ MOST_THREADS = omega (arith, few, len) in
     let q : Pair Origin = pair_of b in
     subst (λ (p : Pair Origin). IsPhased (record f { pair = p })) (sym e) (record {

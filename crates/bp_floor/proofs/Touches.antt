@@ -1,6 +1,8 @@
 -- An event reaches b-threads, one after the other.
 use Rattle.std.proofs.lemmas.List.Edits.{length-remove}
 use Rattle.std.proofs.Common.{◌≡◌, ℕ, suc, ◌+◌, ◌<◌, ◌≤◌, Bool, true, false, not, ◌&&◌, List, [], ◌∷◌, ◌++◌, length, map, refl, sym, ap, ◌∙◌, subst, arith, Option, Some, None, is_none, is_some, slice_get, append_assoc, append-nil, if◌then◌else◌, IfSome}
+use Rattle.std.proofs.lemmas.Bool.{and_right}
+use Rattle.std.proofs.lemmas.Option.{same_Some, none-some}
 use Rattle.js_data.specs.Event.{PlainEvent}
 use Rattle.js_value.specs.Value.{PlainSet}
 use Rattle.js_program.specs.PlainProgram.{PlainProgram}
@@ -17,6 +19,8 @@ use Rattle.bp_run.specs.Settling.{Entry}
 use Rattle.bp_log.specs.declared.trace.Line.{Line}
 use Rattle.bp_run.specs.Story.{touch, touch_all, without, line_of_choice}
 use Rattle.bp_run.specs.Numbers.{number_in}
+use Rattle.bp_run.proofs.Turns.{length-change}
+use Rattle.bp_run.proofs.Numbers.{changed_elsewhere}
 use Rattle.bp_select.specs.Benches.{PlainBench, placed, Fits}
 use Rattle.bp_thread.specs.declared.job.Job.{Job}
 use Rattle.bp_thread.specs.Jobs.{PlainJob, plain_job, IsOf, StandsFor, IsWhole, is_stopped}
@@ -27,9 +31,10 @@ use Rattle.bp_floor.specs.Forgetting.{forget, forgotten}
 use Rattle.bp_floor.specs.Kept.{Running, IsKept, AreFrom, Rises, runs_in}
 use Rattle.bp_floor.specs.Returning.{IsSameBut}
 use Rattle.bp_floor.specs.Touching.{IsStanding, IsTouch, AreStanding, moves_in, moved_pair, CanTouch, IsTouchedBy}
-use Rattle.bp_floor.proofs.Lists.{change_length, change_map, change_map_at, change_apart}
+use Rattle.bp_floor.proofs.Lists.{change_map, change_map_at}
 use Rattle.bp_floor.proofs.Places.{where_like, where_more0, rises_below, stated_changed0, own_changed0, get_below, waits_swept, ready_swept, stated_swept, own_swept, forgets_swept, swept_length}
 use Rattle.bp_floor.proofs.Turns.{from_zero}
+use Rattle.bp_floor.proofs.Returns.{same_but, same_then}
 
 -- Where reaching stands: these are left.
 pub record Touching (r : Running) (e : PlainEvent) (all xs : List Touched) (old now : Board) : Type 0 where
@@ -55,13 +60,6 @@ pub rises_moves : (xs : List Touched) → Rises (map number_in xs) → Rises (mo
 rises_moves [] h = tt
 rises_moves (Moves i ∷ xs) h = (from_moves (suc i) xs h.0, rises_moves xs h.1)
 rises_moves (Interrupts i ∷ xs) h = rises_moves xs h.1
-
-pub same_but : (b : Board) → IsSameBut b b
-same_but b = record { queue = refl; transitions = refl; weight = refl; lines = refl; verdict = refl; wave = refl }
-
-same_then : (a b c : Board) → IsSameBut a b → IsSameBut b c → IsSameBut a c
-same_then a b c x y =
-    record { queue = y.queue ∙ x.queue; transitions = y.transitions ∙ x.transitions; weight = y.weight ∙ x.weight; lines = y.lines ∙ x.lines; verdict = y.verdict ∙ x.verdict; wave = y.wave ∙ x.wave }
 
 pub touching_start : (r : Running) (e : PlainEvent) (xs : List Touched) (b : Board) → CanTouch r xs b → Touching r e xs xs b b
 touching_start r e xs b c =
@@ -98,22 +96,12 @@ standing_changed : (xs : List Touched) (f : PlainSeat → PlainSeat) (i : ℕ) (
 standing_changed [] f i ss h k = tt
 standing_changed (x ∷ xs) f i ss h k =
     let a = h.0 in
-    (subst (λ (o : Option PlainSeat). IsStanding o) (sym (change_apart f i (number_in x) ss (λ e. omega (arith, a, e)))) k.0, standing_changed xs f i ss h.1 k.1)
+    (subst (λ (o : Option PlainSeat). IsStanding o) (sym (changed_elsewhere f i (number_in x) ss (λ e. omega (arith, a, e)))) k.0, standing_changed xs f i ss h.1 k.1)
 
 -- what is known of a b-thread at its point
 pub stopped_some : (o : Option (Outcome PlainSet)) → is_stopped o ≡ true → (is_none o ≡ false) × (x : Outcome PlainSet) × (o ≡ Some x)
 stopped_some None h = absurd (cc)
 stopped_some (Some x) h = (refl, x, refl)
-
-some_seat : (x s : PlainSeat) → Some x ≡ Some s → x ≡ s
-some_seat x s h = cc
-
-some_job : (x s : Job) → Some x ≡ Some s → x ≡ s
-some_job x s h = cc
-
-false_and : (b c : Bool) → c ≡ false → (b && c) ≡ false
-false_and true c h = h
-false_and false c h = refl
 
 false_ready : (b c d : Bool) → c ≡ false → ((b && c) && d) ≡ false
 false_ready true c d h = rw h refl
@@ -122,14 +110,11 @@ false_ready false c d h = refl
 -- one that stands does not wait
 stands_quiet : (ss : List PlainSeat) (i : ℕ) (s : PlainSeat) (k : IsStanding (slice_get ss i)) → slice_get ss i ≡ Some s → (s.ended ≡ false) × (s.job ≡ Some k.job) × (is_waiting s ≡ false) × (is_ready s ≡ false)
 stands_quiet ss i s k h =
-    let e : k.seat ≡ s = some_seat k.seat s (sym k.is_seat ∙ h) in
+    let e : k.seat ≡ s = same_Some k.seat s (sym k.is_seat ∙ h) in
     let j : s.job ≡ Some k.job = ap (λ (x : PlainSeat). x.job) (sym e) ∙ k.is_job in
     let n = (stopped_some (plain_job k.job).outcome k.stopped).0 in
     let o : is_none (outcome_in s.job) ≡ false = ap (λ (x : Option Job). is_none (outcome_in x)) j ∙ n in
-    (ap (λ (x : PlainSeat). x.ended) (sym e) ∙ k.going, j, false_and (not s.ended) (is_none (outcome_in s.job)) o, false_ready (not s.ended) (is_none (outcome_in s.job)) (is_some s.job) o)
-
-none_some : (x : Outcome PlainSet) → None ≡ Some x → ⊥
-none_some x h = absurd (cc)
+    (ap (λ (x : PlainSeat). x.ended) (sym e) ∙ k.going, j, and_right (not s.ended) (is_none (outcome_in s.job)) o, false_ready (not s.ended) (is_none (outcome_in s.job)) (is_some s.job) o)
 
 if_none : (b : Bool) → let o : Option (Live PlainSet) = if b then None else None in o ≡ None
 if_none true = refl
@@ -161,8 +146,8 @@ given_own r n j g e o s p q w =
       effects = ap (λ (x : PlainJob). x.effects) p ∙ o.effects;
       whole = λ h. subst (λ (x : Origin). IsWhole (ground_for r.program r.options.budget x) r.options.budget g) (sym (ap (λ (x : PlainJob). x.origin) p))
           (w (ground_for r.program r.options.budget (plain_job j).origin) r.options.budget (o.stands some.1 some.2));
-      stands = λ x h. absurd (none_some x (sym outcome ∙ h));
-      outcome = λ x h. absurd (none_some x (sym outcome ∙ h));
+      stands = λ x h. absurd (none-some x (sym outcome ∙ h));
+      outcome = λ x h. absurd (none-some x (sym outcome ∙ h));
     }
 
 touch_moves : (r : Running) (e : PlainEvent) (i : ℕ) (all xs : List Touched) (old now new : Board) → IsTouch e (Moves i) now new → Touching r e all (Moves i ∷ xs) old now → Touching r e all xs old new
@@ -172,10 +157,10 @@ touch_moves r e i all xs old now new h t =
     let k = t.standing.0 in
     let low = get_below now.seats i k.seat k.is_seat in
     let outcome : (plain_job g).outcome ≡ None = ap (λ (x : PlainJob). x.outcome) h.0.plain in
-    let len : length (change put i now.seats) ≡ length now.seats = change_length put i now.seats in
+    let len : length (change put i now.seats) ≡ length now.seats = length-change put i now.seats in
     let few = t.few in
     let room = t.room in
-    let jobs : (s : PlainSeat) → slice_get now.seats i ≡ Some s → h.0.job ≡ k.job = λ s w. some_job h.0.job k.job (sym (h.0.old_is s w) ∙ (stands_quiet now.seats i s k w).1) in
+    let jobs : (s : PlainSeat) → slice_get now.seats i ≡ Some s → h.0.job ≡ k.job = λ s w. same_Some h.0.job k.job (sym (h.0.old_is s w) ∙ (stands_quiet now.seats i s k w).1) in
     let threads : map seated new.seats ≡ touch e (Moves i) (map seated now.seats) =
     ap (λ (ss : List PlainSeat). map seated ss) h.0.seats
     ∙ change_map_at seated put (λ (x : Thread Origin). record x { replies = x.replies ++ e ∷ [] }) i now.seats (λ s w. given_seated s h.0.job g e (h.0.old_is s w) h.0.plain) in
@@ -209,7 +194,7 @@ touch_interrupts r e i all xs old now new h t =
     let end : PlainSeat → PlainSeat = λ s. record s { ended = true } in
     let k = t.standing.0 in
     let low = get_below now.seats i k.seat k.is_seat in
-    let len : length (change end i now.seats) ≡ length now.seats = change_length end i now.seats in
+    let len : length (change end i now.seats) ≡ length now.seats = length-change end i now.seats in
     let few = t.few in
     let room = t.room in
     record {

@@ -1,5 +1,6 @@
 -- A turn, put together from its parts.
 use Rattle.std.proofs.Common.{◌≡◌, ℕ, List, [], ◌∷◌, length, map, refl, sym, ap, ◌∙◌, subst, arith}
+use Rattle.std.proofs.lemmas.List.{length-map}
 use Rattle.js_meaning.specs.Bodies.{Origin, the_top}
 use Rattle.js_meaning.specs.State.{Ground}
 use Rattle.bp_log.specs.Options.{PlainOptions}
@@ -20,7 +21,7 @@ use Rattle.bp_thread.specs.declared.job.Job.{Job}
 use Rattle.bp_floor.specs.Returning.{IsBack, IsSameBut, AreAllBack, ran_in, entry_in, turned_apart}
 use Rattle.bp_floor.proofs.Returns.{filled_length}
 use Rattle.bp_floor.proofs.Widening.{merged_unstated}
-use Rattle.bp_floor.proofs.Places.{waits_swept, ready_swept, stated_swept, own_swept, forgets_swept, swept_length, map_length}
+use Rattle.bp_floor.proofs.Places.{waits_swept, ready_swept, stated_swept, own_swept, forgets_swept, swept_length}
 
 -- a body finds its b-thread wherever the rest stands
 ran_standing : (r : Running) (s : Stand Origin) (n : Entry Origin) → ran_in r s.threads n ≡ unstated_ran (ran (code_of r.program r.options) s n)
@@ -114,7 +115,7 @@ pub back_within : (r : Running) (base left : Ground) (ns : List (Entry Origin)) 
     AreBelow (length new.seats) (map entry_in rans)
 back_within r base left ns js old new rans m a =
     let len : length new.seats ≡ length old.seats =
-    sym (map_length seated new.seats) ∙ ap (λ (ts : List (Thread Origin)). length ts) a.threads ∙ filled_length ns js (map seated old.seats) ∙ map_length seated old.seats in
+    sym (length-map new.seats seated) ∙ ap (λ (ts : List (Thread Origin)). length ts) a.threads ∙ filled_length ns js (map seated old.seats) ∙ length-map old.seats seated in
     below_back r ns (filled ns js (map seated old.seats)) left new rans (length new.seats) a (subst (λ (n : ℕ). AreBelow n ns) (sym len) m.below)
 
 -- a turn of a board that has neither lines nor entries

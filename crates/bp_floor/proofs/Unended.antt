@@ -1,5 +1,5 @@
 -- Those that go on have not ended.
-use Rattle.std.proofs.Common.{◌≡◌, ℕ, zero, suc, ◌+◌, ◌≤◌, Bool, true, false, not, ◌&&◌, List, [], ◌∷◌, map, refl, sym, ap, ◌∙◌, subst, arith, Some, None, is_none, slice_get, if◌then◌else◌}
+use Rattle.std.proofs.Common.{◌≡◌, ℕ, zero, suc, ◌+◌, ◌≤◌, Bool, true, false, List, [], ◌∷◌, map, refl, sym, ap, ◌∙◌, subst, arith, Some, None, is_none, slice_get, if◌then◌else◌}
 use Rattle.js_meaning.specs.Bodies.{Origin, the_top}
 use Rattle.bp_log.specs.declared.trace.Line.{Line}
 use Rattle.bp_run.specs.Configuration.{Thread, change}
@@ -13,8 +13,8 @@ use Rattle.bp_floor.specs.Seating.{PlainSeat, seated, outcome_in, is_waiting, wh
 use Rattle.bp_floor.specs.Forgetting.{forget, forgotten, AreGoing}
 use Rattle.bp_floor.specs.Kept.{AreFrom, runs_in}
 use Rattle.bp_floor.specs.Lending.{fill, filled}
-use Rattle.bp_floor.proofs.Places.{where_above, zero_add}
-use Rattle.bp_floor.proofs.Forgetting.{turn_stands}
+use Rattle.bp_floor.proofs.Places.{where_above, zero_add, open_one}
+use Rattle.bp_floor.proofs.Forgetting.{turn_stands, forget_ended_at}
 
 -- each of these numbers is that of one that is so
 AllAt : (PlainSeat → Bool) → ℕ → List PlainSeat → List ℕ → Type 0
@@ -46,13 +46,9 @@ all_at f n [] = tt
 all_at f n (x ∷ ss) =
     all_step (f x) f n x ss (where_from f (suc n) ss) refl (all_later f n x ss (where_from f (suc n) ss) (where_above f (suc n) ss) (all_at f (suc n) ss))
 
-open_wait : (b o : Bool) → (not b && o) ≡ true → b ≡ false
-open_wait true o h = absurd (cc)
-open_wait false o h = refl
-
 seat_going : (ss : List PlainSeat) (i : ℕ) → ((s : PlainSeat) → slice_get ss i ≡ Some s → is_waiting s ≡ true) → (t : Thread Origin) → slice_get (map seated ss) i ≡ Some t → t.ended ≡ false
 seat_going [] i h t e = absurd (cc)
-seat_going (s ∷ ss) zero h t e = let f : seated s ≡ t = cc in ap (λ (x : Thread Origin). x.ended) (sym f) ∙ open_wait s.ended (is_none (outcome_in s.job)) (h s refl)
+seat_going (s ∷ ss) zero h t e = let f : seated s ≡ t = cc in ap (λ (x : Thread Origin). x.ended) (sym f) ∙ open_one s.ended (is_none (outcome_in s.job)) (h s refl)
 seat_going (s ∷ ss) (suc i) h t e = seat_going ss i h t e
 
 all_going : (ss : List PlainSeat) (ns : List (Entry Origin)) → AllAt is_waiting 0 ss (runs_in ns) → AreGoing (map seated ss) ns
@@ -90,13 +86,9 @@ filled_going (Runs i ∷ ns) (j ∷ js) ts ms h = filled_going ns js (change (fi
 filled_going (Stops i None ∷ ns) (j ∷ js) ts ms h = filled_going ns (j ∷ js) ts ms h
 filled_going (Stops i (Some b) ∷ ns) (j ∷ js) ts ms h = filled_going ns js ts ms h
 
-forget_ended_at : (b : Bool) (t : Thread Origin) → t.ended ≡ b → (forget the_top t).ended ≡ t.ended
-forget_ended_at true t h = rw h refl
-forget_ended_at false t h = rw h refl
-
 ended_forgotten : (ts : List (Thread Origin)) (i : ℕ) → ((t : Thread Origin) → slice_get (map (forget the_top) ts) i ≡ Some t → t.ended ≡ false) → (t : Thread Origin) → slice_get ts i ≡ Some t → t.ended ≡ false
 ended_forgotten [] i h t e = absurd (cc)
-ended_forgotten (x ∷ ts) zero h t e = let f : x ≡ t = cc in ap (λ (y : Thread Origin). y.ended) (sym f) ∙ sym (forget_ended_at x.ended x refl) ∙ h (forget the_top x) refl
+ended_forgotten (x ∷ ts) zero h t e = let f : x ≡ t = cc in ap (λ (y : Thread Origin). y.ended) (sym f) ∙ sym (forget_ended_at the_top x.ended x refl) ∙ h (forget the_top x) refl
 ended_forgotten (x ∷ ts) (suc i) h t e = ended_forgotten ts i h t e
 
 pub going_forgotten : (ts : List (Thread Origin)) (ns : List (Entry Origin)) → AreGoing (map (forget the_top) ts) ns → AreGoing ts ns

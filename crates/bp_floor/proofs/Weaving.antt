@@ -2,6 +2,7 @@
 use Rattle.std.proofs.Common.{◌≡◌, ℕ, zero, suc, ◌+◌, ◌<◌, true, false, List, [], ◌∷◌, ◌++◌, length, map, drop, refl, sym, ap, ◌∙◌, arith, append_assoc, Option, Some, None, slice_get, nat_lt}
 use Rattle.std.specs.List.{filter_map}
 use Rattle.std.proofs.lemmas.Bool.{lt-ltb, le-ltb}
+use Rattle.std.proofs.lemmas.Option.{none-some}
 use Rattle.bp_run.specs.Choosing.{Touched}
 use Rattle.bp_run.specs.Choosing.Touched.{Moves, Interrupts}
 use Rattle.bp_run.specs.Numbers.{number_in}
@@ -114,13 +115,10 @@ weave_interrupts moved interrupted m i n k done xs low f (x ∷ rest) all c r a 
       stops = drop_next i interrupted k (filter_map interrupt_of rest) (b ∙ ap (λ (y : Touched). filter_map interrupt_of (y ∷ rest)) e);
     }
 
-none_some : (x : Touched) → None ≡ Some x → ⊥
-none_some x h = absurd (cc)
-
 weave_ends : (moved interrupted : List ℕ) (m i n : ℕ) → n < length moved + length interrupted → first_touch (slice_get moved m) (slice_get interrupted i) ≡ None →
     (rest : List Touched) → n + length rest ≡ length moved + length interrupted → Rises (map number_in rest) → drop m moved ≡ filter_map move_of rest → drop i interrupted ≡ filter_map interrupt_of rest → ⊥
 weave_ends moved interrupted m i n low f [] c r a b = omega (arith, low, c)
-weave_ends moved interrupted m i n low f (x ∷ rest) c r a b = none_some x (sym f ∙ next_is moved interrupted m i x rest r a b)
+weave_ends moved interrupted m i n low f (x ∷ rest) c r a b = none-some x (sym f ∙ next_is moved interrupted m i x rest r a b)
 
 pub weaves_moves : (reach : Reach) (m i n k : ℕ) (done : List Touched) → Weaves reach m i n done → n < length reach.moved.items + length reach.interrupted.items →
     first_touch (slice_get reach.moved.items m) (slice_get reach.interrupted.items i) ≡ Some (Moves k) → Weaves reach (suc m) i (suc n) (done ++ Moves k ∷ [])

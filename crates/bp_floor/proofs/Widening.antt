@@ -9,9 +9,9 @@ use Rattle.bp_run.specs.Bodies.Effect.{Says, Enqueue, Register, Handler}
 use Rattle.bp_run.specs.Bodies.Outcome.{Stopped, Ended, Broken, Violated, Spent}
 use Rattle.bp_run.specs.Settling.{Entry, Pair, Ran, unless_at, unless_over, stopped, queued, registered, with_effect, with_effects, with_end, with_outcome, with_part, merged, place_of}
 use Rattle.bp_run.specs.Settling.Entry.{The_top, Runs, Stops}
+use Rattle.bp_run.proofs.Turns.{length-change}
 use Rattle.bp_floor.specs.Parts.{unstated, unstated_part, unstated_ran}
 use Rattle.bp_floor.specs.Kept.{IsBelow}
-use Rattle.bp_floor.proofs.Lists.{change_length}
 
 pub record Wider {O : Type 0} (p q : Pair O) : Type 0 where
   pub threads : length p.stand.threads ≤ length q.stand.threads
@@ -52,7 +52,7 @@ wider_effects at (x ∷ xs) p =
 
 wider_end : {O : Type 0} (n : Entry O) (p : Pair O) → Wider p (with_end n p)
 wider_end The_top p = wider_same p p refl
-wider_end (Runs i) p = wider_same p (with_end (Runs i) p) (change_length (λ t. record t { ended = true }) i p.stand.threads)
+wider_end (Runs i) p = wider_same p (with_end (Runs i) p) (length-change (λ t. record t { ended = true }) i p.stand.threads)
 wider_end (Stops i e) p = wider_same p (with_end (Stops i e) p) refl
 
 wider_outcome : {O S : Type 0} (n : Entry O) (x : Outcome S) (p : Pair O) → Wider p (with_outcome n x p)

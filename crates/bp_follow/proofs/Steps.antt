@@ -2,6 +2,7 @@
 use Rattle.std.proofs.Common.{◌≡◌, ℕ, ◌<◌, Bool, true, false, ◌&&◌, nat_eq, nat_lt, List, [], ◌∷◌, ◌++◌, length, refl, ap, sym, ◌∙◌, subst, arith, Option, Some, None, Ok, Err, length-append}
 use Rattle.std.specs.Prelude.{Result, option_to_list}
 use Rattle.std.specs.List.{list_any}
+use Rattle.js_data.proofs.Shared.{one_answer}
 use Rattle.js_meaning.specs.Bodies.{Origin}
 use Rattle.bp_log.specs.Records.{is_complete}
 use Rattle.bp_log.specs.declared.limits.TheConstants.{MOST_WAITING}
@@ -11,6 +12,7 @@ use Rattle.bp_log.specs.declared.record.Record.{Record}
 use Rattle.bp_log.specs.declared.record.Record.TheVariants.{In, Bad, Eof, Sel, End}
 use Rattle.bp_log.specs.declared.trace.Line.{Line}
 use Rattle.bp_log.specs.declared.verdict.Verdict.{Verdict}
+use Rattle.bp_log.proofs.Complete.{incomplete_on}
 use Rattle.bp_run.specs.Configuration.{Configuration}
 use Rattle.bp_run.specs.Settling.{Entry, Pair}
 use Rattle.bp_run.specs.Story.{Next, has_room, over_with, record_of, story}
@@ -33,9 +35,6 @@ use Rattle.bp_follow.specs.Courses.{Course, code_in, coming, led}
 use Rattle.bp_follow.specs.Following.{Runs, IsOnWay, StaysAt, IsThere, IsSomewhere, IsSaidBy, enters, onto, Makes, Compared, Followed}
 use Rattle.bp_follow.proofs.Tales.{one_record, one_more, more_lines, MakesOther, leads_nowhere, leads_nowhere_over, verdict_next, reads_after}
 
-same_some : {A : Type 0} (x : Option A) (c d : A) → x ≡ Some c → x ≡ Some d → c ≡ d
-same_some x c d h k = cc
-
 -- ---- where an arbiter is
 
 -- at rest its records are those of the course, whose lines were taken
@@ -57,7 +56,7 @@ recounts_course c a r e = recounts_in (code_in c) c.options a c.told r.code r.op
 
 pub told_at : (c : Course) (a : PlainArbiter) (d : Configuration Origin) → Runs c a → a.records ≡ c.records → Recounts a d → d ≡ c.told
 told_at c a d r e h =
-    same_some (story (code_in c) c.options a.records) d c.told (recounts_at (code_in c) c.options a d r.code r.options h) (ap (λ (rs : List Record). story (code_in c) c.options rs) e ∙ r.told)
+    one_answer (story (code_in c) c.options a.records) d c.told (recounts_at (code_in c) c.options a d r.code r.options h) (ap (λ (rs : List Record). story (code_in c) c.options rs) e ∙ r.told)
 
 reading_at : (c : Course) (a : PlainArbiter) → IsThere c a → a.phase ≡ Rest → c.told.reading ≡ a.reading
 reading_at c a t e =
@@ -93,29 +92,6 @@ enters_same c a (End v) t f shows = refl
 
 -- ---- one more record
 
-abbrev pub is_end : Record → Bool
-is_end (In j e) = false
-is_end (Bad j n) = false
-is_end (Eof j) = false
-is_end (Sel e) = false
-is_end (End v) = true
-
-one_incomplete : (r : Record) → is_end r ≡ false → is_complete (r ∷ []) ≡ false
-one_incomplete (In j e) h = refl
-one_incomplete (Bad j n) h = refl
-one_incomplete (Eof j) h = refl
-one_incomplete (Sel e) h = refl
-one_incomplete (End v) h = absurd (cc)
-
-incomplete_on : (rs : List Record) (r : Record) → is_end r ≡ false → is_complete (rs ++ r ∷ []) ≡ false
-incomplete_on [] r h = one_incomplete r h
-incomplete_on (In j f ∷ rs) r h = incomplete_on rs r h
-incomplete_on (Bad j n ∷ rs) r h = incomplete_on rs r h
-incomplete_on (Eof j ∷ rs) r h = incomplete_on rs r h
-incomplete_on (Sel f ∷ rs) r h = incomplete_on rs r h
-incomplete_on (End v ∷ []) r h = one_incomplete r h
-incomplete_on (End v ∷ s ∷ rs) r h = incomplete_on (s ∷ rs) r h
-
 module _ (c : Course) (a b : PlainArbiter) (r : Record) (runs : Runs c a) (code : arbiter.code_in b ≡ arbiter.code_in a) (options : options_in b ≡ options_in a) (records : b.records ≡ c.records ++ r ∷ [])
     (unlent : is_lent b.phase ≡ false) (stands : StandsAfter b c.told.stand.lines) where
   abbrev told : Configuration Origin
@@ -129,7 +105,7 @@ module _ (c : Course) (a b : PlainArbiter) (r : Record) (runs : Runs c a) (code 
   led_is : led c r ≡ Some told
   led_is = sym (one_more (code_in c) c.options c.records c.told r runs.told runs.going) ∙ story_is
 
-  way_on : is_end r ≡ false → IsOnWay (onto c r told) c.told.stand.lines b
+  way_on : is_complete (r ∷ []) ≡ false → IsOnWay (onto c r told) c.told.stand.lines b
   way_on h =
       let m = more_lines (code_in c) c.options c.records c.told told r runs.told story_is in
       record {
@@ -202,7 +178,7 @@ other_than_none : (x : Next) (r : Record) → record_of x ≡ None → MakesOthe
 other_than_none x r h = λ made k e. absurd (cc)
 
 other_than : (x : Next) (made r : Record) → record_of x ≡ Some made → ¬ (made ≡ r) → MakesOther x r
-other_than x made r h n = λ other k e. n (same_some (record_of x) made other h k ∙ e)
+other_than x made r h n = λ other k e. n (one_answer (record_of x) made other h k ∙ e)
 
 pub unlent_after : (k : Picked) (ns : List (Entry Origin)) → is_lent (phase_after k ns) ≡ false
 unlent_after picked.Moved [] = refl

@@ -13,7 +13,7 @@ use Rattle.bp_log.specs.declared.verdict.Verdict.{Verdict}
 use Rattle.bp_log.proofs.Equality.{verdict_path}
 use Rattle.js_data.proofs.SameEvent.{same_event-sound}
 use Rattle.std.proofs.lemmas.List.Folds.{list_any-append}
-use Rattle.std.proofs.lemmas.Bool.{and_right, and_left, or_cases}
+use Rattle.std.proofs.lemmas.Bool.{and_right, and_left, or_cases, or_right}
 use Rattle.bp_run.specs.Bodies.{Code}
 use Rattle.bp_run.specs.Configuration.{Configuration, below}
 use Rattle.bp_run.specs.Settling.{initial}
@@ -143,15 +143,7 @@ below_any (suc n) j h =
 
 any_kept : (q p : ℕ → Bool) (x : ℕ) (xs : List ℕ) (b : Bool) → (list_any q (filter p xs) ≡ true → list_any q xs ≡ true) → list_any q (if b then x ∷ filter p xs else filter p xs) ≡ true → (q x || list_any q xs) ≡ true
 any_kept q p x xs true ih h = elim (or_cases (q x) (list_any q (filter p xs)) h) [ inl k ↦ rw k refl | inr k ↦ or_right (q x) (list_any q xs) (ih k) ]
-  where
-    or_right : (a b : Bool) → b ≡ true → (a || b) ≡ true
-    or_right true b h = refl
-    or_right false b h = h
-any_kept q p x xs false ih h = or_also (q x) (list_any q xs) (ih h)
-  where
-    or_also : (a b : Bool) → b ≡ true → (a || b) ≡ true
-    or_also true b h = refl
-    or_also false b h = h
+any_kept q p x xs false ih h = or_right (q x) (list_any q xs) (ih h)
 
 any_filter : (q p : ℕ → Bool) (xs : List ℕ) → list_any q (filter p xs) ≡ true → list_any q xs ≡ true
 any_filter q p [] h = h

@@ -1,44 +1,24 @@
 -- What the thread of an injector gives back may move to another thread.
 use denote.RattleType.{RattleType}
-use denote.Struct.Tuple.{Tuple, tuple_type}
-use denote.Struct.Field.{row_field}
 use denote.Param.Send.{IsSend, sendable}
-use denote.Param.SendFields.{declared_send, variants_send, as_row_send}
-use mathlib.Core.List.{[], ◌∷◌}
+use denote.Param.SendFields.{declared_send, variants_send}
 use Rattle.std.specs.contracts.alloc.Global as Heap
 use Rattle.std.specs.contracts.impls.GlobalAllocator.TheImpl.{ghosts}
 use Rattle.std.proofs.option.Option.TheSendSync as option
-use Rattle.std.proofs.Crossing.{crosses, Vec-send, send as heap_send, frees}
+use Rattle.std.proofs.Crossing.{send as heap_send, frees}
 use Rattle.rtrb.specs.contracts.consumer.Consumer as Consumer
 use Rattle.rtrb.specs.contracts.AnyItems as Any
 use Rattle.rtrb.specs.contracts.AnyItemsProtocol.TheImpl as any
 use Rattle.rtrb.specs.declared.Protocol as Protocol
 use Rattle.rtrb.proofs.consumer.Consumer.TheSendSync as consumer
 use Rattle.rtrb.proofs.producer.Producer.TheSendSync as producer
-use Rattle.js_data.specs.contracts.text.Text as Text
-use Rattle.js_data.specs.contracts.event.Event as Event
-use Rattle.js_data.specs.contracts.data.Data as Data
-use Rattle.js_data.proofs.text.Text.TheSendSync as text
-use Rattle.js_data.proofs.whole.Whole.TheSendSync as whole
-use Rattle.js_data.proofs.data.Data.TheLaws.TheKnot as data_knot
+use Rattle.js_data.proofs.Crosses.{event_send}
 use Rattle.bp_log.specs.contracts.item.Item as Item
 use Rattle.bp_lanes.specs.contracts.ends.Mouth as Mouth
 use Rattle.bp_feeds.specs.contracts.feed.Feed as Feed
 use Rattle.bp_feeds.proofs.line_reader.LineReader.TheSendSync as reader
 use Rattle.bp_inject.proofs.injecting.Injected.TheSendSync as injected
 use Rattle.bp_inject.specs.contracts.beside.Turned as Turned
-
-text_send : IsSend Text.the_row
-text_send = search (sendable, crosses, text.the_send)
-
-pair_send : (h : RattleType) → IsSend h → IsSend (Tuple (Text.the_row ∷ h ∷ []))
-pair_send h s = declared_send (tuple_type (Text.the_row ∷ h ∷ [])) (as_row_send (row_field Text.the_row) text_send, (as_row_send (row_field h) s, tt))
-
-data_send : IsSend (Data.the_field).row
-data_send = data_knot.send-Data (search sendable) (search (sendable, whole.the_send)) (search (sendable, text_send)) Vec-send (λ h s. Vec-send _ (pair_send h s))
-
-event_send : IsSend Event.the_row
-event_send = search (sendable, crosses, data_send, text_send) depth 18
 
 item_send : IsSend Item.the_row
 item_send = variants_send Item.enum ((event_send, tt), ((search sendable, tt), (tt, (tt, tt))))

@@ -13,7 +13,7 @@ use Rattle.js_lexer.specs.Bytes.{begins, is_digit, is_name_start}
 use Rattle.js_lexer.specs.Gaps.{ends_line, line_ends}
 use Rattle.js_lexer.specs.Numbers.{digit_value, is_digit_of, digits_size, digits_value, has_base, base_of, number_size, number_value}
 use Rattle.js_lexer.specs.Front.{token, front, number_before}
-use Rattle.js_lexer.proofs.Tests.{if-true, if-false}
+use Rattle.js_data.proofs.Shared.{if_true, if_false}
 
 abbrev pub AreDigits : List ℕ → Type 0
 AreDigits [] = Unit {0}
@@ -29,7 +29,7 @@ no_start : (d : ℕ) → IsInRange 48 57 d → is_name_start d ≡ false
 no_start d h = grind (arith, nat_tests)
 
 value : (d : ℕ) → IsInRange 48 57 d → digit_value d ≡ d - 48
-value d h = if-true _ _ _ (digit d h)
+value d h = if_true _ _ _ (digit d h)
 
 tenth : (d : ℕ) → IsInRange 48 57 d → is_digit_of 10 d ≡ true
 tenth d h = let e = value d h in grind (arith, nat_tests)
@@ -56,16 +56,16 @@ module _ (r : List ℕ) where
 
   size : (ds : List ℕ) → AreDigits ds → digits_size 10 (ds ++ 59 ∷ r) ≡ length ds
   size [] h = refl
-  size (d ∷ ds) h = if-true _ _ _ (tenth d h.0) ∙ ap suc (size ds h.1)
+  size (d ∷ ds) h = if_true _ _ _ (tenth d h.0) ∙ ap suc (size ds h.1)
 
   value_of : (ds : List ℕ) (n : ℕ) → AreDigits ds → digits_value 10 n (ds ++ 59 ∷ r) ≡ digits_value 10 n ds
   value_of [] n h = refl
-  value_of (d ∷ ds) n h = if-true _ _ _ (tenth d h.0) ∙ value_of ds (10 * n + digit_value d) h.1 ∙ sym (if-true _ _ _ (tenth d h.0))
+  value_of (d ∷ ds) n h = if_true _ _ _ (tenth d h.0) ∙ value_of ds (10 * n + digit_value d) h.1 ∙ sym (if_true _ _ _ (tenth d h.0))
 
 folded : (n c : ℕ) (cs : List ℕ) → IsInRange 48 57 c → digits_value 10 n (c ∷ cs) ≡ digits_value 10 (n * 10 + (c - 48)) cs
 folded n c cs h =
     let e : 10 * n + digit_value c ≡ n * 10 + (c - 48) = omega (arith, value c h) in
-    if-true _ _ _ (tenth c h) ∙ ap (λ m. digits_value 10 m cs) e
+    if_true _ _ _ (tenth c h) ∙ ap (λ m. digits_value 10 m cs) e
 
 model : IsNumeralModel AreDigits (digits_value 10 0)
 model = numerals_by_fold AreDigits digits_test (digits_value 10) (record { empty = λ n. refl; more = folded })
@@ -83,7 +83,7 @@ second b s c z l [] h k = refl
 second b s c z l (x ∷ xs) h k = rw (h, k) (middle (nat_eq z 48) (is_digit_of b x))
 
 ten_mark : (z : ℕ) (xs : List ℕ) → base_of (z ∷ (59 ∷ xs)) ≡ 10
-ten_mark z xs = if-false _ _ _ (second 16 120 88 z 59 xs refl refl) ∙ if-false _ _ _ (second 8 111 79 z 59 xs refl refl) ∙ if-false _ _ _ (second 2 98 66 z 59 xs refl refl)
+ten_mark z xs = if_false _ _ _ (second 16 120 88 z 59 xs refl refl) ∙ if_false _ _ _ (second 8 111 79 z 59 xs refl refl) ∙ if_false _ _ _ (second 2 98 66 z 59 xs refl refl)
 
 ten_digit : (z l : ℕ) (xs : List ℕ) → IsInRange 48 57 l → base_of (z ∷ (l ∷ xs)) ≡ 10
 ten_digit z l xs h =
@@ -105,7 +105,7 @@ of_value : (r : List ℕ) (d : ℕ) (ds : List ℕ) (w : ℕ) → AreDigits (d �
 of_value r d ds w h long is small =
     let bs : List ℕ = d ∷ (ds ++ 59 ∷ r) in
     let fits : nat_lt 9007199254740991 (number_value bs) ≡ false = rw is (grind (arith, nat_tests)) in
-    if-false _ _ _ (no_start d h.0) ∙ if-true _ _ _ (digit d h.0) ∙ if-false _ _ _ fits ∙
+    if_false _ _ _ (no_start d h.0) ∙ if_true _ _ _ (digit d h.0) ∙ if_false _ _ _ fits ∙
     before_mark (base_of bs) (number_value bs) (number_size bs) w (length (d ∷ ds)) bs r (ten r d ds h.1) is long (drop-append_seam (d ∷ ds) (59 ∷ r))
 
 -- the first of them is not 0
@@ -113,7 +113,7 @@ numbered : (r : List ℕ) (d : ℕ) (ds : List ℕ) → AreDigits (d ∷ ds) →
     front (d ∷ (ds ++ 59 ∷ r)) ≡ token (Number (pos (digits_value 10 0 (d ∷ ds)))) (length (d ∷ ds))
 numbered r d ds h some small =
     let zero_no : nat_eq d 48 ≡ false = grind (arith, nat_tests) in
-    of_value r d ds (digits_value 10 0 (d ∷ ds)) h (rw (ten r d ds h.1) (if-false _ _ _ zero_no ∙ size r (d ∷ ds) h)) (rw (ten r d ds h.1) (if-false _ _ _ zero_no ∙ value_of r (d ∷ ds) 0 h)) small
+    of_value r d ds (digits_value 10 0 (d ∷ ds)) h (rw (ten r d ds h.1) (if_false _ _ _ zero_no ∙ size r (d ∷ ds) h)) (rw (ten r d ds h.1) (if_false _ _ _ zero_no ∙ value_of r (d ∷ ds) 0 h)) small
 
 -- 0 alone
 zero_alone : (r : List ℕ) → front (48 ∷ 59 ∷ r) ≡ token (Number (pos 0)) 1

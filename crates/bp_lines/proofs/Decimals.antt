@@ -1,5 +1,5 @@
 -- Numbers that are parsed.
-use Rattle.std.proofs.Common.{◌≡◌, ◌≢◌, ℕ, ◌<◌, ◌≤◌, ◌^◌, true, false, List, [], ◌∷◌, length, get_or, Some, None, Result, Ok, Err, refl, arith}
+use Rattle.std.proofs.Common.{◌≡◌, ◌≢◌, ℕ, ◌<◌, ◌≤◌, ◌^◌, true, false, List, length, get_or, Some, None, Result, Ok, Err, refl, arith}
 use Rattle.std.specs.Prelude.{◌&&◌, nat_le}
 use Rattle.std.specs.Result.{OkIff}
 use Rattle.std.specs.Str.{all_ascii_digits, IsUtf8}
@@ -9,17 +9,13 @@ use Rattle.std.proofs.lemmas.Str.Parse.{parse_plain}
 use Rattle.std.proofs.lemmas.Str.{IsUtf8-from_ascii}
 use Rattle.std.proofs.lemmas.Fmt.{IsAscii-from_digits}
 use Rattle.bp_reading.specs.Words.{number_at, is_numeral, value_on, is_front_zero}
-use Rattle.bp_reading.proofs.Numbers.{own, numeral_parts, Numeral}
+use Rattle.bp_reading.proofs.Numbers.{own, numeral_parts, Numeral, numeral_of}
 
 pub number_none : (most : ℕ) (ds : List ℕ) → (Numeral ds → value_on 0 ds ≤ most → ⊥) → number_at most ds ≡ None
 number_none most ds h =
     let no : (is_numeral ds && nat_le (value_on 0 ds) most) ≡ false =
     false_from_ne_true _ (λ t. let p = and_parts _ _ t in h (numeral_parts ds p.0) (leb-true _ _ p.1)) in
     rw no refl
-
-numeral_of : (ds : List ℕ) → 0 < length ds → all_ascii_digits ds ≡ true → is_front_zero ds ≡ false → is_numeral ds ≡ true
-numeral_of [] n h z = absurd (omega (arith, n))
-numeral_of (c ∷ cs) n h z = rw (h, z) refl
 
 pub number_some : (most n : ℕ) (ds : List ℕ) → 0 < length ds → all_ascii_digits ds ≡ true → is_front_zero ds ≡ false → n ≡ value_on 0 ds → n ≤ most → number_at most ds ≡ Some n
 number_some most n ds a b c e h = rw (numeral_of ds a b c, ← e, le-leb n most h) refl

@@ -1,5 +1,5 @@
 -- Going over bytes.
-use Rattle.std.proofs.Common.{◌≡◌, ◌≢◌, ℕ, suc, ◌+◌, ◌<◌, ◌≤◌, Bool, true, false, List, [], ◌∷◌, ◌++◌, length, get_or, take, drop, Option, Some, None, refl, sym, ap, ◌∙◌, inl, inr, arith, append-nil}
+use Rattle.std.proofs.Common.{◌≡◌, ◌≢◌, ℕ, suc, ◌+◌, ◌<◌, ◌≤◌, Bool, true, false, List, [], ◌∷◌, ◌++◌, length, get_or, take, drop, Some, None, refl, sym, ap, ◌∙◌, inl, inr, arith, append-nil}
 use Rattle.std.specs.Prelude.{◌==◌, ◌&&◌, not}
 use Rattle.std.proofs.Math.Seq.{drop-cons, take-suc, take-append_seam}
 use Rattle.std.proofs.lemmas.Bool.Decides.{eqb_tells}
@@ -10,22 +10,11 @@ use Rattle.bp_reading.proofs.Again.{quote_parts}
 use Rattle.std.proofs.lemmas.List.{drop_all}
 use Rattle.std.proofs.lemmas.Option.{same_Some}
 use Rattle.bp_reading.specs.Words.{behind, around, onto_front, to_quote, quoted_front}
-
-abbrev pub onto_all : List ℕ → Option (List ℕ × List ℕ) → Option (List ℕ × List ℕ)
-onto_all [] o = o
-onto_all (b ∷ bs) o = onto_front b (onto_all bs o)
-
-onto_all_is : (bs x y : List ℕ) → onto_all bs (Some (x, y)) ≡ Some (bs ++ x, y)
-onto_all_is [] x y = refl
-onto_all_is (b ∷ bs) x y = ap (onto_front b) (onto_all_is bs x y)
+use Rattle.bp_reading.proofs.Quotes.{onto_all_is, onto_all-append, onto_all}
 
 onto_all_none : (bs : List ℕ) → onto_all bs None ≡ None
 onto_all_none [] = refl
 onto_all_none (b ∷ bs) = ap (onto_front b) (onto_all_none bs)
-
-onto_all-append : (bs cs : List ℕ) (o : Option (List ℕ × List ℕ)) → onto_all (bs ++ cs) o ≡ onto_all bs (onto_all cs o)
-onto_all-append [] cs o = refl
-onto_all-append (b ∷ bs) cs o = ap (onto_front b) (onto_all-append bs cs o)
 
 -- ---- around
 

@@ -1,3 +1,4 @@
+pub mod Complete
 pub mod Equality
 mod Plain
 pub mod Rows

@@ -21,4 +21,5 @@ pub record AreOptions (o : PlainOptions) : Type 0 where
 
 -- where nothing is said
 abbrev pub default_options : PlainOptions
-default_options = record { strategy = Simple; seed = 0; budget = 1_000_000; steps = 100_000; injectors = 0 }
+default_options =
+    record { strategy = Simple; seed = 0; budget = 1_000_000; steps = 100_000; injectors = 0 }

@@ -17,7 +17,8 @@ place_text (Thread name) = quoted_text name
 abbrev pub verdict_text : Verdict → List ℕ
 verdict_text (Quiet n) = codes "quiet " ++ decimal n
 verdict_text (Violated place t) = codes "violated " ++ place_text place ++ codes " " ++ quoted_text t
-verdict_text (Fault place line f) = codes "fault " ++ place_text place ++ codes " " ++ decimal line ++ codes " " ++ fault_name f
+verdict_text (Fault place line f) =
+    codes "fault " ++ place_text place ++ codes " " ++ decimal line ++ codes " " ++ fault_name f
 verdict_text (Spent place) = codes "spent " ++ place_text place
 verdict_text (Steps n) = codes "limit steps " ++ decimal n
 verdict_text Queue = codes "limit queue " ++ decimal MOST_WAITING

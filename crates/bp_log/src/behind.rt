@@ -101,7 +101,8 @@ fn push_fault(
     out: &mut String,
 ) -> Result<(), Memory>
     ensures { OnOk result (string_bytes out.new
-        ≡ string_bytes out.old ++ (place_text place.now ++ (codes " " ++ (decimal line ++ (codes " " ++ name.now))))) }
+        ≡ string_bytes out.old
+        ++ (place_text place.now ++ (codes " " ++ (decimal line ++ (codes " " ++ name.now))))) }
 {
     push_place(alloc, place, out)?;
     write!(out, " {line} {name}")
@@ -117,7 +118,8 @@ pub(crate) fn push_numbers(first: u32, second: u32, out: &mut String) -> Result<
 
 /// Puts the word and the number behind.
 pub(crate) fn push_counted(word: &str, number: u64, out: &mut String) -> Result<(), Memory>
-    ensures { OnOk result (string_bytes out.new ≡ string_bytes out.old ++ (word.now ++ decimal number)) }
+    ensures { OnOk result (string_bytes out.new
+        ≡ string_bytes out.old ++ (word.now ++ decimal number)) }
 {
     write!(out, "{word}{number}")
 }

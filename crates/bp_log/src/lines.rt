@@ -93,8 +93,10 @@ pub fn whole_line_of(alloc: Global, line: &Line) -> Result<Text, Memory>
 /// Prints a line of the trace, with its line end. After `Write` a part of it, from its front, was
 /// appended, and after `Memory` nothing.
 pub fn print<K: Sink>(alloc: Global, line: &Line, sink: &mut K) -> Result<(), PrintError>
-    ensures whole { OnOk result (Appends (K.written sink.old) (whole_line line.now) (K.written sink.new)) }
-    ensures front { OnErr result (AppendsFront (K.written sink.old) (whole_line line.now) (K.written sink.new)) }
+    ensures whole { OnOk result
+        (Appends (K.written sink.old) (whole_line line.now) (K.written sink.new)) }
+    ensures front { OnErr result
+        (AppendsFront (K.written sink.old) (whole_line line.now) (K.written sink.new)) }
     ensures nothing { IsErrOf result PrintError.Memory → K.written sink.new ≡ K.written sink.old }
     ensures cause { IsErrOf result PrintError.Write → Rose (K.faults sink.old) (K.faults sink.new) }
     ensures counts { K.faults sink.old ≤ K.faults sink.new }

@@ -13,7 +13,8 @@ use std::alloc::Global;
 /// The limits of the options as text, from the number of the budget on.
 fn limits_of(alloc: Global, options: Options) -> Result<Text, Memory>
     ensures { IfOk result (λ t. t
-        ≡ decimal options.budget ++ (codes "\nsteps " ++ (decimal options.steps ++ (codes "\ninjectors " ++ decimal options.injectors)))) }
+        ≡ decimal options.budget ++ (codes "\nsteps "
+        ++ (decimal options.steps ++ (codes "\ninjectors " ++ decimal options.injectors)))) }
 {
     let budget = options.budget();
     let steps = options.steps();
@@ -24,7 +25,8 @@ fn limits_of(alloc: Global, options: Options) -> Result<Text, Memory>
 /// The strategy and the seed as text, before the limits.
 fn chosen(alloc: Global, strategy: Strategy, seed: u64, limits: &Text) -> Result<Text, Memory>
     ensures { IfOk result (λ t. t
-        ≡ codes "strategy " ++ (strategy_name strategy ++ (codes "\nseed " ++ (decimal seed ++ (codes "\nbudget " ++ limits.now))))) }
+        ≡ codes "strategy " ++ (strategy_name strategy ++ (codes "\nseed "
+        ++ (decimal seed ++ (codes "\nbudget " ++ limits.now))))) }
 {
     let name = strategy.name();
     let limits = limits.as_str();
@@ -57,8 +59,10 @@ fn header_of(alloc: Global, header: &Header) -> Result<Vec<u8>, Memory>
 /// Writes the head of a log, up to the line end behind the program. After `Write` a part of it, from
 /// its front, was appended, and after `Memory` nothing.
 pub fn write_header<K: Sink>(alloc: Global, header: &Header, sink: &mut K) -> Result<(), PrintError>
-    ensures whole { OnOk result (Appends (K.written sink.old) (header_text header.now) (K.written sink.new)) }
-    ensures front { OnErr result (AppendsFront (K.written sink.old) (header_text header.now) (K.written sink.new)) }
+    ensures whole { OnOk result
+        (Appends (K.written sink.old) (header_text header.now) (K.written sink.new)) }
+    ensures front { OnErr result
+        (AppendsFront (K.written sink.old) (header_text header.now) (K.written sink.new)) }
     ensures nothing { IsErrOf result PrintError.Memory → K.written sink.new ≡ K.written sink.old }
     ensures cause { IsErrOf result PrintError.Write → Rose (K.faults sink.old) (K.faults sink.new) }
     ensures counts { K.faults sink.old ≤ K.faults sink.new }
@@ -114,8 +118,10 @@ fn whole_record_of(alloc: Global, entry: &Record) -> Result<Text, Memory>
 /// Writes the line of a record, with its line end. After `Write` a part of it, from its front, was
 /// appended, and after `Memory` nothing.
 pub fn write_record<K: Sink>(alloc: Global, entry: &Record, sink: &mut K) -> Result<(), PrintError>
-    ensures whole { OnOk result (Appends (K.written sink.old) (whole_record entry.now) (K.written sink.new)) }
-    ensures front { OnErr result (AppendsFront (K.written sink.old) (whole_record entry.now) (K.written sink.new)) }
+    ensures whole { OnOk result
+        (Appends (K.written sink.old) (whole_record entry.now) (K.written sink.new)) }
+    ensures front { OnErr result
+        (AppendsFront (K.written sink.old) (whole_record entry.now) (K.written sink.new)) }
     ensures nothing { IsErrOf result PrintError.Memory → K.written sink.new ≡ K.written sink.old }
     ensures cause { IsErrOf result PrintError.Write → Rose (K.faults sink.old) (K.faults sink.new) }
     ensures counts { K.faults sink.old ≤ K.faults sink.new }

@@ -65,11 +65,29 @@ impl Model for Options {
 
     ghost Value = { PlainOptions };
 
-    ghost view = { λ o. record { strategy = o.strategy; seed = o.seed; budget = o.budget; steps = o.steps; injectors = o.injectors } };
+    ghost view = { λ o. record {
+      strategy = o.strategy;
+      seed = o.seed;
+      budget = o.budget;
+      steps = o.steps;
+      injectors = o.injectors;
+    } };
 
-    ghost invariant = { λ o. AreOptions (record { strategy = o.strategy; seed = o.seed; budget = o.budget; steps = o.steps; injectors = o.injectors }) };
+    ghost invariant = { λ o. AreOptions (record {
+      strategy = o.strategy;
+      seed = o.seed;
+      budget = o.budget;
+      steps = o.steps;
+      injectors = o.injectors;
+    }) };
 
-    ghost inverse = { λ p. record { strategy = p.strategy; seed = p.seed; budget = p.budget; steps = p.steps; injectors = p.injectors } };
+    ghost inverse = { λ p. record {
+      strategy = p.strategy;
+      seed = p.seed;
+      budget = p.budget;
+      steps = p.steps;
+      injectors = p.injectors;
+    } };
 }
 
 impl Clone for Options {
@@ -95,7 +113,13 @@ impl Options {
         steps: u32,
         injectors: u32,
     ) -> Option<Options>
-        ensures { let plain : PlainOptions = record { strategy = strategy; seed = seed; budget = budget; steps = steps; injectors = injectors } in
+        ensures { let plain : PlainOptions = record {
+          strategy = strategy;
+          seed = seed;
+          budget = budget;
+          steps = steps;
+          injectors = injectors;
+        } in
             SomeIff result (AreOptions plain) plain }
     {
         let budget_fits = 1 <= budget && budget <= MOST_BUDGET;

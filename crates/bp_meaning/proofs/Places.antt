@@ -3,6 +3,7 @@ use Rattle.std.proofs.Common.{◌≡◌, ℕ, List, [], ◌∷◌, Some, None, r
 use Rattle.std.specs.Prelude.{pos, negsuc, codes}
 use Rattle.js_data.specs.declared.fault.Fault.TheVariants as fault
 use Rattle.js_data.specs.Event.{PlainEvent}
+use Rattle.js_data.proofs.Shared.{named}
 use Rattle.js_tree.specs.declared.tree.Sign.TheVariants.{Minus}
 use Rattle.js_value.specs.Value as v
 use Rattle.js_value.specs.Value.{PlainValue}
@@ -13,7 +14,7 @@ use Rattle.js_program.specs.PlainProgram.{PlainNode}
 use Rattle.js_meaning.specs.State.{Ground}
 use Rattle.js_meaning.specs.Meaning.{within, eval}
 use Rattle.js_meaning.specs.Bodies.{Origin, the_top, function, bare, evaluation}
-use Rattle.js_meaning.proofs.Small.{on, one, whole, statements, program, of_functions, event}
+use Rattle.js_meaning.proofs.Small.{on, one, whole, statements, program, of_functions}
 use Rattle.bp_run.specs.Bodies as run
 use Rattle.bp_meaning.specs.Statements.{statement_of}
 use Rattle.bp_meaning.specs.After.{after, handler, handling}
@@ -21,10 +22,10 @@ use Rattle.bp_meaning.specs.After.{after, handler, handling}
 -- ---- statements
 
 abbrev a : PlainEvent
-a = event (codes "a")
+a = named (codes "a")
 
 abbrev b : PlainEvent
-b = event (codes "b")
+b = named (codes "b")
 
 abbrev one_field : List ℕ → PlainValue → PlainValue
 one_field key x = v.fields (v.field key x v.no_fields)

@@ -4,6 +4,7 @@ use Rattle.std.specs.Prelude.{pos, codes}
 use Rattle.js_data.specs.Data as d
 use Rattle.js_data.specs.Event.{PlainEvent}
 use Rattle.js_data.specs.declared.fault.Fault.TheVariants as fault
+use Rattle.js_data.proofs.Shared.{named}
 use Rattle.js_tree.specs.declared.tree.Operator.TheVariants as op
 use Rattle.js_value.specs.Value as v
 use Rattle.js_value.specs.Value.{PlainSet}
@@ -13,7 +14,7 @@ use Rattle.js_program.specs.PlainProgram.{PlainBody}
 use Rattle.js_meaning.specs.State.{Ground}
 use Rattle.js_meaning.specs.Meaning.{within, eval}
 use Rattle.js_meaning.specs.Bodies.{evaluation}
-use Rattle.js_meaning.proofs.Small.{on, one, whole, slot, statements, of_functions, event}
+use Rattle.js_meaning.proofs.Small.{on, one, whole, slot, statements, of_functions}
 use Rattle.bp_run.specs.Bodies.SetFault.{Broken, Spent, NotTruth}
 use Rattle.bp_meaning.specs.Membership.{member, Membership}
 
@@ -34,10 +35,10 @@ base =
     (predicate 3 0 ∷ predicate 1 4 ∷ predicate 5 7 ∷ statements 0 (10 ∷ []) ∷ record { parameters = 1; slots = 2; captures = 0 ∷ []; vars = []; content = p.one_value 12; line = 1 } ∷ predicate 6 13 ∷ [])
 
 abbrev asked : PlainSet → List ℕ → Membership
-asked set name = member base 20 set (event name)
+asked set name = member base 20 set (named name)
 
 abbrev only : List ℕ → PlainSet
-only name = v.only (event name)
+only name = v.only (named name)
 
 abbrev fun : ℕ → PlainSet
 fun code = v.predicate (codes "p") code v.no_values
@@ -139,15 +140,15 @@ equal_data = refl
 pub other_data : member base 20 (v.only (with_data 1)) (with_data 2) ≡ Ok false
 other_data = refl
 
-pub missing_data : member base 20 (v.only (with_data 1)) (event (codes "x")) ≡ Ok false
+pub missing_data : member base 20 (v.only (with_data 1)) (named (codes "x")) ≡ Ok false
 missing_data = refl
 
 -- each predicate has the whole budget: two of them begin eight nodes, and each alone four
-pub each_has_the_budget : member base 4 (v.and (fun 1) (fun 1)) (event (codes "y")) ≡ Ok true
+pub each_has_the_budget : member base 4 (v.and (fun 1) (fun 1)) (named (codes "y")) ≡ Ok true
 unfolding evaluation eval within
 each_has_the_budget = refl
 
-pub four_are_spent : member base 3 (fun 1) (event (codes "y")) ≡ Err Spent
+pub four_are_spent : member base 3 (fun 1) (named (codes "y")) ≡ Err Spent
 unfolding evaluation eval within
 four_are_spent = refl
 

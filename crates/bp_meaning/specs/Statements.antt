@@ -8,6 +8,7 @@ use Rattle.js_value.specs.Value.{PlainValue, ValueList, ValueFields, PlainSet}
 use Rattle.js_value.specs.Lists.{fields_in}
 use Rattle.js_ops.specs.Members.{field_or_undefined}
 use Rattle.js_value.specs.Sets.{set_of}
+use Rattle.js_value.specs.Parts.{event_in}
 use Rattle.bp_run.specs.Bodies.{Statement}
 
 -- the keys of a statement
@@ -20,10 +21,6 @@ is_key key =
 abbrev pub events_with : Option PlainEvent → Option (List PlainEvent) → Option (List PlainEvent)
 events_with (Some e) (Some es) = Some (e ∷ es)
 events_with _ _ = None
-
-abbrev pub event_in : PlainValue → Option PlainEvent
-event_in (v.event e) = Some e
-event_in _ = None
 
 abbrev pub events_in : ValueList → Option (List PlainEvent)
 events_in v.no_values = Some []

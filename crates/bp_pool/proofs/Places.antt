@@ -1,7 +1,7 @@
 -- Jobs that are taken out of their list and put back, over plain variables.
 use Rattle.std.proofs.Common.{◌≡◌, ◌≢◌, ℕ, zero, drop, add-one, append_assoc, length-append, below_more, suc, ◌+◌, ◌<◌, ◌≤◌, Bool, false, cond, eqb, eq-eqb, ne_eqb, List, [], ◌∷◌, ◌++◌, map, All, length, get_or, set, length-set, get_or-set_same, get_or-set_other, ◌⊎◌, inl, inr, refl, sym, ap, ◌∙◌, subst, arith, Option, Some, None, IsSome, is_some, Result, Ok, Err, IfOk}
 use Rattle.std.proofs.lemmas.Bool.{cases_eq}
-use Rattle.std.proofs.lemmas.List.{length-map, get_or_append_left, get_or-map}
+use Rattle.std.proofs.lemmas.List.{length-map, get_or_append_left, get_or-map, map_push, nil_from_length}
 use Rattle.std.proofs.Math.Seq.{get_or-append_seam}
 use Rattle.std.proofs.lemmas.List.Sums.{sum_by-cons, sum_by-append}
 use Rattle.std.proofs.lemmas.List.Elements.{All-push, All-head, All-tail, All-cons}
@@ -221,10 +221,6 @@ round_seated base jobs done old new a h = record {
 pub seats_within : (base : Ground) (jobs : List Job) (done : List (Option Job)) (seats : List Seat) → AreSeated base jobs done seats → All (λ (s : Seat). s.place < length done) seats
 seats_within base jobs done seats a k d lt = let w = (a.own k d lt).within in let m = a.as_many in omega (arith, w, m)
 
-no_elements : {X : Type 0} (xs : List X) → length xs ≡ 0 → xs ≡ []
-no_elements [] e = refl
-no_elements (x ∷ xs) e = absurd (omega arith)
-
 done_there : (base : Ground) (e : Job) (o : Option Job) → IsOutOrSeated base e o 0 → IsSome o
 done_there base e None h = absurd (omega (arith, h))
 done_there base e (Some x) h = refl
@@ -234,7 +230,7 @@ pub all_there : (base : Ground) (jobs : List Job) (done : List (Option Job)) (se
 all_there base [] done seats a none k o lt = (let m = a.as_many in absurd (omega (arith, lt, m)))
 all_there base (j ∷ js) done seats a none k o lt =
     let m = a.as_many in
-    done_there base (get_or (j ∷ js) k j) (get_or done k o) (subst (λ (l : List Seat). IsOutOrSeated base (get_or (j ∷ js) k j) (get_or done k o) (seats_of k l)) (no_elements seats none) (a.each k j o (omega (arith, lt, m))))
+    done_there base (get_or (j ∷ js) k j) (get_or done k o) (subst (λ (l : List Seat). IsOutOrSeated base (get_or (j ∷ js) k j) (get_or done k o) (seats_of k l)) (nil_from_length seats none) (a.each k j o (omega (arith, lt, m))))
 
 -- and each is carried out
 pub all_out : (base : Ground) (budget : ℕ) (jobs out : List Job) (done : List (Option Job)) (seats : List Seat) → AreSeated base jobs done seats → map (λ (j : Job). Some j) out ≡ done → AreCarriedOut base budget jobs out
@@ -249,10 +245,6 @@ all_out base budget jobs out done seats a is =
     }
 
 -- ---- the list is whole again
-
-map_push : {X Y : Type 0} (f : X → Y) (xs : List X) (x : X) → map f (xs ++ x ∷ []) ≡ map f xs ++ f x ∷ []
-map_push f [] x = refl
-map_push f (y ∷ ys) x = ap (λ l. f y ∷ l) (map_push f ys x)
 
 -- these jobs were gathered, and these places are left
 pub record Gathered (done : List (Option Job)) (jobs : List Job) (rest : List (Option Job)) : Type 0 where

@@ -14,6 +14,7 @@ use Rattle.js_data.specs.Faults.{fault_name}
 use Rattle.js_data.specs.JsonText.{event_text, quoted_text}
 use Rattle.js_data.specs.declared.fault.Fault.{Fault}
 use Rattle.js_data.specs.declared.fault.Fault.TheVariants as fault
+use Rattle.js_data.proofs.Shared.{chained}
 use Rattle.js_json.specs.Json.{event_at}
 use Rattle.bp_log.specs.Texts.{place_text}
 use Rattle.bp_log.specs.Logs.{record_text, strategy_name, strategy_at}
@@ -37,10 +38,6 @@ pub mapped : {A B : Type 0} (f : A → B) (o : Option A) (y : B) → option_map 
 mapped f None y h = absurd (some_none h)
 mapped f (Some x) y h = (x, refl, same_Some (f x) y h)
 
-pub chained : {A B : Type 0} (f : A → Option B) (o : Option A) (y : B) → option_and_then f o ≡ Some y → (x : A) × (o ≡ Some x) × (f x ≡ Some y)
-chained f None y h = absurd (some_none h)
-chained f (Some x) y h = (x, refl, h)
-
 pub either : {A : Type 0} (o p : Option A) (y : A) → option_or o p ≡ Some y → (o ≡ Some y) ⊎ (p ≡ Some y)
 either None p y h = inr h
 either (Some x) p y h = inl h
@@ -53,9 +50,6 @@ chosen false x y z h = inr (refl, h)
 tried : {A : Type 0} (t : Bool) (x : A) (o : Option A) (y : A) → cond t (Some x) o ≡ Some y → ((t ≡ true) × (x ≡ y)) ⊎ (o ≡ Some y)
 tried true x o y h = inl (refl, same_Some x y h)
 tried false x o y h = inr h
-
-pub same_bytes : (a b : List ℕ) → bytes_eq a b ≡ true → a ≡ b
-same_bytes a b h = (bytes_eq-Decides a b).0 h
 
 -- ---- words
 
@@ -106,14 +100,14 @@ event_spelled : (bytes : List ℕ) (e : PlainEvent) → compact_event_at bytes �
 event_spelled bytes e h =
     let a = chained (if_compact bytes) (event_at bytes) e h in
     let b = cond_some (bytes_eq (event_text a.0) bytes) a.0 e a.2 in
-    sym (same_bytes (event_text a.0) bytes b.0) ∙ ap (λ (x : PlainEvent). event_text x) b.1
+    sym ((bytes_eq-Decides (event_text a.0) bytes).0 b.0) ∙ ap (λ (x : PlainEvent). event_text x) b.1
 
 pub text_spelled : (bytes s : List ℕ) → text_at bytes ≡ Some s → bytes ≡ quoted_text s
 text_spelled bytes s h = elim (chosen (is_utf8 bytes) _ _ _ h) [
   | inl good ↦
       let a = chained (if_quoted bytes) (option_and_then as_str (read bytes)) s good.1 in
       let b = cond_some (bytes_eq (quoted_text a.0) bytes) a.0 s a.2 in
-      sym (same_bytes (quoted_text a.0) bytes b.0) ∙ ap (λ (x : List ℕ). quoted_text x) b.1
+      sym ((bytes_eq-Decides (quoted_text a.0) bytes).0 b.0) ∙ ap (λ (x : List ℕ). quoted_text x) b.1
   | inr bad ↦ absurd (some_none bad.1)
 ]
 
@@ -150,7 +144,7 @@ place_spelled bytes p h = elim (either (top_at bytes) (thread_at bytes) p h) [
 ]
 
 named : (name word : List ℕ) (f g : Fault) → word ≡ fault_name f → (bytes_eq name word ≡ true) × (f ≡ g) → name ≡ fault_name g
-named name word f g e h = same_bytes name word h.0 ∙ e ∙ ap (λ (x : Fault). fault_name x) h.1
+named name word f g e h = (bytes_eq-Decides name word).0 h.0 ∙ e ∙ ap (λ (x : Fault). fault_name x) h.1
 
 fault_spelled : (name : List ℕ) (g : Fault) → fault_at name ≡ Some g → name ≡ fault_name g
 fault_spelled name g h =
@@ -201,7 +195,7 @@ fault_spelled name g h =
     ]
 
 titled : (name word : List ℕ) (s t : Strategy) → word ≡ strategy_name s → (bytes_eq name word ≡ true) × (s ≡ t) → name ≡ strategy_name t
-titled name word s t e h = same_bytes name word h.0 ∙ e ∙ ap (λ (x : Strategy). strategy_name x) h.1
+titled name word s t e h = (bytes_eq-Decides name word).0 h.0 ∙ e ∙ ap (λ (x : Strategy). strategy_name x) h.1
 
 pub strategy_spelled : (name : List ℕ) (t : Strategy) → strategy_at name ≡ Some t → name ≡ strategy_name t
 strategy_spelled name t h =

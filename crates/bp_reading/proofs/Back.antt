@@ -1,21 +1,18 @@
 -- The record of a record's text is that record.
-use Rattle.std.proofs.Common.{◌≡◌, ℕ, ◌<◌, ◌≤◌, ◌^◌, true, List, [], ◌∷◌, ◌++◌, Option, Some, None, option_map, option_and_then, refl, sym, ap, ◌∙◌, arith, append-nil, subst, rules}
+use Rattle.std.proofs.Common.{◌≡◌, ℕ, ◌<◌, ◌^◌, true, List, [], ◌∷◌, ◌++◌, Option, Some, None, option_map, option_and_then, refl, sym, ap, ◌∙◌, arith, append-nil, subst}
 use Rattle.std.specs.Prelude.{decimal}
-use Rattle.std.specs.Str.{is_utf8, IsUtf8, bytes_eq}
+use Rattle.std.specs.Str.{is_utf8, IsUtf8}
 use Rattle.std.proofs.lemmas.Str.{IsUtf8-from_is_utf8, is_utf8-from_IsUtf8}
 use Rattle.std.proofs.lemmas.Slice.Eq.{bytes_eq-Decides}
 use Rattle.json.specs.Json as source
 use Rattle.json.specs.Print.{print, print_from, quoted}
-use Rattle.json.specs.Tree as tree
-use Rattle.json.specs.Tree.{json_tokens, HasNumbers}
-use Rattle.json.proofs.Printed.Tokens.{tokens-print}
-use Rattle.json.proofs.Printed.Trees.{ArePrintable-json_tokens, value-json_tokens}
+use Rattle.json.specs.Tree.{json_tokens}
 use Rattle.json.proofs.Printed.Utf8.{IsUtf8-quoted}
 use Rattle.serde_json.specs.Data as json
-use Rattle.serde_json.specs.Read.{of_json, read, max_depth}
+use Rattle.serde_json.specs.Read.{read}
 use Rattle.js_data.specs.Event.{PlainEvent, IsEvent}
 use Rattle.js_data.specs.JsonText.{event_text, quoted_text}
-use Rattle.js_json.proofs.Law.{event_back}
+use Rattle.js_json.proofs.Law.{event_back, read_print}
 use Rattle.js_json.proofs.Escapes.{quoted_is}
 use Rattle.std.specs.Option.{option_or}
 use Rattle.js_data.specs.Faults.{fault_name}
@@ -37,13 +34,6 @@ use Rattle.bp_reading.proofs.Lines.{around_is}
 use Rattle.bp_reading.proofs.Numbers.{number_back, lacks-decimal}
 use Rattle.bp_reading.proofs.Quotes.{to_quote_is}
 
-read_print : (j : source.Json) (d : json.Data) → HasNumbers j → tree.depth j ≤ max_depth → of_json j ≡ Some d → read (print (json_tokens j)) ≡ Some d
-read_print j d n h is =
-    ap (λ o. option_and_then of_json (option_and_then (λ p. source.if_last p.0 p.1) o))
-    (ap (source.value max_depth) (tokens-print (json_tokens j) (ArePrintable-json_tokens j n) ∙ sym (append-nil (json_tokens j)))
-    ∙ value-json_tokens j max_depth [] h)
-    ∙ is
-
 printed : (s : List ℕ) → print (json_tokens (source.string s)) ≡ quoted_text s
 unfolding print_from
 printed s = append-nil (quoted s) ∙ quoted_is s
@@ -51,16 +41,13 @@ printed s = append-nil (quoted s) ∙ quoted_is s
 read_quoted : (s : List ℕ) → read (quoted_text s) ≡ Some (json.string s)
 read_quoted s = ap read (sym (printed s)) ∙ read_print (source.string s) (json.string s) tt (omega arith) refl
 
-same_bytes : (s : List ℕ) → bytes_eq s s ≡ true
-same_bytes s = search (rules, bytes_eq-Decides)
-
 pub text_back : (s : List ℕ) → is_utf8 s ≡ true → text_at (quoted_text s) ≡ Some s
 text_back s h =
     let u : IsUtf8 (quoted_text s) = subst IsUtf8 (quoted_is s) (IsUtf8-quoted s (IsUtf8-from_is_utf8 s h)) in
-    rw (is_utf8-from_IsUtf8 (quoted_text s) u, read_quoted s, same_bytes (quoted_text s)) refl
+    rw (is_utf8-from_IsUtf8 (quoted_text s) u, read_quoted s, (bytes_eq-Decides (quoted_text s) (quoted_text s)).1 refl) refl
 
 event_again : (e : PlainEvent) → IsEvent e → compact_event_at (event_text e) ≡ Some e
-event_again e h = rw (event_back e h, same_bytes (event_text e)) refl
+event_again e h = rw (event_back e h, (bytes_eq-Decides (event_text e) (event_text e)).1 refl) refl
 
 number_32 : (n : ℕ) → n < 2 ^ 32 → number_at most_32 (decimal n) ≡ Some n
 number_32 n h = number_back most_32 n (omega arith) (omega (arith, h))

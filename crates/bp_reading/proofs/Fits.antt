@@ -3,6 +3,7 @@ use Rattle.std.proofs.Common.{◌≡◌, ◌∙◌, ℕ, ◌<◌, ◌≤◌, ◌
 use Rattle.std.specs.Prelude.{nat_le, codes}
 use Rattle.std.proofs.lemmas.Bool.{leb-true, leb-false}
 use Rattle.std.proofs.lemmas.Option.{cond_some}
+use Rattle.js_data.proofs.Shared.{chained}
 use Rattle.bp_log.specs.Options.{PlainOptions, AreOptions}
 use Rattle.bp_log.specs.Header.{PlainHeader}
 use Rattle.bp_log.specs.Logs.{records_text, log_text}
@@ -18,7 +19,7 @@ use Rattle.bp_reading.specs.Laws.{IsHeader, AreRecords, Stands, ReadLogsAreTexts
 use Rattle.bp_reading.proofs.Lines.{some_none}
 use Rattle.bp_reading.proofs.Back.{record_back}
 use Rattle.bp_reading.proofs.Law.{header_then, header_regrouped}
-use Rattle.bp_reading.proofs.Again.{chained, chosen, record_again}
+use Rattle.bp_reading.proofs.Again.{chosen, record_again}
 use Rattle.bp_reading.proofs.Told.{ok_is, bound, said_parts, program_again, header_again, line_short, goes_on, front_finished, front_found, ends_no_line, many_no_line, records_again, complete_again}
 use Rattle.bp_reading.proofs.Ranges.{word_most, record_low}
 

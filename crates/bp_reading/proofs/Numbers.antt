@@ -36,7 +36,7 @@ no_front_zero n small = elim (cases_eq n 0) [
   | inr some ↦ false_from_ne_true _ (λ z. let p = front_zero_is (decimal n) z in omega (arith, p.0, first_decimal n (omega (arith, some)) small))
 ]
 
-numeral_of : (ds : List ℕ) → 0 < length ds → all_ascii_digits ds ≡ true → is_front_zero ds ≡ false → is_numeral ds ≡ true
+pub numeral_of : (ds : List ℕ) → 0 < length ds → all_ascii_digits ds ≡ true → is_front_zero ds ≡ false → is_numeral ds ≡ true
 numeral_of [] n h z = absurd (omega (arith, n))
 numeral_of (c ∷ cs) n h z = rw (h, z) refl
 

@@ -48,7 +48,7 @@ lacks-quoted s = lacks-append 10 (flat_map escaped_byte s) (34 ∷ []) (lacks_bo
 
 -- ---- a quoted text ends where it ends
 
-abbrev onto_all : List ℕ → Option (List ℕ × List ℕ) → Option (List ℕ × List ℕ)
+abbrev pub onto_all : List ℕ → Option (List ℕ × List ℕ) → Option (List ℕ × List ℕ)
 onto_all [] o = o
 onto_all (b ∷ bs) o = onto_front b (onto_all bs o)
 
@@ -63,11 +63,11 @@ passed e (b ∷ bs) r h =
     let p = on_pass (not e && (b == 34)) (passes (not e && (b == 92)) bs) h in
     rw (p.0) (ap (onto_front b) (passed (not e && (b == 92)) bs r p.1))
 
-onto_all_is : (bs x y : List ℕ) → onto_all bs (Some (x, y)) ≡ Some (bs ++ x, y)
+pub onto_all_is : (bs x y : List ℕ) → onto_all bs (Some (x, y)) ≡ Some (bs ++ x, y)
 onto_all_is [] x y = refl
 onto_all_is (b ∷ bs) x y = ap (onto_front b) (onto_all_is bs x y)
 
-onto_all-append : (bs cs : List ℕ) (o : Option (List ℕ × List ℕ)) → onto_all (bs ++ cs) o ≡ onto_all bs (onto_all cs o)
+pub onto_all-append : (bs cs : List ℕ) (o : Option (List ℕ × List ℕ)) → onto_all (bs ++ cs) o ≡ onto_all bs (onto_all cs o)
 onto_all-append [] cs o = refl
 onto_all-append (b ∷ bs) cs o = ap (onto_front b) (onto_all-append bs cs o)
 

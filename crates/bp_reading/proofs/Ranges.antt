@@ -5,10 +5,12 @@ use Rattle.std.specs.Str.{bytes_eq, is_utf8}
 use Rattle.std.proofs.lemmas.Bool.{and_parts, leb-true}
 use Rattle.std.proofs.lemmas.Str.{IsUtf8-from_is_utf8, is_utf8-from_IsUtf8}
 use Rattle.std.proofs.lemmas.Option.{cond_some}
+use Rattle.std.proofs.lemmas.Slice.Eq.{bytes_eq-Decides}
 use Rattle.serde_json.specs.Read.{read}
 use Rattle.js_data.specs.Event.{PlainEvent, event_weight, event_nesting, IsSortedExtra, IsHeldExtra, IsEvent}
 use Rattle.js_data.specs.JsonText.{event_text, quoted_text, extra_text}
 use Rattle.js_data.specs.declared.event.TheConstants.Event as event
+use Rattle.js_data.proofs.Shared.{chained}
 use Rattle.js_json.specs.Json.{event_from, within_limits, event_at}
 use Rattle.js_json.proofs.Ordered.{sorted_read}
 use Rattle.bp_log.specs.declared.limits.TheConstants.{MOST_WAITING, MOST_THREADS, MOST_WEIGHT}
@@ -24,7 +26,7 @@ use Rattle.bp_reading.proofs.Lines.{some_none}
 use Rattle.bp_reading.proofs.Numbers.{number_text}
 use Rattle.bp_reading.proofs.Unquoted.{past_ascii, utf8_unquoted}
 use Rattle.bp_reading.proofs.Held.{held_event}
-use Rattle.bp_reading.proofs.Again.{at_each_record, mapped, chained, either, chosen, spent_parts, text_spelled, same_bytes}
+use Rattle.bp_reading.proofs.Again.{at_each_record, mapped, either, chosen, spent_parts, text_spelled}
 
 -- ---- words
 
@@ -93,7 +95,7 @@ event_low bytes e h =
     let a = chained (if_compact bytes) (event_at bytes) e h in
     let b = cond_some (bytes_eq (event_text a.0) bytes) a.0 e a.2 in
     let c = event_read bytes a.0 a.1 in
-    let text = past_ascii (91 ∷ []) (quoted_text a.0.name ++ extra_text a.0.extra) refl (subst IsUtf8 (sym (same_bytes (event_text a.0) bytes b.0)) c.0) in
+    let text = past_ascii (91 ∷ []) (quoted_text a.0.name ++ extra_text a.0.extra) refl (subst IsUtf8 (sym ((bytes_eq-Decides (event_text a.0) bytes).0 b.0)) c.0) in
     let parts = utf8_unquoted a.0.name (extra_text a.0.extra) text in
     subst IsEvent b.1 (record {
       weight = c.1.weight;

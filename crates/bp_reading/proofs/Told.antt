@@ -5,6 +5,8 @@ use Rattle.std.specs.Str.{bytes_eq}
 use Rattle.std.proofs.lemmas.Bool.Decides.{eqb_tells}
 use Rattle.std.proofs.lemmas.Bool.{false≢true}
 use Rattle.std.proofs.lemmas.Option.{cond_some}
+use Rattle.std.proofs.lemmas.Slice.Eq.{bytes_eq-Decides}
+use Rattle.js_data.proofs.Shared.{chained}
 use Rattle.bp_log.specs.Options.{PlainOptions}
 use Rattle.bp_log.specs.Header.{PlainHeader}
 use Rattle.bp_log.specs.Logs.{record_text, records_text, strategy_name, strategy_at}
@@ -20,7 +22,7 @@ use Rattle.bp_reading.specs.Heads.{Front, nothing, partial, excess, whole, onto,
 use Rattle.bp_reading.specs.Reading.{Stage, after, Says, if_stands, next_record, behind_end, too_many, front_at, Next, found, finished, refused, next_found, next_of, next_at}
 use Rattle.bp_reading.proofs.Spelled.{options_then}
 use Rattle.bp_reading.proofs.Law.{regrouped, header_then}
-use Rattle.bp_reading.proofs.Again.{chained, chosen, same_bytes, behind_spelled, word_spelled, strategy_spelled, record_again}
+use Rattle.bp_reading.proofs.Again.{chosen, behind_spelled, word_spelled, strategy_spelled, record_again}
 
 -- ---- answers taken apart
 
@@ -140,7 +142,7 @@ unfolding version_at
 version_again bytes rest v h =
     let p = said_parts version is_version (line_at MOST_LINE_BYTES bytes) v rest h in
     let q = cond_some (bytes_eq p.0 (codes "bp-log 1")) tt v p.2 in
-    line_spelled bytes MOST_LINE_BYTES p.0 rest p.1 ∙ ap (λ (l : List ℕ). l ++ (10 ∷ rest)) (same_bytes p.0 (codes "bp-log 1") q.0)
+    line_spelled bytes MOST_LINE_BYTES p.0 rest p.1 ∙ ap (λ (l : List ℕ). l ++ (10 ∷ rest)) ((bytes_eq-Decides p.0 (codes "bp-log 1")).0 q.0)
 
 strategy_again : (bytes rest : List ℕ) (s : Strategy) → strategy_line_at bytes ≡ Ok (s, rest) → bytes ≡ codes "strategy " ++ (strategy_name s ++ (10 ∷ rest))
 unfolding strategy_line_at

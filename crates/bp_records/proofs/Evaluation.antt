@@ -5,6 +5,7 @@ use Rattle.std.specs.Str.{bytes_eq}
 use Rattle.js_data.specs.Event.{PlainEvent}
 use Rattle.js_data.specs.declared.fault.Fault.{Fault}
 use Rattle.js_data.specs.declared.fault.Fault.TheVariants as fault
+use Rattle.js_data.proofs.Shared.{OfSome}
 use Rattle.js_tree.specs.declared.tree.Step.{Step}
 use Rattle.js_tree.specs.declared.tree.Fix.{Fix}
 use Rattle.js_tree.specs.declared.tree.Fix.TheVariants as fix
@@ -39,7 +40,7 @@ use Rattle.js_meaning.specs.Expressions.{unary_for, step_for, op_for, op_before,
 use Rattle.js_meaning.specs.Statements.{after_turn, without_value, declares, does_declaration, does_if_else, tests, perhaps, one_turn, turns, each, each_of}
 use Rattle.js_meaning.specs.Meaning.{does, does_node}
 use Rattle.js_meaning.specs.Bodies.{Origin, the_top, function, runs_body}
-use Rattle.bp_records.proofs.Lists.{Each, OfSome, each_append, each_get, each_set, each_take, each_drop, each_replicate, each_map, or_default}
+use Rattle.bp_records.proofs.Lists.{Each, each_append, each_get, each_set, each_take, each_drop, each_replicate, each_map, or_default}
 use Rattle.bp_records.proofs.Short.{IsLight, IsShort, AreShort, IsShortAnswer}
 use Rattle.bp_records.proofs.Outcomes.{AreShortSlots, IsShortEffect, IsShortState, IsShortCompletion, IsShortOutcome, IsShortOrigin}
 use Rattle.bp_records.proofs.Operators.{values_short, list_short, field_short, made_short, text_short, value_of_short, unary_short, member_short, index_short, make_short, method_short}

@@ -1,14 +1,11 @@
 -- What holds of each item of a list.
 use Rattle.std.proofs.Common.{ℕ, zero, suc, List, [], ◌∷◌, ◌++◌, Option, Some, None, map}
 use Rattle.std.specs.Prelude.{take, drop, replicate, slice_get, slice_set, unwrap_or, flat_map}
+use Rattle.js_data.proofs.Shared.{OfSome}
 
 abbrev pub Each : {A : Type 0} → (A → Type 0) → List A → Type 0
 Each P [] = Unit {0}
 Each P (x ∷ xs) = P x × Each P xs
-
-abbrev pub OfSome : {A : Type 0} → (A → Type 0) → Option A → Type 0
-OfSome P None = Unit {0}
-OfSome P (Some x) = P x
 
 module _ {A : Type 0} (P : A → Type 0) where
   pub each_append : (xs ys : List A) → Each P xs → Each P ys → Each P (xs ++ ys)

@@ -15,6 +15,7 @@ use Rattle.js_data.specs.Event.{PlainEvent, event_weight, event_nesting}
 use Rattle.js_data.specs.declared.event.TheConstants.Event as event
 use Rattle.js_data.specs.declared.fault.Fault.{Fault}
 use Rattle.js_data.specs.declared.fault.Fault.TheVariants as fault
+use Rattle.js_data.proofs.Shared.{OfSome}
 use Rattle.js_value.specs.Value as v
 use Rattle.js_value.specs.Value.{PlainValue, PlainSet, ValueList, ValueFields, value_weight, value_nesting, value_text}
 use Rattle.js_value.specs.Lists.{value_list_of, values_in}
@@ -37,7 +38,7 @@ use Rattle.js_ops.specs.Operators.{quotient, rounded_down, floor_quotient, remai
 use Rattle.js_ops.specs.Members.{field_or_undefined, extra_value, event_member, member_of, place_of, index_of}
 use Rattle.js_ops.specs.Making.{put, put_all, event_with, event_of, event_of_parts, predicate_of, predicate_of_parts, make_of, extra_of}
 use Rattle.js_ops.specs.Methods.{list_in, joined, concat_of, on_texts, of_texts, both_sets, of_sets, negate_of, first_set, called_on, method_of}
-use Rattle.bp_records.proofs.Lists.{Each, OfSome, each_append, each_get, each_flat_map, or_default}
+use Rattle.bp_records.proofs.Lists.{Each, each_append, each_get, each_flat_map, or_default}
 use Rattle.bp_records.proofs.Short.{IsShortText, IsLight, IsShort, AreShort, AreShortFields, IsShortAnswer}
 
 -- ---- lists and fields

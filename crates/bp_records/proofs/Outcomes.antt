@@ -1,9 +1,10 @@
 -- Effects, states and outcomes in which no text is longer than a value may be.
 use Rattle.std.proofs.Common.{List, Option}
+use Rattle.js_data.proofs.Shared.{OfSome}
 use Rattle.js_value.specs.Value.{PlainValue}
 use Rattle.js_meaning.specs.State.{Effect, says, enqueues, registers, handles, State, Completion, normal, broke, continued, returned, Outcome, went, broken, violated, spent, stopped}
 use Rattle.js_meaning.specs.Bodies.{Origin, the_top, function}
-use Rattle.bp_records.proofs.Lists.{Each, OfSome}
+use Rattle.bp_records.proofs.Lists.{Each}
 use Rattle.bp_records.proofs.Short.{IsShortText, IsLight, IsShort}
 
 -- slots and constants, some of them not declared yet

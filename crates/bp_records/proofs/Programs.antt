@@ -2,6 +2,7 @@
 use Rattle.std.proofs.Common.{ℕ, zero, suc, ◌+◌, List, [], ◌∷◌, Option, Some, None, map, refl, arith}
 use Rattle.std.specs.Prelude.{slice_get, fold, drop, option_map}
 use Rattle.js_data.specs.Event.{PlainEvent}
+use Rattle.js_data.proofs.Shared.{OfSome}
 use Rattle.js_value.specs.Value as v
 use Rattle.js_value.specs.Value.{PlainValue, PlainSet}
 use Rattle.js_program.specs.declared.builtin.Mode.TheVariants.{Handler}
@@ -21,7 +22,7 @@ use Rattle.bp_run.proofs.Stories.{alone_is}
 use Rattle.bp_meaning.specs.After.{effect_of, stopped_with, outcome_of, part_of, handler_after}
 use Rattle.bp_code.specs.Code.{ground_for, code_of}
 use Rattle.bp_records.specs.Laws.{RecordsStand}
-use Rattle.bp_records.proofs.Lists.{Each, OfSome, each_drop, or_default}
+use Rattle.bp_records.proofs.Lists.{Each, each_drop, or_default}
 use Rattle.bp_records.proofs.Short.{IsLight, IsShort}
 use Rattle.bp_records.proofs.Outcomes.{AreShortSlots, IsShortEffect, AreShortEffects, IsShortState, IsShortOutcome, IsShortOrigin}
 use Rattle.bp_records.proofs.Evaluation.{Keeps, spends_keeps, turns_keeps, node_keeps, body_keeps}

@@ -2,6 +2,7 @@
 use Rattle.std.proofs.Common.{◌≡◌, ℕ, zero, suc, ◌+◌, Bool, true, false, List, [], ◌∷◌, length, Option, Some, None, Ok, Err, map, arith, if◌then◌else◌, ◌==◌, nat_lt}
 use Rattle.std.specs.Prelude.{slice_get, option_map}
 use Rattle.js_data.specs.Event.{PlainEvent}
+use Rattle.js_data.proofs.Shared.{OfSome}
 use Rattle.bp_log.specs.Options.{PlainOptions}
 use Rattle.bp_log.specs.declared.limits.TheConstants.{MOST_WAITING, MOST_THREADS, MOST_WEIGHT}
 use Rattle.bp_log.specs.declared.trace.Line.{Line}
@@ -20,7 +21,7 @@ use Rattle.bp_run.specs.Choosing.{Choice, choice, Touched, reach}
 use Rattle.bp_run.specs.Choosing.Touched.{Moves, Interrupts}
 use Rattle.bp_run.specs.Story.{Next, next, next_unless, next_choice, next_chosen, next_idle, set_verdict, touch, touch_all, step, handler_body, entry_of, stepped, move, weight_after}
 use Rattle.bp_run.specs.Story.Next.{Ends, Selects, Waits}
-use Rattle.bp_records.proofs.Lists.{Each, OfSome, each_append, each_get, each_map}
+use Rattle.bp_records.proofs.Lists.{Each, each_append, each_get, each_map}
 use Rattle.bp_records.proofs.Short.{IsShortText, IsLight}
 use Rattle.bp_records.proofs.Verdicts.{IsShortPlace, IsShortVerdict}
 

@@ -1,6 +1,7 @@
 -- A replay of the log of a run tells the run.
 use Rattle.std.proofs.Common.{◌≡◌, ◌⊎◌, inl, inr, ℕ, List, [], ◌∷◌, ◌++◌, refl, ap, sym, ◌∙◌, subst, append-nil, Option, Some, None, Ok, Err}
-use Rattle.std.specs.Prelude.{Result, option_and_then, option_map}
+use Rattle.std.specs.Prelude.{Result, option_and_then}
+use Rattle.js_data.proofs.Shared.{one_answer}
 use Rattle.js_program.specs.PlainProgram.{PlainProgram}
 use Rattle.js_meaning.specs.Bodies.{Origin}
 use Rattle.bp_base.specs.Pieces.{Appends}
@@ -21,7 +22,7 @@ use Rattle.bp_run.specs.Configuration.{Configuration}
 use Rattle.bp_run.specs.Settling.{initial}
 use Rattle.bp_run.specs.Story.{after_record, story_from, story}
 use Rattle.bp_run.specs.Text.{text}
-use Rattle.bp_run.proofs.Stories.{story_first}
+use Rattle.bp_run.proofs.Stories.{story_first, printed_at}
 use Rattle.bp_floor.specs.Programs.{code_of}
 use Rattle.bp_code.specs.Code.{text_of}
 use Rattle.bp_script.specs.Programs.{IsProgram, IsRefused}
@@ -91,16 +92,9 @@ next_leads l o (Sel e ∷ rs) qs q b c d h k = let f = story_first l o (Sel e) (
 next_leads l o (End v ∷ []) qs q b c d h k = absurd (cc)
 next_leads l o (End v ∷ r ∷ rs) qs q b c d h k = absurd (cc)
 
-told_of : {O : Type 0} (x : Option (Configuration O)) (t : List ℕ) → option_map (λ c. lines_text c.stand.lines) x ≡ Some t → (c : Configuration O) × (x ≡ Some c) × (lines_text c.stand.lines ≡ t)
-told_of None t h = absurd (cc)
-told_of (Some c) t h = (c, refl, cc)
-
 text_told : (program : PlainProgram) (o : PlainOptions) (rs : List Record) (t : List ℕ) → text_of program o rs ≡ Some t → (c : Configuration Origin) × (story (code_of program o) o rs ≡ Some c) × (lines_text c.stand.lines ≡ t)
 unfolding text code_of
-text_told program o rs t h = told_of (story (code_of program o) o rs) t h
-
-pub same_some : {A : Type 0} (x : Option A) (c d : A) → x ≡ Some c → x ≡ Some d → c ≡ d
-same_some x c d h k = cc
+text_told program o rs t h = printed_at (story (code_of program o) o rs) t h
 
 -- ---- how it ends
 
@@ -109,7 +103,7 @@ module _ (c : Course) (rs : List Record) (told : Configuration Origin) (text : L
   all_told : (more : List Record) → rs ≡ c.records ++ more → Says s left more None → (v : Verdict) → next_at s left ≡ finished → verdict_of c.records ≡ Some v → Appends before (text_in c) later → TellsAll rs text before later (Ok v)
   all_told [] e says v f g p =
       let same : rs ≡ c.records = e ∙ append-nil c.records in
-      let here : told ≡ c.told = same_some (story (code_in c) c.options rs) told c.told whole (ap (λ (xs : List Record). story (code_in c) c.options xs) same ∙ told_is) in
+      let here : told ≡ c.told = one_answer (story (code_in c) c.options rs) told c.told whole (ap (λ (xs : List Record). story (code_in c) c.options xs) same ∙ told_is) in
       record {
         verdict = v;
         ended_is = refl;

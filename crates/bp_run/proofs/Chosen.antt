@@ -6,6 +6,7 @@ use Rattle.std.specs.List.{list_any, list_all}
 use Rattle.std.proofs.lemmas.List.Folds.{list_any-append}
 use Rattle.std.proofs.lemmas.Map.Views.{any-filter_same}
 use Rattle.std.proofs.Math.Nat.{mod-lt}
+use Rattle.std.proofs.lemmas.Bool.{or_right}
 use Rattle.js_data.specs.Event.{PlainEvent, same_event}
 use Rattle.js_data.proofs.SameEvent.{same_event-sound, same_event-self}
 use Rattle.bp_log.specs.declared.options.Strategy.{Strategy}
@@ -21,7 +22,7 @@ among e xs = list_any (same_event e) xs
 
 -- ---- candidates are the requested events
 
-abbrev other : PlainEvent → PlainEvent → Bool
+abbrev pub other : PlainEvent → PlainEvent → Bool
 other e f = not (same_event e f)
 
 not_same : (q : PlainEvent → Bool) (e k : PlainEvent) (b : Bool) → q e ≡ false → q k ≡ true → same_event e k ≡ b → not b ≡ true
@@ -48,10 +49,6 @@ among_candidates e ts = any-distinct (same_event e) (flat_map (λ t. t.statement
 
 -- ---- those that nobody blocks
 
-or_true : (a b : Bool) → b ≡ true → (a || b) ≡ true
-or_true true b h = refl
-or_true false b h = h
-
 -- each that is kept is one of the events, and nobody blocks it
 pub record Free {S : Type 0} (has : Has S) (ts : List (Live S)) (es xs : List PlainEvent) : Type 0 where
   pub some : (e : PlainEvent) → among e xs ≡ true → among e es ≡ true
@@ -64,7 +61,7 @@ none_among e h = cc
 free_blocked : {S : Type 0} (has : Has S) (ts : List (Live S)) (e : PlainEvent) (es xs : List PlainEvent) → blocked has ts e ≡ Ok true → Free has ts es xs → Free has ts (e ∷ es) xs
 free_blocked has ts e es xs h f =
     record {
-      some = λ x k. or_true (same_event x e) (among x es) (f.some x k);
+      some = λ x k. or_right (same_event x e) (among x es) (f.some x k);
       free = f.free;
       all = λ x k. by_case x (same_event x e) refl k;
     }
@@ -159,7 +156,7 @@ or_case false b c h k = h k
 among_filter_at : (p : PlainEvent → Bool) (e x : PlainEvent) (xs : List PlainEvent) (b : Bool) → (among e (filter p xs) ≡ true → among e xs ≡ true) →
     among e (cond b (x ∷ filter p xs) (filter p xs)) ≡ true → (same_event e x || among e xs) ≡ true
 among_filter_at p e x xs true ih h = or_case (same_event e x) (among e (filter p xs)) (among e xs) ih h
-among_filter_at p e x xs false ih h = or_true (same_event e x) (among e xs) (ih h)
+among_filter_at p e x xs false ih h = or_right (same_event e x) (among e xs) (ih h)
 
 among_filter : (p : PlainEvent → Bool) (e : PlainEvent) (xs : List PlainEvent) → among e (filter p xs) ≡ true → among e xs ≡ true
 among_filter p e [] h = h
@@ -201,7 +198,7 @@ FirstOf inner ts = (r : PlainEvent) × (among r inner ≡ true) × (list_any (is
 first_of_at : {S : Type 0} (inner : List PlainEvent) (t : Live S) (ts : List (Live S)) (e : PlainEvent) (b : Bool) → requests e t ≡ b → among e inner ≡ true → (b || requested ts e) ≡ true →
     (requested ts e ≡ true → FirstOf inner ts) → FirstOf inner (t ∷ ts)
 first_of_at inner t ts e true p h k ih = let f = first_of_one inner t e h p in (f.0, f.1, rw f.2 refl)
-first_of_at inner t ts e false p h k ih = let f = ih k in (f.0, f.1, or_true (is_first_of inner f.0 t) (list_any (is_first_of inner f.0) ts) f.2)
+first_of_at inner t ts e false p h k ih = let f = ih k in (f.0, f.1, or_right (is_first_of inner f.0 t) (list_any (is_first_of inner f.0) ts) f.2)
 
 first_of_some : {S : Type 0} (inner : List PlainEvent) (ts : List (Live S)) (e : PlainEvent) → among e inner ≡ true → requested ts e ≡ true → FirstOf inner ts
 first_of_some inner [] e h k = absurd (cc)
@@ -263,7 +260,7 @@ greatest_of p y [] = (y, rw (same_event-self y) refl, rw (at_most_self (p y) (at
 greatest_of p y (z ∷ xs) = let g = greatest_of p z xs in at g.0 g.1 g.2 (at_most (p y) (p g.0)) refl
   where
     at : (e : PlainEvent) → among e (z ∷ xs) ≡ true → AllMost p (z ∷ xs) e → (b : Bool) → at_most (p y) (p e) ≡ b → (f : PlainEvent) × (among f (y ∷ z ∷ xs) ≡ true) × AllMost p (y ∷ z ∷ xs) f
-    at e h k true q = (e, or_true (same_event e y) (among e (z ∷ xs)) h, rw q k)
+    at e h k true q = (e, or_right (same_event e y) (among e (z ∷ xs)) h, rw q k)
     at e h k false q = (y, rw (same_event-self y) refl, rw (at_most_self (p y) (at_most (p y) (p y)) refl) (most_up p (z ∷ xs) e y (total (p y) (p e) q) k))
 
 -- every strategy leaves something
@@ -283,7 +280,7 @@ remaining_not_empty Priority ts e es h k =
 among_get : (xs : List PlainEvent) (k : ℕ) (e : PlainEvent) → slice_get xs k ≡ Some e → among e xs ≡ true
 among_get [] k e h = absurd (cc)
 among_get (x ∷ xs) zero e h = let f : x ≡ e = cc in rw (subst (λ (y : PlainEvent). same_event e y ≡ true) (sym f) (same_event-self e)) refl
-among_get (x ∷ xs) (suc k) e h = or_true (same_event e x) (among e xs) (among_get xs k e h)
+among_get (x ∷ xs) (suc k) e h = or_right (same_event e x) (among e xs) (among_get xs k e h)
 
 -- it is one of those that are left
 record Draws (xs : List PlainEvent) (ch : Choice) : Type 0 where

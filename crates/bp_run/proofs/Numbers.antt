@@ -3,6 +3,7 @@ use Rattle.std.proofs.Common.{◌≡◌, ℕ, zero, suc, ◌+◌, ◌<◌, ◌�
 use Rattle.std.proofs.lemmas.Bool.{eqb-true, eq-eqb}
 use Rattle.std.proofs.lemmas.List.{map-append}
 use Rattle.std.specs.List.{cons_option}
+use Rattle.std.proofs.lemmas.Iterator.Adapters.{option_map_id}
 use Rattle.js_data.specs.Event.{PlainEvent}
 use Rattle.bp_log.specs.declared.limits.TheConstants.{MOST_WAITING, MOST_THREADS}
 use Rattle.bp_log.specs.declared.verdict.Verdict.{Verdict}
@@ -207,7 +208,7 @@ stepped_rising l s e place r h = rw (entry_number l s e r) (reach_rising l.has e
 
 -- ---- each b-thread by itself
 
-not_equal : (m i : ℕ) (b : Bool) → nat_eq m i ≡ b → (m ≡ i → ⊥) → b ≡ false
+pub not_equal : (m i : ℕ) (b : Bool) → nat_eq m i ≡ b → (m ≡ i → ⊥) → b ≡ false
 not_equal m i true h k = absurd (k (eqb-true m i h))
 not_equal m i false h k = refl
 
@@ -293,7 +294,7 @@ changed_here f i [] = refl
 changed_here f zero (x ∷ xs) = refl
 changed_here f (suc i) (x ∷ xs) = changed_here f i xs
 
-changed_elsewhere : {A : Type 0} (f : A → A) (n i : ℕ) (xs : List A) → (n ≡ i → ⊥) → slice_get (change f n xs) i ≡ slice_get xs i
+pub changed_elsewhere : {A : Type 0} (f : A → A) (n i : ℕ) (xs : List A) → (n ≡ i → ⊥) → slice_get (change f n xs) i ≡ slice_get xs i
 changed_elsewhere f n i [] h = refl
 changed_elsewhere f zero zero (x ∷ xs) h = absurd (h refl)
 changed_elsewhere f zero (suc i) (x ∷ xs) h = refl
@@ -308,12 +309,8 @@ touched_elsewhere : {O : Type 0} (e : PlainEvent) (x : Touched) (i : ℕ) (ts : 
 touched_elsewhere e (Moves n) i ts h = changed_elsewhere (λ t. record t { replies = t.replies ++ e ∷ [] }) n i ts h
 touched_elsewhere e (Interrupts n) i ts h = changed_elsewhere (λ t. record t { ended = true }) n i ts h
 
-option_same : {A : Type 0} (o : Option A) → option_map (λ t. t) o ≡ o
-option_same None = refl
-option_same (Some t) = refl
-
 same_after : {O : Type 0} (e : PlainEvent) (o : Option Touched) (x : Option (Thread O)) → o ≡ None → option_map (after_touch e o) x ≡ x
-same_after e o x h = rw h (option_same x)
+same_after e o x h = rw h (option_map_id x)
 
 touched_one : {O : Type 0} (e : PlainEvent) (i low high : ℕ) (x : Touched) (r : List Touched) (ts : List (Thread O)) (b : Bool) → nat_eq (number_in x) i ≡ b → IsRising low high (map number_in (x ∷ r)) →
     slice_get (touch_all e r (touch e x ts)) i ≡ option_map (after_touch e (touch_at i r)) (slice_get (touch e x ts) i) →
@@ -332,7 +329,7 @@ touched_one e i low high x r ts false h k ih =
 -- and all that is not touched stays
 pub touch_each : {O : Type 0} (e : PlainEvent) (r : List Touched) (low high i : ℕ) (ts : List (Thread O)) → IsRising low high (map number_in r) →
     slice_get (touch_all e r ts) i ≡ option_map (after_touch e (touch_at i r)) (slice_get ts i)
-touch_each e [] low high i ts h = sym (option_same (slice_get ts i))
+touch_each e [] low high i ts h = sym (option_map_id (slice_get ts i))
 touch_each e (x ∷ r) low high i ts h =
     touched_one e i low high x r ts (nat_eq (number_in x) i) refl h (touch_each e r (number_in x + 1) high i (touch e x ts) h.2)
 

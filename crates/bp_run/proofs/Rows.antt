@@ -4,6 +4,7 @@ use Rattle.std.specs.Prelude.{ℤ, pos, negsuc, Option, Some, None, Result, Ok, 
 use Rattle.std.specs.Fmt.{digits}
 use Rattle.js_data.specs.Data.{null, truth, whole, words, list, fields, no_data, item, no_fields, field}
 use Rattle.js_data.specs.Event.{PlainEvent, same_event}
+use Rattle.js_data.proofs.Shared.{named}
 use Rattle.bp_log.specs.Options.{PlainOptions, default_options}
 use Rattle.bp_log.specs.Texts.{line_text, lines_text}
 use Rattle.bp_log.specs.declared.options.Strategy.{Strategy}
@@ -48,9 +49,6 @@ pub data Body : Type 0 where
   C : Body
   D : Body
 
-abbrev pub plain : List ℕ → PlainEvent
-plain name = record { name = name; extra = None }
-
 abbrev pub asking : ℤ → List PlainEvent → Small → Small → Small → Part Body Small
 asking priority request wait_for block interrupt =
     record { effects = []; outcome = Stopped (record { request = request; wait_for = wait_for; block = block; interrupt = interrupt; priority = priority }) }
@@ -75,13 +73,13 @@ abbrev pub with_injectors : ℕ → PlainOptions
 with_injectors n = record default_options { injectors = n }
 
 abbrev pub x : PlainEvent
-x = plain (codes "x")
+x = named (codes "x")
 
 abbrev pub y : PlainEvent
-y = plain (codes "y")
+y = named (codes "y")
 
 abbrev pub go : PlainEvent
-go = plain (codes "go")
+go = named (codes "go")
 
 abbrev pub printed : (Body → List PlainEvent → Part Body Small) → PlainOptions → Option (List ℕ)
 printed body o = text (code body) o (alone (code body) o)

@@ -3,9 +3,10 @@ use Rattle.std.proofs.Common.{◌≡◌, ℕ, zero, suc, ◌+◌, ◌<◌, ◌�
 use Rattle.std.specs.Prelude.{option_to_list}
 use Rattle.std.specs.List.{list_any}
 use Rattle.std.proofs.lemmas.Grind.{flat_map-append}
-use Rattle.std.proofs.lemmas.Bool.{eq-eqb, ltb-false}
+use Rattle.std.proofs.lemmas.Bool.{eq-eqb, ltb-false, and_parts}
 use Rattle.js_data.specs.Event.{PlainEvent, same_event}
 use Rattle.js_data.proofs.SameEvent.{same_event-sound, same_event-self}
+use Rattle.js_data.proofs.Shared.{chained}
 use Rattle.bp_log.specs.Options.{PlainOptions}
 use Rattle.bp_log.specs.Records.{is_complete}
 use Rattle.bp_log.specs.Texts.{whole_line, lines_text}
@@ -17,7 +18,7 @@ use Rattle.bp_log.specs.declared.trace.Line.{Line}
 use Rattle.bp_log.specs.declared.trace.Line.TheVariants as trace
 use Rattle.bp_log.specs.declared.verdict.Verdict.{Verdict}
 use Rattle.bp_log.specs.declared.verdict.Verdict.TheVariants as verdict
-use Rattle.bp_log.proofs.Equality.{first_part, verdict_path, verdict_refl}
+use Rattle.bp_log.proofs.Equality.{verdict_path, verdict_refl}
 use Rattle.bp_run.specs.Bodies.{Code}
 use Rattle.bp_run.specs.Configuration.{Configuration, Stand}
 use Rattle.bp_run.specs.Settling.{initial, queued, opening}
@@ -149,7 +150,7 @@ unfolding story_from after_record
 only_from l o zero rs c d i t f h k = absurd (omega arith)
 only_from l o (suc n) [] c d i t f h k = absurd (cc)
 only_from l o (suc n) (In j e ∷ rest) c d i t f h k =
-    absurd (comes_not c j i (first_part (may_come c j) (has_room c.stand) (and_then_if (may_come c j && has_room c.stand) (story_from l o rest) _ d h).0))
+    absurd (comes_not c j i (and_parts (may_come c j) (has_room c.stand) (and_then_if (may_come c j && has_room c.stand) (story_from l o rest) _ d h).0).0)
 only_from l o (suc n) (Bad j m ∷ rest) c d i t f h k = absurd (comes_not c j i (and_then_if (may_come c j) (story_from l o rest) _ d h).0)
 only_from l o (suc n) (Eof j ∷ rest) c d i t f h k = absurd (comes_not c j i (and_then_if (may_come c j) (story_from l o rest) _ d h).0)
 only_from l o (suc n) (End v ∷ []) c d i t f h k = unique_end l o n c d v (next l o c) refl h
@@ -287,19 +288,15 @@ after_lines l o c m (Eof j) h = record_grown (may_come c j) c _ m h (same_lines 
 after_lines l o c m (Sel e) h = sel_lines l c m e (next l o c) h
 after_lines l o c m (End v) h = end_lines c m v (next l o c) h
 
-bound : {A B : Type 0} (g : A → Option B) (x : Option A) (d : B) → option_and_then g x ≡ Some d → (m : A) × (x ≡ Some m) × (g m ≡ Some d)
-bound g None d h = absurd (cc)
-bound g (Some m) d h = (m, refl, h)
-
 -- a story begins with its first record
 pub story_first : {O S : Type 0} (l : Code O S) (o : PlainOptions) (r : Record) (rs : List Record) (c d : Configuration O) → story_from l o (r ∷ rs) c ≡ Some d →
     (m : Configuration O) × (after_record l o c r ≡ Some m) × (story_from l o rs m ≡ Some d)
 unfolding story_from
-story_first l o (In j e) rs c d h = bound (story_from l o rs) (after_record l o c (In j e)) d h
-story_first l o (Bad j n) rs c d h = bound (story_from l o rs) (after_record l o c (Bad j n)) d h
-story_first l o (Eof j) rs c d h = bound (story_from l o rs) (after_record l o c (Eof j)) d h
-story_first l o (Sel e) rs c d h = bound (story_from l o rs) (after_record l o c (Sel e)) d h
-story_first l o (End v) [] c d h = bound (story_from l o []) (after_record l o c (End v)) d h
+story_first l o (In j e) rs c d h = chained (story_from l o rs) (after_record l o c (In j e)) d h
+story_first l o (Bad j n) rs c d h = chained (story_from l o rs) (after_record l o c (Bad j n)) d h
+story_first l o (Eof j) rs c d h = chained (story_from l o rs) (after_record l o c (Eof j)) d h
+story_first l o (Sel e) rs c d h = chained (story_from l o rs) (after_record l o c (Sel e)) d h
+story_first l o (End v) [] c d h = chained (story_from l o []) (after_record l o c (End v)) d h
 story_first l o (End v) (r ∷ rs) c d h = absurd (cc)
 
 -- the lines after a story begin with those before it
@@ -363,7 +360,7 @@ prefix_of l o rs c m t more h k e = (
   sym e ∙ ap (λ (x : List Line). lines_text x) k ∙ flat_map-append whole_line m.stand.lines more,
 )
 
-printed_at : {O : Type 0} (x : Option (Configuration O)) (t : List ℕ) → option_map (λ c. lines_text c.stand.lines) x ≡ Some t → (c : Configuration O) × (x ≡ Some c) × (lines_text c.stand.lines ≡ t)
+pub printed_at : {O : Type 0} (x : Option (Configuration O)) (t : List ℕ) → option_map (λ c. lines_text c.stand.lines) x ≡ Some t → (c : Configuration O) × (x ≡ Some c) × (lines_text c.stand.lines ≡ t)
 printed_at None t h = absurd (cc)
 printed_at (Some c) t h = (c, refl, cc)
 

@@ -1,6 +1,7 @@
 -- Bytes that are refused have one cause, and so one refusal.
-use Rattle.std.proofs.Common.{◌≡◌, ℕ, ◌≤◌, ◌<◌, false, List, length, refl, ap, sym, ◌∙◌, subst, arith, inl, inr, Some, None}
+use Rattle.std.proofs.Common.{◌≡◌, ℕ, ◌≤◌, ◌<◌, false, List, length, refl, ap, sym, ◌∙◌, subst, arith, inl, inr, None}
 use Rattle.std.proofs.lemmas.Str.{utf8_valid_len-IsValidUpTo}
+use Rattle.std.proofs.lemmas.Option.{same_Some}
 use Rattle.js_lexer.specs.declared.limits.TheConstants.{MOST_BYTES}
 use Rattle.js_lexer.specs.declared.token.Flaw.{Flaw}
 use Rattle.js_lexer.specs.declared.token.Flaw.TheVariants as flaw
@@ -55,18 +56,15 @@ one_text bytes m n h k =
     sym (utf8_valid_len-IsValidUpTo bytes (h.2).0 (h.2).1) ∙ utf8_valid_len-IsValidUpTo bytes (k.2).0 (k.2).1 in
     (h.2).2 ∙ ap (λ (p : ℕ). line_of bytes p) place ∙ sym (k.2).2
 
-same_some : {A : Type 0} (x y : A) → Some x ≡ Some y → x ≡ y
-same_some x y h = cc
-
 one_token : (bytes : List ℕ) (m n : ℕ) → HasRefusedToken bytes m → HasRefusedToken bytes n → m ≡ n
 one_token bytes m n h k =
     let same = same_tokens bytes h.0 k.0 h.1 k.1 in
-    same_some m n (sym h.2 ∙ ap (λ (ts : List Token). first_unsupported false ts) same ∙ k.2)
+    same_Some m n (sym h.2 ∙ ap (λ (ts : List Token). first_unsupported false ts) same ∙ k.2)
 
 one_name : (bytes : List ℕ) (f g : NameFault) → HasNameFault bytes f → HasNameFault bytes g → f ≡ g
 one_name bytes f g h k =
     let same = same_tree bytes h.0 k.0 h.1 k.1 in
-    same_some f g (sym h.2 ∙ ap (λ (t : List PlainItem). name_fault t) same ∙ k.2)
+    same_Some f g (sym h.2 ∙ ap (λ (t : List PlainItem). name_fault t) same ∙ k.2)
 
 -- a flaw leaves no tokens
 no_tokens : (bytes : List ℕ) (f : Flaw) (line : ℕ) (tokens : List Token) → HasFlaw bytes f line → AreCut bytes tokens → ⊥

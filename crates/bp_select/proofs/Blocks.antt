@@ -1,6 +1,8 @@
 -- B-threads that plainly block nothing need not be asked.
 use Rattle.std.proofs.Common.{◌≡◌, ℕ, ◌+◌, ◌<◌, ◌≤◌, suc, Bool, true, false, ◌||◌, List, [], ◌∷◌, ◌++◌, length, map, drop, get_or, refl, ap, sym, ◌∙◌, append_assoc, append-nil, Option, Some, Ok, Err, if◌then◌else◌}
+use Rattle.std.proofs.lemmas.List.{drop_all}
 use Rattle.js_data.specs.Event.{PlainEvent}
+use Rattle.js_data.proofs.Shared.{drop_is}
 use Rattle.js_value.specs.Value as v
 use Rattle.js_value.specs.Value.{PlainSet}
 use Rattle.js_meaning.specs.State.{Ground}
@@ -9,7 +11,6 @@ use Rattle.bp_meaning.specs.Membership.{Membership, member}
 use Rattle.bp_select.specs.declared.bench.Stated.{Stated}
 use Rattle.bp_select.specs.Lives.{live_of}
 use Rattle.bp_select.specs.Blocking.{is_empty, blocking}
-use Rattle.bp_select.proofs.Questions.{drop_is, drop_end}
 
 nothing_in : (base : Ground) (budget : ℕ) (s : PlainSet) (e : PlainEvent) → is_empty s ≡ true → member base budget s e ≡ Ok false
 nothing_in base budget v.nothing e h = refl
@@ -85,7 +86,7 @@ blocking_step all i x old new whole b h k m n w =
     n' false m n = ap (λ (us : List (Live PlainSet)). us ++ blocking (map live_of (drop (i + 1) all))) n ∙ append_assoc old (live_of x ∷ []) (blocking (map live_of (drop (i + 1) all)))
 
 pub blocking_last : (all : List Stated) (i : ℕ) (kept : List (Live PlainSet)) → length all ≤ i → kept ++ blocking (map live_of (drop i all)) ≡ blocking (map live_of all) → kept ≡ blocking (map live_of all)
-blocking_last all i kept h w = sym (append-nil kept) ∙ sym (ap (λ (us : List Stated). kept ++ blocking (map live_of us)) (drop_end all i h)) ∙ w
+blocking_last all i kept h w = sym (append-nil kept) ∙ sym (ap (λ (us : List Stated). kept ++ blocking (map live_of us)) (drop_all i all h)) ∙ w
 
 -- ---- what is asked of those that block is asked of all
 

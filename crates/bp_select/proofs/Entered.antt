@@ -2,12 +2,13 @@
 use Rattle.std.proofs.Common.{◌≡◌, ℕ, ◌+◌, ◌<◌, ◌≤◌, Bool, true, false, List, [], ◌∷◌, length, map, drop, get_or, refl, ap, sym, ◌∙◌, if◌then◌else◌, Option, Some}
 use Rattle.std.specs.Prelude.{ℤ}
 use Rattle.std.specs.Map.{lookup}
+use Rattle.std.proofs.lemmas.List.{drop_all}
 use Rattle.indexmap.specs.IndexMap.{insert_entry}
 use Rattle.js_data.specs.Event.{PlainEvent, same_event}
+use Rattle.js_data.proofs.Shared.{drop_is}
 use Rattle.bp_select.specs.declared.bench.Stated.{Stated}
 use Rattle.bp_select.specs.Lives.{live_of}
 use Rattle.bp_select.specs.Tops.{Top, raised, with_request, with_requests, with_live}
-use Rattle.bp_select.proofs.Questions.{drop_is, drop_end}
 use Rattle.bp_select.proofs.Tops.{request_at}
 
 module _ {K : Type 0} (f : K → PlainEvent) where
@@ -49,7 +50,7 @@ requests_step p all i e old new whole h k m w =
     ∙ ap (λ (es : List PlainEvent). with_requests p old es) (sym (drop_is all i e h k)) ∙ w
 
 pub requests_last : (p : ℤ) (all : List PlainEvent) (i : ℕ) (found whole : List Top) → length all ≤ i → with_requests p found (drop i all) ≡ whole → found ≡ whole
-requests_last p all i found whole h w = sym (ap (λ (es : List PlainEvent). with_requests p found es) (drop_end all i h)) ∙ w
+requests_last p all i found whole h w = sym (ap (λ (es : List PlainEvent). with_requests p found es) (drop_all i all h)) ∙ w
 
 pub live_step : (all : List Stated) (i : ℕ) (x : Stated) (old new whole : List Top) → i < length all → x ≡ get_or all i x → (let t = live_of x in new ≡ with_requests t.statement.priority old t.statement.request) →
     with_live old (map live_of (drop i all)) ≡ whole → with_live new (map live_of (drop (i + 1) all)) ≡ whole
@@ -58,4 +59,4 @@ live_step all i x old new whole h k m w =
     ∙ ap (λ (ts : List Stated). with_live old (map live_of ts)) (sym (drop_is all i x h k)) ∙ w
 
 pub live_last : (all : List Stated) (i : ℕ) (found whole : List Top) → length all ≤ i → with_live found (map live_of (drop i all)) ≡ whole → found ≡ whole
-live_last all i found whole h w = sym (ap (λ (ts : List Stated). with_live found (map live_of ts)) (drop_end all i h)) ∙ w
+live_last all i found whole h w = sym (ap (λ (ts : List Stated). with_live found (map live_of ts)) (drop_all i all h)) ∙ w

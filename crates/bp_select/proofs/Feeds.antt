@@ -1,11 +1,9 @@
 -- What a hasher is fed part after part.
-use Rattle.std.proofs.Common.{◌≡◌, ℕ, ◌+◌, ◌<◌, ◌≤◌, List, [], ◌∷◌, ◌++◌, length, map, drop, get_or, refl, ap, sym, ◌∙◌, flat_map}
+use Rattle.std.proofs.Common.{◌≡◌, ℕ, ◌+◌, ◌<◌, ◌≤◌, List, length, map, drop, get_or, ap, sym, ◌∙◌, flat_map}
 use Rattle.std.specs.Prelude.{fold}
-use Rattle.bp_select.proofs.Questions.{drop_is, drop_end}
-
-fold_both : {S W : Type 0} (write : S → W → S) (s : S) (xs ys : List W) → fold write s (xs ++ ys) ≡ fold write (fold write s xs) ys
-fold_both write s [] ys = refl
-fold_both write s (x ∷ xs) ys = fold_both write (write s x) xs ys
+use Rattle.std.proofs.lemmas.List.{drop_all}
+use Rattle.std.proofs.lemmas.List.Sums.{fold-append}
+use Rattle.js_data.proofs.Shared.{drop_is}
 
 module _ {S W A B : Type 0} (write : S → W → S) (writes : B → List W) (f : A → B) where
   abbrev all_fed : S → List A → S
@@ -14,8 +12,8 @@ module _ {S W A B : Type 0} (write : S → W → S) (writes : B → List W) (f :
   pub fed_step : (all : List A) (i : ℕ) (x : A) (old new whole : S) → i < length all → x ≡ get_or all i x → new ≡ fold write old (writes (f x)) → all_fed old (drop i all) ≡ whole → all_fed new (drop (i + 1) all) ≡ whole
   fed_step all i x old new whole h k m w =
       ap (λ (s : S). all_fed s (drop (i + 1) all)) m
-      ∙ sym (fold_both write old (writes (f x)) (flat_map writes (map f (drop (i + 1) all))))
+      ∙ sym (fold-append write old (writes (f x)) (flat_map writes (map f (drop (i + 1) all))))
       ∙ ap (λ (xs : List A). all_fed old xs) (sym (drop_is all i x h k)) ∙ w
 
   pub fed_last : (all : List A) (i : ℕ) (s whole : S) → length all ≤ i → all_fed s (drop i all) ≡ whole → s ≡ whole
-  fed_last all i s whole h w = sym (ap (λ (xs : List A). all_fed s xs) (drop_end all i h)) ∙ w
+  fed_last all i s whole h w = sym (ap (λ (xs : List A). all_fed s xs) (drop_all i all h)) ∙ w

@@ -2,9 +2,12 @@
 use Rattle.std.proofs.Common.{◌≡◌, ℕ, ◌+◌, ◌<◌, ◌≤◌, Bool, true, false, ◌||◌, List, [], ◌∷◌, ◌++◌, length, map, drop, get_or, refl, ap, sym, ◌∙◌, append_assoc, append-nil, filter, find, if◌then◌else◌, Option, Some, None}
 use Rattle.std.specs.List.{list_any}
 use Rattle.std.proofs.lemmas.List.Folds.{list_any-append}
+use Rattle.std.proofs.lemmas.List.{drop_all, map_push}
+use Rattle.std.proofs.Math.Bool.{or-false}
 use Rattle.indexmap.specs.IndexSet.{insert_key}
 use Rattle.js_data.specs.Event.{PlainEvent, same_event}
 use Rattle.js_data.proofs.SameEvent.{same_event-sound}
+use Rattle.js_data.proofs.Shared.{drop_is}
 use Rattle.js_value.specs.Value.{PlainSet}
 use Rattle.bp_run.specs.Selecting.{Live}
 use Rattle.bp_run.specs.Choosing.{is_first_of}
@@ -12,7 +15,6 @@ use Rattle.bp_select.specs.declared.bench.Stated.{Stated}
 use Rattle.bp_select.specs.Lives.{live_of}
 use Rattle.bp_select.specs.Candidates.{is_first}
 use Rattle.bp_select.specs.Keys.{same_sym}
-use Rattle.bp_select.proofs.Questions.{drop_is, drop_end, map_push}
 
 -- ---- keys of events
 
@@ -55,10 +57,6 @@ or_same : (a b c : Bool) → ((a || b) || c) ≡ (a || (b || c))
 or_same true b c = refl
 or_same false b c = refl
 
-or_end : (a : Bool) → (a || false) ≡ a
-or_end true = refl
-or_end false = refl
-
 -- ---- the keys of all
 
 module _ {A : Type 0} (f : A → PlainEvent) where
@@ -72,7 +70,7 @@ module _ {A : Type 0} (f : A → PlainEvent) where
       ∙ ap (λ (xs : List A). old || list_any (same_event e) (map f xs)) (sym (drop_is all i x h k)) ∙ w
 
   pub keys_last : (all : List A) (i : ℕ) (e : PlainEvent) (found whole : Bool) → length all ≤ i → (found || later e i all) ≡ whole → found ≡ whole
-  keys_last all i e found whole h w = sym (or_end found) ∙ sym (ap (λ (xs : List A). found || list_any (same_event e) (map f xs)) (drop_end all i h)) ∙ w
+  keys_last all i e found whole h w = sym (or-false found) ∙ sym (ap (λ (xs : List A). found || list_any (same_event e) (map f xs)) (drop_all i all h)) ∙ w
 
 -- ---- the first one
 
@@ -133,7 +131,7 @@ firsts_same q all i x old whole h k m w =
 
 pub firsts_last : (q : Live PlainSet → Bool) (all : List Stated) (i : ℕ) (found whole : Bool) → length all ≤ i → (found || any_later q i all) ≡ whole → found ≡ whole
 firsts_last q all i found whole h w =
-    sym (or_end found) ∙ sym (ap (λ (xs : List Stated). found || list_any q (map live_of xs)) (drop_end all i h)) ∙ w
+    sym (or-false found) ∙ sym (ap (λ (xs : List Stated). found || list_any q (map live_of xs)) (drop_all i all h)) ∙ w
 
 -- ---- those that are kept
 
@@ -151,7 +149,7 @@ module _ {A : Type 0} (f : A → PlainEvent) (p : PlainEvent → Bool) where
       ∙ ap (λ (xs : List A). map f old ++ filter p (map f xs)) (sym (drop_is all i x h k)) ∙ w
 
   pub kept_last : (all : List A) (i : ℕ) (kept : List A) → length all ≤ i → map f kept ++ filter p (map f (drop i all)) ≡ filter p (map f all) → map f kept ≡ filter p (map f all)
-  kept_last all i kept h w = sym (append-nil (map f kept)) ∙ sym (ap (λ (xs : List A). map f kept ++ filter p (map f xs)) (drop_end all i h)) ∙ w
+  kept_last all i kept h w = sym (append-nil (map f kept)) ∙ sym (ap (λ (xs : List A). map f kept ++ filter p (map f xs)) (drop_all i all h)) ∙ w
 
 -- ---- copies
 
@@ -162,4 +160,4 @@ copies_step f all i x old new whole h k n w =
     ∙ ap (λ xs. old ++ map f xs) (sym (drop_is all i x h k)) ∙ w
 
 pub copies_last : {A : Type 0} (f : A → PlainEvent) (all : List A) (i : ℕ) (old whole : List PlainEvent) → length all ≤ i → old ++ map f (drop i all) ≡ whole → old ≡ whole
-copies_last f all i old whole h w = sym (append-nil old) ∙ sym (ap (λ xs. old ++ map f xs) (drop_end all i h)) ∙ w
+copies_last f all i old whole h w = sym (append-nil old) ∙ sym (ap (λ xs. old ++ map f xs) (drop_all i all h)) ∙ w

@@ -5,6 +5,7 @@ use Rattle.std.proofs.lemmas.List.Folds.{list_any-append}
 use Rattle.js_data.specs.Event.{PlainEvent, same_event}
 use Rattle.js_data.proofs.SameEvent.{same_event-sound}
 use Rattle.bp_run.specs.Selecting.{distinct}
+use Rattle.bp_run.proofs.Chosen.{among, other}
 use Rattle.bp_select.specs.Keys.{same_sym}
 
 -- e at the end, unless it is there
@@ -14,12 +15,6 @@ with_new xs e = if list_any (same_event e) xs then xs else xs ++ e ∷ []
 abbrev pub with_all : List PlainEvent → List PlainEvent → List PlainEvent
 with_all xs [] = xs
 with_all xs (e ∷ es) = with_all (with_new xs e) es
-
-abbrev among : PlainEvent → List PlainEvent → Bool
-among e xs = list_any (same_event e) xs
-
-abbrev other : PlainEvent → PlainEvent → Bool
-other e f = not (same_event e f)
 
 -- ---- filters
 

@@ -6,6 +6,7 @@ use Rattle.std.proofs.lemmas.Bool.{lt-ltb, le-ltb, ltb-false, ltb-true, eqb-true
 use Rattle.js_value.specs.Value.{PlainSet}
 use Rattle.bp_run.specs.Bodies.{Statement}
 use Rattle.bp_run.specs.Selecting.{Live}
+use Rattle.bp_run.proofs.Numbers.{not_equal}
 use Rattle.bp_select.specs.declared.bench.Stated.{Stated}
 use Rattle.bp_select.specs.Lives.{live_of}
 use Rattle.bp_select.specs.Benches.{live_at, placed}
@@ -56,10 +57,6 @@ placed_before n o t ts h = rw (lt-ltb n t.number h) refl
 
 placed_at : (n : ℕ) (o : Option (Statement PlainSet)) (t : Live PlainSet) (ts : List (Live PlainSet)) → t.number ≡ n → placed n o (t ∷ ts) ≡ cons_option (live_at n o) ts
 placed_at n o t ts h = rw (le-ltb n t.number (omega (arith, h)), eq-eqb n t.number (sym h)) refl
-
-not_equal : (m i : ℕ) (b : Bool) → nat_eq m i ≡ b → (m ≡ i → ⊥) → b ≡ false
-not_equal m i true h k = absurd (k (eqb-true m i h))
-not_equal m i false h k = refl
 
 placed_after : (n : ℕ) (o : Option (Statement PlainSet)) (t : Live PlainSet) (ts : List (Live PlainSet)) → t.number < n → placed n o (t ∷ ts) ≡ t ∷ placed n o ts
 placed_after n o t ts h = rw (le-ltb n t.number (omega (arith, h)), not_equal n t.number (nat_eq n t.number) refl (λ e. omega (arith, e, h))) refl

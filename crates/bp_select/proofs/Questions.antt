@@ -1,7 +1,9 @@
 -- Steps of the questions over b-threads and events.
-use Rattle.std.proofs.Common.{◌≡◌, ℕ, zero, suc, ◌+◌, ◌<◌, ◌≤◌, arith, Bool, true, false, not, ◌||◌, List, [], ◌∷◌, ◌++◌, length, map, drop, get_or, refl, ap, sym, ◌∙◌, add-one, append_assoc, append-nil, Option, Some, None, Result, Ok, Err, if◌then◌else◌}
-use Rattle.std.proofs.Math.Seq.{drop-cons}
+use Rattle.std.proofs.Common.{◌≡◌, ℕ, ◌+◌, ◌<◌, ◌≤◌, Bool, true, false, not, ◌||◌, List, [], ◌∷◌, ◌++◌, length, map, drop, get_or, refl, ap, sym, ◌∙◌, append_assoc, append-nil, Option, Some, None, Result, Ok, Err, if◌then◌else◌}
+use Rattle.std.proofs.lemmas.List.{drop_all, map_push}
+use Rattle.std.proofs.Math.Bool.{or-false}
 use Rattle.js_data.specs.Event.{PlainEvent}
+use Rattle.js_data.proofs.Shared.{drop_is}
 use Rattle.js_value.specs.Value.{PlainSet}
 use Rattle.bp_sets.specs.declared.fault.SetFault.TheVariants as set_fault
 use Rattle.bp_run.specs.Bodies as run
@@ -13,15 +15,6 @@ use Rattle.bp_select.specs.Lives.{live_of}
 use Rattle.bp_select.specs.Answers.{FaultAs}
 
 -- ---- lists
-
-pub drop_is : {A : Type 0} (xs : List A) (i : ℕ) (x : A) → i < length xs → x ≡ get_or xs i x → drop i xs ≡ x ∷ drop (i + 1) xs
-drop_is xs i x h e = rw add-one (drop-cons xs i x h ∙ ap (λ y. y ∷ drop (suc i) xs) (sym e))
-
-pub drop_end : {A : Type 0} (xs : List A) (i : ℕ) → length xs ≤ i → drop i xs ≡ []
-drop_end [] zero h = refl
-drop_end [] (suc i) h = refl
-drop_end (x ∷ xs) zero h = absurd (omega arith)
-drop_end (x ∷ xs) (suc i) h = drop_end xs i (omega arith)
 
 -- ---- faults
 
@@ -51,10 +44,6 @@ seen_none : (x : Asked Bool) → x ≡ seen false x
 seen_none (Err z) = refl
 seen_none (Ok d) = refl
 
-or_none : (b : Bool) → (b || false) ≡ b
-or_none true = refl
-or_none false = refl
-
 blocked_of : {A : Type 0} (f : A → Live PlainSet) (has : Has PlainSet) (x : A) (rest : List A) (e : PlainEvent) (c : Bool) →
     by_number (f x).number (has (f x).statement.block e) ≡ Ok c → blocked has (map f (x ∷ rest)) e ≡ seen c (blocked has (map f rest) e)
 blocked_of f has x rest e c h = rw h refl
@@ -74,7 +63,7 @@ blocked_step {A = A} f has all i x e b c d h k m q w =
 pub blocked_last : {A : Type 0} (f : A → Live PlainSet) (has : Has PlainSet) (all : List A) (i : ℕ) (e : PlainEvent) (b : Bool) → length all ≤ i →
     blocked has (map f all) e ≡ seen b (blocked has (map f (drop i all)) e) → blocked has (map f all) e ≡ Ok b
 blocked_last {A = A} f has all i e b h w =
-    w ∙ ap (λ (xs : List A). seen b (blocked has (map f xs) e)) (drop_end all i h) ∙ ap (λ (r : Bool). Ok r) (or_none b)
+    w ∙ ap (λ (xs : List A). seen b (blocked has (map f xs) e)) (drop_all i all h) ∙ ap (λ (r : Bool). Ok r) (or-false b)
 
 pub blocked_fault : {A : Type 0} (f : A → Live PlainSet) (has : Has PlainSet) (all : List A) (i : ℕ) (x : A) (e : PlainEvent) (b : Bool) (g : SelectFault) → i < length all → x ≡ get_or all i x →
     blocked has (map f all) e ≡ seen b (blocked has (map f (drop i all)) e) →
@@ -100,10 +89,6 @@ unblocked_of : (has : Has PlainSet) (ts : List (Live PlainSet)) (kept : List Pla
     behind kept (unblocked has ts (e ∷ rest)) ≡ behind (if b then kept else kept ++ e ∷ []) (unblocked has ts rest)
 unblocked_of has ts kept e rest b h = rw h (behind_one kept e b (unblocked has ts rest))
 
-pub map_push : {A B : Type 0} (f : A → B) (xs : List A) (x : A) → map f (xs ++ x ∷ []) ≡ map f xs ++ f x ∷ []
-map_push f [] x = refl
-map_push f (y ∷ ys) x = ap (λ zs. f y ∷ zs) (map_push f ys x)
-
 module _ {A : Type 0} (f : A → PlainEvent) (has : Has PlainSet) (ts : List (Live PlainSet)) where
   kept_map : (kept new : List A) (x : A) (b : Bool) → new ≡ (if not b then kept ++ x ∷ [] else kept) → map f new ≡ (if b then map f kept else map f kept ++ f x ∷ [])
   kept_map kept new x true n = ap (λ (xs : List A). map f xs) n
@@ -120,7 +105,7 @@ module _ {A : Type 0} (f : A → PlainEvent) (has : Has PlainSet) (ts : List (Li
   pub unblocked_last : (all : List A) (i : ℕ) (kept : List A) → length all ≤ i →
       unblocked has ts (map f all) ≡ behind (map f kept) (unblocked has ts (map f (drop i all))) → unblocked has ts (map f all) ≡ Ok (map f kept)
   unblocked_last all i kept h w =
-      w ∙ ap (λ (xs : List A). behind (map f kept) (unblocked has ts (map f xs))) (drop_end all i h) ∙ ap (λ (xs : List PlainEvent). Ok xs) (append-nil (map f kept))
+      w ∙ ap (λ (xs : List A). behind (map f kept) (unblocked has ts (map f xs))) (drop_all i all h) ∙ ap (λ (xs : List PlainEvent). Ok xs) (append-nil (map f kept))
 
   pub unblocked_fault : (all : List A) (i : ℕ) (x : A) (kept : List A) (g : SelectFault) → i < length all → x ≡ get_or all i x →
       unblocked has ts (map f all) ≡ behind (map f kept) (unblocked has ts (map f (drop i all))) → FaultAs (blocked has ts (f x)) g → FaultAs (unblocked has ts (map f all)) g
@@ -164,7 +149,7 @@ blocker_found has all i x e h k q w =
 pub blocker_none : (has : Has PlainSet) (all : List Stated) (i : ℕ) (e : PlainEvent) → length all ≤ i → blocker has (map live_of all) e ≡ blocker has (map live_of (drop i all)) e →
     blocker has (map live_of all) e ≡ Ok None
 unfolding blocker
-blocker_none has all i e h w = w ∙ ap (λ (xs : List Stated). blocker has (map live_of xs) e) (drop_end all i h)
+blocker_none has all i e h w = w ∙ ap (λ (xs : List Stated). blocker has (map live_of xs) e) (drop_all i all h)
 
 pub blocker_fault : (has : Has PlainSet) (all : List Stated) (i : ℕ) (x : Stated) (e : PlainEvent) (f : SelectFault) → i < length all → x ≡ get_or all i x →
     blocker has (map live_of all) e ≡ blocker has (map live_of (drop i all)) e →

@@ -2,14 +2,15 @@
 use Rattle.std.proofs.Common.{◌≡◌, ℕ, ◌+◌, ◌<◌, ◌≤◌, Bool, true, false, ◌&&◌, List, [], ◌∷◌, length, map, drop, get_or, refl, ap, sym, ◌∙◌, filter, if◌then◌else◌, Option, Some, None}
 use Rattle.std.specs.Prelude.{ℤ, int_le}
 use Rattle.std.specs.List.{list_all}
+use Rattle.std.proofs.lemmas.List.{drop_all}
 use Rattle.js_data.specs.Event.{PlainEvent}
+use Rattle.js_data.proofs.Shared.{drop_is}
 use Rattle.js_value.specs.Value.{PlainSet}
 use Rattle.bp_log.specs.declared.options.Strategy.TheVariants.{Priority}
 use Rattle.bp_run.specs.Selecting.{Live}
 use Rattle.bp_run.specs.Choosing.{greater, priority_of, at_most, is_greatest, remaining}
 use Rattle.bp_run.proofs.Chosen.{int_total, int_trans}
 use Rattle.bp_select.specs.Priorities.{upper, top_of}
-use Rattle.bp_select.proofs.Questions.{drop_is, drop_end}
 
 -- ---- filters by tests that agree
 
@@ -103,4 +104,4 @@ module _ {A : Type 0} (f : A → PlainEvent) where
       ∙ ap (λ (xs : List A). upper old (top_of ts (map f xs))) (sym (drop_is all i x h k)) ∙ w
 
   pub top_last : (ts : List (Live PlainSet)) (all : List A) (i : ℕ) (top whole : Option ℤ) → length all ≤ i → upper top (top_of ts (map f (drop i all))) ≡ whole → top ≡ whole
-  top_last ts all i top whole h w = sym (upper_none top) ∙ sym (ap (λ (xs : List A). upper top (top_of ts (map f xs))) (drop_end all i h)) ∙ w
+  top_last ts all i top whole h w = sym (upper_none top) ∙ sym (ap (λ (xs : List A). upper top (top_of ts (map f xs))) (drop_all i all h)) ∙ w

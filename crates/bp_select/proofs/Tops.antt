@@ -4,6 +4,7 @@ use Rattle.std.specs.Prelude.{ℤ, int_le}
 use Rattle.std.specs.List.{list_any}
 use Rattle.js_data.specs.Event.{PlainEvent, same_event}
 use Rattle.js_data.proofs.SameEvent.{same_event-sound, same_event-self}
+use Rattle.js_data.proofs.Shared.{if_true, if_false}
 use Rattle.js_value.specs.Value.{PlainSet}
 use Rattle.bp_run.specs.Selecting.{Live, requests, candidates}
 use Rattle.bp_run.specs.Choosing.{priority_of}
@@ -66,12 +67,6 @@ pub tops_events : (ts : List (Live PlainSet)) → events_of (with_live [] ts) �
 tops_events ts = events_live [] ts ∙ gathered (requested_by ts)
 
 -- ---- priorities
-
-if_true : {A : Type 0} (b : Bool) (x y : A) → b ≡ true → (if b then x else y) ≡ x
-if_true b x y h = rw h refl
-
-if_false : {A : Type 0} (b : Bool) (x y : A) → b ≡ false → (if b then x else y) ≡ y
-if_false b x y h = rw h refl
 
 abbrev Asks : PlainEvent → PlainEvent → ℤ → List Top → Type 0
 Asks e f p xs = top_in e (with_request p xs f) ≡ (if same_event e f then upper (top_in e xs) (Some p) else top_in e xs)

@@ -3,7 +3,9 @@ use Rattle.std.proofs.Common.{◌≡◌, ℕ, ◌+◌, ◌<◌, ◌≤◌, List,
 use Rattle.std.specs.Prelude.{option_to_list}
 use Rattle.std.specs.List.{cons_option}
 use Rattle.std.proofs.lemmas.List.Elements.{filter_map-append}
+use Rattle.std.proofs.lemmas.List.{drop_all}
 use Rattle.js_data.specs.Event.{PlainEvent}
+use Rattle.js_data.proofs.Shared.{drop_is}
 use Rattle.js_value.specs.Value.{PlainSet}
 use Rattle.bp_run.specs.Bodies as run
 use Rattle.bp_run.specs.Selecting.{Has, Asked, both}
@@ -13,7 +15,7 @@ use Rattle.bp_select.specs.declared.answers.SelectFault.{SelectFault}
 use Rattle.bp_select.specs.declared.answers.Reach.{Reach}
 use Rattle.bp_select.specs.Lives.{live_of}
 use Rattle.bp_select.specs.Answers.{FaultAs, move_of, interrupt_of, IsReach}
-use Rattle.bp_select.proofs.Questions.{drop_is, drop_end, fault_on}
+use Rattle.bp_select.proofs.Questions.{fault_on}
 
 -- ---- all of them
 
@@ -59,7 +61,7 @@ pub reaches_last : (has : Has PlainSet) (e : PlainEvent) (all : List Stated) (i 
     (reached : List Touched) × (reach has e (map live_of all) ≡ Ok reached) × IsReach reached r
 reaches_last has e all i r h w = (
   w.so_far,
-  w.rest_is ∙ ap (λ (ts : List Stated). after w.so_far (reach has e (map live_of ts))) (drop_end all i h) ∙ reach_end has e w.so_far,
+  w.rest_is ∙ ap (λ (ts : List Stated). after w.so_far (reach has e (map live_of ts))) (drop_all i all h) ∙ reach_end has e w.so_far,
   record { moved = w.moved_is; interrupted = w.interrupted_is },
 )
 

@@ -1,8 +1,8 @@
 -- Text in pieces: written, waiting on the page, and to come.
-use Rattle.std.proofs.Common.{◌≡◌, ℕ, suc, ◌+◌, ◌<◌, ◌≤◌, arith, List, [], ◌∷◌, ◌++◌, length, add-one, take, drop, get_or, refl, ap, sym, subst, ◌∙◌, append_assoc, append-nil, take-append-drop, flat_map, Option, Some, None}
+use Rattle.std.proofs.Common.{◌≡◌, ℕ, ◌+◌, ◌<◌, ◌≤◌, arith, List, [], ◌∷◌, ◌++◌, length, take, drop, get_or, refl, ap, sym, subst, ◌∙◌, append_assoc, append-nil, take-append-drop, flat_map, Option, Some, None}
 use Rattle.std.proofs.lemmas.List.{take_more, take_all, take-append-le}
 use Rattle.std.proofs.lemmas.Grind.{flat_map-append}
-use Rattle.std.proofs.Math.Seq.{drop-cons}
+use Rattle.js_data.proofs.Shared.{drop_is}
 use Rattle.bp_base.specs.Pieces.{Appends, AppendsFront}
 use Rattle.bp_base.proofs.Appending.{appends-on}
 use Rattle.bp_log.specs.declared.trace.Line.{Line}
@@ -120,9 +120,6 @@ pub written_front_part : (a b c : Option (List ℕ)) (text page : List ℕ) → 
 written_front_part a b c text page s h = part_front a b c s.shown page s.rest text s.is_text s.shows h
 
 -- ---- lines
-
-drop_is : {A : Type 0} (xs : List A) (i : ℕ) (x : A) → i < length xs → x ≡ get_or xs i x → drop i xs ≡ x ∷ drop (i + 1) xs
-drop_is xs i x h e = rw add-one (drop-cons xs i x h ∙ ap (λ (y : _). y ∷ drop (suc i) xs) (sym e))
 
 pub lines_text-append : (xs ys : List Line) → lines_text (xs ++ ys) ≡ lines_text xs ++ lines_text ys
 unfolding lines_text

@@ -1,6 +1,7 @@
 -- What turns leave of an arbiter, whatever run it serves.
 use Rattle.std.proofs.Common.{◌≡◌, ◌⊎◌, inl, inr, false, List, [], ◌∷◌, ◌++◌, refl, ap, sym, ◌∙◌, append-nil, Option, Some, None, Ok, Err}
 use Rattle.std.specs.Prelude.{Result, OnOk}
+use Rattle.js_data.proofs.Shared.{one_answer}
 use Rattle.js_value.specs.Value.{PlainSet}
 use Rattle.js_meaning.specs.Bodies.{Origin}
 use Rattle.bp_log.specs.Options.{PlainOptions}
@@ -18,7 +19,8 @@ use Rattle.bp_floor.specs.declared.phase.Phase.{Phase}
 use Rattle.bp_floor.specs.declared.phase.Phase.TheVariants.{Ready, Lent, Rest, Over}
 use Rattle.bp_floor.specs.Floors.{phase_at, phase_of}
 use Rattle.bp_arbiter.specs.Arbiters.{PlainArbiter, code_in, options_in, stand_in, Recounts, StandsFor, StandsSomewhere, is_lent}
-use Rattle.bp_arbiter.specs.Sealing.{ending, ended_with, after_turn}
+use Rattle.bp_arbiter.specs.Sealing.{ending, after_turn}
+use Rattle.bp_arbiter.proofs.Seals.{ended_verdict}
 use Rattle.bp_serve.specs.Serving.{OnTheWay, Underway}
 use Rattle.bp_serve.specs.Turning.{Closes, Settles}
 use Rattle.bp_serve.proofs.Verdicts.{settles_over}
@@ -81,20 +83,13 @@ closes_by old mid new ns (Some w) p q r recorded ph over =
       comes = λ c h. over c (recounts_on old mid c p q r h) w refl;
     })
 
-ended_verdict : (q : Pair Origin) (v : Option Verdict) → q.stand.verdict ≡ v → (ended_with v q).stand.verdict ≡ v
-ended_verdict q None h = h
-ended_verdict q (Some v) h = refl
-
-same_configuration : (x : Option (Configuration Origin)) (c d : Configuration Origin) → x ≡ Some c → x ≡ Some d → c ≡ d
-same_configuration x c d h k = cc
-
 -- a verdict of merging is that of the story
 merged_verdict : (mid new : PlainArbiter) (jobs : List Job) (taken : List Line) (p : Pair Origin) (v : Verdict) → StandsFor mid jobs taken p → StandsFor new [] taken (after_turn (code_in mid) p) →
     (stand_in new).verdict ≡ Some v → (c : Configuration Origin) → Recounts mid c → c.stand.verdict ≡ Some v
 merged_verdict mid new jobs taken p v s t e c h =
     let q = turn (code_in mid) p in
     let shown : q.stand.verdict ≡ Some v = sym (ended_verdict q q.stand.verdict refl) ∙ ap (λ (x : Pair Origin). x.stand.verdict) t.floor ∙ e in
-    ap (λ (x : Configuration Origin). x.stand.verdict) (same_configuration (story (code_in mid) (options_in mid) mid.records) c s.told h s.story)
+    ap (λ (x : Configuration Origin). x.stand.verdict) (one_answer (story (code_in mid) (options_in mid) mid.records) c s.told h s.story)
     ∙ ap (λ (x : Stand Origin). x.verdict) s.settles ∙ settles_over (code_in mid) p v shown
 
 -- the lent jobs were sealed

@@ -1,15 +1,15 @@
 -- A run on its way to its end.
-use Rattle.std.proofs.Common.{◌≡◌, ℕ, zero, suc, ◌+◌, ◌-◌, ◌<◌, ◌≤◌, true, false, List, [], ◌∷◌, ◌++◌, length, take, drop, refl, ap, sym, ◌∙◌, subst, append_assoc, append-nil, length-append, arith, Option, Some, None, Ok, Err, option_map, IsSomeAnd}
+use Rattle.std.proofs.Common.{◌≡◌, ℕ, zero, suc, ◌+◌, ◌-◌, ◌<◌, ◌≤◌, true, List, [], ◌∷◌, ◌++◌, length, take, drop, refl, ap, sym, ◌∙◌, subst, append_assoc, append-nil, length-append, arith, Option, Some, None, Ok, Err, option_map, IsSomeAnd}
 use Rattle.std.specs.Prelude.{option_to_list, Result, OnOk, OnErr}
-use Rattle.js_data.specs.Event.{PlainEvent}
+use Rattle.std.proofs.lemmas.List.{length_push}
 use Rattle.js_value.specs.Value.{PlainSet}
 use Rattle.js_meaning.specs.State.{Ground}
 use Rattle.js_meaning.specs.Bodies.{Origin}
 use Rattle.bp_log.specs.Options.{PlainOptions}
-use Rattle.bp_log.specs.Records.{is_complete, verdict_of}
+use Rattle.bp_log.specs.Records.{verdict_of}
 use Rattle.bp_log.specs.Texts.{lines_text}
 use Rattle.bp_log.specs.declared.record.Record.{Record}
-use Rattle.bp_log.specs.declared.record.Record.TheVariants.{In, Bad, Eof, Sel, End}
+use Rattle.bp_log.specs.declared.record.Record.TheVariants.{Sel, End}
 use Rattle.bp_log.specs.declared.trace.Line.{Line}
 use Rattle.bp_log.specs.declared.verdict.Verdict.{Verdict}
 use Rattle.bp_run.specs.Bodies.{Code}
@@ -39,6 +39,7 @@ use Rattle.bp_serve.specs.Ends.{verdict_alone}
 use Rattle.bp_serve.specs.Pages.{Shows, ShowsFront}
 use Rattle.bp_serve.specs.Serving.{Ahead, OnTheWay, Underway, KeepsUnderway, Begins, TakesLines}
 use Rattle.bp_log.specs.Logs.{records_text}
+use Rattle.bp_log.proofs.Complete.{incomplete_on}
 use Rattle.bp_serve.specs.Logging.{LogShows, LogShowsFront}
 use Rattle.bp_serve.proofs.Logging.{log_more_on, log_more_front}
 use Rattle.bp_serve.proofs.Pieces.{records_kept, records_later, lines_text-append, lines_none, let_go, shows_page, shows_on, front_on, written_all, written_front, written_part, written_front_part}
@@ -60,15 +61,6 @@ ahead_first l o i =
       goes_on = refl;
     }
 
-incomplete_on : (rs : List Record) (e : PlainEvent) → is_complete (rs ++ Sel e ∷ []) ≡ false
-incomplete_on [] e = refl
-incomplete_on (In j f ∷ rs) e = incomplete_on rs e
-incomplete_on (Bad j n ∷ rs) e = incomplete_on rs e
-incomplete_on (Eof j ∷ rs) e = incomplete_on rs e
-incomplete_on (Sel f ∷ rs) e = incomplete_on rs e
-incomplete_on (End v ∷ []) e = refl
-incomplete_on (End v ∷ r ∷ rs) e = incomplete_on (r ∷ rs) e
-
 ends_left : (l : Code Origin PlainSet) (o : PlainOptions) (rs : List Record) (c : Configuration Origin) (v : Verdict) (n : ℕ) → next l o c ≡ Ends v →
     n + c.stand.transitions ≡ o.steps + 1 → c.stand.transitions ≤ o.steps → rs ++ alone_from l o n c ≡ alone l o → rs ++ End v ∷ [] ≡ alone l o
 ends_left l o rs c v zero h f w g = absurd (omega arith)
@@ -87,7 +79,7 @@ selects_left l o rs c ch r (suc n) a h f g =
     let x : Next = Selects ch r in
     record {
       story_is = subst (λ (y : Next). story l o (rs ++ option_to_list (record_of y)) ≡ Some (after_next l c y)) h (goes_on l o rs c a.story_is a.incomplete);
-      incomplete = incomplete_on rs ch.event;
+      incomplete = incomplete_on rs (Sel ch.event) refl;
       left = n;
       fuel = omega (arith, f, more);
       within = omega (arith, less, more);
@@ -112,13 +104,10 @@ picked_way l o rs c ns (Ends v) a h = ends_at l o rs c v a h
 picked_way l o rs c ns (Selects ch r) a h = moved_way l o (rs ++ Sel ch.event ∷ []) (move l c ch r) ns (selects_at l o rs c ch r a h)
 picked_way l o rs c ns Waits a h = absurd (waits_not l o c a.reading h)
 
-one_more : (rs : List Record) (r : Record) → length (rs ++ r ∷ []) ≡ length rs + 1
-one_more rs r = length-append rs (r ∷ [])
-
 picked_more : (l : Code Origin PlainSet) (o : PlainOptions) (rs : List Record) (c : Configuration Origin) (x : Next) → Ahead l o rs c → next l o c ≡ x →
     length (rs ++ option_to_list (record_of x)) ≡ length rs + 1
-picked_more l o rs c (Ends v) a h = one_more rs (End v)
-picked_more l o rs c (Selects ch r) a h = one_more rs (Sel ch.event)
+picked_more l o rs c (Ends v) a h = length_push rs (End v)
+picked_more l o rs c (Selects ch r) a h = length_push rs (Sel ch.event)
 picked_more l o rs c Waits a h = absurd (waits_not l o c a.reading h)
 
 -- a turn goes on with it, or ends it

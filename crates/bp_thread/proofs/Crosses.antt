@@ -1,24 +1,16 @@
 -- Jobs may move to other threads, with their machines, effects and statements.
-use denote.RattleType.{RattleType}
-use denote.Struct.Tuple.{Tuple, tuple_type}
-use denote.Struct.Field.{row_field}
 use denote.Param.Send.{IsSend, IsSync, sendable}
-use denote.Param.SendFields.{declared_send, declared_sync, variants_send, as_row_sync}
-use mathlib.Core.List.{[], ◌∷◌}
+use denote.Param.SendFields.{declared_send, variants_send}
 use Rattle.std.specs.contracts.sync.Arc as Arc
 use Rattle.std.specs.contracts.alloc.Global as Heap
 use Rattle.std.specs.contracts.impls.GlobalAllocator.TheImpl.{ghosts}
-use Rattle.std.proofs.Crossing.{crosses, Arc-send, Vec-sync, send as heap_send}
-use Rattle.js_data.specs.contracts.text.Text as Text
-use Rattle.js_data.specs.contracts.event.Event as Event
-use Rattle.js_data.specs.contracts.data.Data as Data
-use Rattle.js_data.proofs.data.Data.TheLaws.TheKnot as data_knot
+use Rattle.std.proofs.Crossing.{crosses, Arc-send, send as heap_send}
 use Rattle.js_data.proofs.fault.Fault.TheSendSync as fault
 use Rattle.js_data.proofs.whole.Whole.TheSendSync as whole
+use Rattle.js_data.proofs.Crosses.{text_send, event_send, event_sync}
 use Rattle.js_program.proofs.builtin.Mode.TheSendSync as mode
-use Rattle.js_program.proofs.Crosses.{text_send, text_sync}
 use Rattle.js_value.proofs.Crosses.{items_send, value_send, event_set_send}
-use Rattle.js_frames.proofs.Crosses.{event_send, effects_send, machine_send}
+use Rattle.js_frames.proofs.Crosses.{effects_send, machine_send}
 use Rattle.bp_thread.specs.contracts.events.Events as Events
 use Rattle.bp_thread.specs.contracts.requests.Requests as Requests
 use Rattle.bp_thread.specs.contracts.statement.Statement as Statement
@@ -30,15 +22,6 @@ events_send : IsSend Events.the_row
 events_send = search (sendable, crosses, event_send) depth 18
 
 -- ---- requested events are shared
-
-pair_sync : (h : RattleType) → IsSync h → IsSync (Tuple (Text.the_row ∷ h ∷ []))
-pair_sync h s = declared_sync (tuple_type (Text.the_row ∷ h ∷ [])) (as_row_sync (row_field Text.the_row) text_sync, (as_row_sync (row_field h) s, tt))
-
-data_sync : IsSync (Data.the_field).row
-data_sync = data_knot.sync-Data (search sendable) (search (sendable, whole.the_sync)) (search (sendable, text_sync)) Vec-sync (λ h s. Vec-sync _ (pair_sync h s))
-
-event_sync : IsSync Event.the_row
-event_sync = search (sendable, crosses, data_sync, text_sync) depth 18
 
 events_sync : IsSync Events.the_row
 events_sync = search (sendable, crosses, event_sync) depth 18

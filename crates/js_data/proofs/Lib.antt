@@ -1,3 +1,5 @@
 pub mod Same
 pub mod SameEvent
 mod Examples
+pub mod Crosses
+pub mod Shared

@@ -2,6 +2,7 @@
 use Rattle.std.proofs.Common.{◌≡◌, ◌≢◌, ℕ, List, [], ◌∷◌, length, Bool, true, false, ◌&&◌, refl, sym, ap, suc, subst, true≢false}
 use Rattle.std.specs.Bool.{Decides}
 use Rattle.std.specs.Cmp.{booleans_Decides, signed_Decides}
+use Rattle.std.proofs.lemmas.Bool.{and_parts}
 use Rattle.std.proofs.lemmas.Slice.Eq.{bytes_eq-Decides}
 use Rattle.js_data.specs.Data.{PlainData, null, truth, whole, words, list, fields, DataList, no_data, item, DataFields, no_fields, field, same_data, same_data_list, same_data_fields}
 use Rattle.js_data.specs.Views.{data_list_view, data_fields_view}
@@ -25,10 +26,6 @@ fields_differ_by_length (x ∷ xs) (y ∷ ys) h = rw (fields_differ_by_length xs
 
 -- ---- equality
 
-pub both : (a b : Bool) → (a && b) ≡ true → (a ≡ true) × (b ≡ true)
-both true b e = (refl, e)
-both false b e = absurd (true≢false (sym e))
-
 mutual
   pub same_data-sound : (d e : PlainData) → same_data d e ≡ true → d ≡ e
   same_data-sound null null h = refl
@@ -42,7 +39,7 @@ mutual
   pub same_list-sound : (ds es : DataList) → same_data_list ds es ≡ true → ds ≡ es
   same_list-sound no_data no_data h = refl
   same_list-sound (item d ds) (item e es) h =
-      let p = both _ _ h in
+      let p = and_parts _ _ h in
       let x = same_data-sound d e p.0 in
       let y = same_list-sound ds es p.1 in
       cc
@@ -51,8 +48,8 @@ mutual
   pub same_fields-sound : (fs gs : DataFields) → same_data_fields fs gs ≡ true → fs ≡ gs
   same_fields-sound no_fields no_fields h = refl
   same_fields-sound (field k d fs) (field l e gs) h =
-      let p = both _ _ h in
-      let q = both _ _ p.0 in
+      let p = and_parts _ _ h in
+      let q = and_parts _ _ p.0 in
       let w = (bytes_eq-Decides k l).0 q.0 in
       let x = same_data-sound d e q.1 in
       let y = same_fields-sound fs gs p.1 in

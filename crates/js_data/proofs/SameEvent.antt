@@ -4,7 +4,8 @@ use Rattle.std.specs.Bool.{Decides}
 use Rattle.std.proofs.lemmas.Slice.Eq.{bytes_eq-Decides}
 use Rattle.js_data.specs.Data.{PlainData}
 use Rattle.js_data.specs.Event.{PlainEvent, same_extra, same_event}
-use Rattle.js_data.proofs.Same.{both, same_data-sound, same_data-self}
+use Rattle.std.proofs.lemmas.Bool.{and_parts}
+use Rattle.js_data.proofs.Same.{same_data-sound, same_data-self}
 
 same_extra-sound : (o p : Option PlainData) → same_extra o p ≡ true → o ≡ p
 same_extra-sound None None h = refl
@@ -18,7 +19,7 @@ same_extra-self (Some d) = same_data-self d
 
 pub same_event-sound : (e f : PlainEvent) → same_event e f ≡ true → e ≡ f
 same_event-sound e f h =
-    let p = both _ _ h in
+    let p = and_parts _ _ h in
     let name = (bytes_eq-Decides e.name f.name).0 p.0 in
     let extra = same_extra-sound e.extra f.extra p.1 in
     λ i. record { name = name i; extra = extra i }

@@ -24,9 +24,9 @@ escaped_byte x =
 abbrev pub quoted_text : List ℕ → List ℕ
 quoted_text s = 34 ∷ (flat_map escaped_byte s ++ 34 ∷ [])
 
-abbrev pub truth_json : Bool → List ℕ
-truth_json true = codes "true"
-truth_json false = codes "false"
+abbrev pub truth_text : Bool → List ℕ
+truth_text true = codes "true"
+truth_text false = codes "false"
 
 abbrev pub comma : Bool → List ℕ
 comma later = if later then 44 ∷ [] else []
@@ -35,7 +35,7 @@ comma later = if later then 44 ∷ [] else []
 abbrev mutual
   pub data_text : PlainData → List ℕ
   data_text null = codes "null"
-  data_text (truth b) = truth_json b
+  data_text (truth b) = truth_text b
   data_text (whole n) = signed_decimal n
   data_text (words s) = quoted_text s
   data_text (list ds) = 91 ∷ data_list_text false ds

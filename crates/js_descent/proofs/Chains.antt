@@ -17,7 +17,8 @@ use Rattle.js_steps.specs.declared.stop.Stop.{Stop}
 use Rattle.js_steps.specs.declared.stop.Stop.TheVariants.{NoTree, Memory}
 use Rattle.js_steps.specs.Read.{left}
 use Rattle.js_steps.specs.Read.{IsExpr}
-use Rattle.js_descent.proofs.Using.{operated_turn, operators_next, operators_none}
+use Rattle.js_steps.proofs.Loops.{operated_turn}
+use Rattle.js_descent.proofs.Using.{operators_next, operators_none}
 
 -- a tree that is too deep takes no operator
 pub chain_deep : (n line k : ℕ) (op : Operator) (a : PlainExpr) (t : Token) (ts : List Token) → operator_at k t ≡ Some op → n < nesting a →

@@ -1,18 +1,12 @@
 -- What the readers do at one step.
-use Rattle.std.proofs.Common.{◌≡◌, ℕ, zero, suc, ◌+◌, ◌-◌, ◌<◌, ◌≤◌, max, ◌∙◌, add-one, subst, inl, inr, true, false, List, [], ◌∷◌, ◌++◌, map, Option, Some, None, refl, sub-one, arith}
+use Rattle.std.proofs.Common.{◌≡◌, ℕ, zero, suc, ◌+◌, ◌-◌, ◌<◌, ◌≤◌, ◌∙◌, add-one, subst, inl, inr, true, false, List, [], ◌∷◌, ◌++◌, Some, None, refl, sub-one, arith}
 use Rattle.std.proofs.Math.Nat.{eq-or-lt_of_le}
 use Rattle.js_lexer.specs.declared.token.Token.{Token}
 use Rattle.js_tree.specs.declared.tree.Name.{Name}
-use Rattle.js_tree.specs.declared.tree.Expr.{Expr}
-use Rattle.js_tree.specs.declared.tree.Field.{Field}
-use Rattle.js_tree.specs.declared.tree.Declarator.{Declarator}
-use Rattle.js_tree.specs.declared.tree.Stmt.{Stmt}
 use Rattle.js_tree.specs.declared.tree.DeclareKind.{DeclareKind}
 use Rattle.js_tree.specs.Plain as p
 use Rattle.js_tree.specs.Plain.{PlainExpr, at, on, PlainField, PlainDeclarator, PlainStmt, exprs_of, fields_of, declarators_of, stmts_of}
-use Rattle.js_tree.specs.Nesting.{nesting, deepest, deepest_field, deepest_declarator, perhaps_nesting, stmt_nesting, deepest_stmt}
 use Rattle.js_tree.specs.Endings.{ending}
-use Rattle.js_tree.specs.Views.{plain_expr, plain_field, plain_declarator, plain_stmt}
 use Rattle.js_lexer.specs.declared.sort.Sort.{Sort}
 use Rattle.js_grammar.specs.Sorts.{spot}
 use Rattle.js_grammar.specs.Arrows.{starts_function}
@@ -23,10 +17,7 @@ use Rattle.js_grammar.specs.Expressions as exprs
 use Rattle.js_grammar.specs.Statements as stmts
 use Rattle.js_grammar.specs.Reading.{next_turn, run, and_then, after, after_some, done}
 use Rattle.js_grammar.specs.Reader.{readers}
-use Rattle.js_steps.specs.Passed.{first, at_first}
-use Rattle.js_steps.proofs.Loops as loops
-use Rattle.js_steps.proofs.Using as using
-use Rattle.js_tree.proofs.Rows as rows
+use Rattle.js_steps.specs.Passed.{at_first}
 
 -- room
 
@@ -98,12 +89,6 @@ statement_in (suc n) ts h = rw sub-one refl
 
 -- tokens that are wanting
 
-pub after_none : {B : Type 0} (k : Sort) (ts : List Token) (f : List Token → Option B) → starts k ts ≡ false → after k ts f ≡ None
-after_none = using.after_none
-
-pub held_none : {A B : Type 0} (g : Token → Option A) (ts : List Token) (f : A → List Token → Option B) → first g ts ≡ None → after_some g ts f ≡ None
-held_none = using.held_none
-
 pub choice_alone : (n line : ℕ) (a : PlainExpr) (ts : List Token) → starts Sort.Question ts ≡ false → exprs.choice_after n (readers n) line a ts ≡ Some (a, ts)
 choice_alone n line a [] h = refl
 choice_alone n line a (t ∷ ts) h = rw h refl
@@ -129,10 +114,6 @@ value_none n alone k x (t ∷ ts) h c = rw (h, c) refl
 
 -- lists
 
-pub elements_turn : (n : ℕ) (c : Sort) (es : List PlainExpr) (ts : List Token) →
-    run (exprs.elements_step n (readers n) c) es ts ≡ next_turn (run (exprs.elements_step n (readers n) c)) (exprs.elements_step n (readers n) c es ts)
-elements_turn = loops.elements_turn
-
 pub elements_begin : (n : ℕ) (c : Sort) (es : List PlainExpr) (ts : List Token) → starts c ts ≡ false →
     exprs.elements_step n (readers n) c es ts ≡ and_then ((readers n).expr Assignment ts) (λ e r. exprs.next_element n (readers n) c (es ++ e ∷ []) r)
 elements_begin n c es [] h = rw (nothing_read n) refl
@@ -141,10 +122,6 @@ elements_begin n c es (t ∷ ts) h = rw h refl
 pub next_element_none : (n : ℕ) (c : Sort) (es : List PlainExpr) (ts : List Token) → starts c ts ≡ false → starts Sort.Comma ts ≡ false → exprs.next_element n (readers n) c es ts ≡ None
 next_element_none n c es [] h k = refl
 next_element_none n c es (t ∷ ts) h k = rw (h, k) refl
-
-pub fields_turn : (n : ℕ) (fs : List PlainField) (ts : List Token) →
-    run (exprs.fields_step n (readers n)) fs ts ≡ next_turn (run (exprs.fields_step n (readers n))) (exprs.fields_step n (readers n) fs ts)
-fields_turn = loops.fields_turn
 
 pub fields_begin : (n : ℕ) (fs : List PlainField) (ts : List Token) → starts Sort.RightBrace ts ≡ false →
     exprs.fields_step n (readers n) fs ts ≡ and_then (at_first (exprs.field_at n (readers n)) ts) (λ f r. exprs.next_field n (readers n) (fs ++ f ∷ []) r)
@@ -155,25 +132,9 @@ pub next_field_none : (n : ℕ) (fs : List PlainField) (ts : List Token) → sta
 next_field_none n fs [] h k = refl
 next_field_none n fs (t ∷ ts) h k = rw (h, k) refl
 
-pub declarators_turn : (n : ℕ) (k : DeclareKind) (ds : List PlainDeclarator) (ts : List Token) →
-    run (exprs.declarators_step n (readers n) k) ds ts ≡ next_turn (run (exprs.declarators_step n (readers n) k)) (exprs.declarators_step n (readers n) k ds ts)
-declarators_turn = loops.declarators_turn
-
 pub next_declarator_stop : (n : ℕ) (ds : List PlainDeclarator) (ts : List Token) → starts Sort.Comma ts ≡ false → exprs.next_declarator n (readers n) ds ts ≡ Some (done ds ts)
 next_declarator_stop n ds [] h = refl
 next_declarator_stop n ds (t ∷ ts) h = rw h refl
-
-pub statements_turn : (n : ℕ) (ss : List PlainStmt) (ts : List Token) →
-    run (exprs.statements_step n (readers n)) ss ts ≡ next_turn (run (exprs.statements_step n (readers n))) (exprs.statements_step n (readers n) ss ts)
-statements_turn = loops.statements_turn
-
-pub called_turn : (n line : ℕ) (e : PlainExpr) (ts : List Token) →
-    run (exprs.called_step n (readers n) line) e ts ≡ next_turn (run (exprs.called_step n (readers n) line)) (exprs.called_step n (readers n) line e ts)
-called_turn = loops.called_turn
-
-pub operated_turn : (n line k : ℕ) (e : PlainExpr) (ts : List Token) →
-    run (exprs.operated_step n (readers n) line k) e ts ≡ next_turn (run (exprs.operated_step n (readers n) line k)) (exprs.operated_step n (readers n) line k e ts)
-operated_turn = loops.operated_turn
 
 pub operators_next : (n k : ℕ) (ts : List Token) (e : PlainExpr) (r : List Token) → exprs.operators n (readers n) k ts ≡ Some (e, r) →
     exprs.operators n (readers n) (k + 1) ts ≡ run (exprs.operated_step n (readers n) (line_of ts) k) e r
@@ -186,27 +147,3 @@ operators_none n k (suc m) ts h e = elim (eq-or-lt_of_le h) as (λ s. exprs.oper
   | inl z ↦ subst (λ (x : ℕ). exprs.operators n (readers n) x ts ≡ None) z e
   | inr l ↦ rw (operators_none n k m ts (omega arith) e) refl
 ]
-
-pub map_push : (es : List Expr) (e : Expr) → map plain_expr (es ++ e ∷ []) ≡ map plain_expr es ++ plain_expr e ∷ []
-map_push = rows.map_push
-
-pub map_push_field : (es : List Field) (e : Field) → map plain_field (es ++ e ∷ []) ≡ map plain_field es ++ plain_field e ∷ []
-map_push_field = rows.map_push_field
-
-pub map_push_declarator : (es : List Declarator) (e : Declarator) → map plain_declarator (es ++ e ∷ []) ≡ map plain_declarator es ++ plain_declarator e ∷ []
-map_push_declarator = rows.map_push_declarator
-
-pub map_push_stmt : (es : List Stmt) (e : Stmt) → map plain_stmt (es ++ e ∷ []) ≡ map plain_stmt es ++ plain_stmt e ∷ []
-map_push_stmt = rows.map_push_stmt
-
-pub deepest_push : (es : List PlainExpr) (e : PlainExpr) → deepest (exprs_of (es ++ e ∷ [])) ≡ max (deepest (exprs_of es)) (nesting e)
-deepest_push = rows.deepest_push
-
-pub deepest_push_field : (fs : List PlainField) (f : PlainField) → deepest_field (fields_of (fs ++ f ∷ [])) ≡ max (deepest_field (fields_of fs)) (nesting f.value)
-deepest_push_field = rows.deepest_push_field
-
-pub deepest_push_declarator : (ds : List PlainDeclarator) (d : PlainDeclarator) → deepest_declarator (declarators_of (ds ++ d ∷ [])) ≡ max (deepest_declarator (declarators_of ds)) (perhaps_nesting d.value)
-deepest_push_declarator = rows.deepest_push_declarator
-
-pub deepest_push_stmt : (ss : List PlainStmt) (s : PlainStmt) → deepest_stmt (stmts_of (ss ++ s ∷ [])) ≡ max (deepest_stmt (stmts_of ss)) (stmt_nesting s)
-deepest_push_stmt = rows.deepest_push_stmt

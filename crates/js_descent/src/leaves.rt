@@ -39,7 +39,7 @@ pub fn used(cursor: &mut Cursor<'_>) -> Answer<Expr>
 }
 
 /// `++` or `--` behind a name.
-#[tactic(auto, using(crate::proofs::Using::held_none))]
+#[tactic(auto, using(js_steps::proofs::Using::held_none))]
 pub fn postfix(cursor: &mut Cursor<'_>) -> Answer<Expr>
     ensures { IsExpr (at_first postfix_at) 1 cursor.old cursor.new result }
 {
@@ -68,7 +68,7 @@ pub fn continue_of(cursor: &mut Cursor<'_>) -> Answer<Stmt>
 }
 
 /// A member, behind its dot.
-#[tactic(auto, using(crate::proofs::Using::held_none))]
+#[tactic(auto, using(js_steps::proofs::Using::held_none))]
 pub fn member(cursor: &mut Cursor<'_>, line: u32, object: Found<Expr>, inner: u32) -> Answer<Expr>
     requires room { inner < u32.MAX }
     requires measured { object.depth ≡ nesting (plain_expr object.tree) }

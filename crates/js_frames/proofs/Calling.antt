@@ -33,7 +33,7 @@ use Rattle.js_frames.specs.declared.frame.Frame.{Frame}
 use Rattle.js_frames.specs.declared.frame.Frame.TheVariants.{Waiting, Called}
 use Rattle.js_frames.specs.Places.{Place, Beside, plain_effects, place_of, setting_at, state_at}
 use Rattle.js_frames.specs.Frames.{plain_completion, rest, resume, plug, statements_in, statements_of, sequence_from, walk_from}
-use Rattle.js_frames.specs.Fits.{IsNode, AreNodes, SequenceFits, FrameFits, StackFits}
+use Rattle.js_frames.specs.Fits.{IsNode, SequenceFits, FrameFits, StackFits}
 use Rattle.js_program.specs.Views.{plain_content}
 use Rattle.js_program.specs.declared.node.Content.{Content}
 use Rattle.js_program.specs.declared.node.Content.TheVariants as content
@@ -146,10 +146,6 @@ next_statement g which place n s at = ap (λ l. sequence (eval g) l s) (sym (dro
 
 pub no_statement : (g : Setting) (which : Sequence) (place : ℕ) (s : State) → slice_get (statements_of g.base.program which) place ≡ None → leaves s ≡ sequence_from g which place s
 no_statement g which place s at = ap (λ l. sequence (eval g) l s) (sym (drop_past (statements_of g.base.program which) place at))
-
--- the statements of a sequence are nodes
-pub statement_inside : (program : PlainProgram) (which : Sequence) (place n : ℕ) → AreNodes program (statements_of program which) → slice_get (statements_of program which) place ≡ Some n → IsNode program n
-statement_inside program which place n are at = are place n at
 
 -- the frame of a body whose content is known
 pub statements_fit : (program : PlainProgram) (held : Content) (ns : _) (which : Sequence) → held ≡ content.Statements ns → SequenceFits program which → FrameFits program (body_frame (plain_content held) which)

@@ -1,21 +1,12 @@
 -- Grounds, machines and effects may cross threads.
-use denote.RattleType.{RattleType}
-use denote.Struct.Tuple.{Tuple, tuple_type}
-use denote.Struct.Field.{row_field}
 use denote.Param.Send.{IsSend, IsSync, sendable}
-use denote.Param.SendFields.{declared_send, variants_send, as_row_send}
-use mathlib.Core.List.{[], ◌∷◌}
+use denote.Param.SendFields.{declared_send, variants_send}
 use Rattle.std.proofs.Crossing.{crosses, Vec-send, send as heap_send}
-use Rattle.js_data.specs.contracts.text.Text as Text
-use Rattle.js_data.specs.contracts.event.Event as Event
-use Rattle.js_data.specs.contracts.data.Data as Data
-use Rattle.js_data.specs.contracts.whole.Whole as Whole
 use Rattle.js_data.proofs.fault.Fault.TheSendSync as fault
-use Rattle.js_data.proofs.whole.Whole.TheSendSync as whole
-use Rattle.js_data.proofs.data.Data.TheLaws.TheKnot as data_knot
+use Rattle.js_data.proofs.Crosses.{text_send, event_send}
 use Rattle.js_program.proofs.builtin.Mode.TheSendSync as mode
 use Rattle.js_program.proofs.node.Variable.TheSendSync as variable
-use Rattle.js_program.proofs.Crosses.{text_send, program_send, program_sync}
+use Rattle.js_program.proofs.Crosses.{program_send, program_sync}
 use Rattle.js_ops.specs.contracts.rules.Rules as Rules
 use Rattle.js_value.proofs.op.Op.TheSendSync as op
 use Rattle.js_value.proofs.Crosses.{items_send, value_send, value_sync}
@@ -34,18 +25,6 @@ use Rattle.js_frames.specs.contracts.machine.Pending as Pending
 use Rattle.js_frames.specs.contracts.slots.Slots as Slots
 use Rattle.js_frames.specs.contracts.step.Step as Step
 use Rattle.js_frames.specs.contracts.values.Values as Values
-
-whole_send : IsSend Whole.the_row
-whole_send = search (sendable, whole.the_send)
-
-pair_send : (h : RattleType) → IsSend h → IsSend (Tuple (Text.the_row ∷ h ∷ []))
-pair_send h s = declared_send (tuple_type (Text.the_row ∷ h ∷ [])) (as_row_send (row_field Text.the_row) text_send, (as_row_send (row_field h) s, tt))
-
-data_send : IsSend (Data.the_field).row
-data_send = data_knot.send-Data (search sendable) (search (sendable, whole_send)) (search (sendable, text_send)) Vec-send (λ h s. Vec-send _ (pair_send h s))
-
-pub event_send : IsSend Event.the_row
-event_send = search (sendable, crosses, data_send, text_send) depth 18
 
 -- ---- grounds
 

@@ -27,11 +27,6 @@ use Rattle.js_frames.proofs.Lists.{drop_at, drop_past}
 use Rattle.js_frames.proofs.Steps.{limits, moves, moves_ok, on_ok, wait_leads}
 use Rattle.js_frames.specs.Places.{Place, Beside, setting_at, state_at, put_at, undefined_at, held_at}
 
--- where a declared variable has its value
-pub state_put : (x : Variable) (y : PlainValue) (old : Place) (b : Beside) → state_at (put_at x y old) b ≡ set_variable x y (state_at old b)
-state_put (Slot k) y old b = refl
-state_put (Constant k) y old b = refl
-
 pub state_undefined : (kind : DeclareKind) (x : Variable) (old : Place) (b : Beside) → state_at (undefined_at kind x old) b ≡ without_value kind x (state_at old b)
 state_undefined Const (Slot k) old b = refl
 state_undefined Const (Constant k) old b = refl

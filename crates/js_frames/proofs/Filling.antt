@@ -33,10 +33,6 @@ push_next ys zs xs us k x u e get put =
     ∙ ap (λ l. ys ++ (Some x ∷ map Some l)) (ap (drop (k + 1)) put ∙ drop_put xs k u)
     ∙ ap (λ l. ys ++ map Some l) (sym (drop_at xs k x (sym get)))
 
--- one more element of a fold
-pub fold_next : {X Y : Type 0} (f : Y → X → Y) (y z : Y) (xs : List X) (k : ℕ) (x : X) → slice_get xs k ≡ Some x → z ≡ f y x → fold f z (drop (k + 1) xs) ≡ fold f y (drop k xs)
-fold_next f y z xs k x get e = ap (λ q. fold f q (drop (k + 1) xs)) e ∙ ap (fold f y) (sym (drop_at xs k x get))
-
 -- one more element that was made of the next
 pub moved_next : {X Y : Type 0} (f : X → Y) (ys zs : List Y) (xs : List X) (k : ℕ) (x : X) (y : Y) → zs ≡ ys ++ y ∷ [] → slice_get xs k ≡ Some x → y ≡ f x → zs ++ map f (drop (k + 1) xs) ≡ ys ++ map f (drop k xs)
 moved_next f ys zs xs k x y e get h =
@@ -44,13 +40,6 @@ moved_next f ys zs xs k x y e get h =
     ∙ append_assoc ys (y ∷ []) (map f (drop (k + 1) xs))
     ∙ ap (λ q. ys ++ (q ∷ map f (drop (k + 1) xs))) h
     ∙ ap (λ l. ys ++ map f l) (sym (drop_at xs k x get))
-
-pub copied_next : {X Y : Type 0} (f : X → Y) (ys zs : List (Option Y)) (xs : List X) (k : ℕ) (x : X) (y : Y) → zs ≡ ys ++ Some y ∷ [] → slice_get xs k ≡ Some x → y ≡ f x → zs ++ map Some (map f (drop (k + 1) xs)) ≡ ys ++ map Some (map f (drop k xs))
-copied_next f ys zs xs k x y e get h =
-    ap (λ l. l ++ map Some (map f (drop (k + 1) xs))) e
-    ∙ append_assoc ys (Some y ∷ []) (map Some (map f (drop (k + 1) xs)))
-    ∙ ap (λ q. ys ++ (Some q ∷ map Some (map f (drop (k + 1) xs)))) h
-    ∙ ap (λ l. ys ++ map Some (map f l)) (sym (drop_at xs k x get))
 
 pub padded_length : (n : ℕ) (vs : List PlainValue) → length (padded n vs) ≡ n
 padded_length n vs = omega (arith, length-append (take n vs) (replicate (n - length vs) undefined), length-take n vs, length-replicate (n - length vs) undefined)

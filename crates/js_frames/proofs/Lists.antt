@@ -51,17 +51,6 @@ padded_two (suc zero) x i l h = refl
 padded_two (suc (suc zero)) x i l h = refl
 padded_two (suc (suc (suc n))) x i l h = absurd (omega arith)
 
--- of the keys as many are taken as there are values, at most all
-pub taken_keys : (ks : List (Arc (List ℕ) Global)) (vs : List PlainValue) → length (map arc_value (take (length (take (length ks) vs)) ks)) ≡ length (take (length ks) vs)
-taken_keys [] vs = refl
-taken_keys (k ∷ ks) [] = refl
-taken_keys (k ∷ ks) (x ∷ vs) = ap suc (taken_keys ks vs)
-
-pub taken_few : (ks : List (Arc (List ℕ) Global)) (vs : List PlainValue) → length (take (length ks) vs) ≤ length ks
-taken_few [] vs = omega arith
-taken_few (k ∷ ks) [] = omega arith
-taken_few (k ∷ ks) (x ∷ vs) = let h = taken_few ks vs in omega arith
-
 -- one element is put, and then all are seen otherwise
 pub put_mapped : {X Y : Type 0} (f : X → Y) (xs : List X) (k : ℕ) (x : X) → map f (slice_set xs k x) ≡ slice_set (map f xs) k (f x)
 put_mapped f [] k x = refl

@@ -63,7 +63,8 @@ module _ (g : Setting) where
   abbrev pub parts_from : Option PlainNode → List PlainValue → State → Outcome
   parts_from None done s = spends s
   parts_from (Some node) done s =
-      in_order (eval g) (drop (length done) (parts_of node.form)) done (combines g (eval g) node.line node.form) s
+      in_order (eval g) (drop (length done) (parts_of node.form)) done
+      (combines g (eval g) node.line node.form) s
 
   -- the declarators of a node from a place on
   abbrev pub declares_from : PlainNodeForm → ℕ → State → Outcome
@@ -93,12 +94,14 @@ module _ (g : Setting) where
   -- a `forEach` from its index on
   abbrev pub walk_from : Walk → State → Outcome
   walk_from w s =
-      for_each_from g (eval g) w.line (v.function w.code w.captured) (v.list w.items) w.index (drop w.index (values_in w.items)) s
+      for_each_from g (eval g) w.line (v.function w.code w.captured) (v.list w.items) w.index
+      (drop w.index (values_in w.items)) s
 
   -- the rest of a node, from the value of the part that it waits for
   unfoldable pub rest : Part → PlainValue → State → Outcome
   rest (First n) x s = parts_from (slice_get g.base.program.nodes n) (x ∷ []) s
-  rest (Second n first) x s = parts_from (slice_get g.base.program.nodes n) (plain_value first ∷ x ∷ []) s
+  rest (Second n first) x s =
+      parts_from (slice_get g.base.program.nodes n) (plain_value first ∷ x ∷ []) s
   rest (Further n done) x s = parts_from (slice_get g.base.program.nodes n) (done ++ x ∷ []) s
   rest (Or right) x s = cond (is_truthy x) (gives x) (eval g right) s
   rest (And right) x s = cond (is_truthy x) (eval g right) (gives x) s
@@ -106,13 +109,16 @@ module _ (g : Setting) where
   rest (When body) x s = cond (is_truthy x) (eval g body) leaves s
   rest (Assigned k line) x s = if_declared line (in_slot k s.slots) (λ _. writes line k (Ok x)) s
   rest (AssignedWith op old k line) x s = writes line k (value_of op (plain_value old) x) s
-  rest (Declared n variable place) x s = declaring_from (slice_get g.base.program.nodes n) place (set_variable variable x s)
+  rest (Declared n variable place) x s =
+      declaring_from (slice_get g.base.program.nodes n) place (set_variable variable x s)
   rest Dropped x s = leaves s
   rest Returned x s = went (returned x) s
   rest (Statements which place) x s = sequence_from which place s
   rest (Started t) x s = loop t s
   rest (Tested t) x s =
-      cond (is_truthy x) (λ now. after_turn (eval g t.body now) (λ later. perhaps (eval g) t.next later >>= λ _. loop t)) leaves s
+      cond (is_truthy x)
+      (λ now. after_turn (eval g t.body now) (λ later. perhaps (eval g) t.next later >>= λ _. loop t))
+      leaves s
   rest (Between t) x s = loop t s
   rest (Listed k body line) x s = each_of (eval g) line k body x s
   rest (Walked w) x s = walk_from w s
@@ -137,7 +143,8 @@ module _ (g : Setting) where
   unfoldable pub step_outcome : Step → State → Outcome
   step_outcome (Begin n) s = eval g n s
   step_outcome (Give c) s = went (plain_completion c) s
-  step_outcome (Ask statement priority line) s = asks g.budget line (plain_value statement) (plain_value priority) s.replies s
+  step_outcome (Ask statement priority line) s =
+      asks g.budget line (plain_value statement) (plain_value priority) s.replies s
   step_outcome (Fail fault line) s = breaks fault line s
   step_outcome (Violate text) s = violated text (left_of s)
 
@@ -147,4 +154,5 @@ writes_behind line k old a s = writes line k a s >>= λ _. gives old
 
 -- what a machine comes to that stands there, with this step to come
 unfoldable pub future : js.Ground → Place → Step → Beside → Outcome
-future base m step beside = plug (setting_at base m) m.stack (step_outcome (setting_at base m) step (state_at m beside))
+future base m step beside =
+    plug (setting_at base m) m.stack (step_outcome (setting_at base m) step (state_at m beside))

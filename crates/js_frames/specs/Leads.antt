@@ -40,8 +40,10 @@ pub record Within (old new : Place) : Type 0 where
   pub above : old.floor ≤ old.fuel → old.floor ≤ new.fuel
 
 -- From old, the code that does this goes on to new, with this step to come.
-pub record Leads (base : js.Ground) (old : Place) (o : State → Outcome) (new : Place) (step : Step) : Type 0 where
-  pub same : (beside : Beside) → future base new step beside ≡ plug (setting_at base old) old.stack (o (state_at old beside))
+pub record Leads (base : js.Ground) (old : Place) (o : State → Outcome) (new : Place) (step : Step)
+    : Type 0 where
+  pub same : (beside : Beside) →
+      future base new step beside ≡ plug (setting_at base old) old.stack (o (state_at old beside))
   pub same_mode : new.mode ≡ old.mode
   pub same_budget : new.budget ≡ old.budget
   pub within : Within old new
@@ -58,7 +60,8 @@ abbrev pub pushed : Place → Frame → Place
 pushed m frame = record m { stack = m.stack ++ frame ∷ [] }
 
 -- What the machine comes to is the same after as before.
-pub record Keeps (base : js.Ground) (old : Place) (before : Step) (new : Place) (after : Step) : Type 0 where
+pub record Keeps (base : js.Ground) (old : Place) (before : Step) (new : Place) (after : Step)
+    : Type 0 where
   pub same : (beside : Beside) → future base new after beside ≡ future base old before beside
   pub same_mode : new.mode ≡ old.mode
   pub same_budget : new.budget ≡ old.budget
@@ -72,7 +75,8 @@ IsSettled (Give c) stack = stack ≡ []
 IsSettled step stack = Unit {0}
 
 -- The same, where so many nodes began.
-pub record Ran (base : js.Ground) (old : Place) (before : Step) (new : Place) (after : Step) (begun : ℕ) : Type 0 where
+pub record Ran (base : js.Ground) (old : Place) (before : Step) (new : Place) (after : Step) (begun : ℕ)
+    : Type 0 where
   pub same : (beside : Beside) → future base new after beside ≡ future base old before beside
   pub same_mode : new.mode ≡ old.mode
   pub same_budget : new.budget ≡ old.budget
@@ -86,7 +90,8 @@ IsHeld (Begin n) fuel begun nodes = (fuel ≡ 0) ⊎ (begun ≡ nodes)
 IsHeld step fuel begun nodes = Unit {0}
 
 -- at most so many nodes began
-pub record Advanced (base : js.Ground) (old : Place) (before : Step) (new : Place) (after : Step) (nodes begun : ℕ) : Type 0 where
+pub record Advanced (base : js.Ground) (old : Place) (before : Step) (new : Place) (after : Step)
+    (nodes begun : ℕ) : Type 0 where
   pub few : begun ≤ nodes
   pub ran : Ran base old before new after begun
   pub settled : IsSettled after new.stack
@@ -109,7 +114,8 @@ Gives x step = ⊥
 
 -- the machine in one more call with these slots, while so many are active
 abbrev pub entered : Place → List (Option PlainValue) → ℕ → Place
-entered m slots active = record m { stack = m.stack ++ Called m.slots m.calls ∷ []; slots = slots; calls = active }
+entered m slots active =
+    record m { stack = m.stack ++ Called m.slots m.calls ∷ []; slots = slots; calls = active }
 
 -- the node that a body begins with, if it has one
 abbrev pub first_of : PlainContent → Option ℕ
@@ -131,8 +137,10 @@ leaf_of base m None = None
 leaf_of base m (Some node) = leaf_at base m node.form
 
 -- The part began, within the slice, and gave this value; nothing but the fuel is another.
-pub record Gave (base : js.Ground) (old : Place) (part : ℕ) (x : PlainValue) (new : Place) : Type 0 where
-  pub same : (beside : Beside) → eval (setting_at base old) part (state_at old beside) ≡ gives x (state_at new beside)
+pub record Gave (base : js.Ground) (old : Place) (part : ℕ) (x : PlainValue) (new : Place)
+    : Type 0 where
+  pub same : (beside : Beside) →
+      eval (setting_at base old) part (state_at old beside) ≡ gives x (state_at new beside)
   pub one_less : new ≡ record old { fuel = old.fuel - 1 }
   pub room : old.floor < old.fuel
 

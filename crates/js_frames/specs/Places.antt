@@ -58,7 +58,8 @@ place_of m = record {
 abbrev pub setting_at : js.Ground → Place → Setting
 setting_at base m = record { base = base; mode = m.mode; budget = m.budget }
 
--- What a machine does not keep: the effects that were taken from it, how many effects came before the last reply, and the replies that are still to come.
+-- What a machine does not keep: the effects that were taken from it, how many effects came before
+-- the last reply, and the replies that are still to come.
 pub record Beside : Type 0 where
   pub taken : List js.Effect
   pub delivered : ℕ
@@ -78,7 +79,17 @@ state_at m b = record {
 -- before anything has begun
 abbrev pub fresh : Mode → ℕ → Option (List (Option PlainValue)) → Place
 fresh mode budget constants =
-    record { stack = []; slots = []; constants = constants; calls = 0; mode = mode; fuel = budget; floor = budget; budget = budget; effects = [] }
+    record {
+      stack = [];
+      slots = [];
+      constants = constants;
+      calls = 0;
+      mode = mode;
+      fuel = budget;
+      floor = budget;
+      budget = budget;
+      effects = [];
+    }
 
 abbrev pub here : Ground → Engine → Setting
 here base m = setting_at (plain_ground base) (place_of m)
@@ -86,7 +97,8 @@ here base m = setting_at (plain_ground base) (place_of m)
 -- a declared variable has its value
 abbrev pub put_at : Variable → PlainValue → Place → Place
 put_at (Slot k) x m = record m { slots = slice_set m.slots k (Some x) }
-put_at (Constant k) x m = record m { constants = option_map (λ cs. slice_set cs k (Some x)) m.constants }
+put_at (Constant k) x m =
+    record m { constants = option_map (λ cs. slice_set cs k (Some x)) m.constants }
 
 -- a declared variable without a value
 abbrev pub undefined_at : DeclareKind → Variable → Place → Place

@@ -25,7 +25,9 @@ PendingFits program (Next step) = StepFits program step
 PendingFits program (Resumed event) = Unit {0}
 
 unfoldable pub IsOfProgram : PlainProgram → Machine → Type 0
-IsOfProgram program m = (next : Pending) → m.pending ≡ Some next → StackFits program m.engine.stack.items × PendingFits program next
+IsOfProgram program m =
+    (next : Pending) → m.pending ≡ Some next →
+    StackFits program m.engine.stack.items × PendingFits program next
 
 -- lost for want of memory
 unfoldable pub IsLost : Machine → Type 0
@@ -38,21 +40,26 @@ pending_outcome g (Resumed event) s = gives (v.event event) s
 
 -- what a machine comes to that stands there
 abbrev pub future_of : Ground → Place → Pending → Beside → Outcome
-future_of base m next beside = plug (setting_at base m) m.stack (pending_outcome (setting_at base m) next (state_at m beside))
+future_of base m next beside =
+    plug (setting_at base m) m.stack (pending_outcome (setting_at base m) next (state_at m beside))
 
 -- whatever replies come later, the machine comes to the outcome of the body with all the replies
-pub record Coming (base : Ground) (budget : ℕ) (o : Origin) (replies : List PlainEvent) (begun : ℕ) (taken : List Effect) (m : Machine) : Type 0 where
+pub record Coming (base : Ground) (budget : ℕ) (o : Origin) (replies : List PlainEvent) (begun : ℕ)
+    (taken : List Effect) (m : Machine) : Type 0 where
   pub next : Pending
   pub is_next : m.pending ≡ Some next
   -- how many effects came before the last reply
   pub delivered : ℕ
   pub comes : (later : List PlainEvent) →
-      future_of base (place_of m.engine) next (record { taken = taken; delivered = delivered; replies = later }) ≡ evaluation base budget o (replies ++ later)
+      future_of base (place_of m.engine) next
+      (record { taken = taken; delivered = delivered; replies = later })
+      ≡ evaluation base budget o (replies ++ later)
   pub budget_is : m.engine.budget ≡ budget
   pub mode_is : m.engine.mode ≡ mode_of o
   pub fuel : m.engine.fuel + begun ≡ budget
 
--- The machine stands for this body, with these replies, where so many nodes have begun since the last of them, and these effects were taken.
+-- The machine stands for this body, with these replies, where so many nodes have begun since the
+-- last of them, and these effects were taken.
 unfoldable pub Stands : Ground → ℕ → Origin → List PlainEvent → ℕ → List Effect → Machine → Type 0
 Stands base budget o replies begun taken m = Coming base budget o replies begun taken m
 
@@ -88,7 +95,8 @@ answer_by m = answer_at m.pending
 unfoldable pub constants_by : Machine → List (Option PlainValue)
 constants_by m = unwrap_or m.engine.constants []
 
--- So many nodes began as the slice allows, there is budget, and another must begin: the body leaves less of the budget than is left now.
+-- So many nodes began as the slice allows, there is budget, and another must begin: the body leaves
+-- less of the budget than is left now.
 pub record Waits (o : Outcome) (begun more nodes budget : ℕ) : Type 0 where
   pub whole : more ≡ nodes
   pub some_left : begun + more < budget
@@ -126,21 +134,26 @@ pub record Spends (o : Outcome) (effects : List Effect) (begun more budget : ℕ
   pub made : left.effects ≡ effects
   pub all : begun + more ≡ budget
 
--- A pause says what the outcome of the body is with the replies so far, and where the machine's answer to it is.
+-- A pause says what the outcome of the body is with the replies so far, and where the machine's
+-- answer to it is.
 abbrev pub Says : Pause → Outcome → ℕ → ℕ → ℕ → ℕ → List Effect → Machine → Type 0
 Says pause.More o begun more nodes budget effects m = Waits o begun more nodes budget
 Says pause.AtSync o begun more nodes budget effects m = Asks o effects m
 Says pause.Ended o begun more nodes budget effects m = Answers o effects m
-Says (pause.Broken fault line) o begun more nodes budget effects m = (left : Left) × (o ≡ broken fault line left) × (left.effects ≡ effects)
-Says (pause.Violated text) o begun more nodes budget effects m = (left : Left) × (o ≡ violated text left) × (left.effects ≡ effects)
+Says (pause.Broken fault line) o begun more nodes budget effects m =
+    (left : Left) × (o ≡ broken fault line left) × (left.effects ≡ effects)
+Says (pause.Violated text) o begun more nodes budget effects m =
+    (left : Left) × (o ≡ violated text left) × (left.effects ≡ effects)
 Says pause.Spent o begun more nodes budget effects m = Spends o effects begun more budget
 
 -- what a run of a machine does that stands for this body
-pub record Runs (base : Ground) (budget : ℕ) (o : Origin) (replies : List PlainEvent) (begun : ℕ) (taken : List Effect) (nodes : ℕ) (pause : Pause) (m : Machine) : Type 0 where
+pub record Runs (base : Ground) (budget : ℕ) (o : Origin) (replies : List PlainEvent) (begun : ℕ)
+    (taken : List Effect) (nodes : ℕ) (pause : Pause) (m : Machine) : Type 0 where
   pub more : ℕ
   pub few : more ≤ nodes
   pub stands : Stands base budget o replies (begun + more) taken m
-  pub says : Says pause (evaluation base budget o replies) begun more nodes budget (taken ++ untaken m) m
+  pub says :
+      Says pause (evaluation base budget o replies) begun more nodes budget (taken ++ untaken m) m
   pub reached : IsReached pause (evaluation base budget o replies) (begun + more) budget
 
 abbrev pub if_zero : ℕ → Pause → Pause → Pause

@@ -83,8 +83,9 @@ impl Engine {
         }
     }
 
-    /// What a node does that has begun. A function clears the room of all that it holds when it is entered, so the nodes
-    /// that loops are made of stand here, and all others in a function of their own.
+    /// What a node does that has begun. A function clears the room of all that it holds when it is
+    /// entered, so the nodes that loops are made of stand here, and all others in a function of their
+    /// own.
     #[inline(always)]
     pub fn begin(&mut self, base: &Ground, number: u32) -> Result<Step, Memory>
         requires number { IsNode base.now.program number }

@@ -1,6 +1,7 @@
 -- What is spelled with nesting within the room, the readers give.
 use Rattle.std.proofs.Common.{◌≡◌, ℕ, zero, suc, ◌≤◌, ◌<◌, Bool, true, false, not, ◌&&◌, ◌||◌, if◌then◌else◌, List, [], ◌∷◌, ◌++◌, length, Option, Some, None, is_some, refl, ap, ◌∙◌, arith, append_assoc, append-nil}
-use Rattle.std.proofs.lemmas.Bool.{le-leb}
+use Rattle.std.proofs.lemmas.Bool.{le-leb, or_parts}
+use Rattle.js_data.proofs.Shared.{OfSome}
 use Rattle.js_lexer.specs.declared.token.Token.{Token}
 use Rattle.js_lexer.specs.declared.token.Kind.{Kind}
 use Rattle.js_lexer.specs.Sorts.{kind_sort}
@@ -30,7 +31,7 @@ use Rattle.js_grammar.specs.Statements as stmts
 use Rattle.js_grammar.specs.Reading.{Found, and_then, within, ended_rest, ended, Turn, again, done, run}
 use Rattle.js_grammar.specs.Reader.{readers}
 use Rattle.js_grammar.proofs.Marks.{is-same}
-use Rattle.js_grammar.proofs.Steps.{Gives, weaker, if-gives, then-gives, after-gives, some-gives, after_some-gives, within-gives, TurnGives, Shortens, run-turn}
+use Rattle.js_grammar.proofs.Steps.{weaker, if-gives, then-gives, after-gives, some-gives, after_some-gives, within-gives, TurnGives, Shortens, run-turn}
 use Rattle.js_grammar.proofs.Shorter.{spells_shorter, elements_shorter, field_shorter, declarator_shorter, statement_shorter, item_shorter}
 use Rattle.js_grammar.proofs.Sound.{readers-sound, elements-sound, field_at-sound, declarator-sound, item-sound}
 
@@ -39,7 +40,7 @@ use Rattle.js_grammar.proofs.Sound.{readers-sound, elements-sound, field_at-soun
 abbrev Takes : {S : Type 0} → List Token → Turn S → Type 0
 Takes {S} ts t = TurnGives {S = S} (λ z r. length r < length ts) (λ z r. Unit {0}) t
 
-next_param-short : (xs : List Name) (t : Token) (r : List Token) → Gives (Takes (t ∷ r)) (read.next_param xs r)
+next_param-short : (xs : List Name) (t : Token) (r : List Token) → OfSome (Takes (t ∷ r)) (read.next_param xs r)
 next_param-short xs t [] = tt
 next_param-short xs t (u ∷ r) = if-gives (Takes (t ∷ (u ∷ r))) (is RightParen u) _ _ (λ h. tt) (λ _. if-gives (Takes (t ∷ (u ∷ r))) (is Comma u) _ _ (λ h. omega arith) (λ h. tt))
 
@@ -47,34 +48,34 @@ pub params_step-short : Shortens read.params_step
 params_step-short xs [] = tt
 params_step-short xs (t ∷ r) = if-gives (Takes (t ∷ r)) (is RightParen t) _ _ (λ h. tt) (λ _. some-gives (Takes (t ∷ r)) (named t) _ (λ x e. next_param-short (xs ++ x ∷ []) t r))
 
-expr-short : (n : ℕ) (l : Level) (ts : List Token) → Gives (λ x. length x.1 < length ts) ((readers n).expr l ts)
+expr-short : (n : ℕ) (l : Level) (ts : List Token) → OfSome (λ x. length x.1 < length ts) ((readers n).expr l ts)
 expr-short n l ts = weaker _ (λ x. length x.1 < length ts) ((readers n).expr l ts) ((readers-sound n).expr l ts) (λ x s. spells_shorter s.0)
 
-stmt-short : (n : ℕ) (ts : List Token) → Gives (λ x. length x.1 < length ts) ((readers n).stmt ts)
+stmt-short : (n : ℕ) (ts : List Token) → OfSome (λ x. length x.1 < length ts) ((readers n).stmt ts)
 stmt-short n ts = weaker _ (λ x. length x.1 < length ts) ((readers n).stmt ts) ((readers-sound n).stmt ts) (λ x s. statement_shorter s.0)
 
 module _ (n : ℕ) where
-  elements-short : (c : Sort) (ts : List Token) → Gives (λ x. length x.1 < length ts) (exprs.elements n (readers n) c ts)
+  elements-short : (c : Sort) (ts : List Token) → OfSome (λ x. length x.1 < length ts) (exprs.elements n (readers n) c ts)
   elements-short c ts =
       weaker _ (λ x. length x.1 < length ts) (exprs.elements n (readers n) c ts)
       (elements-sound n (readers n) (readers-sound n).expr (readers-sound n).declarators (readers-sound n).stmt c ts) (λ x s. elements_shorter s.0)
 
-  field-short : (t : Token) (ts : List Token) → Gives (λ x. length x.1 < length (t ∷ ts)) (exprs.field_at n (readers n) t ts)
+  field-short : (t : Token) (ts : List Token) → OfSome (λ x. length x.1 < length (t ∷ ts)) (exprs.field_at n (readers n) t ts)
   field-short t ts =
       weaker _ (λ x. length x.1 < length (t ∷ ts)) (exprs.field_at n (readers n) t ts)
       (field_at-sound n (readers n) (readers-sound n).expr (readers-sound n).declarators (readers-sound n).stmt t ts) (λ x s. field_shorter s.0)
 
-  declarator-short : (k : DeclareKind) (ts : List Token) → Gives (λ x. length x.1 < length ts) (exprs.declarator n (readers n) k ts)
+  declarator-short : (k : DeclareKind) (ts : List Token) → OfSome (λ x. length x.1 < length ts) (exprs.declarator n (readers n) k ts)
   declarator-short k ts =
       weaker _ (λ x. length x.1 < length ts) (exprs.declarator n (readers n) k ts)
       (declarator-sound n (readers n) (readers-sound n).expr (readers-sound n).declarators (readers-sound n).stmt k ts) (λ x s. declarator_shorter s.0)
 
-  item-short : (ts : List Token) → Gives (λ x. length x.1 < length ts) (stmts.item n (readers n) ts)
+  item-short : (ts : List Token) → OfSome (λ x. length x.1 < length ts) (stmts.item n (readers n) ts)
   item-short ts =
       weaker _ (λ x. length x.1 < length ts) (stmts.item n (readers n) ts)
       (item-sound n (readers n) (readers-sound n).expr (readers-sound n).declarators (readers-sound n).stmt ts) (λ x s. item_shorter s.0)
 
-  next_element-short : (c : Sort) (es : List PlainExpr) (ts r : List Token) → length r < length ts → Gives (Takes ts) (exprs.next_element n (readers n) c es r)
+  next_element-short : (c : Sort) (es : List PlainExpr) (ts r : List Token) → length r < length ts → OfSome (Takes ts) (exprs.next_element n (readers n) c es r)
   next_element-short c es ts [] h = tt
   next_element-short c es ts (u ∷ r) h = if-gives (Takes ts) (is c u) _ _ (λ e. tt) (λ _. if-gives (Takes ts) (is Comma u) _ _ (λ e. omega arith) (λ e. tt))
 
@@ -85,7 +86,7 @@ module _ (n : ℕ) where
       (λ _. then-gives (λ e m. length m < length (t ∷ r)) (Takes (t ∷ r)) ((readers n).expr Assignment (t ∷ r)) _ (expr-short n Assignment (t ∷ r))
       (λ e m h. next_element-short c (es ++ e ∷ []) (t ∷ r) m h))
 
-  next_field-short : (fs : List PlainField) (ts r : List Token) → length r < length ts → Gives (Takes ts) (exprs.next_field n (readers n) fs r)
+  next_field-short : (fs : List PlainField) (ts r : List Token) → length r < length ts → OfSome (Takes ts) (exprs.next_field n (readers n) fs r)
   next_field-short fs ts [] h = tt
   next_field-short fs ts (u ∷ r) h = if-gives (Takes ts) (is RightBrace u) _ _ (λ e. tt) (λ _. if-gives (Takes ts) (is Comma u) _ _ (λ e. omega arith) (λ e. tt))
 
@@ -96,7 +97,7 @@ module _ (n : ℕ) where
       (λ _. then-gives (λ e m. length m < length (t ∷ r)) (Takes (t ∷ r)) (exprs.field_at n (readers n) t r) _ (field-short t r)
       (λ f m h. next_field-short (fs ++ f ∷ []) (t ∷ r) m h))
 
-  next_declarator-short : (ds : List PlainDeclarator) (ts r : List Token) → length r < length ts → Gives (Takes ts) (exprs.next_declarator n (readers n) ds r)
+  next_declarator-short : (ds : List PlainDeclarator) (ts r : List Token) → length r < length ts → OfSome (Takes ts) (exprs.next_declarator n (readers n) ds r)
   next_declarator-short ds ts [] h = tt
   next_declarator-short ds ts (u ∷ r) h = if-gives (Takes ts) (is Comma u) _ _ (λ e. omega arith) (λ e. tt)
 
@@ -115,7 +116,7 @@ module _ (n : ℕ) where
   items_step-short is (t ∷ r) =
       then-gives (λ e m. length m < length (t ∷ r)) (Takes (t ∷ r)) (stmts.item n (readers n) (t ∷ r)) _ (item-short (t ∷ r)) (λ e m h. h)
 
-  called_at-short : (line : ℕ) (e : PlainExpr) (k : Sort) (t : Token) (ts : List Token) → Gives (Takes (t ∷ ts)) (exprs.called_at n (readers n) line e k (t ∷ ts) ts)
+  called_at-short : (line : ℕ) (e : PlainExpr) (k : Sort) (t : Token) (ts : List Token) → OfSome (Takes (t ∷ ts)) (exprs.called_at n (readers n) line e k (t ∷ ts) ts)
   called_at-short line e Dot t ts =
       within-gives (Takes (t ∷ ts)) (one_less_if (is_object_name e) (nesting e)) n _ (λ _.
       after_some-gives (λ m. length m < length (t ∷ ts)) (Takes (t ∷ ts)) member_word ts _ (omega arith) (λ u x m d k. omega arith))
@@ -132,7 +133,7 @@ module _ (n : ℕ) where
   called_step-short line e [] = tt
   called_step-short line e (t ∷ ts) = called_at-short line e (sort t) t ts
 
-  operated_at-short : (line k : ℕ) (a : PlainExpr) (o : Option Operator) (t : Token) (ts : List Token) → Gives (Takes (t ∷ ts)) (exprs.operated_at n (readers n) line k a o (t ∷ ts) ts)
+  operated_at-short : (line k : ℕ) (a : PlainExpr) (o : Option Operator) (t : Token) (ts : List Token) → OfSome (Takes (t ∷ ts)) (exprs.operated_at n (readers n) line k a o (t ∷ ts) ts)
   operated_at-short line k a None t ts = tt
   operated_at-short line k a (Some op) t ts =
       within-gives (Takes (t ∷ ts)) (nesting a) n _ (λ _.
@@ -182,11 +183,6 @@ paren-unnamed t h = name-none t.kind (spot t) h
 less-back : (b : Bool) (n m : ℕ) → one_less_if b n ≤ m → n ≤ suc m
 less-back true n m h = omega arith
 less-back false n m h = omega arith
-
-or-neither : (a b : Bool) → (a || b) ≡ false → (a ≡ false) × (b ≡ false)
-or-neither true b h = cc
-or-neither false true h = cc
-or-neither false false h = (refl, refl)
 
 semicolon_absent : (k : Sort) (n b : Bool) → (same RightBrace k || (n && not (same Semicolon k) && not b)) ≡ true → same Semicolon k ≡ false
 semicolon_absent Semicolon true b h = cc
@@ -276,7 +272,7 @@ module _ (n : ℕ) where
   signed-stop : (ts : List Token) → starts_sign ts ≡ false → starts_update ts ≡ false → exprs.signed n (readers n) ts ≡ exprs.called n (readers n) ts
   signed-stop [] h k = refl
   signed-stop (t ∷ ts) h k =
-      let l = or-neither (is_some (sign t)) (is_some (step t)) h in
+      let l = or_parts (is_some (sign t)) (is_some (step t)) h in
       unary_at-stop (sign t) t ts l.0 ∙ (step_at-stop (step t) t ts l.1 ∙ rw k refl)
 
   choice_after-stop : (line : ℕ) (a : PlainExpr) (ts : List Token) → starts Question ts ≡ false → exprs.choice_after n (readers n) line a ts ≡ Some (a, ts)
@@ -352,10 +348,9 @@ module _ (n : ℕ) where
   statement_at-other Return t ts h = cc
   statement_at-other _ t ts h = refl
 
-  item-statement : (ts : List Token) (s : PlainStmt) (r : List Token) → starts Function ts ≡ false → length r < length ts →
-      stmts.statement n (readers n) ts ≡ Some (s, r) → stmts.item n (readers n) ts ≡ Some (p.statement s, r)
-  item-statement [] s r h l d = absurd (omega arith)
-  item-statement (t ∷ ts) s r h l d = rw (h, d) refl
+  item-statement : (t : Token) (ts : List Token) (s : PlainStmt) (r : List Token) → is Function t ≡ false →
+      stmts.statement n (readers n) (t ∷ ts) ≡ Some (s, r) → stmts.item n (readers n) (t ∷ ts) ≡ Some (p.statement (spot t) s, r)
+  item-statement t ts s r h d = rw (h, d) refl
 
   items_step-goes : (is : List PlainItem) (ts : List Token) (i : PlainItem) (r : List Token) → length r < length ts →
       stmts.item n (readers n) ts ≡ Some (i, r) → stmts.items_step n (readers n) is ts ≡ Some (again (is ++ i ∷ []) r)
@@ -536,7 +531,7 @@ mutual
 
 item-read : {ts r : List Token} {i : PlainItem} → Item ts i r → (n : ℕ) → item_nesting i ≤ suc n → stmts.item n (readers n) ts ≡ Some (i, r)
 unfolding readers
-item-read (item_statement {ts = ts} {rest = rest} {s = s} h d) n w = item-statement n ts s rest h (statement_shorter d) (statement-read d (suc n) w)
+item-read (item_statement {t = t} {ts = ts} {rest = rest} {s = s} h d) n w = item-statement n t ts s rest h (statement-read d (suc n) w)
 item-read (item_function h k o d l) n w = rw (h, k, opening-read o, statements-read d n (omega arith) [], l) refl
 
 pub items-read : {ts : List Token} {is : List PlainItem} → SpellsTree ts is → (n : ℕ) → deepest_item is ≤ suc n → (acc : List PlainItem) →

@@ -15,7 +15,7 @@ use Rattle.js_tree.specs.Plain.{PlainExpr, at, PlainForm, PlainField, PlainPerha
 use Rattle.js_tree.specs.Endings.{ending, declarators_ending}
 use Rattle.js_lexer.specs.declared.sort.Sort.{Sort}
 use Rattle.js_lexer.specs.declared.sort.Sort.TheVariants.{LeftBrace, RightBrace, LeftParen, RightParen, LeftBracket, RightBracket, Dot, Semicolon, Comma, Question, Colon, Set, Function, Return, If, Else, While, For, Break, Continue, True, False, Null}
-use Rattle.js_grammar.specs.Sorts.{sort, spot, named, numbered, quoted, member_word, key}
+use Rattle.js_grammar.specs.Sorts.{sort, spot, named, numbered, quoted, member_word, key, is}
 use Rattle.js_grammar.specs.Operators.{operator_at, starts_operator, sign, step, assign_op}
 use Rattle.js_grammar.specs.Arrows.{starts_arrow, starts_function}
 use Rattle.js_grammar.specs.Ends.{starts_end, end_absent, ends_return, starts_other}
@@ -278,8 +278,8 @@ mutual
 
 -- a statement of the program, or a function declaration
 pub data Item : List Token → PlainItem → List Token → Type 0 where
-  item_statement : {ts rest : List Token} {s : PlainStmt} → starts Function ts ≡ false →
-      Statement ts s rest → Item ts (p.statement s) rest
+  item_statement : {t : Token} {ts rest : List Token} {s : PlainStmt} → is Function t ≡ false →
+      Statement (t ∷ ts) s rest → Item (t ∷ ts) (p.statement (spot t) s) rest
   item_function : {t u v : Token} {ts ms rest : List Token} {x : Name} {xs : List Name}
       {ss : List PlainStmt} →
       sort t ≡ Function → named u ≡ Some x → Opening ts xs ms → Statements ms ss (v ∷ rest) →

@@ -119,7 +119,7 @@ module _ (room : ℕ) (inner : Readers) where
   abbrev pub item : List Token → Found PlainItem
   item [] = None
   item (t ∷ ts) = if is Function t then item_function_at t ts
-      else and_then (statement (t ∷ ts)) (λ s r. Some (p.statement s, r))
+      else and_then (statement (t ∷ ts)) (λ s r. Some (p.statement (spot t) s, r))
 
   abbrev pub items_step : List PlainItem → List Token → Option (Turn (List PlainItem))
   items_step is [] = Some (done is [])

@@ -97,7 +97,7 @@ mutual
   members_outline_depth (json.member k d ms) = rw (outline_depth d, members_outline_depth ms)
 
 -- a value is read from the text of its outline
-read_print : (j : source.Json) (d : json.Data) → HasNumbers j → tree.depth j ≤ max_depth → of_json j ≡ Some d → read (print (json_tokens j)) ≡ Some d
+pub read_print : (j : source.Json) (d : json.Data) → HasNumbers j → tree.depth j ≤ max_depth → of_json j ≡ Some d → read (print (json_tokens j)) ≡ Some d
 read_print j d n h is =
     ap (λ o. option_and_then of_json (option_and_then (λ p. source.if_last p.0 p.1) o))
     (ap (source.value max_depth) (tokens-print (json_tokens j) (ArePrintable-json_tokens j n) ∙ sym (append-nil (json_tokens j)))

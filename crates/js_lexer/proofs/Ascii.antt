@@ -4,8 +4,7 @@ use lib.Pointwise.{pointwise}
 use Rattle.std.specs.Str.{IsUtf8, IsCharBoundary}
 use Rattle.std.proofs.lemmas.Str.{IsUtf8-from_ascii, IsCharBoundary-after_ascii}
 use Rattle.std.proofs.lemmas.Bool.Decides.{nat_tests}
-use Rattle.std.proofs.lemmas.Bool.{eqb-true}
-use Rattle.js_lexer.proofs.Tests.{and_first, and_second}
+use Rattle.std.proofs.lemmas.Bool.{eqb-true, and_parts}
 use Rattle.bp_tables.specs.Found.{front_in}
 use Rattle.js_lexer.specs.Bytes.{begins, is_name_byte, is_quote}
 use Rattle.js_lexer.specs.Front.{name_size}
@@ -33,10 +32,10 @@ pointwise_same [] [] h = refl
 pointwise_same [] (y ∷ ys) h = cc
 pointwise_same (x ∷ xs) [] h = cc
 pointwise_same (x ∷ xs) (y ∷ ys) h =
-    rw (eqb-true x y (and_first (nat_eq x y) (pointwise nat_eq xs ys) h), pointwise_same xs ys (and_second (nat_eq x y) (pointwise nat_eq xs ys) h)) refl
+    rw (eqb-true x y (and_parts (nat_eq x y) (pointwise nat_eq xs ys) h).0, pointwise_same xs ys (and_parts (nat_eq x y) (pointwise nat_eq xs ys) h).1) refl
 
 -- each byte is ASCII
-abbrev are_small : List ℕ → Bool
+abbrev pub are_small : List ℕ → Bool
 are_small [] = true
 are_small (b ∷ bs) = nat_lt b 128 && are_small bs
 
@@ -47,7 +46,7 @@ keys_are_small (e ∷ es) = are_small e.0 && keys_are_small es
 small_ascii : (bs : List ℕ) → are_small bs ≡ true → (i : ℕ) → get_or bs i 0 < 128
 small_ascii [] h i = omega arith
 small_ascii (b ∷ bs) h zero = grind (arith, nat_tests)
-small_ascii (b ∷ bs) h (suc i) = small_ascii bs (and_second _ _ h) i
+small_ascii (b ∷ bs) h (suc i) = small_ascii bs (and_parts _ _ h).1 i
 
 key_by : (e : List ℕ × ℕ) (es : List (List ℕ × ℕ)) (bs : List ℕ) (n : ℕ) (t : Bool) → begins bs e.0 ≡ t → are_small e.0 ≡ true →
     (if t then Some (length e.0) else front_in es bs) ≡ Some n → (front_in es bs ≡ Some n → are_small (take n bs) ≡ true) → are_small (take n bs) ≡ true
@@ -58,7 +57,7 @@ key_by e es bs n false h s k f = f k
 
 key_ascii : (es : List (List ℕ × ℕ)) (bs : List ℕ) (n : ℕ) → keys_are_small es ≡ true → front_in es bs ≡ Some n → are_small (take n bs) ≡ true
 key_ascii [] bs n h k = cc
-key_ascii (e ∷ es) bs n h k = key_by e es bs n (begins bs e.0) refl (and_first _ _ h) k (λ l. key_ascii es bs n (and_second _ _ h) l)
+key_ascii (e ∷ es) bs n h k = key_by e es bs n (begins bs e.0) refl (and_parts _ _ h).0 k (λ l. key_ascii es bs n (and_parts _ _ h).1 l)
 
 pub mark_utf8 : (bs : List ℕ) (n : ℕ) → front_in all_marks bs ≡ Some n → IsUtf8 (take n bs)
 mark_utf8 bs n h = IsUtf8-from_ascii (take n bs) (small_ascii (take n bs) (key_ascii all_marks bs n refl h))

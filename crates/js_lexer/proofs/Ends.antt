@@ -4,7 +4,7 @@ use Rattle.std.specs.Str.{IsUtf8, IsCharBoundary}
 use Rattle.std.proofs.lemmas.Str.{IsCharBoundary-after_ascii}
 use Rattle.std.proofs.lemmas.Bool.Decides.{nat_tests}
 use Rattle.std.proofs.Math.Seq.{take-length}
-use Rattle.js_lexer.proofs.Tests.{and_second}
+use Rattle.std.proofs.lemmas.Bool.{and_parts}
 use Rattle.js_lexer.specs.Bytes.{begins}
 use Rattle.js_lexer.specs.Numbers.{digit_value, is_digit_of, digits_size, digits_value}
 use Rattle.js_lexer.specs.Literals.{Escape, two_digits, four_digits, joined, is_high, is_low, paired, character, byte_escape, low_escape, second_half, unit_escape, braced_escape, unicode_escape, zero_escape, plain_escape, letter, letter_or, escape}
@@ -114,7 +114,7 @@ braced-ends : (u v : ℕ) (bs : List ℕ) → EscapeEnds (u ∷ (v ∷ bs)) (bra
 braced-ends u v bs =
     if-ends _ (nat_lt 0 (digits_size 16 bs) && begins (drop (digits_size 16 bs) bs) (125 ∷ [])) _ None
     (λ h. character-ends _ (3 + digits_size 16 bs) (digits_value 16 0 bs)
-    (let k = begins_at 125 (digits_size 16 bs) bs (and_second _ _ h) in braced_end u v (digits_size 16 bs) bs k.0 k.1)) (λ _. tt)
+    (let k = begins_at 125 (digits_size 16 bs) bs (and_parts _ _ h).1 in braced_end u v (digits_size 16 bs) bs k.0 k.1)) (λ _. tt)
 
 unicode-ends : (u : ℕ) (bs : List ℕ) → EscapeEnds (u ∷ bs) (unicode_escape bs)
 unicode-ends u [] = tt

@@ -1,7 +1,7 @@
 -- What stands in front has at least one byte, and no more than there are.
 use Rattle.std.proofs.Common.{◌≡◌, ℕ, zero, suc, ◌+◌, ◌<◌, ◌≤◌, nat_eq, nat_lt, Bool, true, false, ◌&&◌, ◌||◌, List, [], ◌∷◌, codes, pos, Option, Some, None, option_map, if◌then◌else◌, length, take, drop, refl, ap, arith, length-drop}
 use Rattle.std.proofs.lemmas.List.{length-take}
-use Rattle.std.proofs.lemmas.Bool.{eqb-true}
+use Rattle.std.proofs.lemmas.Bool.{eqb-true, and_parts}
 use Rattle.std.proofs.lemmas.Bool.Decides.{nat_tests}
 use Rattle.bp_tables.specs.Found.{front_in}
 use Rattle.js_lexer.specs.declared.numbers.TheConstants.{GREATEST}
@@ -13,7 +13,6 @@ use Rattle.js_lexer.specs.Words.{all_marks}
 use Rattle.js_lexer.specs.Numbers.{is_digit_of, digits_size, has_base, base_of, decimal_size, number_size, number_value, is_unsupported_end}
 use Rattle.js_lexer.specs.Literals.{Escape, is_break, escape, spelled, Literal, closed, unclosed, wrong, behind, if_escape, literal}
 use Rattle.js_lexer.specs.Front.{Piece, nothing, gap, token, refused, name_size, number_before, number, quoted, block, mark, is_dot_digit, gap_or, comment_or_mark, gap_or_mark, front}
-use Rattle.js_lexer.proofs.Tests.{and_first, and_second}
 use Rattle.js_lexer.proofs.Ascii.{pointwise_same}
 
 pub record Sized (n : ℕ) (bs : List ℕ) : Type 0 where
@@ -182,12 +181,12 @@ no_empty_key (e ∷ es) = nat_lt 0 (length e.0) && no_empty_key es
 
 front_in-sized : (es : List (List ℕ × ℕ)) (bs : List ℕ) (n : ℕ) → no_empty_key es ≡ true → front_in es bs ≡ Some n → Sized n bs
 front_in-sized [] bs n h k = cc
-front_in-sized (e ∷ es) bs n h k = key_by (begins bs e.0) refl k (λ m. front_in-sized es bs n (and_second _ _ h) m)
+front_in-sized (e ∷ es) bs n h k = key_by (begins bs e.0) refl k (λ m. front_in-sized es bs n (and_parts _ _ h).1 m)
   where
     key_by : (t : Bool) → begins bs e.0 ≡ t → (if t then Some (length e.0) else front_in es bs) ≡ Some n → (front_in es bs ≡ Some n → Sized n bs) → Sized n bs
     key_by true b m f =
         let d : length e.0 ≡ n = cc in
-        let some : 0 < length e.0 = grind (arith, nat_tests, and_first (nat_lt 0 (length e.0)) (no_empty_key es) h) in
+        let some : 0 < length e.0 = grind (arith, nat_tests, (and_parts (nat_lt 0 (length e.0)) (no_empty_key es) h).0) in
         let room = begins-within bs e.0 b in
         record { some = omega arith; within = omega arith }
     key_by false b m f = f m
@@ -205,7 +204,7 @@ block-fits bs (Some n) r h =
 comment_or_mark-fits : (b : ℕ) (bs : List ℕ) → PieceFits (b ∷ bs) (comment_or_mark (b ∷ bs))
 comment_or_mark-fits b bs =
     if-fits (b ∷ bs) (begins (b ∷ bs) (codes "//")) _ _
-    (λ h. record { some = line-some b bs (and_first (nat_eq 47 b) _ h); within = line-within (b ∷ bs) }) (λ _.
+    (λ h. record { some = line-some b bs (and_parts (nat_eq 47 b) _ h).0; within = line-within (b ∷ bs) }) (λ _.
     if-fits (b ∷ bs) (begins (b ∷ bs) (codes "/*")) _ _
     (λ h. block-fits (b ∷ bs) (size_to_close (drop 2 (b ∷ bs))) (begins-within (b ∷ bs) (codes "/*") h) refl)
     (λ _. mark-fits (b ∷ bs) (front_in all_marks (b ∷ bs)) refl))

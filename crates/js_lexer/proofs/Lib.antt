@@ -1,5 +1,4 @@
 mod Worked
-pub mod Tests
 pub mod Lines
 pub mod Digits
 pub mod Ends

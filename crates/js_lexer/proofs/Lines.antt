@@ -1,6 +1,6 @@
 -- The count of lines, and comments.
 use Rattle.std.proofs.Common.{◌≡◌, ℕ, zero, suc, ◌+◌, ◌-◌, ◌<◌, true, false, List, [], ◌∷◌, Option, Some, None, option_map, if◌then◌else◌, nat_eq, length, drop, codes, refl, sym, ap, ◌∙◌, add_assoc, arith}
-use Rattle.js_lexer.proofs.Tests.{if-true, if-false}
+use Rattle.js_data.proofs.Shared.{if_true, if_false}
 use Rattle.js_lexer.specs.Bytes.{begins}
 use Rattle.js_lexer.specs.Gaps.{ends_line, line_ends, line_end_size, size_of_line, size_to_close}
 
@@ -23,7 +23,7 @@ line_ends_add (suc m) n (b ∷ bs) =
     rw (h, line_ends_add m n bs) (sym (add_assoc (if ends_line (b ∷ bs) then 1 else 0) (line_ends m bs) (line_ends n (drop m bs))))
 
 pub size_of_line_step : (b : ℕ) (rest bs : List ℕ) → rest ≡ b ∷ bs → line_end_size rest ≡ 0 → size_of_line rest ≡ suc (size_of_line bs)
-size_of_line_step b rest bs e h = ap size_of_line e ∙ if-true _ _ _ (ap (λ n. nat_eq n 0) (ap line_end_size (sym e) ∙ h))
+size_of_line_step b rest bs e h = ap size_of_line e ∙ if_true _ _ _ (ap (λ n. nat_eq n 0) (ap line_end_size (sym e) ∙ h))
 
 -- so many bytes further on
 abbrev pub further : ℕ → Option ℕ → Option ℕ
@@ -35,11 +35,11 @@ further_suc n (Some m) = ap Some (omega arith)
 
 pub close_here : (size b : ℕ) (rest bs : List ℕ) → rest ≡ b ∷ bs → begins rest (codes "*/") ≡ true → further size (size_to_close rest) ≡ Some (size + 2)
 close_here size b rest bs e h =
-    ap (λ r. further size (size_to_close r)) e ∙ ap (further size) (if-true _ _ _ (ap (λ r. begins r (codes "*/")) (sym e) ∙ h))
+    ap (λ r. further size (size_to_close r)) e ∙ ap (further size) (if_true _ _ _ (ap (λ r. begins r (codes "*/")) (sym e) ∙ h))
 
 pub close_step : (size b : ℕ) (rest bs : List ℕ) → rest ≡ b ∷ bs → begins rest (codes "*/") ≡ false → further size (size_to_close rest) ≡ further (size + 1) (size_to_close bs)
 close_step size b rest bs e h =
-    ap (λ r. further size (size_to_close r)) e ∙ ap (further size) (if-false _ _ _ (ap (λ r. begins r (codes "*/")) (sym e) ∙ h)) ∙
+    ap (λ r. further size (size_to_close r)) e ∙ ap (further size) (if_false _ _ _ (ap (λ r. begins r (codes "*/")) (sym e) ∙ h)) ∙
     further_suc size (size_to_close bs)
 
 pub close_none : (size : ℕ) (rest : List ℕ) → length rest ≡ 0 → further size (size_to_close rest) ≡ None

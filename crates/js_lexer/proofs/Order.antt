@@ -2,6 +2,7 @@
 use Rattle.std.proofs.Common.{◌≡◌, ℕ, zero, suc, ◌+◌, ◌-◌, ◌≤◌, nat_eq, nat_lt, nat_le, Bool, true, false, not, ◌&&◌, ◌||◌, List, [], ◌∷◌, ◌++◌, codes, pos, Option, Some, None, is_some, if◌then◌else◌, length, take, drop, refl, subst, arith, length-drop}
 use Rattle.std.specs.Str.{bytes_eq}
 use Rattle.std.proofs.lemmas.Bool.Decides.{nat_tests}
+use Rattle.std.proofs.lemmas.Bool.{and_parts}
 use Rattle.bp_tables.specs.Found.{find_in, front_in}
 use Rattle.js_lexer.specs.declared.numbers.TheConstants.{GREATEST}
 use Rattle.js_lexer.specs.declared.token.Kind.{Kind}
@@ -16,7 +17,6 @@ use Rattle.js_lexer.specs.Literals.{Literal, closed, unclosed, wrong, literal}
 use Rattle.js_lexer.specs.Front.{Piece, nothing, gap, token, refused, name_size, number_before, quoted, block, mark, is_dot_digit, gap_or, gap_or_mark, front}
 use Rattle.js_lexer.specs.Cut.{CutFrom, cut_end, cut_gap, cut_token}
 use Rattle.js_lexer.specs.Laws.{IsSpelled, ArePlaced, TokensInOrder, none_longer, LongestMark}
-use Rattle.js_lexer.proofs.Tests.{and_first, and_second}
 use Rattle.js_lexer.proofs.Ascii.{pointwise_same}
 use Rattle.js_lexer.proofs.Fits.{PieceFits, Sized, front-fits}
 
@@ -118,16 +118,16 @@ test_le m n h = grind (arith, nat_tests)
 falling-none : (m n : ℕ) (es : List (List ℕ × ℕ)) (bs : List ℕ) → m ≤ n → is_falling m es ≡ true → none_longer n es bs ≡ true
 falling-none m n [] bs l h = refl
 falling-none m n (e ∷ es) bs l h =
-    let k = test_le (length e.0) m (and_first (nat_le (length e.0) m) (is_falling (length e.0) es) h) in
+    let k = test_le (length e.0) m (and_parts (nat_le (length e.0) m) (is_falling (length e.0) es) h).0 in
     both _ _ (second (not (begins bs e.0)) _ (le_test (length e.0) n (omega arith)))
-    (falling-none (length e.0) n es bs (omega arith) (and_second (nat_le (length e.0) m) (is_falling (length e.0) es) h))
+    (falling-none (length e.0) n es bs (omega arith) (and_parts (nat_le (length e.0) m) (is_falling (length e.0) es) h).1)
 
 front-longest : (m n : ℕ) (es : List (List ℕ × ℕ)) (bs : List ℕ) → is_falling m es ≡ true → front_in es bs ≡ Some n → none_longer n es bs ≡ true
 front-longest m n [] bs h k = cc
 front-longest m n (e ∷ es) bs h k = by_test (begins bs e.0) k (λ l. front-longest (length e.0) n es bs falls l)
   where
     falls : is_falling (length e.0) es ≡ true
-    falls = and_second (nat_le (length e.0) m) (is_falling (length e.0) es) h
+    falls = (and_parts (nat_le (length e.0) m) (is_falling (length e.0) es) h).1
 
     by_test : (t : Bool) → (if t then Some (length e.0) else front_in es bs) ≡ Some n → (front_in es bs ≡ Some n → none_longer n es bs ≡ true) →
         (not t || nat_le (length e.0) n) && none_longer n es bs ≡ true
@@ -147,19 +147,19 @@ are_among (f ∷ fs) es = is_among f.0 es && are_among fs es
 
 none-at : (n : ℕ) (es : List (List ℕ × ℕ)) (bs key : List ℕ) → none_longer n es bs ≡ true → is_among key es ≡ true → not (begins bs key) || nat_le (length key) n ≡ true
 none-at n [] bs key h k = cc
-none-at n (e ∷ es) bs key h k = by_test (bytes_eq e.0 key) refl k (λ l. none-at n es bs key (and_second (not (begins bs e.0) || nat_le (length e.0) n) (none_longer n es bs) h) l)
+none-at n (e ∷ es) bs key h k = by_test (bytes_eq e.0 key) refl k (λ l. none-at n es bs key (and_parts (not (begins bs e.0) || nat_le (length e.0) n) (none_longer n es bs) h).1 l)
   where
     by_test : (t : Bool) → bytes_eq e.0 key ≡ t → t || is_among key es ≡ true →
         (is_among key es ≡ true → not (begins bs key) || nat_le (length key) n ≡ true) → not (begins bs key) || nat_le (length key) n ≡ true
     by_test true l m f =
         subst (λ (xs : List ℕ). not (begins bs xs) || nat_le (length xs) n ≡ true) (pointwise_same e.0 key l)
-        (and_first (not (begins bs e.0) || nat_le (length e.0) n) (none_longer n es bs) h)
+        (and_parts (not (begins bs e.0) || nat_le (length e.0) n) (none_longer n es bs) h).0
     by_test false l m f = f m
 
 none-all : (n : ℕ) (es fs : List (List ℕ × ℕ)) (bs : List ℕ) → none_longer n es bs ≡ true → are_among fs es ≡ true → none_longer n fs bs ≡ true
 none-all n es [] bs h k = refl
 none-all n es (f ∷ fs) bs h k =
-    both _ _ (none-at n es bs f.0 h (and_first (is_among f.0 es) (are_among fs es) k)) (none-all n es fs bs h (and_second (is_among f.0 es) (are_among fs es) k))
+    both _ _ (none-at n es bs f.0 h (and_parts (is_among f.0 es) (are_among fs es) k).0) (none-all n es fs bs h (and_parts (is_among f.0 es) (are_among fs es) k).1)
 
 pub longest_mark : (bytes : List ℕ) → LongestMark bytes
 longest_mark bytes n h = none-all n all_marks (marks ++ unsupported_marks) bytes (front-longest 4 n all_marks bytes refl h) refl

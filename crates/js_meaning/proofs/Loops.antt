@@ -3,6 +3,7 @@ use Rattle.std.proofs.Common.{◌≡◌, ℕ, List, [], ◌∷◌, Some, None, r
 use Rattle.std.specs.Prelude.{Bool, map, pos, codes, true, false}
 use Rattle.std.specs.Fmt.{digits}
 use Rattle.js_data.specs.declared.fault.Fault.TheVariants as fault
+use Rattle.js_data.proofs.Shared.{named}
 use Rattle.js_tree.specs.declared.tree.Step.TheVariants.{Increment}
 use Rattle.js_tree.specs.declared.tree.Fix.TheVariants.{After}
 use Rattle.js_tree.specs.declared.tree.Operator.TheVariants as op
@@ -18,7 +19,7 @@ use Rattle.js_program.specs.PlainProgram as p
 use Rattle.js_meaning.specs.State.{Outcome, says, enqueues, registers, handles, broken, violated, stopped}
 use Rattle.js_meaning.specs.Meaning.{within, eval, turns_of}
 use Rattle.js_meaning.specs.Bodies.{function, evaluation}
-use Rattle.js_meaning.proofs.Small.{on, one, whole, slot, given, body, statements, of_functions, comes_to, ends, left, event}
+use Rattle.js_meaning.proofs.Small.{on, one, whole, slot, given, body, statements, of_functions, comes_to, ends, left}
 
 -- return false && 1 / 0; and return 0 || "a": the right side only where it is needed
 pub and_stops : comes_to Thread 100
@@ -153,7 +154,7 @@ assertion_fails = refl
 -- return bp.sync({}).name, with a reply: it is the value, and the fuel is the whole budget again
 pub reply_is_the_value :
     evaluation (of_functions (one (p.fields [] []) ∷ one (p.builtin form.Sync (0 ∷ [])) ∷ one (p.member 1 (codes "name")) ∷ one (p.return_of 2) ∷ []) (statements 0 (3 ∷ []) ∷ [])) 7
-    (function Thread (v.function 0 v.no_values) []) (event (codes "e") ∷ [])
+    (function Thread (v.function 0 v.no_values) []) (named (codes "e") ∷ [])
     ≡ ends (v.words (codes "e")) 7 []
 unfolding evaluation eval within
 reply_is_the_value = refl
@@ -177,7 +178,7 @@ pub enqueued_and_logged : comes_to Handler 100
     (one (p.words (codes "e")) ∷ one (p.builtin form.Event (0 ∷ [])) ∷ one (p.builtin form.EnqueueExternalEvent (1 ∷ [])) ∷ one (p.expression 2)
     ∷ one (p.words (codes "e")) ∷ whole 1 ∷ one p.null ∷ one (p.list (5 ∷ 6 ∷ [])) ∷ one (p.builtin form.Event (4 ∷ 7 ∷ [])) ∷ one (p.builtin form.LogInfo (8 ∷ [])) ∷ one (p.expression 9) ∷ [])
     (statements 0 (3 ∷ 10 ∷ []) ∷ [])
-    ≡ ends v.undefined 89 (enqueues (event (codes "e")) ∷ says (codes "[\"e\",[1,null]]") ∷ [])
+    ≡ ends v.undefined 89 (enqueues (named (codes "e")) ∷ says (codes "[\"e\",[1,null]]") ∷ [])
 unfolding evaluation eval within digits
 enqueued_and_logged = refl
 

@@ -3,6 +3,7 @@ use Rattle.std.proofs.Common.{◌≡◌, ℕ, List, [], ◌∷◌, ◌++◌, ref
 use Rattle.std.specs.Prelude.{pos, negsuc, codes, true, false, replicate}
 use Rattle.std.specs.Fmt.{digits}
 use Rattle.js_data.specs.declared.fault.Fault.TheVariants as fault
+use Rattle.js_data.proofs.Shared.{named}
 use Rattle.js_tree.specs.declared.tree.Sign.TheVariants as sign
 use Rattle.js_tree.specs.declared.tree.Step.TheVariants.{Increment, Decrement}
 use Rattle.js_tree.specs.declared.tree.Fix.TheVariants.{Before, After}
@@ -19,7 +20,7 @@ use Rattle.js_program.specs.PlainProgram.{PlainNode}
 use Rattle.js_meaning.specs.State.{says, broken}
 use Rattle.js_meaning.specs.Meaning.{within, eval}
 use Rattle.js_meaning.specs.Bodies.{evaluation}
-use Rattle.js_meaning.proofs.Small.{on, one, whole, slot, given, statements, comes_to, ends, left, event}
+use Rattle.js_meaning.proofs.Small.{on, one, whole, slot, given, statements, comes_to, ends, left}
 
 abbrev number : ℕ → PlainValue
 number n = v.whole (pos n)
@@ -131,8 +132,8 @@ pub methods_of_sets : comes_to Thread 100
     ∷ one (p.method 1 (codes "or") (2 ∷ [])) ∷ one (p.method 1 (codes "and") (3 ∷ [])) ∷ one (p.method 1 (codes "xor") (2 ∷ [])) ∷ one (p.method 1 (codes "negate") [])
     ∷ one (p.list (4 ∷ 5 ∷ 6 ∷ 7 ∷ [])) ∷ one (p.return_of 8) ∷ [])
     (statements 0 (9 ∷ []) ∷ [])
-    ≡ ends (list (v.set (v.or (v.only (event (codes "e"))) v.all) ∷ v.set (v.and (v.only (event (codes "e"))) v.nothing)
-    ∷ v.set (v.xor (v.only (event (codes "e"))) v.all) ∷ v.set (v.negate (v.only (event (codes "e")))) ∷ [])) 83 []
+    ≡ ends (list (v.set (v.or (v.only (named (codes "e"))) v.all) ∷ v.set (v.and (v.only (named (codes "e"))) v.nothing)
+    ∷ v.set (v.xor (v.only (named (codes "e"))) v.all) ∷ v.set (v.negate (v.only (named (codes "e")))) ∷ [])) 83 []
 unfolding evaluation eval within
 methods_of_sets = refl
 

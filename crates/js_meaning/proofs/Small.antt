@@ -1,7 +1,6 @@
 -- Small resolved programs, and what their bodies come to.
 use Rattle.std.proofs.Common.{ℕ, List, [], Some, None}
 use Rattle.std.specs.Prelude.{pos}
-use Rattle.js_data.specs.Event.{PlainEvent}
 use Rattle.js_value.specs.Value as v
 use Rattle.js_value.specs.Value.{PlainValue}
 use Rattle.js_program.specs.declared.builtin.Mode.{Mode}
@@ -55,6 +54,3 @@ ends answer fuel effects =
 
 abbrev pub left : ℕ → List Effect → Left
 left fuel effects = record { effects = effects; delivered = 0; fuel = fuel }
-
-abbrev pub event : List ℕ → PlainEvent
-event name = record { name = name; extra = None }

@@ -72,9 +72,10 @@ counted kind text p s = on 1 (for_three (declared 1 kind (declarator_in (name te
 abbrev pub each : DeclareKind → List ℕ → ℕ → PlainExpr → PlainStmt → PlainStmt
 each kind text p e s = on 1 (for_of kind (name text p) e s)
 
+-- statements, of which the first begins the text
 abbrev pub items : List PlainStmt → List PlainItem
 items [] = []
-items (s ∷ ss) = statement s ∷ items ss
+items (s ∷ ss) = statement (spot 0) s ∷ items ss
 
 -- a function declaration: the place of its first token, its name with its place
 abbrev pub declared_function : ℕ → List ℕ → ℕ → List Name → List PlainStmt → PlainItem

@@ -12,7 +12,7 @@ use Rattle.js_names.specs.Sites.{expr_sites, form_sites, exprs_sites, fields_sit
 use Rattle.js_names.specs.Places.{found, found_var, functions_of, repeated, blocked, see, places}
 use Rattle.js_names.specs.Slots.{assigned_in, holdings, slots_of, slot_count}
 use Rattle.js_names.specs.Rules.{fault_at, name_fault}
-use Rattle.js_names.proofs.Build.{name, one, uses, sets, counts, dot, calls, arrow, made, declares, bare, does, block_of, loop, breaks, returns, counted, each, items, declared_function}
+use Rattle.js_names.proofs.Build.{spot, name, one, uses, sets, counts, dot, calls, arrow, made, declares, bare, does, block_of, loop, breaks, returns, counted, each, items, declared_function}
 
 -- a program with its answer
 abbrev Row : Type 0
@@ -92,7 +92,7 @@ pub assignments : Answered (
     -- for (const x of 1) x = 1
     ∷ broken (each Const x 11 one (does (sets x 19)) ∷ []) (AssignConst (name x 19))
     -- function x() {} x = 1
-    ∷ (declared_function 0 x 9 [] [] ∷ statement (does (sets x 16)) ∷ [], Some (AssignConst (name x 16)))
+    ∷ (declared_function 0 x 9 [] [] ∷ statement (spot 16) (does (sets x 16)) ∷ [], Some (AssignConst (name x 16)))
     ∷ [])
 unfolding program_scope function_scope block_scope for_three_scope list_scope for_of_scope expr_sites form_sites exprs_sites fields_sites perhaps_sites declarators_sites start_sites stmt_sites stmt_form_sites stmts_sites item_sites program_sites found found_var functions_of repeated blocked see places assigned_in holdings slots_of slot_count fault_at name_fault
 assignments = refl

@@ -3,6 +3,7 @@ use Rattle.std.proofs.Common.{◌≡◌, ℕ, ◌+◌, ◌<◌, List, [], ◌∷
 use Rattle.std.specs.List.{flat_map}
 use Rattle.std.specs.Map.{lookup}
 use Rattle.std.proofs.lemmas.Bool.{eq-eqb, false≢true}
+use Rattle.std.proofs.lemmas.List.Sums.{fold-append}
 use Rattle.js_names.specs.declared.place.Seen.{Seen}
 use Rattle.js_names.specs.declared.place.Declared.{Declared}
 use Rattle.js_names.specs.Places.{Place}
@@ -18,14 +19,10 @@ held-append q (x ∷ xs) ys =
     elim (nat_eq x.function q) as (λ b. (if b then x.variable ∷ held_by q (xs ++ ys) else held_by q (xs ++ ys)) ≡ (if b then x.variable ∷ held_by q xs else held_by q xs) ++ held_by q ys)
     [ true ↦ ap (λ z. x.variable ∷ z) (held-append q xs ys) | false ↦ held-append q xs ys ]
 
-fold-both : (h xs ys : List ℕ) → fold joins h (xs ++ ys) ≡ fold joins (fold joins h xs) ys
-fold-both h [] ys = refl
-fold-both h (x ∷ xs) ys = fold-both (joins h x) xs ys
-
 -- a map that took in two lists in turn took in both
 pub holds_both : (a b c : Sets) (xs ys : List Holding) → Holds a b xs → Holds b c ys → Holds a c (xs ++ ys)
 holds_both a b c xs ys h k = λ q.
-    k q ∙ (ap (λ z. fold joins z (held_by q ys)) (h q) ∙ (sym (fold-both (held_in a q) (held_by q xs) (held_by q ys)) ∙ ap (fold joins (held_in a q)) (sym (held-append q xs ys))))
+    k q ∙ (ap (λ z. fold joins z (held_by q ys)) (h q) ∙ (sym (fold-append joins (held_in a q) (held_by q xs) (held_by q ys)) ∙ ap (fold joins (held_in a q)) (sym (held-append q xs ys))))
 
 -- one more turn of a loop
 pub holds_more : {X : Type 0} (f : X → List Holding) (xs : List X) (i : ℕ) (d x : X) (a b c : Sets) → i < length xs → x ≡ get_or xs i d
@@ -76,10 +73,10 @@ has_of : {X : Type 0} (q : ℕ) (f : X → List Holding) (xs : List X) (at : ℕ
 has_of q f [] at d x h l e = absurd (omega arith)
 has_of q f (y ∷ ys) zero d x h l e =
     subst (λ z. Has (fold joins h (held_by q (f z ++ flat_map f ys))) (held_by q (f x))) e
-    (subst (λ z. Has z (held_by q (f x))) (sym (ap (fold joins h) (held-append q (f x) (flat_map f ys)) ∙ fold-both h (held_by q (f x)) (held_by q (flat_map f ys))))
+    (subst (λ z. Has z (held_by q (f x))) (sym (ap (fold joins h) (held-append q (f x) (flat_map f ys)) ∙ fold-append joins h (held_by q (f x)) (held_by q (flat_map f ys))))
     (has_folded (fold joins h (held_by q (f x))) (held_by q (f x)) (held_by q (flat_map f ys)) (has_all h (held_by q (f x)))))
 has_of q f (y ∷ ys) (suc n) d x h l e =
-    subst (λ z. Has z (held_by q (f x))) (sym (ap (fold joins h) (held-append q (f y) (flat_map f ys)) ∙ fold-both h (held_by q (f y)) (held_by q (flat_map f ys))))
+    subst (λ z. Has z (held_by q (f x))) (sym (ap (fold joins h) (held-append q (f y) (flat_map f ys)) ∙ fold-append joins h (held_by q (f y)) (held_by q (flat_map f ys))))
     (has_of q f ys n d x (fold joins h (held_by q (f y))) (omega arith) e)
 
 -- a turn of a loop that takes nothing in, since an element before holds the same
@@ -91,7 +88,7 @@ holds_again f xs i d x a b at y h e l g s t = λ q.
     ap (held_by q) (flat_map_take f xs i d h ∙ ap (λ z. flat_map f (take i xs) ++ f z) (sym e)) ∙ held-append q (flat_map f (take i xs)) (f x)
     in
     let has : Has (fold joins (held_in a q) before) (held_by q (f x)) = subst (λ z. Has (fold joins (held_in a q) before) (held_by q z)) s (has_of q f (take i xs) at y y (held_in a q) l g) in
-    t q ∙ sym (ap (fold joins (held_in a q)) more ∙ (fold-both (held_in a q) before (held_by q (f x)) ∙ has_same (fold joins (held_in a q) before) (held_by q (f x)) has))
+    t q ∙ sym (ap (fold joins (held_in a q)) more ∙ (fold-append joins (held_in a q) before (held_by q (f x)) ∙ has_same (fold joins (held_in a q) before) (held_by q (f x)) has))
 
 -- the captures of a place that mentions a variable which can be copied
 pub made_captures : (assigned : List ℕ) (p : Place) (d : Declared) → p.declared ≡ Some d → copies assigned p d ≡ true → holds_all d.place (inside d.owner p.functions) ≡ captures_in assigned p

@@ -253,7 +253,7 @@ mutual
 home_items : (scopes : List Scope) (items : List PlainItem) → ScopedItems items → Owns scopes (flat_map own_of_item items) → AreHome (flat_map (item_sites scopes) items)
 unfolding item_sites
 home_items scopes [] s w = tt
-home_items scopes (t.statement x ∷ items) s w =
+home_items scopes (t.statement spot x ∷ items) s w =
     home_both (stmt_sites scopes (in_function top) x) (flat_map (item_sites scopes) items)
     (home_stmt scopes (in_function top) top true x s.0 (owns_left scopes (own_of top true x) (flat_map own_of_item items) w))
     (home_items scopes items s.1 (owns_right scopes (own_of top true x) (flat_map own_of_item items) w))

@@ -1,4 +1,4 @@
-mod Build
+pub mod Build
 mod Examples
 pub mod Stacks
 pub mod Taking
@@ -7,7 +7,6 @@ pub mod Holding
 pub mod Firsts
 pub mod Adding
 pub mod Exprs
-pub mod Spots
 pub mod Stmts
 mod Keeping
 mod Homes

@@ -139,9 +139,9 @@ return_sites s a x k e h = form_at s a x (Return k e) _ h (return_is k e)
 
 -- what a program lists
 
-pub statement_sites : (s : List Scope) (a : Around) (i : Item) (x : Stmt) → i ≡ Statement x → a ≡ in_function top → tree_stmt_sites s a x ≡ tree_item_sites s i
+pub statement_sites : (s : List Scope) (a : Around) (i : Item) (k : Spot) (x : Stmt) → i ≡ Statement k x → a ≡ in_function top → tree_stmt_sites s a x ≡ tree_item_sites s i
 unfolding item_sites
-statement_sites s a i x h l = ap (λ z. tree_stmt_sites s z x) l ∙ sym (ap (tree_item_sites s) h)
+statement_sites s a i k x h l = ap (λ z. tree_stmt_sites s z x) l ∙ sym (ap (tree_item_sites s) h)
 
 pub function_item_sites : (s : List Scope) (i : Item) (k : Spot) (n : Name) (v : Vec Name Global) (w : Vec Stmt Global) (ns : List Name) (ss : List Stmt) → i ≡ Function k n v w → ns ≡ v.items → ss ≡ w.items
     → declared_sites s k n ns ss ≡ tree_item_sites s i

@@ -111,9 +111,9 @@ abbrev mutual
   vars_of_all owner direct (stmt_in s ss) = vars_of owner direct s ++ vars_of_all owner direct ss
 
 abbrev pub own_of_item : PlainItem → List Entry
-own_of_item (statement s) = own_of top true s
+own_of_item (statement spot s) = own_of top true s
 own_of_item (function_of spot name names ss) = entry name Function name.spot.at top true 0 ∷ []
 
 abbrev pub vars_of_item : PlainItem → List Entry
-vars_of_item (statement s) = vars_of top true s
+vars_of_item (statement spot s) = vars_of top true s
 vars_of_item (function_of spot name names ss) = []

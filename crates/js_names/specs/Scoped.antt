@@ -78,5 +78,5 @@ abbrev mutual
 
 abbrev pub ScopedItems : List PlainItem → Type 0
 ScopedItems [] = Unit {0}
-ScopedItems (t.statement s ∷ items) = ScopedStmt s × ScopedItems items
+ScopedItems (t.statement spot s ∷ items) = ScopedStmt s × ScopedItems items
 ScopedItems (t.function_of spot name names ss ∷ items) = ScopedStmts ss × ScopedItems items

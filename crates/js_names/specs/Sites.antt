@@ -165,7 +165,7 @@ unfoldable mutual
 
 -- the name of a function declaration belongs to the program, and so it comes before what the function has
 unfoldable pub item_sites : List Scope → PlainItem → List Site
-item_sites scopes (statement s) = stmt_sites scopes (in_function top) s
+item_sites scopes (statement spot s) = stmt_sites scopes (in_function top) s
 item_sites scopes (function_of spot name names ss) =
     let inner = function_scope spot.at names ss ∷ scopes in
     site scopes (in_function top) (What.Declares Function) name

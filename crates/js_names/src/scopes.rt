@@ -203,7 +203,7 @@ fn declare_item(
     ensures { OnOk result (TakesOwn own.old own.new (own_of_tree_item item.now)) }
 {
     match item {
-        Item::Statement(stmt) => declare_own_stmt(alloc, own, TOP, true, stmt),
+        Item::Statement(_, stmt) => declare_own_stmt(alloc, own, TOP, true, stmt),
         Item::Function(_, name, _, _) => {
             let declared = Declared {
                 role: Role::Function,
@@ -227,7 +227,7 @@ fn declare_item_vars(
     ensures { OnOk result (TakesVars (keeps None) vars.old vars.new (vars_of_tree_item item.now)) }
 {
     match item {
-        Item::Statement(stmt) => declare_stmt_vars(alloc, vars, None, TOP, true, stmt),
+        Item::Statement(_, stmt) => declare_stmt_vars(alloc, vars, None, TOP, true, stmt),
         Item::Function(_, _, _, _) => Ok(()),
     }
 }

@@ -406,7 +406,7 @@ fn put_item(walk: &mut Walk, item: &Item) -> Result<(), AllocError>
     ensures { OnOk result (Adds walk.old walk.new (tree_item_sites (scopes_in walk.old) item.now)) }
 {
     match item {
-        Item::Statement(stmt) => put_stmt(walk, in_function(TOP), stmt),
+        Item::Statement(_, stmt) => put_stmt(walk, in_function(TOP), stmt),
         Item::Function(spot, name, names, body) => put_declared(walk, *spot, name, names, body),
     }
 }

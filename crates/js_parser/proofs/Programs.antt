@@ -1,38 +1,33 @@
 -- What reading all tokens says of the program.
-use Rattle.std.proofs.Common.{◌≡◌, ℕ, suc, ◌-◌, false, true, List, [], ◌∷◌, ◌++◌, map, Option, Some, None, refl}
+use Rattle.std.proofs.Common.{◌≡◌, ℕ, suc, ◌-◌, false, true, List, [], ◌∷◌, ◌++◌, map, Some, None, refl}
+use Rattle.std.proofs.lemmas.List as list
 use Rattle.js_lexer.specs.declared.token.Token.{Token}
 use Rattle.js_tree.specs.declared.limits.TheConstants.{MOST_NESTING}
 use Rattle.js_tree.specs.declared.tree.Item.{Item}
 use Rattle.js_tree.specs.Plain as p
 use Rattle.js_tree.specs.Plain.{PlainItem}
 use Rattle.js_tree.specs.Views.{plain_item}
-use Rattle.js_tree.proofs.Rows.{map_one}
 use Rattle.js_lexer.specs.declared.sort.Sort.{Sort}
-use Rattle.js_grammar.specs.Tokens.{starts}
 use Rattle.js_grammar.specs.Trees.{IsTree, HasNoTree}
 use Rattle.js_grammar.specs.Statements as stmts
-use Rattle.js_grammar.specs.Reading.{next_turn, run, and_then, after_some}
+use Rattle.js_grammar.specs.Reading.{next_turn, run, and_then}
 use Rattle.js_grammar.specs.Reader.{readers}
 use Rattle.js_grammar.proofs.Unique as unique
-use Rattle.js_steps.specs.Passed.{first, at_first}
+use Rattle.js_grammar.specs.Sorts.{is, spot}
 use Rattle.js_steps.proofs.Loops as loops
-use Rattle.js_steps.proofs.Using as using
 use Rattle.js_parser.specs.Parse.{next_item, next_function, all_items}
 
-pub held_none : {A B : Type 0} (g : Token → Option A) (ts : List Token) (f : A → List Token → Option B) → first g ts ≡ None → after_some g ts f ≡ None
-held_none = using.held_none
+pub item_function : (t : Token) (ts : List Token) → is Sort.Function t ≡ true → next_item (t ∷ ts) ≡ next_function t ts
+item_function t ts h = rw h refl
 
-pub item_function : (ts : List Token) → starts Sort.Function ts ≡ true → next_item ts ≡ at_first next_function ts
-item_function [] h = refl
-item_function (t ∷ ts) h = rw h refl
-
-item_is : (n : ℕ) (ts : List Token) → starts Sort.Function ts ≡ false → stmts.item n (readers n) ts ≡ and_then ((readers (suc n)).stmt ts) (λ s r. Some (p.statement s, r))
+item_is : (n : ℕ) (t : Token) (ts : List Token) → is Sort.Function t ≡ false →
+    stmts.item n (readers n) (t ∷ ts) ≡ and_then ((readers (suc n)).stmt (t ∷ ts)) (λ s r. Some (p.statement (spot t) s, r))
 unfolding readers
-item_is n [] h = refl
-item_is n (t ∷ ts) h = rw h refl
+item_is n t ts h = rw h refl
 
-pub item_statement : (ts : List Token) → starts Sort.Function ts ≡ false → next_item ts ≡ and_then ((readers MOST_NESTING).stmt ts) (λ s r. Some (p.statement s, r))
-item_statement ts h = item_is (MOST_NESTING - 1) ts h
+pub item_statement : (t : Token) (ts : List Token) → is Sort.Function t ≡ false →
+    next_item (t ∷ ts) ≡ and_then ((readers MOST_NESTING).stmt (t ∷ ts)) (λ s r. Some (p.statement (spot t) s, r))
+item_statement t ts h = item_is (MOST_NESTING - 1) t ts h
 
 pub items_turn : (is : List PlainItem) (ts : List Token) →
     run (stmts.items_step (MOST_NESTING - 1) (readers (MOST_NESTING - 1))) is ts ≡
@@ -40,7 +35,7 @@ pub items_turn : (is : List PlainItem) (ts : List Token) →
 items_turn = loops.items_turn (MOST_NESTING - 1)
 
 pub map_push_item : (is : List Item) (i : Item) → map plain_item (is ++ i ∷ []) ≡ map plain_item is ++ plain_item i ∷ []
-map_push_item = map_one plain_item
+map_push_item = list.map_push plain_item
 
 pub tree_found : (ts : List Token) (is : List PlainItem) (r : List Token) → all_items ts ≡ Some (is, r) → IsTree MOST_NESTING ts is
 tree_found ts is r e = unique.tree_found (MOST_NESTING - 1) ts is r e

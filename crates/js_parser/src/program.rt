@@ -11,13 +11,13 @@ use crate::fault::ParseFault;
 use crate::refused::unsupported_line;
 use js_descent::{closed, statement};
 use js_lexer::{Sort, Token};
-use js_steps::cursor::{begins, next};
+use js_steps::cursor::{is_sort, next, spot_of};
 use js_steps::{Cursor, Stop};
 use js_tree::{Item, MOST_NESTING, Tree};
 use std::alloc::Global;
 
 /// A function declaration.
-#[tactic(auto, using(crate::proofs::Programs::held_none))]
+#[tactic(auto, using(js_steps::proofs::Using::held_none))]
 fn function(cursor: &mut Cursor<'_>) -> Result<Item, Stop>
     ensures { IsGiven plain_item (at_first next_function) cursor.old cursor.new result }
 {
@@ -33,11 +33,15 @@ fn function(cursor: &mut Cursor<'_>) -> Result<Item, Stop>
 fn item(cursor: &mut Cursor<'_>) -> Result<Item, Stop>
     ensures { IsGiven plain_item next_item cursor.old cursor.new result }
 {
-    if begins(cursor.rest, Sort::Function) {
+    let Some((token, _)) = next(cursor.rest) else {
+        return Err(cursor.no_tree());
+    };
+    if is_sort(token, Sort::Function) {
         return function(cursor);
     }
+    let spot = spot_of(token);
     let found = statement(cursor, MOST_NESTING)?;
-    Ok(Item::Statement(found.tree))
+    Ok(Item::Statement(spot, found.tree))
 }
 
 /// All that the program lists.

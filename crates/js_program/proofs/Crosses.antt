@@ -1,13 +1,7 @@
 -- Programs may cross threads.
 use denote.Param.Send.{IsSend, IsSync, sendable}
-use Rattle.std.specs.contracts.sync.Arc as Arc
-use Rattle.std.specs.contracts.alloc.Global as Heap
-use Rattle.std.specs.contracts.impls.GlobalAllocator.TheImpl.{ghosts}
-use Rattle.std.proofs.Crossing.{crosses, Arc-send, Arc-sync}
-use Rattle.js_data.specs.contracts.text.Text as Text
-use Rattle.js_data.specs.contracts.whole.Whole as Whole
-use Rattle.js_data.proofs.text.Text.TheSendSync as text
-use Rattle.js_data.proofs.whole.Whole.TheSendSync as whole
+use Rattle.std.proofs.Crossing.{crosses}
+use Rattle.js_data.proofs.Crosses.{text_send, text_sync, whole_send, whole_sync, text_arc_send, text_arc_sync}
 use Rattle.js_tree.proofs.tree.Sign.TheSendSync as sign
 use Rattle.js_tree.proofs.tree.Step.TheSendSync as step
 use Rattle.js_tree.proofs.tree.Fix.TheSendSync as fix
@@ -21,29 +15,11 @@ use Rattle.js_program.specs.contracts.node.Node as Node
 use Rattle.js_program.specs.contracts.node.Body as Body
 use Rattle.js_program.specs.contracts.program.Program as Program
 
-pub text_send : IsSend Text.the_row
-text_send = search (sendable, crosses, text.the_send)
-
-pub text_sync : IsSync Text.the_row
-text_sync = search (sendable, crosses, text.the_sync)
-
-whole_send : IsSend Whole.the_row
-whole_send = search (sendable, whole.the_send)
-
-whole_sync : IsSync Whole.the_row
-whole_sync = search (sendable, whole.the_sync)
-
-literal_send : IsSend (Arc.the_row Text.the_row Heap.the_row ghosts)
-literal_send = Arc-send _ text_send text_sync
-
-literal_sync : IsSync (Arc.the_row Text.the_row Heap.the_row ghosts)
-literal_sync = Arc-sync _ text_send text_sync
-
 form_send : IsSend NodeForm.the_row
-form_send = search (sendable, crosses, form.the_send, whole_send, text_send, literal_send, sign.the_send, step.the_send, fix.the_send, operator.the_send, assignop.the_send, declarekind.the_send) depth 18
+form_send = search (sendable, crosses, form.the_send, whole_send, text_send, text_arc_send, sign.the_send, step.the_send, fix.the_send, operator.the_send, assignop.the_send, declarekind.the_send) depth 18
 
 form_sync : IsSync NodeForm.the_row
-form_sync = search (sendable, crosses, form.the_sync, whole_sync, text_sync, literal_sync, sign.the_sync, step.the_sync, fix.the_sync, operator.the_sync, assignop.the_sync, declarekind.the_sync) depth 18
+form_sync = search (sendable, crosses, form.the_sync, whole_sync, text_sync, text_arc_sync, sign.the_sync, step.the_sync, fix.the_sync, operator.the_sync, assignop.the_sync, declarekind.the_sync) depth 18
 
 node_send : IsSend Node.the_row
 node_send = search (sendable, node.the_send, form_send)

@@ -90,12 +90,12 @@ parameters_of f vars (x ∷ xs) = (record { owner = refl; nested = λ e. absurd 
 
 own_items_of : (is : List PlainItem) → AllOf top true (flat_map own_of_item is)
 own_items_of [] = tt
-own_items_of (t.statement s ∷ is) = of_append top true (own_of top true s) (flat_map own_of_item is) (own_stmt_of top true true (any_directs true) s) (own_items_of is)
+own_items_of (t.statement spot s ∷ is) = of_append top true (own_of top true s) (flat_map own_of_item is) (own_stmt_of top true true (any_directs true) s) (own_items_of is)
 own_items_of (t.function_of spot name names ss ∷ is) = (record { owner = refl; nested = λ e. absurd (true≢false e); inside = λ e. absurd (e refl) }, own_items_of is)
 
 var_items_of : (is : List PlainItem) → AllOf top true (flat_map vars_of_item is)
 var_items_of [] = tt
-var_items_of (t.statement s ∷ is) = of_append top true (vars_of top true s) (flat_map vars_of_item is) (var_stmt_of top true s) (var_items_of is)
+var_items_of (t.statement spot s ∷ is) = of_append top true (vars_of top true s) (flat_map vars_of_item is) (var_stmt_of top true s) (var_items_of is)
 var_items_of (t.function_of spot name names ss ∷ is) = var_items_of is
 
 -- the scopes of a tree

@@ -5,7 +5,7 @@ use Rattle.js_names.specs.Places.{Place}
 use Rattle.js_names.specs.Slots.{assigned_in, slots_of}
 use Rattle.js_resolver.specs.Variables.{body_of, capture_slots, var_slots}
 
-abbrev body_with : ℕ → ℕ → List ℕ → List ℕ → PlainContent → ℕ → PlainBody
+abbrev pub body_with : ℕ → ℕ → List ℕ → List ℕ → PlainContent → ℕ → PlainBody
 body_with parameters slots captures vars content line = record { parameters = parameters; slots = slots; captures = captures; vars = vars; content = content; line = line }
 
 pub body_made : (ps : List Place) (f parameters p s : ℕ) (cs vs : List ℕ) (content : PlainContent) (line : ℕ) → p ≡ parameters → s ≡ length (slots_of (assigned_in ps) f ps) → cs ≡ capture_slots ps f → vs ≡ var_slots ps f

@@ -82,10 +82,10 @@ arrow_form ps a b c place spot names x i code e h k q = record {
 
 -- what a program lists
 
-pub statement_item : (ps : List Place) (a b : Emitter) (i : Item) (x : Stmt) (ms ks : List ℕ) (k : ℕ) → i ≡ Statement x → Emits a b (k ∷ []) (stmt_piece ps (count a) (plain_stmt x)) → ks ≡ ms ++ k ∷ []
+pub statement_item : (ps : List Place) (a b : Emitter) (i : Item) (spot : Spot) (x : Stmt) (ms ks : List ℕ) (k : ℕ) → i ≡ Statement spot x → Emits a b (k ∷ []) (stmt_piece ps (count a) (plain_stmt x)) → ks ≡ ms ++ k ∷ []
     → EmitsMore a b ms ks (item_piece ps (count a) (plain_item i))
 unfolding item_piece
-statement_item ps a b i x ms ks k h e q = subst (λ z. EmitsMore a b ms ks (item_piece ps (count a) (plain_item z))) (sym h) (record { adds = e.adds; more = q ∙ ap (λ z. ms ++ z) e.parts })
+statement_item ps a b i spot x ms ks k h e q = subst (λ z. EmitsMore a b ms ks (item_piece ps (count a) (plain_item z))) (sym h) (record { adds = e.adds; more = q ∙ ap (λ z. ms ++ z) e.parts })
 
 pub function_item : {A E : Type 0} (r : Result A E) (ps : List Place) (a b : Emitter) (i : Item) (spot : Spot) (name : Name) (v : Vec Name Global) (u : Vec Stmt Global) (names : List Name) (ss : List Stmt) (ms : List ℕ) → i ≡ Function spot name v u → names ≡ v.items → ss ≡ u.items
     → OnOk r (Adds a b (function_piece ps spot names n.statements (stmts_piece ps (count a) (stmts_of (map plain_stmt ss))))) → OnOk r (EmitsMore a b ms ms (item_piece ps (count a) (plain_item i)))

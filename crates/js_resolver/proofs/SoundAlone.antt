@@ -76,7 +76,7 @@ own_loose (t.on line _) = tt
 
 own_items_loose : (is : List PlainItem) → AllLoose (flat_map own_of_item is)
 own_items_loose [] = tt
-own_items_loose (t.statement s ∷ is) = loose_append (own_of top true s) (flat_map own_of_item is) (own_loose s) (own_items_loose is)
+own_items_loose (t.statement begin s ∷ is) = loose_append (own_of top true s) (flat_map own_of_item is) (own_loose s) (own_items_loose is)
 own_items_loose (t.function_of spot name names ss ∷ is) = ((refl, inl refl), own_items_loose is)
 
 abbrev AllVars : List Entry → Type 0
@@ -118,7 +118,7 @@ mutual
 
 items_vars : (is : List PlainItem) → AllVars (flat_map vars_of_item is)
 items_vars [] = tt
-items_vars (t.statement s ∷ is) = vars_append (vars_of top true s) (flat_map vars_of_item is) (stmt_vars true s) (items_vars is)
+items_vars (t.statement begin s ∷ is) = vars_append (vars_of top true s) (flat_map vars_of_item is) (stmt_vars true s) (items_vars is)
 items_vars (t.function_of spot name names ss ∷ is) = items_vars is
 
 first_loose : (es : List Entry) (q : List ℕ) (d : Declared) → AllLoose es → first (named q es) ≡ Some d → IsLoose d
@@ -322,7 +322,7 @@ own_spares items spot name names ss absent =
 -- and so do all other items
 other_spares : (f : ℕ) (scopes : List Scope) (i : PlainItem) → IsOutside f top scopes → (In f (begun (item_sites scopes i)) → ⊥) → AllSpare f (item_sites scopes i)
 unfolding item_sites
-other_spares f scopes (t.statement s) k absent = all_outside f _ (stmt_walks (IsOutside f) f (outside_closed f) scopes (in_function top) s k absent)
+other_spares f scopes (t.statement begin s) k absent = all_outside f _ (stmt_walks (IsOutside f) f (outside_closed f) scopes (in_function top) s k absent)
 other_spares f scopes (t.function_of spot name names ss) k absent =
     let inner = function_scope spot.at names ss ∷ scopes in
     let sites = stmts_sites inner (in_function spot.at) ss in
@@ -343,7 +343,7 @@ others_spare f scopes (i ∷ is) k absent =
 
 abbrev IsDeclaredAt : ℕ → List PlainItem → Type 0
 IsDeclaredAt f [] = ⊥
-IsDeclaredAt f (t.statement s ∷ is) = IsDeclaredAt f is
+IsDeclaredAt f (t.statement begin s ∷ is) = IsDeclaredAt f is
 IsDeclaredAt f (t.function_of spot name names ss ∷ is) = (spot.at ≡ f) ⊎ IsDeclaredAt f is
 
 begun_item : (scopes : List Scope) (spot : Spot) (name : Name) (names : List Name) (ss : PlainStmts)
@@ -356,8 +356,8 @@ begun_item scopes spot name names ss =
 
 declared_begins : (scopes : List Scope) (f : ℕ) (is : List PlainItem) → IsDeclaredAt f is → In f (begun (flat_map (item_sites scopes) is))
 declared_begins scopes f [] h = h
-declared_begins scopes f (t.statement s ∷ is) h =
-    let here = item_sites scopes (t.statement s) in
+declared_begins scopes f (t.statement begin s ∷ is) h =
+    let here = item_sites scopes (t.statement begin s) in
     let rest = flat_map (item_sites scopes) is in
     subst (In f) (sym (begun-append here rest)) (in-right f (begun here) (begun rest) (declared_begins scopes f is h))
 declared_begins scopes f (t.function_of spot name names ss ∷ is) h =
@@ -382,12 +382,12 @@ no_repeats_apart (x ∷ xs) ys h v (inr m) n = no_repeats_apart xs ys h.1 v m n
 
 items_spare : (items : List PlainItem) (f : ℕ) (is : List PlainItem) → IsOutside f top (program_scopes items) → IsDeclaredAt f is → NoRepeats (begun (flat_map (item_sites (program_scopes items)) is)) → AllSpare f (flat_map (item_sites (program_scopes items)) is)
 items_spare items f [] k h n = tt
-items_spare items f (t.statement s ∷ is) k h n =
+items_spare items f (t.statement begin s ∷ is) k h n =
     let scopes = program_scopes items in
-    let here = item_sites scopes (t.statement s) in
+    let here = item_sites scopes (t.statement begin s) in
     let rest = flat_map (item_sites scopes) is in
     let both : NoRepeats (begun here ++ begun rest) = subst NoRepeats (begun-append here rest) n in
-    spare_append f here rest (other_spares f scopes (t.statement s) k (λ m. no_repeats_apart (begun here) (begun rest) both f m (declared_begins scopes f is h))) (items_spare items f is k h (no_repeats_right (begun here) (begun rest) both))
+    spare_append f here rest (other_spares f scopes (t.statement begin s) k (λ m. no_repeats_apart (begun here) (begun rest) both f m (declared_begins scopes f is h))) (items_spare items f is k h (no_repeats_right (begun here) (begun rest) both))
 items_spare items f (t.function_of spot name names ss ∷ is) k h n =
     let scopes = program_scopes items in
     let here = item_sites scopes (t.function_of spot name names ss) in
@@ -423,7 +423,7 @@ nothing_copied items f h =
 
 all_alone : (ps : List Place) (is : List PlainItem) → ((f : ℕ) → IsDeclaredAt f is → captures (assigned_in ps) f ps ≡ []) → AllAlone ps is
 all_alone ps [] h = tt
-all_alone ps (t.statement s ∷ is) h = all_alone ps is h
+all_alone ps (t.statement begin s ∷ is) h = all_alone ps is h
 all_alone ps (t.function_of spot name names ss ∷ is) h = (h spot.at (inl refl), all_alone ps is (λ f m. h f (inr m)))
 
 -- no declared function of a program copies anything

@@ -1,9 +1,7 @@
 -- Trees that no tokens spell, whose programs break no rule of names and yet are not sound.
-use Rattle.std.proofs.Common.{◌≡◌, ℕ, List, [], ◌∷◌, refl, true, false}
+use Rattle.std.proofs.Common.{◌≡◌, List, [], ◌∷◌, refl, true, false}
 use Rattle.std.specs.Prelude.{None, codes}
 use Rattle.std.specs.List.{list_all}
-use Rattle.js_tree.specs.declared.tree.Name.{Name}
-use Rattle.js_tree.specs.declared.tree.Spot.{Spot}
 use Rattle.js_tree.specs.declared.tree.DeclareKind.{DeclareKind}
 use Rattle.js_tree.specs.Plain as t
 use Rattle.js_tree.specs.Plain.{PlainItem}
@@ -13,19 +11,14 @@ use Rattle.js_names.specs.Sites.{expr_sites, form_sites, perhaps_sites, declarat
 use Rattle.js_names.specs.Places.{found, found_var, functions_of, repeated, blocked, see, places}
 use Rattle.js_names.specs.Slots.{assigned_in, captures, holdings, vars_of, slot_count, slots_of, constants_of, functions_in}
 use Rattle.js_names.specs.Rules.{fault_at, name_fault}
+use Rattle.js_names.proofs.Build.{name, spot}
 use Rattle.js_resolver.specs.Variables.{named_at, code_at, around_of, body_of}
 use Rattle.js_resolver.specs.Nodes.{expr_piece, form_parts, perhaps_piece, declarators_piece, stmt_piece, stmt_parts, stmts_piece, item_piece, items_piece}
 use Rattle.js_resolver.specs.Resolved.{program_of_tree}
 
-abbrev spot : ℕ → Spot
-spot p = record { at = p; line = 1 }
-
-abbrev name : List ℕ → ℕ → Name
-name text p = record { text = text; spot = spot p }
-
 -- `if (true) let y;`: a `let` outside a list belongs to no scope
 abbrev alone : List PlainItem
-alone = t.statement (t.on 1 (t.if_alone (t.at 0 1 (t.truth true)) (t.on 1 (t.declaration DeclareKind.Let (t.declarator_in (name (codes "y") 14) t.absent 15 t.no_declarators))))) ∷ []
+alone = t.statement (spot 0) (t.on 1 (t.if_alone (t.at 0 1 (t.truth true)) (t.on 1 (t.declaration DeclareKind.Let (t.declarator_in (name (codes "y") 14) t.absent 15 t.no_declarators))))) ∷ []
 
 alone-unbroken : name_fault alone ≡ None
 unfolding name_fault fault_at slot_count slots_of holdings assigned_in places see program_sites item_sites stmt_sites stmt_form_sites expr_sites form_sites declarators_sites perhaps_sites program_scope found found_var functions_of repeated blocked

@@ -242,7 +242,7 @@ mutual
 
 item_listed : (ps : List Place) (scopes : List Scope) (b : ℕ) (i : PlainItem) → Lists ps (item_sites scopes i) (item_piece ps b i)
 unfolding item_piece item_sites
-item_listed ps scopes b (t.statement s) = stmt_listed ps scopes (in_function top) b s
+item_listed ps scopes b (t.statement spot s) = stmt_listed ps scopes (in_function top) b s
 item_listed ps scopes b (t.function_of spot name names ss) =
     let inner = function_scope spot.at names ss ∷ scopes in
     listed_function ps inner spot names n.statements (stmts_sites inner (in_function spot.at) ss) (stmts_piece ps b ss) (stmts_listed ps inner (in_function spot.at) b ss)

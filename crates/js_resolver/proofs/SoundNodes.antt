@@ -585,7 +585,7 @@ mutual
 
 item_good : (p : PlainProgram) (ps : List Place) (scopes : List Scope) (b : ℕ) (i : PlainItem) → IsWithin scopes top → Yields p ps top b (item_sites scopes i) (item_piece ps b i)
 unfolding item_piece item_sites
-item_good p ps scopes b (t.statement s) w = stmt_good p ps scopes (in_function top) b s w
+item_good p ps scopes b (t.statement spot s) w = stmt_good p ps scopes (in_function top) b s w
 item_good p ps scopes b (t.function_of spot name names ss) w =
     let inner = function_scope spot.at names ss ∷ scopes in
     let sites = stmts_sites inner (in_function spot.at) ss in

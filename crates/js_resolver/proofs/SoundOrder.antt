@@ -215,7 +215,7 @@ mutual
 
 pub item_orderly : (ps : List Place) (b : ℕ) (i : PlainItem) → IsOrderly b 0 (item_piece ps b i)
 unfolding item_piece
-item_orderly ps b (t.statement s) = orderly_fewer b 0 1 (stmt_piece ps b s) (omega arith) (stmt_orderly ps b s)
+item_orderly ps b (t.statement spot s) = orderly_fewer b 0 1 (stmt_piece ps b s) (omega arith) (stmt_orderly ps b s)
 item_orderly ps b (t.function_of spot name names ss) = orderly_function b 0 ps spot names n.statements (stmts_piece ps b ss) (stmts_orderly ps b ss)
 
 pub items_orderly : (ps : List Place) (b : ℕ) (is : List PlainItem) → IsOrderly b 0 (items_piece ps b is)

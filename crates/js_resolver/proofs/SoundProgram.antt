@@ -51,7 +51,7 @@ places_fit p v (q ∷ qs) = first_fits p undeclared (constant_there v q.declared
 -- the declared functions copy nothing
 abbrev pub AllAlone : List Place → List PlainItem → Type 0
 AllAlone ps [] = Unit {0}
-AllAlone ps (statement s ∷ is) = AllAlone ps is
+AllAlone ps (statement spot s ∷ is) = AllAlone ps is
 AllAlone ps (function_of spot name names ss ∷ is) = (captures (assigned_in ps) spot.at ps ≡ []) × AllAlone ps is
 
 copies_nothing : (o : Option PlainBody) (xs : List ℕ) → option_map (λ (b : PlainBody). b.captures) o ≡ Some xs → xs ≡ [] → captures_nothing o ≡ true
@@ -60,7 +60,7 @@ copies_nothing (Some b) xs e h = let d : b.captures ≡ xs = cc in ap (λ (z : L
 
 named_fits : (p : PlainProgram) (ps : List Place) (v : ℕ) (scopes : List Scope) (i : PlainItem) → AllAlone ps (i ∷ []) → AllFine p ps (item_sites scopes i) → (c : PlainConstant) → function_named ps v i ≡ Some c → constant_fits p c ≡ true
 unfolding item_sites
-named_fits p ps v scopes (statement s) w h c e = cc
+named_fits p ps v scopes (statement spot s) w h c e = cc
 named_fits p ps v scopes (function_of spot name names ss) w h c e =
     let nothing : capture_slots ps spot.at ≡ [] = ap (slots_among (slots_of (assigned_in ps) (around_of ps spot.at) ps)) w.0 in
     let there : constant_fits p (of_function (code_at ps spot.at)) ≡ true = copies_nothing (slice_get p.functions (code_at ps spot.at)) (capture_slots ps spot.at) h.1.0.copies nothing in
@@ -68,11 +68,11 @@ named_fits p ps v scopes (function_of spot name names ss) w h c e =
     [ true ↦ λ k. let d : of_function (code_at ps spot.at) ≡ c = cc in subst (λ z. constant_fits p z ≡ true) d there | false ↦ λ k. cc ] e
 
 alone_first : (ps : List Place) (i : PlainItem) (is : List PlainItem) → AllAlone ps (i ∷ is) → AllAlone ps (i ∷ [])
-alone_first ps (statement s) is h = tt
+alone_first ps (statement spot s) is h = tt
 alone_first ps (function_of spot name names ss) is h = (h.0, tt)
 
 alone_rest : (ps : List Place) (i : PlainItem) (is : List PlainItem) → AllAlone ps (i ∷ is) → AllAlone ps is
-alone_rest ps (statement s) is h = h
+alone_rest ps (statement spot s) is h = h
 alone_rest ps (function_of spot name names ss) is h = h.1
 
 items_named : (p : PlainProgram) (ps : List Place) (v : ℕ) (scopes : List Scope) (d : PlainConstant) (is : List PlainItem) → AllAlone ps is → constant_fits p d ≡ true → AllFine p ps (flat_map (item_sites scopes) is)

@@ -225,7 +225,7 @@ mutual
 
 item_knows : (ps : List Place) (r : AreRight ps) (scopes : List Scope) (i : PlainItem) → ScopesKnown ps top scopes → Knows ps (item_sites scopes i)
 unfolding item_sites
-item_knows ps r scopes (t.statement s) k = stmt_knows ps r scopes (in_function top) s k
+item_knows ps r scopes (t.statement spot s) k = stmt_knows ps r scopes (in_function top) s k
 item_knows ps r scopes (t.function_of spot name names ss) k = λ h.
     let inner = function_scope spot.at names ss ∷ scopes in
     let body = in_function spot.at in
@@ -239,7 +239,7 @@ items_knows ps r scopes (i ∷ is) k h = knows_append ps (item_sites scopes i) (
 
 item_stated : (ps : List Place) (scopes : List Scope) (i : PlainItem) → AllHave ps (item_sites scopes i) → AllStated ps (found scopes) top (own_of_item i) × AllStated ps (found_var scopes) top (vars_of_item i)
 unfolding item_sites see
-item_stated ps scopes (t.statement s) h = (stated_own ps scopes (in_function top) true s h, stmt_vars ps scopes (in_function top) true s h)
+item_stated ps scopes (t.statement spot s) h = (stated_own ps scopes (in_function top) true s h, stmt_vars ps scopes (in_function top) true s h)
 item_stated ps scopes (t.function_of spot name names ss) h =
     ((record { place = _; has = h.0; role = Function; what = refl; declared = refl; spot = refl; owner = refl; same = refl; parameter = λ k. absurd (false≢true k) }, tt), tt)
 

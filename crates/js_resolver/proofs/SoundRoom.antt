@@ -4,6 +4,7 @@ use Rattle.std.proofs.lemmas.Bool.{lt-ltb, eqb-true, eqb-false, ne_eqb}
 use Rattle.std.proofs.lemmas.Option.{slice_get-map}
 use Rattle.std.specs.Prelude.{is_some, unwrap_or, nat_lt, slice_get, option_map}
 use Rattle.std.specs.List.{flat_map, prefix_len}
+use Rattle.std.proofs.lemmas.List.Sums.{fold-append}
 use Rattle.js_program.specs.PlainProgram.{PlainBody, PlainProgram}
 use Rattle.js_program.specs.Sound.{all_below, captures_fit, function_fits}
 use Rattle.js_names.specs.declared.place.Role.{Role}
@@ -82,10 +83,6 @@ no_repeats-first_uses (x ∷ xs) h =
     let apart : (y : ℕ) → In y xs → In y (x ∷ []) → ⊥ = λ y m n. elim n as (λ _. ⊥) [ inl e ↦ h.0 (subst (λ z. In z xs) e m) | inr e ↦ e ] in
     fold-apart (x ∷ []) [] xs apart ∙ ap (λ z. x ∷ z) (no_repeats-first_uses xs h.1)
 
-fold-both : (acc xs ys : List ℕ) → fold joins acc (xs ++ ys) ≡ fold joins (fold joins acc xs) ys
-fold-both acc [] ys = refl
-fold-both acc (x ∷ xs) ys = fold-both (joins acc x) xs ys
-
 joins-longer : (acc : List ℕ) (y : ℕ) → length acc ≤ length (joins acc y)
 joins-longer acc y = elim (is_among y acc) as (λ b. length acc ≤ length (if b then acc else acc ++ y ∷ [])) [ true ↦ omega arith | false ↦ omega (arith, length-append acc (y ∷ [])) ]
 
@@ -95,7 +92,7 @@ fold-longer acc (x ∷ xs) = omega (arith, joins-longer acc x, fold-longer (join
 
 room-for : (xs ys zs : List ℕ) → NoRepeats xs → ((y : ℕ) → In y ys → In y xs → ⊥) → length xs + length (first_uses ys) ≤ length (first_uses (xs ++ (ys ++ zs)))
 room-for xs ys zs h apart =
-    let e : first_uses (xs ++ (ys ++ zs)) ≡ fold joins (fold joins (first_uses xs) ys) zs = fold-both [] xs (ys ++ zs) ∙ fold-both (first_uses xs) ys zs in
+    let e : first_uses (xs ++ (ys ++ zs)) ≡ fold joins (fold joins (first_uses xs) ys) zs = fold-append joins [] xs (ys ++ zs) ∙ fold-append joins (first_uses xs) ys zs in
     let d : fold joins (first_uses xs) ys ≡ xs ++ first_uses ys = ap (λ z. fold joins z ys) (no_repeats-first_uses xs h ∙ sym (append-nil xs)) ∙ fold-apart xs [] ys apart in
     omega (arith, ap length e, ap length d, length-append xs (first_uses ys), fold-longer (fold joins (first_uses xs) ys) zs)
 

@@ -114,7 +114,7 @@ unfoldable mutual
 
 -- a function declaration is no node
 unfoldable pub item_piece : List Place → ℕ → PlainItem → Piece
-item_piece ps b (t.statement s) = stmt_piece ps b s
+item_piece ps b (t.statement spot s) = stmt_piece ps b s
 item_piece ps b (t.function_of spot name names ss) =
     function_piece ps spot names n.statements (stmts_piece ps b ss)
 

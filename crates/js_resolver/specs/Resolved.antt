@@ -14,7 +14,7 @@ use Rattle.js_resolver.specs.Nodes.{items_piece}
 
 -- a function declaration whose name stands at a place is a constant with its value from the start
 abbrev pub function_named : List Place → ℕ → PlainItem → Option PlainConstant
-function_named ps v (statement s) = None
+function_named ps v (statement spot s) = None
 function_named ps v (function_of spot name names ss) =
     if nat_eq name.spot.at v then Some (of_function (code_at ps spot.at)) else None
 

@@ -73,7 +73,7 @@ fn note_item(
         (λ q. function_named tables.now q (plain_item item.now))) }
 {
     match item {
-        Item::Statement(_) => Ok(()),
+        Item::Statement(_, _) => Ok(()),
         Item::Function(spot, name, _, _) => {
             let code = tables.code(spot.at)?;
             note_start(starts, name.spot.at, ConstantStart::OfFunction(code))

@@ -570,7 +570,7 @@ fn emit_item(
         (item_piece tables.now (count emitter.old) (plain_item item.now))) }
 {
     match item {
-        Item::Statement(stmt) => {
+        Item::Statement(_, stmt) => {
             let number = emit_stmt(tables, emitter, stmt)?;
             numbers.push(number)?;
             Ok(())

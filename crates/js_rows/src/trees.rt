@@ -319,7 +319,7 @@ fn stmt_form(out: &mut String, form: &StmtForm, room: u32) -> Result<(), AllocEr
 
 fn item(out: &mut String, tree: &Item) -> Result<(), AllocError> {
     match tree {
-        Item::Statement(tree) => stmt(out, "", tree, SHOWN),
+        Item::Statement(_, tree) => stmt(out, "", tree, SHOWN),
         Item::Function(_, name, params, body) => {
             let name = Part::Word(name.text.as_str());
             list(

@@ -1,5 +1,6 @@
 -- One more tree in a list.
-use Rattle.std.proofs.Common.{◌≡◌, max, List, [], ◌∷◌, ◌++◌, map, fold, refl, ap, arith}
+use Rattle.std.proofs.Common.{◌≡◌, max, List, [], ◌∷◌, ◌++◌, map, fold, refl, arith}
+use Rattle.std.proofs.lemmas.List as list
 use Rattle.js_tree.specs.declared.tree.Expr.{Expr}
 use Rattle.js_tree.specs.declared.tree.Field.{Field}
 use Rattle.js_tree.specs.declared.tree.Declarator.{Declarator}
@@ -10,21 +11,17 @@ use Rattle.js_tree.specs.Views.{plain_expr, plain_field, plain_declarator, plain
 use Rattle.js_tree.specs.Nesting.{nesting, deepest, deepest_field, deepest_declarator, perhaps_nesting, stmt_nesting, deepest_stmt}
 use Rattle.js_tree.specs.Endings.{perhaps_ending, declarators_ending}
 
-pub map_one : {A B : Type 0} (f : A → B) (xs : List A) (x : A) → map f (xs ++ x ∷ []) ≡ map f xs ++ f x ∷ []
-map_one f [] x = refl
-map_one f (y ∷ xs) x = ap (λ zs. f y ∷ zs) (map_one f xs x)
-
 pub map_push : (es : List Expr) (e : Expr) → map plain_expr (es ++ e ∷ []) ≡ map plain_expr es ++ plain_expr e ∷ []
-map_push = map_one plain_expr
+map_push = list.map_push plain_expr
 
 pub map_push_field : (es : List Field) (e : Field) → map plain_field (es ++ e ∷ []) ≡ map plain_field es ++ plain_field e ∷ []
-map_push_field = map_one plain_field
+map_push_field = list.map_push plain_field
 
 pub map_push_declarator : (es : List Declarator) (e : Declarator) → map plain_declarator (es ++ e ∷ []) ≡ map plain_declarator es ++ plain_declarator e ∷ []
-map_push_declarator = map_one plain_declarator
+map_push_declarator = list.map_push plain_declarator
 
 pub map_push_stmt : (es : List Stmt) (e : Stmt) → map plain_stmt (es ++ e ∷ []) ≡ map plain_stmt es ++ plain_stmt e ∷ []
-map_push_stmt = map_one plain_stmt
+map_push_stmt = list.map_push plain_stmt
 
 pub deepest_push : (es : List PlainExpr) (e : PlainExpr) → deepest (exprs_of (es ++ e ∷ [])) ≡ max (deepest (exprs_of es)) (nesting e)
 deepest_push [] e = omega arith

@@ -102,7 +102,7 @@ abbrev mutual
 
 -- a function declaration is a level, and its statements are one under it
 abbrev pub item_nesting : PlainItem → ℕ
-item_nesting (statement s) = stmt_nesting s
+item_nesting (statement spot s) = stmt_nesting s
 item_nesting (function_of spot name names ss) = suc (deepest_stmt ss)
 
 abbrev pub deepest_item : List PlainItem → ℕ

@@ -83,9 +83,9 @@ mutual
     no_stmts : PlainStmts
     stmt_in : PlainStmt → PlainStmts → PlainStmts
 
--- what a program lists
+-- what a program lists, with the place of its first token
 pub data PlainItem : Type 0 where
-  statement : PlainStmt → PlainItem
+  statement : Spot → PlainStmt → PlainItem
   function_of : Spot → Name → List Name → PlainStmts → PlainItem
 
 -- a declarator and a field alone

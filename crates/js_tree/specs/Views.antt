@@ -117,7 +117,7 @@ plain_stmt =
     form_step start_step stmt_form_step declarator_step expr_step field_step stmt_step
 
 abbrev pub plain_item : Item → PlainItem
-plain_item (Statement s) = p.statement (plain_stmt s)
+plain_item (Statement spot s) = p.statement spot (plain_stmt s)
 plain_item (Function spot name names body) =
     p.function_of spot name names.items (stmts_of (map plain_stmt body.items))
 

@@ -247,10 +247,10 @@ impl Drop for StmtForm {
     }
 }
 
-/// What a program lists: a statement, or a function declaration with the place of its first token.
+/// What a program lists, with the place of its first token: a statement or a function declaration.
 #[derive(Drop)]
 pub enum Item {
-    Statement(Stmt),
+    Statement(Spot, Stmt),
     Function(Spot, Name, Vec<Name>, Vec<Stmt>),
 }
 

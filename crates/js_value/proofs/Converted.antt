@@ -1,11 +1,12 @@
 -- Lists that are converted item by item: what is done so far, and what is left, is the whole.
-use Rattle.std.proofs.Common.{◌≡◌, ◌≤◌, ◌<◌, ◌+◌, ℕ, suc, length, drop, take, map, get_or, List, [], ◌∷◌, ◌++◌, Option, Some, None, option_map, refl, sym, ap, ◌∙◌, add-one, drop-cons, Global}
+use Rattle.std.proofs.Common.{◌≡◌, ◌≤◌, ◌<◌, ◌+◌, ℕ, length, drop, take, map, get_or, List, [], ◌∷◌, ◌++◌, Option, Some, None, option_map, refl, sym, ap, ◌∙◌, Global}
 use Rattle.std.specs.declared.sync.Arc.{Arc}
 use Rattle.std.proofs.lemmas.List.{drop_all, take_all}
 use Rattle.js_data.specs.Data as d
 use Rattle.js_data.specs.Data.{DataList, DataFields}
 use Rattle.js_data.specs.Views.{plain_data, data_list_view, data_fields_view}
 use Rattle.js_data.specs.declared.data.Data.{Data}
+use Rattle.js_data.proofs.Shared.{drop_is}
 use Rattle.js_value.specs.Value as v
 use Rattle.js_value.specs.Value.{PlainValue, PlainSet, SetList}
 use Rattle.js_value.specs.Views.{plain_value, plain_value_field, value_list_view, value_fields_view}
@@ -36,10 +37,7 @@ values_done vs ds i h e = ap value_list_of (e ∙ ap (map value_of_item) (take_a
 pub value_fields_done : (vs : List (Arc (List ℕ) Global × Value)) (fs : List (List ℕ × Data)) (i : ℕ) → length fs ≤ i → map plain_value_field vs ≡ map value_of_field (take i fs) → value_fields_view vs ≡ data_value_fields (data_fields_view fs)
 value_fields_done vs fs i h e = ap value_fields_of (e ∙ ap (map value_of_field) (take_all i fs h)) ∙ fields_are fs
 
--- ---- the item at the front of what is left
-
-front : {A : Type 0} (xs : List A) (i : ℕ) (x : A) → i < length xs → x ≡ get_or xs i x → drop i xs ≡ x ∷ drop (i + 1) xs
-front xs i x lt here = rw add-one (drop-cons xs i x lt ∙ ap (λ u. u ∷ drop (suc i) xs) (sym here))
+-- ---- the item at the drop_is of what is left
 
 -- ---- values as data
 
@@ -62,7 +60,7 @@ one_more xs x (Some ds) = ap Some (sym (after_push xs x ds))
 pub data_step : (made made' : List Data) (x : Data) (u : Value) (us : List Value) (i : ℕ) (all : Option DataList) → i < length us → u ≡ get_or us i u → made' ≡ made ++ x ∷ [] → value_data (plain_value u) ≡ Some (plain_data x)
     → option_map (after made) (values_data (value_list_view (drop i us))) ≡ all → option_map (after made') (values_data (value_list_view (drop (i + 1) us))) ≡ all
 data_step made made' x u us i all lt here more reads so_far =
-    let now = rw (front us i u lt here) at so_far in
+    let now = rw (drop_is us i u lt here) at so_far in
     rw (more, ← one_more made x (values_data (value_list_view (drop (i + 1) us)))) (rw reads at now)
 
 pub data_end : (made : List Data) (us : List Value) (i : ℕ) → length us ≤ i → option_map (after made) (values_data (value_list_view (drop i us))) ≡ values_data (value_list_view us) → Some (data_list_view made) ≡ values_data (value_list_view us)
@@ -89,7 +87,7 @@ one_more_field xs x (Some fs) = ap Some (sym (after_fields_push xs x fs))
 pub fields_step : (made made' : List (List ℕ × Data)) (k : List ℕ) (x : Data) (u : Arc (List ℕ) Global × Value) (us : List (Arc (List ℕ) Global × Value)) (i : ℕ) (all : Option DataFields) → i < length us → u ≡ get_or us i u → made' ≡ made ++ (k, x) ∷ [] → k ≡ u.0.value → value_data (plain_value u.1) ≡ Some (plain_data x)
     → option_map (after_fields made) (fields_data (value_fields_view (drop i us))) ≡ all → option_map (after_fields made') (fields_data (value_fields_view (drop (i + 1) us))) ≡ all
 fields_step made made' k x u us i all lt here more same reads so_far =
-    let now = rw (front us i u lt here) at so_far in
+    let now = rw (drop_is us i u lt here) at so_far in
     let later = rw (reads, ← same) at now in
     rw (more, ← one_more_field made (k, x) (fields_data (value_fields_view (drop (i + 1) us)))) later
 
@@ -117,7 +115,7 @@ one_more_set xs x (Some ss) = ap Some (sym (after_sets_push xs x ss))
 pub sets_step : (made made' : List PlainSet) (x : PlainSet) (u : Value) (us : List Value) (i : ℕ) (all : Option SetList) → i < length us → u ≡ get_or us i u → made' ≡ made ++ x ∷ [] → set_of (plain_value u) ≡ Some x
     → option_map (after_sets made) (sets_of (value_list_view (drop i us))) ≡ all → option_map (after_sets made') (sets_of (value_list_view (drop (i + 1) us))) ≡ all
 sets_step made made' x u us i all lt here more reads so_far =
-    let now = rw (front us i u lt here) at so_far in
+    let now = rw (drop_is us i u lt here) at so_far in
     rw (more, ← one_more_set made x (sets_of (value_list_view (drop (i + 1) us)))) (rw reads at now)
 
 pub sets_end : (made : List PlainSet) (us : List Value) (i : ℕ) → length us ≤ i → option_map (after_sets made) (sets_of (value_list_view (drop i us))) ≡ sets_of (value_list_view us) → Some (set_list_of made) ≡ sets_of (value_list_view us)

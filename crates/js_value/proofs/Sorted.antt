@@ -8,46 +8,43 @@ use Rattle.js_data.specs.Data.{PlainData, DataList, DataFields, IsSortedData, Ar
 use Rattle.js_data.specs.Event.{IsSortedExtra}
 use Rattle.js_data.specs.Views.{plain_data, data_list_view, data_fields_view}
 use Rattle.js_data.specs.declared.data.Data.{Data}
+use Rattle.js_data.proofs.Shared.{OfSome}
 use Rattle.js_value.specs.Value as v
 use Rattle.js_value.specs.Value.{PlainValue, ValueList, ValueFields, IsSortedValue, AreSortedValues, AreSortedFields}
 use Rattle.js_value.specs.Kept.{HaveSortedKeys}
 use Rattle.js_value.specs.DataValues.{data_value_fields, value_data, values_data, fields_data}
 
-abbrev pub If : {A : Type 0} → (A → Type 0) → Option A → Type 0
-If P None = Unit {0}
-If P (Some x) = P x
-
-if_list : (o : Option DataList) → If AreSortedData o → If IsSortedData (option_map d.list o)
+if_list : (o : Option DataList) → OfSome AreSortedData o → OfSome IsSortedData (option_map d.list o)
 if_list None h = tt
 if_list (Some x) h = h
 
-if_fields : (o : Option DataFields) → If AreSortedDataFields o → If IsSortedData (option_map d.fields o)
+if_fields : (o : Option DataFields) → OfSome AreSortedDataFields o → OfSome IsSortedData (option_map d.fields o)
 if_fields None h = tt
 if_fields (Some x) h = h
 
-if_item : (o : Option PlainData) (r : Option DataList) → If IsSortedData o → If AreSortedData r → If AreSortedData (option_and_then (λ y. option_map (d.item y) r) o)
+if_item : (o : Option PlainData) (r : Option DataList) → OfSome IsSortedData o → OfSome AreSortedData r → OfSome AreSortedData (option_and_then (λ y. option_map (d.item y) r) o)
 if_item None r p q = tt
 if_item (Some y) None p q = tt
 if_item (Some y) (Some ds) p q = (p, q)
 
-if_before : (k l : List ℕ) (o : Option PlainData) (r : Option DataFields) → slice_cmp nat_cmp k l ≡ Less → If (d.IsBefore k) r → If (d.IsBefore k) (option_and_then (λ y. option_map (d.field l y) r) o)
+if_before : (k l : List ℕ) (o : Option PlainData) (r : Option DataFields) → slice_cmp nat_cmp k l ≡ Less → OfSome (d.IsBefore k) r → OfSome (d.IsBefore k) (option_and_then (λ y. option_map (d.field l y) r) o)
 if_before k l None r h q = tt
 if_before k l (Some y) None h q = tt
 if_before k l (Some y) (Some fs) h q = (h, q)
 
-if_field : (k : List ℕ) (o : Option PlainData) (r : Option DataFields) → If (d.IsBefore k) r → If IsSortedData o → If AreSortedDataFields r → If AreSortedDataFields (option_and_then (λ y. option_map (d.field k y) r) o)
+if_field : (k : List ℕ) (o : Option PlainData) (r : Option DataFields) → OfSome (d.IsBefore k) r → OfSome IsSortedData o → OfSome AreSortedDataFields r → OfSome AreSortedDataFields (option_and_then (λ y. option_map (d.field k y) r) o)
 if_field k None r b p q = tt
 if_field k (Some y) None b p q = tt
 if_field k (Some y) (Some fs) b p q = (b, p, q)
 
-fields_before : (k : List ℕ) (fs : ValueFields) → v.IsBefore k fs → If (d.IsBefore k) (fields_data fs)
+fields_before : (k : List ℕ) (fs : ValueFields) → v.IsBefore k fs → OfSome (d.IsBefore k) (fields_data fs)
 fields_before k v.no_fields h = tt
 fields_before k (v.field l x fs) h = if_before k l (value_data x) (fields_data fs) h.0 (fields_before k fs h.1)
 
 -- ---- the data that a value is
 
 mutual
-  data_sorted : (x : PlainValue) → IsSortedValue x → If IsSortedData (value_data x)
+  data_sorted : (x : PlainValue) → IsSortedValue x → OfSome IsSortedData (value_data x)
   data_sorted v.undefined h = tt
   data_sorted v.null h = tt
   data_sorted (v.truth b) h = tt
@@ -59,15 +56,15 @@ mutual
   data_sorted (v.set s) h = tt
   data_sorted (v.function c vs) h = tt
 
-  list_sorted : (vs : ValueList) → AreSortedValues vs → If AreSortedData (values_data vs)
+  list_sorted : (vs : ValueList) → AreSortedValues vs → OfSome AreSortedData (values_data vs)
   list_sorted v.no_values h = tt
   list_sorted (v.value x vs) h = if_item (value_data x) (values_data vs) (data_sorted x h.0) (list_sorted vs h.1)
 
-  fields_sorted : (fs : ValueFields) → AreSortedFields fs → If AreSortedDataFields (fields_data fs)
+  fields_sorted : (fs : ValueFields) → AreSortedFields fs → OfSome AreSortedDataFields (fields_data fs)
   fields_sorted v.no_fields h = tt
   fields_sorted (v.field k x fs) h = if_field k (value_data x) (fields_data fs) (fields_before k fs h.0) (data_sorted x h.1) (fields_sorted fs h.2)
 
-extra_sorted : (o : Option PlainData) → If IsSortedData o → IsSortedExtra o
+extra_sorted : (o : Option PlainData) → OfSome IsSortedData o → IsSortedExtra o
 extra_sorted None h = tt
 extra_sorted (Some x) h = h
 

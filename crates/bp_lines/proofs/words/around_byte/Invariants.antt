@@ -1,6 +1,6 @@
 use Rattle.std.proofs.Common.{◌≡◌, drop, take}
 use Rattle.bp_reading.specs.Words.{around}
-use Rattle.bp_lines.proofs.Walks.{onto_all}
+use Rattle.bp_reading.proofs.Quotes.{onto_all}
 use Rattle.bp_lines.proofs.words.around_byte.Given as goal
 
 abbrev pub invariant-loop-i : goal.invariant-loop-i

@@ -1,6 +1,6 @@
 use Rattle.std.proofs.Common.{◌≡◌, false, drop, take}
 use Rattle.bp_reading.specs.Words.{to_quote}
-use Rattle.bp_lines.proofs.Walks.{onto_all}
+use Rattle.bp_reading.proofs.Quotes.{onto_all}
 use Rattle.bp_lines.proofs.words.up_to_quote.Given as goal
 
 abbrev pub invariant-loop-i : goal.invariant-loop-i

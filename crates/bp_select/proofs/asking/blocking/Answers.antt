@@ -5,7 +5,7 @@ use Rattle.bp_select.specs.declared.bench.Stated.{Stated}
 use Rattle.bp_select.specs.Lives.{live_of, lent}
 use Rattle.bp_select.specs.Blocking.{blocking}
 use Rattle.bp_select.proofs.Blocks.{blocking_step, blocking_last}
-use Rattle.bp_select.proofs.Questions.{map_push}
+use Rattle.std.proofs.lemmas.List.{map_push}
 use Rattle.bp_select.proofs.asking.blocking.Goals as goal
 use Rattle.bp_select.proofs.asking.blocking.Goals.{then-not-empty+in_ok-push, else-not-empty}
 

@@ -5,7 +5,7 @@ use Rattle.js_names.proofs.walk.put_item.Goals as goal
 
 pub returns-in-Statement : goal.returns-in-Statement
 returns-in-Statement c =
-    adds_as c.put_stmt.result c.args.walk.now c.put_stmt.new.walk _ _ (statement_sites (scopes_in c.args.walk.now) c.in_function.result c.args.item.now c.in-Statement.stmt c.in-Statement.is c.in_function.ensures) c.put_stmt.ensures
+    adds_as c.put_stmt.result c.args.walk.now c.put_stmt.new.walk _ _ (statement_sites (scopes_in c.args.walk.now) c.in_function.result c.args.item.now _ c.in-Statement.stmt c.in-Statement.is c.in_function.ensures) c.put_stmt.ensures
 
 pub returns-in-Function : goal.returns-in-Function
 returns-in-Function c =

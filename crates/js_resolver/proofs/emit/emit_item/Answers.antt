@@ -3,7 +3,7 @@ use Rattle.js_resolver.proofs.emit.emit_item.Goals as goal
 
 pub returns-in_ok-push-in-Statement : goal.returns-in_ok-push-in-Statement
 returns-in_ok-push-in-Statement c =
-    statement_item c.args.tables.now c.args.emitter.now c.emit_stmt.new.emitter c.args.item.now c.in-Statement.stmt c.args.numbers.now.items c.push.new.self.items c.in_ok-number-in-Statement.number c.in-Statement.is c.in_ok-number-in-Statement.ensures c.in_ok-push-in-Statement.ensures.items
+    statement_item c.args.tables.now c.args.emitter.now c.emit_stmt.new.emitter c.args.item.now _ c.in-Statement.stmt c.args.numbers.now.items c.push.new.self.items c.in_ok-number-in-Statement.number c.in-Statement.is c.in_ok-number-in-Statement.ensures c.in_ok-push-in-Statement.ensures.items
 
 pub returns-in-Function : goal.returns-in-Function
 returns-in-Function c =
