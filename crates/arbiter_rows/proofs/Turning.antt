@@ -1,6 +1,7 @@
 -- One turn of a floor.
 use Rattle.std.proofs.Common.{◌≡◌, ◌∙◌, ◌≤◌, ℕ, Bool, true, false, ◌||◌, List, [], ◌∷◌, length, slice_get, Option, Some, None, refl, sym, ap, subst}
 use Rattle.std.specs.List.{list_any}
+use Rattle.std.proofs.lemmas.Option.{same_Some}
 use Rattle.js_data.specs.Event.{PlainEvent, same_event}
 use Rattle.js_data.proofs.SameEvent.{same_event-self}
 use Rattle.js_value.specs.Value.{PlainSet}
@@ -113,12 +114,9 @@ module _ (f g : PlainFloor) (jobs : List Job) (i : IsOut f g jobs) where
           calls = calls_turned g.base.program g.options p (i.goes).calls;
         }
 
-same_first : (x e : PlainEvent) → Some x ≡ Some e → x ≡ e
-same_first x e h = cc
-
 -- the first event that can be selected is among those that can
 pub among_first : (xs : List PlainEvent) (e : PlainEvent) (o : Option PlainEvent) → o ≡ slice_get xs 0 → o ≡ Some e → list_any (same_event e) xs ≡ true
 among_first [] e o h k = absurd (cc)
 among_first (x ∷ xs) e o h k =
-    let f : x ≡ e = same_first x e (sym h ∙ k) in
+    let f : x ≡ e = same_Some x e (sym h ∙ k) in
     ap (λ (b : Bool). b || list_any (same_event e) xs) (ap (λ (y : PlainEvent). same_event e y) f ∙ same_event-self e)

@@ -1,5 +1,5 @@
 -- What comes next in a run, once the choice is known.
-use Rattle.std.proofs.Common.{◌≡◌, ◌≤◌, ◌<◌, ℕ, zero, suc, Bool, true, false, List, [], ◌∷◌, ◌++◌, length, refl, sym, ap, ◌∙◌, subst, Option, Some, None, Result, Ok, Err, OnOk, IfOk, if◌then◌else◌, ◌==◌, slice_get, option_map, arith, nat_lt}
+use Rattle.std.proofs.Common.{◌≡◌, ◌≤◌, ◌<◌, ℕ, Bool, true, false, List, [], ◌∷◌, ◌++◌, length, refl, sym, ap, ◌∙◌, subst, Option, Some, None, Ok, Err, if◌then◌else◌, ◌==◌, slice_get, option_map, arith, nat_lt}
 use Rattle.js_data.specs.Event.{PlainEvent}
 use Rattle.js_program.specs.PlainProgram.{PlainProgram}
 use Rattle.js_meaning.specs.Bodies.{Origin, the_top}
@@ -179,16 +179,3 @@ next_faulty r f n x v h k e c w =
 -- the same fault, in the parts of an answer
 pub fault_told : (f : PlainFloor) (v : Verdict) (m n : ℕ) (x y : set_fault.SetFault) → m ≡ n → x ≡ y → VerdictFor f m x v → VerdictFor f n y v
 fault_told f v m n x y h k w = subst (λ (i : ℕ). VerdictFor f i y v) h (subst (λ (u : set_fault.SetFault). VerdictFor f m u v) k w)
-
-pub ok_map : {T E A B : Type 0} (r : Result T E) → (A → B) → OnOk r A → OnOk r B
-ok_map (Ok t) f a = f a
-ok_map (Err e) f a = tt
-
-pub if_map : {T E : Type 0} {P Q : T → Type 0} (r : Result T E) → ((t : T) → P t → Q t) → IfOk r P → IfOk r Q
-if_map (Ok t) f h = f t h
-if_map (Err e) f h = tt
-
-pub queued_some : (xs : List PlainEvent) (n : ℕ) → n < length xs → (e : PlainEvent) × (slice_get xs n ≡ Some e)
-queued_some [] n h = absurd (omega (arith, h))
-queued_some (x ∷ xs) zero h = (x, refl)
-queued_some (x ∷ xs) (suc n) h = queued_some xs n (omega (arith, h))

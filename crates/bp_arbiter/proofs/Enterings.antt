@@ -8,8 +8,9 @@ use Rattle.bp_log.specs.Records.{is_complete}
 use Rattle.bp_log.specs.declared.item.Item.{Item}
 use Rattle.bp_log.specs.declared.item.Item.TheVariants as item
 use Rattle.bp_log.specs.declared.record.Record.{Record}
-use Rattle.bp_log.specs.declared.record.Record.TheVariants.{In, Bad, Eof, Sel, End}
+use Rattle.bp_log.specs.declared.record.Record.TheVariants.{In, Bad, Eof}
 use Rattle.bp_log.specs.declared.trace.Line.{Line}
+use Rattle.bp_log.proofs.Complete.{complete_by_last}
 use Rattle.bp_run.specs.Settling.{Pair}
 use Rattle.bp_thread.specs.declared.job.Job.{Job}
 use Rattle.bp_floor.specs.declared.phase.Phase.{Phase}
@@ -25,38 +26,11 @@ use Rattle.bp_arbiter.proofs.Standing.{sound_of}
 use Rattle.bp_arbiter.proofs.Absorbs.{stands_absorbed}
 use Rattle.bp_arbiter.proofs.Turnings.{IsAt, at_phase}
 
-with_in : (rs : List Record) (j : ℕ) (e : PlainEvent) → is_complete (rs ++ In j e ∷ []) ≡ false
-with_in [] j e = refl
-with_in (In k f ∷ rs) j e = with_in rs j e
-with_in (Bad k m ∷ rs) j e = with_in rs j e
-with_in (Eof k ∷ rs) j e = with_in rs j e
-with_in (Sel f ∷ rs) j e = with_in rs j e
-with_in (End w ∷ []) j e = refl
-with_in (End w ∷ r ∷ rs) j e = with_in (r ∷ rs) j e
-
-with_bad : (rs : List Record) (j n : ℕ) → is_complete (rs ++ Bad j n ∷ []) ≡ false
-with_bad [] j n = refl
-with_bad (In k f ∷ rs) j n = with_bad rs j n
-with_bad (Bad k m ∷ rs) j n = with_bad rs j n
-with_bad (Eof k ∷ rs) j n = with_bad rs j n
-with_bad (Sel f ∷ rs) j n = with_bad rs j n
-with_bad (End w ∷ []) j n = refl
-with_bad (End w ∷ r ∷ rs) j n = with_bad (r ∷ rs) j n
-
-with_eof : (rs : List Record) (j : ℕ) → is_complete (rs ++ Eof j ∷ []) ≡ false
-with_eof [] j = refl
-with_eof (In k f ∷ rs) j = with_eof rs j
-with_eof (Bad k m ∷ rs) j = with_eof rs j
-with_eof (Eof k ∷ rs) j = with_eof rs j
-with_eof (Sel f ∷ rs) j = with_eof rs j
-with_eof (End w ∷ []) j = refl
-with_eof (End w ∷ r ∷ rs) j = with_eof (r ∷ rs) j
-
 still_open : (j : ℕ) (x : Item) (a : PlainArbiter) → is_complete a.records ≡ false → is_complete (absorbed j x a).records ≡ false
-still_open j (item.Offered e) a h = with_in a.records j e
-still_open j (item.Bad n) a h = with_bad a.records j n
+still_open j (item.Offered e) a h = complete_by_last a.records (In j e)
+still_open j (item.Bad n) a h = complete_by_last a.records (Bad j n)
 still_open j item.Failed a h = h
-still_open j item.End a h = with_eof a.records j
+still_open j item.End a h = complete_by_last a.records (Eof j)
 
 same_phase : (j : ℕ) (x : Item) (a : PlainArbiter) → (absorbed j x a).phase ≡ a.phase
 same_phase j (item.Offered e) a = refl

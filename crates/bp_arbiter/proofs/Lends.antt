@@ -1,6 +1,8 @@
 -- Jobs are lent, and come back carried to their outcomes.
-use Rattle.std.proofs.Common.{◌≡◌, ◌<◌, ℕ, zero, suc, Bool, true, false, List, [], ◌∷◌, length, map, refl, sym, ap, ◌∙◌, subst, arith, Option, Some, None, option_map, slice_get, slice_index_or}
+use Rattle.std.proofs.Common.{◌≡◌, ◌<◌, ℕ, zero, suc, Bool, true, false, List, [], ◌∷◌, length, map, refl, sym, ap, ◌∙◌, subst, arith, Option, Some, None, slice_get, slice_index_or}
+use Rattle.std.proofs.lemmas.Option.{slice_get-map}
 use Rattle.js_data.specs.Event.{PlainEvent}
+use Rattle.js_data.proofs.Shared.{mapped}
 use Rattle.js_program.specs.PlainProgram.{PlainProgram}
 use Rattle.js_meaning.specs.State.{Ground, effects_since}
 use Rattle.js_meaning.specs.Bodies.{Origin, the_top, function, bare, ground_of, evaluation}
@@ -25,7 +27,6 @@ use Rattle.bp_floor.specs.Floors.{PlainFloor, IsPhased, StandsFor as FloorStands
 use Rattle.bp_arbiter.specs.Arbiters.{PlainArbiter, StandsFor, options_in}
 use Rattle.bp_arbiter.specs.Calls.{is_call, AllCall, HandlerCalls, HandlersCall, RunCalls}
 use Rattle.bp_arbiter.specs.Lending.{CanRun, AllCanRun, AreOut, AreBack}
-use Rattle.bp_floor.proofs.Stepping.{got}
 use Rattle.bp_floor.proofs.Returns.{filled_length}
 
 -- ---- the ground of what is to be run
@@ -47,14 +48,10 @@ unforgotten : (b : Bool) (u t : Thread Origin) → u.ended ≡ b → forget the_
 unforgotten true u t e h n c = absurd (let f : (forget the_top u).ended ≡ true = still_ended true u e in let g : (forget the_top u).ended ≡ false = ap (λ (x : Thread Origin). x.ended) h ∙ n in cc)
 unforgotten false u t e h n c = ap (λ (x : Thread Origin). is_call x.origin) (sym h) ∙ (rw e c)
 
-seen_at : (x : Option (Thread Origin)) (t : Thread Origin) → option_map (forget the_top) x ≡ Some t → (u : Thread Origin) × (x ≡ Some u) × (forget the_top u ≡ t)
-seen_at None t h = absurd (cc)
-seen_at (Some u) t h = (u, refl, cc)
-
 -- a b-thread that goes on runs a call
 going_call : (us : List (Thread Origin)) (i : ℕ) (t : Thread Origin) → AllCall us → slice_get (map (forget the_top) us) i ≡ Some t → t.ended ≡ false → is_call t.origin ≡ true
 going_call us i t c h n =
-    let w = seen_at (slice_get us i) t (sym (got (forget the_top) us i) ∙ h) in
+    let w = mapped (forget the_top) (slice_get us i) t (sym (slice_get-map (forget the_top) us i) ∙ h) in
     unforgotten w.0.ended w.0 t refl w.2 n (call_at us i w.0 c w.1)
 
 -- the body of the entry stands on this ground

@@ -4,8 +4,10 @@ use Rattle.js_meaning.specs.Bodies.{Origin}
 use Rattle.bp_log.specs.Options.{PlainOptions}
 use Rattle.bp_log.specs.Records.{is_complete}
 use Rattle.bp_log.specs.declared.record.Record.{Record}
+use Rattle.bp_log.specs.declared.record.Record.TheVariants.{End}
 use Rattle.bp_log.specs.declared.trace.Line.{Line}
 use Rattle.bp_log.specs.declared.verdict.Verdict.{Verdict}
+use Rattle.bp_log.proofs.Complete.{complete_by_last}
 use Rattle.bp_run.specs.Configuration.{Configuration}
 use Rattle.bp_run.specs.Settling.{Pair}
 use Rattle.bp_run.specs.Story.Next.{Ends}
@@ -27,11 +29,11 @@ use Rattle.bp_arbiter.proofs.Told.{stands_tells, tells_same}
 use Rattle.bp_arbiter.proofs.Standing.{sound_of, sound_broken}
 use Rattle.bp_arbiter.proofs.Seals.{stands_sealed, tells_turned, verdict_next, verdict_kept, over_verdict, has_grown}
 use Rattle.bp_arbiter.proofs.Lends.{carried_stands, back_done}
-use Rattle.bp_arbiter.proofs.Turnings.{IsAt, complete_end}
+use Rattle.bp_arbiter.proofs.Turnings.{IsAt}
 
 ending_complete : (rs : List Record) (v : Option Verdict) → is_complete rs ≡ false → is_complete (rs ++ ending v) ≡ is_some v
 ending_complete rs None h = ap is_complete (append-nil rs) ∙ h
-ending_complete rs (Some v) h = complete_end rs v
+ending_complete rs (Some v) h = complete_by_last rs (End v)
 
 ended_transitions : (q : Pair Origin) (v : Option Verdict) → (ended_with v q).stand.transitions ≡ q.stand.transitions
 ended_transitions q None = refl

@@ -14,10 +14,11 @@ use Rattle.bp_run.specs.Configuration.{Configuration, Stand, Thread}
 use Rattle.bp_run.specs.Settling.{Entry, Pair, before, settle, turn}
 use Rattle.bp_run.specs.Settling.Entry.{Runs}
 use Rattle.bp_run.specs.Numbers.{numbers_from}
-use Rattle.bp_run.specs.Story.{next, next_unless, over, over_with}
+use Rattle.bp_run.specs.Story.{over, over_with}
 use Rattle.bp_run.specs.Story.Next.{Ends}
 use Rattle.bp_run.proofs.Growing.{grown_settle}
 use Rattle.bp_run.proofs.Numbers.{turn_entries}
+use Rattle.bp_run.proofs.Stories.{verdict_next as run_ends_next}
 use Rattle.bp_run.proofs.Turns.{settle-turn, settle_over}
 use Rattle.bp_thread.specs.declared.job.Job.{Job}
 use Rattle.bp_floor.specs.declared.phase.Phase.{Phase}
@@ -53,18 +54,9 @@ ended_stands taken (Some v) (Some w) p q e h = line_stands taken p q v h ∙ ap 
 ended_stands taken None (Some w) p q e h = absurd (cc)
 ended_stands taken (Some v) None p q e h = absurd (cc)
 
-over_next : (a : PlainArbiter) (c : Configuration Origin) (v : Verdict) (w : Option Verdict) → c.stand.verdict ≡ w → w ≡ Some v → next_unless (code_in a) (options_in a) c w ≡ Ends v
-over_next a c v None h e = absurd (cc)
-over_next a c v (Some u) h e = let f : u ≡ v = cc in ap (λ (x : Verdict). Ends x) f
-
 -- a verdict comes next
 pub verdict_comes : (a : PlainArbiter) (c : Configuration Origin) (v : Verdict) → c.stand.verdict ≡ Some v → coming a c ≡ Ends v
-unfolding next
-verdict_comes a c v h = over_next a c v c.stand.verdict refl h
-
-is_some_of : (o : Option Verdict) (v : Verdict) → o ≡ Some v → is_some o ≡ true
-is_some_of None v h = absurd (cc)
-is_some_of (Some u) v h = refl
+verdict_comes a c v h = run_ends_next (code_in a) (options_in a) c v h
 
 ready_entries : (v : Option Verdict) (ns : List (Entry Origin)) → phase_at v ns ≡ Ready → (v ≡ None) × (0 < length ns)
 ready_entries None [] h = absurd (cc)
@@ -151,7 +143,7 @@ module _ (r : Run) (jobs : List Job) (taken : List Line) (p : Pair Origin) (s : 
 
     -- where the turn has a verdict, the story has it
     told_verdict : (v : Verdict) → (turn l p).stand.verdict ≡ Some v → s.told.stand ≡ (turn l p).stand
-    told_verdict v h = told_turned ∙ settle_over l (turn l p) (is_some_of (turn l p).stand.verdict v h)
+    told_verdict v h = told_turned ∙ settle_over l (turn l p) (ap is_some h)
 
     pub verdict_next : (v : Verdict) (c : Configuration Origin) → Recounts a c → (turned_in r jobs).stand.verdict ≡ Some v → coming a c ≡ Ends v
     verdict_next v c h e =

@@ -8,6 +8,7 @@ use Rattle.bp_log.specs.declared.record.Record.{Record}
 use Rattle.bp_log.specs.declared.record.Record.TheVariants.{In, Bad, Eof, Sel, End}
 use Rattle.bp_log.specs.declared.trace.Line.{Line}
 use Rattle.bp_log.specs.declared.verdict.Verdict.{Verdict}
+use Rattle.bp_log.proofs.Complete.{verdict_complete, later_verdict}
 use Rattle.bp_run.specs.Configuration.{below}
 use Rattle.bp_run.specs.Settling.{Pair, opening}
 use Rattle.bp_thread.specs.declared.job.Job.{Job}
@@ -19,16 +20,7 @@ use Rattle.bp_arbiter.specs.Sound.{IsSound}
 use Rattle.bp_arbiter.proofs.Told.{stands_tells, stands_opened}
 
 -- ---- records
-
--- the records end in a verdict where they are complete
-pub verdict_complete : (rs : List Record) → is_some (verdict_of rs) ≡ is_complete rs
-verdict_complete [] = refl
-verdict_complete (In j e ∷ rs) = verdict_complete rs
-verdict_complete (Bad j n ∷ rs) = verdict_complete rs
-verdict_complete (Eof j ∷ rs) = verdict_complete rs
-verdict_complete (Sel e ∷ rs) = verdict_complete rs
-verdict_complete (End v ∷ []) = refl
-verdict_complete (End v ∷ r ∷ rs) = verdict_complete (r ∷ rs)
+-- ---- the phase
 
 pub over_is : (f : Phase) → is_over f ≡ true → f ≡ phase.Over
 over_is phase.Ready h = absurd (cc)
@@ -79,13 +71,6 @@ one_verdict (Bad j n) = refl
 one_verdict (Eof j) = refl
 one_verdict (Sel e) = refl
 one_verdict (End v) = refl
-
-later_verdict : (r s : Record) (rs : List Record) → verdict_of (r ∷ s ∷ rs) ≡ verdict_of (s ∷ rs)
-later_verdict (In j e) s rs = refl
-later_verdict (Bad j n) s rs = refl
-later_verdict (Eof j) s rs = refl
-later_verdict (Sel e) s rs = refl
-later_verdict (End v) s rs = refl
 
 verdict_at : (rs : List Record) (n : ℕ) → length rs ≡ suc n → verdict_of rs ≡ option_and_then verdict_in (slice_get rs n)
 verdict_at [] n h = absurd (omega (arith, h))

@@ -1,13 +1,12 @@
 -- Lines are taken.
-use Rattle.std.proofs.Common.{◌≡◌, ◌≤◌, ◌+◌, ℕ, Bool, true, false, not, cond, fold, List, [], ◌∷◌, ◌++◌, map, refl, sym, ap, ◌∙◌, subst, append_assoc}
+use Rattle.std.proofs.Common.{◌≡◌, ◌≤◌, ℕ, true, false, List, [], ◌++◌, map, refl, sym, ap, ◌∙◌, subst, append_assoc}
 use Rattle.js_value.specs.Value.{PlainSet}
 use Rattle.js_meaning.specs.State.{Ground}
 use Rattle.js_meaning.specs.Bodies.{Origin, the_top}
 use Rattle.bp_log.specs.Options.{PlainOptions}
 use Rattle.bp_log.specs.declared.trace.Line.{Line}
 use Rattle.bp_run.specs.Bodies.{Code}
-use Rattle.std.specs.Prelude.{count_by}
-use Rattle.bp_run.specs.Configuration.{Configuration, Stand, Thread, not_ended}
+use Rattle.bp_run.specs.Configuration.{Configuration, Stand, not_ended}
 use Rattle.bp_run.specs.Settling.{Pair, before, settle}
 use Rattle.bp_thread.specs.declared.job.Job.{Job}
 use Rattle.bp_floor.specs.declared.phase.Phase.{Phase}
@@ -15,7 +14,7 @@ use Rattle.bp_floor.specs.declared.phase.Phase.TheVariants.{Ready, Lent, Rest, O
 use Rattle.bp_floor.specs.Forgetting.{forget, forgotten}
 use Rattle.bp_floor.specs.Lending.{filled_pair}
 use Rattle.bp_floor.specs.Floors.{PlainFloor, IsPhased, is_idle}
-use Rattle.bp_floor.proofs.Forgetting.{forget_ended_at}
+use Rattle.bp_floor.proofs.Forgetting.{live_count}
 use Rattle.bp_arbiter.specs.Arbiters.{PlainArbiter, StandsFor, StandsSomewhere, Tells, Keeps, Recounts, stand_in, Shows, is_lent}
 use Rattle.bp_arbiter.specs.Sound.{IsSound, IsStanding}
 use Rattle.bp_arbiter.proofs.Picks.{unfilled}
@@ -93,19 +92,6 @@ pub exact_now : (a : PlainArbiter) → (a.broken ≡ false → IsStanding a) →
 exact_now a s k taken p h i c r =
     let q = (s h.whole).keeps in
     told_lines a [] taken p c h (k q.floor_whole) (ap is_idle q.floor_phase ∙ i) r
-
-counts : {O : Type 0} → ℕ → Thread O → ℕ
-counts n t = n + cond (not t.ended) 1 0
-
-live_from : {O : Type 0} (o : O) (n : ℕ) (ts : List (Thread O)) → fold counts n (map (forget o) ts) ≡ fold counts n ts
-unfolding counts
-live_from o n [] = refl
-live_from o n (t ∷ ts) =
-    live_from o (n + cond (not (forget o t).ended) 1 0) ts ∙ ap (λ (b : Bool). fold counts (n + cond (not b) 1 0) ts) (forget_ended_at o t.ended t refl)
-
-live_count : {O : Type 0} (o : O) (ts : List (Thread O)) → count_by (λ t. not t.ended) (map (forget o) ts) ≡ count_by (λ t. not t.ended) ts
-unfolding counts
-live_count o ts = live_from o 0 ts
 
 idle_unlent : (f : Phase) → is_idle f ≡ true → is_lent f ≡ false
 idle_unlent Ready h = refl

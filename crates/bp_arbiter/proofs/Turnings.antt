@@ -7,7 +7,7 @@ use Rattle.bp_log.specs.declared.record.Record.{Record}
 use Rattle.bp_log.specs.declared.record.Record.TheVariants.{In, Bad, Eof, Sel, End}
 use Rattle.bp_log.specs.declared.trace.Line.{Line}
 use Rattle.bp_log.specs.declared.verdict.Verdict.{Verdict}
-use Rattle.bp_log.proofs.Complete.{incomplete_on}
+use Rattle.bp_log.proofs.Complete.{complete_by_last}
 use Rattle.bp_run.specs.Configuration.{Configuration}
 use Rattle.bp_run.specs.Settling.{Pair}
 use Rattle.bp_run.specs.Choosing.{Choice, Touched}
@@ -44,15 +44,6 @@ at_phase f a r g b v h w s k =
       sound = sound;
       phased = k ((sound.standing refl).keeps).floor_whole;
     }
-
-pub complete_end : (rs : List Record) (v : Verdict) → is_complete (rs ++ End v ∷ []) ≡ true
-complete_end [] v = refl
-complete_end (In j e ∷ rs) v = complete_end rs v
-complete_end (Bad j n ∷ rs) v = complete_end rs v
-complete_end (Eof j ∷ rs) v = complete_end rs v
-complete_end (Sel e ∷ rs) v = complete_end rs v
-complete_end (End w ∷ []) v = refl
-complete_end (End w ∷ r ∷ rs) v = complete_end (r ∷ rs) v
 
 moved_transitions : (f : PlainFloor) (ch : Choice) (reached : List Touched) (g : PlainFloor) → g.pair ≡ forgotten the_top (stepped (code_on f) f.pair.stand ch.event ch.place reached) →
     g.pair.stand.transitions ≡ f.pair.stand.transitions + 1
@@ -92,9 +83,9 @@ module _ (a : PlainArbiter) (r r' : Run) (i : IsAt Rest a r) (b : IsBeside r r')
 
   over_at : (n : Next) → HasCome r n r' → is_complete r'.records.records ≡ is_over r'.floor.phase
   over_at (Ends v) h =
-      ap is_complete h.records ∙ complete_end r.records.records v ∙ sym (ap (λ (f : PlainFloor). is_over f.phase) h.floor)
+      ap is_complete h.records ∙ complete_by_last r.records.records (End v) ∙ sym (ap (λ (f : PlainFloor). is_over f.phase) h.floor)
   over_at (Selects ch reached) h =
-      ap is_complete h.records ∙ incomplete_on r.records.records (Sel ch.event) refl
+      ap is_complete h.records ∙ complete_by_last r.records.records (Sel ch.event)
       ∙ sym (ap is_over (phase_come r r' (Selects ch reached) i.phased rests h) ∙ not_over r'.floor.pair.entries)
   over_at Waits h = ap is_complete h.records ∙ going ∙ sym (ap (λ (f : PlainFloor). is_over f.phase) h.floor ∙ ap is_over rests)
 

@@ -1,5 +1,6 @@
 -- The jobs that an arbiter lends, and that come back.
-use Rattle.std.specs.Prelude.{◌≡◌, ℕ, List, [], ◌∷◌, None}
+use Rattle.std.specs.Prelude.{◌≡◌, ℕ, List, [], None}
+use Rattle.std.specs.List.{AllByRecursion}
 use Rattle.js_meaning.specs.State.{Ground}
 use Rattle.js_meaning.specs.Bodies.{Origin}
 use Rattle.bp_log.specs.declared.trace.Line.{Line}
@@ -21,8 +22,7 @@ pub record CanRun (base : Ground) (budget : ℕ) (j : Job) : Type 0 where
   pub whole : IsWhole base budget j
 
 abbrev pub AllCanRun : Ground → ℕ → List Job → Type 0
-AllCanRun base budget [] = Unit {0}
-AllCanRun base budget (j ∷ js) = CanRun base budget j × AllCanRun base budget js
+AllCanRun base budget jobs = AllByRecursion (CanRun base budget) jobs
 
 -- the jobs are those of what is to be run, in order, and each stands at the start of its slices on the
 -- arbiter's ground

@@ -1,7 +1,7 @@
 //! What comes of a pick.
 
 /// What comes of a pick.
-#[derive(Clone, Copy, Debug, PartialEq, Eq)]
+#[derive(Clone, Copy, PartialEq, Eq)]
 pub enum Picked {
     /// An event was selected.
     Moved,

@@ -13,7 +13,7 @@ use thiserror::Error;
 pub const MOST_LARGE: u32 = 4_000;
 
 /// What is run, and how.
-#[derive(Debug, Drop)]
+#[derive(Drop)]
 pub struct Run {
     /// The name of the program.
     pub program: Text,
@@ -26,7 +26,7 @@ pub struct Run {
 }
 
 /// A command.
-#[derive(Debug, Drop)]
+#[derive(Drop)]
 pub enum Command {
     /// A program is run.
     Run(Run),

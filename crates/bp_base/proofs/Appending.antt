@@ -1,8 +1,8 @@
 -- Pieces that are appended one after another.
 use Rattle.std.proofs.Common.{◌≡◌, ℕ, ◌+◌, ◌-◌, ◌≤◌, List, ◌++◌, length, take, drop, append_assoc, take-append-drop, length-drop, arith, sym, ap, ◌∙◌, subst, refl}
 use Rattle.std.specs.Prelude.{Option, Some, None}
-use Rattle.std.proofs.Math.Seq.{take-add, take-append_seam}
-use Rattle.std.proofs.lemmas.List.{take-take, drop-drop, length-take-le, take_all}
+use Rattle.std.proofs.Math.Seq.{take-add}
+use Rattle.std.proofs.lemmas.List.{take-take, drop-drop, length-take-le, take_all, take_at}
 use Rattle.bp_base.specs.Pieces.{Gives, Appends, AppendsFront}
 
 -- the next part of a slice, read from where the last one ended
@@ -26,9 +26,6 @@ gives-on (Some w) None c p q h k = absurd h
 gives-on (Some w) (Some r) None p q h k = absurd k
 gives-on (Some w) (Some r) (Some t) p q h k = h ∙ ap (λ (x : List ℕ). p ++ x) k ∙ sym (append_assoc p q t)
 
-front_of : (xs ys : List ℕ) (n : ℕ) → length xs ≡ n → take n (xs ++ ys) ≡ xs
-front_of xs ys n e = rw (← e) (take-append_seam xs ys)
-
 -- a piece of what is left at a place is copied to the front of a buffer
 pub copied_front : (left bytes buffer copy : List ℕ) (at n : ℕ) → left ≡ drop at bytes → copy ≡ take n (take (length bytes - at) (drop at bytes)) → n ≤ length (take (length bytes - at) (drop at bytes)) → left ≡ take n (copy ++ drop n buffer) ++ drop (at + n) bytes
 copied_front left bytes buffer copy at n e k h =
@@ -36,5 +33,5 @@ copied_front left bytes buffer copy at n e k h =
     take_all (length bytes - at) (drop at bytes) (omega (arith, length-drop at bytes)) in
     let fits : n ≤ length (drop at bytes) = rw whole at h in
     let front : take n (take n (drop at bytes) ++ drop n buffer) ≡ take n (drop at bytes) =
-    front_of (take n (drop at bytes)) (drop n buffer) n (length-take-le n (drop at bytes) fits) in
+    take_at (take n (drop at bytes)) (drop n buffer) n (length-take-le n (drop at bytes) fits) in
     rw (e, k, whole, front, ← drop-drop n at bytes) (sym (take-append-drop n (drop at bytes)))

@@ -5,7 +5,7 @@ ghost use Rattle.bp_base.specs.Calls.{planned, is_to_fail, called};
 use std::marker::Model;
 
 /// How many calls were made, and the numbers of those that are to fail. Calls are numbered from 1.
-#[derive(Debug, Drop)]
+#[derive(Drop)]
 pub struct Calls {
     made: u64,
     fails: Vec<u64>,

@@ -11,7 +11,6 @@ use std::alloc::Global;
 use std::marker::Model;
 
 /// Bytes in memory, read from their front.
-#[derive(Debug)]
 pub struct MemorySource {
     bytes: Vec<u8>,
     at: usize,
@@ -98,7 +97,6 @@ impl Source for MemorySource {
 }
 
 /// Bytes that are written into memory, with room for a number of them.
-#[derive(Debug)]
 pub struct MemorySink {
     bytes: Vec<u8>,
     room: u64,

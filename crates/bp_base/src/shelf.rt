@@ -7,7 +7,7 @@ use std::alloc::{AllocError, Global};
 use std::mem;
 
 /// Entries, the last one first.
-#[derive(Debug, Drop)]
+#[derive(Drop)]
 #[cycle(shelf)]
 pub enum Shelf<T> {
     Empty,
@@ -15,7 +15,7 @@ pub enum Shelf<T> {
 }
 
 /// The list under a name.
-#[derive(Debug, Drop)]
+#[derive(Drop)]
 #[cycle(shelf)]
 pub struct Entry<T> {
     pub name: String,

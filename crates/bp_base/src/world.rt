@@ -12,7 +12,6 @@ use std::alloc::Global;
 use std::marker::Model;
 
 /// An output of a world in memory, with the place that it will have there.
-#[derive(Debug)]
 pub struct MemoryOutput {
     entry: Box<Entry<u8>>,
     sink: MemorySink,
@@ -69,7 +68,6 @@ impl Sink for MemoryOutput {
 }
 
 /// Bytes under names, in memory.
-#[derive(Debug)]
 pub struct MemoryWorld {
     alloc: Global,
     room: u64,

@@ -40,10 +40,6 @@ run_ends (Err RunFault.LogWrite) c program o unwritten whole partly before after
 run_ends (Err RunFault.Memory) c program o unwritten whole partly before after e p f v w l k n m a =
     subst (λ (y : Conclusion). RunEnds program o unwritten whole partly before after y) (sym e) (f, n)
 
-pub on_ok_all : {T E : Type 0} (r : Result T E) (P : Type 0) → P → OnOk r P
-on_ok_all (Ok x) P h = h
-on_ok_all (Err e) P h = tt
-
 pub on_err_all : {T E : Type 0} (r : Result T E) (P : Type 0) → P → OnErr r P
 on_err_all (Ok x) P h = tt
 on_err_all (Err e) P h = h

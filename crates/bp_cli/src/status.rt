@@ -8,7 +8,7 @@ use std::alloc::Global;
 
 /// What a command ends with: the code for the system, from 0 to 11, and the note for standard
 /// error, which may be empty.
-#[derive(Debug, Drop)]
+#[derive(Drop)]
 pub struct Status {
     pub code: u8,
     pub note: Text,

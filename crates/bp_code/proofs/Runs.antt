@@ -103,6 +103,19 @@ pub constants_are_seen :
 unfolding turn settle_in settle initial selectable choice reach step next after_record story_from story alone_from alone line_text lines_text text digits evaluation ground_of eval within turns_of
 constants_are_seen = refl
 
+-- and their predicates: const open = true; bp.registerBThread("A", () => { bp.sync({request: bp.Event("e")}) });
+-- bp.registerBThread("B", () => { bp.sync({waitFor: bp.EventSet("s", e => open)}) })
+pub predicates_see_constants :
+    counted_alone (program
+    (one (p.truth true) ∷ one (p.declaration Const (record { variable = Constant 0; value = Some 0 } ∷ []))
+    ∷ registers 2 (codes "A") 0 ++ registers 6 (codes "B") 1 ++ requests 10 (codes "e")
+    ++ one (p.words (codes "s")) ∷ one (p.function 2) ∷ one (p.builtin form.EventSet (15 ∷ 16 ∷ [])) ∷ one (p.fields (codes "waitFor" ∷ []) (17 ∷ []))
+    ∷ one (p.builtin form.Sync (18 ∷ [])) ∷ one (p.expression 19) ∷ constant 0 ∷ [])
+    (statements 0 (14 ∷ []) ∷ statements 0 (20 ∷ []) ∷ body 1 1 (p.one_value 21) ∷ []) (p.undeclared ∷ []) (statements 0 (1 ∷ 5 ∷ 9 ∷ []))) default_options
+    ≡ Some (codes "event [\"e\"]\ndone \"A\"\ndone \"B\"\nverdict quiet 1\n")
+unfolding turn settle_in settle initial selectable choice reach step next after_record story_from story alone_from alone line_text lines_text text digits evaluation ground_of eval within turns_of
+predicates_see_constants = refl
+
 -- ---- captured values, and words drawn among two events: the words are 0, 1, 2 ..
 -- const make = i => () => { for (let r = 0; r < 4; r++) bp.sync({request: bp.Event("e", i)}) }
 -- for (let i = 0; i < 2; i++) bp.registerBThread("t" + i, make(i))

@@ -1,9 +1,10 @@
 -- What each step of a reading keeps.
-use Rattle.std.proofs.Common.{◌≡◌, ℕ, ◌+◌, ◌<◌, true, false, List, [], ◌∷◌, ◌++◌, Option, Some, None, Ok, Err, length, option_to_list, inr, refl, sym, ap, ◌∙◌, subst, append_assoc, append-nil, length-append, unwrap_or, arith}
-use Rattle.std.specs.Prelude.{IfSome, IfOk, Result}
+use Rattle.std.proofs.Common.{◌≡◌, ℕ, ◌+◌, ◌<◌, true, false, List, [], ◌∷◌, ◌++◌, Option, Some, None, length, option_to_list, inr, refl, sym, ap, ◌∙◌, subst, append_assoc, append-nil, length-append, unwrap_or, arith}
+use Rattle.std.specs.Prelude.{IfSome}
 use Rattle.std.proofs.lemmas.Bool.{or_parts}
 use Rattle.std.proofs.lemmas.List.Folds.{list_any-append}
 use Rattle.bp_base.specs.Pieces.{Gives}
+use Rattle.bp_base.proofs.Appending.{gives-on}
 use Rattle.bp_log.specs.declared.item.Item.{Item}
 use Rattle.bp_log.specs.declared.item.Item.TheVariants.{Bad, Failed, End}
 use Rattle.bp_feeds.specs.declared.limits.TheConstants.{MOST_LENGTH}
@@ -15,12 +16,6 @@ use Rattle.bp_feeds.proofs.Cuts.{unended, unended_lines, unended_both, lines_at_
 use Rattle.bp_feeds.proofs.Behind.{whole_behind, lines_follow, whole_follow}
 
 -- ---- what comes of a source
-
-pub gives_on : (a : Option (List ℕ)) (p : List ℕ) (b : Option (List ℕ)) (q : List ℕ) (c : Option (List ℕ)) → Gives a p b → Gives b q c → Gives a (p ++ q) c
-gives_on None p b q c g h = tt
-gives_on (Some x) p None q c g h = absurd g
-gives_on (Some x) p (Some y) q None g h = absurd h
-gives_on (Some x) p (Some y) q (Some z) g h = g ∙ ap (λ l. p ++ l) h ∙ sym (append_assoc p q z)
 
 -- what is left, or nothing where it is not told
 abbrev pub rest_of : Option (List ℕ) → List ℕ
@@ -195,7 +190,7 @@ end_told old new w0 h0 w1 l1 = record {
 pub same_read : (start : Option (List ℕ)) (took : List ℕ) (given : List Item) (a b : Reading) (s : IsSameReading a b) → HasRead start took given a → HasRead start (took ++ s.came) given b
 same_read start took given a b s h =
     let w : IsBetweenLines took given a.number a.held = to_parts start took given a Within a.held s.was refl h in
-    from_parts start (took ++ s.came) given b Within (a.held ++ s.came) a.number b.left s.is s.held s.number refl (gives_on start took a.left s.came b.left h.taken s.given)
+    from_parts start (took ++ s.came) given b Within (a.held ++ s.came) a.number b.left s.is s.held s.number refl (gives-on start a.left b.left took s.came h.taken s.given)
     (record {
       passed = w.passed;
       all = ap (λ l. l ++ s.came) w.all ∙ append_assoc w.passed a.held s.came;
@@ -203,10 +198,6 @@ same_read start took given a b s h =
       counted = w.counted;
       good = w.good;
     })
-
-pub when_ok : {A E : Type 0} (P Q : A → Type 0) (r : Result A E) → ((x : A) → P x → Q x) → IfOk r P → IfOk r Q
-when_ok P Q (Ok x) f h = f x h
-when_ok P Q (Err e) f h = tt
 
 -- what is read after more bytes came
 pub after_same : (old mid new : Reading) (more : List Item) → IsSameReading old mid → ReadsOn mid more new → ReadsOn old more new
@@ -247,7 +238,7 @@ filled a b c line block s e held number reached g = record {
   number = number ∙ s.number;
   came = s.came ++ block;
   held = held ∙ ap (λ l. l ++ block) (sym (append-nil line) ∙ e ∙ s.held) ∙ append_assoc a.held s.came block;
-  given = gives_on a.left s.came b.left block c.left s.given g;
+  given = gives-on a.left b.left c.left s.came block s.given g;
 }
 
 nothing_more : (a : Option (List ℕ)) (came : List ℕ) (b : Option (List ℕ)) → Gives a came b → IfSome b (λ x. x ≡ []) → IsAll a came

@@ -1,6 +1,7 @@
 -- What an ended b-thread ran and received is not read: a pair that has forgotten it goes on as the pair itself.
-use Rattle.std.proofs.Common.{◌≡◌, ℕ, zero, suc, Bool, true, false, List, [], ◌∷◌, ◌++◌, length, map, refl, sym, ap, ◌∙◌, Option, Some, None, if◌then◌else◌, ◌==◌, slice_get}
+use Rattle.std.proofs.Common.{◌≡◌, ℕ, zero, suc, Bool, true, false, List, [], ◌∷◌, ◌++◌, length, map, refl, sym, ap, ◌∙◌, Option, Some, None, if◌then◌else◌, ◌==◌, slice_get, ◌+◌, not, cond, count_by}
 use Rattle.std.proofs.lemmas.List.{map-append, length-map}
+use Rattle.std.proofs.lemmas.List.Folds.{fold-map}
 use Rattle.bp_log.specs.declared.limits.TheConstants.{MOST_WAITING, MOST_THREADS}
 use Rattle.bp_log.specs.declared.trace.Line.{Line}
 use Rattle.bp_log.specs.declared.trace.Line.TheVariants as trace
@@ -49,6 +50,12 @@ pub name_forgotten : {O : Type 0} (o : O) (ts : List (Thread O)) (i : ℕ) → n
 name_forgotten o [] i = refl
 name_forgotten o (t ∷ ts) zero = forget_name o t
 name_forgotten o (t ∷ ts) (suc i) = name_forgotten o ts i
+
+-- as many have not ended
+pub live_count : {O : Type 0} (o : O) (ts : List (Thread O)) → count_by (λ t. not t.ended) (map (forget o) ts) ≡ count_by (λ t. not t.ended) ts
+live_count o ts =
+    fold-map (λ (n : ℕ) (t : Thread _). n + cond (not t.ended) 1 0) (forget o) 0 ts
+    ∙ (λ i. count_by (λ (t : Thread _). not (forget_ended_at o t.ended t refl i)) ts)
 
 ended_forgotten : {O : Type 0} (o : O) (i : ℕ) (ts : List (Thread O)) →
     map (forget o) (change (λ t. record t { ended = true }) i (map (forget o) ts)) ≡ map (forget o) (change (λ t. record t { ended = true }) i ts)

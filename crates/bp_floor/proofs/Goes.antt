@@ -1,5 +1,5 @@
 -- An event that is looked at, and its transition.
-use Rattle.std.proofs.Common.{◌≡◌, ℕ, suc, ◌+◌, ◌<◌, ◌≤◌, ◌++◌, false, List, [], ◌∷◌, length, map, refl, sym, ap, ◌∙◌, subst, arith, Option, Some, None, Result, Ok, Err, MatchOption, HoldsAt, option_map, slice_get}
+use Rattle.std.proofs.Common.{◌≡◌, ℕ, ◌<◌, ◌≤◌, ◌++◌, false, List, [], ◌∷◌, length, map, refl, sym, ap, ◌∙◌, subst, arith, Option, Some, None, Result, Ok, Err, MatchOption, HoldsAt, option_map, slice_get}
 use Rattle.std.proofs.lemmas.Option.{slice_get_past, slice_get-get_or}
 use Rattle.std.proofs.lemmas.List.{map-append, length-map}
 use Rattle.js_data.specs.Event.{PlainEvent}
@@ -133,9 +133,6 @@ weaves_same reach m n i j t u xs ys h k l e w =
 
 pub pushed_seen : (ts us : List Touch) (x : Touch) (y : Touched) → us ≡ ts ++ x ∷ [] → touch_seen x ≡ y → map touch_seen us ≡ map touch_seen ts ++ y ∷ []
 pushed_seen ts us x y h e = ap (map touch_seen) h ∙ map-append touch_seen ts (x ∷ []) ∙ ap (λ (z : Touched). map touch_seen ts ++ z ∷ []) e
-
-pub one_more : (n : ℕ) → n + 1 ≡ suc n
-one_more n = omega arith
 
 -- what is found at a place of a list, as a value
 pub looked_up : {B : Type 0} (f : B → ℕ) (r : Option B) (xs : List ℕ) (i : ℕ) →

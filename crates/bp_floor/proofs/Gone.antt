@@ -16,7 +16,7 @@ use Rattle.bp_run.specs.Choosing.{Touched, reach}
 use Rattle.bp_run.specs.Choosing.Touched.{Moves, Interrupts}
 use Rattle.bp_run.specs.Story.{step, stepped, entry_of, touch_all}
 use Rattle.bp_run.specs.Numbers.{number_in, number_of, IsRising}
-use Rattle.bp_run.proofs.Numbers.{reach_rising, live_rising, length-touch_all}
+use Rattle.bp_run.proofs.Numbers.{reach_rising, live_rising, length-touch_all, entry_number}
 use Rattle.bp_select.specs.declared.answers.Reach.{Reach}
 use Rattle.bp_floor.specs.declared.board.Board.{Board}
 use Rattle.bp_floor.specs.Programs.{code_of}
@@ -83,11 +83,6 @@ below_touched l s e low high [] h = tt
 below_touched l s e low high (Moves i ∷ xs) h = (h.1, below_touched l s e (i + 1) high xs h.2)
 below_touched l s e low high (Interrupts i ∷ xs) h = (h.1, below_touched l s e (i + 1) high xs h.2)
 
-numbers_touched : {S : Type 0} (l : Code Origin S) (s : Stand Origin) (e : PlainEvent) (xs : List Touched) → map number_of (map (entry_of l s e) xs) ≡ map number_in xs
-numbers_touched l s e [] = refl
-numbers_touched l s e (Moves i ∷ xs) = ap (λ (ns : List ℕ). i ∷ ns) (numbers_touched l s e xs)
-numbers_touched l s e (Interrupts i ∷ xs) = ap (λ (ns : List ℕ). i ∷ ns) (numbers_touched l s e xs)
-
 -- nothing is lent in a phase that a pair asks for
 pub ready_phase : (v : Option Verdict) (ns : List (Entry Origin)) → ready_in (phase_at v ns) ns ≡ runs_in ns
 ready_phase None [] = refl
@@ -125,7 +120,7 @@ gone base o b new e place k weight wave s q w p kept =
     let below : AreBelow (length new.seats) new.wave =
     subst (λ (ns : List (Entry Origin)). AreBelow (length new.seats) ns) (sym (ap (λ (x : Pair Origin). x.entries) p ∙ w))
     (subst (λ (n : ℕ). AreBelow n (map (entry_of l (stand_of b) e) xs)) (sym len) (below_touched l (stand_of b) e 0 (length (map seated b.seats)) xs rising)) in
-    let numbered : map number_of new.wave ≡ map number_in xs = ap (λ (ns : List (Entry Origin)). map number_of ns) (ap (λ (x : Pair Origin). x.entries) p ∙ w) ∙ numbers_touched l (stand_of b) e xs in
+    let numbered : map number_of new.wave ≡ map number_in xs = ap (λ (ns : List (Entry Origin)). map number_of ns) (ap (λ (x : Pair Origin). x.entries) p ∙ w) ∙ entry_number l (stand_of b) e xs in
     let light : new.weight ≡ weight = ap (λ (x : Pair Origin). x.stand.weight) p in
     let more : new.transitions ≡ b.transitions + 1 = ap (λ (x : Pair Origin). x.stand.transitions) p in
     let counted = heavier b.transitions b.weight (event_weight e) _ weight s.counted q.weight_is (event_weighs e) in

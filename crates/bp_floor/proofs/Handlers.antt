@@ -1,10 +1,10 @@
 -- The handler of a b-thread at its point.
-use Rattle.std.proofs.Common.{◌≡◌, ℕ, List, [], ◌∷◌, ◌++◌, append_assoc, append-nil, map, refl, sym, ap, ◌∙◌, subst, Option, Some, None, true, Result, Ok, Err, option_map, slice_get, IfOk, IsSome}
+use Rattle.std.proofs.Common.{◌≡◌, ℕ, List, [], ◌∷◌, ◌++◌, append_assoc, append-nil, map, refl, sym, ap, ◌∙◌, subst, Option, Some, None, true, Result, option_map, slice_get, IfOk, is_some}
 use Rattle.std.proofs.lemmas.Option.{same_Some}
+use Rattle.std.proofs.lemmas.Result.{IfOk-weaker}
 use Rattle.js_data.specs.Event.{PlainEvent}
 use Rattle.js_value.specs.Value as value
-use Rattle.js_value.specs.Value.{PlainValue, PlainSet}
-use Rattle.bp_run.specs.Bodies.{Outcome}
+use Rattle.js_value.specs.Value.{PlainValue}
 use Rattle.js_meaning.specs.Bodies.{Origin, function}
 use Rattle.js_program.specs.declared.builtin.Mode.TheVariants as mode
 use Rattle.bp_code.specs.Code.{ground_for}
@@ -26,18 +26,10 @@ use Rattle.bp_floor.proofs.Lists.{get_map}
 use Rattle.bp_floor.proofs.Places.{own_at0}
 use Rattle.bp_floor.proofs.Touches.{stopped_some}
 
-if_ok_then : {A E : Type 0} (P Q : A → Type 0) (r : Result A E) → ((x : A) → P x → Q x) → IfOk r P → IfOk r Q
-if_ok_then P Q (Ok x) f h = f x h
-if_ok_then P Q (Err e) f h = h
-
 mapped_twice : (e : PlainEvent) (o : Option PlainValue) →
     option_map (handler_at e) o ≡ option_map (λ (x : Origin). let b : Body Origin = record { origin = x; replies = [] } in b) (option_map (λ (f : PlainValue). function mode.Handler f (value.event e ∷ [])) o)
 mapped_twice e None = refl
 mapped_twice e (Some f) = refl
-
-some_some : (o : Option (Outcome PlainSet)) (x : Outcome PlainSet) → o ≡ Some x → IsSome o
-some_some None x h = absurd (cc)
-some_some (Some y) x h = refl
 
 -- the handler of a job at its point
 own_handler : (r : Running) (n : ℕ) (j : Job) (e : PlainEvent) (t : Thread Origin) → IsOwn r.program r.options n j → is_stopped (plain_job j).outcome ≡ true → HasHandler j → t.origin ≡ (plain_job j).origin → t.replies ≡ (plain_job j).replies →
@@ -46,7 +38,7 @@ unfolding code_of
 own_handler r n j e t o s h p q =
     let some = stopped_some (plain_job j).outcome s in
     let base = ground_for r.program r.options.budget (plain_job j).origin in
-    let same = h base r.options.budget (o.stands some.1 some.2) (some_some (plain_job j).outcome some.1 some.2) in
+    let same = h base r.options.budget (o.stands some.1 some.2) (ap is_some some.2) in
     ap (λ (x : Option PlainValue). option_map (handler_at e) x) same
     ∙ mapped_twice e (handler base r.options.budget (plain_job j).origin (plain_job j).replies)
     ∙ rw (p, q) refl
@@ -59,7 +51,7 @@ handled res ss i e j k g h a =
     let same : Some j ≡ Some k.job = g ∙ ap (λ (x : Option PlainSeat). job_at x) k.is_seat ∙ k.is_job in
     let eq : j ≡ k.job = same_Some j k.job same in
     let there : slice_get (map seated ss) i ≡ Some (seated k.seat) = get_map seated ss i k.seat k.is_seat in
-    if_ok_then (λ x. option_map handler_seen x ≡ option_map (handler_at e) (plain_job j).handler) _ res
+    IfOk-weaker res (λ x. option_map handler_seen x ≡ option_map (handler_at e) (plain_job j).handler) _
     (λ x w r own.
     let mine : IsOwn r.program r.options i j = subst (λ (y : Job). IsOwn r.program r.options i y) (sym eq) (subst (λ (y : Option Job). IsOwnIn r.program r.options i y) k.is_job (own_at0 r.program r.options i ss k.seat own k.is_seat)) in
     let stopped : is_stopped (plain_job j).outcome ≡ true = ap (λ (y : Job). is_stopped (plain_job y).outcome) eq ∙ k.stopped in

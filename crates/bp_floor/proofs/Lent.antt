@@ -2,6 +2,7 @@
 use Rattle.std.proofs.Common.{◌≡◌, ℕ, zero, suc, Bool, true, false, not, ◌&&◌, List, [], ◌∷◌, ◌++◌, length, map, refl, sym, ap, ◌∙◌, subst, arith, Option, Some, None, is_none, is_some, option_map, option_to_list, slice_get, append_assoc, append-nil, if◌then◌else◌}
 use Rattle.std.proofs.lemmas.List.{length-map}
 use Rattle.std.proofs.lemmas.Option.{same_Some}
+use Rattle.std.proofs.lemmas.Bool.{and_parts, and_right}
 use Rattle.js_value.specs.Value.{PlainSet}
 use Rattle.js_program.specs.PlainProgram.{PlainProgram}
 use Rattle.js_meaning.specs.Bodies.{Origin, the_top, ground_of}
@@ -155,19 +156,10 @@ later_first r base (The_top ∷ ns) h g = absurd h
 later_first r base (Runs i ∷ ns) h g = g
 later_first r base (Stops i b ∷ ns) h g = g
 
-and_first : (b : Bool) → (b && true) ≡ true → b ≡ true
-and_first true h = refl
-and_first false h = h
-
-never_ready : (b o : Bool) → ((not b && o) && false) ≡ false
-never_ready true o = refl
-never_ready false true = refl
-never_ready false false = refl
-
 out_waits_at : (b : Bool) (o : Option Job) → ((not b && is_none (outcome_in o)) && is_some o) ≡ true → (not b && true) ≡ (not b && is_none (outcome_in o))
 out_waits_at true o h = refl
 out_waits_at false None h = refl
-out_waits_at false (Some j) h = sym (and_first (is_none (plain_job j).outcome) h)
+out_waits_at false (Some j) h = sym (and_parts (is_none (plain_job j).outcome) true h).0
 
 stop_none : (k : ℕ) (o : Option (Outcome PlainSet)) → is_none o ≡ true → None ≡ stop_at k o
 stop_none k None h = refl
@@ -176,7 +168,7 @@ stop_none k (Some x) h = absurd (cc)
 out_states_at : (k : ℕ) (b : Bool) (o : Option Job) → ((not b && is_none (outcome_in o)) && is_some o) ≡ true → (if b then None else stop_at k None) ≡ (if b then None else stop_at k (outcome_in o))
 out_states_at k true o h = refl
 out_states_at k false None h = refl
-out_states_at k false (Some j) h = stop_none k (plain_job j).outcome (and_first (is_none (plain_job j).outcome) h)
+out_states_at k false (Some j) h = stop_none k (plain_job j).outcome (and_parts (is_none (plain_job j).outcome) true h).0
 
 later_can : (r : Running) (base : Ground) (o : PlainOptions) (ns : List (Entry Origin)) (ss : List PlainSeat) → AreOwn r.program r.options 0 ss → where_from is_ready 0 ss ≡ runs_in ns → AreLater ns → AreBelow (length ss) ns →
     base.program ≡ r.program → base ≡ ground_of r.program r.options.budget → o ≡ r.options → CanLend r base o ns ss
@@ -273,7 +265,7 @@ none_is (Some x) h = absurd (cc)
 ready_job : (b : Bool) (o : Option Job) → ((not b && is_none (outcome_in o)) && is_some o) ≡ true → (j : Job) × (o ≡ Some j) × ((plain_job j).outcome ≡ None)
 ready_job true o h = absurd (cc)
 ready_job false None h = absurd (cc)
-ready_job false (Some j) h = (j, refl, none_is (plain_job j).outcome (and_first (is_none (plain_job j).outcome) h))
+ready_job false (Some j) h = (j, refl, none_is (plain_job j).outcome (and_parts (is_none (plain_job j).outcome) true h).0)
 
 ready_at : (s : PlainSeat) → is_ready s ≡ true → Ready s
 ready_at s h = let r = ready_job s.ended s.job h in record { job = r.0; is_job = r.1; outcome = r.2 }
@@ -309,7 +301,7 @@ lend_runs r base o i all ns js more old ss new h l =
     let count = l.count in
     subst (λ (us : List PlainSeat). Lending r base o all ns (js ++ more) old us) (sym h.0) (record {
       can = later_can r base o ns (change out i ss) (own_changed0 r.program r.options i out ss c.own (λ x w y. tt))
-          (where_first0 is_ready i out ss (runs_in ns) c.ready (λ x w. never_ready x.ended (is_none (outcome_in None)))) c.alone (subst (λ (n : ℕ). AreBelow n ns) (sym len) c.below.1) c.program_is c.ground_is c.options_are;
+          (where_first0 is_ready i out ss (runs_in ns) c.ready (λ x w. and_right (not x.ended && is_none (outcome_in None)) false refl)) c.alone (subst (λ (n : ℕ). AreBelow n ns) (sym len) c.below.1) c.program_is c.ground_is c.options_are;
       waiting = where_like is_waiting 0 i out ss (λ x w. out_waits x (ap is_ready (same_Some x s (sym w ∙ f.1)) ∙ is)) ∙ l.waiting;
       stated = stated_like 0 i out ss (λ x w k. out_states k x (ap is_ready (same_Some x s (sym w ∙ f.1)) ∙ is)) ∙ l.stated;
       same = same_changed ns out i ss old rises.0 l.same.1;

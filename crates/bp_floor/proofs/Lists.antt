@@ -1,16 +1,12 @@
 -- Changes of one element.
-use Rattle.std.proofs.Common.{◌≡◌, ℕ, zero, suc, ◌<◌, ◌≤◌, List, [], ◌∷◌, ◌++◌, length, map, set, get_or, refl, sym, ap, ◌∙◌, arith, Option, Some, None, slice_get}
+use Rattle.std.proofs.Common.{◌≡◌, ℕ, zero, suc, ◌<◌, ◌≤◌, List, [], ◌∷◌, ◌++◌, length, map, set, get_or, refl, sym, ap, ◌∙◌, arith, Option, Some, slice_get, option_map}
 use Rattle.std.specs.List.{filter_map, cons_option}
-use Rattle.std.proofs.lemmas.List.{nil_from_length}
+use Rattle.std.proofs.lemmas.List.{nil_from_length, length-map}
 use Rattle.std.specs.declared.vec.IntoIter.{IntoIter}
 use Rattle.std.specs.Vec.Iter.{into_iter_len, into_iter_items}
+use Rattle.std.proofs.lemmas.Option.{slice_get-map, slice_get-get_or}
+use Rattle.std.proofs.lemmas.List.Elements.{filter_map-append}
 use Rattle.bp_run.specs.Configuration.{change}
-
--- a change seen through a map
-pub change_map : {A B : Type 0} (v : A → B) (f : A → A) (g : B → B) (i : ℕ) (xs : List A) → ((x : A) → v (f x) ≡ g (v x)) → map v (change f i xs) ≡ change g i (map v xs)
-change_map v f g i [] h = refl
-change_map v f g zero (x ∷ xs) h = ap (λ y. y ∷ map v xs) (h x)
-change_map v f g (suc i) (x ∷ xs) h = ap (λ ys. v x ∷ ys) (change_map v f g i xs h)
 
 -- a change that leaves what is there
 pub change_none : {A : Type 0} (f : A → A) (i : ℕ) (xs : List A) → ((x : A) → slice_get xs i ≡ Some x → f x ≡ x) → change f i xs ≡ xs
@@ -34,15 +30,10 @@ pub written : {A B : Type 0} (v : A → B) (f : B → B) (xs : List A) (seen : L
 written v f xs seen i d u h k g e =
     at_map v f xs i d u (rw h k) (e ∙ ap (λ x. f (v x)) g) ∙ ap (λ ys. change f i ys) h
 
-at_get : {A B : Type 0} (v : A → B) (xs : List A) (i : ℕ) (d : A) → i < length (map v xs) → slice_get (map v xs) i ≡ Some (v (get_or xs i d))
-at_get v [] i d h = absurd (omega arith)
-at_get v (x ∷ xs) zero d h = refl
-at_get v (x ∷ xs) (suc i) d h = at_get v xs i d (omega arith)
-
 -- an element that is read
 pub read_at : {A B : Type 0} (v : A → B) (xs : List A) (seen : List B) (i : ℕ) (d : A) → map v xs ≡ seen → i < length seen → d ≡ get_or xs i d → slice_get seen i ≡ Some (v d)
 read_at v xs seen i d h k g =
-    sym (ap (λ ys. slice_get ys i) h) ∙ at_get v xs i d (rw h k) ∙ ap (λ x. Some (v x)) (sym g)
+    sym (ap (λ ys. slice_get ys i) h) ∙ (slice_get-map v xs i ∙ ap (option_map v) (slice_get-get_or xs i d (let m = ap length h in omega (arith, k, m, length-map xs v)))) ∙ ap (λ x. Some (v x)) (sym g)
 
 pub found : {A : Type 0} (xs : List A) (i : ℕ) → i < length xs → (x : A) × (slice_get xs i ≡ Some x)
 found [] i h = absurd (omega arith)
@@ -50,23 +41,20 @@ found (x ∷ xs) zero h = (x, refl)
 found (x ∷ xs) (suc i) h = found xs i (omega arith)
 
 pub get_map : {A B : Type 0} (v : A → B) (xs : List A) (i : ℕ) (x : A) → slice_get xs i ≡ Some x → slice_get (map v xs) i ≡ Some (v x)
-get_map v [] i x h = absurd (cc)
-get_map v (y ∷ ys) zero x h = let e : y ≡ x = cc in ap (λ z. Some (v z)) e
-get_map v (y ∷ ys) (suc i) x h = get_map v ys i x h
-
-last_cons : {A : Type 0} (o : Option A) (l r t : List A) → l ≡ r ++ t → cons_option o l ≡ cons_option o r ++ t
-last_cons None l r t h = h
-last_cons (Some x) l r t h = ap (λ ys. x ∷ ys) h
+get_map v xs i x h = slice_get-map v xs i ∙ ap (option_map v) h
 
 pub filter_map_last : {A B : Type 0} (f : A → Option B) (xs : List A) (x : A) (y : B) → f x ≡ Some y → filter_map f (xs ++ x ∷ []) ≡ filter_map f xs ++ y ∷ []
-filter_map_last f [] x y h = rw h refl
-filter_map_last f (z ∷ zs) x y h = last_cons (f z) _ _ _ (filter_map_last f zs x y h)
+filter_map_last f xs x y h = filter_map-append f xs (x ∷ []) ∙ ap (λ o. filter_map f xs ++ cons_option o []) h
 
 -- a change seen through a map, where it is made
 pub change_map_at : {A B : Type 0} (v : A → B) (f : A → A) (g : B → B) (i : ℕ) (xs : List A) → ((x : A) → slice_get xs i ≡ Some x → v (f x) ≡ g (v x)) → map v (change f i xs) ≡ change g i (map v xs)
 change_map_at v f g i [] h = refl
 change_map_at v f g zero (x ∷ xs) h = ap (λ y. y ∷ map v xs) (h x refl)
 change_map_at v f g (suc i) (x ∷ xs) h = ap (λ ys. v x ∷ ys) (change_map_at v f g i xs h)
+
+-- a change seen through a map
+pub change_map : {A B : Type 0} (v : A → B) (f : A → A) (g : B → B) (i : ℕ) (xs : List A) → ((x : A) → v (f x) ≡ g (v x)) → map v (change f i xs) ≡ change g i (map v xs)
+change_map v f g i xs h = change_map_at v f g i xs (λ x _. h x)
 
 -- so many were changed
 abbrev pub changed_first : {A : Type 0} → (A → A) → ℕ → List A → List A

@@ -1,7 +1,7 @@
 -- The entries of a floor have rising numbers, and so the jobs that it lends have distinct ones.
-use Rattle.std.proofs.Common.{◌≡◌, ℕ, suc, ◌≤◌, Bool, true, false, eqb, List, [], ◌∷◌, map, refl, sym, subst, arith, Option, Some, None}
+use Rattle.std.proofs.Common.{◌≡◌, ℕ, suc, ◌≤◌, false, eqb, List, [], ◌∷◌, map, sym, subst, arith, Option, Some, None}
 use Rattle.std.specs.List.{IsDistinct, AllByRecursion}
-use Rattle.std.proofs.lemmas.Bool.{eqb-true}
+use Rattle.std.proofs.lemmas.Bool.{ne_eqb}
 use Rattle.js_program.specs.PlainProgram.{PlainProgram}
 use Rattle.js_meaning.specs.Bodies.{Origin}
 use Rattle.bp_log.specs.Options.{PlainOptions}
@@ -17,13 +17,9 @@ use Rattle.bp_floor.specs.Lending.{IsLent, JobFor, AreLent}
 
 -- ---- rising numbers are distinct
 
-not_below : (m n : ℕ) (b : Bool) → eqb m n ≡ b → suc m ≤ n → b ≡ false
-not_below m n true e h = absurd (let k = eqb-true m n e in omega (arith, h, k))
-not_below m n false e h = refl
-
 apart : (n : ℕ) (ns : List ℕ) → AreFrom (suc n) ns → AllByRecursion (λ m. eqb n m ≡ false) ns
 apart n [] h = tt
-apart n (m ∷ ns) h = (not_below n m (eqb n m) refl h.0, apart n ns h.1)
+apart n (m ∷ ns) h = (ne_eqb n m (λ e. let a = h.0 in omega (arith, e, a)), apart n ns h.1)
 
 pub rising_distinct : (ns : List ℕ) → Rises ns → IsDistinct eqb ns
 unfolding IsDistinct

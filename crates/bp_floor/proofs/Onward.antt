@@ -14,7 +14,7 @@ use Rattle.bp_run.specs.Bodies.{Effect}
 use Rattle.bp_run.specs.Bodies.Effect.{Register}
 use Rattle.bp_log.specs.declared.verdict.Place.{Place}
 use Rattle.bp_log.specs.declared.verdict.Verdict.TheVariants as verdict
-use Rattle.std.proofs.lemmas.Bool.{eq-eqb}
+use Rattle.std.proofs.lemmas.Bool.{eq-eqb, ne_eqb}
 use Rattle.std.proofs.lemmas.List.{length-map}
 use Rattle.std.proofs.lemmas.Option.{none-some}
 use Rattle.bp_code.specs.Code.{ground_for}
@@ -23,7 +23,6 @@ use Rattle.bp_run.specs.Settling.{Entry, Pair, Ran, registered, merged, stopped,
 use Rattle.bp_run.specs.Settling.Entry.{Runs}
 use Rattle.bp_run.specs.Selecting.{Live}
 use Rattle.bp_run.proofs.Turns.{length-change}
-use Rattle.bp_run.proofs.Numbers.{not_equal}
 use Rattle.bp_select.specs.Benches.{PlainBench, placed, Fits}
 use Rattle.bp_thread.specs.declared.job.Job.{Job}
 use Rattle.bp_thread.specs.Jobs.{PlainJob, plain_job, IsOf, IsWhole}
@@ -158,7 +157,7 @@ threads_full at name o b h =
 pub threads_few : (at : Place) (name : List ℕ) (o : Origin) (b : Board) → (length b.seats ≡ MOST_THREADS → ⊥) → registered name o (pair_of b) ≡ with_effect at (Register name o) (pair_of b)
 threads_few at name o b h =
     let e : nat_eq (length (map seated b.seats)) MOST_THREADS ≡ false =
-    not_equal (length (map seated b.seats)) MOST_THREADS (nat_eq (length (map seated b.seats)) MOST_THREADS) refl (λ k. h (sym (length-map b.seats seated) ∙ k)) in
+    ne_eqb (length (map seated b.seats)) MOST_THREADS (λ k. h (sym (length-map b.seats seated) ∙ k)) in
     rw e refl
 
 -- ---- all of them

@@ -1,7 +1,8 @@
 -- The b-threads of a board: who waits, what is stated, whose jobs they are.
-use Rattle.std.proofs.Common.{◌≡◌, ℕ, zero, suc, ◌+◌, ◌<◌, ◌≤◌, Bool, true, false, not, ◌&&◌, List, [], ◌∷◌, ◌++◌, length, map, refl, sym, ap, ◌∙◌, subst, arith, Option, Some, None, is_none, nat_lt, nat_eq, slice_get, option_map, if◌then◌else◌}
-use Rattle.std.proofs.lemmas.Bool.{lt-ltb, le-ltb, eq-eqb}
+use Rattle.std.proofs.Common.{◌≡◌, ℕ, zero, suc, ◌+◌, ◌<◌, ◌≤◌, Bool, true, false, not, List, [], ◌∷◌, ◌++◌, length, map, refl, sym, ap, ◌∙◌, subst, arith, Option, Some, None, is_none, nat_lt, nat_eq, slice_get, option_map, if◌then◌else◌}
+use Rattle.std.proofs.lemmas.Bool.{lt-ltb, le-ltb, eq-eqb, ne_eqb, not-true, and_parts}
 use Rattle.std.specs.List.{cons_option}
+use Rattle.std.proofs.Math.Nat.{zero-add}
 use Rattle.js_value.specs.Value.{PlainSet}
 use Rattle.js_program.specs.PlainProgram.{PlainProgram}
 use Rattle.bp_log.specs.Options.{PlainOptions}
@@ -12,12 +13,11 @@ use Rattle.bp_run.specs.Configuration.{Thread, change}
 use Rattle.bp_run.specs.Settling.{Entry}
 use Rattle.bp_run.specs.Settling.Entry.{Runs}
 use Rattle.bp_run.specs.Selecting.{Live}
-use Rattle.bp_run.proofs.Numbers.{not_equal}
 use Rattle.bp_select.specs.Benches.{placed, live_at}
 use Rattle.bp_floor.specs.Forgetting.{forget}
 use Rattle.bp_floor.specs.Seating.{PlainSeat, seated, is_waiting, is_ready, outcome_in, where_from, stop_at, statement_at, stated_from, IsOwnIn, AreOwn, swept}
 use Rattle.bp_floor.specs.Kept.{AreFrom, Rises, runs_in}
-use Rattle.bp_floor.proofs.Lists.{filter_map_last}
+use Rattle.bp_floor.proofs.Lists.{filter_map_last, change_none}
 
 -- ---- one more
 
@@ -134,7 +134,7 @@ placed_past n k x None ts l h = refl
 placed_past n k x (Some t) ts l h =
     let e = h t refl in
     let a : nat_lt k t.number ≡ false = le-ltb k t.number (omega (arith, e, l)) in
-    let b : nat_eq k t.number ≡ false = not_equal k t.number (nat_eq k t.number) refl (λ f. let g : k ≡ n = f ∙ e in omega (arith, g, l)) in
+    let b : nat_eq k t.number ≡ false = ne_eqb k t.number (λ f. let g : k ≡ n = f ∙ e in omega (arith, g, l)) in
     rw (a, b) refl
 
 -- a change of one b-thread shows at its place of what is stated, and nowhere else
@@ -218,12 +218,8 @@ first_is f n (suc i) (x ∷ ss) rest s h k =
     let w = where_next (f x) n i (where_from f (suc n) ss) rest h in
     first_is f (suc n) i ss rest s w.1 k
 
-pub open_one : (b o : Bool) → (not b && o) ≡ true → b ≡ false
-open_one true o h = absurd (cc)
-open_one false o h = refl
-
 pub waits_at : (n i : ℕ) (ss : List PlainSeat) (rest : List ℕ) (s : PlainSeat) → where_from is_waiting n ss ≡ (n + i) ∷ rest → slice_get ss i ≡ Some s → s.ended ≡ false
-waits_at n i ss rest s h k = open_one s.ended (is_none (outcome_in s.job)) (first_is is_waiting n i ss rest s h k)
+waits_at n i ss rest s h k = not-true s.ended (and_parts (not s.ended) (is_none (outcome_in s.job)) (first_is is_waiting n i ss rest s h k)).0
 
 -- ---- those that have ended let their jobs go
 
@@ -272,10 +268,6 @@ forgets_swept [] = refl
 forgets_swept (s ∷ ss) =
     ap (λ (t : Thread Origin). t ∷ map seated (map swept ss)) (swept_forgets s.ended s refl)
     ∙ ap (λ (ts : List (Thread Origin)). forget the_top (seated s) ∷ ts) (forgets_swept ss)
-
-pub swept_length : (ss : List PlainSeat) → length (map swept ss) ≡ length ss
-swept_length [] = refl
-swept_length (s ∷ ss) = ap (λ (n : ℕ). suc n) (swept_length ss)
 
 -- ---- rising numbers
 
@@ -348,52 +340,44 @@ where_more f n (suc i) g (s ∷ ss) l h a =
     let below : AllBelow (suc n + i) (where_from f (suc n) ss) = subst (λ (m : ℕ). AllBelow m (where_from f (suc n) ss)) (sym e) (below_rest (f s) n (n + suc i) (where_from f (suc n) ss) a) in
     where_step (f s) n _ _ _ (where_more f (suc n) i g ss (omega arith) h below ∙ ap (λ (m : ℕ). where_from f (suc n) ss ++ m ∷ []) e)
 
-pub get_below : (ss : List PlainSeat) (i : ℕ) (s : PlainSeat) → slice_get ss i ≡ Some s → i < length ss
-get_below [] i s h = absurd (cc)
-get_below (x ∷ ss) zero s h = omega arith
-get_below (x ∷ ss) (suc i) s h = let b = get_below ss i s h in omega (arith, b)
-
 -- ---- from the first one on
-
-pub zero_add : (i : ℕ) → 0 + i ≡ i
-zero_add i = omega arith
 
 pub where_first0 : (f : PlainSeat → Bool) (i : ℕ) (g : PlainSeat → PlainSeat) (ss : List PlainSeat) (rest : List ℕ) → where_from f 0 ss ≡ i ∷ rest →
     ((s : PlainSeat) → slice_get ss i ≡ Some s → f (g s) ≡ false) → where_from f 0 (change g i ss) ≡ rest
-where_first0 f i g ss rest h k = where_first f 0 i g ss rest (h ∙ ap (λ (m : ℕ). m ∷ rest) (sym (zero_add i))) k
+where_first0 f i g ss rest h k = where_first f 0 i g ss rest (h ∙ ap (λ (m : ℕ). m ∷ rest) (sym (zero-add i))) k
 
 pub where_below0 : (f : PlainSeat → Bool) (ss : List PlainSeat) (i : ℕ) (rest : List ℕ) → where_from f 0 ss ≡ i ∷ rest → i < length ss
-where_below0 f ss i rest h = where_below f 0 ss i rest (h ∙ ap (λ (m : ℕ). m ∷ rest) (sym (zero_add i)))
+where_below0 f ss i rest h = where_below f 0 ss i rest (h ∙ ap (λ (m : ℕ). m ∷ rest) (sym (zero-add i)))
 
 pub first_is0 : (f : PlainSeat → Bool) (i : ℕ) (ss : List PlainSeat) (rest : List ℕ) (s : PlainSeat) → where_from f 0 ss ≡ i ∷ rest → slice_get ss i ≡ Some s → f s ≡ true
-first_is0 f i ss rest s h k = first_is f 0 i ss rest s (h ∙ ap (λ (m : ℕ). m ∷ rest) (sym (zero_add i))) k
+first_is0 f i ss rest s h k = first_is f 0 i ss rest s (h ∙ ap (λ (m : ℕ). m ∷ rest) (sym (zero-add i))) k
 
 pub waits_at0 : (i : ℕ) (ss : List PlainSeat) (rest : List ℕ) (s : PlainSeat) → where_from is_waiting 0 ss ≡ i ∷ rest → slice_get ss i ≡ Some s → s.ended ≡ false
-waits_at0 i ss rest s h k = waits_at 0 i ss rest s (h ∙ ap (λ (m : ℕ). m ∷ rest) (sym (zero_add i))) k
+waits_at0 i ss rest s h k = waits_at 0 i ss rest s (h ∙ ap (λ (m : ℕ). m ∷ rest) (sym (zero-add i))) k
 
 pub stated_changed0 : (i : ℕ) (f : PlainSeat → PlainSeat) (x : Option (Statement PlainSet)) (ss : List PlainSeat) → i < length ss →
     ((s : PlainSeat) → slice_get ss i ≡ Some s → (k : ℕ) → statement_at k (f s) ≡ live_at k x) → stated_from 0 (change f i ss) ≡ placed i x (stated_from 0 ss)
-stated_changed0 i f x ss l h = stated_changed 0 i f x ss l h ∙ ap (λ (m : ℕ). placed m x (stated_from 0 ss)) (zero_add i)
+stated_changed0 i f x ss l h = stated_changed 0 i f x ss l h ∙ ap (λ (m : ℕ). placed m x (stated_from 0 ss)) (zero-add i)
 
 pub own_changed0 : (g : PlainProgram) (o : PlainOptions) (i : ℕ) (f : PlainSeat → PlainSeat) (ss : List PlainSeat) → AreOwn g o 0 ss →
     ((s : PlainSeat) → slice_get ss i ≡ Some s → IsOwnIn g o i s.job → IsOwnIn g o i (f s).job) → AreOwn g o 0 (change f i ss)
 own_changed0 g o i f ss h k =
     own_changed g o 0 i f ss h
-    (λ s w y. subst (λ (m : ℕ). IsOwnIn g o m (f s).job) (sym (zero_add i)) (k s w (subst (λ (m : ℕ). IsOwnIn g o m s.job) (zero_add i) y)))
+    (λ s w y. subst (λ (m : ℕ). IsOwnIn g o m (f s).job) (sym (zero-add i)) (k s w (subst (λ (m : ℕ). IsOwnIn g o m s.job) (zero-add i) y)))
 
 pub own_at0 : (g : PlainProgram) (o : PlainOptions) (i : ℕ) (ss : List PlainSeat) (s : PlainSeat) → AreOwn g o 0 ss → slice_get ss i ≡ Some s → IsOwnIn g o i s.job
-own_at0 g o i ss s h k = subst (λ (m : ℕ). IsOwnIn g o m s.job) (zero_add i) (own_at g o 0 i ss s h k)
+own_at0 g o i ss s h k = subst (λ (m : ℕ). IsOwnIn g o m s.job) (zero-add i) (own_at g o 0 i ss s h k)
 
 pub where_last0 : (f : PlainSeat → Bool) (ss : List PlainSeat) (s : PlainSeat) → f s ≡ true → where_from f 0 (ss ++ s ∷ []) ≡ where_from f 0 ss ++ length ss ∷ []
-where_last0 f ss s h = where_last f 0 ss s h ∙ ap (λ (m : ℕ). where_from f 0 ss ++ m ∷ []) (zero_add (length ss))
+where_last0 f ss s h = where_last f 0 ss s h ∙ ap (λ (m : ℕ). where_from f 0 ss ++ m ∷ []) (zero-add (length ss))
 
 pub own_last0 : (g : PlainProgram) (o : PlainOptions) (ss : List PlainSeat) (s : PlainSeat) → AreOwn g o 0 ss → IsOwnIn g o (length ss) s.job → AreOwn g o 0 (ss ++ s ∷ [])
-own_last0 g o ss s h k = own_last g o 0 ss s h (subst (λ (m : ℕ). IsOwnIn g o m s.job) (sym (zero_add (length ss))) k)
+own_last0 g o ss s h k = own_last g o 0 ss s h (subst (λ (m : ℕ). IsOwnIn g o m s.job) (sym (zero-add (length ss))) k)
 
 pub where_more0 : (f : PlainSeat → Bool) (i : ℕ) (g : PlainSeat → PlainSeat) (ss : List PlainSeat) → i < length ss → ((s : PlainSeat) → slice_get ss i ≡ Some s → (f s ≡ false) × (f (g s) ≡ true)) →
     AllBelow i (where_from f 0 ss) → where_from f 0 (change g i ss) ≡ where_from f 0 ss ++ i ∷ []
 where_more0 f i g ss l h a =
-    where_more f 0 i g ss l h (subst (λ (m : ℕ). AllBelow m (where_from f 0 ss)) (sym (zero_add i)) a) ∙ ap (λ (m : ℕ). where_from f 0 ss ++ m ∷ []) (zero_add i)
+    where_more f 0 i g ss l h (subst (λ (m : ℕ). AllBelow m (where_from f 0 ss)) (sym (zero-add i)) a) ∙ ap (λ (m : ℕ). where_from f 0 ss ++ m ∷ []) (zero-add i)
 
 pub where_ended0 : (f : PlainSeat → Bool) (first i : ℕ) (ss : List PlainSeat) → ((s : PlainSeat) → f (record s { ended = true }) ≡ false) → AreFrom first (where_from f 0 ss) → i < first →
     where_from f 0 (change (λ s. record s { ended = true }) i ss) ≡ where_from f 0 ss
@@ -416,6 +400,4 @@ sweeps zero (s ∷ ss) b h k = ap (λ (x : PlainSeat). x ∷ ss) (swept_so s (en
 sweeps (suc i) (s ∷ ss) b h k = ap (λ (xs : List PlainSeat). s ∷ xs) (sweeps i ss b h k)
 
 pub sweeps_not : (i : ℕ) (ss : List PlainSeat) (b : Bool) → Some b ≡ option_map (λ (x : PlainSeat). x.ended) (slice_get ss i) → b ≡ false → ss ≡ change swept i ss
-sweeps_not i [] b h k = refl
-sweeps_not zero (s ∷ ss) b h k = ap (λ (x : PlainSeat). x ∷ ss) (sym (swept_same s (ended_one s b h ∙ k)))
-sweeps_not (suc i) (s ∷ ss) b h k = ap (λ (xs : List PlainSeat). s ∷ xs) (sweeps_not i ss b h k)
+sweeps_not i ss b h k = sym (change_none swept i ss (λ s w. swept_same s (ended_one s b (h ∙ ap (option_map (λ (x : PlainSeat). x.ended)) w) ∙ k)))

@@ -4,6 +4,7 @@ use Rattle.std.proofs.lemmas.Bool.{eq-eqb}
 use Rattle.std.specs.List.{cons_option}
 use Rattle.std.proofs.lemmas.List.{length-map}
 use Rattle.js_data.specs.Event.{PlainEvent}
+use Rattle.js_data.proofs.Shared.{known}
 use Rattle.js_value.specs.Value.{PlainSet}
 use Rattle.js_meaning.specs.Bodies.{Origin}
 use Rattle.bp_run.specs.Bodies.{Outcome}
@@ -102,10 +103,6 @@ touched_states : (has : Has PlainSet) (e : PlainEvent) (o : Option (Live PlainSe
 touched_states has e None x h = absurd (ok_none x h)
 touched_states has e (Some t) x h = (t, refl)
 
-some_is : (o : Option Touched) → is_some o ≡ true → (x : Touched) × (o ≡ Some x)
-some_is None h = absurd (cc)
-some_is (Some x) h = (x, refl)
-
 AllSome : List Touched → List Touched → Type 0
 AllSome [] xs = Unit {0}
 AllSome (y ∷ ys) xs = (is_some (touch_at (number_in y) xs) ≡ true) × AllSome ys xs
@@ -153,7 +150,7 @@ one_stands r ss s e xs y t own w h low some =
     let i = number_in y in
     let f = found ss i low in
     let get : slice_get s.threads i ≡ Some (seated f.0) = ap (λ (ts : List (Thread Origin)). slice_get ts i) t ∙ get_map seated ss i f.0 f.1 in
-    let x = some_is (touch_at i xs) some in
+    let x = known (touch_at i xs) some in
     let does = reach_each l s e xs i (seated f.0) h get ∙ ap (λ (o : Option Touched). let a : Asked (Option Touched) = Ok o in a) x.1 in
     let states = touched_states l.has e (stated l i (seated f.0)) x.0 does in
     let quiet = none_waits 0 i ss f.0 w f.1 in

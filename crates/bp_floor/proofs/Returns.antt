@@ -1,7 +1,8 @@
 -- Jobs come back, one after the other.
-use Rattle.std.proofs.Common.{◌≡◌, ℕ, zero, suc, ◌<◌, ◌≤◌, Bool, true, false, not, ◌&&◌, List, [], ◌∷◌, ◌++◌, length, map, refl, sym, ap, ◌∙◌, subst, arith, append_assoc, append-nil, Option, Some, None, is_none, is_some, slice_get}
+use Rattle.std.proofs.Common.{◌≡◌, ℕ, ◌<◌, ◌≤◌, true, false, not, ◌&&◌, List, [], ◌∷◌, ◌++◌, length, map, refl, sym, ap, ◌∙◌, subst, arith, append_assoc, append-nil, Option, Some, None, is_none, is_some, slice_get}
 use Rattle.std.proofs.lemmas.Option.{same_Some}
 use Rattle.std.proofs.lemmas.List.{length-map}
+use Rattle.std.proofs.lemmas.Bool.{and_right, and_left}
 use Rattle.js_data.specs.Event.{PlainEvent}
 use Rattle.js_value.specs.Value.{PlainValue, PlainSet}
 use Rattle.js_program.specs.PlainProgram.{PlainProgram}
@@ -28,7 +29,7 @@ use Rattle.bp_floor.specs.Parts.{unstated, unstated_part}
 use Rattle.bp_floor.specs.Kept.{Running, runs_in, AreBelow}
 use Rattle.bp_floor.specs.Lending.{JobFor, IsCarried, IsDone, AreDone, fill, filled, has_body, standing}
 use Rattle.bp_floor.specs.Returning.{ground_at, AreLater, RunsAlone, IsBack, IsSameBut, part_in, Puts, IsTaken, IsKeptBy, IsFilled, ran_in, AreAllBack}
-use Rattle.bp_floor.proofs.Lists.{change_map}
+use Rattle.bp_floor.proofs.Lists.{change_map, found}
 use Rattle.bp_floor.proofs.Places.{own_changed0, stated_changed0, where_first0, where_none, where_below0, waits_at0}
 
 pub filled_none : (ns : List (Entry Origin)) (ts : List (Thread Origin)) → filled ns [] ts ≡ ts
@@ -67,14 +68,6 @@ none_at : (Is : ℕ → Body Origin → Job → Type 0) (n : ℕ) (rest : List J
 none_at Is n rest None h k = absurd (cc)
 none_at Is n rest (Some b) h k = k
 
-puts_no : (b o : Bool) → o ≡ false → (not b && o) ≡ false
-puts_no true o h = refl
-puts_no false o h = h
-
-puts_ready : (b o : Bool) → o ≡ false → ((not b && o) && true) ≡ false
-puts_ready true o h = refl
-puts_ready false o h = rw h refl
-
 open_states : (s : PlainSeat) (n : ℕ) (k : Job) (x : Option (run.Statement PlainSet)) → s.ended ≡ false → stop_at n (plain_job k).outcome ≡ live_at n x → statement_at n (record s { job = Some k }) ≡ live_at n x
 open_states s n k x e h = rw e h
 
@@ -91,9 +84,7 @@ first_at r n ts None j js rest e h k = absurd (cc)
 first_at r n ts (Some b) j js rest e h k = record { body = b; is_body = e; done = k.0; left = k.1 }
 
 own_some : (ts : List (Thread Origin)) (i : ℕ) → i < length ts → is_some (own_body (slice_get ts i)) ≡ true
-own_some [] i h = absurd (omega arith)
-own_some (t ∷ ts) zero h = refl
-own_some (t ∷ ts) (suc i) h = own_some ts i (omega arith)
+own_some ts i h = let t = found ts i h in ap (λ (o : Option (Thread Origin)). is_some (own_body o)) t.1
 
 -- nothing is put back for an entry without a body
 abbrev pub idle_part : Part Origin (Unit {0})
@@ -261,9 +252,9 @@ back_runs r base left i ns j k js old new t h m =
       below = subst (λ (ss : List PlainSeat). AreBelow (length ss) ns) (sym h.0.seats) (subst (λ (n : ℕ). AreBelow n ns) (sym len) m.below.1);
       own = subst (λ (ss : List PlainSeat). AreOwn r.program r.options 0 ss) (sym h.0.seats) (own_changed0 r.program r.options i put old.seats m.own (λ s w y. own));
       waiting = ap (λ (ss : List PlainSeat). where_from is_waiting 0 ss) h.0.seats
-          ∙ where_first0 is_waiting i put old.seats (runs_in ns) m.waiting (λ s w. puts_no s.ended (is_none (plain_job k).outcome) some);
+          ∙ where_first0 is_waiting i put old.seats (runs_in ns) m.waiting (λ s w. and_right (not s.ended) (is_none (plain_job k).outcome) some);
       ready = ap (λ (ss : List PlainSeat). where_from is_ready 0 ss) h.0.seats
-          ∙ where_none is_ready 0 i put old.seats m.ready (λ s w. puts_ready s.ended (is_none (plain_job k).outcome) some);
+          ∙ where_none is_ready 0 i put old.seats m.ready (λ s w. and_left (not s.ended && is_none (plain_job k).outcome) true (and_right (not s.ended) (is_none (plain_job k).outcome) some));
       mirror = h.0.live ∙ ap (λ (ts : List _). placed i h.0.statement ts) m.mirror
           ∙ sym (stated_changed0 i put h.0.statement old.seats low (λ s w n. open_states s n k h.0.statement (waits_at0 i old.seats (runs_in ns) s m.waiting w) (h.0.stated n)))
           ∙ ap (λ (ss : List PlainSeat). stated_from 0 ss) (sym h.0.seats);

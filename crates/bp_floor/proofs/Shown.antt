@@ -1,40 +1,23 @@
 -- What holds of a floor holds of each pair that it stands for.
-use Rattle.std.proofs.Common.{◌≡◌, ℕ, ◌+◌, Bool, true, false, not, cond, List, [], ◌∷◌, ◌++◌, map, refl, sym, ap, ◌∙◌, arith, Option, Some, Ok, Err, count_by, slice_get}
-use Rattle.std.proofs.lemmas.List.Recursion.{is_count_by}
-use Rattle.std.proofs.lemmas.List.Sums.{sum_by-cons}
+use Rattle.std.proofs.Common.{◌≡◌, ℕ, List, [], ◌∷◌, ◌++◌, refl, sym, ap, ◌∙◌, Option, Some, Ok, Err, slice_get}
 use Rattle.js_data.specs.Event.{PlainEvent}
 use Rattle.js_value.specs.Value.{PlainSet}
 use Rattle.js_meaning.specs.Bodies.{Origin, the_top}
 use Rattle.bp_log.specs.declared.trace.Line.{Line}
 use Rattle.bp_run.specs.Bodies.{Code}
-use Rattle.bp_run.specs.Configuration.{Stand, Thread, name_in, not_ended}
+use Rattle.bp_run.specs.Configuration.{Stand, name_in, not_ended}
 use Rattle.bp_run.specs.Settling.{Pair, before, queued}
 use Rattle.bp_run.specs.Selecting.{Live, Asked, live}
 use Rattle.bp_run.specs.Choosing.{Touched, reach}
 use Rattle.bp_run.specs.Story.{set_verdict}
 use Rattle.bp_floor.specs.declared.went.Went.{Went}
 use Rattle.bp_floor.specs.declared.went.Went.TheVariants.{Moved, Stopped}
-use Rattle.bp_floor.specs.Forgetting.{forget, forgotten_in, forgotten}
+use Rattle.bp_floor.specs.Forgetting.{forgotten_in, forgotten}
 use Rattle.bp_floor.specs.Floors.{PlainFloor, StandsFor, GoesAs, ShowsOf, GoesFrom, code_on, has_on, stop_of, stop_at_reach}
-use Rattle.bp_floor.proofs.Forgetting.{name_forgotten, forget_ended_at}
+use Rattle.bp_floor.proofs.Forgetting.{name_forgotten, live_count}
 use Rattle.bp_floor.proofs.Stepping.{live_stands, stepped_stands}
 
 -- ---- what it shows
-
-one_going : (b : Bool) (n : ℕ) → cond (not b) 1 0 + n ≡ cond (not b) (1 + n) n
-one_going true n = omega arith
-one_going false n = refl
-
-going_step : (t : Thread Origin) (ts : List (Thread Origin)) →
-    count_by (λ (x : Thread Origin). not x.ended) (map (forget the_top) (t ∷ ts)) ≡ cond (not t.ended) (1 + count_by (λ (x : Thread Origin). not x.ended) (map (forget the_top) ts)) (count_by (λ (x : Thread Origin). not x.ended) (map (forget the_top) ts))
-going_step t ts =
-    let n = count_by (λ (x : Thread Origin). not x.ended) (map (forget the_top) ts) in
-    sum_by-cons (λ (x : Thread Origin). cond (not x.ended) 1 0) (forget the_top t) (map (forget the_top) ts)
-    ∙ ap (λ (b : Bool). cond (not b) 1 0 + n) (forget_ended_at the_top t.ended t refl) ∙ one_going t.ended n
-
--- as many have not ended
-going_forgotten : (ts : List (Thread Origin)) → count_by (λ (x : Thread Origin). not x.ended) (map (forget the_top) ts) ≡ count_by (λ (x : Thread Origin). not x.ended) ts
-going_forgotten ts = is_count_by (λ (us : List (Thread Origin)). count_by (λ (x : Thread Origin). not x.ended) (map (forget the_top) us)) (λ (x : Thread Origin). not x.ended) refl going_step ts
 
 -- the verdict reads names and the weight alone
 stop_forgotten : (s : Stand Origin) (e : PlainEvent) (a : Asked (List Touched)) → stop_at_reach (forgotten_in the_top s) e a ≡ stop_at_reach s e a
@@ -58,7 +41,7 @@ shown f taken p h = record {
   live = live_stands (code_on f) the_top taken p f.pair h;
   threads = ap (λ (x : Pair Origin). x.stand.threads) (sym h);
   names = λ i. ap (λ (x : Pair Origin). name_in (slice_get x.stand.threads i)) (sym h) ∙ name_forgotten the_top p.stand.threads i;
-  going = ap (λ (x : Pair Origin). not_ended x.stand) (sym h) ∙ going_forgotten p.stand.threads;
+  going = ap (λ (x : Pair Origin). not_ended x.stand) (sym h) ∙ live_count the_top p.stand.threads;
   queue = ap (λ (x : Pair Origin). x.stand.queue) (sym h);
   transitions = ap (λ (x : Pair Origin). x.stand.transitions) (sym h);
   weight = ap (λ (x : Pair Origin). x.stand.weight) (sym h);

@@ -1,6 +1,7 @@
 -- A transition doesn't read what an ended b-thread ran and received.
 use Rattle.std.proofs.Common.{◌≡◌, ℕ, zero, suc, Bool, true, false, List, [], ◌∷◌, ◌++◌, map, refl, sym, ap, ◌∙◌, Option, Some, None, Ok, if◌then◌else◌, ◌==◌, slice_get, option_map, append_assoc, arith}
 use Rattle.std.specs.List.{cons_option}
+use Rattle.std.proofs.lemmas.Option.{slice_get-map}
 use Rattle.js_data.specs.Event.{PlainEvent}
 use Rattle.bp_log.specs.declared.trace.Line.{Line}
 use Rattle.bp_run.specs.Bodies.{Code}
@@ -66,11 +67,6 @@ touched_all o e (x ∷ xs) ts us h =
 
 -- ---- entries
 
-pub got : {A B : Type 0} (f : A → B) (xs : List A) (i : ℕ) → slice_get (map f xs) i ≡ option_map f (slice_get xs i)
-got f [] i = refl
-got f (x ∷ xs) zero = refl
-got f (x ∷ xs) (suc i) = got f xs i
-
 same_number : (m : ℕ) (b : Bool) (x : Option Touched) (y : Touched) → (m == m) ≡ b → (if b then Some y else x) ≡ None → ⊥
 same_number m true x y e h = cc
 same_number m false x y e h = absurd (grind (arith, e))
@@ -109,7 +105,7 @@ same_entries l o s e front (Moves i ∷ rest) h =
     (same_entries l o s e (front ++ Moves i ∷ []) rest (h ∙ ap (λ (xs : List Touched). Ok xs) (sym (append_assoc front (Moves i ∷ []) rest))))
 same_entries l o s e front (Interrupts i ∷ rest) h =
     ap (λ (b : Option _). Stops i b ∷ map (entry_of l (forgotten_in o s) e) rest)
-    (ap (handler_body l e) (got (forget o) s.threads i) ∙ same_body l o e (slice_get s.threads i) (λ u k. reached_goes l s e front (Interrupts i) rest u h k))
+    (ap (handler_body l e) (slice_get-map (forget o) s.threads i) ∙ same_body l o e (slice_get s.threads i) (λ u k. reached_goes l s e front (Interrupts i) rest u h k))
     ∙ ap (λ (ns : List (Entry _)). entry_of l s e (Interrupts i) ∷ ns)
     (same_entries l o s e (front ++ Interrupts i ∷ []) rest (h ∙ ap (λ (xs : List Touched). Ok xs) (sym (append_assoc front (Interrupts i ∷ []) rest))))
 

@@ -1,8 +1,9 @@
 -- An event reaches b-threads, one after the other.
 use Rattle.std.proofs.lemmas.List.Edits.{length-remove}
 use Rattle.std.proofs.Common.{◌≡◌, ℕ, suc, ◌+◌, ◌<◌, ◌≤◌, Bool, true, false, not, ◌&&◌, List, [], ◌∷◌, ◌++◌, length, map, refl, sym, ap, ◌∙◌, subst, arith, Option, Some, None, is_none, is_some, slice_get, append_assoc, append-nil, if◌then◌else◌, IfSome}
-use Rattle.std.proofs.lemmas.Bool.{and_right}
-use Rattle.std.proofs.lemmas.Option.{same_Some, none-some}
+use Rattle.std.proofs.lemmas.Bool.{and_right, and_left}
+use Rattle.std.proofs.lemmas.Option.{same_Some, none-some, slice_get_within}
+use Rattle.std.proofs.lemmas.List.{length-map}
 use Rattle.js_data.specs.Event.{PlainEvent}
 use Rattle.js_value.specs.Value.{PlainSet}
 use Rattle.js_program.specs.PlainProgram.{PlainProgram}
@@ -32,9 +33,10 @@ use Rattle.bp_floor.specs.Kept.{Running, IsKept, AreFrom, Rises, runs_in}
 use Rattle.bp_floor.specs.Returning.{IsSameBut}
 use Rattle.bp_floor.specs.Touching.{IsStanding, IsTouch, AreStanding, moves_in, moved_pair, CanTouch, IsTouchedBy}
 use Rattle.bp_floor.proofs.Lists.{change_map, change_map_at}
-use Rattle.bp_floor.proofs.Places.{where_like, where_more0, rises_below, stated_changed0, own_changed0, get_below, waits_swept, ready_swept, stated_swept, own_swept, forgets_swept, swept_length}
+use Rattle.bp_floor.proofs.Places.{where_like, where_more0, rises_below, stated_changed0, own_changed0, waits_swept, ready_swept, stated_swept, own_swept, forgets_swept}
 use Rattle.bp_floor.proofs.Turns.{from_zero}
 use Rattle.bp_floor.proofs.Returns.{same_but, same_then}
+use Rattle.bp_floor.proofs.Weaving.{from_moves}
 
 -- Where reaching stands: these are left.
 pub record Touching (r : Running) (e : PlainEvent) (all xs : List Touched) (old now : Board) : Type 0 where
@@ -50,11 +52,6 @@ pub record Touching (r : Running) (e : PlainEvent) (all xs : List Touched) (old 
   pub standing : AreStanding xs now.seats
   pub rises : Rises (map number_in xs)
   pub same : IsSameBut old now
-
-from_moves : (n : ℕ) (xs : List Touched) → AreFrom n (map number_in xs) → AreFrom n (moves_in xs)
-from_moves n [] h = tt
-from_moves n (Moves i ∷ xs) h = (h.0, from_moves n xs h.1)
-from_moves n (Interrupts i ∷ xs) h = from_moves n xs h.1
 
 pub rises_moves : (xs : List Touched) → Rises (map number_in xs) → Rises (moves_in xs)
 rises_moves [] h = tt
@@ -103,10 +100,6 @@ pub stopped_some : (o : Option (Outcome PlainSet)) → is_stopped o ≡ true →
 stopped_some None h = absurd (cc)
 stopped_some (Some x) h = (refl, x, refl)
 
-false_ready : (b c d : Bool) → c ≡ false → ((b && c) && d) ≡ false
-false_ready true c d h = rw h refl
-false_ready false c d h = refl
-
 -- one that stands does not wait
 stands_quiet : (ss : List PlainSeat) (i : ℕ) (s : PlainSeat) (k : IsStanding (slice_get ss i)) → slice_get ss i ≡ Some s → (s.ended ≡ false) × (s.job ≡ Some k.job) × (is_waiting s ≡ false) × (is_ready s ≡ false)
 stands_quiet ss i s k h =
@@ -114,7 +107,7 @@ stands_quiet ss i s k h =
     let j : s.job ≡ Some k.job = ap (λ (x : PlainSeat). x.job) (sym e) ∙ k.is_job in
     let n = (stopped_some (plain_job k.job).outcome k.stopped).0 in
     let o : is_none (outcome_in s.job) ≡ false = ap (λ (x : Option Job). is_none (outcome_in x)) j ∙ n in
-    (ap (λ (x : PlainSeat). x.ended) (sym e) ∙ k.going, j, and_right (not s.ended) (is_none (outcome_in s.job)) o, false_ready (not s.ended) (is_none (outcome_in s.job)) (is_some s.job) o)
+    (ap (λ (x : PlainSeat). x.ended) (sym e) ∙ k.going, j, and_right (not s.ended) (is_none (outcome_in s.job)) o, and_left (not s.ended && is_none (outcome_in s.job)) (is_some s.job) (and_right (not s.ended) (is_none (outcome_in s.job)) o))
 
 if_none : (b : Bool) → let o : Option (Live PlainSet) = if b then None else None in o ≡ None
 if_none true = refl
@@ -155,7 +148,7 @@ touch_moves r e i all xs old now new h t =
     let g = h.0.given in
     let put : PlainSeat → PlainSeat = λ s. record s { job = Some g } in
     let k = t.standing.0 in
-    let low = get_below now.seats i k.seat k.is_seat in
+    let low = slice_get_within now.seats i k.seat k.is_seat in
     let outcome : (plain_job g).outcome ≡ None = ap (λ (x : PlainJob). x.outcome) h.0.plain in
     let len : length (change put i now.seats) ≡ length now.seats = length-change put i now.seats in
     let few = t.few in
@@ -193,7 +186,7 @@ touch_interrupts : (r : Running) (e : PlainEvent) (i : ℕ) (all xs : List Touch
 touch_interrupts r e i all xs old now new h t =
     let end : PlainSeat → PlainSeat = λ s. record s { ended = true } in
     let k = t.standing.0 in
-    let low = get_below now.seats i k.seat k.is_seat in
+    let low = slice_get_within now.seats i k.seat k.is_seat in
     let len : length (change end i now.seats) ≡ length now.seats = length-change end i now.seats in
     let few = t.few in
     let room = t.room in
@@ -270,7 +263,7 @@ pub stepped_keeps : (r : Running) (e : PlainEvent) (place : Option ℕ) (xs : Li
 stepped_keeps r e place xs wave old mid new t there s bench q a h =
     let few = t.few in
     let room = t.room in
-    let len = swept_length mid.seats in
+    let len = length-map mid.seats swept in
     let left = fewer_left place mid.queue (subst (λ (es : List PlainEvent). IfSome place (λ i. i < length es)) (sym t.same.queue) there) in
     record {
       own = subst (λ (ss : List PlainSeat). AreOwn r.program r.options 0 ss) (sym s) (own_swept r.program r.options 0 mid.seats t.own);

@@ -21,7 +21,7 @@ use Rattle.bp_thread.specs.declared.job.Job.{Job}
 use Rattle.bp_floor.specs.Returning.{IsBack, IsSameBut, AreAllBack, ran_in, entry_in, turned_apart}
 use Rattle.bp_floor.proofs.Returns.{filled_length}
 use Rattle.bp_floor.proofs.Widening.{merged_unstated}
-use Rattle.bp_floor.proofs.Places.{waits_swept, ready_swept, stated_swept, own_swept, forgets_swept, swept_length}
+use Rattle.bp_floor.proofs.Places.{waits_swept, ready_swept, stated_swept, own_swept, forgets_swept}
 
 -- a body finds its b-thread wherever the rest stands
 ran_standing : (r : Running) (s : Stand Origin) (n : Entry Origin) → ran_in r s.threads n ≡ unstated_ran (ran (code_of r.program r.options) s n)
@@ -83,7 +83,7 @@ from_zero (n ∷ ns) = (omega arith, from_zero ns)
 pub kept_swept : (r : Running) (first : ℕ) (b new : Board) → IsKept r first b → new ≡ record b { seats = map swept b.seats } → IsKept r 0 new
 kept_swept r first b new k h =
     let few = k.few in
-    let len = swept_length b.seats in
+    let len = length-map b.seats swept in
     subst (λ (x : Board). IsKept r 0 x) (sym h) (record {
       own = own_swept r.program r.options 0 b.seats k.own;
       waiting = waits_swept 0 b.seats ∙ k.waiting;

@@ -1,5 +1,7 @@
 -- Those that go on have not ended.
-use Rattle.std.proofs.Common.{◌≡◌, ℕ, zero, suc, ◌+◌, ◌≤◌, Bool, true, false, List, [], ◌∷◌, map, refl, sym, ap, ◌∙◌, subst, arith, Some, None, is_none, slice_get, if◌then◌else◌}
+use Rattle.std.proofs.Common.{◌≡◌, ℕ, zero, suc, ◌+◌, ◌≤◌, Bool, true, false, List, [], ◌∷◌, map, refl, sym, ap, ◌∙◌, subst, arith, Some, None, is_none, slice_get, if◌then◌else◌, not}
+use Rattle.std.proofs.Math.Nat.{zero-add}
+use Rattle.std.proofs.lemmas.Bool.{not-true, and_parts}
 use Rattle.js_meaning.specs.Bodies.{Origin, the_top}
 use Rattle.bp_log.specs.declared.trace.Line.{Line}
 use Rattle.bp_run.specs.Configuration.{Thread, change}
@@ -13,7 +15,7 @@ use Rattle.bp_floor.specs.Seating.{PlainSeat, seated, outcome_in, is_waiting, wh
 use Rattle.bp_floor.specs.Forgetting.{forget, forgotten, AreGoing}
 use Rattle.bp_floor.specs.Kept.{AreFrom, runs_in}
 use Rattle.bp_floor.specs.Lending.{fill, filled}
-use Rattle.bp_floor.proofs.Places.{where_above, zero_add, open_one}
+use Rattle.bp_floor.proofs.Places.{where_above}
 use Rattle.bp_floor.proofs.Forgetting.{turn_stands, forget_ended_at}
 
 -- each of these numbers is that of one that is so
@@ -48,14 +50,14 @@ all_at f n (x ∷ ss) =
 
 seat_going : (ss : List PlainSeat) (i : ℕ) → ((s : PlainSeat) → slice_get ss i ≡ Some s → is_waiting s ≡ true) → (t : Thread Origin) → slice_get (map seated ss) i ≡ Some t → t.ended ≡ false
 seat_going [] i h t e = absurd (cc)
-seat_going (s ∷ ss) zero h t e = let f : seated s ≡ t = cc in ap (λ (x : Thread Origin). x.ended) (sym f) ∙ open_one s.ended (is_none (outcome_in s.job)) (h s refl)
+seat_going (s ∷ ss) zero h t e = let f : seated s ≡ t = cc in ap (λ (x : Thread Origin). x.ended) (sym f) ∙ not-true s.ended (and_parts (not s.ended) (is_none (outcome_in s.job)) (h s refl)).0
 seat_going (s ∷ ss) (suc i) h t e = seat_going ss i h t e
 
 all_going : (ss : List PlainSeat) (ns : List (Entry Origin)) → AllAt is_waiting 0 ss (runs_in ns) → AreGoing (map seated ss) ns
 unfolding AllAt
 all_going ss [] h = tt
 all_going ss (The_top ∷ ns) h = (tt, all_going ss ns h)
-all_going ss (Runs i ∷ ns) h = (seat_going ss i (h.0 i (sym (zero_add i))), all_going ss ns h.1)
+all_going ss (Runs i ∷ ns) h = (seat_going ss i (h.0 i (sym (zero-add i))), all_going ss ns h.1)
 all_going ss (Stops i b ∷ ns) h = (tt, all_going ss ns h)
 
 -- those that wait go on

@@ -1,8 +1,9 @@
 -- Two rising lists of numbers are woven into the touches that they were taken from.
-use Rattle.std.proofs.Common.{◌≡◌, ℕ, zero, suc, ◌+◌, ◌<◌, true, false, List, [], ◌∷◌, ◌++◌, length, map, drop, refl, sym, ap, ◌∙◌, arith, append_assoc, Option, Some, None, slice_get, nat_lt}
+use Rattle.std.proofs.Common.{◌≡◌, ℕ, zero, suc, ◌+◌, ◌<◌, true, false, List, [], ◌∷◌, ◌++◌, length, map, drop, refl, sym, ap, ◌∙◌, arith, append_assoc, Option, Some, None, slice_get, nat_lt, add-one}
 use Rattle.std.specs.List.{filter_map}
 use Rattle.std.proofs.lemmas.Bool.{lt-ltb, le-ltb}
-use Rattle.std.proofs.lemmas.Option.{none-some}
+use Rattle.std.proofs.lemmas.Option.{none-some, same_Some}
+use Rattle.js_data.proofs.Shared.{drop_next}
 use Rattle.bp_run.specs.Choosing.{Touched}
 use Rattle.bp_run.specs.Choosing.Touched.{Moves, Interrupts}
 use Rattle.bp_run.specs.Numbers.{number_in}
@@ -11,18 +12,12 @@ use Rattle.bp_select.specs.Answers.{move_of, interrupt_of, IsReach}
 use Rattle.bp_floor.specs.Kept.{AreFrom, Rises}
 use Rattle.bp_floor.specs.Going.{first_touch}
 
-drop_next : (m : ℕ) (xs : List ℕ) (x : ℕ) (ys : List ℕ) → drop m xs ≡ x ∷ ys → drop (suc m) xs ≡ ys
-drop_next zero [] x ys h = absurd (cc)
-drop_next zero (a ∷ xs) x ys h = cc
-drop_next (suc m) [] x ys h = absurd (cc)
-drop_next (suc m) (a ∷ xs) x ys h = drop_next m xs x ys h
-
 get_drop : (m : ℕ) (xs : List ℕ) → slice_get xs m ≡ slice_get (drop m xs) 0
 get_drop zero xs = refl
 get_drop (suc m) [] = refl
 get_drop (suc m) (x ∷ xs) = get_drop m xs
 
-from_moves : (n : ℕ) (xs : List Touched) → AreFrom n (map number_in xs) → AreFrom n (filter_map move_of xs)
+pub from_moves : (n : ℕ) (xs : List Touched) → AreFrom n (map number_in xs) → AreFrom n (filter_map move_of xs)
 from_moves n [] h = tt
 from_moves n (Moves i ∷ xs) h = (h.0, from_moves n xs h.1)
 from_moves n (Interrupts i ∷ xs) h = from_moves n xs h.1
@@ -75,9 +70,6 @@ weaves_start reach = record {
   };
 }
 
-some_same : (x y : Touched) → Some x ≡ Some y → x ≡ y
-some_same x y h = cc
-
 next_is : (moved interrupted : List ℕ) (m i : ℕ) (x : Touched) (rest : List Touched) → Rises (map number_in (x ∷ rest)) → drop m moved ≡ filter_map move_of (x ∷ rest) → drop i interrupted ≡ filter_map interrupt_of (x ∷ rest) →
     first_touch (slice_get moved m) (slice_get interrupted i) ≡ Some x
 next_is moved interrupted m i x rest r a b =
@@ -90,13 +82,13 @@ weave_moves : (moved interrupted : List ℕ) (m i n k : ℕ) (done xs : List Tou
     Weave moved interrupted (suc m) i (suc n) (done ++ Moves k ∷ []) xs
 weave_moves moved interrupted m i n k done xs low f [] all c r a b = absurd (omega (arith, low, c))
 weave_moves moved interrupted m i n k done xs low f (x ∷ rest) all c r a b =
-    let e : x ≡ Moves k = some_same x (Moves k) (sym (next_is moved interrupted m i x rest r a b) ∙ f) in
+    let e : x ≡ Moves k = same_Some x (Moves k) (sym (next_is moved interrupted m i x rest r a b) ∙ f) in
     record {
       rest = rest;
       all = append_assoc done (Moves k ∷ []) rest ∙ ap (λ (y : Touched). done ++ y ∷ rest) (sym e) ∙ all;
       counted = omega (arith, c);
       rises = r.1;
-      moves = drop_next m moved k (filter_map move_of rest) (a ∙ ap (λ (y : Touched). filter_map move_of (y ∷ rest)) e);
+      moves = rw add-one at (drop_next moved m k (filter_map move_of rest) (a ∙ ap (λ (y : Touched). filter_map move_of (y ∷ rest)) e)).2;
       stops = b ∙ ap (λ (y : Touched). filter_map interrupt_of (y ∷ rest)) e;
     }
 
@@ -105,14 +97,14 @@ weave_interrupts : (moved interrupted : List ℕ) (m i n k : ℕ) (done xs : Lis
     Weave moved interrupted m (suc i) (suc n) (done ++ Interrupts k ∷ []) xs
 weave_interrupts moved interrupted m i n k done xs low f [] all c r a b = absurd (omega (arith, low, c))
 weave_interrupts moved interrupted m i n k done xs low f (x ∷ rest) all c r a b =
-    let e : x ≡ Interrupts k = some_same x (Interrupts k) (sym (next_is moved interrupted m i x rest r a b) ∙ f) in
+    let e : x ≡ Interrupts k = same_Some x (Interrupts k) (sym (next_is moved interrupted m i x rest r a b) ∙ f) in
     record {
       rest = rest;
       all = append_assoc done (Interrupts k ∷ []) rest ∙ ap (λ (y : Touched). done ++ y ∷ rest) (sym e) ∙ all;
       counted = omega (arith, c);
       rises = r.1;
       moves = a ∙ ap (λ (y : Touched). filter_map move_of (y ∷ rest)) e;
-      stops = drop_next i interrupted k (filter_map interrupt_of rest) (b ∙ ap (λ (y : Touched). filter_map interrupt_of (y ∷ rest)) e);
+      stops = rw add-one at (drop_next interrupted i k (filter_map interrupt_of rest) (b ∙ ap (λ (y : Touched). filter_map interrupt_of (y ∷ rest)) e)).2;
     }
 
 weave_ends : (moved interrupted : List ℕ) (m i n : ℕ) → n < length moved + length interrupted → first_touch (slice_get moved m) (slice_get interrupted i) ≡ None →

@@ -18,6 +18,7 @@ use Rattle.bp_arbiter.specs.Arbiters.{PlainArbiter, options_in}
 use Rattle.bp_serve.specs.Pages.{Shows, ShowsFront}
 use Rattle.bp_log.specs.declared.lines.PrintError.{PrintError}
 use Rattle.bp_log.specs.declared.lines.PrintError.TheVariants as print
+use Rattle.bp_log.proofs.Complete.{verdict_by_last}
 use Rattle.bp_serve.proofs.Pieces.{lines_text-append, lines_none, shows_page, shows_on, front_on}
 use Rattle.bp_follow.specs.declared.fault.ReplayFault.{ReplayFault}
 use Rattle.bp_follow.specs.declared.fault.ReplayFault.TheVariants as fault
@@ -26,7 +27,6 @@ use Rattle.bp_follow.specs.Courses.{Course, code_in, led, IsTold, text_in, Begin
 use Rattle.bp_follow.specs.Endings.{Parts, EndsAt}
 use Rattle.bp_follow.specs.Following.{first_of, IsOnWay, onto, GoesOn, Makes, Followed, Shown, Finishes, Tells}
 use Rattle.bp_follow.proofs.Tales.{one_more, end_told}
-use Rattle.bp_follow.proofs.Shows.{verdict_last}
 
 -- ---- what was read
 
@@ -151,18 +151,12 @@ module _ (first c : Course) (program : c.program ≡ first.program) (options : c
 
 -- ---- the end
 
-end_at : (rs : List Record) (r : Record) (v : Verdict) → verdict_of (rs ++ r ∷ []) ≡ Some v → r ≡ End v
-end_at [] (In j e) v h = absurd (cc)
-end_at [] (Bad j n) v h = absurd (cc)
-end_at [] (Eof j) v h = absurd (cc)
-end_at [] (Sel e) v h = absurd (cc)
-end_at [] (End u) v h = let e : u ≡ v = cc in ap (λ (x : Verdict). End x) e
-end_at (In j e ∷ rs) r v h = end_at rs r v h
-end_at (Bad j n ∷ rs) r v h = end_at rs r v h
-end_at (Eof j ∷ rs) r v h = end_at rs r v h
-end_at (Sel e ∷ rs) r v h = end_at rs r v h
-end_at (End u ∷ []) r v h = end_at [] r v h
-end_at (End u ∷ s ∷ rs) r v h = end_at (s ∷ rs) r v h
+one_end : (r : Record) (v : Verdict) → verdict_of (r ∷ []) ≡ Some v → r ≡ End v
+one_end (In j e) v h = absurd (cc)
+one_end (Bad j n) v h = absurd (cc)
+one_end (Eof j) v h = absurd (cc)
+one_end (Sel e) v h = absurd (cc)
+one_end (End u) v h = let e : u ≡ v = cc in ap (λ (x : Verdict). End x) e
 
 goes_records : (c : Course) (r : Record) (d : Configuration Origin) (a : PlainArbiter) → GoesOn c r d a → a.records ≡ c.records ++ r ∷ []
 goes_records c (In j e) d a g = g.records
@@ -173,14 +167,14 @@ goes_records c (End v) d a g = g
 
 -- where there is a verdict now, the record said it
 pub said_end : (c : Course) (r : Record) (a : PlainArbiter) (v : Verdict) → Makes c r a → verdict_of a.records ≡ Some v → r ≡ End v
-said_end c r a v m h = end_at c.records r v (ap (λ (rs : List Record). verdict_of rs) (sym (goes_records c r m.0 a m.2)) ∙ h)
+said_end c r a v m h = one_end r v (sym (verdict_by_last c.records r) ∙ ap (λ (rs : List Record). verdict_of rs) (sym (goes_records c r m.0 a m.2)) ∙ h)
 
 goes_way : (c : Course) (r : Record) (d : Configuration Origin) (a : PlainArbiter) → GoesOn c r d a → verdict_of a.records ≡ None → IsOnWay (onto c r d) c.told.stand.lines a
 goes_way c (In j e) d a g h = g
 goes_way c (Bad j n) d a g h = g
 goes_way c (Eof j) d a g h = g
 goes_way c (Sel e) d a g h = g
-goes_way c (End v) d a g h = absurd (let k = sym h ∙ ap (λ (rs : List Record). verdict_of rs) g ∙ verdict_last c.records v in cc)
+goes_way c (End v) d a g h = absurd (let k : None ≡ Some v = sym h ∙ ap (λ (rs : List Record). verdict_of rs) g ∙ verdict_by_last c.records (End v) in cc)
 
 -- and else the run goes on
 pub makes_way : (c : Course) (r : Record) (a : PlainArbiter) (m : Makes c r a) → verdict_of a.records ≡ None → IsOnWay (onto c r m.0) c.told.stand.lines a
@@ -192,7 +186,7 @@ ended_after c (In j e) a s m h = refl
 ended_after c (Bad j n) a s m h = refl
 ended_after c (Eof j) a s m h = refl
 ended_after c (Sel e) a s m h = refl
-ended_after c (End v) a s m h = absurd (let k = sym h ∙ ap (λ (rs : List Record). verdict_of rs) m.2 ∙ verdict_last c.records v in cc)
+ended_after c (End v) a s m h = absurd (let k : None ≡ Some v = sym h ∙ ap (λ (rs : List Record). verdict_of rs) m.2 ∙ verdict_by_last c.records (End v) in cc)
 
 pub lines_after : (s : Stage) (r : Record) → (after s r).lines ≡ s.lines + 1
 lines_after s (In j e) = refl

@@ -2,13 +2,15 @@
 use Rattle.std.proofs.Common.{◌≡◌, inl, inr, true, false, List, [], ◌∷◌, ◌++◌, refl, ap, sym, ◌∙◌, subst, append_assoc, Option, Some, None, Ok, Err, IsSome}
 use Rattle.std.specs.Prelude.{Result, OnOk}
 use Rattle.std.proofs.lemmas.List.{append_cancel_left}
+use Rattle.js_data.proofs.Shared.{none_of}
 use Rattle.js_meaning.specs.Bodies.{Origin}
-use Rattle.bp_log.specs.Records.{is_complete, verdict_of}
+use Rattle.bp_log.specs.Records.{verdict_of}
 use Rattle.bp_log.specs.declared.record.Record.{Record}
-use Rattle.bp_log.specs.declared.record.Record.TheVariants.{In, Bad, Eof, Sel, End}
+use Rattle.bp_log.specs.declared.record.Record.TheVariants.{End}
 use Rattle.bp_log.specs.declared.trace.Line.{Line}
 use Rattle.bp_log.specs.declared.trace.Line.TheVariants as trace
 use Rattle.bp_log.specs.declared.verdict.Verdict.{Verdict}
+use Rattle.bp_log.proofs.Complete.{verdict_complete, verdict_by_last}
 use Rattle.bp_run.specs.Configuration.{Configuration}
 use Rattle.bp_run.specs.Settling.{Pair}
 use Rattle.bp_run.specs.Story.{story}
@@ -23,24 +25,6 @@ use Rattle.bp_follow.specs.Courses.{Course, code_in}
 use Rattle.bp_follow.specs.Following.{Runs, IsOnWay, StaysAt, IsThere, IsSaid}
 use Rattle.bp_follow.proofs.Tales.{one_more, end_told}
 use Rattle.bp_follow.proofs.Steps.{recounts_course}
-
-verdict_none : (rs : List Record) → is_complete rs ≡ false → verdict_of rs ≡ None
-verdict_none [] h = refl
-verdict_none (In j e ∷ rs) h = verdict_none rs h
-verdict_none (Bad j n ∷ rs) h = verdict_none rs h
-verdict_none (Eof j ∷ rs) h = verdict_none rs h
-verdict_none (Sel e ∷ rs) h = verdict_none rs h
-verdict_none (End v ∷ []) h = absurd (cc)
-verdict_none (End v ∷ r ∷ rs) h = verdict_none (r ∷ rs) h
-
-pub verdict_last : (rs : List Record) (v : Verdict) → verdict_of (rs ++ End v ∷ []) ≡ Some v
-verdict_last [] v = refl
-verdict_last (In j e ∷ rs) v = verdict_last rs v
-verdict_last (Bad j n ∷ rs) v = verdict_last rs v
-verdict_last (Eof j ∷ rs) v = verdict_last rs v
-verdict_last (Sel e ∷ rs) v = verdict_last rs v
-verdict_last (End w ∷ []) v = refl
-verdict_last (End w ∷ r ∷ rs) v = verdict_last (r ∷ rs) v
 
 -- the arbiter after settling and the taking of its lines, of which those of the course are printed
 pub record Settled (c : Course) (more : List Line) (a : PlainArbiter) (said : List Line) : Type 0 where
@@ -80,7 +64,7 @@ module _ (c : Course) (taken : List Line) (a mid b : PlainArbiter) (lines said :
   settled_on : mid.records ≡ a.records → Settled c w.more b said
   settled_on same =
       let rs : mid.records ≡ c.records = same ∙ w.records in
-      let none : verdict_of b.records ≡ None = ap verdict_of (records ∙ rs) ∙ verdict_none c.records (w.runs).going in
+      let none : verdict_of b.records ≡ None = ap verdict_of (records ∙ rs) ∙ none_of (verdict_of c.records) (verdict_complete c.records ∙ (w.runs).going) in
       let rest : mid.phase ≡ Rest = at_rest_phase mid.phase busy (s.unlent w.unlent) (λ o. none_or (verdict_of b.records) none (is_said.over (phase ∙ o))) in
       let whole : c.told.stand.lines ≡ taken ++ lines =
       exact taken here.0 here.1 (ap is_idle rest) c.told (recounts_course c mid runs_mid rs) ∙ ap (λ (ls : List Line). taken ++ ls) lines_are in
@@ -108,12 +92,13 @@ module _ (c : Course) (taken : List Line) (a mid b : PlainArbiter) (lines said :
       ∙ ap (λ (x : Configuration Origin). x.stand.lines) ends.1
       ∙ ap (λ (ls : List Line). ls ++ trace.Verdict v ∷ []) w.lines
       ∙ append_assoc taken w.more (trace.Verdict v ∷ []) in
+      let last : verdict_of b.records ≡ Some v = ap verdict_of (records ∙ rs) ∙ verdict_by_last c.records (End v) in
       record {
         there = record {
           runs = runs_b;
           stays = subst (λ (f : Phase). StaysAt c b f) (sym (phase ∙ k.over)) (v, records ∙ rs, verdict);
         };
-        said_is = is_said.ended (some_at (ap verdict_of (records ∙ rs) ∙ verdict_last c.records v)) w.more (trace.Verdict v) (append_cancel_left taken lines (w.more ++ trace.Verdict v ∷ []) whole);
+        said_is = is_said.ended (some_at last) w.more (trace.Verdict v) (append_cancel_left taken lines (w.more ++ trace.Verdict v ∷ []) whole);
       }
     where
       some_at : {x : Option Verdict} {u : Verdict} → x ≡ Some u → IsSome x

@@ -1,7 +1,8 @@
 -- One record of a log, followed.
-use Rattle.std.proofs.Common.{◌≡◌, ℕ, ◌<◌, Bool, true, false, ◌&&◌, nat_eq, nat_lt, List, [], ◌∷◌, ◌++◌, length, refl, ap, sym, ◌∙◌, subst, arith, Option, Some, None, Ok, Err, length-append}
+use Rattle.std.proofs.Common.{◌≡◌, ℕ, ◌<◌, true, false, ◌&&◌, nat_eq, nat_lt, List, [], ◌∷◌, ◌++◌, length, refl, ap, sym, ◌∙◌, subst, arith, Option, Some, None, Ok, Err, length-append}
 use Rattle.std.specs.Prelude.{Result, option_to_list}
 use Rattle.std.specs.List.{list_any}
+use Rattle.std.proofs.lemmas.Bool.{false_from_ne_true}
 use Rattle.js_data.proofs.Shared.{one_answer}
 use Rattle.js_meaning.specs.Bodies.{Origin}
 use Rattle.bp_log.specs.Records.{is_complete}
@@ -12,12 +13,12 @@ use Rattle.bp_log.specs.declared.record.Record.{Record}
 use Rattle.bp_log.specs.declared.record.Record.TheVariants.{In, Bad, Eof, Sel, End}
 use Rattle.bp_log.specs.declared.trace.Line.{Line}
 use Rattle.bp_log.specs.declared.verdict.Verdict.{Verdict}
-use Rattle.bp_log.proofs.Complete.{incomplete_on}
+use Rattle.bp_log.proofs.Complete.{complete_by_last}
 use Rattle.bp_run.specs.Configuration.{Configuration}
 use Rattle.bp_run.specs.Settling.{Entry, Pair}
 use Rattle.bp_run.specs.Story.{Next, has_room, over_with, record_of, story}
 use Rattle.bp_run.specs.Story.Next.{Ends, Selects, Waits}
-use Rattle.bp_run.proofs.Stories.{story_end}
+use Rattle.bp_run.proofs.Stories.{story_end, verdict_next}
 use Rattle.bp_floor.specs.declared.phase.Phase.{Phase}
 use Rattle.bp_floor.specs.declared.phase.Phase.TheVariants.{Ready, Lent, Rest, Over}
 use Rattle.bp_floor.specs.Floors.{is_idle}
@@ -33,7 +34,7 @@ use Rattle.bp_follow.specs.declared.fault.ReplayFault.{ReplayFault}
 use Rattle.bp_follow.specs.declared.fault.ReplayFault.TheVariants as fault
 use Rattle.bp_follow.specs.Courses.{Course, code_in, coming, led}
 use Rattle.bp_follow.specs.Following.{Runs, IsOnWay, StaysAt, IsThere, IsSomewhere, IsSaidBy, enters, onto, Makes, Compared, Followed}
-use Rattle.bp_follow.proofs.Tales.{one_record, one_more, more_lines, MakesOther, leads_nowhere, leads_nowhere_over, verdict_next, reads_after}
+use Rattle.bp_follow.proofs.Tales.{one_record, one_more, more_lines, MakesOther, leads_nowhere, leads_nowhere_over, reads_after}
 
 -- ---- where an arbiter is
 
@@ -64,17 +65,13 @@ reading_at c a t e =
     let s = w.1.1 in
     ap (λ (x : Configuration Origin). x.reading) (sym (told_at c a s.told t.runs w.0 s.story)) ∙ s.reading
 
-not_any : (b : Bool) → (b ≡ true → ⊥) → false ≡ b
-not_any true h = absurd (h refl)
-not_any false h = refl
-
 -- an injector that isn't there isn't read
 pub unread_above : (a : PlainArbiter) (n j : ℕ) → n ≡ (options_in a).injectors → IsSomewhere a → a.phase ≡ Rest → (j < n → ⊥) → false ≡ list_any (nat_eq j) a.reading
 unread_above a n j e w r h =
     let c = w.0 in
     let t = w.1 in
-    not_any (list_any (nat_eq j) a.reading)
-    (λ k. h (subst (λ (m : ℕ). j < m) (ap (λ o. o.injectors) (sym (t.runs).options) ∙ sym e) ((t.runs).reads j (ap (λ (xs : List ℕ). list_any (nat_eq j) xs) (reading_at c a t r) ∙ k))))
+    sym (false_from_ne_true (list_any (nat_eq j) a.reading)
+    (λ k. h (subst (λ (m : ℕ). j < m) (ap (λ o. o.injectors) (sym (t.runs).options) ∙ sym e) ((t.runs).reads j (ap (λ (xs : List ℕ). list_any (nat_eq j) xs) (reading_at c a t r) ∙ k)))))
 
 -- what may enter is seen by the arbiter
 pub enters_same : (c : Course) (a : PlainArbiter) (r : Record) → IsThere c a → a.phase ≡ Rest → (a.broken ≡ false → is_idle a.phase ≡ true → (d : Configuration Origin) → Recounts a d → Shows (stand_in a) d.stand) →
@@ -113,7 +110,7 @@ module _ (c : Course) (a b : PlainArbiter) (r : Record) (runs : Runs c a) (code 
           code = code ∙ runs.code;
           options = options ∙ runs.options;
           told = story_is;
-          going = incomplete_on c.records r h;
+          going = complete_by_last c.records r ∙ h;
           reads = reads_after (code_in c) c.options c.options.injectors c.told told r led_is runs.reads;
         };
         records = records;

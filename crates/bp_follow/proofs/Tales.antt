@@ -12,12 +12,14 @@ use Rattle.bp_log.specs.declared.trace.Line.{Line}
 use Rattle.bp_log.specs.declared.verdict.Verdict.{Verdict}
 use Rattle.bp_log.proofs.Equality.{verdict_path}
 use Rattle.js_data.proofs.SameEvent.{same_event-sound}
+use Rattle.js_data.proofs.Shared.{any_filter, if_false}
 use Rattle.std.proofs.lemmas.List.Folds.{list_any-append}
-use Rattle.std.proofs.lemmas.Bool.{and_right, and_left, or_cases, or_right}
+use Rattle.std.proofs.lemmas.Bool.{and_right, and_left, or_cases, false_from_ne_true}
+use Rattle.std.proofs.lemmas.Option.{cond_some}
 use Rattle.bp_run.specs.Bodies.{Code}
 use Rattle.bp_run.specs.Configuration.{Configuration, below}
 use Rattle.bp_run.specs.Settling.{initial}
-use Rattle.bp_run.specs.Story.{Next, next, next_unless, may_come, is_over, has_room, move, over_with, if_selected, if_ended, after_record, record_of, story_from, story}
+use Rattle.bp_run.specs.Story.{Next, next, may_come, is_over, has_room, move, over_with, if_selected, if_ended, after_record, record_of, story_from, story}
 use Rattle.bp_run.specs.Story.Next.{Ends, Selects, Waits}
 use Rattle.bp_run.proofs.Stories.{story_on, story_prefix}
 use Rattle.bp_follow.specs.Following.{ReadsBelow, enters}
@@ -50,10 +52,6 @@ more_lines l o rs c d r h k =
 
 -- ---- what an injector says
 
-if_none : {A : Type 0} (b : Bool) (x : A) → (b ≡ true → ⊥) → (if b then Some x else None) ≡ None
-if_none true x h = absurd (h refl)
-if_none false x h = refl
-
 -- the run makes another record, or none
 abbrev pub MakesOther : Next → Record → Type 0
 MakesOther x r = (made : Record) → record_of x ≡ Some made → made ≡ r → ⊥
@@ -62,55 +60,41 @@ not_selected : {O S : Type 0} (l : Code O S) (c : Configuration O) (e : PlainEve
 not_selected l c e (Ends v) h = refl
 not_selected l c e Waits h = refl
 not_selected l c e (Selects ch r) h =
-    if_none (same_event e ch.event) (move l c ch r) (λ k. h (Sel ch.event) refl (ap (λ (f : PlainEvent). Sel f) (sym (same_event-sound e ch.event k))))
+    if_false (same_event e ch.event) (Some (move l c ch r)) None
+    (false_from_ne_true (same_event e ch.event) (λ k. h (Sel ch.event) refl (ap (λ (f : PlainEvent). Sel f) (sym (same_event-sound e ch.event k)))))
 
 not_ended : {O : Type 0} (c : Configuration O) (v : Verdict) (x : Next) → MakesOther x (End v) → if_ended c v x ≡ None
 not_ended c v (Selects ch r) h = refl
 not_ended c v Waits h = refl
-not_ended c v (Ends w) h = if_none (same_verdict v w) (over_with c v) (λ k. h (End w) refl (ap (λ (f : Verdict). End f) (sym (verdict_path v w k))))
+not_ended c v (Ends w) h =
+    if_false (same_verdict v w) (Some (over_with c v)) None (false_from_ne_true (same_verdict v w) (λ k. h (End w) refl (ap (λ (f : Verdict). End f) (sym (verdict_path v w k)))))
 
 shut : (a b c : Bool) → (b && c) ≡ false → ((a && b) && c) ≡ false
 shut true b c h = h
 shut false b c h = refl
 
-none_at : {A : Type 0} (b : Bool) (x : A) → b ≡ false → (if b then Some x else None) ≡ None
-none_at true x h = absurd (cc)
-none_at false x h = refl
-
 -- a record that neither enters nor is made leads to nothing
 pub leads_nowhere : {O S : Type 0} (l : Code O S) (o : PlainOptions) (c : Configuration O) (r : Record) → enters c.reading c.stand r ≡ false → MakesOther (next l o c) r → after_record l o c r ≡ None
 unfolding after_record
-leads_nowhere l o c (In j e) h k = none_at _ _ (shut (not (is_over c)) (list_any (nat_eq j) c.reading) (has_room c.stand) h)
-leads_nowhere l o c (Bad j n) h k = none_at _ _ (and_right (not (is_over c)) (list_any (nat_eq j) c.reading) h)
-leads_nowhere l o c (Eof j) h k = none_at _ _ (and_right (not (is_over c)) (list_any (nat_eq j) c.reading) h)
+leads_nowhere l o c (In j e) h k = if_false _ _ None (shut (not (is_over c)) (list_any (nat_eq j) c.reading) (has_room c.stand) h)
+leads_nowhere l o c (Bad j n) h k = if_false _ _ None (and_right (not (is_over c)) (list_any (nat_eq j) c.reading) h)
+leads_nowhere l o c (Eof j) h k = if_false _ _ None (and_right (not (is_over c)) (list_any (nat_eq j) c.reading) h)
 leads_nowhere l o c (Sel e) h k = not_selected l c e (next l o c) k
 leads_nowhere l o c (End v) h k = not_ended c v (next l o c) k
 
-closed : (a b c : Bool) → a ≡ false → ((a && b) && c) ≡ false
-closed false b c h = refl
-closed true b c h = absurd (cc)
-
 over_is : {O : Type 0} (c : Configuration O) (v : Option Verdict) (w : Verdict) → c.stand.verdict ≡ v → v ≡ Some w → not (elim v [ None ↦ false | Some u ↦ true ]) ≡ false
-over_is c None w h e = absurd (cc)
-over_is c (Some v) w h e = refl
+over_is c v w h e = ap (λ (x : Option Verdict). not (elim x [ None ↦ false | Some u ↦ true ])) e
 
 -- after a verdict nothing enters
 pub leads_nowhere_over : {O S : Type 0} (l : Code O S) (o : PlainOptions) (c : Configuration O) (w : Verdict) (r : Record) → c.stand.verdict ≡ Some w → MakesOther (next l o c) r → after_record l o c r ≡ None
 unfolding after_record
-leads_nowhere_over l o c w (In j e) h k = none_at _ _ (closed (not (is_over c)) (list_any (nat_eq j) c.reading) (has_room c.stand) (over_is c c.stand.verdict w refl h))
-leads_nowhere_over l o c w (Bad j n) h k = none_at _ _ (and_left (not (is_over c)) (list_any (nat_eq j) c.reading) (over_is c c.stand.verdict w refl h))
-leads_nowhere_over l o c w (Eof j) h k = none_at _ _ (and_left (not (is_over c)) (list_any (nat_eq j) c.reading) (over_is c c.stand.verdict w refl h))
+leads_nowhere_over l o c w (In j e) h k =
+    if_false _ _ None
+    (and_left (not (is_over c) && list_any (nat_eq j) c.reading) (has_room c.stand) (and_left (not (is_over c)) (list_any (nat_eq j) c.reading) (over_is c c.stand.verdict w refl h)))
+leads_nowhere_over l o c w (Bad j n) h k = if_false _ _ None (and_left (not (is_over c)) (list_any (nat_eq j) c.reading) (over_is c c.stand.verdict w refl h))
+leads_nowhere_over l o c w (Eof j) h k = if_false _ _ None (and_left (not (is_over c)) (list_any (nat_eq j) c.reading) (over_is c c.stand.verdict w refl h))
 leads_nowhere_over l o c w (Sel e) h k = not_selected l c e (next l o c) k
 leads_nowhere_over l o c w (End v) h k = not_ended c v (next l o c) k
-
-verdict_next_at : {O S : Type 0} (l : Code O S) (o : PlainOptions) (c : Configuration O) (v : Option Verdict) (w : Verdict) → v ≡ Some w → next_unless l o c v ≡ Ends w
-verdict_next_at l o c None w h = absurd (cc)
-verdict_next_at l o c (Some v) w h = let e : v ≡ w = cc in ap (λ (x : Verdict). Ends x) e
-
--- a verdict comes next
-pub verdict_next : {O S : Type 0} (l : Code O S) (o : PlainOptions) (c : Configuration O) (w : Verdict) → c.stand.verdict ≡ Some w → next l o c ≡ Ends w
-unfolding next
-verdict_next l o c w h = verdict_next_at l o c c.stand.verdict w h
 
 -- ---- an end
 
@@ -141,21 +125,9 @@ below_any (suc n) j h =
       | inr k ↦ let same = is_it j n k in omega (arith, same)
     ]
 
-any_kept : (q p : ℕ → Bool) (x : ℕ) (xs : List ℕ) (b : Bool) → (list_any q (filter p xs) ≡ true → list_any q xs ≡ true) → list_any q (if b then x ∷ filter p xs else filter p xs) ≡ true → (q x || list_any q xs) ≡ true
-any_kept q p x xs true ih h = elim (or_cases (q x) (list_any q (filter p xs)) h) [ inl k ↦ rw k refl | inr k ↦ or_right (q x) (list_any q xs) (ih k) ]
-any_kept q p x xs false ih h = or_right (q x) (list_any q xs) (ih h)
-
-any_filter : (q p : ℕ → Bool) (xs : List ℕ) → list_any q (filter p xs) ≡ true → list_any q xs ≡ true
-any_filter q p [] h = h
-any_filter q p (x ∷ xs) h = any_kept q p x xs (p x) (any_filter q p xs) h
-
 pub reads_first : {O S : Type 0} (l : Code O S) (n : ℕ) → ReadsBelow n (initial l n)
 unfolding initial
 reads_first l n = below_any n
-
-some_if : {A : Type 0} (b : Bool) (x d : A) → (if b then Some x else None) ≡ Some d → x ≡ d
-some_if true x d h = cc
-some_if false x d h = absurd (cc)
 
 reads_same : {O : Type 0} (n : ℕ) (c d : Configuration O) → c.reading ≡ d.reading → ReadsBelow n c → ReadsBelow n d
 reads_same n c d e h = λ j k. h j (ap (λ (xs : List ℕ). list_any (nat_eq j) xs) e ∙ k)
@@ -166,17 +138,17 @@ reads_fewer n i c d e h = λ j k. h j (any_filter (nat_eq j) (λ k. not (nat_eq 
 sel_reading : {O S : Type 0} (l : Code O S) (c d : Configuration O) (e : PlainEvent) (x : Next) → if_selected l c e x ≡ Some d → c.reading ≡ d.reading
 sel_reading l c d e (Ends v) h = absurd (cc)
 sel_reading l c d e Waits h = absurd (cc)
-sel_reading l c d e (Selects ch r) h = ap (λ (x : Configuration _). x.reading) (some_if (same_event e ch.event) (move l c ch r) d h)
+sel_reading l c d e (Selects ch r) h = ap (λ (x : Configuration _). x.reading) (cond_some (same_event e ch.event) (move l c ch r) d h).1
 
 end_reading : {O : Type 0} (c d : Configuration O) (v : Verdict) (x : Next) → if_ended c v x ≡ Some d → c.reading ≡ d.reading
 end_reading c d v (Selects ch r) h = absurd (cc)
 end_reading c d v Waits h = absurd (cc)
-end_reading c d v (Ends w) h = ap (λ (x : Configuration _). x.reading) (some_if (same_verdict v w) (over_with c v) d h)
+end_reading c d v (Ends w) h = ap (λ (x : Configuration _). x.reading) (cond_some (same_verdict v w) (over_with c v) d h).1
 
 pub reads_after : {O S : Type 0} (l : Code O S) (o : PlainOptions) (n : ℕ) (c d : Configuration O) (r : Record) → after_record l o c r ≡ Some d → ReadsBelow n c → ReadsBelow n d
 unfolding after_record
-reads_after l o n c d (In j e) h b = reads_same n c d (ap (λ (x : Configuration _). x.reading) (some_if (may_come c j && has_room c.stand) _ d h)) b
-reads_after l o n c d (Bad j m) h b = reads_fewer n j c d (ap (λ (x : Configuration _). x.reading) (some_if (may_come c j) _ d h)) b
-reads_after l o n c d (Eof j) h b = reads_fewer n j c d (ap (λ (x : Configuration _). x.reading) (some_if (may_come c j) _ d h)) b
+reads_after l o n c d (In j e) h b = reads_same n c d (ap (λ (x : Configuration _). x.reading) (cond_some (may_come c j && has_room c.stand) _ d h).1) b
+reads_after l o n c d (Bad j m) h b = reads_fewer n j c d (ap (λ (x : Configuration _). x.reading) (cond_some (may_come c j) _ d h).1) b
+reads_after l o n c d (Eof j) h b = reads_fewer n j c d (ap (λ (x : Configuration _). x.reading) (cond_some (may_come c j) _ d h).1) b
 reads_after l o n c d (Sel e) h b = reads_same n c d (sel_reading l c d e (next l o c) h) b
 reads_after l o n c d (End v) h b = reads_same n c d (end_reading c d v (next l o c) h) b

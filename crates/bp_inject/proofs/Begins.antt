@@ -1,7 +1,7 @@
 -- What was read begins the items of the bytes.
 use Rattle.std.proofs.Common.{◌≡◌, ◌⊎◌, inl, inr, ⊎_elim, ℕ, ◌+◌, Bool, true, false, List, [], ◌∷◌, ◌++◌, Option, Some, None, option_to_list, refl, sym, ap, ◌∙◌, subst, append_assoc, append-nil}
 use Rattle.std.specs.Prelude.{◌&&◌, IfSome, is_none, if◌then◌else◌}
-use Rattle.std.proofs.lemmas.Bool.{or_left, or_right, or_parts}
+use Rattle.std.proofs.lemmas.Bool.{or_left, or_right, or_parts, both_ways}
 use Rattle.std.proofs.lemmas.List.{append_cancel_left}
 use Rattle.std.proofs.lemmas.List.Folds.{list_any-append}
 use mathlib.Core.List.{IsPrefix}
@@ -79,10 +79,6 @@ closed : (lines : List (List ℕ)) (number : ℕ) (last : Item) → is_last last
 closed [] number last l = or_left (is_last last) false l
 closed (line ∷ lines) number last l = line_ended (item_of number line) (items_from lines (number + 1) last) (closed lines (number + 1) last l)
 
-pub not_both : (b : Bool) → b ≡ false → b ≡ true → ⊥
-not_both true f t = cc
-not_both false f t = cc
-
 -- and the others are not
 open_front : (xs ks all : List Item) (y : Item) (lines : List (List ℕ)) (number : ℕ) (last : Item) → xs ++ ks ≡ all → all ++ y ∷ [] ≡ items_from lines number last → has_last xs ≡ false
 open_front xs ks all y lines number last e f =
@@ -91,7 +87,7 @@ open_front xs ks all y lines number last e f =
 
 all_or_open : (xs ks all : List Item) (lines : List (List ℕ)) (number : ℕ) (last : Item) → xs ++ ks ≡ all → all ≡ items_from lines number last → has_last xs ≡ true → xs ≡ all
 all_or_open xs [] all lines number last e f l = sym (append-nil xs) ∙ e
-all_or_open xs (k ∷ ks) all lines number last e f l = absurd (not_both (has_last xs) (open_before lines number last k xs ks (e ∙ f)) l)
+all_or_open xs (k ∷ ks) all lines number last e f l = absurd (both_ways (has_last xs) (open_before lines number last k xs ks (e ∙ f)) l)
 
 -- ---- what was given
 
@@ -101,7 +97,7 @@ nothing_left (Some b) took None g a = absurd g
 nothing_left (Some b) took (Some l) g a = ap Some (append_cancel_left took l [] (sym g ∙ a ∙ sym (append-nil took)))
 
 unended_front : (xs ks all : List Item) → xs ++ ks ≡ all → has_end all ≡ false → has_end xs ≡ true → ⊥
-unended_front xs ks all e u t = not_both (has_end all) u (ap has_end (sym e) ∙ list_any-append is_end xs ks ∙ or_left (has_end xs) (has_end ks) t)
+unended_front xs ks all e u t = both_ways (has_end all) u (ap has_end (sym e) ∙ list_any-append is_end xs ks ∙ or_left (has_end xs) (has_end ks) t)
 
 of_within : (start : Option (List ℕ)) (took : List ℕ) (all : List Item) (number : ℕ) (held : List ℕ) (left : Option (List ℕ)) (xs ks : List Item) → xs ++ ks ≡ all
     → Gives start took left → IsBetweenLines took all number held → BeginsItems start left xs
@@ -115,7 +111,7 @@ of_within start took all number held left xs ks e g w =
       taken = g;
       told = all_with_rest start took left g;
       begins = inl (ks ++ tail, sym (append_assoc xs ks tail) ∙ ap (λ l. l ++ tail) e ∙ lines_follow took all number held w (held ++ rest) End ∙ ap items (sym same));
-      whole = λ l f. absurd (not_both (has_last xs) (open_front xs ks all Failed (whole_lines w.passed) 1 Failed e w.good) l);
+      whole = λ l f. absurd (both_ways (has_last xs) (open_front xs ks all Failed (whole_lines w.passed) 1 Failed e w.good) l);
       none = λ t. absurd (unended_front xs ks all e (within_unended took all number held w) t);
     }
 
@@ -141,7 +137,7 @@ of_last start took all left xs ks e g h told = record {
   taken = g;
   told = subst (λ t. IsAll start t) (sym (append-nil took)) told;
   begins = inl (ks ++ End ∷ [], sym (append_assoc xs ks (End ∷ [])) ∙ ap (λ l. l ++ End ∷ []) e ∙ h ∙ ap items (sym (append-nil took)));
-  whole = λ l f. absurd (not_both (has_last xs) (open_front xs ks all End (lines_of took) 1 End e h) l);
+  whole = λ l f. absurd (both_ways (has_last xs) (open_front xs ks all End (lines_of took) 1 End e h) l);
   none = λ t. (refl, nothing_left start took left g told);
 }
 
@@ -180,7 +176,7 @@ whole_or_fault : (took rest : List ℕ) (xs : List Item) → xs ≡ items_before
 whole_or_fault took rest xs h f =
     ⊎_elim
     (λ (a : (begun : List Item) × (items_before_fault took ≡ begun ++ Failed ∷ []) × IsPrefix begun (items (took ++ rest))).
-    absurd (not_both (has_fault xs) f (ap has_fault (h ∙ a.1) ∙ fault_among a.0)))
+    absurd (both_ways (has_fault xs) f (ap has_fault (h ∙ a.1) ∙ fault_among a.0)))
     (λ (s : items_before_fault took ≡ items (took ++ rest)). h ∙ s)
     (fault_or_all took rest)
 

@@ -1,15 +1,13 @@
 -- The large program is accepted.
-use Rattle.std.proofs.Common.{◌≡◌, ℕ, zero, suc, ◌<◌, ◌≤◌, true, nat_lt, List, [], ◌∷◌, ◌++◌, length, drop, refl, sym, subst, arith, length-append}
+use Rattle.std.proofs.Common.{◌≡◌, ℕ, ◌<◌, ◌≤◌, List, [], ◌∷◌, ◌++◌, length, drop, refl, sym, subst, arith, length-append}
 use Rattle.std.specs.Prelude.{decimal}
-use Rattle.std.specs.Str.{IsUtf8, IsAscii}
+use Rattle.std.specs.Str.{IsUtf8}
 use Rattle.std.proofs.lemmas.Str.{IsUtf8-from_ascii, IsAscii-append}
 use Rattle.std.proofs.lemmas.Fmt.{IsAscii-decimal, length-decimal-le}
-use Rattle.std.proofs.lemmas.Bool.Decides.{nat_tests}
-use Rattle.std.proofs.lemmas.Bool.{and_parts}
 use Rattle.js_grammar.proofs.Unique.{tree_found}
 use Rattle.js_lexer.specs.declared.limits.TheConstants.{MOST_BYTES}
 use Rattle.js_lexer.specs.Cut.{Cut}
-use Rattle.js_lexer.proofs.Ascii.{are_small}
+use Rattle.js_lexer.proofs.Ascii.{small_ascii}
 use Rattle.bp_script.specs.declared.refusal.Refusal.{Refusal}
 use Rattle.bp_script.specs.Programs.{IsRefused}
 use Rattle.bp_script.proofs.Once.{never}
@@ -19,14 +17,9 @@ use Rattle.bp_large.proofs.Digits.{is_numbered}
 use Rattle.bp_large.proofs.Tokens.{tokens, cut}
 use Rattle.bp_large.proofs.Names.{reads}
 
-small : (bs : List ℕ) → are_small bs ≡ true → IsAscii bs
-small [] h i = omega arith
-small (b ∷ bs) h zero = let k = (and_parts (nat_lt b 128) (are_small bs) h).0 in grind (arith, nat_tests)
-small (b ∷ bs) h (suc i) = small bs (and_parts (nat_lt b 128) (are_small bs) h).1 i
-
 utf8 : (n : ℕ) → n < 4294967296 → IsUtf8 (large.front ++ decimal n ++ large.rest)
 utf8 n h =
-    IsUtf8-from_ascii _ (IsAscii-append large.front (decimal n ++ large.rest) (small large.front refl) (IsAscii-append (decimal n) large.rest (IsAscii-decimal n (omega arith)) (small large.rest refl)))
+    IsUtf8-from_ascii _ (IsAscii-append large.front (decimal n ++ large.rest) (small_ascii large.front refl) (IsAscii-append (decimal n) large.rest (IsAscii-decimal n (omega arith)) (small_ascii large.rest refl)))
 
 few : (n : ℕ) → n < 4294967296 → length (decimal n) ≤ 10
 few n h = length-decimal-le 10 n (omega arith) (omega arith) (omega arith)

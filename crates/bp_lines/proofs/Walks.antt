@@ -5,10 +5,9 @@ use Rattle.std.proofs.Math.Seq.{drop-cons, take-suc, take-append_seam}
 use Rattle.std.proofs.lemmas.Bool.Decides.{eqb_tells}
 use Rattle.std.proofs.lemmas.Bool.{and_parts, not-true, ne_eqb, eq-eqb, eqb-true}
 use Rattle.std.proofs.Common.{option_and_then, length-drop, length-append, ap₂}
-use Rattle.bp_reading.proofs.Lines.{some_none}
 use Rattle.bp_reading.proofs.Again.{quote_parts}
 use Rattle.std.proofs.lemmas.List.{drop_all}
-use Rattle.std.proofs.lemmas.Option.{same_Some}
+use Rattle.std.proofs.lemmas.Option.{same_Some, none-some}
 use Rattle.bp_reading.specs.Words.{behind, around, onto_front, to_quote, quoted_front}
 use Rattle.bp_reading.proofs.Quotes.{onto_all_is, onto_all-append, onto_all}
 
@@ -79,10 +78,10 @@ pub quote_nowhere : (escaped : Bool) (i : ℕ) (bytes : List ℕ) → to_quote f
 quote_nowhere escaped i bytes inv h = inv ∙ ap (onto_all (take i bytes)) (ap (to_quote escaped) (drop_all i bytes h)) ∙ onto_all_none (take i bytes)
 
 behind_parts : (bytes rest : List ℕ) → behind (34 ∷ []) bytes ≡ Some rest → bytes ≡ 34 ∷ rest
-behind_parts [] rest h = absurd (some_none h)
+behind_parts [] rest h = absurd (none-some _ h)
 behind_parts (b ∷ bytes) rest h = elim (eqb_tells b 34) [
   | inl same ↦ ap₂ (λ (x : ℕ) (xs : List ℕ). x ∷ xs) same.1 (same_Some bytes rest (rw same.0 at h))
-  | inr other ↦ absurd (some_none (rw other.0 at h))
+  | inr other ↦ absurd (none-some _ (rw other.0 at h))
 ]
 
 pub record Opens (bytes front more : List ℕ) : Type 0 where

@@ -9,7 +9,6 @@ use std::marker::Model;
 /// How many workers run the b-threads, and how many nodes a slice of work begins.
 ///
 /// Its type keeps that there are 1 to 64 workers, and that a slice is 1 to 1,000,000,000 nodes.
-#[derive(Debug)]
 pub struct Beside {
     workers: u32,
     slice: u64,

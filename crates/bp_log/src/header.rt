@@ -9,7 +9,7 @@ use std::marker::Model;
 /// The options of a run, and the bytes of its program.
 ///
 /// Its type keeps that the program has at most 1,048,576 bytes.
-#[derive(Debug, Drop)]
+#[derive(Drop)]
 pub struct Header {
     options: Options,
     program: Vec<u8>,

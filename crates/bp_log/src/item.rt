@@ -2,7 +2,7 @@
 use js_data::Event;
 
 /// One thing that an injector hands over.
-#[derive(Debug, Drop)]
+#[derive(Drop)]
 pub enum Item {
     /// A good line's event.
     Offered(Event),

@@ -8,7 +8,7 @@ use std::alloc::AllocError;
 use std::marker::Model;
 
 /// How one of several selectable events is chosen.
-#[derive(Debug, Clone, Copy, PartialEq, Eq)]
+#[derive(Clone, Copy, PartialEq, Eq)]
 pub enum Strategy {
     /// Among all of them.
     Simple,
@@ -51,7 +51,6 @@ impl Strategy {
 ///
 /// Its type keeps that the budget is 1 to 1,000,000,000, the steps are 1 to 1,000,000, and the
 /// injectors are at most 16.
-#[derive(Debug)]
 pub struct Options {
     strategy: Strategy,
     seed: u64,

@@ -81,7 +81,7 @@ impl Record {
 }
 
 /// What is recorded of a run, in order. Contracts see it as the list.
-#[derive(Debug, Drop)]
+#[derive(Drop)]
 pub struct Records {
     items: Vec<Record>,
 }

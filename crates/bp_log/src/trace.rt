@@ -6,7 +6,6 @@ use js_data::{Event, Text};
 use std::marker::Model;
 
 /// A line of the trace.
-#[derive(Debug)]
 pub enum Line {
     /// This event was selected, which a b-thread requested.
     Event(Event),
@@ -36,7 +35,7 @@ impl Drop for Line {
 }
 
 /// The lines of a trace, in order. Contracts see them as the list.
-#[derive(Debug, Drop)]
+#[derive(Drop)]
 pub struct Lines {
     items: Vec<Line>,
 }

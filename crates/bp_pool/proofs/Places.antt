@@ -1,15 +1,15 @@
 -- Jobs that are taken out of their list and put back, over plain variables.
-use Rattle.std.proofs.Common.{◌≡◌, ◌≢◌, ℕ, zero, drop, add-one, append_assoc, length-append, below_more, suc, ◌+◌, ◌<◌, ◌≤◌, Bool, false, cond, eqb, eq-eqb, ne_eqb, List, [], ◌∷◌, ◌++◌, map, All, length, get_or, set, length-set, get_or-set_same, get_or-set_other, ◌⊎◌, inl, inr, refl, sym, ap, ◌∙◌, subst, arith, Option, Some, None, IsSome, is_some, Result, Ok, Err, IfOk}
+use Rattle.std.proofs.Common.{◌≡◌, ◌≢◌, ℕ, drop, append_assoc, length-append, below_more, suc, ◌+◌, ◌<◌, ◌≤◌, Bool, false, cond, eqb, eq-eqb, ne_eqb, List, [], ◌∷◌, ◌++◌, map, All, length, get_or, set, length-set, get_or-set_same, get_or-set_other, ◌⊎◌, inl, inr, refl, sym, ap, ◌∙◌, subst, arith, Option, Some, None, IsSome, Result, Ok, Err, IfOk}
 use Rattle.std.proofs.lemmas.Bool.{cases_eq}
 use Rattle.std.proofs.lemmas.List.{length-map, get_or_append_left, get_or-map, map_push, nil_from_length}
 use Rattle.std.proofs.Math.Seq.{get_or-append_seam}
 use Rattle.std.proofs.lemmas.List.Sums.{sum_by-cons, sum_by-append}
 use Rattle.std.proofs.lemmas.List.Elements.{All-push, All-head, All-tail, All-cons}
+use Rattle.js_data.proofs.Shared.{drop_next}
 use Rattle.js_meaning.specs.State.{Ground}
 use Rattle.bp_thread.specs.declared.job.Job.{Job}
 use Rattle.bp_thread.specs.Jobs.{plain_job, IsOf}
 use Rattle.bp_thread.specs.Carried.{CarriedOut, AreCarriedOut}
-use Rattle.bp_thread.proofs.Standing.{false_true}
 use Rattle.bp_pool.specs.declared.seat.Seat.{Seat}
 use Rattle.bp_pool.specs.Carrying.{IsCarriedOn, Each}
 use Rattle.bp_pool.specs.Seats.{Turned, IsSeat, seats_of, IsOutOrSeated, AreSeated, StaySeated}
@@ -44,12 +44,6 @@ pushed P xs ys x n long was here is k e lt =
     below_more (λ j. (f : _) → P j (get_or ys j f)) n
     (λ j low f. subst (P j) (sym (ap (λ l. get_or l j f) is ∙ get_or_append_left xs (x ∷ []) f j (omega arith))) (was j f low))
     (λ f. subst (P n) (sym (ap (λ l. get_or l n f) is ∙ ap (λ j. get_or (xs ++ x ∷ []) j f) (sym long) ∙ get_or-append_seam xs x [] f)) here) k lt e
-
-drop_next : {X : Type 0} (xs : List X) (n : ℕ) (x : X) (rest : List X) → drop n xs ≡ x ∷ rest → (n < length xs) × ((d : X) → get_or xs n d ≡ x) × (drop (n + 1) xs ≡ rest)
-drop_next [] zero x rest e = cc
-drop_next [] (suc n) x rest e = cc
-drop_next (y ∷ ys) zero x rest e = (omega arith, (λ d. cc), cc)
-drop_next (y ∷ ys) (suc n) x rest e = let h = drop_next ys n x rest e in (omega arith, (λ d. h.1 d), rw add-one (rw add-one at h.2))
 
 -- ---- jobs are taken out of their list
 
@@ -262,7 +256,3 @@ pub all_out_if : {V E : Type 0} (r : Result V E) (items : V → List Job) (base 
     IfOk r (λ v. map (λ (j : Job). Some j) (items v) ≡ done) → (budget : ℕ) → IfOk r (λ v. AreCarriedOut base budget jobs (items v))
 all_out_if (Ok v) items base jobs done seats a is budget = all_out base budget jobs (items v) done seats a is
 all_out_if (Err e) items base jobs done seats a is budget = tt
-
-pub none_of : {X : Type 0} (o : Option X) → is_some o ≡ false → o ≡ None
-none_of None e = refl
-none_of (Some x) e = absurd (false_true (sym e))

@@ -1,12 +1,12 @@
 -- What is read is spelled so.
-use Rattle.std.proofs.Common.{◌≡◌, ◌⊎◌, ◌∙◌, ◌<◌, ◌^◌, ℕ, sym, ap, ap₂, List, [], ◌++◌, ◌∷◌, Option, Some, None, Bool, true, false, cond, refl, inl, inr, arith, option_map, option_and_then, append-nil}
+use Rattle.std.proofs.Common.{◌≡◌, ◌⊎◌, ◌∙◌, ◌<◌, ◌^◌, ℕ, sym, ap, ap₂, List, [], ◌++◌, ◌∷◌, Option, Some, None, Bool, true, false, cond, refl, inl, inr, arith, option_and_then, append-nil}
 use Rattle.std.specs.Prelude.{◌==◌, ◌&&◌, not, decimal, codes}
 use Rattle.std.specs.Option.{option_or}
 use Rattle.std.specs.Str.{bytes_eq, is_utf8}
 use Rattle.std.proofs.lemmas.Bool.Decides.{eqb_tells}
 use Rattle.std.proofs.lemmas.Bool.{eqb-true}
 use Rattle.std.proofs.lemmas.Slice.Eq.{bytes_eq-Decides}
-use Rattle.std.proofs.lemmas.Option.{same_Some, cond_some}
+use Rattle.std.proofs.lemmas.Option.{same_Some, cond_some, none-some}
 use Rattle.serde_json.specs.Find.{as_str}
 use Rattle.serde_json.specs.Read.{read}
 use Rattle.js_data.specs.Event.{PlainEvent}
@@ -14,7 +14,7 @@ use Rattle.js_data.specs.Faults.{fault_name}
 use Rattle.js_data.specs.JsonText.{event_text, quoted_text}
 use Rattle.js_data.specs.declared.fault.Fault.{Fault}
 use Rattle.js_data.specs.declared.fault.Fault.TheVariants as fault
-use Rattle.js_data.proofs.Shared.{chained}
+use Rattle.js_data.proofs.Shared.{chained, mapped}
 use Rattle.js_json.specs.Json.{event_at}
 use Rattle.bp_log.specs.Texts.{place_text}
 use Rattle.bp_log.specs.Logs.{record_text, strategy_name, strategy_at}
@@ -28,15 +28,10 @@ use Rattle.bp_log.specs.declared.verdict.Verdict.{Verdict}
 use Rattle.bp_log.specs.declared.verdict.Verdict.TheVariants as verdict
 use Rattle.bp_reading.specs.Words.{behind, around, number_at, number_behind, numbers_at, most_32, if_compact, compact_event_at, if_quoted, text_at, onto_front, to_quote, quoted_front}
 use Rattle.bp_reading.specs.Lines.{top_at, thread_at, place_at, quiet_at, steps_at, if_same, limit_at, bad_end_at, limits_at, numbered_at, said_at, violated_at, fault_at, kind_at, blamed_at, faulty_at, spent_by, spent_at, placed_at, verdict_at, handed_at, in_at, bad_at, eof_at, sel_at, end_at, record_at}
-use Rattle.bp_reading.proofs.Lines.{some_none}
 use Rattle.bp_reading.proofs.Numbers.{number_text}
 use Rattle.bp_reading.proofs.Spelled.{spelled_verdict, spelled_record, record_is}
 
 -- ---- answers taken apart
-
-pub mapped : {A B : Type 0} (f : A → B) (o : Option A) (y : B) → option_map f o ≡ Some y → (x : A) × (o ≡ Some x) × (f x ≡ y)
-mapped f None y h = absurd (some_none h)
-mapped f (Some x) y h = (x, refl, same_Some (f x) y h)
 
 pub either : {A : Type 0} (o p : Option A) (y : A) → option_or o p ≡ Some y → (o ≡ Some y) ⊎ (p ≡ Some y)
 either None p y h = inr h
@@ -55,20 +50,20 @@ tried false x o y h = inr h
 
 pub behind_spelled : (w bytes rest : List ℕ) → behind w bytes ≡ Some rest → bytes ≡ w ++ rest
 behind_spelled [] bytes rest h = same_Some bytes rest h
-behind_spelled (c ∷ w) [] rest h = absurd (some_none h)
+behind_spelled (c ∷ w) [] rest h = absurd (none-some _ h)
 behind_spelled (c ∷ w) (b ∷ bytes) rest h = elim (eqb_tells b c) [
   | inl same ↦ ap₂ (λ (x : ℕ) (xs : List ℕ). x ∷ xs) same.1 (behind_spelled w bytes rest (rw same.0 at h))
-  | inr other ↦ absurd (some_none (rw other.0 at h))
+  | inr other ↦ absurd (none-some _ (rw other.0 at h))
 ]
 
 pub onto_front_parts : (b : ℕ) (o : Option (List ℕ × List ℕ)) (front more : List ℕ) → onto_front b o ≡ Some (front, more) → (f : List ℕ) × (front ≡ b ∷ f) × (o ≡ Some (f, more))
-onto_front_parts b None front more h = absurd (some_none h)
+onto_front_parts b None front more h = absurd (none-some _ h)
 onto_front_parts b (Some p) front more h =
     let s = same_Some _ _ h in
     (p.0, sym (ap (λ (q : List ℕ × List ℕ). q.0) s), ap (λ (m : List ℕ). Some (p.0, m)) (ap (λ (q : List ℕ × List ℕ). q.1) s))
 
 around_spelled : (c : ℕ) (bytes a b : List ℕ) → around c bytes ≡ Some (a, b) → bytes ≡ a ++ (c ∷ b)
-around_spelled c [] a b h = absurd (some_none h)
+around_spelled c [] a b h = absurd (none-some _ h)
 around_spelled c (x ∷ bytes) a b h = elim (eqb_tells x c) [
   | inl same ↦
       let s = same_Some _ _ (rw same.0 at h) in
@@ -108,11 +103,11 @@ text_spelled bytes s h = elim (chosen (is_utf8 bytes) _ _ _ h) [
       let a = chained (if_quoted bytes) (option_and_then as_str (read bytes)) s good.1 in
       let b = cond_some (bytes_eq (quoted_text a.0) bytes) a.0 s a.2 in
       sym ((bytes_eq-Decides (quoted_text a.0) bytes).0 b.0) ∙ ap (λ (x : List ℕ). quoted_text x) b.1
-  | inr bad ↦ absurd (some_none bad.1)
+  | inr bad ↦ absurd (none-some _ bad.1)
 ]
 
 pub quote_parts : (bytes : List ℕ) (escaped : Bool) (front more : List ℕ) → to_quote escaped bytes ≡ Some (front, more) → bytes ≡ front ++ more
-quote_parts [] escaped front more h = absurd (some_none h)
+quote_parts [] escaped front more h = absurd (none-some _ h)
 quote_parts (b ∷ bytes) escaped front more h = elim (chosen (not escaped && (b == 34)) _ _ _ h) [
   | inl here ↦
       let s = same_Some _ _ here.1 in
@@ -275,7 +270,7 @@ faulty_spelled line v h =
 
 pub spent_parts : (p : Place) (bytes : List ℕ) (v : Verdict) → spent_by p bytes ≡ Some v → (bytes ≡ []) × (verdict.Spent p ≡ v)
 spent_parts p [] v h = (refl, same_Some _ _ h)
-spent_parts p (b ∷ bytes) v h = absurd (some_none h)
+spent_parts p (b ∷ bytes) v h = absurd (none-some _ h)
 
 spent_spelled : (line : List ℕ) (v : Verdict) → spent_at line ≡ Some v → line ≡ spelled_verdict v
 spent_spelled line v h =

@@ -2,7 +2,7 @@
 use Rattle.std.proofs.Common.{◌≡◌, ◌∙◌, ℕ, ◌<◌, ◌≤◌, ◌^◌, true, false, List, [], ◌∷◌, length, Option, Some, None, Ok, refl, sym, ap, subst, inl, inr, arith}
 use Rattle.std.specs.Prelude.{nat_le, codes}
 use Rattle.std.proofs.lemmas.Bool.{leb-true, leb-false}
-use Rattle.std.proofs.lemmas.Option.{cond_some}
+use Rattle.std.proofs.lemmas.Option.{cond_some, none-some}
 use Rattle.js_data.proofs.Shared.{chained}
 use Rattle.bp_log.specs.Options.{PlainOptions, AreOptions}
 use Rattle.bp_log.specs.Header.{PlainHeader}
@@ -16,7 +16,6 @@ use Rattle.bp_reading.specs.Lines.{record_at}
 use Rattle.bp_reading.specs.Heads.{whole, line_at, header, from_least, field, version_at, strategy_line_at, field_at, program_at, choice_at, limits_at, options_at, header_at}
 use Rattle.bp_reading.specs.Reading.{Stage, first_stage, after, can_stand, Says, if_stands, front_at, found, finished, next_at}
 use Rattle.bp_reading.specs.Laws.{IsHeader, AreRecords, Stands, ReadLogsAreTexts, LinesAreTexts, Spells}
-use Rattle.bp_reading.proofs.Lines.{some_none}
 use Rattle.bp_reading.proofs.Back.{record_back}
 use Rattle.bp_reading.proofs.Law.{header_then, header_regrouped}
 use Rattle.bp_reading.proofs.Again.{chosen, record_again}
@@ -137,7 +136,7 @@ read_logs_are_texts bytes rest h rs k l =
 
 spelled : (line : List ℕ) (o : Option Record) → record_at line ≡ o → Spells line o
 spelled line (Some r) h = (record_low line r h, record_again line r h)
-spelled line None h = λ r k e. some_none (sym h ∙ ap record_at e ∙ record_back r k)
+spelled line None h = λ r k e. none-some _ (sym h ∙ ap record_at e ∙ record_back r k)
 
 pub lines_are_texts : LinesAreTexts
 lines_are_texts line = spelled line (record_at line) refl

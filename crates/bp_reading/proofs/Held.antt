@@ -5,7 +5,7 @@ use Rattle.std.specs.Fmt.{signed_decimal}
 use Rattle.std.proofs.lemmas.Bool.{ltb-true, lt-ltb}
 use Rattle.std.proofs.lemmas.Fmt.{IsAscii-decimal}
 use Rattle.std.proofs.lemmas.Str.{is_utf8-from_IsUtf8}
-use Rattle.std.proofs.lemmas.Option.{same_Some, cond_some}
+use Rattle.std.proofs.lemmas.Option.{same_Some, cond_some, none-some}
 use Rattle.json.proofs.Printed.Utf8.{are_ascii}
 use Rattle.serde_json.specs.Data as json
 use Rattle.serde_json.specs.Find.{as_i64, as_str, as_array}
@@ -15,8 +15,7 @@ use Rattle.js_data.specs.Event.{PlainEvent, IsHeldExtra}
 use Rattle.js_data.specs.JsonText.{data_text, data_list_text, data_fields_text, extra_text, quoted_text, comma}
 use Rattle.js_data.proofs.Shared.{chained}
 use Rattle.js_json.specs.Json.{if_whole, data_from, list_from, fields_from, event_of_parts, event_of_items, event_from}
-use Rattle.bp_reading.proofs.Lines.{some_none}
-use Rattle.bp_reading.proofs.Again.{mapped}
+use Rattle.js_data.proofs.Shared.{mapped}
 use Rattle.bp_reading.proofs.Unquoted.{past_ascii, utf8_unquoted}
 
 -- where its text begins what is UTF-8, the data is held, and UTF-8 stands behind it
@@ -125,10 +124,10 @@ held_parts name json.no_items e h = subst HasHeld (same_Some _ e h) (λ u. tt)
 held_parts name (json.item j json.no_items) e h =
     let a = mapped _ (data_from j) e h in
     subst HasHeld a.2 (λ u. (held_data j a.0 a.1 (93 ∷ []) (past_ascii (44 ∷ []) (data_text a.0 ++ (93 ∷ [])) refl u)).0)
-held_parts name (json.item j (json.item k js)) e h = absurd (some_none h)
+held_parts name (json.item j (json.item k js)) e h = absurd (none-some _ h)
 
 held_items : (js : json.Items) (e : PlainEvent) → event_of_items js ≡ Some e → HasHeld e
-held_items json.no_items e h = absurd (some_none h)
+held_items json.no_items e h = absurd (none-some _ h)
 held_items (json.item j js) e h =
     let a = chained (λ (name : List ℕ). event_of_parts name js) (as_str j) e h in
     held_parts a.0 js e a.2

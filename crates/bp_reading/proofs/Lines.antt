@@ -1,5 +1,5 @@
 -- Lists up to a byte.
-use Rattle.std.proofs.Common.{◌≡◌, ℕ, ◌-◌, ◌≤◌, Bool, true, false, cond, List, [], ◌∷◌, ◌++◌, length, Option, Some, None, refl, sym, ap, ◌∙◌, inl, inr, arith}
+use Rattle.std.proofs.Common.{◌≡◌, ℕ, ◌-◌, ◌≤◌, Bool, true, false, cond, List, [], ◌∷◌, ◌++◌, length, Some, refl, sym, ap, ◌∙◌, inl, inr, arith}
 use Rattle.std.proofs.lemmas.Bool.Decides.{eqb_tells}
 use Rattle.std.proofs.lemmas.Bool.{false≢true, eq-eqb}
 use Rattle.std.specs.Prelude.{◌==◌}
@@ -35,14 +35,6 @@ around_is c [] rest h = rw (eq-eqb c c refl) refl
 around_is c (x ∷ a) rest h =
     let p = lacks_parts c x a h in
     rw (p.other, around_is c a rest p.rest) refl
-
-is_none : {A : Type 0} → Option A → Bool
-is_none None = true
-is_none (Some x) = false
-
-pub some_none : {A : Type 0} {x : A} → None ≡ Some x → ⊥
-unfolding is_none
-some_none h = false≢true (sym (ap is_none h))
 
 pub record Same (a b x y : List ℕ) : Type 0 where
   pub front : a ≡ b

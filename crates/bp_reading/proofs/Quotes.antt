@@ -1,6 +1,6 @@
 -- Texts in quotation marks.
-use Rattle.std.proofs.Common.{◌≡◌, ℕ, zero, suc, ◌<◌, Bool, true, false, cond, List, [], ◌∷◌, ◌++◌, Option, Some, refl, sym, ap, ◌∙◌, inl, inr, arith, append_assoc, subst}
-use Rattle.std.proofs.lemmas.Bool.{false≢true, cases_lt, cases_eq, and_parts, ne_eqb}
+use Rattle.std.proofs.Common.{◌≡◌, ℕ, Bool, true, false, cond, List, [], ◌∷◌, ◌++◌, Option, Some, refl, sym, ap, ◌∙◌, inl, inr, arith, append_assoc, subst}
+use Rattle.std.proofs.lemmas.Bool.{false≢true, cases_lt, and_parts, ne_eqb, agree_below, agree_below_at}
 use Rattle.std.specs.Prelude.{◌==◌, ◌&&◌, not, flat_map}
 use Rattle.json.specs.Print.{escape_byte}
 use Rattle.json.proofs.Printed.Strings.{escape_byte_plain}
@@ -18,23 +18,13 @@ passes escaped (b ∷ bytes) = cond (not escaped && (b == 34)) false (passes (no
 abbrev good : List ℕ → Bool
 good bytes = lacks 10 bytes && passes false bytes
 
-abbrev good_below : ℕ → Bool
-good_below zero = true
-good_below (suc n) = good (escape_byte n) && good_below n
-
-below : (n : ℕ) → good_below n ≡ true → (x : ℕ) → x < n → good (escape_byte x) ≡ true
-below zero e x h = absurd (omega arith)
-below (suc n) e x h =
-    let p = and_parts _ _ e in
-    elim (cases_eq x n) [ inl same ↦ rw same p.0 | inr other ↦ below n p.1 x (omega arith) ]
-
-all_good : good_below 128 ≡ true
+all_good : agree_below (λ x. good (escape_byte x)) (λ x. true) 128 ≡ true
 unfolding escape_byte
 all_good = refl
 
 good_escape : (x : ℕ) → good (escaped_byte x) ≡ true
 good_escape x = elim (cases_lt x 128) [
-  | inl small ↦ subst (λ bs. good bs ≡ true) (escape_byte_is x) (below 128 all_good x small)
+  | inl small ↦ subst (λ bs. good bs ≡ true) (escape_byte_is x) (agree_below_at (λ x. good (escape_byte x)) (λ x. true) 128 x all_good small)
   | inr big ↦ subst (λ bs. good bs ≡ true) (sym (escape_byte_plain x (λ e. omega arith) (λ e. omega arith) (omega arith)) ∙ escape_byte_is x)
       (rw (ne_eqb x 10 (λ e. omega arith), ne_eqb x 34 (λ e. omega arith), ne_eqb x 92 (λ e. omega arith)) refl)
 ]

@@ -4,13 +4,13 @@ use Rattle.std.specs.Prelude.{◌==◌, ◌&&◌, nat_le, codes}
 use Rattle.std.specs.Str.{bytes_eq, is_utf8}
 use Rattle.std.proofs.lemmas.Bool.{and_parts, leb-true}
 use Rattle.std.proofs.lemmas.Str.{IsUtf8-from_is_utf8, is_utf8-from_IsUtf8}
-use Rattle.std.proofs.lemmas.Option.{cond_some}
+use Rattle.std.proofs.lemmas.Option.{cond_some, none-some}
 use Rattle.std.proofs.lemmas.Slice.Eq.{bytes_eq-Decides}
 use Rattle.serde_json.specs.Read.{read}
 use Rattle.js_data.specs.Event.{PlainEvent, event_weight, event_nesting, IsSortedExtra, IsHeldExtra, IsEvent}
 use Rattle.js_data.specs.JsonText.{event_text, quoted_text, extra_text}
 use Rattle.js_data.specs.declared.event.TheConstants.Event as event
-use Rattle.js_data.proofs.Shared.{chained}
+use Rattle.js_data.proofs.Shared.{chained, mapped}
 use Rattle.js_json.specs.Json.{event_from, within_limits, event_at}
 use Rattle.js_json.proofs.Ordered.{sorted_read}
 use Rattle.bp_log.specs.declared.limits.TheConstants.{MOST_WAITING, MOST_THREADS, MOST_WEIGHT}
@@ -22,11 +22,10 @@ use Rattle.bp_log.specs.declared.verdict.Verdict.TheVariants as verdict
 use Rattle.bp_reading.specs.Words.{behind, around, number_at, number_behind, numbers_at, most_32, if_compact, compact_event_at, text_at, quoted_front}
 use Rattle.bp_reading.specs.Lines.{place_at, quiet_at, steps_at, if_same, limit_at, bad_end_at, limits_at, numbered_at, said_at, violated_at, fault_at, kind_at, blamed_at, faulty_at, spent_at, placed_at, verdict_at, handed_at, in_at, bad_at, eof_at, sel_at, end_at, record_at, top_at, thread_at}
 use Rattle.bp_reading.specs.Laws.{IsVerdict, IsRecord, IsPlace}
-use Rattle.bp_reading.proofs.Lines.{some_none}
 use Rattle.bp_reading.proofs.Numbers.{number_text}
 use Rattle.bp_reading.proofs.Unquoted.{past_ascii, utf8_unquoted}
 use Rattle.bp_reading.proofs.Held.{held_event}
-use Rattle.bp_reading.proofs.Again.{at_each_record, mapped, either, chosen, spent_parts, text_spelled}
+use Rattle.bp_reading.proofs.Again.{at_each_record, either, chosen, spent_parts, text_spelled}
 
 -- ---- words
 
@@ -53,7 +52,7 @@ text_low bytes s h = elim (chosen (is_utf8 bytes) _ _ _ h) [
   | inl good ↦
       let u = subst IsUtf8 (text_spelled bytes s h ∙ sym (append-nil (quoted_text s))) (IsUtf8-from_is_utf8 bytes good.0) in
       is_utf8-from_IsUtf8 s (utf8_unquoted s [] u).0
-  | inr bad ↦ absurd (some_none bad.1)
+  | inr bad ↦ absurd (none-some _ bad.1)
 ]
 
 place_low : (bytes : List ℕ) (p : Place × List ℕ) → place_at bytes ≡ Some p → IsPlace p.0
@@ -87,7 +86,7 @@ event_read bytes e h = elim (chosen (is_utf8 bytes) _ _ _ h) [
           held = held_event d.0 a.0 d.2;
         }),
       )
-  | inr bad ↦ absurd (some_none bad.1)
+  | inr bad ↦ absurd (none-some _ bad.1)
 ]
 
 event_low : (bytes : List ℕ) (e : PlainEvent) → compact_event_at bytes ≡ Some e → IsEvent e

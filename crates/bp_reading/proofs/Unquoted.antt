@@ -2,7 +2,7 @@
 use Rattle.std.proofs.Common.{◌≡◌, ◌∙◌, ℕ, zero, suc, ◌<◌, ◌≤◌, Bool, true, false, List, [], ◌∷◌, ◌++◌, length, get_or, IsUtf8, refl, sym, ap, subst, inl, inr, arith, append_assoc, append-nil, length-append}
 use Rattle.std.specs.Prelude.{◌&&◌, nat_lt, flat_map}
 use Rattle.std.proofs.Math.Utf8.{scalars, encode, encodes}
-use Rattle.std.proofs.lemmas.Bool.{and_parts, cases_lt, cases_eq, lt-ltb, ltb-true, false≢true}
+use Rattle.std.proofs.lemmas.Bool.{and_parts, cases_lt, lt-ltb, ltb-true, false≢true, agree_below, agree_below_at}
 use Rattle.std.proofs.lemmas.Str.{IsUtf8-append, IsUtf8-nil, IsUtf8-encode, IsUtf8-past_char, encode_ascii, length-encode, len_utf8_bounds, inside_one, byte_from_char}
 use Rattle.json.proofs.Printed.Utf8.{are_ascii, IsUtf8-are_ascii}
 use Rattle.json.proofs.Printed.Strings.{escape_byte_plain}
@@ -22,21 +22,11 @@ abbrev starts_low : List ℕ → Bool
 starts_low [] = false
 starts_low (x ∷ xs) = nat_lt x 128
 
-abbrev low_below : ℕ → Bool
-low_below zero = true
-low_below (suc n) = (starts_low (escaped_byte n) && are_ascii (escaped_byte n)) && low_below n
-
-below : (n : ℕ) → low_below n ≡ true → (x : ℕ) → x < n → (starts_low (escaped_byte x) && are_ascii (escaped_byte x)) ≡ true
-below zero e x h = absurd (omega arith)
-below (suc n) e x h =
-    let p = and_parts _ _ e in
-    elim (cases_eq x n) [ inl same ↦ rw same p.0 | inr other ↦ below n p.1 x (omega arith) ]
-
-all_low : low_below 128 ≡ true
+all_low : agree_below (λ x. starts_low (escaped_byte x) && are_ascii (escaped_byte x)) (λ x. true) 128 ≡ true
 all_low = refl
 
 low_escape : (x : ℕ) → x < 128 → (starts_low (escaped_byte x) ≡ true) × (are_ascii (escaped_byte x) ≡ true)
-low_escape x h = and_parts _ _ (below 128 all_low x h)
+low_escape x h = and_parts _ _ (agree_below_at (λ x. starts_low (escaped_byte x) && are_ascii (escaped_byte x)) (λ x. true) 128 x all_low h)
 
 high_escape : (x : ℕ) → 128 ≤ x → escaped_byte x ≡ x ∷ []
 high_escape x h = sym (escape_byte_is x) ∙ escape_byte_plain x (λ e. omega arith) (λ e. omega arith) (omega arith)

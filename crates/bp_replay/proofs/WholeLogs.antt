@@ -1,7 +1,7 @@
 -- A replay of the log of a run tells the run.
 use Rattle.std.proofs.Common.{◌≡◌, ◌⊎◌, inl, inr, ℕ, List, [], ◌∷◌, ◌++◌, refl, ap, sym, ◌∙◌, subst, append-nil, Option, Some, None, Ok, Err}
 use Rattle.std.specs.Prelude.{Result, option_and_then}
-use Rattle.js_data.proofs.Shared.{one_answer}
+use Rattle.js_data.proofs.Shared.{one_answer, mapped}
 use Rattle.js_program.specs.PlainProgram.{PlainProgram}
 use Rattle.js_meaning.specs.Bodies.{Origin}
 use Rattle.bp_base.specs.Pieces.{Appends}
@@ -22,7 +22,7 @@ use Rattle.bp_run.specs.Configuration.{Configuration}
 use Rattle.bp_run.specs.Settling.{initial}
 use Rattle.bp_run.specs.Story.{after_record, story_from, story}
 use Rattle.bp_run.specs.Text.{text}
-use Rattle.bp_run.proofs.Stories.{story_first, printed_at}
+use Rattle.bp_run.proofs.Stories.{story_first}
 use Rattle.bp_floor.specs.Programs.{code_of}
 use Rattle.bp_code.specs.Code.{text_of}
 use Rattle.bp_script.specs.Programs.{IsProgram, IsRefused}
@@ -94,7 +94,7 @@ next_leads l o (End v ∷ r ∷ rs) qs q b c d h k = absurd (cc)
 
 text_told : (program : PlainProgram) (o : PlainOptions) (rs : List Record) (t : List ℕ) → text_of program o rs ≡ Some t → (c : Configuration Origin) × (story (code_of program o) o rs ≡ Some c) × (lines_text c.stand.lines ≡ t)
 unfolding text code_of
-text_told program o rs t h = printed_at (story (code_of program o) o rs) t h
+text_told program o rs t h = mapped (λ c. lines_text c.stand.lines) (story (code_of program o) o rs) t h
 
 -- ---- how it ends
 

@@ -3,12 +3,14 @@
 use Rattle.std.proofs.Common.{◌≡◌, ℕ, zero, suc, ◌+◌, ◌<◌, ◌%◌, Bool, true, false, not, ◌&&◌, ◌||◌, List, [], ◌∷◌, length, refl, sym, ap, ◌∙◌, subst, arith, Option, Some, None, Ok, Err, if◌then◌else◌, filter, find, flat_map, cond, slice_get, option_map, ◌⊎◌, inl, inr}
 use Rattle.std.specs.Prelude.{ℤ, pos, negsuc, int_le, leb}
 use Rattle.std.specs.List.{list_any, list_all}
-use Rattle.std.proofs.lemmas.List.Folds.{list_any-append}
+use Rattle.std.proofs.lemmas.List.Folds.{list_any-append, list_any_at}
 use Rattle.std.proofs.lemmas.Map.Views.{any-filter_same}
 use Rattle.std.proofs.Math.Nat.{mod-lt}
 use Rattle.std.proofs.lemmas.Bool.{or_right}
+use Rattle.std.proofs.lemmas.Option.{slice_get_within, get_or_from_slice_get, same_Some}
 use Rattle.js_data.specs.Event.{PlainEvent, same_event}
 use Rattle.js_data.proofs.SameEvent.{same_event-sound, same_event-self}
+use Rattle.js_data.proofs.Shared.{any_filter}
 use Rattle.bp_log.specs.declared.options.Strategy.{Strategy}
 use Rattle.bp_log.specs.declared.options.Strategy.TheVariants.{Simple, Ordered, Priority}
 use Rattle.bp_run.specs.Selecting.{Live, Has, Asked, without_fault, blocked, unblocked, first_unblocked, distinct, candidates, Enabled, or_queued, selectable, requests, requested}
@@ -149,23 +151,10 @@ passing : (q : PlainEvent → Bool) (xs : List PlainEvent) (x : PlainEvent) → 
 passing q [] x h k m = cc
 passing q (y ∷ ys) x h k m = passing_at q y ys x (same_event x y) refl h k (kept_at (q y) y (filter q ys) m) (λ a f. passing q ys x a k f)
 
-or_case : (a b c : Bool) → (b ≡ true → c ≡ true) → (a || b) ≡ true → (a || c) ≡ true
-or_case true b c h k = refl
-or_case false b c h k = h k
-
-among_filter_at : (p : PlainEvent → Bool) (e x : PlainEvent) (xs : List PlainEvent) (b : Bool) → (among e (filter p xs) ≡ true → among e xs ≡ true) →
-    among e (cond b (x ∷ filter p xs) (filter p xs)) ≡ true → (same_event e x || among e xs) ≡ true
-among_filter_at p e x xs true ih h = or_case (same_event e x) (among e (filter p xs)) (among e xs) ih h
-among_filter_at p e x xs false ih h = or_right (same_event e x) (among e xs) (ih h)
-
-among_filter : (p : PlainEvent → Bool) (e : PlainEvent) (xs : List PlainEvent) → among e (filter p xs) ≡ true → among e xs ≡ true
-among_filter p e [] h = h
-among_filter p e (x ∷ xs) h = among_filter_at p e x xs (p x) (among_filter p e xs) h
-
 remaining_some : {S : Type 0} (s : Strategy) (ts : List (Live S)) (inner : List PlainEvent) (e : PlainEvent) → among e (remaining s ts inner) ≡ true → among e inner ≡ true
 remaining_some Simple ts inner e h = h
-remaining_some Ordered ts inner e h = among_filter (λ x. list_any (is_first_of inner x) ts) e inner h
-remaining_some Priority ts inner e h = among_filter (is_greatest ts inner) e inner h
+remaining_some Ordered ts inner e h = any_filter (same_event e) (λ x. list_any (is_first_of inner x) ts) inner h
+remaining_some Priority ts inner e h = any_filter (same_event e) (is_greatest ts inner) inner h
 
 -- ---- ordered: the first request of some b-thread that is among the events
 
@@ -278,9 +267,7 @@ remaining_not_empty Priority ts e es h k =
 -- ---- the draw
 
 among_get : (xs : List PlainEvent) (k : ℕ) (e : PlainEvent) → slice_get xs k ≡ Some e → among e xs ≡ true
-among_get [] k e h = absurd (cc)
-among_get (x ∷ xs) zero e h = let f : x ≡ e = cc in rw (subst (λ (y : PlainEvent). same_event e y ≡ true) (sym f) (same_event-self e)) refl
-among_get (x ∷ xs) (suc k) e h = or_right (same_event e x) (among e xs) (among_get xs k e h)
+among_get xs k e h = list_any_at (same_event e) xs k e (slice_get_within xs k e h) (ap (same_event e) (get_or_from_slice_get xs k e e h) ∙ same_event-self e)
 
 -- it is one of those that are left
 record Draws (xs : List PlainEvent) (ch : Choice) : Type 0 where
@@ -330,11 +317,8 @@ queue_at has ts queue d n k e None p h f m =
     let z = map_not _ (slice_get queue n) m in absurd (cc)
 queue_at has ts queue d n k e (Some ch) p h f m =
     let g : slice_get queue n ≡ Some e = ap (λ (i : ℕ). slice_get queue i) p ∙ h in
-    let c : record { event = e; place = Some n; drawn = d } ≡ ch = (let q = ap (λ (x : Option PlainEvent). option_map (λ y. record { event = y; place = Some n; drawn = d }) x) g in some_same _ ch (sym q ∙ m)) in
+    let c : record { event = e; place = Some n; drawn = d } ≡ ch = (let q = ap (λ (x : Option PlainEvent). option_map (λ y. record { event = y; place = Some n; drawn = d }) x) g in same_Some _ ch (sym q ∙ m)) in
     subst (λ (x : Choice). IsChosen has ts queue x) c (record { stands = g; free = f })
-  where
-    some_same : (a b : Choice) → Some a ≡ Some b → a ≡ b
-    some_same a b h = cc
 
 all_blocked : {S : Type 0} (has : Has S) (ts : List (Live S)) (queue : List PlainEvent) → Free has ts (candidates ts) [] → IsFirst has ts 0 queue None → AllBlocked has ts queue
 all_blocked has ts queue f i e None m = none_kept has ts e (f.all e (among_candidates e ts ∙ m))

@@ -1,6 +1,6 @@
 -- Entries are of distinct registered b-threads, and an event does to each b-thread what its own statement says.
 use Rattle.std.proofs.Common.{◌≡◌, ℕ, zero, suc, ◌+◌, ◌<◌, ◌≤◌, Bool, true, false, List, [], ◌∷◌, ◌++◌, length, map, refl, sym, ap, ◌∙◌, subst, arith, Option, Some, None, Ok, Err, if◌then◌else◌, ◌==◌, nat_eq, slice_get, option_map, length-append, add-one}
-use Rattle.std.proofs.lemmas.Bool.{eqb-true, eq-eqb}
+use Rattle.std.proofs.lemmas.Bool.{eqb-true, eq-eqb, ne_eqb}
 use Rattle.std.proofs.lemmas.List.{map-append}
 use Rattle.std.specs.List.{cons_option}
 use Rattle.std.proofs.lemmas.Iterator.Adapters.{option_map_id}
@@ -196,7 +196,7 @@ reach_rising has e (t ∷ ts) r low high h k =
     subst (λ (x : List Touched). IsRising low high (map number_in x)) (sym b.4)
     (rising_touch t.number low high b.0 b.1 (touched_of has e t b.0 b.2) k.0 k.1 (reach_rising has e ts b.1 (t.number + 1) high b.3 k.2))
 
-entry_number : {O S : Type 0} (l : Code O S) (s : Stand O) (e : PlainEvent) (r : List Touched) → map number_of (map (entry_of l s e) r) ≡ map number_in r
+pub entry_number : {O S : Type 0} (l : Code O S) (s : Stand O) (e : PlainEvent) (r : List Touched) → map number_of (map (entry_of l s e) r) ≡ map number_in r
 entry_number l s e [] = refl
 entry_number l s e (Moves i ∷ r) = ap (λ (ns : List ℕ). i ∷ ns) (entry_number l s e r)
 entry_number l s e (Interrupts i ∷ r) = ap (λ (ns : List ℕ). i ∷ ns) (entry_number l s e r)
@@ -208,12 +208,8 @@ stepped_rising l s e place r h = rw (entry_number l s e r) (reach_rising l.has e
 
 -- ---- each b-thread by itself
 
-pub not_equal : (m i : ℕ) (b : Bool) → nat_eq m i ≡ b → (m ≡ i → ⊥) → b ≡ false
-not_equal m i true h k = absurd (k (eqb-true m i h))
-not_equal m i false h k = refl
-
 passed_at : (m i : ℕ) (x : Touched) (r : List Touched) → number_in x ≡ m → (m ≡ i → ⊥) → touch_at i (x ∷ r) ≡ touch_at i r
-passed_at m i x r h k = let f : nat_eq (number_in x) i ≡ false = not_equal (number_in x) i (nat_eq (number_in x) i) refl (λ e. k (sym h ∙ e)) in rw f refl
+passed_at m i x r h k = let f : nat_eq (number_in x) i ≡ false = ne_eqb (number_in x) i (λ e. k (sym h ∙ e)) in rw f refl
 
 found_at : (i : ℕ) (x : Touched) (r : List Touched) → number_in x ≡ i → touch_at i (x ∷ r) ≡ Some x
 found_at i x r h = let f : nat_eq (number_in x) i ≡ true = eq-eqb (number_in x) i h in rw f refl

@@ -3,10 +3,10 @@ use Rattle.std.proofs.Common.{◌≡◌, ℕ, zero, suc, ◌+◌, ◌<◌, ◌�
 use Rattle.std.specs.Prelude.{option_to_list}
 use Rattle.std.specs.List.{list_any}
 use Rattle.std.proofs.lemmas.Grind.{flat_map-append}
-use Rattle.std.proofs.lemmas.Bool.{eq-eqb, ltb-false, and_parts}
+use Rattle.std.proofs.lemmas.Bool.{eq-eqb, ltb-false, and_parts, both_ways, and_right}
 use Rattle.js_data.specs.Event.{PlainEvent, same_event}
 use Rattle.js_data.proofs.SameEvent.{same_event-sound, same_event-self}
-use Rattle.js_data.proofs.Shared.{chained}
+use Rattle.js_data.proofs.Shared.{chained, mapped}
 use Rattle.bp_log.specs.Options.{PlainOptions}
 use Rattle.bp_log.specs.Records.{is_complete}
 use Rattle.bp_log.specs.Texts.{whole_line, lines_text}
@@ -32,10 +32,6 @@ use Rattle.bp_run.proofs.Growing.{grown_settle}
 pub and_then_if : {A B : Type 0} (b : Bool) (g : A → Option B) (x : A) (d : B) → option_and_then g (if b then Some x else None) ≡ Some d → (b ≡ true) × (g x ≡ Some d)
 and_then_if true g x d h = (refl, h)
 and_then_if false g x d h = absurd (cc)
-
-never : (a b : Bool) → b ≡ false → (a && b) ≡ true → ⊥
-never true b h k = cc
-never false b h k = cc
 
 -- a transition is one more
 pub move_transitions : {O S : Type 0} (l : Code O S) (c : Configuration O) (ch : Choice) (r : List Touched) → (move l c ch r).stand.transitions ≡ c.stand.transitions + 1
@@ -101,6 +97,11 @@ pub selects : {O S : Type 0} (l : Code O S) (o : PlainOptions) (c : Configuratio
 unfolding next
 selects l o c ch r h = unless_selects l o c c.stand.verdict ch r refl h
 
+-- a verdict comes next
+pub verdict_next : {O S : Type 0} (l : Code O S) (o : PlainOptions) (c : Configuration O) (w : Verdict) → c.stand.verdict ≡ Some w → next l o c ≡ Ends w
+unfolding next
+verdict_next l o c w h = ap (λ (v : Option Verdict). next_unless l o c v) h
+
 pub selects_steps : {O S : Type 0} (l : Code O S) (o : PlainOptions) (c : Configuration O) (ch : Choice) (r : List Touched) → next l o c ≡ Selects ch r → c.stand.transitions ≤ o.steps → c.stand.transitions < o.steps
 selects_steps l o c ch r h k =
     let f = (selects l o c ch r h).steps in
@@ -110,7 +111,7 @@ selects_steps l o c ch r h k =
 -- an item can't come where no injector is read
 comes_not : {O : Type 0} (c : Configuration O) (j : ℕ) → c.reading ≡ [] → may_come c j ≡ true → ⊥
 comes_not c j h k =
-    never (not (is_over c)) (list_any (nat_eq j) c.reading) (ap (λ (r : List ℕ). list_any (nat_eq j) r) h) k
+    both_ways _ (and_right (not (is_over c)) (list_any (nat_eq j) c.reading) (ap (λ (r : List ℕ). list_any (nat_eq j) r) h)) k
 
 abbrev pub alone_next : {O S : Type 0} → Code O S → PlainOptions → ℕ → Configuration O → Next → List Record
 alone_next l o n c (Ends v) = End v ∷ []
@@ -360,15 +361,11 @@ prefix_of l o rs c m t more h k e = (
   sym e ∙ ap (λ (x : List Line). lines_text x) k ∙ flat_map-append whole_line m.stand.lines more,
 )
 
-pub printed_at : {O : Type 0} (x : Option (Configuration O)) (t : List ℕ) → option_map (λ c. lines_text c.stand.lines) x ≡ Some t → (c : Configuration O) × (x ≡ Some c) × (lines_text c.stand.lines ≡ t)
-printed_at None t h = absurd (cc)
-printed_at (Some c) t h = (c, refl, cc)
-
 pub text_prefix : {O S : Type 0} (l : Code O S) (o : PlainOptions) (rs qs : List Record) (t : List ℕ) → text l o (rs ++ qs) ≡ Some t →
     (front : List ℕ) × (rest : List ℕ) × (text l o rs ≡ Some front) × (t ≡ front ++ rest)
 unfolding text story
 text_prefix l o rs qs t h =
-    let p = printed_at (story l o (rs ++ qs)) t h in
+    let p = mapped (λ c. lines_text c.stand.lines) (story l o (rs ++ qs)) t h in
     let s = story_prefix l o rs qs (initial l o.injectors) p.0 p.1 in
     prefix_of l o rs p.0 s.0 t s.2.0 s.1 s.2.1 p.2
 

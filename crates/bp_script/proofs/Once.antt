@@ -1,5 +1,6 @@
 -- Bytes are at most one program, and none that are refused.
 use Rattle.std.proofs.Common.{◌≡◌, ℕ, false, List, ap, sym, ◌∙◌, subst, arith, inl, inr, Option, Some, None}
+use Rattle.std.proofs.lemmas.Option.{none-some}
 use Rattle.js_lexer.specs.declared.token.Token.{Token}
 use Rattle.js_lexer.specs.declared.token.Flaw.{Flaw}
 use Rattle.js_lexer.proofs.Cutting.{one_cutting, never_both}
@@ -24,21 +25,18 @@ same_tree bytes a b h k =
     let t : IsTree MOST_NESTING k.tokens a = subst (λ (ts : List Token). IsTree MOST_NESTING ts a) same h.spelled in
     tree_once k.tokens a b t.spelled (k.spelled).spelled
 
-pub some_none : {A : Type 0} (x : A) → Some x ≡ None → ⊥
-some_none x h = cc
-
 no_flaw : (bytes : List ℕ) (tree : List PlainItem) (f : Flaw) (line : ℕ) → AreSpelled bytes tree → HasFlaw bytes f line → ⊥
 no_flaw bytes tree f line s h = never_both bytes s.tokens f (h.2).0 (s.cut).cut (h.2).1
 
 no_refused : (bytes : List ℕ) (tree : List PlainItem) (line : ℕ) → AreSpelled bytes tree → HasRefusedToken bytes line → ⊥
 no_refused bytes tree line s h =
     let same = same_tokens bytes s.tokens h.0 s.cut h.1 in
-    some_none line (sym h.2 ∙ ap (λ (ts : List Token). first_unsupported false ts) (sym same) ∙ s.supported)
+    none-some line (sym (sym h.2 ∙ ap (λ (ts : List Token). first_unsupported false ts) (sym same) ∙ s.supported))
 
 no_breach : (bytes : List ℕ) (tree : List PlainItem) (fault : NameFault) → AreAccepted bytes tree → HasNameFault bytes fault → ⊥
 no_breach bytes tree fault s h =
     let same = same_tree bytes tree h.0 s.spelled h.1 in
-    some_none fault (sym h.2 ∙ ap (λ (t : List PlainItem). name_fault t) (sym same) ∙ s.named)
+    none-some fault (sym (sym h.2 ∙ ap (λ (t : List PlainItem). name_fault t) (sym same) ∙ s.named))
 
 not_wrong : (bytes : List ℕ) (tree : List PlainItem) (line : ℕ) (kind : Kind) → AreAccepted bytes tree → IsWrong bytes line kind → ⊥
 not_wrong bytes tree line Kind.Character s h = no_flaw bytes tree _ line s.spelled h

@@ -1,7 +1,7 @@
 -- Bytes that are refused have one cause, and so one refusal.
 use Rattle.std.proofs.Common.{◌≡◌, ℕ, ◌≤◌, ◌<◌, false, List, length, refl, ap, sym, ◌∙◌, subst, arith, inl, inr, None}
 use Rattle.std.proofs.lemmas.Str.{utf8_valid_len-IsValidUpTo}
-use Rattle.std.proofs.lemmas.Option.{same_Some}
+use Rattle.std.proofs.lemmas.Option.{same_Some, none-some}
 use Rattle.js_lexer.specs.declared.limits.TheConstants.{MOST_BYTES}
 use Rattle.js_lexer.specs.declared.token.Flaw.{Flaw}
 use Rattle.js_lexer.specs.declared.token.Flaw.TheVariants as flaw
@@ -20,7 +20,7 @@ use Rattle.bp_script.specs.declared.refusal.Rule.{Rule}
 use Rattle.bp_script.specs.declared.refusal.Refusal.{Refusal}
 use Rattle.bp_script.specs.Programs.{AreCut, AreSpelled, HasFlaw, HasRefusedToken, IsNoText, HasNoSpelling, HasNameFault, BreaksRule, IsBroken, IsWrong, IsRefused}
 use Rattle.bp_script.specs.Laws.{but_for_line, OneRefusal}
-use Rattle.bp_script.proofs.Once.{same_tokens, same_tree, some_none}
+use Rattle.bp_script.proofs.Once.{same_tokens, same_tree}
 
 -- why bytes are refused
 data Cause : Type 0 where
@@ -74,7 +74,7 @@ unlike : (bytes : List ℕ) (line : ℕ) (tokens : List Token) → HasRefusedTok
     → first_unsupported false tokens ≡ None → ⊥
 unlike bytes line tokens h cut none =
     let same = same_tokens bytes h.0 tokens h.1 cut in
-    some_none line (sym h.2 ∙ ap (λ (ts : List Token). first_unsupported false ts) same ∙ none)
+    none-some line (sym (sym h.2 ∙ ap (λ (ts : List Token). first_unsupported false ts) same ∙ none))
 
 no_tree : (bytes : List ℕ) (line : ℕ) (tree : List PlainItem) → HasNoSpelling bytes line → AreSpelled bytes tree → ⊥
 no_tree bytes line tree h s =

@@ -3,7 +3,7 @@ use Rattle.std.proofs.Common.{◌≡◌, ℕ, ◌+◌, ◌<◌, ◌≤◌, Bool,
 use Rattle.std.specs.List.{list_any}
 use Rattle.std.proofs.lemmas.List.Folds.{list_any-append}
 use Rattle.std.proofs.lemmas.List.{drop_all, map_push}
-use Rattle.std.proofs.Math.Bool.{or-false}
+use Rattle.std.proofs.Math.Bool.{or-false, or_assoc}
 use Rattle.indexmap.specs.IndexSet.{insert_key}
 use Rattle.js_data.specs.Event.{PlainEvent, same_event}
 use Rattle.js_data.proofs.SameEvent.{same_event-sound}
@@ -41,9 +41,7 @@ module _ {K : Type 0} (f : K → PlainEvent) where
   there ks k e false h m = or_false (same_event e (f k)) (among ks e) h
 
   or_twice : (a b : Bool) → (a || (b || false)) ≡ (a || b)
-  or_twice true b = refl
-  or_twice false true = refl
-  or_twice false false = refl
+  or_twice a b = ap (λ c. a || c) (or-false b)
 
   more_at : (ks : List K) (k : K) (e : PlainEvent) (b : Bool) → among ks (f k) ≡ b → among (if b then ks else ks ++ k ∷ []) e ≡ (among ks e || same_event e (f k))
   more_at ks k e true m = there ks k e (same_event e (f k)) refl m
@@ -52,10 +50,6 @@ module _ {K : Type 0} (f : K → PlainEvent) where
   -- one key more
   pub among_more : (ks new : List K) (k : K) (e : PlainEvent) → new ≡ insert_key same_by ks k → among new e ≡ (among ks e || same_event e (f k))
   among_more ks new k e h = ap (λ (xs : List K). among xs e) h ∙ more_at ks k e (among ks (f k)) refl
-
-or_same : (a b c : Bool) → ((a || b) || c) ≡ (a || (b || c))
-or_same true b c = refl
-or_same false b c = refl
 
 -- ---- the keys of all
 
@@ -66,7 +60,7 @@ module _ {A : Type 0} (f : A → PlainEvent) where
   pub keys_step : (all : List A) (i : ℕ) (x : A) (e : PlainEvent) (old new whole : Bool) → i < length all → x ≡ get_or all i x → new ≡ (old || same_event e (f x)) →
       (old || later e i all) ≡ whole → (new || later e (i + 1) all) ≡ whole
   keys_step all i x e old new whole h k m w =
-      ap (λ (b : Bool). b || later e (i + 1) all) m ∙ or_same old (same_event e (f x)) (later e (i + 1) all)
+      ap (λ (b : Bool). b || later e (i + 1) all) m ∙ or_assoc old (same_event e (f x)) (later e (i + 1) all)
       ∙ ap (λ (xs : List A). old || list_any (same_event e) (map f xs)) (sym (drop_is all i x h k)) ∙ w
 
   pub keys_last : (all : List A) (i : ℕ) (e : PlainEvent) (found whole : Bool) → length all ≤ i → (found || later e i all) ≡ whole → found ≡ whole
@@ -81,12 +75,8 @@ pub found_later : (p : PlainEvent → Bool) (all : List PlainEvent) (i : ℕ) (r
     whole ≡ find p (drop (i + 1) all)
 found_later p all i r whole h k m w = w ∙ ap (λ (xs : List PlainEvent). find p xs) (drop_is all i r h k) ∙ (rw m refl)
 
-find_at : (p q : PlainEvent → Bool) (x : PlainEvent) (xs : List PlainEvent) → p x ≡ q x → find p xs ≡ find q xs → find p (x ∷ xs) ≡ find q (x ∷ xs)
-find_at p q x xs h k = rw (h, k) refl
-
 find_same : (p q : PlainEvent → Bool) (xs : List PlainEvent) → ((x : PlainEvent) → p x ≡ q x) → find p xs ≡ find q xs
-find_same p q [] h = refl
-find_same p q (x ∷ xs) h = find_at p q x xs (h x) (find_same p q xs h)
+find_same p q xs h = λ i. find (λ x. h x i) xs
 
 abbrev same_as : PlainEvent → Option PlainEvent → Bool
 same_as e o = elim o [ None ↦ false | Some r ↦ same_event r e ]
@@ -99,8 +89,7 @@ pub first_missing : (test : PlainEvent → Bool) (e : PlainEvent) (t : Live Plai
 first_missing test e t h = ap (λ (o : Option PlainEvent). same_as e o) (sym h)
 
 any_same : (p q : Live PlainSet → Bool) (ts : List (Live PlainSet)) → ((t : Live PlainSet) → p t ≡ q t) → list_any p ts ≡ list_any q ts
-any_same p q [] h = refl
-any_same p q (t ∷ ts) h = ap (λ (b : Bool). b || list_any p ts) (h t) ∙ ap (λ (b : Bool). q t || b) (any_same p q ts h)
+any_same p q ts h = λ i. list_any (λ t. h t i) ts
 
 -- among events that are told alike
 pub firsts_of : (inner : List PlainEvent) (test : PlainEvent → Bool) (ts : List (Live PlainSet)) (e : PlainEvent) → ((r : PlainEvent) → test r ≡ list_any (same_event r) inner) →
@@ -118,7 +107,7 @@ pub firsts_more : (q : Live PlainSet → Bool) (all : List Stated) (i : ℕ) (x 
     new ≡ (old || same_event e r) → (old || any_later q i all) ≡ whole → (new || any_later q (i + 1) all) ≡ whole
 firsts_more q all i x e r old new whole h k m n w =
     let rest = any_later q (i + 1) all in
-    ap (λ (b : Bool). b || rest) n ∙ or_same old (same_event e r) rest
+    ap (λ (b : Bool). b || rest) n ∙ or_assoc old (same_event e r) rest
     ∙ ap (λ (b : Bool). old || (b || rest)) (same_sym e r ∙ sym m)
     ∙ ap (λ (xs : List Stated). old || list_any q (map live_of xs)) (sym (drop_is all i x h k)) ∙ w
 

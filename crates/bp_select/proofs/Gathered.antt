@@ -1,5 +1,5 @@
 -- Events that are gathered without repeats are the distinct ones.
-use Rattle.std.proofs.Common.{◌≡◌, Bool, true, false, not, ◌&&◌, ◌||◌, List, [], ◌∷◌, ◌++◌, refl, ap, sym, ◌∙◌, subst, append_assoc, append-nil, filter, cond, if◌then◌else◌}
+use Rattle.std.proofs.Common.{◌≡◌, Bool, true, false, not, ◌&&◌, ◌||◌, List, [], ◌∷◌, ◌++◌, refl, ap, sym, ◌∙◌, subst, append_assoc, append-nil, filter, cond, if◌then◌else◌, fold}
 use Rattle.std.specs.List.{list_any}
 use Rattle.std.proofs.lemmas.List.Folds.{list_any-append}
 use Rattle.js_data.specs.Event.{PlainEvent, same_event}
@@ -13,8 +13,7 @@ abbrev pub with_new : List PlainEvent → PlainEvent → List PlainEvent
 with_new xs e = if list_any (same_event e) xs then xs else xs ++ e ∷ []
 
 abbrev pub with_all : List PlainEvent → List PlainEvent → List PlainEvent
-with_all xs [] = xs
-with_all xs (e ∷ es) = with_all (with_new xs e) es
+with_all xs es = fold with_new xs es
 
 -- ---- filters
 
@@ -75,7 +74,3 @@ filter_all (x ∷ xs) = ap (λ (ys : List PlainEvent). x ∷ ys) (filter_all xs)
 
 pub gathered : (xs : List PlainEvent) → with_all [] xs ≡ distinct xs
 gathered xs = gathered_from [] xs ∙ filter_all (distinct xs)
-
-pub with_all-append : (acc xs ys : List PlainEvent) → with_all acc (xs ++ ys) ≡ with_all (with_all acc xs) ys
-with_all-append acc [] ys = refl
-with_all-append acc (x ∷ xs) ys = with_all-append (with_new acc x) xs ys

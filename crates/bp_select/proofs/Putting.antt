@@ -2,11 +2,10 @@
 use Rattle.std.proofs.Common.{◌≡◌, ℕ, zero, suc, ◌<◌, ◌≤◌, arith, Bool, true, false, List, [], ◌∷◌, ◌++◌, length, map, take, drop, set, get_or, refl, ap, sym, ◌∙◌, subst, Option, Some, None, Result, Ok, Err, nat_lt, nat_eq, if◌then◌else◌, slice_get}
 use Rattle.std.specs.List.{AllWithin, cons_option, insert, remove}
 use Rattle.std.specs.Result.{OnOk, OnErr}
-use Rattle.std.proofs.lemmas.Bool.{lt-ltb, le-ltb, ltb-false, ltb-true, eqb-true, eq-eqb}
+use Rattle.std.proofs.lemmas.Bool.{lt-ltb, le-ltb, ltb-false, ltb-true, eqb-true, eq-eqb, ne_eqb}
 use Rattle.js_value.specs.Value.{PlainSet}
 use Rattle.bp_run.specs.Bodies.{Statement}
 use Rattle.bp_run.specs.Selecting.{Live}
-use Rattle.bp_run.proofs.Numbers.{not_equal}
 use Rattle.bp_select.specs.declared.bench.Stated.{Stated}
 use Rattle.bp_select.specs.Lives.{live_of}
 use Rattle.bp_select.specs.Benches.{live_at, placed}
@@ -59,7 +58,7 @@ placed_at : (n : ℕ) (o : Option (Statement PlainSet)) (t : Live PlainSet) (ts 
 placed_at n o t ts h = rw (le-ltb n t.number (omega (arith, h)), eq-eqb n t.number (sym h)) refl
 
 placed_after : (n : ℕ) (o : Option (Statement PlainSet)) (t : Live PlainSet) (ts : List (Live PlainSet)) → t.number < n → placed n o (t ∷ ts) ≡ t ∷ placed n o ts
-placed_after n o t ts h = rw (le-ltb n t.number (omega (arith, h)), not_equal n t.number (nat_eq n t.number) refl (λ e. omega (arith, e, h))) refl
+placed_after n o t ts h = rw (le-ltb n t.number (omega (arith, h)), ne_eqb n t.number (λ e. omega (arith, e, h))) refl
 
 -- ---- the order stays
 

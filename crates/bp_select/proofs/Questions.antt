@@ -1,7 +1,7 @@
 -- Steps of the questions over b-threads and events.
 use Rattle.std.proofs.Common.{◌≡◌, ℕ, ◌+◌, ◌<◌, ◌≤◌, Bool, true, false, not, ◌||◌, List, [], ◌∷◌, ◌++◌, length, map, drop, get_or, refl, ap, sym, ◌∙◌, append_assoc, append-nil, Option, Some, None, Result, Ok, Err, if◌then◌else◌}
 use Rattle.std.proofs.lemmas.List.{drop_all, map_push}
-use Rattle.std.proofs.Math.Bool.{or-false}
+use Rattle.std.proofs.Math.Bool.{or-false, or_assoc}
 use Rattle.js_data.specs.Event.{PlainEvent}
 use Rattle.js_data.proofs.Shared.{drop_is}
 use Rattle.js_value.specs.Value.{PlainSet}
@@ -32,13 +32,9 @@ fault_on x y Memory h k = tt
 abbrev pub seen : Bool → Asked Bool → Asked Bool
 seen b x = let first : Asked Bool = Ok b in both (λ a c. a || c) first x
 
-or_twice : (a b c : Bool) → (a || (b || c)) ≡ ((a || b) || c)
-or_twice true b c = refl
-or_twice false b c = refl
-
 seen_twice : (b c : Bool) (x : Asked Bool) → seen b (seen c x) ≡ seen (b || c) x
 seen_twice b c (Err z) = refl
-seen_twice b c (Ok d) = ap (λ (r : Bool). Ok r) (or_twice b c d)
+seen_twice b c (Ok d) = ap (λ (r : Bool). Ok r) (sym (or_assoc b c d))
 
 seen_none : (x : Asked Bool) → x ≡ seen false x
 seen_none (Err z) = refl

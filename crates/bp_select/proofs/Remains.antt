@@ -3,6 +3,7 @@ use Rattle.std.proofs.Common.{◌≡◌, ℕ, ◌+◌, ◌<◌, ◌≤◌, Bool,
 use Rattle.std.specs.Prelude.{ℤ, int_le}
 use Rattle.std.specs.List.{list_all}
 use Rattle.std.proofs.lemmas.List.{drop_all}
+use Rattle.std.proofs.lemmas.List.Elements.{filter_agree}
 use Rattle.js_data.specs.Event.{PlainEvent}
 use Rattle.js_data.proofs.Shared.{drop_is}
 use Rattle.js_value.specs.Value.{PlainSet}
@@ -11,15 +12,6 @@ use Rattle.bp_run.specs.Selecting.{Live}
 use Rattle.bp_run.specs.Choosing.{greater, priority_of, at_most, is_greatest, remaining}
 use Rattle.bp_run.proofs.Chosen.{int_total, int_trans}
 use Rattle.bp_select.specs.Priorities.{upper, top_of}
-
--- ---- filters by tests that agree
-
-filter_same_at : (p q : PlainEvent → Bool) (x : PlainEvent) (xs : List PlainEvent) → p x ≡ q x → filter p xs ≡ filter q xs → filter p (x ∷ xs) ≡ filter q (x ∷ xs)
-filter_same_at p q x xs h k = rw (h, k) refl
-
-filter_same : (p q : PlainEvent → Bool) (xs : List PlainEvent) → ((x : PlainEvent) → p x ≡ q x) → filter p xs ≡ filter q xs
-filter_same p q [] h = refl
-filter_same p q (x ∷ xs) h = filter_same_at p q x xs (h x) (filter_same p q xs h)
 
 -- ---- the order of priorities
 
@@ -51,7 +43,7 @@ all_most ts q (x ∷ xs) = ap (λ (b : Bool). at_most (priority_of ts x) q && b)
 
 pub priority_is : (ts : List (Live PlainSet)) (inner : List PlainEvent) → filter (λ e. at_most (top_of ts inner) (priority_of ts e)) inner ≡ remaining Priority ts inner
 priority_is ts inner =
-    filter_same (λ e. at_most (top_of ts inner) (priority_of ts e)) (is_greatest ts inner) inner (λ e. sym (all_most ts (priority_of ts e) inner))
+    filter_agree (λ e. at_most (top_of ts inner) (priority_of ts e)) (is_greatest ts inner) (λ e. sym (all_most ts (priority_of ts e) inner)) inner
 
 -- ---- the greatest, one after another
 

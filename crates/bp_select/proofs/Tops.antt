@@ -2,6 +2,7 @@
 use Rattle.std.proofs.Common.{◌≡◌, ℕ, zero, suc, ◌<◌, arith, Bool, true, false, ◌||◌, List, [], ◌∷◌, ◌++◌, length, map, get_or, refl, ap, sym, ◌∙◌, subst, flat_map, if◌then◌else◌, Option, Some, None}
 use Rattle.std.specs.Prelude.{ℤ, int_le}
 use Rattle.std.specs.List.{list_any}
+use Rattle.std.proofs.lemmas.List.Sums.{fold-append}
 use Rattle.js_data.specs.Event.{PlainEvent, same_event}
 use Rattle.js_data.proofs.SameEvent.{same_event-sound, same_event-self}
 use Rattle.js_data.proofs.Shared.{if_true, if_false}
@@ -11,7 +12,7 @@ use Rattle.bp_run.specs.Choosing.{priority_of}
 use Rattle.bp_select.specs.Priorities.{upper}
 use Rattle.bp_select.specs.Tops.{Top, events_of, raised, with_request, with_requests, with_live, HaveTops}
 use Rattle.bp_select.specs.Keys.{same_sym}
-use Rattle.bp_select.proofs.Gathered.{with_new, with_all, gathered, with_all-append}
+use Rattle.bp_select.proofs.Gathered.{with_new, with_all, gathered}
 use Rattle.bp_select.proofs.Remains.{upper_twice, upper_none, priority_at}
 
 -- ---- one request
@@ -61,7 +62,7 @@ events_live xs [] = refl
 events_live xs (t ∷ ts) =
     events_live (with_requests t.statement.priority xs t.statement.request) ts
     ∙ ap (λ (ys : List PlainEvent). with_all ys (requested_by ts)) (events_all t.statement.priority xs t.statement.request)
-    ∙ sym (with_all-append (events_of xs) t.statement.request (requested_by ts))
+    ∙ sym (fold-append with_new (events_of xs) t.statement.request (requested_by ts))
 
 pub tops_events : (ts : List (Live PlainSet)) → events_of (with_live [] ts) ≡ candidates ts
 tops_events ts = events_live [] ts ∙ gathered (requested_by ts)

@@ -27,7 +27,7 @@ impl From<Memory> for SelectFault {
 }
 
 /// Which event comes next.
-#[derive(Debug, Drop)]
+#[derive(Drop)]
 pub enum Choice {
     /// An event that a b-thread requests.
     Internal(Event),
@@ -38,7 +38,7 @@ pub enum Choice {
 }
 
 /// What can be selected.
-#[derive(Debug, Drop)]
+#[derive(Drop)]
 pub struct Enabled {
     /// The requested events that nobody blocks, in order of first appearance.
     pub inner: Vec<Event>,
@@ -47,7 +47,7 @@ pub struct Enabled {
 }
 
 /// Whom an event reaches, by number, in the order of registration.
-#[derive(Debug, Drop)]
+#[derive(Drop)]
 pub struct Reach {
     /// Those that go on.
     pub moved: Vec<u32>,

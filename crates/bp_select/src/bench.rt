@@ -25,7 +25,7 @@ use std::alloc::Global;
 use std::marker::Model;
 
 /// A live b-thread.
-#[derive(Debug, Drop)]
+#[derive(Drop)]
 pub(crate) struct Stated {
     /// Its number.
     pub number: u32,
@@ -38,7 +38,7 @@ pub(crate) struct Stated {
 ///
 /// A bench fits a ground and a budget where each answer that it keeps is that of its set under
 /// them. A new bench fits all of them.
-#[derive(Debug, Drop)]
+#[derive(Drop)]
 pub struct Bench {
     live: Vec<Stated>,
 }

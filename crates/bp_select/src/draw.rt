@@ -6,7 +6,7 @@ use bp_words::word_of;
 use std::marker::Model;
 
 /// The words that are drawn for a seed. Contracts see the seed, and how many words were drawn.
-#[derive(Debug, Drop)]
+#[derive(Drop)]
 pub struct Draw {
     seed: u64,
     drawn: u64,

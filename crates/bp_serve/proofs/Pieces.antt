@@ -1,8 +1,9 @@
 -- Text in pieces: written, waiting on the page, and to come.
-use Rattle.std.proofs.Common.{◌≡◌, ℕ, ◌+◌, ◌<◌, ◌≤◌, arith, List, [], ◌∷◌, ◌++◌, length, take, drop, get_or, refl, ap, sym, subst, ◌∙◌, append_assoc, append-nil, take-append-drop, flat_map, Option, Some, None}
-use Rattle.std.proofs.lemmas.List.{take_more, take_all, take-append-le}
+use Rattle.std.proofs.Common.{◌≡◌, ℕ, ◌+◌, ◌<◌, ◌≤◌, arith, List, [], ◌++◌, length, take, drop, get_or, refl, ap, sym, subst, ◌∙◌, append_assoc, append-nil, take-append-drop, Option, Some, None}
+use Rattle.std.proofs.lemmas.List.{take_all, take-append-le}
 use Rattle.std.proofs.lemmas.Grind.{flat_map-append}
-use Rattle.js_data.proofs.Shared.{drop_is}
+use Rattle.std.proofs.lemmas.Option.{same_Some}
+use Rattle.js_data.proofs.Shared.{flat_map_take, flat_map_split}
 use Rattle.bp_base.specs.Pieces.{Appends, AppendsFront}
 use Rattle.bp_base.proofs.Appending.{appends-on}
 use Rattle.bp_log.specs.declared.trace.Line.{Line}
@@ -15,12 +16,9 @@ pub appends_nothing : (a : Option (List ℕ)) → Appends a [] a
 appends_nothing None = tt
 appends_nothing (Some w) = sym (ap (λ (r : List ℕ). Some r) (append-nil w))
 
-some_is : (x y : List ℕ) → Some x ≡ Some y → x ≡ y
-some_is x y h = cc
-
 -- a text that was put on a page stands at its end
 pub put : (page more next : List ℕ) → Appends (Some page) more (Some next) → next ≡ page ++ more
-put page more next h = some_is next (page ++ more) h
+put page more next h = same_Some next (page ++ more) h
 
 -- nothing was written
 pub shows_page : (a : Option (List ℕ)) (page : List ℕ) → Shows a page page a
@@ -46,7 +44,7 @@ shows_stop a b text page rest whole e s = record { shown = text; rest = rest; is
 -- a front of what was to come waits
 pub shows_part : (a b : Option (List ℕ)) (text page more rest next whole : List ℕ) → whole ≡ text ++ (more ++ rest) → Shows a text page b → AppendsFront (Some page) more (Some next) → ShowsFront a whole next b
 shows_part a b text page more rest next whole e s h =
-    let same : next ≡ page ++ h.0 = some_is next (page ++ h.0) h.3 in
+    let same : next ≡ page ++ h.0 = same_Some next (page ++ h.0) h.3 in
     record {
       shown = text ++ h.0;
       rest = h.1 ++ rest;
@@ -132,19 +130,13 @@ lines_none = refl
 -- one more line
 pub lines_more : (xs : List Line) (i : ℕ) (x : Line) → i < length xs → x ≡ get_or xs i x → lines_text (take (i + 1) xs) ≡ lines_text (take i xs) ++ whole_line x
 unfolding lines_text
-lines_more xs i x h e =
-    ap (λ (r : List Line). flat_map whole_line r) (take_more xs i x h)
-    ∙ flat_map-append whole_line (take i xs) (get_or xs i x ∷ [])
-    ∙ ap (λ (r : List ℕ). flat_map whole_line (take i xs) ++ r) (append-nil (whole_line (get_or xs i x)))
-    ∙ ap (λ (y : Line). flat_map whole_line (take i xs) ++ whole_line y) (sym e)
+lines_more xs i x h e = flat_map_take whole_line xs i x x h e
 
 -- and those behind it
 pub lines_split : (xs : List Line) (i : ℕ) (x : Line) → i < length xs → x ≡ get_or xs i x →
     lines_text xs ≡ lines_text (take i xs) ++ (whole_line x ++ lines_text (drop (i + 1) xs))
 unfolding lines_text
-lines_split xs i x h e =
-    ap (λ (r : List Line). flat_map whole_line r) (sym (take-append-drop i xs)) ∙ flat_map-append whole_line (take i xs) (drop i xs)
-    ∙ ap (λ (r : List Line). flat_map whole_line (take i xs) ++ flat_map whole_line r) (drop_is xs i x h e)
+lines_split xs i x h e = flat_map_split whole_line xs i x h e
 
 -- before the first line
 pub shows_none : (a : Option (List ℕ)) (page : List ℕ) → Shows a (page ++ lines_text []) page a
@@ -171,19 +163,13 @@ records_none = refl
 -- one more record
 pub records_more : (xs : List Record) (i : ℕ) (x : Record) → i < length xs → x ≡ get_or xs i x → records_text (take (i + 1) xs) ≡ records_text (take i xs) ++ whole_record x
 unfolding records_text
-records_more xs i x h e =
-    ap (λ (r : List Record). flat_map whole_record r) (take_more xs i x h)
-    ∙ flat_map-append whole_record (take i xs) (get_or xs i x ∷ [])
-    ∙ ap (λ (r : List ℕ). flat_map whole_record (take i xs) ++ r) (append-nil (whole_record (get_or xs i x)))
-    ∙ ap (λ (y : Record). flat_map whole_record (take i xs) ++ whole_record y) (sym e)
+records_more xs i x h e = flat_map_take whole_record xs i x x h e
 
 -- and those behind it
 pub records_split : (xs : List Record) (i : ℕ) (x : Record) → i < length xs → x ≡ get_or xs i x →
     records_text xs ≡ records_text (take i xs) ++ (whole_record x ++ records_text (drop (i + 1) xs))
 unfolding records_text
-records_split xs i x h e =
-    ap (λ (r : List Record). flat_map whole_record r) (sym (take-append-drop i xs)) ∙ flat_map-append whole_record (take i xs) (drop i xs)
-    ∙ ap (λ (r : List Record). flat_map whole_record (take i xs) ++ flat_map whole_record r) (drop_is xs i x h e)
+records_split xs i x h e = flat_map_split whole_record xs i x h e
 
 take_front : (xs later all : List Record) (k : ℕ) → xs ++ later ≡ all → k ≤ length xs → take k all ≡ take k xs
 take_front xs later all k e h = ap (λ (r : List Record). take k r) (sym e) ∙ take-append-le k xs later h
@@ -226,7 +212,7 @@ records_whole base all k e = ap (λ (n : ℕ). base ++ records_text (take n all)
 pub records_part : (page at next : List ℕ) (xs : List Record) (i : ℕ) (x : Record) → i < length xs → x ≡ get_or xs i x → at ≡ page ++ records_text (take i xs) →
     AppendsFront (Some at) (whole_record x) (Some next) → AppendsFront (Some page) (records_text xs) (Some next)
 records_part page at next xs i x h e k f =
-    let same : next ≡ at ++ f.0 = some_is next (at ++ f.0) f.3 in (
+    let same : next ≡ at ++ f.0 = same_Some next (at ++ f.0) f.3 in (
       records_text (take i xs) ++ f.0,
       f.1 ++ records_text (drop (i + 1) xs),
       records_split xs i x h e ∙ ap (λ (r : List ℕ). records_text (take i xs) ++ (r ++ records_text (drop (i + 1) xs))) f.2

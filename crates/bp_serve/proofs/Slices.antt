@@ -1,5 +1,6 @@
 -- Jobs that are carried on by slices.
-use Rattle.std.proofs.Common.{◌≡◌, ℕ, zero, suc, ◌+◌, ◌<◌, ◌≤◌, Bool, false, List, [], ◌∷◌, length, slice_index_or, sym, subst, arith}
+use Rattle.std.proofs.Common.{◌≡◌, ℕ, ◌+◌, ◌<◌, ◌≤◌, Bool, false, List, length, slice_index_or, sym, subst, arith}
+use Rattle.std.proofs.lemmas.List.Elements.{All-from_recursion}
 use Rattle.js_meaning.specs.State.{Ground, Effect}
 use Rattle.bp_thread.specs.declared.job.Job.{Job}
 use Rattle.bp_thread.specs.Jobs.{StandsAt, Sliced}
@@ -32,9 +33,7 @@ module _ (base : Ground) (budget : ℕ) where
 -- ---- many jobs
 
 pub can_run_at : (base : Ground) (budget : ℕ) (jobs : List Job) (k : ℕ) (d : Job) → AllCanRun base budget jobs → k < length jobs → CanRun base budget (slice_index_or jobs k d)
-can_run_at base budget [] k d a h = absurd (omega arith)
-can_run_at base budget (j ∷ js) zero d a h = a.0
-can_run_at base budget (j ∷ js) (suc k) d a h = can_run_at base budget js k d a.1 (omega arith)
+can_run_at base budget jobs k d a h = All-from_recursion (CanRun base budget) jobs a k d h
 
 -- the next job is one of those that were given
 pub can_run_next : (base : Ground) (budget : ℕ) (jobs items given : List Job) (i : ℕ) (d : Job) → given ≡ jobs → i < length given → AllCanRun base budget jobs →

@@ -6,15 +6,11 @@ use Rattle.bp_run.specs.Bodies.{Code}
 use Rattle.bp_run.specs.Settling.{Entry, Pair, Ran, ran, unless_at, with_part, merged, turn, at_rest, settle}
 use Rattle.bp_run.proofs.Turns.{settled, unsettled}
 
-unless_kept : {O : Type 0} (f : Pair O → Pair O) (p : Pair O) (v : Option Verdict) (w : Verdict) → v ≡ Some w → unless_at v f p ≡ p
-unless_kept f p None w h = absurd (cc)
-unless_kept f p (Some v) w h = refl
-
 -- nothing is merged after a verdict
 merged_over : {O S : Type 0} (rs : List (Ran O S)) (p : Pair O) (w : Verdict) → p.stand.verdict ≡ Some w → merged rs p ≡ p
 merged_over [] p w h = refl
 merged_over (r ∷ rs) p w h =
-    ap (λ (q : Pair _). merged rs q) (unless_kept (with_part r.entry r.part) p p.stand.verdict w h) ∙ merged_over rs p w h
+    ap (λ (q : Pair _). merged rs q) (ap (λ (v : Option Verdict). unless_at v (with_part r.entry r.part) p) h) ∙ merged_over rs p w h
 
 rest_turn : {O S : Type 0} (l : Code O S) (p : Pair O) (v : Option Verdict) (ns : List (Entry O)) → p.stand.verdict ≡ v → p.entries ≡ ns →
     (elim v [ None ↦ elim ns [ [] ↦ true | n ∷ more ↦ false ] | Some w ↦ true ]) ≡ true → (turn l p).stand.verdict ≡ v

@@ -2,6 +2,7 @@
 use Rattle.std.proofs.Common.{◌≡◌, ℕ, zero, suc, ◌+◌, ◌-◌, ◌<◌, ◌≤◌, true, List, [], ◌∷◌, ◌++◌, length, take, drop, refl, ap, sym, ◌∙◌, subst, append_assoc, append-nil, length-append, arith, Option, Some, None, Ok, Err, option_map, IsSomeAnd}
 use Rattle.std.specs.Prelude.{option_to_list, Result, OnOk, OnErr}
 use Rattle.std.proofs.lemmas.List.{length_push}
+use Rattle.js_data.proofs.Shared.{one_answer}
 use Rattle.js_value.specs.Value.{PlainSet}
 use Rattle.js_meaning.specs.State.{Ground}
 use Rattle.js_meaning.specs.Bodies.{Origin}
@@ -39,7 +40,7 @@ use Rattle.bp_serve.specs.Ends.{verdict_alone}
 use Rattle.bp_serve.specs.Pages.{Shows, ShowsFront}
 use Rattle.bp_serve.specs.Serving.{Ahead, OnTheWay, Underway, KeepsUnderway, Begins, TakesLines}
 use Rattle.bp_log.specs.Logs.{records_text}
-use Rattle.bp_log.proofs.Complete.{incomplete_on}
+use Rattle.bp_log.proofs.Complete.{complete_by_last}
 use Rattle.bp_serve.specs.Logging.{LogShows, LogShowsFront}
 use Rattle.bp_serve.proofs.Logging.{log_more_on, log_more_front}
 use Rattle.bp_serve.proofs.Pieces.{records_kept, records_later, lines_text-append, lines_none, let_go, shows_page, shows_on, front_on, written_all, written_front, written_part, written_front_part}
@@ -79,7 +80,7 @@ selects_left l o rs c ch r (suc n) a h f g =
     let x : Next = Selects ch r in
     record {
       story_is = subst (λ (y : Next). story l o (rs ++ option_to_list (record_of y)) ≡ Some (after_next l c y)) h (goes_on l o rs c a.story_is a.incomplete);
-      incomplete = incomplete_on rs (Sel ch.event) refl;
+      incomplete = complete_by_last rs (Sel ch.event);
       left = n;
       fuel = omega (arith, f, more);
       within = omega (arith, less, more);
@@ -131,16 +132,13 @@ begins_none l o i =
       text_is = text_at l o (alone l o) a.0 a.1 ∙ ap (λ (x : List ℕ). Some (x ++ lines_text (a.0).stand.lines)) (sym lines_none);
     }
 
-same_text : (s t : List ℕ) (o : Option (List ℕ)) → o ≡ Some s → o ≡ Some t → s ≡ t
-same_text s t o h k = cc
-
 begins_told : (l : Code Origin PlainSet) (o : PlainOptions) (rs later : List Record) (told : Configuration Origin) (lines more : List Line) → o.injectors ≡ 0 →
     rs ++ later ≡ alone l o → story l o rs ≡ Some told → told.stand.lines ≡ lines ++ more → Begins l o lines
 begins_told l o rs later told lines more i e h k =
     let a = alone_is l o i in
     let whole : text l o (rs ++ later) ≡ Some (lines_text (a.0).stand.lines) = ap (λ (es : List Record). text l o es) e ∙ text_at l o (alone l o) a.0 a.1 in
     let p = text_prefix l o rs later (lines_text (a.0).stand.lines) whole in
-    let front : p.0 ≡ lines_text told.stand.lines = same_text p.0 (lines_text told.stand.lines) (text l o rs) p.2 (text_at l o rs told h) in
+    let front : p.0 ≡ lines_text told.stand.lines = one_answer (text l o rs) p.0 (lines_text told.stand.lines) p.2 (text_at l o rs told h) in
     record {
       rest = lines_text more ++ p.1;
       text_is = text_at l o (alone l o) a.0 a.1

@@ -36,7 +36,7 @@ pub trait Carrier {
 }
 
 /// The calling thread, which carries one job after the other.
-#[derive(Debug, Drop)]
+#[derive(Drop)]
 pub struct Alone(pub Beside);
 
 impl Carrier for Alone {

@@ -18,7 +18,7 @@ const FULL: usize = 65_536;
 ///
 /// A page takes what is written to it unless memory is wanting. It keeps no count of faults, which
 /// so stands at its greatest.
-#[derive(Debug, Drop)]
+#[derive(Drop)]
 pub struct Page {
     bytes: Vec<u8>,
 }

@@ -7,7 +7,6 @@ use bp_arbiter::Arbiter;
 use bp_log::{Memory, Records, Verdict};
 
 /// What a run came to.
-#[derive(Debug)]
 pub struct Report {
     /// Its verdict.
     pub verdict: Verdict,

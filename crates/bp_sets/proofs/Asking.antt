@@ -1,6 +1,7 @@
 -- What a predicate's machine tells at its end.
-use Rattle.std.proofs.Common.{◌≡◌, ℕ, Bool, List, [], ◌∷◌, Option, Some, Result, sym, ap, ◌∙◌, subst}
+use Rattle.std.proofs.Common.{◌≡◌, ℕ, Bool, List, [], ◌∷◌, Some, Result, sym, ap, ◌∙◌, subst}
 use Rattle.js_data.specs.Event.{PlainEvent}
+use Rattle.js_data.proofs.Shared.{one_answer}
 use Rattle.js_value.specs.Value as v
 use Rattle.js_value.specs.Value.{PlainValue, ValueList}
 use Rattle.js_program.specs.declared.builtin.Mode.TheVariants.{Predicate}
@@ -13,12 +14,9 @@ use Rattle.bp_meaning.specs.Membership.{truth_answered, asks_predicate}
 use Rattle.bp_sets.specs.declared.fault.SetFault.{SetFault}
 use Rattle.bp_sets.specs.Answers.{TellsAs}
 
-same_value : (o : Option PlainValue) (x y : PlainValue) → o ≡ Some x → o ≡ Some y → x ≡ y
-same_value o x y h g = cc
-
 pub ended : (line : ℕ) (o : Outcome) (made : List Effect) (m : Machine) (answer : PlainValue) (r : Result Bool SetFault) → Answers o made m → answer_by m ≡ Some answer → ((s : State) → TellsAs (truth_answered line (went (normal answer) s)) r) → TellsAs (truth_answered line o) r
 ended line o made m answer r a h t =
-    let is = a.is ∙ ap (λ x. went (normal x) a.state) (same_value _ _ _ a.answered h) in
+    let is = a.is ∙ ap (λ x. went (normal x) a.state) (one_answer _ _ _ a.answered h) in
     subst (λ x. TellsAs (truth_answered line x) r) (sym is) (t a.state)
 
 -- the function and the event that were copied are those that were given

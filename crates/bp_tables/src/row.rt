@@ -4,7 +4,7 @@ ghost use Rattle.std.specs.Prelude.{◌≡◌, ◌≤◌, length, IsTrue};
 ghost use Rattle.bp_tables.specs.Keys.{key_of, is_within};
 
 /// A key of few bytes, and its value. The key is the first `size` bytes of `key`.
-#[derive(Clone, Copy, Debug)]
+#[derive(Clone, Copy)]
 pub struct Row {
     pub key: [u8; 24],
     pub size: u8,

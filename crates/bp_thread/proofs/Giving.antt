@@ -1,6 +1,7 @@
 -- A job that was given an event stands for its body with one reply more.
 use Rattle.std.proofs.Common.{◌≡◌, ℕ, true, List, [], ◌∷◌, ◌++◌, append-nil, Option, Some, None, refl, sym, ap, ◌∙◌, subst, IsSome}
 use Rattle.js_data.specs.Event.{PlainEvent}
+use Rattle.js_data.proofs.Shared.{one_answer}
 use Rattle.js_value.specs.Value.{PlainValue, PlainSet}
 use Rattle.js_meaning.specs.State.{Ground, Effect, Left, Outcome, went, broken, violated, spent, stopped, effects_of, effects_since}
 use Rattle.js_meaning.specs.Bodies.{Origin, evaluation}
@@ -13,7 +14,7 @@ use Rattle.bp_meaning.specs.After.{outcome_of}
 use Rattle.bp_thread.specs.declared.job.Job.{Job}
 use Rattle.bp_thread.specs.Views.{plain_origin}
 use Rattle.bp_thread.specs.Jobs.{plain_job, is_stopped, IsOutcome, StandsFor, IsWhole}
-use Rattle.bp_thread.proofs.Standing.{false_true, outcome_there, same_machine}
+use Rattle.bp_thread.proofs.Standing.{false_true, outcome_there}
 
 -- an evaluation whose outcome is a stop
 record Stop (o : Outcome) : Type 0 where
@@ -51,7 +52,7 @@ pub given : (base : Ground) (budget : ℕ) (old new : Job) (m n : Machine) (e : 
     untaken n ≡ untaken m → StandsFor base budget old → IsWhole base budget new
 given base budget old new m n e there there_now origin replies handler effects outcome stop resumes taken h =
     let at = h.stands in
-    let same = same_machine old.machine at.machine m at.there there in
+    let same = one_answer old.machine at.machine m at.there there in
     record {
       begun = 0;
       before = h.made;

@@ -5,16 +5,12 @@ use Rattle.js_value.specs.Value.{PlainValue, PlainSet}
 use Rattle.js_meaning.specs.State as js
 use Rattle.js_meaning.specs.State.{Ground, Effect, effects_of}
 use Rattle.js_meaning.specs.Bodies.{evaluation}
-use Rattle.js_frames.specs.declared.machine.Machine.{Machine}
 use Rattle.bp_run.specs.Bodies as run
 use Rattle.bp_meaning.specs.After.{outcome_of, handler_after}
 use Rattle.bp_thread.specs.declared.job.Job.{Job}
 use Rattle.bp_thread.specs.Views.{plain_origin}
 use Rattle.bp_thread.specs.Jobs.{PlainJob, plain_job, IsOutcome, IsWhole}
 use Rattle.bp_thread.specs.Carried.{carried}
-
-pub same_machine : (m : Option Machine) (a b : Machine) → m ≡ Some a → m ≡ Some b → a ≡ b
-same_machine m a b e f = cc
 
 pub false_true : false ≡ true → ⊥
 false_true h = cc

@@ -3,7 +3,6 @@ use crate::statement::Statement;
 use js_data::{Fault, Text};
 
 /// Where a body stands when it can't go on by itself.
-#[derive(Debug)]
 pub enum Outcome {
     /// At `bp.sync`, with this statement.
     Stopped(Statement),

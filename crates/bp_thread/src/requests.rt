@@ -8,7 +8,7 @@ use std::marker::Model;
 use std::sync::Arc;
 
 /// The events that a statement requests, in order, which its copies share. Contracts see the list.
-#[derive(Debug, Drop)]
+#[derive(Drop)]
 pub struct Requests {
     /// Nothing where none is requested.
     shared: Option<Arc<Events>>,

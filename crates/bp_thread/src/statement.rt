@@ -7,7 +7,6 @@ use js_data::{Memory, Whole};
 use js_value::EventSet;
 
 /// What a b-thread states at `bp.sync`.
-#[derive(Debug)]
 pub struct Statement {
     /// The events that it requests, in order.
     pub request: Requests,

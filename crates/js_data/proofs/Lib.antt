@@ -3,3 +3,4 @@ pub mod SameEvent
 mod Examples
 pub mod Crosses
 pub mod Shared
+pub mod After

@@ -3,26 +3,23 @@ use Rattle.std.proofs.Common.{◌≡◌, ◌≢◌, ℕ, List, [], ◌∷◌, le
 use Rattle.std.specs.Bool.{Decides}
 use Rattle.std.specs.Cmp.{booleans_Decides, signed_Decides}
 use Rattle.std.proofs.lemmas.Bool.{and_parts}
+use Rattle.std.proofs.Math.Bool.{and-false}
 use Rattle.std.proofs.lemmas.Slice.Eq.{bytes_eq-Decides}
 use Rattle.js_data.specs.Data.{PlainData, null, truth, whole, words, list, fields, DataList, no_data, item, DataFields, no_fields, field, same_data, same_data_list, same_data_fields}
 use Rattle.js_data.specs.Views.{data_list_view, data_fields_view}
 use Rattle.js_data.specs.declared.data.Data.{Data}
 
-and_false : (b : Bool) → (b && false) ≡ false
-and_false true = refl
-and_false false = refl
-
 pub differ_by_length : (xs ys : List Data) → length xs ≢ length ys → same_data_list (data_list_view xs) (data_list_view ys) ≡ false
 differ_by_length [] [] h = absurd (h refl)
 differ_by_length [] (y ∷ ys) h = refl
 differ_by_length (x ∷ xs) [] h = refl
-differ_by_length (x ∷ xs) (y ∷ ys) h = rw (differ_by_length xs ys (λ e. h (ap suc e))) (and_false _)
+differ_by_length (x ∷ xs) (y ∷ ys) h = rw (differ_by_length xs ys (λ e. h (ap suc e))) (and-false _)
 
 pub fields_differ_by_length : (xs ys : List (List ℕ × Data)) → length xs ≢ length ys → same_data_fields (data_fields_view xs) (data_fields_view ys) ≡ false
 fields_differ_by_length [] [] h = absurd (h refl)
 fields_differ_by_length [] (y ∷ ys) h = refl
 fields_differ_by_length (x ∷ xs) [] h = refl
-fields_differ_by_length (x ∷ xs) (y ∷ ys) h = rw (fields_differ_by_length xs ys (λ e. h (ap suc e))) (and_false _)
+fields_differ_by_length (x ∷ xs) (y ∷ ys) h = rw (fields_differ_by_length xs ys (λ e. h (ap suc e))) (and-false _)
 
 -- ---- equality
 

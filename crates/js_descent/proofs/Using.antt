@@ -5,7 +5,7 @@ use Rattle.js_lexer.specs.declared.token.Token.{Token}
 use Rattle.js_tree.specs.declared.tree.Name.{Name}
 use Rattle.js_tree.specs.declared.tree.DeclareKind.{DeclareKind}
 use Rattle.js_tree.specs.Plain as p
-use Rattle.js_tree.specs.Plain.{PlainExpr, at, on, PlainField, PlainDeclarator, PlainStmt, exprs_of, fields_of, declarators_of, stmts_of}
+use Rattle.js_tree.specs.Plain.{PlainExpr, at, on, PlainField, PlainDeclarator, exprs_of, fields_of, declarators_of, stmts_of}
 use Rattle.js_tree.specs.Endings.{ending}
 use Rattle.js_lexer.specs.declared.sort.Sort.{Sort}
 use Rattle.js_grammar.specs.Sorts.{spot}
@@ -15,7 +15,7 @@ use Rattle.js_grammar.specs.Grammar.{Level, Operators, Assignment}
 use Rattle.js_grammar.specs.Reading as read
 use Rattle.js_grammar.specs.Expressions as exprs
 use Rattle.js_grammar.specs.Statements as stmts
-use Rattle.js_grammar.specs.Reading.{next_turn, run, and_then, after, after_some, done}
+use Rattle.js_grammar.specs.Reading.{next_turn, run, and_then, after, after_some}
 use Rattle.js_grammar.specs.Reader.{readers}
 use Rattle.js_steps.specs.Passed.{at_first}
 
@@ -89,23 +89,10 @@ statement_in (suc n) ts h = rw sub-one refl
 
 -- tokens that are wanting
 
-pub choice_alone : (n line : ℕ) (a : PlainExpr) (ts : List Token) → starts Sort.Question ts ≡ false → exprs.choice_after n (readers n) line a ts ≡ Some (a, ts)
-choice_alone n line a [] h = refl
-choice_alone n line a (t ∷ ts) h = rw h refl
-
-pub else_alone : (n line : ℕ) (e : PlainExpr) (s : PlainStmt) (ts : List Token) → starts Sort.Else ts ≡ false → stmts.else_after n (readers n) line e s ts ≡ Some (on line (p.if_alone e s), ts)
-else_alone n line e s [] h = refl
-else_alone n line e s (t ∷ ts) h = rw h refl
-
 pub body_value : (n : ℕ) (t : Token) (xs : List Name) (ts : List Token) → starts Sort.LeftBrace ts ≡ false →
     exprs.body n (readers n) t xs ts ≡ and_then ((readers n).expr Assignment ts) (λ e r. Some (at 0 t.line (p.arrow_value (spot t) xs e), r))
 body_value n t xs [] h = rw (nothing_read n) refl
 body_value n t xs (u ∷ ts) h = rw h refl
-
-pub value_alone : (n : ℕ) (alone : PlainDeclarator) (k : DeclareKind) (x : Name) (ts : List Token) → starts Sort.Set ts ≡ false → is_const k ≡ false →
-    exprs.value_at n (readers n) alone k x ts ≡ Some (alone, ts)
-value_alone n alone k x [] h c = rw c refl
-value_alone n alone k x (t ∷ ts) h c = rw (h, c) refl
 
 pub value_none : (n : ℕ) (alone : PlainDeclarator) (k : DeclareKind) (x : Name) (ts : List Token) → starts Sort.Set ts ≡ false → is_const k ≡ true →
     exprs.value_at n (readers n) alone k x ts ≡ None
@@ -131,10 +118,6 @@ fields_begin n fs (t ∷ ts) h = rw h refl
 pub next_field_none : (n : ℕ) (fs : List PlainField) (ts : List Token) → starts Sort.RightBrace ts ≡ false → starts Sort.Comma ts ≡ false → exprs.next_field n (readers n) fs ts ≡ None
 next_field_none n fs [] h k = refl
 next_field_none n fs (t ∷ ts) h k = rw (h, k) refl
-
-pub next_declarator_stop : (n : ℕ) (ds : List PlainDeclarator) (ts : List Token) → starts Sort.Comma ts ≡ false → exprs.next_declarator n (readers n) ds ts ≡ Some (done ds ts)
-next_declarator_stop n ds [] h = refl
-next_declarator_stop n ds (t ∷ ts) h = rw h refl
 
 pub operators_next : (n k : ℕ) (ts : List Token) (e : PlainExpr) (r : List Token) → exprs.operators n (readers n) k ts ≡ Some (e, r) →
     exprs.operators n (readers n) (k + 1) ts ≡ run (exprs.operated_step n (readers n) (line_of ts) k) e r

@@ -97,7 +97,7 @@ fn assign(cursor: &mut Cursor<'_>, inner: u32) -> Answer<Expr>
 
 /// A test and two branches, or the test alone.
 #[cycle(descent)]
-#[tactic(auto, using(js_steps::proofs::Using::after_none, crate::proofs::Using::choice_alone))]
+#[tactic(auto, using(js_steps::proofs::Using::after_none, js_grammar::proofs::Complete::choice_alone))]
 fn choice(cursor: &mut Cursor<'_>, inner: u32) -> Answer<Expr>
     requires { inner < u32.MAX }
     ensures { IsExpr (choice_read inner (readers inner)) (inner + 1) cursor.old cursor.new result }
@@ -424,7 +424,7 @@ fn fields(cursor: &mut Cursor<'_>, inner: u32) -> Answer<Vec<Field>>
 
 /// A declared name and its value, if it has one.
 #[cycle(descent)]
-#[tactic(auto, using(crate::proofs::Using::value_alone, crate::proofs::Using::value_none))]
+#[tactic(auto, using(js_grammar::proofs::Complete::value_alone, crate::proofs::Using::value_none))]
 fn declarator(cursor: &mut Cursor<'_>, kind: DeclareKind, inner: u32) -> Answer<Declarator>
     ensures { IsRead plain_declarator (λ d. perhaps_nesting d.value)
         (declarator_read inner (readers inner) kind) inner 1 cursor.old cursor.new result }
@@ -452,7 +452,7 @@ fn declarator(cursor: &mut Cursor<'_>, kind: DeclareKind, inner: u32) -> Answer<
 
 /// Declarators separated by commas.
 #[cycle(descent)]
-#[tactic(auto, using(js_steps::proofs::Loops::declarators_turn, js_tree::proofs::Rows::map_push_declarator, js_tree::proofs::Rows::deepest_push_declarator, crate::proofs::Using::next_declarator_stop))]
+#[tactic(auto, using(js_steps::proofs::Loops::declarators_turn, js_tree::proofs::Rows::map_push_declarator, js_tree::proofs::Rows::deepest_push_declarator, js_grammar::proofs::Complete::next_declarator_stop))]
 fn declarators(cursor: &mut Cursor<'_>, kind: DeclareKind, inner: u32) -> Answer<Vec<Declarator>>
     ensures { IsRead (λ ds. map plain_declarator ds.items)
         (λ ds. deepest_declarator (declarators_of ds))
@@ -538,7 +538,7 @@ fn declaration(cursor: &mut Cursor<'_>, kind: DeclareKind, inner: u32) -> Answer
 
 /// A condition.
 #[cycle(descent)]
-#[tactic(auto, using(crate::proofs::Using::else_alone))]
+#[tactic(auto, using(js_grammar::proofs::Complete::else_alone))]
 fn if_of(cursor: &mut Cursor<'_>, inner: u32) -> Answer<Stmt>
     requires { inner < u32.MAX }
     ensures { IsStmt (at_first (λ t. if_at inner (readers inner) t.line)) (inner + 1)

@@ -1,8 +1,10 @@
 -- Lists that are read from a place on.
-use Rattle.std.proofs.Common.{◌≡◌, ℕ, zero, suc, ◌+◌, ◌≤◌, List, [], ◌∷◌, length, drop, take, map, Some, None, refl, ap, ◌∙◌, arith, Global}
+use Rattle.std.proofs.Common.{◌≡◌, ℕ, zero, suc, ◌+◌, ◌≤◌, List, [], ◌∷◌, length, drop, take, map, Some, None, refl, sym, arith, Global}
+use Rattle.std.proofs.lemmas.Option.{slice_get_within, get_or_from_slice_get}
 use Rattle.std.specs.Prelude.{slice_get, slice_set, fold}
 use Rattle.std.specs.declared.sync.Arc.{Arc}
 use Rattle.std.specs.Arc.{arc_value}
+use Rattle.js_data.proofs.Shared.{drop_is}
 use Rattle.js_value.specs.Value.{PlainValue, ValueFields}
 use Rattle.js_ops.specs.Making.{put, put_all}
 use Rattle.js_meaning.specs.State.{State}
@@ -11,11 +13,7 @@ use Rattle.js_meaning.specs.Forms.{argument}
 
 -- what is left of a list from a place
 pub drop_at : {X : Type 0} (xs : List X) (k : ℕ) (x : X) → slice_get xs k ≡ Some x → drop k xs ≡ x ∷ drop (k + 1) xs
-drop_at [] k x h = cc
-drop_at (y ∷ xs) zero x h = let e : y ≡ x = cc in ap (λ z. z ∷ xs) e
-drop_at (y ∷ xs) (suc k) x h =
-    let e : suc (k + 1) ≡ suc k + 1 = omega arith in
-    drop_at xs k x h ∙ ap (λ j. x ∷ drop j (y ∷ xs)) e
+drop_at xs k x h = drop_is xs k x (slice_get_within xs k x h) (sym (get_or_from_slice_get xs k x x h))
 
 pub drop_past : {X : Type 0} (xs : List X) (k : ℕ) → slice_get xs k ≡ None → drop k xs ≡ []
 drop_past [] zero h = refl
@@ -50,14 +48,3 @@ padded_two zero x i l h = refl
 padded_two (suc zero) x i l h = refl
 padded_two (suc (suc zero)) x i l h = refl
 padded_two (suc (suc (suc n))) x i l h = absurd (omega arith)
-
--- one element is put, and then all are seen otherwise
-pub put_mapped : {X Y : Type 0} (f : X → Y) (xs : List X) (k : ℕ) (x : X) → map f (slice_set xs k x) ≡ slice_set (map f xs) k (f x)
-put_mapped f [] k x = refl
-put_mapped f (y ∷ ys) zero x = refl
-put_mapped f (y ∷ ys) (suc k) x = ap (λ l. f y ∷ l) (put_mapped f ys k x)
-
-pub take_put : {X : Type 0} (xs : List X) (k : ℕ) (x : X) → take k (slice_set xs k x) ≡ take k xs
-take_put [] k x = refl
-take_put (y ∷ ys) zero x = refl
-take_put (y ∷ ys) (suc k) x = ap (λ l. y ∷ l) (take_put ys k x)

@@ -5,7 +5,7 @@ use js_program::Variable;
 use js_value::{Items, Op, Value};
 
 /// A loop's test, its body, and what comes between two turns.
-#[derive(Clone, Copy, Debug)]
+#[derive(Clone, Copy)]
 pub struct Turns {
     pub test: Option<u32>,
     pub body: u32,
@@ -13,7 +13,7 @@ pub struct Turns {
 }
 
 /// Whose statements are done in order.
-#[derive(Clone, Copy, Debug)]
+#[derive(Clone, Copy)]
 pub enum Sequence {
     /// Those of the block of this number.
     Block(u32),

@@ -39,12 +39,38 @@ pub enum Pause {
 }
 
 /// What a machine goes on with.
-#[derive(Drop)]
 pub enum Pending {
     /// A step.
     Next(Step),
     /// The event that `bp.sync` answers.
     Resumed(Event),
+}
+
+impl Drop for Pending {
+    fn drop(self) {
+        match self {
+            Pending::Next(_) => {}
+            Pending::Resumed(_) => {}
+        }
+    }
+}
+
+impl Pending {
+    /// The step by which a machine goes on.
+    fn step(self, alloc: Global) -> Result<Step, Memory>
+        ensures same { (g : js.Setting) (s : js.State) →
+            IfOk result (λ step. step_outcome g step s ≡ pending_outcome g self s) }
+        ensures fits { (program : PlainProgram) →
+            PendingFits program self → IfOk result (StepFits program) }
+    {
+        match self {
+            Pending::Next(step) => Ok(step),
+            Pending::Resumed(event) => {
+                let value = event_value(alloc, event)?;
+                Ok(give(value))
+            }
+        }
+    }
 }
 
 /// A machine, which runs the top level or a call of a function in slices.
@@ -72,22 +98,6 @@ fn copies(alloc: Global, values: &[Value]) -> Result<Values, Memory>
         made.push(copied)?;
     }
     Ok(made)
-}
-
-/// The step by which a machine goes on.
-fn step_of(alloc: Global, next: Pending) -> Result<Step, Memory>
-    ensures same { (g : js.Setting) (s : js.State) →
-        IfOk result (λ step. step_outcome g step s ≡ pending_outcome g next s) }
-    ensures fits { (program : PlainProgram) →
-        PendingFits program next → IfOk result (StepFits program) }
-{
-    match next {
-        Pending::Next(step) => Ok(step),
-        Pending::Resumed(event) => {
-            let value = event_value(alloc, event)?;
-            Ok(give(value))
-        }
-    }
 }
 
 impl Machine {
@@ -148,7 +158,7 @@ impl Machine {
         let Some(next) = self.pending.take() else {
             return Err(AllocError);
         };
-        let step = step_of(self.engine.alloc, next)?;
+        let step = next.step(self.engine.alloc)?;
         let last = self.engine.advance(base, step, nodes)?;
         let pause = pause_at(self.engine.fuel, &last)?;
         self.pending = Some(Pending::Next(last));

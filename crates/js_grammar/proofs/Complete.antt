@@ -275,9 +275,9 @@ module _ (n : ℕ) where
       let l = or_parts (is_some (sign t)) (is_some (step t)) h in
       unary_at-stop (sign t) t ts l.0 ∙ (step_at-stop (step t) t ts l.1 ∙ rw k refl)
 
-  choice_after-stop : (line : ℕ) (a : PlainExpr) (ts : List Token) → starts Question ts ≡ false → exprs.choice_after n (readers n) line a ts ≡ Some (a, ts)
-  choice_after-stop line a [] h = refl
-  choice_after-stop line a (t ∷ ts) h = rw h refl
+  pub choice_alone : (line : ℕ) (a : PlainExpr) (ts : List Token) → starts Question ts ≡ false → exprs.choice_after n (readers n) line a ts ≡ Some (a, ts)
+  choice_alone line a [] h = refl
+  choice_alone line a (t ∷ ts) h = rw h refl
 
   assignment-stop : (ts : List Token) (e : PlainExpr) (r : List Token) → starts_function ts ≡ false → starts_assign ts ≡ false → length r < length ts →
       exprs.choice n (readers n) ts ≡ Some (e, r) → exprs.assignment n (readers n) ts ≡ Some (e, r)
@@ -294,14 +294,14 @@ module _ (n : ℕ) where
   elements_step-goes c es [] e r b l h = absurd (omega arith)
   elements_step-goes c es (t ∷ ts) e r b l h = rw (b, h) refl
 
-  value_at-stop : (alone : PlainDeclarator) (k : DeclareKind) (x : Name) (ts : List Token) → starts Set ts ≡ false → is_const k ≡ false →
+  pub value_alone : (alone : PlainDeclarator) (k : DeclareKind) (x : Name) (ts : List Token) → starts Set ts ≡ false → is_const k ≡ false →
       exprs.value_at n (readers n) alone k x ts ≡ Some (alone, ts)
-  value_at-stop alone k x [] h c = rw c refl
-  value_at-stop alone k x (t ∷ ts) h c = rw (h, c) refl
+  value_alone alone k x [] h c = rw c refl
+  value_alone alone k x (t ∷ ts) h c = rw (h, c) refl
 
-  next_declarator-stop : (ds : List PlainDeclarator) (ts : List Token) → starts Comma ts ≡ false → exprs.next_declarator n (readers n) ds ts ≡ Some (done ds ts)
-  next_declarator-stop ds [] h = refl
-  next_declarator-stop ds (t ∷ ts) h = rw h refl
+  pub next_declarator_stop : (ds : List PlainDeclarator) (ts : List Token) → starts Comma ts ≡ false → exprs.next_declarator n (readers n) ds ts ≡ Some (done ds ts)
+  next_declarator_stop ds [] h = refl
+  next_declarator_stop ds (t ∷ ts) h = rw h refl
 
   start-nothing : (ts : List Token) → starts Semicolon ts ≡ true → stmts.start n (readers n) ts ≡ Some (p.nothing, ts)
   start-nothing [] h = cc
@@ -317,9 +317,9 @@ module _ (n : ℕ) where
   start-value [] e r h k l d = absurd (omega arith)
   start-value (t ∷ ts) e r h k l d = rw h (start_at-stop (declares t) t ts e r k d)
 
-  else_after-stop : (line : ℕ) (e : PlainExpr) (s : PlainStmt) (ts : List Token) → starts Else ts ≡ false → stmts.else_after n (readers n) line e s ts ≡ Some (on line (p.if_alone e s), ts)
-  else_after-stop line e s [] h = refl
-  else_after-stop line e s (t ∷ ts) h = rw h refl
+  pub else_alone : (line : ℕ) (e : PlainExpr) (s : PlainStmt) (ts : List Token) → starts Else ts ≡ false → stmts.else_after n (readers n) line e s ts ≡ Some (on line (p.if_alone e s), ts)
+  else_alone line e s [] h = refl
+  else_alone line e s (t ∷ ts) h = rw h refl
 
   statement_at-declares : (s : Sort) (k : DeclareKind) (t : Token) (ts : List Token) → sort_declare s ≡ Some k →
       stmts.statement_at n (readers n) s t ts ≡ stmts.declaration_at n (readers n) t.line k ts
@@ -401,7 +401,7 @@ mutual
   spells-read (operators {k = k} {ts = ts} {rest = rest} {e = e} d h) (suc n) w =
       operated-read d n w ∙ (run-turn (exprs.operated_step n (readers n) (line_of ts) k) (operated_step-short n (line_of ts) k) e rest ∙ rw (operated_step-stop n (line_of ts) k e rest h) refl)
   spells-read (no_choice {ts = ts} {rest = rest} {e = e} d h) (suc n) w =
-      ap (λ (o : Found PlainExpr). and_then o (exprs.choice_after n (readers n) (line_of ts))) (spells-read d (suc n) w) ∙ choice_after-stop n (line_of ts) e rest h
+      ap (λ (o : Found PlainExpr). and_then o (exprs.choice_after n (readers n) (line_of ts))) (spells-read d (suc n) w) ∙ choice_alone n (line_of ts) e rest h
   spells-read (choice {ts = ts} {ms = ms} {ns = ns} {a = a} {b = b} {c = c} d h f k g) (suc n) w =
       ap (λ (o : Found PlainExpr). and_then o (exprs.choice_after n (readers n) (line_of ts))) (spells-read d (suc n) (omega arith)) ∙
       rw (h, le-leb (nesting a) n (omega arith), spells-read f n (omega arith), k, spells-read g n (omega arith)) refl
@@ -467,13 +467,13 @@ mutual
       exprs.declarator n (readers n) k ts ≡ Some (d, r)
   declarator-read (declarator_value h i s) n w = rw (h, i, spells-read s n w) refl
   declarator-read (declarator_name {k = k} {t = t} {rest = rest} {x = x} h b c) n w =
-      rw h (value_at-stop n (record { name = x; value = absent; end = t.to }) k x rest b c)
+      rw h (value_alone n (record { name = x; value = absent; end = t.to }) k x rest b c)
 
   declarators-read : {k : DeclareKind} {ts r : List Token} {ds : List PlainDeclarator} → Declarators k ts ds r → (n : ℕ) → deepest_declarator (declarators_of ds) ≤ n →
       (acc : List PlainDeclarator) → run (exprs.declarators_step n (readers n) k) acc ts ≡ Some (acc ++ ds, r)
   declarators-read (declarators_last {k = k} {ts = ts} {rest = rest} {d = d} s h) n w acc =
       run-turn (exprs.declarators_step n (readers n) k) (declarators_step-short n k) acc ts ∙
-      rw (declarator-read s n (omega arith), next_declarator-stop n (acc ++ d ∷ []) rest h) refl
+      rw (declarator-read s n (omega arith), next_declarator_stop n (acc ++ d ∷ []) rest h) refl
   declarators-read (declarators_more {k = k} {t = t} {ts = ts} {ms = ms} {d = d} s h f) n w acc =
       run-turn (exprs.declarators_step n (readers n) k) (declarators_step-short n k) acc ts ∙
       rw (declarator-read s n (omega arith), h) (declarators-read f n (omega arith) (acc ++ d ∷ []) ∙ rw append_assoc refl)
@@ -512,7 +512,7 @@ mutual
   statement-read (expression_of {t = t} {ts = ts} {ms = ms} {rest = rest} {e = e} h d f) (suc n) w =
       statement_at-other n (sort t) t ts h ∙ rw (spells-read d n (omega arith)) (ended-read (ending e) ms rest (λ z. Some (on t.line (p.expression e), z)) f)
   statement-read (if_only {t = t} {rest = rest} {e = e} {s = s} h i d b) (suc n) w =
-      rw (h, test-read i n (omega arith), body-read d n (omega arith)) (else_after-stop n t.line e s rest b)
+      rw (h, test-read i n (omega arith), body-read d n (omega arith)) (else_alone n t.line e s rest b)
   statement-read (if_both h i d b g) (suc n) w =
       rw (h, test-read i n (omega arith), body-read d n (omega arith), b, body-read g n (omega arith)) refl
   statement-read (while_loop h i d) (suc n) w = rw (h, test-read i n (omega arith), body-read d n (omega arith)) refl

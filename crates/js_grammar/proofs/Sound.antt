@@ -1,6 +1,6 @@
 -- What the readers give is spelled, and its nesting is within the room.
-use Rattle.std.proofs.Common.{◌≡◌, ℕ, zero, suc, ◌≤◌, Bool, true, false, not, List, [], ◌∷◌, ◌++◌, Option, Some, None, is_some, refl, ap, sym, subst, arith, append_assoc, append-nil}
-use Rattle.std.proofs.lemmas.Bool.{and_parts}
+use Rattle.std.proofs.Common.{◌≡◌, ℕ, zero, suc, ◌≤◌, true, false, not, List, [], ◌∷◌, ◌++◌, Option, Some, None, is_some, refl, ap, sym, subst, arith, append_assoc, append-nil}
+use Rattle.std.proofs.lemmas.Bool.{and_parts, not-true}
 use Rattle.js_data.proofs.Shared.{OfSome}
 use Rattle.js_lexer.specs.declared.token.Token.{Token}
 use Rattle.js_tree.specs.declared.tree.Name.{Name}
@@ -124,13 +124,9 @@ one_more-sound t ts r n u (at p line f) h s k = (round h s.0 k, omega (arith, s.
 sign_absent : (t : Token) (ts : List Token) → sign t ≡ None → step t ≡ None → starts_sign (t ∷ ts) ≡ false
 sign_absent t ts h k = rw (h, k) refl
 
-not-false : (b : Bool) → not b ≡ true → b ≡ false
-not-false true h = cc
-not-false false h = refl
-
 step_on_line : (ts : List Token) (r : List Token) (u : Token) → ts ≡ u ∷ r → starts_step ts ≡ true → u.new_line ≡ false
 step_on_line [] r u e h = cc
-step_on_line (v ∷ ts) r u e h = let k : starts_step (u ∷ r) ≡ true = subst (λ (x : List Token). starts_step x ≡ true) e h in not-false u.new_line (and_parts (is_some (step u)) (not u.new_line) k).1
+step_on_line (v ∷ ts) r u e h = let k : starts_step (u ∷ r) ≡ true = subst (λ (x : List Token). starts_step x ≡ true) e h in not-true u.new_line (and_parts (is_some (step u)) (not u.new_line) k).1
 
 of_third : (r m : List Token) (v w : Token) → v ∷ (w ∷ m) ≡ r → starts_for_of r ≡ true → starts_of m ≡ true
 of_third r m v w e h =

@@ -1,5 +1,5 @@
 -- Data as values of `serde_json`, and back.
-use Rattle.std.proofs.Common.{◌≡◌, ◌≤◌, ℕ, length, take, List, [], ◌∷◌, ◌++◌, Option, Some, None, option_map, map, refl, sym, ap, ◌∙◌, ◌<◌, ◌+◌, suc, drop, get_or, add-one, drop-cons, string_bytes, arith, option_and_then}
+use Rattle.std.proofs.Common.{◌≡◌, ◌≤◌, ℕ, length, take, List, [], ◌∷◌, ◌++◌, Option, Some, None, option_map, map, refl, sym, ap, ◌∙◌, ◌<◌, ◌+◌, drop, get_or, string_bytes, arith, option_and_then}
 use Rattle.std.proofs.lemmas.List.{take_all, drop_all}
 use Rattle.serde_json.specs.Data as json
 use Rattle.serde_json.specs.View.{items_of, items_view, members_view, view}
@@ -8,9 +8,11 @@ use Rattle.serde_json.specs.declared.value.Value.{Value}
 use Rattle.js_json.specs.Built.{data_json, list_json}
 use Rattle.js_json.specs.Json.{data_from, list_from, fields_from, event_of_parts, event_of_items}
 use Rattle.serde_json.specs.Find.{as_str}
-use Rattle.js_data.specs.Data.{DataList, no_data, item, DataFields, no_fields, field}
+use Rattle.js_data.specs.Data.{DataList, DataFields}
 use Rattle.js_data.specs.Views.{plain_data, data_list_view, data_fields_view}
 use Rattle.js_data.specs.declared.data.Data.{Data}
+use Rattle.js_data.proofs.Shared.{drop_is}
+use Rattle.js_data.proofs.After.{after, after_none, one_more, after_fields, after_fields_none, one_more_field}
 
 pub list_json_is : (ds : List Data) → list_json (data_list_view ds) ≡ items_of (map (λ d. data_json (plain_data d)) ds)
 list_json_is [] = refl
@@ -19,47 +21,12 @@ list_json_is (d ∷ ds) = ap (json.item (data_json (plain_data d))) (list_json_i
 pub items_done : (vs : List Value) (ds : List Data) (i : ℕ) → length ds ≤ i → map view vs ≡ map (λ d. data_json (plain_data d)) (take i ds) → items_view vs ≡ list_json (data_list_view ds)
 items_done vs ds i h e = ap items_of (e ∙ ap (map (λ d. data_json (plain_data d))) (take_all i ds h)) ∙ sym (list_json_is ds)
 
--- ---- from the values of `serde_json`
-
--- the data, before more
-abbrev pub after : List Data → DataList → DataList
-after [] ds = ds
-after (x ∷ xs) ds = item (plain_data x) (after xs ds)
-
-pub after_none : (xs : List Data) → after xs no_data ≡ data_list_view xs
-after_none [] = refl
-after_none (x ∷ xs) = ap (item (plain_data x)) (after_none xs)
-
-after_push : (xs : List Data) (x : Data) (ds : DataList) → after (xs ++ x ∷ []) ds ≡ after xs (item (plain_data x) ds)
-after_push [] x ds = refl
-after_push (y ∷ xs) x ds = ap (item (plain_data y)) (after_push xs x ds)
-
-pub one_more : (xs : List Data) (x : Data) (r : Option DataList) → option_map (after xs) (option_map (item (plain_data x)) r) ≡ option_map (after (xs ++ x ∷ [])) r
-one_more xs x None = refl
-one_more xs x (Some ds) = ap Some (sym (after_push xs x ds))
-
-abbrev pub after_fields : List (List ℕ × Data) → DataFields → DataFields
-after_fields [] fs = fs
-after_fields (x ∷ xs) fs = field x.0 (plain_data x.1) (after_fields xs fs)
-
-pub after_fields_none : (xs : List (List ℕ × Data)) → after_fields xs no_fields ≡ data_fields_view xs
-after_fields_none [] = refl
-after_fields_none (x ∷ xs) = ap (field x.0 (plain_data x.1)) (after_fields_none xs)
-
-after_fields_push : (xs : List (List ℕ × Data)) (x : List ℕ × Data) (fs : DataFields) → after_fields (xs ++ x ∷ []) fs ≡ after_fields xs (field x.0 (plain_data x.1) fs)
-after_fields_push [] x fs = refl
-after_fields_push (y ∷ xs) x fs = ap (field y.0 (plain_data y.1)) (after_fields_push xs x fs)
-
-pub one_more_field : (xs : List (List ℕ × Data)) (x : List ℕ × Data) (r : Option DataFields) → option_map (after_fields xs) (option_map (field x.0 (plain_data x.1)) r) ≡ option_map (after_fields (xs ++ x ∷ [])) r
-one_more_field xs x None = refl
-one_more_field xs x (Some fs) = ap Some (sym (after_fields_push xs x fs))
-
--- ---- one turn of a loop
+-- ---- from the values of `serde_json`: one turn of a loop
 
 pub list_step : (made made' : List Data) (x : Data) (v : Value) (vs : List Value) (i : ℕ) (all : Option DataList) → i < length vs → v ≡ get_or vs i v → made' ≡ made ++ x ∷ [] → data_from (view v) ≡ Some (plain_data x)
     → option_map (after made) (list_from (items_view (drop i vs))) ≡ all → option_map (after made') (list_from (items_view (drop (i + 1) vs))) ≡ all
 list_step made made' x v vs i all lt here more reads so_far =
-    let front : drop i vs ≡ v ∷ drop (i + 1) vs = rw add-one (drop-cons vs i v lt ∙ ap (λ u. u ∷ drop (suc i) vs) (sym here)) in
+    let front : drop i vs ≡ v ∷ drop (i + 1) vs = drop_is vs i v lt here in
     let now = rw front at so_far in
     rw (more, ← one_more made x (list_from (items_view (drop (i + 1) vs)))) (rw reads at now)
 

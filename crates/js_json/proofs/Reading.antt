@@ -1,23 +1,18 @@
 -- The event at some bytes.
-use Rattle.std.proofs.Common.{◌≡◌, ℕ, List, Option, Some, None, option_and_then, Bool, true, false, refl, ap}
-use Rattle.std.specs.Prelude.{if◌then◌else◌}
+use Rattle.std.proofs.Common.{◌≡◌, ℕ, List, Some, None, option_and_then, refl, ap}
 use Rattle.std.specs.Str.{is_utf8, IsUtf8}
 use Rattle.std.proofs.lemmas.Str.{is_utf8-from_IsUtf8, IsUtf8-from_is_utf8}
-use Rattle.std.proofs.lemmas.Bool.{le-leb}
+use Rattle.std.proofs.lemmas.Bool.{cond_both, le-leb}
 use Rattle.serde_json.specs.Data as json
 use Rattle.serde_json.specs.Read.{read}
 use Rattle.js_data.specs.Event.{PlainEvent, IsEvent, event_weight, event_nesting}
 use Rattle.js_data.specs.declared.event.TheConstants.Event as event
 use Rattle.js_json.specs.Json.{event_from, event_at, within_limits}
 
-unless : (b : Bool) (x : Option PlainEvent) → (b ≡ true → x ≡ None) → (if b then x else None) ≡ None
-unless true x h = h refl
-unless false x h = refl
-
 pub refused : (bytes : List ℕ) → (IsUtf8 bytes → read bytes ≡ None) → event_at bytes ≡ None
 refused bytes h =
-    unless (is_utf8 bytes) (option_and_then within_limits (option_and_then event_from (read bytes)))
-    (λ e. ap (λ r. option_and_then within_limits (option_and_then event_from r)) (h (IsUtf8-from_is_utf8 bytes e)))
+    cond_both (is_utf8 bytes) (option_and_then within_limits (option_and_then event_from (read bytes))) None (λ y. y ≡ None)
+    (λ e. ap (λ r. option_and_then within_limits (option_and_then event_from r)) (h (IsUtf8-from_is_utf8 bytes e))) (λ e. refl)
 
 pub accepted : (bytes : List ℕ) (d : json.Data) (e : PlainEvent) → IsUtf8 bytes → read bytes ≡ Some d → event_from d ≡ Some e → IsEvent e → event_at bytes ≡ Some e
 accepted bytes d e u r f h =

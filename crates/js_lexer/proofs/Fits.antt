@@ -3,6 +3,7 @@ use Rattle.std.proofs.Common.{◌≡◌, ℕ, zero, suc, ◌+◌, ◌<◌, ◌�
 use Rattle.std.proofs.lemmas.List.{length-take}
 use Rattle.std.proofs.lemmas.Bool.{eqb-true, and_parts}
 use Rattle.std.proofs.lemmas.Bool.Decides.{nat_tests}
+use Rattle.std.proofs.lemmas.Slice.Eq.{bytes_eq-Decides}
 use Rattle.bp_tables.specs.Found.{front_in}
 use Rattle.js_lexer.specs.declared.numbers.TheConstants.{GREATEST}
 use Rattle.js_lexer.specs.declared.token.Kind.TheVariants.{Number}
@@ -13,7 +14,6 @@ use Rattle.js_lexer.specs.Words.{all_marks}
 use Rattle.js_lexer.specs.Numbers.{is_digit_of, digits_size, has_base, base_of, decimal_size, number_size, number_value, is_unsupported_end}
 use Rattle.js_lexer.specs.Literals.{Escape, is_break, escape, spelled, Literal, closed, unclosed, wrong, behind, if_escape, literal}
 use Rattle.js_lexer.specs.Front.{Piece, nothing, gap, token, refused, name_size, number_before, number, quoted, block, mark, is_dot_digit, gap_or, comment_or_mark, gap_or_mark, front}
-use Rattle.js_lexer.proofs.Ascii.{pointwise_same}
 
 pub record Sized (n : ℕ) (bs : List ℕ) : Type 0 where
   pub some : 0 < n
@@ -134,7 +134,7 @@ quoted-fits b bs (wrong n) h = omega arith
 -- gaps
 begins-within : (bs front : List ℕ) → begins bs front ≡ true → length front ≤ length bs
 begins-within bs front h =
-    let e = ap (λ (xs : List ℕ). length xs) (pointwise_same front (take (length front) bs) h) in
+    let e = ap (λ (xs : List ℕ). length xs) ((bytes_eq-Decides front (take (length front) bs)).0 h) in
     omega (arith, e, length-take (length front) bs)
 
 either : (t u : Bool) (P : Type 0) → (t ≡ true → P) → (u ≡ true → P) → t || u ≡ true → P

@@ -1,8 +1,8 @@
 -- Tokens stand in order; the longest mark is the token.
 use Rattle.std.proofs.Common.{◌≡◌, ℕ, zero, suc, ◌+◌, ◌-◌, ◌≤◌, nat_eq, nat_lt, nat_le, Bool, true, false, not, ◌&&◌, ◌||◌, List, [], ◌∷◌, ◌++◌, codes, pos, Option, Some, None, is_some, if◌then◌else◌, length, take, drop, refl, subst, arith, length-drop}
 use Rattle.std.specs.Str.{bytes_eq}
-use Rattle.std.proofs.lemmas.Bool.Decides.{nat_tests}
-use Rattle.std.proofs.lemmas.Bool.{and_parts}
+use Rattle.std.proofs.lemmas.Bool.{and_from, and_parts, or_right, le-leb, leb-true}
+use Rattle.std.proofs.lemmas.Slice.Eq.{bytes_eq-Decides}
 use Rattle.bp_tables.specs.Found.{find_in, front_in}
 use Rattle.js_lexer.specs.declared.numbers.TheConstants.{GREATEST}
 use Rattle.js_lexer.specs.declared.token.Kind.{Kind}
@@ -17,7 +17,6 @@ use Rattle.js_lexer.specs.Literals.{Literal, closed, unclosed, wrong, literal}
 use Rattle.js_lexer.specs.Front.{Piece, nothing, gap, token, refused, name_size, number_before, quoted, block, mark, is_dot_digit, gap_or, gap_or_mark, front}
 use Rattle.js_lexer.specs.Cut.{CutFrom, cut_end, cut_gap, cut_token}
 use Rattle.js_lexer.specs.Laws.{IsSpelled, ArePlaced, TokensInOrder, none_longer, LongestMark}
-use Rattle.js_lexer.proofs.Ascii.{pointwise_same}
 use Rattle.js_lexer.proofs.Fits.{PieceFits, Sized, front-fits}
 
 -- what stands in front is its bytes
@@ -102,24 +101,11 @@ abbrev is_falling : ℕ → List (List ℕ × ℕ) → Bool
 is_falling n [] = true
 is_falling n (e ∷ es) = nat_le (length e.0) n && is_falling (length e.0) es
 
-both : (t u : Bool) → t ≡ true → u ≡ true → t && u ≡ true
-both t u h k = rw (h, k) refl
-
-second : (t u : Bool) → u ≡ true → t || u ≡ true
-second true u h = refl
-second false u h = h
-
-le_test : (m n : ℕ) → m ≤ n → nat_le m n ≡ true
-le_test m n h = grind (arith, nat_tests)
-
-test_le : (m n : ℕ) → nat_le m n ≡ true → m ≤ n
-test_le m n h = grind (arith, nat_tests)
-
 falling-none : (m n : ℕ) (es : List (List ℕ × ℕ)) (bs : List ℕ) → m ≤ n → is_falling m es ≡ true → none_longer n es bs ≡ true
 falling-none m n [] bs l h = refl
 falling-none m n (e ∷ es) bs l h =
-    let k = test_le (length e.0) m (and_parts (nat_le (length e.0) m) (is_falling (length e.0) es) h).0 in
-    both _ _ (second (not (begins bs e.0)) _ (le_test (length e.0) n (omega arith)))
+    let k = leb-true (length e.0) m (and_parts (nat_le (length e.0) m) (is_falling (length e.0) es) h).0 in
+    and_from _ _ (or_right (not (begins bs e.0)) _ (le-leb (length e.0) n (omega arith)))
     (falling-none (length e.0) n es bs (omega arith) (and_parts (nat_le (length e.0) m) (is_falling (length e.0) es) h).1)
 
 front-longest : (m n : ℕ) (es : List (List ℕ × ℕ)) (bs : List ℕ) → is_falling m es ≡ true → front_in es bs ≡ Some n → none_longer n es bs ≡ true
@@ -133,7 +119,7 @@ front-longest m n (e ∷ es) bs h k = by_test (begins bs e.0) k (λ l. front-lon
         (not t || nat_le (length e.0) n) && none_longer n es bs ≡ true
     by_test true l f =
         let d : length e.0 ≡ n = cc in
-        both _ _ (le_test (length e.0) n (omega arith)) (falling-none (length e.0) n es bs (omega arith) falls)
+        and_from _ _ (le-leb (length e.0) n (omega arith)) (falling-none (length e.0) n es bs (omega arith) falls)
     by_test false l f = f l
 
 -- an entry of the list has the key
@@ -152,14 +138,14 @@ none-at n (e ∷ es) bs key h k = by_test (bytes_eq e.0 key) refl k (λ l. none-
     by_test : (t : Bool) → bytes_eq e.0 key ≡ t → t || is_among key es ≡ true →
         (is_among key es ≡ true → not (begins bs key) || nat_le (length key) n ≡ true) → not (begins bs key) || nat_le (length key) n ≡ true
     by_test true l m f =
-        subst (λ (xs : List ℕ). not (begins bs xs) || nat_le (length xs) n ≡ true) (pointwise_same e.0 key l)
+        subst (λ (xs : List ℕ). not (begins bs xs) || nat_le (length xs) n ≡ true) ((bytes_eq-Decides e.0 key).0 l)
         (and_parts (not (begins bs e.0) || nat_le (length e.0) n) (none_longer n es bs) h).0
     by_test false l m f = f m
 
 none-all : (n : ℕ) (es fs : List (List ℕ × ℕ)) (bs : List ℕ) → none_longer n es bs ≡ true → are_among fs es ≡ true → none_longer n fs bs ≡ true
 none-all n es [] bs h k = refl
 none-all n es (f ∷ fs) bs h k =
-    both _ _ (none-at n es bs f.0 h (and_parts (is_among f.0 es) (are_among fs es) k).0) (none-all n es fs bs h (and_parts (is_among f.0 es) (are_among fs es) k).1)
+    and_from _ _ (none-at n es bs f.0 h (and_parts (is_among f.0 es) (are_among fs es) k).0) (none-all n es fs bs h (and_parts (is_among f.0 es) (are_among fs es) k).1)
 
 pub longest_mark : (bytes : List ℕ) → LongestMark bytes
 longest_mark bytes n h = none-all n all_marks (marks ++ unsupported_marks) bytes (front-longest 4 n all_marks bytes refl h) refl

@@ -8,7 +8,6 @@ use std::alloc::{AllocError, AllocFailed};
 use thiserror::Error;
 
 /// What a token is.
-#[derive(Debug)]
 pub enum Kind {
     /// A name that is no word.
     Name(Text),
@@ -37,7 +36,7 @@ impl Drop for Kind {
 }
 
 /// A token, with the bytes from `from` to before `to`, at its line from 1.
-#[derive(Debug, Drop)]
+#[derive(Drop)]
 pub struct Token {
     /// What it is.
     pub kind: Kind,

@@ -1,7 +1,7 @@
 -- Each change of a state leaves one that follows on it.
-use Rattle.std.proofs.Common.{◌≡◌, ℕ, zero, suc, ◌+◌, ◌≤◌, List, [], ◌∷◌, ◌++◌, length, Option, Some, None, refl, sym, ap, ◌∙◌, arith}
+use Rattle.std.proofs.Common.{◌≡◌, ℕ, suc, ◌+◌, ◌≤◌, List, [], ◌∷◌, ◌++◌, length, Option, Some, None, refl, sym, ap, ◌∙◌, arith}
 use Rattle.std.specs.Prelude.{slice_set, option_map}
-use Rattle.std.proofs.lemmas.List.{length-append, append_assoc, append-nil}
+use Rattle.std.proofs.lemmas.List.{length-append, length-set, append_assoc, append-nil}
 use Rattle.js_data.specs.Event.{PlainEvent}
 use Rattle.js_value.specs.Value.{PlainValue}
 use Rattle.js_program.specs.declared.node.Variable.{Variable}
@@ -58,13 +58,8 @@ later_trans {b} {s} {t} {u} x y = record {
   left = beyond_trans x y.left;
 }
 
-length-slice_set : {A : Type 0} → (xs : List A) (k : ℕ) (x : A) → length (slice_set xs k x) ≡ length xs
-length-slice_set [] k x = refl
-length-slice_set (y ∷ ys) zero x = refl
-length-slice_set (y ∷ ys) (suc k) x = ap suc (length-slice_set ys k x)
-
 pub set_later : (b k : ℕ) (x : Option PlainValue) (s : State) → Later b s (set_slot k x s)
-set_later b k x s = record { slots = length-slice_set s.slots k x; constants = refl; calls = refl; taken = []; replies = refl; left = same_beyond b s }
+set_later b k x s = record { slots = length-set s.slots k x; constants = refl; calls = refl; taken = []; replies = refl; left = same_beyond b s }
 
 pub declared_later : (b : ℕ) (x : Variable) (y : PlainValue) (s : State) → Later b s (set_variable x y s)
 declared_later b (Slot k) y s = set_later b k (Some y) s
@@ -72,7 +67,7 @@ declared_later b (Constant k) y s = record { slots = refl; constants = as_many s
   where
     as_many : (o : Option (List (Option PlainValue))) → option_map length (option_map (λ cs. slice_set cs k (Some y)) o) ≡ option_map length o
     as_many None = refl
-    as_many (Some cs) = ap Some (length-slice_set cs k (Some y))
+    as_many (Some cs) = ap Some (length-set cs k (Some y))
 
 pub added_later : (b : ℕ) (x : Effect) (s : State) → Later b s (record s { effects = s.effects ++ x ∷ [] })
 added_later b x s = record {

@@ -1,6 +1,7 @@
 -- With more replies an evaluation that stopped goes on, and every other one is the same.
 use Rattle.std.proofs.Common.{◌≡◌, ℕ, zero, suc, ◌+◌, List, [], ◌∷◌, ◌++◌, length, Option, refl, sym, ap, ◌∙◌, subst, arith}
 use Rattle.std.specs.Prelude.{slice_get, drop}
+use Rattle.std.proofs.Math.Seq.{drop-append_seam}
 use Rattle.std.proofs.lemmas.List.{append_assoc, append-nil}
 use Rattle.js_data.specs.Event.{PlainEvent}
 use Rattle.js_value.specs.Value.{PlainValue}
@@ -162,13 +163,9 @@ body_goes_on base budget o replies more =
     (body_walk g (Way g more) (ways g more) (eval g) (eval g) (λ n. record { goes = eval_goes g more n; sure = eval_sure g n }) o).goes (start_of base budget o replies)
 
 -- what comes behind the front
-drop-append : (xs ys : List Effect) → drop (length xs) (xs ++ ys) ≡ ys
-drop-append [] ys = refl
-drop-append (x ∷ xs) ys = drop-append xs ys
-
 since : (es : List Effect) (e : PlainEvent) (o : Outcome) → Behind (e ∷ []) es o → effects_of o ≡ es ++ effects_since o
 since es e o b =
-    b.effects_are ∙ ap (λ x. es ++ x) (sym (ap (λ n. drop n (effects_of o)) (b.delivered refl) ∙ ap (drop (length es)) b.effects_are ∙ drop-append es b.added))
+    b.effects_are ∙ ap (λ x. es ++ x) (sym (ap (λ n. drop n (effects_of o)) (b.delivered refl) ∙ ap (drop (length es)) b.effects_are ∙ drop-append_seam es b.added))
 
 pub reply_delivers : (base : Ground) (budget : ℕ) (o : Origin) (replies : List PlainEvent) (e : PlainEvent) (statement priority : PlainValue) (line : ℕ) (l : Left) →
     evaluation base budget o replies ≡ stopped statement priority line l →

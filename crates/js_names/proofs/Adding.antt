@@ -3,7 +3,9 @@ use Rattle.std.proofs.Common.{◌≡◌, ℕ, ◌+◌, ◌-◌, ◌<◌, List, [
 use Rattle.std.specs.Prelude.{Result, Ok, Err, OnOk}
 use Rattle.std.specs.List.{flat_map}
 use Rattle.std.proofs.lemmas.List.{map-append}
+use Rattle.std.proofs.lemmas.List.Folds.{flat_map-map}
 use Rattle.std.proofs.Math.Seq.{take-append_seam}
+use Rattle.js_data.proofs.Shared.{flat_map_take}
 use Rattle.js_names.specs.declared.scope.Scope.{Scope as Held}
 use Rattle.js_names.specs.declared.scope.Walk.{Walk}
 use Rattle.js_tree.specs.declared.tree.Spot.{Spot}
@@ -23,7 +25,6 @@ use Rattle.js_names.specs.Places.{Place, see, places}
 use Rattle.js_names.specs.Views.{place_of, scope_of, scopes_of, scopes_onto}
 use Rattle.js_names.specs.Walks.{Adds, Enters, EntersForOf, Entered, Left, scopes_in}
 use Rattle.js_names.specs.TreeSites.{tree_item_sites}
-use Rattle.js_names.proofs.Taking.{flat_map_take}
 use Rattle.js_names.proofs.Stacks.{scopes_push}
 
 -- two lists of places, one after the other
@@ -52,7 +53,7 @@ adds_none a = (refl, sym (append-nil (map place_of a.places.items)))
 pub adds_more : {X : Type 0} (f : List Scope → X → List Site) (xs : List X) (i : ℕ) (d x : X) (a b c : Walk) → i < length xs → x ≡ get_or xs i d
     → Adds a b (flat_map (f (scopes_in a)) (take i xs)) → Adds b c (f (scopes_in b) x) → Adds a c (flat_map (f (scopes_in a)) (take (i + 1) xs))
 adds_more f xs i d x a b c h e s t =
-    subst (Adds a c) (ap (λ y. flat_map (f (scopes_in a)) (take i xs) ++ f (scopes_in a) y) e ∙ sym (flat_map_take (f (scopes_in a)) xs i d h))
+    subst (Adds a c) (sym (flat_map_take (f (scopes_in a)) xs i d x h e))
     (adds_both (λ z. flat_map (f z) (take i xs)) (λ z. f z x) a b c s t)
 
 -- what is left of a stack without its last scope
@@ -111,8 +112,7 @@ each_under f a b c d around kind name scope e h l = (
 )
 
 item_list : (s : List Scope) (is : List Item) → flat_map (tree_item_sites s) is ≡ flat_map (item_sites s) (map plain_item is)
-item_list s [] = refl
-item_list s (i ∷ is) = ap (λ z. tree_item_sites s i ++ z) (item_list s is)
+item_list s is = sym (flat_map-map (item_sites s) plain_item is)
 
 -- the places of a program, from the walk over all that it lists
 pub program_places : (t : Tree) (is : List Item) (a b c d : Walk) (x : Held) (k : Spot) → a.scopes.items ≡ [] → a.places.items ≡ [] → scope_of x ≡ program_scope (plain_tree t) → Entered a b x

@@ -2,22 +2,20 @@
 use Rattle.std.proofs.Common.{◌≡◌, ℕ, ◌+◌, ◌<◌, List, [], ◌∷◌, ◌++◌, ◌∙◌, ap, refl, sym, subst, map, fold, length, take, get_or, Bool, true, false, ◌||◌, if◌then◌else◌, nat_eq, zero, suc, arith, Some}
 use Rattle.std.specs.List.{flat_map}
 use Rattle.std.specs.Map.{lookup}
-use Rattle.std.proofs.lemmas.Bool.{eq-eqb, false≢true}
+use Rattle.std.proofs.lemmas.Bool.{eq-eqb, or_left, or_right}
+use Rattle.std.proofs.lemmas.List.Folds.{flat_map-map, list_any-append}
 use Rattle.std.proofs.lemmas.List.Sums.{fold-append}
+use Rattle.js_data.proofs.Shared.{flat_map_take, kept-append}
 use Rattle.js_names.specs.declared.place.Seen.{Seen}
 use Rattle.js_names.specs.declared.place.Declared.{Declared}
 use Rattle.js_names.specs.Places.{Place}
 use Rattle.js_names.specs.Slots.{Holding, hold, held_by, holds_all, inside, is_among, joins, copies, captures_of, holdings, slots_of, captures, captures_in, parameter_in, variable_in, var_in, vars_of}
 use Rattle.js_names.specs.Views.{place_of}
 use Rattle.js_names.specs.Held.{Sets, keys_of, held_in, Holds}
-use Rattle.js_names.proofs.Taking.{flat_map_take}
 
 -- what a function holds by two lists
 pub held-append : (q : ℕ) (xs ys : List Holding) → held_by q (xs ++ ys) ≡ held_by q xs ++ held_by q ys
-held-append q [] ys = refl
-held-append q (x ∷ xs) ys =
-    elim (nat_eq x.function q) as (λ b. (if b then x.variable ∷ held_by q (xs ++ ys) else held_by q (xs ++ ys)) ≡ (if b then x.variable ∷ held_by q xs else held_by q xs) ++ held_by q ys)
-    [ true ↦ ap (λ z. x.variable ∷ z) (held-append q xs ys) | false ↦ held-append q xs ys ]
+held-append q xs ys = kept-append (held_by q) (λ x. nat_eq x.function q) (λ x. x.variable) refl (λ _ _. refl) xs ys
 
 -- a map that took in two lists in turn took in both
 pub holds_both : (a b c : Sets) (xs ys : List Holding) → Holds a b xs → Holds b c ys → Holds a c (xs ++ ys)
@@ -28,7 +26,7 @@ holds_both a b c xs ys h k = λ q.
 pub holds_more : {X : Type 0} (f : X → List Holding) (xs : List X) (i : ℕ) (d x : X) (a b c : Sets) → i < length xs → x ≡ get_or xs i d
     → Holds a b (flat_map f (take i xs)) → Holds b c (f x) → Holds a c (flat_map f (take (i + 1) xs))
 holds_more f xs i d x a b c h e s t =
-    subst (Holds a c) (ap (λ y. flat_map f (take i xs) ++ f y) e ∙ sym (flat_map_take f xs i d h)) (holds_both a b c _ _ s t)
+    subst (Holds a c) (sym (flat_map_take f xs i d x h e)) (holds_both a b c _ _ s t)
 
 -- a list that has each of some variables stays as it is when they join it once more
 
@@ -41,15 +39,13 @@ has_same h [] k = refl
 has_same h (x ∷ xs) k = ap (λ b. fold joins (if b then h else h ++ x ∷ []) xs) k.0 ∙ has_same h xs k.1
 
 among_end : (x y : ℕ) (h : List ℕ) → is_among x h ≡ true → is_among x (h ++ y ∷ []) ≡ true
-among_end x y [] k = absurd (false≢true k)
-among_end x y (z ∷ zs) k = elim (nat_eq x z) as (λ b. (b || is_among x zs) ≡ true → (b || is_among x (zs ++ y ∷ [])) ≡ true) [ true ↦ λ _. refl | false ↦ λ m. among_end x y zs m ] k
+among_end x y h k = list_any-append (nat_eq x) h (y ∷ []) ∙ or_left _ _ k
 
 among_joins : (x y : ℕ) (h : List ℕ) → is_among x h ≡ true → is_among x (joins h y) ≡ true
 among_joins x y h k = elim (is_among y h) as (λ b. is_among x (if b then h else h ++ y ∷ []) ≡ true) [ true ↦ k | false ↦ among_end x y h k ]
 
 at_end : (x : ℕ) (h : List ℕ) → is_among x (h ++ x ∷ []) ≡ true
-at_end x [] = ap (λ b. b || false) (eq-eqb x x refl)
-at_end x (z ∷ zs) = elim (nat_eq x z) as (λ b. (b || is_among x (zs ++ x ∷ [])) ≡ true) [ true ↦ refl | false ↦ at_end x zs ]
+at_end x h = list_any-append (nat_eq x) h (x ∷ []) ∙ or_right (is_among x h) _ (ap (λ b. b || false) (eq-eqb x x refl))
 
 joined : (x : ℕ) (h : List ℕ) → is_among x (joins h x) ≡ true
 joined x h =
@@ -85,7 +81,7 @@ pub holds_again : {X : Type 0} (f : X → List Holding) (xs : List X) (i : ℕ) 
 holds_again f xs i d x a b at y h e l g s t = λ q.
     let before = held_by q (flat_map f (take i xs)) in
     let more : held_by q (flat_map f (take (i + 1) xs)) ≡ before ++ held_by q (f x) =
-    ap (held_by q) (flat_map_take f xs i d h ∙ ap (λ z. flat_map f (take i xs) ++ f z) (sym e)) ∙ held-append q (flat_map f (take i xs)) (f x)
+    ap (held_by q) (flat_map_take f xs i d x h e) ∙ held-append q (flat_map f (take i xs)) (f x)
     in
     let has : Has (fold joins (held_in a q) before) (held_by q (f x)) = subst (λ z. Has (fold joins (held_in a q) before) (held_by q z)) s (has_of q f (take i xs) at y y (held_in a q) l g) in
     t q ∙ sym (ap (fold joins (held_in a q)) more ∙ (fold-append joins (held_in a q) before (held_by q (f x)) ∙ has_same (fold joins (held_in a q) before) (held_by q (f x)) has))
@@ -111,8 +107,7 @@ inside_stop q f v owner fs h e = ap (λ b. fold joins h (held_by q (holds_all v 
 
 -- a list of places, as the walk holds them
 pub flat_map_seen : {A : Type 0} (f : Place → List A) (xs : List Seen) → flat_map (λ p. f (place_of p)) xs ≡ flat_map f (map place_of xs)
-flat_map_seen f [] = refl
-flat_map_seen f (x ∷ xs) = ap (λ z. f (place_of x) ++ z) (flat_map_seen f xs)
+flat_map_seen f xs = sym (flat_map-map f place_of xs)
 
 -- a map that was empty holds what it took in
 from_empty : (a b : Sets) (hs : List Holding) → a.entries ≡ [] → Holds a b hs → (q : ℕ) → held_in b q ≡ fold joins [] (held_by q hs)

@@ -1,5 +1,6 @@
 -- Scopes that are made from maps.
-use Rattle.std.proofs.Common.{◌≡◌, ℕ, List, [], ◌∷◌, ◌++◌, ◌∙◌, ap, refl, map, Bool, true, false, Option, Some, None}
+use Rattle.std.proofs.Common.{◌≡◌, ℕ, List, [], ◌∙◌, ap, sym, refl, map, Bool, true, false, Option, Some, None}
+use Rattle.std.proofs.lemmas.List.Folds.{flat_map-map}
 use Rattle.std.specs.Str.{bytes_eq}
 use Rattle.std.specs.List.{flat_map}
 use Rattle.std.specs.Map.{lookup}
@@ -14,6 +15,7 @@ use Rattle.js_names.specs.Scopes.{first, named, one_var, merge, kept, inner_scop
 use Rattle.js_names.specs.Places.{or_else}
 use Rattle.js_names.specs.Views.{scope_of}
 use Rattle.js_names.specs.Taken.{Names, keeps, in_map, TakesOwn, TakesVars, own_of_tree_item, vars_of_tree_item}
+use Rattle.js_names.proofs.Taking.{merge_none}
 
 -- a map that was empty has what it took in
 pub own_from_empty : (a b : Names) (xs : List Entry) → a.entries ≡ [] → TakesOwn a b xs → (q : List ℕ) → get_by_text b q ≡ first (named q xs)
@@ -34,13 +36,9 @@ all_from_empty a b xs e t q = vars_from_empty (keeps None) a b xs e t q ∙ kept
 pub in_map_is : (a b : Names) (xs : List Entry) → a.entries ≡ [] → TakesVars (keeps None) a b xs → in_map b ≡ (λ q. one_var (named q xs))
 in_map_is a b xs e t = λ i q. all_from_empty a b xs e t q i
 
-merge_none : (o : Option Declared) → o ≡ merge o None
-merge_none None = refl
-merge_none (Some d) = refl
-
 -- a map that stays took in nothing
 pub takes_none : (a : Names) → TakesVars (keeps None) a a []
-takes_none a q = merge_none (get_by_text a q)
+takes_none a q = sym (merge_none (get_by_text a q))
 
 -- two maps that were empty make a scope
 pub scope_made : (a own b vars : Names) (xs ys : List Entry) (w : Bool) (o : ℕ) → a.entries ≡ [] → b.entries ≡ [] → TakesOwn a own xs → TakesVars (keeps None) b vars ys
@@ -63,9 +61,7 @@ inner_made a own b vars xs ys o d e t u = λ i. record {
 }
 
 pub own_of_tree : (is : List Item) → flat_map own_of_tree_item is ≡ flat_map own_of_item (map plain_item is)
-own_of_tree [] = refl
-own_of_tree (i ∷ is) = ap (λ es. own_of_tree_item i ++ es) (own_of_tree is)
+own_of_tree is = sym (flat_map-map own_of_item plain_item is)
 
 pub vars_of_tree : (is : List Item) → flat_map vars_of_tree_item is ≡ flat_map vars_of_item (map plain_item is)
-vars_of_tree [] = refl
-vars_of_tree (i ∷ is) = ap (λ es. vars_of_tree_item i ++ es) (vars_of_tree is)
+vars_of_tree is = sym (flat_map-map vars_of_item plain_item is)

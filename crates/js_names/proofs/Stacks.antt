@@ -42,10 +42,7 @@ pub blocked_empty : (q : List ℕ) (p : ℕ) → blocked (scopes_of []) q p ≡ 
 unfolding blocked scopes_onto
 blocked_empty q p = refl
 
--- the two answers of a scope on the way, and the way on
-pub blocked_yes : (a rest : Bool) → true ≡ a → (a || rest) ≡ true
-blocked_yes a rest e = ap (λ v. v || rest) (sym e)
-
+-- an answer of a scope on the way, and the way on
 pub blocked_no : (a w b : Bool) → false ≡ a → true ≡ w → (a || (not w && b)) ≡ false
 blocked_no a w b e f = ap (λ v. v || (not w && b)) (sym e) ∙ ap (λ v. not v && b) (sym f)
 
@@ -77,12 +74,6 @@ pub found_var_down : (xs : List Held) (j : ℕ) (q : List ℕ) (d x : Held) → 
     → found_var (scopes_of (take j xs)) q ≡ (if x.whole then found_here (scope_of x) q else found_var (scopes_of (take (j - 1) xs)) q)
 unfolding found_var
 found_var_down xs j q d x pos le e = ap (λ s. found_var s q) (scopes_down xs j d x pos le e)
-
-pub taken : {A : Type 0} (b : Bool) (x y : A) → true ≡ b → (if b then x else y) ≡ x
-taken b x y e = ap (λ c. if c then x else y) (sym e)
-
-pub passed : {A : Type 0} (b : Bool) (x y : A) → false ≡ b → (if b then x else y) ≡ y
-passed b x y e = ap (λ c. if c then x else y) (sym e)
 
 pub functions_empty : functions_of (scopes_of []) ≡ []
 unfolding functions_of scopes_onto

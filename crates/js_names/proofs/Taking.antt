@@ -1,7 +1,7 @@
 -- Maps that take in declarations.
-use Rattle.std.proofs.Common.{◌≡◌, ℕ, ◌+◌, ◌<◌, List, [], ◌∷◌, ◌++◌, ◌∙◌, ap, refl, sym, subst, map, length, take, get_or, append-nil, Option, Some, None, Bool, true, false, ⊎_elim, if◌then◌else◌}
+use Rattle.std.proofs.Common.{◌≡◌, ℕ, ◌+◌, ◌<◌, List, [], ◌∷◌, ◌++◌, ◌∙◌, ap, refl, sym, subst, map, length, take, get_or, Option, Some, None, Bool, true, false, ⊎_elim, if◌then◌else◌}
 use Rattle.std.proofs.Math.Bool.{cond}
-use Rattle.std.proofs.lemmas.Bool.{cases_Bool, cond-true, cond-false, true≢false}
+use Rattle.std.proofs.lemmas.Bool.{cases_Bool, cond-true, cond-false}
 use Rattle.std.proofs.lemmas.Slice.Eq.{bytes_eq-Decides as bytes_decides}
 use Rattle.std.proofs.lemmas.Map.Text.{hash_map_updates_text}
 use Rattle.std.specs.Str.{bytes_eq}
@@ -13,8 +13,8 @@ use Rattle.std.specs.String.{string_eq}
 use Rattle.std.specs.Prelude.{String, string_bytes}
 use Rattle.std.specs.declared.alloc.Global.{Global}
 use Rattle.std.proofs.lemmas.List.{take_more, map-append}
+use Rattle.js_data.proofs.Shared.{none_of, flat_map_take, kept-append}
 use Rattle.js_tree.specs.declared.tree.Name.{Name}
-use Rattle.std.proofs.lemmas.Grind.{flat_map-append}
 use Rattle.js_names.specs.declared.place.Declared.{Declared}
 use Rattle.js_tree.specs.declared.tree.Declarator.{Declarator}
 use Rattle.js_tree.specs.declared.tree.DeclareKind.{DeclareKind}
@@ -36,7 +36,7 @@ pub or_else_none : {A : Type 0} (a : Option A) → or_else a None ≡ a
 or_else_none None = refl
 or_else_none (Some x) = refl
 
-merge_none : (a : Option Declared) → merge a None ≡ a
+pub merge_none : (a : Option Declared) → merge a None ≡ a
 merge_none None = refl
 merge_none (Some x) = refl
 
@@ -86,10 +86,7 @@ pub var_passed : (keep : List ℕ → Bool) (a : Names) (n : List ℕ) (d : Decl
 var_passed keep a n d kn = λ q. sym (ap (merge (get_by_text a q)) (not_kept keep n d kn q) ∙ merge_none (get_by_text a q))
 
 named-append : (q : List ℕ) (xs ys : List Entry) → named q (xs ++ ys) ≡ named q xs ++ named q ys
-named-append q [] ys = refl
-named-append q (x ∷ xs) ys =
-    elim (bytes_eq x.name q) as (λ b. (if b then x.declared ∷ named q (xs ++ ys) else named q (xs ++ ys)) ≡ (if b then x.declared ∷ named q xs else named q xs) ++ named q ys)
-    [ true ↦ ap (λ z. x.declared ∷ z) (named-append q xs ys) | false ↦ named-append q xs ys ]
+named-append q xs ys = kept-append (named q) (λ x. bytes_eq x.name q) (λ x. x.declared) refl (λ _ _. refl) xs ys
 
 first-append : (xs ys : List Declared) → first (xs ++ ys) ≡ or_else (first xs) (first ys)
 first-append [] ys = refl
@@ -125,25 +122,16 @@ vars_both keep a b c xs ys h k = λ q.
     k q ∙ ap (λ o. merge o (kept (keep q) y)) (h q) ∙ merge_assoc (get_by_text a q) (kept (keep q) x) (kept (keep q) y)
     ∙ ap (merge (get_by_text a q)) (sym (ap (kept (keep q)) (ap one_var (named-append q xs ys) ∙ one_var-append (named q xs) (named q ys)) ∙ kept_merge (keep q) x y))
 
--- one more element at the end of what a loop has done
-pub flat_map_take : {X A : Type 0} (f : X → List A) (xs : List X) (i : ℕ) (d : X) → i < length xs → flat_map f (take (i + 1) xs) ≡ flat_map f (take i xs) ++ f (get_or xs i d)
-flat_map_take f xs i d h =
-    ap (flat_map f) (take_more xs i d h) ∙ (flat_map-append f (take i xs) (get_or xs i d ∷ []) ∙ ap (λ ys. flat_map f (take i xs) ++ ys) (append-nil (f (get_or xs i d))))
-
 -- one more turn of a loop that takes in what each element declares
 pub own_more : {X : Type 0} (f : X → List Entry) (xs : List X) (i : ℕ) (d x : X) (a b c : Names) → i < length xs → x ≡ get_or xs i d
     → TakesOwn a b (flat_map f (take i xs)) → TakesOwn b c (f x) → TakesOwn a c (flat_map f (take (i + 1) xs))
 own_more f xs i d x a b c h e s t =
-    subst (TakesOwn a c) (ap (λ y. flat_map f (take i xs) ++ f y) e ∙ sym (flat_map_take f xs i d h)) (own_both a b c _ _ s t)
+    subst (TakesOwn a c) (sym (flat_map_take f xs i d x h e)) (own_both a b c _ _ s t)
 
 pub vars_more : {X : Type 0} (keep : List ℕ → Bool) (f : X → List Entry) (xs : List X) (i : ℕ) (d x : X) (a b c : Names) → i < length xs → x ≡ get_or xs i d
     → TakesVars keep a b (flat_map f (take i xs)) → TakesVars keep b c (f x) → TakesVars keep a c (flat_map f (take (i + 1) xs))
 vars_more keep f xs i d x a b c h e s t =
-    subst (TakesVars keep a c) (ap (λ y. flat_map f (take i xs) ++ f y) e ∙ sym (flat_map_take f xs i d h)) (vars_both keep a b c _ _ s t)
-
-pub absent : {X : Type 0} (o : Option X) (r : Bool) → r ≡ is_some o → r ≡ false → o ≡ None
-absent None r e f = refl
-absent (Some x) r e f = absurd (true≢false (sym e ∙ f))
+    subst (TakesVars keep a c) (sym (flat_map_take f xs i d x h e)) (vars_both keep a b c _ _ s t)
 
 updated : (m n : Names) (key : String Global) (name : List ℕ) (d : Declared) → string_bytes key ≡ name → UpdatesBy string_eq (λ k. bytes_eq (string_bytes key) (string_bytes k)) m n (Some d)
     → (q : List ℕ) → get_by_text n q ≡ cond (bytes_eq name q) (Some d) (get_by_text m q)
@@ -153,7 +141,7 @@ updated m n key name d e u = subst (λ b. (q : List ℕ) → get_by_text n q ≡
 pub own_inserted : (m n : Names) (key : String Global) (bs name : List ℕ) (d : Declared) (r : Bool) → string_bytes key ≡ bs → bs ≡ name → r ≡ is_some (get_by_text m bs) → r ≡ false
     → UpdatesBy string_eq (λ k. bytes_eq (string_bytes key) (string_bytes k)) m n (Some d) → TakesOwn m n (alone name d)
 own_inserted m n key bs name d r e f t is u =
-    own_step (get_by_text m) (get_by_text n) name d (subst (λ b. get_by_text m b ≡ None) f (absent (get_by_text m bs) r t is)) (updated m n key name d (e ∙ f) u)
+    own_step (get_by_text m) (get_by_text n) name d (subst (λ b. get_by_text m b ≡ None) f (none_of (get_by_text m bs) (sym t ∙ is))) (updated m n key name d (e ∙ f) u)
 
 pub var_inserted : (keep : List ℕ → Bool) (m n : Names) (key : String Global) (bs name : List ℕ) (x d : Declared) → string_bytes key ≡ bs → bs ≡ name → true ≡ keep bs → Some x ≡ merge (get_by_text m bs) (Some d)
     → UpdatesBy string_eq (λ k. bytes_eq (string_bytes key) (string_bytes k)) m n (Some x) → TakesVars keep m n (alone name d)

@@ -1,7 +1,8 @@
 -- The parts of a node of a sound program are smaller than the node.
-use Rattle.std.proofs.Common.{◌≡◌, ℕ, zero, suc, ◌+◌, ◌<◌, List, [], ◌∷◌, subst, length, arith, Some, Bool, true}
+use Rattle.std.proofs.Common.{◌≡◌, ◌∙◌, ℕ, zero, suc, ◌+◌, ◌<◌, List, [], ◌∷◌, sym, ap, subst, length, arith, Some, Bool, true}
 use Rattle.std.proofs.lemmas.Bool.{and_parts, ltb-true}
-use Rattle.std.proofs.lemmas.Option.{slice_get_within}
+use Rattle.std.proofs.lemmas.Option.{slice_get_within, get_or_from_slice_get}
+use Rattle.std.proofs.lemmas.List.Sums.{AllPass-from_list_all}
 use Rattle.std.specs.Prelude.{nat_lt, slice_get}
 use Rattle.std.specs.List.{list_all}
 use Rattle.js_program.specs.PlainProgram.{PlainNode, PlainProgram, parts_of}
@@ -9,9 +10,7 @@ use Rattle.js_program.specs.Sound.{all_below, ordered, IsSound}
 
 -- what holds of all elements holds of each
 pub all_at : {A : Type 0} (test : A → Bool) (xs : List A) (i : ℕ) (x : A) → slice_get xs i ≡ Some x → list_all test xs ≡ true → test x ≡ true
-all_at test [] i x e h = cc
-all_at test (y ∷ ys) zero x e h = let is : y ≡ x = cc in subst (λ z. test z ≡ true) is (and_parts _ _ h).0
-all_at test (y ∷ ys) (suc i) x e h = all_at test ys i x e (and_parts _ _ h).1
+all_at test xs i x e h = ap test (sym (get_or_from_slice_get xs i x x e)) ∙ AllPass-from_list_all test xs h i x (slice_get_within xs i x e)
 
 ordered_at : (b : ℕ) (xs : List PlainNode) (i : ℕ) (x : PlainNode) → ordered b xs ≡ true → slice_get xs i ≡ Some x → all_below (b + i) (parts_of x.form) ≡ true
 unfolding ordered

@@ -31,7 +31,7 @@ pub enum Builtin {
 }
 
 /// What is running where a form is met.
-#[derive(Clone, Copy, Debug, PartialEq, Eq)]
+#[derive(Clone, Copy, PartialEq, Eq)]
 pub enum Mode {
     /// The top level.
     Top,
@@ -44,7 +44,7 @@ pub enum Mode {
 }
 
 /// The modes in which a form has its effect.
-#[derive(Clone, Copy, Debug, PartialEq, Eq)]
+#[derive(Clone, Copy, PartialEq, Eq)]
 pub enum Modes {
     /// Every mode.
     Everywhere,
@@ -55,7 +55,7 @@ pub enum Modes {
 }
 
 /// A row of the table of forms.
-#[derive(Clone, Copy, Debug)]
+#[derive(Clone, Copy)]
 pub struct FormRow {
     /// The form.
     pub form: Builtin,

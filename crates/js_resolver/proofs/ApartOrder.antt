@@ -1,5 +1,6 @@
 -- The names that stand among tokens.
-use Rattle.std.proofs.Common.{◌≡◌, ℕ, List, [], ◌∷◌, ◌++◌, refl, ap, sym, Option, Some, None, true, false, if◌then◌else◌}
+use Rattle.std.proofs.Common.{◌≡◌, ℕ, List, [], ◌∷◌, ◌++◌, refl, ap, sym, Option, Some, None, if◌then◌else◌}
+use Rattle.js_data.proofs.Shared.{kept-append}
 use Rattle.js_lexer.specs.declared.token.Token.{Token}
 use Rattle.js_tree.specs.declared.tree.Name.{Name}
 use Rattle.js_tree.specs.declared.tree.Spot.{Spot}
@@ -24,7 +25,4 @@ names_in [] = []
 names_in (s ∷ ss) = if is_name s.what then s.name.spot.at ∷ names_in ss else names_in ss
 
 pub names-append : (xs ys : List Site) → names_in (xs ++ ys) ≡ names_in xs ++ names_in ys
-names-append [] ys = refl
-names-append (x ∷ xs) ys =
-    elim (is_name x.what) as (λ b. (if b then x.name.spot.at ∷ names_in (xs ++ ys) else names_in (xs ++ ys)) ≡ (if b then x.name.spot.at ∷ names_in xs else names_in xs) ++ names_in ys)
-    [ true ↦ ap (λ z. x.name.spot.at ∷ z) (names-append xs ys) | false ↦ names-append xs ys ]
+names-append xs ys = kept-append names_in (λ x. is_name x.what) (λ x. x.name.spot.at) refl (λ _ _. refl) xs ys

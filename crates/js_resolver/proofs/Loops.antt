@@ -1,7 +1,8 @@
 -- Loops over forms that stand one after the other: what is done and what is left make the whole.
 use Rattle.std.proofs.Common.{◌≡◌, ℕ, ◌+◌, ◌<◌, ◌≤◌, List, [], ◌∷◌, ◌++◌, ◌∙◌, ap, refl, sym, subst, length, map, drop, get_or, Option, Some, None, Bool, append_assoc, append-nil}
 use Rattle.std.specs.Prelude.{option_to_list, is_some}
-use Rattle.std.proofs.lemmas.List.{drop_more, drop_all, map-append}
+use Rattle.std.proofs.lemmas.List.{drop_all, map-append}
+use Rattle.js_data.proofs.Shared.{drop_at}
 use Rattle.js_tree.specs.declared.tree.Expr.{Expr}
 use Rattle.js_tree.specs.declared.tree.Field.{Field}
 use Rattle.js_tree.specs.declared.tree.Declarator.{Declarator, out-Declarator}
@@ -42,16 +43,13 @@ remains_more f a b c ms ns ks x w h k e p = record {
   parts = numbers_more f b c ms ns ks w.parts x h.parts e p k;
 }
 
-at_next : {X : Type 0} (xs : List X) (i : ℕ) (d x : X) → i < length xs → x ≡ get_or xs i d → drop i xs ≡ x ∷ drop (i + 1) xs
-at_next xs i d x h e = drop_more xs i d h ∙ ap (λ z. z ∷ drop (i + 1) xs) (sym e)
-
 pub exprs_more : (ps : List Place) (xs : List Expr) (i : ℕ) (d x : Expr) (a b c : Emitter) (ms ks : List ℕ) (n : ℕ) (w : Piece) → i < length xs → x ≡ get_or xs i d
     → Remains a b ms (exprs_piece ps (count b) (exprs_of (map plain_expr (drop i xs)))) w → Emits b c (n ∷ []) (expr_piece ps (count b) (plain_expr x)) → ks ≡ ms ++ n ∷ []
     → Remains a c ks (exprs_piece ps (count c) (exprs_of (map plain_expr (drop (i + 1) xs)))) w
 unfolding exprs_piece
 exprs_more ps xs i d x a b c ms ks n w h e r k q =
     remains_more (λ m. exprs_piece ps m (exprs_of (map plain_expr (drop (i + 1) xs)))) a b c ms (n ∷ []) ks (expr_piece ps (count b) (plain_expr x)) w
-    (subst (λ z. Remains a b ms (exprs_piece ps (count b) (exprs_of (map plain_expr z))) w) (at_next xs i d x h e) r) k.adds q k.parts
+    (subst (λ z. Remains a b ms (exprs_piece ps (count b) (exprs_of (map plain_expr z))) w) (drop_at xs i d x h e) r) k.adds q k.parts
 
 pub stmts_more : (ps : List Place) (xs : List Stmt) (i : ℕ) (d x : Stmt) (a b c : Emitter) (ms ks : List ℕ) (n : ℕ) (w : Piece) → i < length xs → x ≡ get_or xs i d
     → Remains a b ms (stmts_piece ps (count b) (stmts_of (map plain_stmt (drop i xs)))) w → Emits b c (n ∷ []) (stmt_piece ps (count b) (plain_stmt x)) → ks ≡ ms ++ n ∷ []
@@ -59,7 +57,7 @@ pub stmts_more : (ps : List Place) (xs : List Stmt) (i : ℕ) (d x : Stmt) (a b 
 unfolding stmts_piece
 stmts_more ps xs i d x a b c ms ks n w h e r k q =
     remains_more (λ m. stmts_piece ps m (stmts_of (map plain_stmt (drop (i + 1) xs)))) a b c ms (n ∷ []) ks (stmt_piece ps (count b) (plain_stmt x)) w
-    (subst (λ z. Remains a b ms (stmts_piece ps (count b) (stmts_of (map plain_stmt z))) w) (at_next xs i d x h e) r) k.adds q k.parts
+    (subst (λ z. Remains a b ms (stmts_piece ps (count b) (stmts_of (map plain_stmt z))) w) (drop_at xs i d x h e) r) k.adds q k.parts
 
 pub items_more : (ps : List Place) (xs : List Item) (i : ℕ) (d x : Item) (a b c : Emitter) (ms ks : List ℕ) (w : Piece) → i < length xs → x ≡ get_or xs i d
     → Remains a b ms (items_piece ps (count b) (map plain_item (drop i xs))) w → EmitsMore b c ms ks (item_piece ps (count b) (plain_item x))
@@ -67,13 +65,13 @@ pub items_more : (ps : List Place) (xs : List Item) (i : ℕ) (d x : Item) (a b 
 unfolding items_piece
 items_more ps xs i d x a b c ms ks w h e r k =
     remains_more (λ m. items_piece ps m (map plain_item (drop (i + 1) xs))) a b c ms (item_piece ps (count b) (plain_item x)).parts ks (item_piece ps (count b) (plain_item x)) w
-    (subst (λ z. Remains a b ms (items_piece ps (count b) (map plain_item z)) w) (at_next xs i d x h e) r) k.adds k.more refl
+    (subst (λ z. Remains a b ms (items_piece ps (count b) (map plain_item z)) w) (drop_at xs i d x h e) r) k.adds k.more refl
 
 -- fields
 
 field_next : (xs : List Field) (i : ℕ) (d x : Field) → i < length xs → x ≡ get_or xs i d → fields_of (map plain_field (drop i xs)) ≡ field_in x.key (plain_expr x.value) (fields_of (map plain_field (drop (i + 1) xs)))
 field_next xs i d x h e =
-    ap (λ z. fields_of (map plain_field z)) (at_next xs i d x h e) ∙ ap (λ (z : PlainField). field_in z.key z.value (fields_of (map plain_field (drop (i + 1) xs)))) (field_is x)
+    ap (λ z. fields_of (map plain_field z)) (drop_at xs i d x h e) ∙ ap (λ (z : PlainField). field_in z.key z.value (fields_of (map plain_field (drop (i + 1) xs)))) (field_is x)
 
 pub fields_more : (ps : List Place) (xs : List Field) (i : ℕ) (d x : Field) (a b c : Emitter) (ms ks : List ℕ) (n : ℕ) (w : Piece) → i < length xs → x ≡ get_or xs i d
     → Remains a b ms (fields_piece ps (count b) (fields_of (map plain_field (drop i xs)))) w → Emits b c (n ∷ []) (expr_piece ps (count b) (plain_expr x.value)) → ks ≡ ms ++ n ∷ []
@@ -128,7 +126,7 @@ declarators_more ps xs i d x a b c ms ks m h e r k v q =
     let px = perhaps_piece ps (count b) value in
     let py = declarators_piece ps (after (count b) px) ds in
     let is : declarators_of (map plain_declarator (drop i xs)) ≡ declarator_in name value end ds =
-    ap (λ z. declarators_of (map plain_declarator z)) (at_next xs i d x h e) ∙ ap (λ (z : PlainDeclarator). declarator_in z.name z.value z.end ds) (declarator_is x) in
+    ap (λ z. declarators_of (map plain_declarator z)) (drop_at xs i d x h e) ∙ ap (λ (z : PlainDeclarator). declarator_in z.name z.value z.end ds) (declarator_is x) in
     let all = declarators_of (map plain_declarator xs) in
     let w = declarators_piece ps (count a) all in
     let l : Leaves a b (beside px py) w = subst (λ z. Leaves a b (declarators_piece ps (count b) z) w) is r.leaves in

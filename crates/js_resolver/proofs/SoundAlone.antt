@@ -1,5 +1,6 @@
 -- A declared function copies nothing: of what it sees outside of it, the top level's, either is a constant or can't be copied.
 use Rattle.std.proofs.Common.{◌≡◌, ◌∙◌, ◌⊎◌, inl, inr, ℕ, List, [], ◌∷◌, ◌++◌, refl, ap, sym, subst, map, Option, Some, None, Bool, true, false, not, ◌&&◌, ◌||◌, if◌then◌else◌, nat_eq}
+use Rattle.std.proofs.Math.Bool.{or-true}
 use Rattle.std.proofs.lemmas.Bool.{eq-eqb, eqb-false, and_parts, not-true, false≢true, true≢false}
 use Rattle.std.specs.Prelude.{max}
 use Rattle.std.specs.List.{flat_map}
@@ -32,10 +33,6 @@ use Rattle.js_resolver.proofs.ApartDeclared.{block_kept, for_kept, list_kept, tu
 abbrev IsLoose : Declared → Type 0
 IsLoose d = (d.owner ≡ top) × ((d.direct ≡ true) ⊎ (is_var d.role ≡ true))
 
-or_true : (b : Bool) → (b || true) ≡ true
-or_true true = refl
-or_true false = refl
-
 -- such a variable is a constant, or can't be copied
 loose_stays : (assigned : List ℕ) (q : Place) (d : Declared) → IsLoose d → copies assigned q d ≡ true → ⊥
 loose_stays assigned q d l c =
@@ -50,7 +47,7 @@ loose_stays assigned q d l c =
     let constant : is_constant assigned d ≡ true =
     ap (λ (b : Bool). is_function d.role || (b && (d.direct && not (is_among d.place assigned)))) (eq-eqb d.owner top l.0)
     ∙ (ap (λ (b : Bool). is_function d.role || (b && not (is_among d.place assigned))) direct
-    ∙ (ap (λ (b : Bool). is_function d.role || not b) unchanged ∙ or_true (is_function d.role)))
+    ∙ (ap (λ (b : Bool). is_function d.role || not b) unchanged ∙ or-true (is_function d.role)))
     in
     true≢false (sym constant ∙ variable)
 

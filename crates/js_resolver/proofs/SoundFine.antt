@@ -1,8 +1,10 @@
 -- Where the scopes around each place are known, its program is sound.
-use Rattle.std.proofs.Common.{◌≡◌, ◌∙◌, inl, inr, ℕ, ◌<◌, List, [], ◌∷◌, ◌++◌, append_assoc, refl, ap, sym, subst, length, length-append, map, arith, Option, Some, None, Bool, true, false, not, ◌&&◌, ◌||◌, if◌then◌else◌, nat_eq}
-use Rattle.std.proofs.lemmas.Bool.{eq-eqb, eqb-false, ne_eqb, or_parts, and_right, not-false, false≢true, true≢false}
+use Rattle.std.proofs.Common.{◌≡◌, ◌∙◌, inl, inr, ℕ, ◌<◌, List, [], ◌∷◌, ◌++◌, append_assoc, refl, ap, sym, subst, length, length-append, map, arith, Some, None, Bool, true, false, not, ◌&&◌, ◌||◌, if◌then◌else◌, nat_eq}
+use Rattle.std.proofs.lemmas.Bool.{eq-eqb, eqb-false, ne_eqb, or_parts, and_right, not-false, true≢false}
+use Rattle.std.proofs.lemmas.List.{length-map}
 use Rattle.std.specs.Prelude.{is_some}
 use Rattle.std.specs.List.{flat_map, filter_map, cons_option}
+use Rattle.js_data.proofs.Shared.{known}
 use Rattle.js_tree.specs.Plain.{PlainItem}
 use Rattle.js_program.specs.Sound.{variable_fits, all_below, IsSound}
 use Rattle.js_names.specs.declared.place.Declared.{Declared}
@@ -25,10 +27,6 @@ use Rattle.js_resolver.proofs.SoundPlaces.{IsKnown, ArePlaced, unbroken, has_slo
 use Rattle.js_resolver.proofs.SoundRoom.{NoRepeats, no_repeats-first_uses, function_copies, function_there, function_room}
 use Rattle.js_resolver.proofs.SoundNodes.{slots_in, FitsAt, SlotAt, DeclaresAt, fine_of, AllFine, IsCovered, counted, is_parameter_site}
 use Rattle.js_resolver.proofs.SoundProgram.{program_scopes, program_sound}
-
-length_constants : (items : List PlainItem) (ps : List Place) (vs : List ℕ) → length (map (constant_of items ps) vs) ≡ length vs
-length_constants items ps [] = refl
-length_constants items ps (v ∷ vs) = omega (arith, length_constants items ps vs)
 
 -- what is asked of the places of a program
 pub record AreApart (items : List PlainItem) : Type 0 where
@@ -73,10 +71,6 @@ pub items_have : (items : List PlainItem) → AllHave (places items) (flat_map (
 unfolding places program_sites
 items_have items = all_have (see _ ∷ []) (flat_map (item_sites (program_scopes items)) items)
 
-known-is : {A : Type 0} (o : Option A) → is_some o ≡ true → (x : A) × (o ≡ Some x)
-known-is None h = absurd (false≢true h)
-known-is (Some x) h = (x, refl)
-
 -- variables that are no constants
 
 is_variable : (assigned : List ℕ) (d : Declared) (rest : Bool) → is_function d.role ≡ false → (nat_eq d.owner top && rest) ≡ false → (is_function d.role || (nat_eq d.owner top && rest)) ≡ false
@@ -111,7 +105,7 @@ assigned_slot : (items : List PlainItem) (q : Place) → name_fault items ≡ No
 assigned_slot items q ok placed has a m =
     let ps = places items in
     let rules = unbroken items q ok has in
-    let declared = known-is q.declared (not-false _ (subst (λ (b : Bool). (b && not (is_some q.declared)) ≡ false) m (or_parts _ _ rules.0).1)) in
+    let declared = known q.declared (not-false _ (subst (λ (b : Bool). (b && not (is_some q.declared)) ≡ false) m (or_parts _ _ rules.0).1)) in
     let d : Declared = declared.0 in
     let tested : test_of q.declared (λ d. is_const d.role || is_function d.role) ≡ false = subst (λ (b : Bool). (b && test_of q.declared (λ d. is_const d.role || is_function d.role)) ≡ false) a rules.2 in
     let fixed : (is_const d.role || is_function d.role) ≡ false = subst (λ o. test_of o (λ d. is_const d.role || is_function d.role) ≡ false) declared.1 tested in
@@ -145,12 +139,12 @@ fine_place items s ok h has found listed =
     let ps = places items in
     let assigned = assigned_in ps in
     let q = see s in
-    let same : length (constants_of assigned ps) ≡ length p.constants = sym (length_constants items ps (constants_of assigned ps)) in
-    let known : IsKnown ps q = h.placed.known q has in
+    let same : length (constants_of assigned ps) ≡ length p.constants = sym (length-map (constants_of assigned ps) (constant_of items ps)) in
+    let around_known : IsKnown ps q = h.placed.known q has in
     let fits : (d : Declared) → q.declared ≡ Some d → FitsAt p ps s.around.owner s.name.spot.at = λ d e. subst (λ n. variable_fits (slots_in ps s.around.owner) n (named_at ps s.name.spot.at) ≡ true) same (name_fits ps q d h.placed has e) in
     let rules = unbroken items q ok has in
     let mentioned : is_mention s.what ≡ true → FitsAt p ps s.around.owner s.name.spot.at = λ e.
-    let declared = known-is q.declared (not-false _ (subst (λ (b : Bool). (b && not (is_some q.declared)) ≡ false) e (or_parts _ _ rules.0).1)) in
+    let declared = known q.declared (not-false _ (subst (λ (b : Bool). (b && not (is_some q.declared)) ≡ false) e (or_parts _ _ rules.0).1)) in
     fits declared.0 declared.1
     in
     let cases : (w : What) → s.what ≡ w → IsFound w s → fine_of p ps w s =
@@ -165,7 +159,7 @@ fine_place items s ok h has found listed =
       | What.Returns ↦ λ e k. tt
       | What.Begins ↦ λ e k.
           let f = s.around.owner in
-          let around : around_of ps f ≡ second top (functions_of s.scopes) = known.begins (ap is_begin e) in
+          let around : around_of ps f ≡ second top (functions_of s.scopes) = around_known.begins (ap is_begin e) in
           let below : all_below (slots_in ps (second top (functions_of s.scopes))) (capture_slots ps f) ≡ true = subst (λ g. all_below (slots_in ps g) (capture_slots ps f) ≡ true) around (captures_there ps f h.placed) in
           let order : captures_in_order p.functions ≡ map (capture_slots ps) (functions_in ps) = items_listed ps (program_scopes items) 0 items ∙ ap (map (capture_slots ps)) (sym (functions-begun items h)) in
           let among : In f (functions_in ps) = listed (ap is_begin e) in

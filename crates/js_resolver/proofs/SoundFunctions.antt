@@ -4,6 +4,7 @@ use Rattle.std.proofs.lemmas.List.{map-append}
 use Rattle.std.proofs.lemmas.Bool.{false≢true}
 use Rattle.std.specs.Prelude.{is_some}
 use Rattle.std.specs.List.{flat_map}
+use Rattle.js_data.proofs.Shared.{kept-append}
 use Rattle.js_tree.specs.declared.tree.Name.{Name}
 use Rattle.js_tree.specs.declared.tree.Spot.{Spot}
 use Rattle.js_tree.specs.declared.tree.DeclareKind.{DeclareKind}
@@ -32,10 +33,7 @@ begun [] = []
 begun (s ∷ ss) = if is_begin s.what then s.around.owner ∷ begun ss else begun ss
 
 pub begun-append : (xs ys : List Site) → begun (xs ++ ys) ≡ begun xs ++ begun ys
-begun-append [] ys = refl
-begun-append (x ∷ xs) ys =
-    elim (is_begin x.what) as (λ b. (if b then x.around.owner ∷ begun (xs ++ ys) else begun (xs ++ ys)) ≡ (if b then x.around.owner ∷ begun xs else begun xs) ++ begun ys)
-    [ true ↦ ap (λ z. x.around.owner ∷ z) (begun-append xs ys) | false ↦ begun-append xs ys ]
+begun-append xs ys = kept-append begun (λ x. is_begin x.what) (λ x. x.around.owner) refl (λ _ _. refl) xs ys
 
 abbrev pub captures_in_order : List PlainBody → List (List ℕ)
 captures_in_order bodies = map (λ (c : PlainBody). c.captures) bodies

@@ -3,6 +3,7 @@ use Rattle.std.proofs.Common.{◌≡◌, ℕ, ◌+◌, ◌<◌, List, [], ◌∷
 use Rattle.std.specs.Prelude.{Result, Ok, Err, IfOk, Vec, unwrap_or}
 use Rattle.std.specs.declared.alloc.Global.{Global}
 use Rattle.std.proofs.lemmas.List.{take_more, map-append}
+use Rattle.std.proofs.lemmas.Simd.{map-map}
 use Rattle.js_tree.specs.declared.tree.Item.{Item}
 use Rattle.js_tree.specs.Views.{plain_item}
 use Rattle.js_program.specs.declared.node.ConstantStart.{ConstantStart}
@@ -26,10 +27,6 @@ pub first_some_of : {A : Type 0} (a : A) (os : List (Option A)) → first_some a
 first_some_of a [] = refl
 first_some_of a (None ∷ os) = first_some_of a os
 first_some_of a (Some x ∷ os) = refl
-
-map_map : {A B C : Type 0} (f : B → C) (g : A → B) (xs : List A) → map f (map g xs) ≡ map (λ x. f (g x)) xs
-map_map f g [] = refl
-map_map f g (x ∷ xs) = ap (λ z. f (g x) ∷ z) (map_map f g xs)
 
 -- one more turn of a loop
 pub notes_more : {X : Type 0} (k : ℕ → X → Option PlainConstant) (xs : List X) (i : ℕ) (d x : X) (a b c : Known ConstantStart) → i < length xs → x ≡ get_or xs i d
@@ -56,8 +53,8 @@ start_is_constant ps items seen e a b v n s m k =
     ∙ (or_of undeclared (first_of fs) (first_of cs)
     ∙ (ap (unwrap_or (first_of fs)) (sym (first_some_of undeclared cs))
     ∙ (sym (first_some_of (first_some undeclared cs) fs)
-    ∙ (ap (first_some (first_some undeclared cs)) (sym (map_map (function_named ps v) plain_item items))
-    ∙ ap (λ z. first_some (first_some undeclared z) (map (function_named ps v) (map plain_item items))) (sym (map_map (λ (p : Place). constant_there v p.declared) place_of seen) ∙ ap (map (λ (p : Place). constant_there v p.declared)) s)))))
+    ∙ (ap (first_some (first_some undeclared cs)) (sym (map-map (function_named ps v) plain_item items))
+    ∙ ap (λ z. first_some (first_some undeclared z) (map (function_named ps v) (map plain_item items))) (sym (map-map (λ (p : Place). constant_there v p.declared) place_of seen) ∙ ap (map (λ (p : Place). constant_there v p.declared)) s)))))
 
 -- one more constant
 pub starts_more : (f : ℕ → PlainConstant) (xs : List ℕ) (i d : ℕ) (a b : List ConstantStart) (s : ConstantStart) → i < length xs → map plain_constant a ≡ map f (take i xs) → b ≡ a ++ s ∷ [] → plain_constant s ≡ f (get_or xs i d) → map plain_constant b ≡ map f (take (i + 1) xs)

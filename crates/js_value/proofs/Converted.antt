@@ -2,11 +2,11 @@
 use Rattle.std.proofs.Common.{◌≡◌, ◌≤◌, ◌<◌, ◌+◌, ℕ, length, drop, take, map, get_or, List, [], ◌∷◌, ◌++◌, Option, Some, None, option_map, refl, sym, ap, ◌∙◌, Global}
 use Rattle.std.specs.declared.sync.Arc.{Arc}
 use Rattle.std.proofs.lemmas.List.{drop_all, take_all}
-use Rattle.js_data.specs.Data as d
 use Rattle.js_data.specs.Data.{DataList, DataFields}
 use Rattle.js_data.specs.Views.{plain_data, data_list_view, data_fields_view}
 use Rattle.js_data.specs.declared.data.Data.{Data}
 use Rattle.js_data.proofs.Shared.{drop_is}
+use Rattle.js_data.proofs.After.{after, after_none, one_more, after_fields, after_fields_none, one_more_field}
 use Rattle.js_value.specs.Value as v
 use Rattle.js_value.specs.Value.{PlainValue, PlainSet, SetList}
 use Rattle.js_value.specs.Views.{plain_value, plain_value_field, value_list_view, value_fields_view}
@@ -41,22 +41,6 @@ value_fields_done vs fs i h e = ap value_fields_of (e ∙ ap (map value_of_field
 
 -- ---- values as data
 
-abbrev pub after : List Data → DataList → DataList
-after [] ds = ds
-after (x ∷ xs) ds = d.item (plain_data x) (after xs ds)
-
-after_none : (xs : List Data) → after xs d.no_data ≡ data_list_view xs
-after_none [] = refl
-after_none (x ∷ xs) = ap (d.item (plain_data x)) (after_none xs)
-
-after_push : (xs : List Data) (x : Data) (ds : DataList) → after (xs ++ x ∷ []) ds ≡ after xs (d.item (plain_data x) ds)
-after_push [] x ds = refl
-after_push (y ∷ xs) x ds = ap (d.item (plain_data y)) (after_push xs x ds)
-
-one_more : (xs : List Data) (x : Data) (r : Option DataList) → option_map (after xs) (option_map (d.item (plain_data x)) r) ≡ option_map (after (xs ++ x ∷ [])) r
-one_more xs x None = refl
-one_more xs x (Some ds) = ap Some (sym (after_push xs x ds))
-
 pub data_step : (made made' : List Data) (x : Data) (u : Value) (us : List Value) (i : ℕ) (all : Option DataList) → i < length us → u ≡ get_or us i u → made' ≡ made ++ x ∷ [] → value_data (plain_value u) ≡ Some (plain_data x)
     → option_map (after made) (values_data (value_list_view (drop i us))) ≡ all → option_map (after made') (values_data (value_list_view (drop (i + 1) us))) ≡ all
 data_step made made' x u us i all lt here more reads so_far =
@@ -67,22 +51,6 @@ pub data_end : (made : List Data) (us : List Value) (i : ℕ) → length us ≤ 
 data_end made us i h e = ap Some (sym (after_none made)) ∙ rw (drop_all i us h) at e
 
 -- ---- fields as data
-
-abbrev pub after_fields : List (List ℕ × Data) → DataFields → DataFields
-after_fields [] fs = fs
-after_fields (x ∷ xs) fs = d.field x.0 (plain_data x.1) (after_fields xs fs)
-
-after_fields_none : (xs : List (List ℕ × Data)) → after_fields xs d.no_fields ≡ data_fields_view xs
-after_fields_none [] = refl
-after_fields_none (x ∷ xs) = ap (d.field x.0 (plain_data x.1)) (after_fields_none xs)
-
-after_fields_push : (xs : List (List ℕ × Data)) (x : List ℕ × Data) (fs : DataFields) → after_fields (xs ++ x ∷ []) fs ≡ after_fields xs (d.field x.0 (plain_data x.1) fs)
-after_fields_push [] x fs = refl
-after_fields_push (y ∷ xs) x fs = ap (d.field y.0 (plain_data y.1)) (after_fields_push xs x fs)
-
-one_more_field : (xs : List (List ℕ × Data)) (x : List ℕ × Data) (r : Option DataFields) → option_map (after_fields xs) (option_map (d.field x.0 (plain_data x.1)) r) ≡ option_map (after_fields (xs ++ x ∷ [])) r
-one_more_field xs x None = refl
-one_more_field xs x (Some fs) = ap Some (sym (after_fields_push xs x fs))
 
 pub fields_step : (made made' : List (List ℕ × Data)) (k : List ℕ) (x : Data) (u : Arc (List ℕ) Global × Value) (us : List (Arc (List ℕ) Global × Value)) (i : ℕ) (all : Option DataFields) → i < length us → u ≡ get_or us i u → made' ≡ made ++ (k, x) ∷ [] → k ≡ u.0.value → value_data (plain_value u.1) ≡ Some (plain_data x)
     → option_map (after_fields made) (fields_data (value_fields_view (drop i us))) ≡ all → option_map (after_fields made') (fields_data (value_fields_view (drop (i + 1) us))) ≡ all

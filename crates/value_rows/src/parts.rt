@@ -67,16 +67,16 @@ endsWith | "pipe.a" | "pipe" --> false
 endsWith | "pipe.a" | null --> type
 endsWith | "pipe.a" --> type
 endsWith | event ["a"] | "a" --> type
-or | all | none --> Or(All, Nothing)
-and | all | none --> And(All, Nothing)
-xor | all | none --> Xor(All, Nothing)
-negate | all --> Negate(All)
-negate | none | 1 --> Negate(Nothing)
-xor | none | all | 1 --> Xor(Nothing, All)
-or | event ["a"] | event ["b",1] --> Or(Only(Event { name: Text { text: "a" }, extra: None }), Only(Event { name: Text { text: "b" }, extra: Some(Whole(Whole { n: 1 })) }))
-and | all | [] --> And(All, Any([]))
-and | all | [none] --> And(All, Any([Nothing]))
-or | all | [[none]] --> Or(All, Any([Any([Nothing])]))
+or | all | none --> or(all, none)
+and | all | none --> and(all, none)
+xor | all | none --> xor(all, none)
+negate | all --> negate(all)
+negate | none | 1 --> negate(none)
+xor | none | all | 1 --> xor(none, all)
+or | event ["a"] | event ["b",1] --> or(event ["a"], event ["b",1])
+and | all | [] --> and(all, [])
+and | all | [none] --> and(all, [none])
+or | all | [[none]] --> or(all, [[none]])
 or | all --> type
 and | all | 1 --> type
 xor | all | [1] --> type
@@ -107,7 +107,7 @@ event | "go" | function --> type
 event | 7 | 1 --> type
 event | undefined --> type
 event --> type
-set | "cars" | function --> Predicate { name: Text { text: "cars" }, code: 3, captured: [] }
+set | "cars" | function --> set cars 3 0
 set | "cars" | "f" --> type
 set | "cars" | all --> type
 set | null | function --> type

@@ -143,32 +143,59 @@ fn shown_event(alloc: Global, event: &Event) -> Result<String, Fail> {
     Ok(format!(in alloc; "event {}", line.as_str())?)
 }
 
-/// The line without each place of the part.
-fn without(alloc: Global, line: &str, part: &str) -> Result<String, Fail> {
-    let mut kept = String::new(alloc);
-    for piece in line.split(part) {
-        kept.push_str(piece)?;
-    }
-    Ok(kept)
+#[cycle(sets)]
+fn shown_two(
+    alloc: Global,
+    word: &str,
+    first: &EventSet,
+    second: &EventSet,
+    room: u8,
+) -> Result<String, Fail> {
+    let first = shown_set(alloc, first, room)?;
+    let second = shown_set(alloc, second, room)?;
+    Ok(format!(in alloc; "{word}({}, {})", first.as_str(), second.as_str())?)
 }
 
-/// The line without the sizes that stand beside shared parts, each with two braces behind it.
-fn without_sizes(alloc: Global, line: &str) -> Result<String, Fail> {
-    let mut kept = String::new(alloc);
-    for piece in line.split(", weight: ") {
-        match piece.split_once(" } }") {
-            Some((_, rest)) => kept.push_str(rest)?,
-            None => kept.push_str(piece)?,
+#[cycle(sets)]
+fn shown_sets(alloc: Global, sets: &[EventSet], room: u8) -> Result<String, Fail> {
+    let mut line = String::from_str(alloc, "[")?;
+    for (place, set) in sets.iter().enumerate() {
+        if place > 0 {
+            line.push_str(", ")?;
+        }
+        line.push_str(shown_set(alloc, set, room)?.as_str())?;
+    }
+    line.push_str("]")?;
+    Ok(line)
+}
+
+/// What the set was made of, to this depth.
+#[cycle(sets)]
+fn shown_set(alloc: Global, set: &EventSet, room: u8) -> Result<String, Fail> {
+    if room == 0 {
+        return Ok(String::from_str(alloc, "..")?);
+    }
+    match set.tree() {
+        SetTree::Only(event) => shown_event(alloc, event),
+        SetTree::Any(sets) => shown_sets(alloc, sets.as_slice(), room - 1),
+        SetTree::All => Ok(String::from_str(alloc, "all")?),
+        SetTree::Nothing => Ok(String::from_str(alloc, "none")?),
+        SetTree::Or(first, second) => shown_two(alloc, "or", first, second, room - 1),
+        SetTree::And(first, second) => shown_two(alloc, "and", first, second, room - 1),
+        SetTree::Xor(first, second) => shown_two(alloc, "xor", first, second, room - 1),
+        SetTree::Negate(set) => {
+            let line = shown_set(alloc, set, room - 1)?;
+            Ok(format!(in alloc; "negate({})", line.as_str())?)
+        }
+        SetTree::Predicate {
+            name,
+            code,
+            captured,
+        } => {
+            let count = captured.as_slice().len();
+            Ok(format!(in alloc; "set {} {code} {count}", name.as_str())?)
         }
     }
-    Ok(kept)
-}
-
-/// What the set was made of.
-fn shown_set(alloc: Global, set: &EventSet) -> Result<String, Fail> {
-    let line = without_sizes(alloc, format!(in alloc; "{set:?}")?.as_str())?;
-    let sets = without(alloc, line.as_str(), "EventSet { shared: SetParts { tree: ")?;
-    without(alloc, sets.as_str(), "Items { shared: ItemParts { values: ")
 }
 
 /// The word of what is no data.
@@ -176,7 +203,7 @@ fn shown_as_no_data(alloc: Global, v: &Value) -> Result<Option<String>, Fail> {
     match v {
         Value::Undefined => Ok(Some(String::from_str(alloc, "undefined")?)),
         Value::Event(event) => Ok(Some(shown_event(alloc, event)?)),
-        Value::Set(set) => Ok(Some(shown_set(alloc, set)?)),
+        Value::Set(set) => Ok(Some(shown_set(alloc, set, 5)?)),
         _ => Ok(None),
     }
 }

@@ -1,10 +1,10 @@
-use Rattle.std.proofs.Common.{◌<◌, ◌+◌, ◌∙◌, ℕ, List, length, map, slice_get, sym, subst, ap, arith, Some, None, Vec, Global}
+use Rattle.std.proofs.Common.{◌<◌, ◌+◌, ◌∙◌, ℕ, List, length, map, slice_get, sym, subst, ap, arith, Some, None, Vec, Global, add-one}
 use Rattle.std.specs.Borrow.{Bor}
 use Rattle.bp_run.specs.Choosing.{Touched as to}
 use Rattle.bp_floor.specs.declared.touching.Touch.{Touch}
 use Rattle.bp_floor.specs.Touching.{touch_seen}
 use Rattle.bp_floor.proofs.Weaving.{Weaves, weaves_start, weaves_moves, weaves_interrupts, weaves_none}
-use Rattle.bp_floor.proofs.Goes.{first_is, looked_up, weaves_same, pushed_seen, one_more}
+use Rattle.bp_floor.proofs.Goes.{first_is, looked_up, weaves_same, pushed_seen}
 use Rattle.bp_floor.proofs.going.touches_of.Goals.{in-Some-Moves+in_ok-push-in-Some-Moves, in-Some-Interrupts+in_ok-push-in-Some-Interrupts, in-None}
 use Rattle.bp_floor.proofs.going.touches_of.Goals as goal
 
@@ -27,7 +27,7 @@ loop-turn-preserved c =
           let k = w.in-Some-Moves.number in
           let f = first_is (Some (to.Moves k)) _ _ _ _ a b (sym (ap (λ (t : Touch). Some (touch_seen t)) w.in-Some-Moves.field-0-is) ∙ w.in-Some-Moves.ensures) in
           record {
-            weaves = weaves_same reach _ _ _ _ _ _ _ _ (w.moved-is ∙ one_more m) w.interrupted-is (one_more n)
+            weaves = weaves_same reach _ _ _ _ _ _ _ _ (w.moved-is ∙ add-one m) w.interrupted-is (add-one n)
                 (ap (λ (ts : Vec Touch Global). map touch_seen ts.items) w.touches-is ∙ pushed_seen c.loop-turn.touches.items _ _ (to.Moves k) w.in_ok-push-in-Some-Moves.ensures.items (ap to.Moves w.in-Some-Moves.number-is))
                 (weaves_moves reach m i n k done (c.loop-turn.invariant).weaves low f);
           }
@@ -35,13 +35,13 @@ loop-turn-preserved c =
           let k = w.in-Some-Interrupts.number in
           let f = first_is (Some (to.Interrupts k)) _ _ _ _ a b (sym (ap (λ (t : Touch). Some (touch_seen t)) w.in-Some-Interrupts.field-0-is) ∙ w.in-Some-Interrupts.ensures) in
           record {
-            weaves = weaves_same reach _ _ _ _ _ _ _ _ w.moved-is (w.interrupted-is ∙ one_more i) (one_more n)
+            weaves = weaves_same reach _ _ _ _ _ _ _ _ w.moved-is (w.interrupted-is ∙ add-one i) (add-one n)
                 (ap (λ (ts : Vec Touch Global). map touch_seen ts.items) w.touches-is ∙ pushed_seen c.loop-turn.touches.items _ _ (to.Interrupts k) w.in_ok-push-in-Some-Interrupts.ensures.items (ap to.Interrupts w.in-Some-Interrupts.number-is))
                 (weaves_interrupts reach m i n k done (c.loop-turn.invariant).weaves low f);
           }
       | in-None w ↦
           record {
-            weaves = weaves_same reach _ _ _ _ _ _ _ _ w.moved-is w.interrupted-is (one_more n) (ap (λ (ts : Vec Touch Global). map touch_seen ts.items) w.touches-is)
+            weaves = weaves_same reach _ _ _ _ _ _ _ _ w.moved-is w.interrupted-is (add-one n) (ap (λ (ts : Vec Touch Global). map touch_seen ts.items) w.touches-is)
                 (weaves_none reach m i n done (c.loop-turn.invariant).weaves low (first_is None _ _ _ _ a b w.in-None.ensures));
           }
     ]

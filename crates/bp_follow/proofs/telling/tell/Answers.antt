@@ -6,11 +6,11 @@ use Rattle.bp_log.specs.declared.record.Record.{Record}
 use Rattle.bp_log.specs.declared.record.Record.TheVariants.{End}
 use Rattle.bp_log.specs.declared.trace.Line.TheVariants as trace
 use Rattle.bp_log.specs.declared.verdict.Verdict.{Verdict}
+use Rattle.bp_log.proofs.Complete.{verdict_by_last}
 use Rattle.bp_reading.specs.Reading.{Stage, after, next_at}
 use Rattle.bp_reader.specs.Reads.{IsStageAfter, Tells as ReaderTells}
 use Rattle.bp_reader.specs.declared.fault.LogFault.TheVariants as log
 use Rattle.bp_follow.specs.Courses.{text_in}
-use Rattle.bp_follow.proofs.Shows.{verdict_last}
 use Rattle.std.proofs.lemmas.Result.{err_from_is_err_and}
 use Rattle.bp_follow.specs.declared.fault.ReplayFault.{ReplayFault}
 use Rattle.bp_follow.specs.declared.fault.ReplayFault.TheVariants as fault
@@ -121,7 +121,7 @@ returns-in-Some-verdict-clause-tells g c =
     let t = told_end d v n.0 r.told r.going n.1 in
     tells_finished (first_of c.args.arbiter.now) (onto d (End v) n.0) a.program a.options t.0 c.args.reader.now.left (g.K.Sink.written c.args.out.now) c.finish.new.page (g.K.Sink.written c.finish.new.out) c.next.new.self.stage c.next.new.self.left v c.finish.result
     (reached_on d c.args.reader.now.left c.loop-reader.reader.left c.next.new.self.left s c.next.new.self.stage (End v) n.0 a.reached tells stage)
-    (verdict_last d.records v) c.finish.ensures.finishes
+    (verdict_by_last d.records (End v)) c.finish.ensures.finishes
     (shown_on c.finish.result (g.K.Sink.written c.args.out.now) (g.K.Sink.written c.show.new.out) (g.K.Sink.written c.finish.new.out) (text_in d) c.show.new.page (lines_text (trace.Verdict v ∷ [])) c.finish.new.page (text_in (onto d (End v) n.0)) t.1
     (shows_course d a.taken (a.way).more _ _ _ c.loop-reader.page _ (a.way).lines a.shows (c.in_ok-show.ensures.shows d a.taken a.way))
     c.finish.ensures.shown)

@@ -1,6 +1,7 @@
 use Rattle.std.proofs.Common.{rules, ◌≡◌, ◌≤◌, [], false, refl, arith}
+use Rattle.std.proofs.lemmas.Bool.{both_ways}
 use Rattle.bp_feeds.proofs.Going.{stands_on, goes_nowhere, goes_on}
-use Rattle.bp_inject.proofs.Begins.{begins, over_is_last, not_both}
+use Rattle.bp_inject.proofs.Begins.{begins, over_is_last}
 use Rattle.bp_feeds.specs.Feeds.{is_over}
 use Rattle.bp_inject.proofs.injecting.inject.Goals as goal
 
@@ -49,7 +50,7 @@ loop-preserved-in-Ok-Went g c =
       goes_on = goes_on g.S.Source.left g.S.Source.faults c.args.feed.now c.loop.feed c.turn.new.self c.loop.invariant.goes_on c.turn.ensures.goes_on;
       going = going;
       halts = halts;
-      stays = λ h. absurd (not_both c.halted.result none (c.halted.ensures.stays (omega (arith, h, c.loop.invariant.halts))));
+      stays = λ h. absurd (both_ways c.halted.result none (c.halted.ensures.stays (omega (arith, h, c.loop.invariant.halts))));
     }
 
 pub loop-preserved : goal.loop-preserved
@@ -61,7 +62,7 @@ loop-preserved g c =
       goes_on = goes_on g.S.Source.left g.S.Source.faults c.args.feed.now c.loop.feed c.turn.new.self c.loop.invariant.goes_on c.turn.ensures.goes_on;
       going = going;
       halts = halts;
-      stays = λ h. absurd (not_both c.halted.result none (c.halted.ensures.stays (omega (arith, h, c.loop.invariant.halts))));
+      stays = λ h. absurd (both_ways c.halted.result none (c.halted.ensures.stays (omega (arith, h, c.loop.invariant.halts))));
     }
 
 pub returns-in-Ok-Over-clause-goes_on : goal.returns-in-Ok-Over-clause-goes_on
@@ -73,12 +74,12 @@ returns-in-Err-clause-goes_on g c = goes_on g.S.Source.left g.S.Source.faults c.
 pub returns-in-Ok-Over-clause-stays : goal.returns-in-Ok-Over-clause-stays
 returns-in-Ok-Over-clause-stays g c = λ h.
     let none : c.halted.result ≡ false = search rules in
-    absurd (not_both c.halted.result none (c.halted.ensures.stays (omega (arith, h, c.loop.invariant.halts))))
+    absurd (both_ways c.halted.result none (c.halted.ensures.stays (omega (arith, h, c.loop.invariant.halts))))
 
 pub returns-in-Err-clause-stays : goal.returns-in-Err-clause-stays
 returns-in-Err-clause-stays g c = λ h.
     let none : c.halted.result ≡ false = search rules in
-    absurd (not_both c.halted.result none (c.halted.ensures.stays (omega (arith, h, c.loop.invariant.halts))))
+    absurd (both_ways c.halted.result none (c.halted.ensures.stays (omega (arith, h, c.loop.invariant.halts))))
 
 pub returns-then-halted-clause-stays : goal.returns-then-halted-clause-stays
 returns-then-halted-clause-stays g c = λ h. (refl, c.loop.invariant.stays h)

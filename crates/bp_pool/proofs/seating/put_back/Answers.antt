@@ -1,6 +1,7 @@
 use Rattle.std.proofs.Common.{rules}
+use Rattle.js_data.proofs.Shared.{none_of}
 use Rattle.js_frames.specs.Places.{plain_ground}
-use Rattle.bp_pool.proofs.Places.{keeps_seat, gets_back_from, none_of, place_within}
+use Rattle.bp_pool.proofs.Places.{keeps_seat, gets_back_from, place_within}
 use Rattle.bp_pool.proofs.seating.put_back.Goals as goal
 
 pub index_mut-requires : goal.index_mut-requires

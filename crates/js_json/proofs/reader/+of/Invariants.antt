@@ -1,7 +1,7 @@
 use Rattle.std.proofs.Common.{◌≡◌, drop, option_map}
 use Rattle.serde_json.specs.View.{items_view, members_view}
 use Rattle.js_json.specs.Json.{list_from, fields_from}
-use Rattle.js_json.proofs.Jsons.{after, after_fields}
+use Rattle.js_data.proofs.After.{after, after_fields}
 use Rattle.js_json.proofs.reader.+of.Given as goal
 
 abbrev pub invariant-list_of-loop-item : goal.invariant-list_of-loop-item

@@ -1,13 +1,14 @@
 use Rattle.std.proofs.Common.{◌≡◌, ◌∙◌, sym, ap, arith, take}
+use Rattle.std.proofs.lemmas.Bool.{or_left}
 use Rattle.js_names.specs.Places.{blocked}
 use Rattle.js_names.specs.Views.{scopes_of}
-use Rattle.js_names.proofs.Stacks.{blocked_down, blocked_empty, blocked_yes, blocked_no, blocked_on}
+use Rattle.js_names.proofs.Stacks.{blocked_down, blocked_empty, blocked_no, blocked_on}
 use Rattle.js_names.proofs.lookup.blocked.Goals as goal
 
 pub returns-then-clashes_here : goal.returns-then-clashes_here
 returns-then-clashes_here c =
     let d = blocked_down c.args.scopes.now c.loop-i.i c.args.name.now c.args.place c.index-scopes-i.result c.index-scopes-i.result (omega arith) (omega arith) c.index-scopes-i.is in
-    sym (c.loop-i.invariant.same ∙ (d ∙ blocked_yes _ _ (sym c.if-clashes_here.true ∙ c.clashes_here.ensures)))
+    sym (c.loop-i.invariant.same ∙ (d ∙ or_left _ _ (sym c.clashes_here.ensures ∙ c.if-clashes_here.true)))
 
 pub returns-then-scope : goal.returns-then-scope
 returns-then-scope c =

@@ -2,7 +2,7 @@ use Rattle.std.proofs.Common.{◌≡◌, drop, option_map}
 use Rattle.js_value.specs.Sizes.{value_size, values_size, fields_size}
 use Rattle.js_value.specs.Views.{plain_value, value_list_view, value_fields_view}
 use Rattle.js_value.specs.DataValues.{values_data, fields_data}
-use Rattle.js_value.proofs.Converted.{after, after_fields}
+use Rattle.js_data.proofs.After.{after, after_fields}
 use Rattle.js_value.proofs.data.+data_of.Given as goal
 
 abbrev pub invariant-data_of_values-loop-item : goal.invariant-data_of_values-loop-item

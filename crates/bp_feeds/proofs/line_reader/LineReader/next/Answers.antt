@@ -1,8 +1,9 @@
 use Rattle.std.proofs.Common.{rules, ◌≡◌, ◌++◌, [], option_to_list, refl}
+use Rattle.std.proofs.lemmas.Result.{IfOk-weaker}
 use Rattle.bp_feeds.specs.Reading.{IsTooLong, ReadsOn, ReadsLast, IsSameToEnd}
 use Rattle.bp_feeds.specs.Feeds.{reading_of}
 use Rattle.bp_feeds.proofs.Cuts.{unbroken_behind}
-use Rattle.bp_feeds.proofs.Within.{too_long, faulted, when_ok, after_same, after_last}
+use Rattle.bp_feeds.proofs.Within.{too_long, faulted, after_same, after_last}
 use Rattle.bp_feeds.proofs.line_reader.LineReader.next.Goals as goal
 
 pub returns-in-TooLong-clause-reads : goal.returns-in-TooLong-clause-reads
@@ -22,7 +23,7 @@ pub returns-in-Line-clause-reads : goal.returns-in-Line-clause-reads
 returns-in-Line-clause-reads g c =
     let mid = reading_of g.S.Source.left c.gather.new.self in
     let new = reading_of g.S.Source.left c.pass.new.self in
-    when_ok (λ item. ReadsOn mid (option_to_list item) new) (λ item. ReadsOn (reading_of g.S.Source.left c.args.self.now) (option_to_list item) new) c.pass.result
+    IfOk-weaker c.pass.result (λ item. ReadsOn mid (option_to_list item) new) (λ item. ReadsOn (reading_of g.S.Source.left c.args.self.now) (option_to_list item) new)
     (λ item r. after_same (reading_of g.S.Source.left c.args.self.now) mid new (option_to_list item) c.gather.ensures.same r) c.pass.ensures.reads
 
 pub returns-in-Last-clause-reads : goal.returns-in-Last-clause-reads
@@ -30,5 +31,5 @@ returns-in-Last-clause-reads g c =
     let mid = reading_of g.S.Source.left c.gather.new.self in
     let new = reading_of g.S.Source.left c.pass_last.new.self in
     let end : (c.gather.new.self.block ≡ []) × IsSameToEnd (reading_of g.S.Source.left c.args.self.now) mid = c.gather.ensures.last (search rules) in
-    when_ok (λ item. ReadsLast mid (option_to_list item) new) (λ item. ReadsOn (reading_of g.S.Source.left c.args.self.now) (option_to_list item) new) c.pass_last.result
+    IfOk-weaker c.pass_last.result (λ item. ReadsLast mid (option_to_list item) new) (λ item. ReadsOn (reading_of g.S.Source.left c.args.self.now) (option_to_list item) new)
     (λ item r. after_last (reading_of g.S.Source.left c.args.self.now) mid new (option_to_list item) end.1 r) c.pass_last.ensures.reads

@@ -1,16 +1,16 @@
 use Rattle.std.proofs.Common.{◌∙◌, List, Some, None, Option, length, sym, ap, arith}
+use Rattle.std.proofs.lemmas.Option.{slice_get_within}
 use Rattle.bp_run.specs.Configuration.{change}
 use Rattle.bp_run.proofs.Turns.{length-change}
 use Rattle.bp_floor.specs.Seating.{PlainSeat}
 use Rattle.bp_floor.specs.Seated.{job_at}
 use Rattle.bp_floor.proofs.Lists.{change_twice}
-use Rattle.bp_floor.proofs.Places.{get_below}
 use Rattle.bp_floor.proofs.seats.Seats.give.Goals as goal
 
 pub put-requires : goal.put-requires
 put-requires c =
     let len = ap (λ (ss : List PlainSeat). length ss) c.take.ensures.left ∙ length-change (λ s. record s { job = None }) c.args.number c.args.self.now in
-    let low = get_below c.args.self.now c.args.number c.requires.seat c.requires.is_seat in
+    let low = slice_get_within c.args.self.now c.args.number c.requires.seat c.requires.is_seat in
     omega (arith, len, low)
 
 pub returns-in_ok-give : goal.returns-in_ok-give

@@ -2,7 +2,7 @@ use Rattle.std.proofs.Common.{sym, ap, ◌∙◌}
 use Rattle.js_meaning.specs.State.{gives}
 use Rattle.js_frames.specs.Frames.{step_outcome}
 use Rattle.js_frames.specs.Runs.{pending_outcome}
-use Rattle.js_frames.proofs.machine.step_of.Goals as goal
+use Rattle.js_frames.proofs.machine.Pending.step.Goals as goal
 
 pub returns-in_ok-value-in-Resumed-clause-same : goal.returns-in_ok-value-in-Resumed-clause-same
 unfolding step_outcome
