@@ -152,3 +152,29 @@ pub returns_nothing :
     ≡ Some (codes "log \"A\" \"undefined\"\nlog \"A\" \"2\"\ndone \"A\"\nverdict quiet 0\n")
 unfolding turn settle_in settle initial selectable choice reach step next after_record story_from story alone_from alone line_text lines_text text digits evaluation ground_of eval within turns_of
 returns_nothing = refl
+
+-- ---- with one step at most, each predicate and each body has the whole budget all the same
+
+-- const open = true; bp.registerBThread("A", () => { bp.sync({request: bp.Event("e")}) });
+-- bp.registerBThread("B", () => { bp.sync({waitFor: bp.EventSet("s", e => open === true)}) })
+pub predicates_have_the_budget :
+    counted_alone (program
+    (one (p.truth true) ∷ one (p.declaration Const (record { variable = Constant 0; value = Some 0 } ∷ []))
+    ∷ registers 2 (codes "A") 0 ++ registers 6 (codes "B") 1 ++ requests 10 (codes "e")
+    ++ one (p.words (codes "s")) ∷ one (p.function 2) ∷ one (p.builtin form.EventSet (15 ∷ 16 ∷ [])) ∷ one (p.fields (codes "waitFor" ∷ []) (17 ∷ []))
+    ∷ one (p.builtin form.Sync (18 ∷ [])) ∷ one (p.expression 19) ∷ constant 0 ∷ one (p.binary op.Same 21 0) ∷ [])
+    (statements 0 (14 ∷ []) ∷ statements 0 (20 ∷ []) ∷ body 1 1 (p.one_value 22) ∷ []) (p.undeclared ∷ []) (statements 0 (1 ∷ 5 ∷ 9 ∷ []))) (record default_options { steps = 1 })
+    ≡ Some (codes "event [\"e\"]\ndone \"A\"\ndone \"B\"\nverdict quiet 1\n")
+unfolding turn settle_in settle initial selectable choice reach step next after_record story_from story alone_from alone line_text lines_text text digits evaluation ground_of eval within turns_of
+predicates_have_the_budget = refl
+
+-- a handler that is a constant: function stop(e) { bp.log.info("stop") }, and bp.setInterruptHandler(stop)
+pub handler_is_a_constant :
+    counted_alone (program
+    (registers 0 (codes "A") 0 ++ registers 4 (codes "B") 1
+    ++ constant 0 ∷ one (p.builtin form.SetInterruptHandler (8 ∷ [])) ∷ one (p.expression 9) ∷ []
+    ++ waits 11 (codes "e") (codes "interrupt") (codes "e") ++ requests 18 (codes "e") ++ logs 23 (codes "stop"))
+    (statements 0 (10 ∷ 17 ∷ []) ∷ statements 0 (22 ∷ []) ∷ body 1 1 (p.statements (25 ∷ [])) ∷ []) (p.of_function 2 ∷ []) (statements 0 (3 ∷ 7 ∷ []))) (record default_options { steps = 1 })
+    ≡ Some (codes "event [\"e\"]\nlog \"A\" \"stop\"\ninterrupted \"A\"\ndone \"B\"\nverdict quiet 1\n")
+unfolding turn settle_in settle initial selectable choice reach step next after_record story_from story alone_from alone line_text lines_text text digits evaluation ground_of eval within turns_of
+handler_is_a_constant = refl

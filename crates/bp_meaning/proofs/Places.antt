@@ -169,3 +169,16 @@ spent = refl
 pub broken : after (bare (program (one (p.words (codes "a")) ∷ on 3 (p.unary Minus 0) ∷ one (p.expression 1) ∷ []) [] [] (statements 0 (2 ∷ [])))) 9 the_top [] ≡ record { effects = []; outcome = run.Outcome.Broken fault.Mistyped 3 }
 unfolding evaluation eval within
 broken = refl
+
+-- bp.setInterruptHandler(f); bp.sync({}); bp.log.info("1"); bp.sync({}): a handler stays over further
+-- effects and replies
+pub kept_handler :
+    handler
+    (of_functions
+    (one (p.function 1) ∷ one (p.builtin form.SetInterruptHandler (0 ∷ [])) ∷ one (p.expression 1) ∷ one (p.fields [] []) ∷ one (p.builtin form.Sync (3 ∷ [])) ∷ one (p.expression 4)
+    ∷ one (p.words (codes "1")) ∷ one (p.builtin form.LogInfo (6 ∷ [])) ∷ one (p.expression 7) ∷ [])
+    (statements 0 (2 ∷ 5 ∷ 8 ∷ 5 ∷ []) ∷ statements 0 [] ∷ []))
+    20 body (a ∷ [])
+    ≡ Some (v.function 1 v.no_values)
+unfolding evaluation eval within
+kept_handler = refl

@@ -160,3 +160,22 @@ predicate_with_captured = refl
 pub predicate_logs : asked (fun 5) (codes "y") ≡ Err (Broken fault.Mode 6)
 unfolding evaluation eval within
 predicate_logs = refl
+
+-- a fault of the first one is the answer, whatever the second one has
+pub first_of_or_breaks : asked (v.or (fun 2) v.all) (codes "x") ≡ Err (Broken fault.Zero 5)
+unfolding evaluation eval within
+first_of_or_breaks = refl
+
+pub first_of_and_breaks : asked (v.and (fun 2) v.nothing) (codes "x") ≡ Err (Broken fault.Zero 5)
+unfolding evaluation eval within
+first_of_and_breaks = refl
+
+pub first_of_a_list_breaks : asked (v.any (v.set_in (fun 2) (v.set_in v.all v.no_sets))) (codes "x") ≡ Err (Broken fault.Zero 5)
+unfolding evaluation eval within
+first_of_a_list_breaks = refl
+
+-- e => 1 / 0, with the function on line 3 and the division on line 8
+pub fault_in_a_predicate :
+    member (of_functions (whole 1 ∷ whole 0 ∷ on 8 (p.binary op.Divide 0 1) ∷ []) (predicate 3 2 ∷ [])) 20 (fun 0) (named (codes "x")) ≡ Err (Broken fault.Zero 8)
+unfolding evaluation eval within
+fault_in_a_predicate = refl

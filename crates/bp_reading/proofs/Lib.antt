@@ -13,3 +13,4 @@ pub mod Unquoted
 pub mod Held
 pub mod Ranges
 pub mod Fits
+pub mod Refusals

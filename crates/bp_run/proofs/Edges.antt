@@ -1,23 +1,23 @@
 -- The definitions computed at single places, where a wrong line would show.
 use Rattle.std.proofs.Common.{◌≡◌, ℕ, ◌+◌, Bool, true, false, List, [], ◌∷◌, length, refl, nat_eq}
 use Rattle.std.proofs.lemmas.Bool.{eq-eqb}
-use Rattle.std.specs.Prelude.{ℤ, pos, negsuc, Some, None, Ok, Err, codes}
+use Rattle.std.specs.Prelude.{ℤ, pos, negsuc, Some, None, Ok, Err, codes, option_map, slice_get}
 use Rattle.js_data.specs.Event.{PlainEvent}
 use Rattle.js_data.specs.declared.fault.Fault.TheVariants.{Zero, Truth}
 use Rattle.bp_log.specs.Options.{PlainOptions, default_options}
 use Rattle.bp_log.specs.declared.limits.TheConstants.{MOST_WAITING, MOST_THREADS}
 use Rattle.bp_log.specs.declared.options.Strategy.TheVariants.{Ordered, Priority}
-use Rattle.bp_log.specs.declared.record.Record.TheVariants.{In}
+use Rattle.bp_log.specs.declared.record.Record.TheVariants.{In, Bad, Eof}
 use Rattle.bp_log.specs.declared.trace.Line.TheVariants.{Log}
 use Rattle.bp_log.specs.declared.verdict.Place.{Place}
 use Rattle.bp_log.specs.declared.verdict.Place.TheVariants.{Thread as Named}
 use Rattle.bp_log.specs.declared.verdict.Verdict.TheVariants as verdict
 use Rattle.bp_run.specs.Bodies.{Code, Part, SetFault}
-use Rattle.bp_run.specs.Bodies.Outcome.{Broken}
+use Rattle.bp_run.specs.Bodies.Outcome.{Broken, Ended}
 use Rattle.bp_run.specs.Bodies.Effect.{Says, Enqueue, Register}
 use Rattle.bp_run.specs.Configuration.{Configuration, Stand, Thread, empty, not_ended}
 use Rattle.bp_run.specs.Settling.{Pair, with_effect, with_part, stopped, turn, settle_in, settle, initial}
-use Rattle.bp_run.specs.Settling.Entry.{Stops}
+use Rattle.bp_run.specs.Settling.Entry.{Runs, Stops}
 use Rattle.bp_run.specs.Selecting.{Live, Enabled, selectable, blocker, requested}
 use Rattle.bp_run.specs.Choosing.{choice, remaining, reach}
 use Rattle.bp_run.specs.Choosing.Touched.{Moves, Interrupts}
@@ -268,3 +268,27 @@ pub items_need_room : (l : Code Body Small) (o : PlainOptions) (c : Configuratio
     after_record l o c (In 0 e) ≡ None
 unfolding after_record
 items_need_room l o c e v r h = rw (v, r, h) refl
+
+-- that an injector has ended needs no room, and neither does a bad line
+pub ends_need_no_room : (l : Code Body Small) (o : PlainOptions) (c : Configuration Body) → c.stand.verdict ≡ None → c.reading ≡ 0 ∷ 1 ∷ [] →
+    after_record l o c (Eof 0) ≡ Some (record c { reading = 1 ∷ [] })
+unfolding after_record
+ends_need_no_room l o c v r = rw (v, r) refl
+
+pub bad_lines_need_no_room : (l : Code Body Small) (o : PlainOptions) (c : Configuration Body) (n : ℕ) → c.stand.verdict ≡ None → c.reading ≡ 0 ∷ 1 ∷ [] → c.bad ≡ None →
+    after_record l o c (Bad 1 n) ≡ Some (record c { reading = 0 ∷ []; bad = Some (1, n) })
+unfolding after_record
+bad_lines_need_no_room l o c n v r b = rw (v, r, b) refl
+
+-- what a b-thread does after the queue was full is not merged: neither its text nor its end
+pub nothing_is_merged_after_a_verdict : (e : PlainEvent) (p : Pair Body) → p.stand.verdict ≡ None → length p.stand.queue ≡ MOST_WAITING →
+    with_part {Set = Small} (Runs 0) (record { effects = Enqueue e ∷ Says (codes "t") ∷ []; outcome = Ended }) p ≡ stopped verdict.Queue p
+nothing_is_merged_after_a_verdict e p v h = rw (v, full (length p.stand.queue) MOST_WAITING h) refl
+
+pub no_end_after_a_verdict : (e : PlainEvent) (p : Pair Body) → p.stand.verdict ≡ None → length p.stand.queue ≡ MOST_WAITING →
+    with_part {Set = Small} (Runs 0) (record { effects = Enqueue e ∷ []; outcome = Ended }) p ≡ stopped verdict.Queue p
+no_end_after_a_verdict e p v h = rw (v, full (length p.stand.queue) MOST_WAITING h) refl
+
+-- a b-thread that came to its end has ended
+pub end_is_kept : option_map (λ (t : Thread Body). t.ended) (slice_get (with_part {Set = Small} (Runs 1) (record { effects = []; outcome = Ended }) (record { stand = standing; entries = [] })).stand.threads 1) ≡ Some true
+end_is_kept = refl

@@ -4,6 +4,7 @@ use Rattle.std.specs.Prelude.{ℤ, pos, negsuc, Option, Some, None, Result, Ok, 
 use Rattle.std.specs.Fmt.{digits}
 use Rattle.js_data.specs.Data.{null, truth, whole, words, list, fields, no_data, item, no_fields, field}
 use Rattle.js_data.specs.Event.{PlainEvent, same_event}
+use Rattle.js_data.specs.declared.fault.Fault.TheVariants.{Zero}
 use Rattle.js_data.proofs.Shared.{named}
 use Rattle.bp_log.specs.Options.{PlainOptions, default_options}
 use Rattle.bp_log.specs.Texts.{line_text, lines_text}
@@ -12,8 +13,8 @@ use Rattle.bp_log.specs.declared.options.Strategy.TheVariants.{Simple, Ordered, 
 use Rattle.bp_log.specs.declared.record.Record.{Record}
 use Rattle.bp_log.specs.declared.record.Record.TheVariants.{In, Bad, Eof, Sel, End}
 use Rattle.bp_log.specs.declared.verdict.Verdict.TheVariants as verdict
-use Rattle.bp_run.specs.Bodies.{Code, Part, Effect, SetFault}
-use Rattle.bp_run.specs.Bodies.Outcome.{Stopped, Ended, Violated}
+use Rattle.bp_run.specs.Bodies.{Code, Part, Outcome, Effect, SetFault}
+use Rattle.bp_run.specs.Bodies.Outcome.{Stopped, Ended, Broken, Violated, Spent}
 use Rattle.bp_run.specs.Bodies.Effect.{Says, Enqueue, Register, Handler}
 use Rattle.bp_run.specs.Configuration.{Configuration}
 use Rattle.bp_run.specs.Settling.{turn, settle_in, settle, initial}
@@ -395,3 +396,82 @@ many n _ replies = doing []
 pub many_end_at_once : option_map length (printed (many 40) default_options) ≡ Some 376
 unfolding turn settle_in settle initial selectable choice reach step next after_record story_from story alone_from alone line_text lines_text text digits
 many_end_at_once = refl
+
+-- ---- outcomes that are the verdict
+
+-- the body of A, after the top level registered it, has this outcome
+abbrev pub outcome_of_A : Outcome Small → Body → List PlainEvent → Part Body Small
+outcome_of_A outcome Main replies = doing (Register (codes "A") A ∷ [])
+outcome_of_A outcome _ replies = record { effects = []; outcome = outcome }
+
+pub spent_body_is_the_verdict : printed (outcome_of_A Spent) default_options ≡ Some (codes "verdict spent \"A\"\n")
+unfolding turn settle_in settle initial selectable choice reach step next after_record story_from story alone_from alone line_text lines_text text digits
+spent_body_is_the_verdict = refl
+
+pub broken_body_is_the_verdict : printed (outcome_of_A (Broken Zero 7)) default_options ≡ Some (codes "verdict fault \"A\" 7 zero\n")
+unfolding turn settle_in settle initial selectable choice reach step next after_record story_from story alone_from alone line_text lines_text text digits
+broken_body_is_the_verdict = refl
+
+-- of the top level `top` stands in place of a name
+abbrev pub top_violates : Body → List PlainEvent → Part Body Small
+top_violates o replies = record { effects = Says (codes "t") ∷ []; outcome = Violated (codes "no") }
+
+pub top_has_no_name : printed top_violates default_options ≡ Some (codes "log top \"t\"\nverdict violated top \"no\"\n")
+unfolding turn settle_in settle initial selectable choice reach step next after_record story_from story alone_from alone line_text lines_text text digits
+top_has_no_name = refl
+
+-- ---- A receives y, sets a handler then, and is interrupted by x; up to there B blocks its request of go
+
+abbrev pub interrupted_later : Body → List PlainEvent → Part Body Small
+interrupted_later Main replies = doing (Register (codes "B") B ∷ Register (codes "A") A ∷ [])
+interrupted_later A [] = at_point (y ∷ []) Nothing Nothing Nothing
+interrupted_later A (e ∷ es) = first (Handler ∷ []) (at_point (go ∷ []) Nothing Nothing (Only x))
+interrupted_later B [] = at_point [] (Only y) Nothing Nothing
+interrupted_later B (e ∷ []) = at_point (x ∷ []) Nothing (Only go) Nothing
+interrupted_later B (e ∷ f ∷ es) = doing []
+interrupted_later C [] = doing (Says (codes "stop") ∷ [])
+interrupted_later C (e ∷ es) = doing (Says (codes "never") ∷ [])
+interrupted_later D replies = doing []
+
+-- it is set after y, and not after y and x
+abbrev pub handler_after_one : Body → List PlainEvent → PlainEvent → Option Body
+handler_after_one A (e ∷ []) f = Some C
+handler_after_one o replies f = None
+
+abbrev interrupting_later : Code Body Small
+interrupting_later = record (code interrupted_later) { handling = handler_after_one }
+
+abbrev three_steps : PlainOptions
+three_steps = record default_options { steps = 3 }
+
+-- the handler is the one that A had when x came, it receives nothing, and A requests nothing any more
+pub interrupted_one_asks_no_more :
+    text interrupting_later three_steps (alone interrupting_later three_steps)
+    ≡ Some (codes "event [\"y\"]\nevent [\"x\"]\ndone \"B\"\nlog \"A\" \"stop\"\ninterrupted \"A\"\nverdict quiet 2\n")
+unfolding turn settle_in settle initial selectable choice reach step next after_record story_from story alone_from alone line_text lines_text text digits
+interrupted_one_asks_no_more = refl
+
+-- ---- records that are no story
+
+-- a bad line ends its injector
+pub nothing_comes_after_a_bad_line : story (code one_overtaken) (with_injectors 2) (Bad 1 2 ∷ In 1 x ∷ []) ≡ None
+unfolding turn settle_in settle initial selectable choice reach step next after_record story_from story
+nothing_comes_after_a_bad_line = refl
+
+-- an end with another verdict, before an event, and while an injector is read
+pub another_verdict_is_no_end : story (code nothing_at_all) default_options (End (verdict.Quiet 1) ∷ []) ≡ None
+unfolding turn settle_in settle initial selectable choice reach step next after_record story_from story
+another_verdict_is_no_end = refl
+
+pub no_end_before_an_event : story (code both_ask) default_options (End (verdict.Quiet 0) ∷ []) ≡ None
+unfolding turn settle_in settle initial selectable choice reach step next after_record story_from story
+no_end_before_an_event = refl
+
+pub no_end_while_waiting : story (code one_overtaken) (with_injectors 1) (End (verdict.Quiet 0) ∷ []) ≡ None
+unfolding turn settle_in settle initial selectable choice reach step next after_record story_from story
+no_end_while_waiting = refl
+
+-- an end leaves its verdict
+pub end_leaves_its_verdict : option_map (λ (c : Configuration Body). c.stand.verdict) (story (code nothing_at_all) default_options (End (verdict.Quiet 0) ∷ [])) ≡ Some (Some (verdict.Quiet 0))
+unfolding turn settle_in settle initial selectable choice reach step next after_record story_from story
+end_leaves_its_verdict = refl

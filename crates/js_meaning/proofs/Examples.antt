@@ -185,3 +185,19 @@ early_assignment = refl
 pub early_sum : before_let (on 2 (p.assign Add 0 0)) ≡ broken fault.Early 2 (left 97 [])
 unfolding evaluation eval within
 early_sum = refl
+
+-- x; let x = 1, directly in the function's body (the first x on line 2)
+pub early_in_the_body : comes_to Thread 100
+    (on 2 (p.read (Slot 0)) ∷ on 2 (p.expression 0) ∷ whole 1 ∷ one (p.declaration Let (given 0 2 ∷ [])) ∷ []) (statements 1 (1 ∷ 3 ∷ []) ∷ [])
+    ≡ broken fault.Early 2 (left 98 [])
+unfolding evaluation eval within
+early_in_the_body = refl
+
+-- return [a, b]; var a, b: each `var` is undefined
+pub unset_vars : comes_to Thread 100
+    (slot 0 ∷ slot 1 ∷ one (p.list (0 ∷ 1 ∷ [])) ∷ one (p.return_of 2)
+    ∷ one (p.declaration Var (record { variable = Slot 0; value = None } ∷ record { variable = Slot 1; value = None } ∷ [])) ∷ [])
+    (record { parameters = 0; slots = 2; captures = []; vars = 0 ∷ 1 ∷ []; content = p.statements (3 ∷ 4 ∷ []); line = 1 } ∷ [])
+    ≡ ends (v.list (v.value v.undefined (v.value v.undefined v.no_values))) 96 []
+unfolding evaluation eval within
+unset_vars = refl

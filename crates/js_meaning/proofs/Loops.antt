@@ -332,3 +332,54 @@ pub floor_after_its_arguments : comes_to Thread 100
     ≡ broken fault.Zero 2 (left 94 (says (codes "c") ∷ []))
 unfolding evaluation eval within
 floor_after_its_arguments = refl
+
+-- while (true) return; return 7: a bare `return` ends the body with undefined, and not the loop alone
+pub bare_return : comes_to Thread 100
+    (one (p.truth true) ∷ one p.return_nothing ∷ one (p.while_of 0 1) ∷ whole 7 ∷ one (p.return_of 3) ∷ []) (statements 0 (2 ∷ 4 ∷ []) ∷ [])
+    ≡ ends v.undefined 97 []
+unfolding evaluation eval within turns_of
+bare_return = refl
+
+-- let a = 5; then bp.registerBThread("n", () => a), or bp.setInterruptHandler(() => a): the function
+-- keeps what it captured
+abbrev captured_by : Builtin → List ℕ → Outcome
+captured_by f arguments =
+    comes_to Thread 100
+    (whole 5 ∷ one (p.declaration Let (given 0 0 ∷ [])) ∷ one (p.words (codes "n")) ∷ one (p.function 1) ∷ one (p.builtin f arguments) ∷ one (p.expression 4) ∷ slot 0 ∷ [])
+    (statements 1 (1 ∷ 5 ∷ []) ∷ record { parameters = 0; slots = 1; captures = 0 ∷ []; vars = []; content = p.one_value 6; line = 1 } ∷ [])
+
+pub registered_with_captured : captured_by form.RegisterBThread (2 ∷ 3 ∷ []) ≡ ends v.undefined 94 (registers (codes "n") (v.function 1 (v.value (v.whole (pos 5)) v.no_values)) ∷ [])
+unfolding evaluation eval within
+registered_with_captured = refl
+
+pub handler_with_captured : captured_by form.SetInterruptHandler (3 ∷ []) ≡ ends v.undefined 95 (handles (v.function 1 (v.value (v.whole (pos 5)) v.no_values)) ∷ [])
+unfolding evaluation eval within
+handler_with_captured = refl
+
+-- let a = 5; [7].forEach(x => bp.log.info(x + a))
+pub for_each_with_captured : comes_to Thread 100
+    (whole 5 ∷ one (p.declaration Let (given 0 0 ∷ [])) ∷ whole 7 ∷ one (p.list (2 ∷ [])) ∷ one (p.function 1) ∷ one (p.method 3 (codes "forEach") (4 ∷ [])) ∷ one (p.expression 5)
+    ∷ slot 0 ∷ slot 1 ∷ one (p.binary op.Add 7 8) ∷ one (p.builtin form.LogInfo (9 ∷ [])) ∷ [])
+    (statements 1 (1 ∷ 6 ∷ []) ∷ record { parameters = 1; slots = 2; captures = 0 ∷ []; vars = []; content = p.one_value 10; line = 1 } ∷ [])
+    ≡ ends v.undefined 89 (says (codes "12") ∷ [])
+unfolding evaluation eval within digits
+for_each_with_captured = refl
+
+-- for (const k of [0, 1]) { k && x; let y = 1, x = 1 }: in the second turn neither is declared yet (x
+-- stands on line 2)
+pub second_of_a_block : comes_to Thread 100
+    (whole 0 ∷ whole 1 ∷ one (p.list (0 ∷ 1 ∷ [])) ∷ slot 0 ∷ on 2 (p.read (Slot 2)) ∷ one (p.binary op.And 3 4) ∷ one (p.expression 5)
+    ∷ whole 1 ∷ one (p.declaration Let (given 1 7 ∷ given 2 7 ∷ [])) ∷ one (p.block (1 ∷ 2 ∷ []) (6 ∷ 8 ∷ [])) ∷ one (p.for_of 0 2 9) ∷ [])
+    (statements 3 (10 ∷ []) ∷ [])
+    ≡ broken fault.Early 2 (left 84 [])
+unfolding evaluation eval within
+second_of_a_block = refl
+
+-- bp.Event(1), bp.EventSet("n", 1)
+pub event_without_name : called_with form.Event (0 ∷ []) ≡ broken fault.Mistyped 2 (left 97 [])
+unfolding evaluation eval within
+event_without_name = refl
+
+pub set_without_function : called_with form.EventSet (1 ∷ 0 ∷ []) ≡ broken fault.Mistyped 2 (left 96 [])
+unfolding evaluation eval within
+set_without_function = refl

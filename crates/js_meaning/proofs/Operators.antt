@@ -16,8 +16,8 @@ use Rattle.js_value.specs.Lists.{value_list_of}
 use Rattle.js_program.specs.declared.builtin.Builtin.TheVariants as form
 use Rattle.js_program.specs.declared.builtin.Mode.TheVariants.{Thread}
 use Rattle.js_program.specs.PlainProgram as p
-use Rattle.js_program.specs.PlainProgram.{PlainNode}
-use Rattle.js_meaning.specs.State.{says, broken}
+use Rattle.js_program.specs.PlainProgram.{PlainNode, PlainNodeForm}
+use Rattle.js_meaning.specs.State.{Outcome, says, broken}
 use Rattle.js_meaning.specs.Meaning.{within, eval}
 use Rattle.js_meaning.specs.Bodies.{evaluation}
 use Rattle.js_meaning.proofs.Small.{on, one, whole, slot, given, statements, comes_to, ends, left}
@@ -182,3 +182,47 @@ heaviest_text = refl
 pub too_heavy_text : comes_to Thread 100 (on 4 (p.words (replicate 65_536 97)) ∷ one (p.expression 0) ∷ []) (statements 0 (1 ∷ []) ∷ []) ≡ broken fault.Weight 4 (left 98 [])
 unfolding evaluation eval within
 too_heavy_text = refl
+
+-- ---- the lines of faults
+
+-- with x = "a", [7], {} and 1 before it, a node on line 5
+abbrev on_line_5 : PlainNodeForm → Outcome
+on_line_5 form =
+    comes_to Thread 100
+    (one (p.words (codes "a")) ∷ one (p.declaration Let (given 0 0 ∷ [])) ∷ whole 7 ∷ one (p.list (2 ∷ [])) ∷ one (p.fields [] []) ∷ whole 1 ∷ on 5 form ∷ one (p.expression 6) ∷ [])
+    (statements 1 (1 ∷ 7 ∷ []) ∷ [])
+
+-- x++, x -= 1, -"a"
+pub update_of_text : on_line_5 (p.update Increment After 0) ≡ broken fault.Mistyped 5 (left 96 [])
+unfolding evaluation eval within
+update_of_text = refl
+
+pub difference_of_text : on_line_5 (p.assign assign.Subtract 0 5) ≡ broken fault.Mistyped 5 (left 95 [])
+unfolding evaluation eval within
+difference_of_text = refl
+
+pub minus_of_text : on_line_5 (p.unary sign.Minus 0) ≡ broken fault.Mistyped 5 (left 95 [])
+unfolding evaluation eval within
+minus_of_text = refl
+
+-- (1).name, [7][1]
+pub member_of_number : on_line_5 (p.member 5 (codes "name")) ≡ broken fault.Mistyped 5 (left 95 [])
+unfolding evaluation eval within
+member_of_number = refl
+
+pub index_outside : on_line_5 (p.index 3 5) ≡ broken fault.Index 5 (left 93 [])
+unfolding evaluation eval within
+index_outside = refl
+
+-- "a".push(), "a".startsWith(1), ({}).f()
+pub no_method_of_text : on_line_5 (p.method 0 (codes "push") []) ≡ broken fault.Mistyped 5 (left 95 [])
+unfolding evaluation eval within
+no_method_of_text = refl
+
+pub start_that_is_no_text : on_line_5 (p.method 0 (codes "startsWith") (5 ∷ [])) ≡ broken fault.Mistyped 5 (left 94 [])
+unfolding evaluation eval within
+start_that_is_no_text = refl
+
+pub absent_field_is_called : on_line_5 (p.method 4 (codes "f") []) ≡ broken fault.Mistyped 5 (left 95 [])
+unfolding evaluation eval within
+absent_field_is_called = refl

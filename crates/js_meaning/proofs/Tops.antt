@@ -1,5 +1,5 @@
 -- The definitions compute: constants, declared functions, how deep calls may go, and what a function may hold.
-use Rattle.std.proofs.Common.{◌≡◌, ℕ, zero, suc, List, [], ◌∷◌, Option, Some, refl}
+use Rattle.std.proofs.Common.{◌≡◌, ℕ, zero, suc, List, [], ◌∷◌, Option, Some, None, refl}
 use Rattle.std.specs.Prelude.{pos, codes}
 use Rattle.std.specs.Fmt.{digits}
 use Rattle.js_data.specs.declared.fault.Fault.TheVariants as fault
@@ -11,7 +11,7 @@ use Rattle.js_program.specs.declared.builtin.Builtin.TheVariants as form
 use Rattle.js_program.specs.declared.builtin.Mode.TheVariants.{Thread}
 use Rattle.js_program.specs.declared.node.Variable.TheVariants.{Slot, Constant}
 use Rattle.js_program.specs.PlainProgram as p
-use Rattle.js_program.specs.PlainProgram.{PlainNode, PlainBody, PlainDeclared, PlainProgram}
+use Rattle.js_program.specs.PlainProgram.{PlainNodeForm, PlainNode, PlainBody, PlainDeclared, PlainProgram}
 use Rattle.js_meaning.specs.State.{Effect, Outcome, says, went, normal, broken}
 use Rattle.js_meaning.specs.Meaning.{within, eval}
 use Rattle.js_meaning.specs.Bodies.{the_top, function, bare, evaluation, ground_of}
@@ -103,10 +103,10 @@ abbrev nested : ℕ → PlainValue
 nested zero = v.list v.no_values
 nested (suc n) = v.list (v.value (nested n) v.no_values)
 
--- function 0 takes a value and gives a function that captured it
+-- function 0 takes a value and gives a function, made on line 4, that captured it
 abbrev making : PlainValue → Outcome
 making x =
-    evaluation (bare (program (one (p.function 1) ∷ []) (body 1 1 (p.one_value 0) ∷ record { parameters = 0; slots = 1; captures = 0 ∷ []; vars = []; content = p.statements []; line = 1 } ∷ []) [] (statements 0 []))) 9
+    evaluation (bare (program (on 4 (p.function 1) ∷ []) (body 1 1 (p.one_value 0) ∷ record { parameters = 0; slots = 1; captures = 0 ∷ []; vars = []; content = p.statements []; line = 1 } ∷ []) [] (statements 0 []))) 9
     (function Thread (v.function 0 v.no_values) (x ∷ [])) []
 
 -- of nesting 64 with what it captured, and one level more
@@ -114,6 +114,34 @@ pub deepest_function : making (nested 62) ≡ ends (v.function 1 (v.value (neste
 unfolding evaluation eval within
 deepest_function = refl
 
-pub too_deep_function : making (nested 63) ≡ broken fault.Nesting 1 (left 8 [])
+pub too_deep_function : making (nested 63) ≡ broken fault.Nesting 4 (left 8 [])
 unfolding evaluation eval within
 too_deep_function = refl
+
+-- [x] and {a: x} on line 4, with x of nesting 64
+abbrev holding : PlainNodeForm → Outcome
+holding form = evaluation (bare (program (slot 0 ∷ on 4 form ∷ []) (body 1 1 (p.one_value 1) ∷ []) [] (statements 0 []))) 9 (function Thread (v.function 0 v.no_values) (nested 63 ∷ [])) []
+
+pub too_deep_list : holding (p.list (0 ∷ [])) ≡ broken fault.Nesting 4 (left 7 [])
+unfolding evaluation eval within
+too_deep_list = refl
+
+pub too_deep_fields : holding (p.fields (codes "a" ∷ []) (0 ∷ [])) ≡ broken fault.Nesting 4 (left 7 [])
+unfolding evaluation eval within
+too_deep_fields = refl
+
+-- ---- a form of b-threads at the top level, and the depth of `forEach`
+
+-- bp.sync({}) at the top level, on line 2
+pub sync_at_the_top : top_comes_to 100 (program (one (p.fields [] []) ∷ on 2 (p.builtin form.Sync (0 ∷ [])) ∷ one (p.expression 1) ∷ []) [] [] (statements 0 (2 ∷ [])))
+    ≡ broken fault.Mode 2 (left 97 [])
+unfolding evaluation eval within
+sync_at_the_top = refl
+
+-- [7].forEach(f) on line 5, with 200 calls active
+pub for_each_at_the_deepest :
+    eval (record { base = bare (program (whole 7 ∷ one (p.list (0 ∷ [])) ∷ one (p.function 0) ∷ on 5 (p.method 1 (codes "forEach") (2 ∷ [])) ∷ []) (statements 0 [] ∷ []) [] (statements 0 [])); mode = Thread; budget = 100 }) 3
+    (record { slots = []; constants = None; calls = 200; fuel = 100; replies = []; effects = []; delivered = 0 })
+    ≡ broken fault.Depth 5 (left 96 [])
+unfolding eval within
+for_each_at_the_deepest = refl
