@@ -5,7 +5,7 @@ use Rattle.js_lexer.specs.declared.token.Token.{Token}
 use Rattle.js_tree.specs.declared.tree.Name.{Name}
 use Rattle.js_tree.specs.declared.tree.DeclareKind.{DeclareKind}
 use Rattle.js_tree.specs.Plain as p
-use Rattle.js_tree.specs.Plain.{PlainExpr, at, on, PlainField, PlainDeclarator, exprs_of, fields_of, declarators_of, stmts_of}
+use Rattle.js_tree.specs.Plain.{PlainExpr, at, on, PlainField, PlainDeclarator}
 use Rattle.js_tree.specs.Endings.{ending}
 use Rattle.js_lexer.specs.declared.sort.Sort.{Sort}
 use Rattle.js_grammar.specs.Sorts.{spot}
@@ -15,7 +15,7 @@ use Rattle.js_grammar.specs.Grammar.{Level, Operators, Assignment}
 use Rattle.js_grammar.specs.Reading as read
 use Rattle.js_grammar.specs.Expressions as exprs
 use Rattle.js_grammar.specs.Statements as stmts
-use Rattle.js_grammar.specs.Reading.{next_turn, run, and_then, after, after_some}
+use Rattle.js_grammar.specs.Reading.{run, and_then}
 use Rattle.js_grammar.specs.Reader.{readers}
 use Rattle.js_steps.specs.Passed.{at_first}
 
