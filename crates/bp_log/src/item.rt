@@ -2,7 +2,7 @@
 use js_data::Event;
 
 /// One thing that an injector hands over.
-#[derive(Drop)]
+#[derive(Debug, Drop)]
 pub enum Item {
     /// A good line's event.
     Offered(Event),
