@@ -110,8 +110,8 @@ pub trait World {
     /// What `open` answers. It may move to another thread, which may let it go.
     type Input: Source + Send + Drop;
 
-    /// What `create` answers.
-    type Output: Sink + Drop;
+    /// What `create` answers. It may move to another thread, which may let it go.
+    type Output: Sink + Send + Drop;
 
     /// The bytes under each name, where the world tells it.
     ghost holds: { Self → Option Holdings };

@@ -1,5 +1,5 @@
 -- How far the lines of a source were read.
-use Rattle.std.specs.Prelude.{◌≡◌, ◌⊎◌, ◌↔◌, ℕ, ◌+◌, ◌<◌, Bool, true, false, List, [], ◌∷◌, ◌++◌, length, Option, Some, IfSome}
+use Rattle.std.specs.Prelude.{◌≡◌, ◌⊎◌, ◌↔◌, ℕ, ◌+◌, ◌<◌, ◌≤◌, Bool, true, false, List, [], ◌∷◌, ◌++◌, length, Option, Some, IfSome}
 use mathlib.Core.List.{IsPrefix}
 use Rattle.bp_base.specs.Pieces.{Gives}
 use Rattle.bp_log.specs.declared.item.Item.{Item}
@@ -105,6 +105,18 @@ pub record IsSameReading (old new : Reading) : Type 0 where
 pub record IsSameToEnd (old new : Reading) : Type 0 where
   pub same : IsSameReading old new
   pub all : IsAll old.left same.came
+
+-- at most one line was taken from the front of the bytes, and the others are left
+pub record TakesLine (bytes left : List ℕ) : Type 0 where
+  pub passed : List ℕ
+  pub all : bytes ≡ passed ++ left
+  pub one : length (lines_of passed) ≤ 1
+
+-- of the bytes that were held, and then those that came, at most one line was dealt with
+pub record PassesLine (old new : Reading) : Type 0 where
+  pub came : List ℕ
+  pub given : Gives old.left came new.left
+  pub takes : TakesLine (old.held ++ came) new.held
 
 -- the bytes begin with a line that is too long
 pub record IsTooLong (bytes : List ℕ) : Type 0 where

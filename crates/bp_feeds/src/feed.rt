@@ -1,9 +1,9 @@
 //! A feed reads the lines of a source and offers their items on a lane.
-ghost use Rattle.std.specs.Prelude.{◌≡◌, ◌⊎◌, ◌↔◌, ◌+◌, [], ◌∷◌, ◌++◌, Option, option_to_list, None, Ok, true, false, ◌&&◌, IfOk, OnErr, IsSome};
+ghost use Rattle.std.specs.Prelude.{◌≡◌, ◌⊎◌, ◌↔◌, ◌+◌, ◌≤◌, [], ◌∷◌, ◌++◌, Option, option_to_list, None, Ok, true, false, ◌&&◌, IfOk, OnErr, IsSome};
 ghost use Rattle.std.specs.Option.{is_some};
 ghost use Rattle.bp_lanes.specs.Lanes.{offered, free_places, IsSameMouth};
 ghost use Rattle.bp_feeds.specs.Items.{is_last, ends, has_line};
-ghost use Rattle.bp_feeds.specs.Reading.{is_read, IsSameReading};
+ghost use Rattle.bp_feeds.specs.Reading.{is_read, IsSameReading, PassesLine};
 
 use crate::line_reader::LineReader;
 use bp_base::{Memory, Source};
@@ -99,7 +99,7 @@ impl<S: Source> Feed<S> {
     }
 
     /// Makes one turn: offers the item that is kept, or else reads to the end of one line and offers
-    /// its item. An item that finds no place is kept. The source is asked only where no whole line is
+    /// its item. Of the bytes at most one line is dealt with. An item that finds no place is kept. The source is asked only where no whole line is
     /// held, nor one that is too long.
     ///
     /// # Errors
@@ -109,6 +109,9 @@ impl<S: Source> Feed<S> {
         requires { feed_is_over self.old ≡ false }
         ensures goes_on { GoesOn S.left S.faults self.old self.new }
         ensures first { IsSome self.old.kept → self.new.lines ≡ self.old.lines }
+        ensures lines { IfOk result (λ _. self.new.lines.number ≤ self.old.lines.number + 1) }
+        ensures passes { IfOk result (λ _.
+            PassesLine (reading_of S.left self.old.lines) (reading_of S.left self.new.lines)) }
         ensures one { IfOk result (λ _. (given self.new ≡ given self.old)
             ⊎ ((item : Item) × (given self.new ≡ given self.old ++ item ∷ []))) }
 

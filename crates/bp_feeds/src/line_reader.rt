@@ -3,7 +3,7 @@ ghost use Rattle.std.specs.Prelude.{◌≡◌, ℕ, ◌+◌, ◌≤◌, List, []
 ghost use Rattle.bp_base.specs.Counts.{Rose};
 ghost use Rattle.bp_feeds.specs.declared.limits.TheConstants.{MOST_LINES, MOST_LENGTH};
 ghost use Rattle.bp_feeds.specs.Items.{has_break, has_line, ends, has_fault};
-ghost use Rattle.bp_feeds.specs.Reading.{is_read, ReadsOn, ReadsLast, IsSameReading, IsSameToEnd, IsTooLong};
+ghost use Rattle.bp_feeds.specs.Reading.{is_read, ReadsOn, ReadsLast, IsSameReading, IsSameToEnd, TakesLine, PassesLine, IsTooLong};
 
 use crate::block::Block;
 use crate::judging::{is_end, judge, length_of_front};
@@ -132,6 +132,8 @@ impl<S: Source> LineReader<S> {
         ensures sound { IfOk result (λ item. has_fault (option_to_list item) ≡ false) }
         ensures number { IfOk result (λ item. ends item ≡ false
             → self.new.number ≡ self.old.number + 1) }
+        ensures lines { IfOk result (λ _. self.new.number ≤ self.old.number + 1) }
+        ensures takes { IfOk result (λ _. TakesLine (held self.old) (held self.new)) }
         ensures source { self.new.source ≡ self.old.source }
         ensures memory { OnErr result (self.new ≡ self.old) }
     {
@@ -157,6 +159,8 @@ impl<S: Source> LineReader<S> {
         ensures sound { IfOk result (λ item. has_fault (option_to_list item) ≡ false) }
         ensures number { IfOk result (λ item. ends item ≡ false
             → self.new.number ≡ self.old.number + 1) }
+        ensures lines { IfOk result (λ _. self.new.number ≤ self.old.number + 1) }
+        ensures takes { IfOk result (λ _. TakesLine (held self.old) (held self.new)) }
         ensures source { self.new.source ≡ self.old.source }
         ensures memory { OnErr result (self.new ≡ self.old) }
     {
@@ -188,6 +192,9 @@ impl<S: Source> LineReader<S> {
             (reading_of S.left self.new)) }
         ensures last { IfOk result (λ item. is_read self.new.reached ≡ ends item) }
         ensures skips { result ≡ Ok None → self.new.number ≡ self.old.number + 1 }
+        ensures lines { IfOk result (λ _. self.new.number ≤ self.old.number + 1) }
+        ensures passes { IfOk result (λ _.
+            PassesLine (reading_of S.left self.old) (reading_of S.left self.new)) }
         ensures memory { OnErr result
             (IsSameReading (reading_of S.left self.old) (reading_of S.left self.new)) }
 

@@ -169,7 +169,7 @@ before_fault took rest xs ks all e h =
     (λ (s : items_before_fault took ≡ items (took ++ rest)). inl (ks, e ∙ h ∙ s))
     (fault_or_all took rest)
 
-fault_among : (xs : List Item) → has_fault (xs ++ Failed ∷ []) ≡ true
+pub fault_among : (xs : List Item) → has_fault (xs ++ Failed ∷ []) ≡ true
 fault_among xs = list_any-append is_fault xs (Failed ∷ []) ∙ or_right (has_fault xs) true refl
 
 whole_or_fault : (took rest : List ℕ) (xs : List Item) → xs ≡ items_before_fault took → has_fault xs ≡ false → xs ≡ items (took ++ rest)

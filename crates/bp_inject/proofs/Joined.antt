@@ -1,20 +1,30 @@
--- What holds of an injector once it was joined.
-use Rattle.std.proofs.Common.{◌≡◌, ◌⊎◌, ⊎_elim, ◌↔◌, ℕ, true, List, [], ◌++◌, Option, option_to_list, sym, ap, ◌∙◌, subst, arith}
+-- What holds of an injector that was started, and once it was joined.
+use Rattle.std.proofs.Common.{◌≡◌, ◌⊎◌, ⊎_elim, ◌↔◌, ℕ, true, List, [], ◌++◌, Option, None, option_to_list, length, append-nil, sym, ap, ◌∙◌, subst, arith}
 use Rattle.std.proofs.lemmas.Bool.{or_cases, or_left}
+use Rattle.std.proofs.lemmas.List.{nil_from_length}
 use Rattle.std.proofs.lemmas.List.Folds.{list_any-append}
 use Rattle.bp_base.specs.Counts.{Rose}
 use Rattle.bp_log.specs.declared.item.Item.{Item}
+use Rattle.bp_lanes.specs.declared.ends.Mouth.{Mouth}
 use Rattle.bp_lanes.specs.Lanes.{offered}
 use Rattle.bp_feeds.specs.declared.feed.Feed.{Feed}
 use Rattle.bp_feeds.specs.Items.{is_fault, has_fault, has_last}
 use Rattle.bp_feeds.specs.Reading.{BeginsItems}
 use Rattle.bp_feeds.specs.Feeds.{given, is_over, GoesOn}
 use Rattle.bp_feeds.proofs.Going.{rose_on, rose_from, stands_on}
-use Rattle.bp_inject.specs.Injectors.{IsFrom, CameBack}
+use Rattle.bp_inject.specs.Injectors.{IsUnread, IsFrom, CameBack}
 use Rattle.bp_inject.proofs.Begins.{begins, over_is_last}
 
 fault_of : (xs ys zs : List Item) → zs ≡ xs ++ ys → has_fault zs ≡ true → (has_fault xs ≡ true) ⊎ (has_fault ys ≡ true)
 fault_of xs ys zs is h = or_cases (has_fault xs) (has_fault ys) (sym (list_any-append is_fault xs ys) ∙ ap has_fault (sym is) ∙ h)
+
+-- a fresh feed has given nothing
+pub unread : {S : Type 0} (source : S) (feed : Feed S) (mouth : Mouth) → (feed.lines.source ≡ source) × (feed.mouth ≡ mouth) × (feed.kept ≡ None) → length (offered mouth) ≡ 0 → IsUnread source feed
+unread source feed mouth parts none = record {
+  source_is = parts.0;
+  nothing = ap (λ (k : Option Item). offered feed.mouth ++ option_to_list k) parts.2 ∙ append-nil (offered feed.mouth)
+      ∙ ap (λ (m : Mouth). offered m) parts.1 ∙ nil_from_length (offered mouth) none;
+}
 
 module _ {S : Type 0} (left : S → Option (List ℕ)) (faults : S → ℕ) where
   -- a feed of a source that went on is a feed of that source

@@ -1,5 +1,5 @@
 //! A feed that makes its turns until it is over or there is a halt.
-ghost use Rattle.std.specs.Prelude.{◌≡◌, ◌<◌, ◌≤◌, ◌↔◌, List, ℕ, Option, [], Ok, true, false};
+ghost use Rattle.std.specs.Prelude.{◌≡◌, ◌<◌, ◌≤◌, ◌↔◌, List, ℕ, Option, [], Ok, true, false, OnOk, OnErr};
 ghost use Rattle.bp_base.specs.Counts.{Rose};
 ghost use Rattle.bp_lanes.specs.Lanes.{offered};
 ghost use Rattle.bp_feeds.specs.Items.{has_last};
@@ -27,7 +27,7 @@ pub enum Injected {
 ///
 /// # Errors
 ///
-/// Want of memory, after a halt of its own.
+/// Want of memory, after a halt of its own; it orders none otherwise.
 pub fn inject<S: Source, W: Wake, R: Threads + Wait + Sync>(
     rt: &R,
     feed: &mut Feed<S>,
@@ -44,6 +44,8 @@ pub fn inject<S: Source, W: Wake, R: Threads + Wait + Sync>(
     ensures halted { result ≡ Ok Injected.Halted → Rose (W.halts wake.old) (W.halts wake.new) }
     ensures stays { 0 < W.halts wake.old → (result ≡ Ok Injected.Halted) × (feed.new ≡ feed.old) }
     ensures halts { W.halts wake.old ≤ W.halts wake.new }
+    ensures memory { OnErr result (Rose (W.orders wake.old) (W.orders wake.new)) }
+    ensures spares { OnOk result (W.orders wake.new ≡ W.orders wake.old) }
 {
     for _ in rt.forever() {
         if wake.halted(rt) {

@@ -1,15 +1,16 @@
 //! Starting the thread of an injector, and joining it.
-ghost use Rattle.std.specs.Prelude.{◌≡◌, ◌↔◌, [], ◌++◌, Ok, true, false, IfOk, IfSome, IsErr};
+ghost use Rattle.std.specs.Prelude.{◌≡◌, ◌↔◌, [], ◌++◌, Ok, true, false, IfSome, IsErr};
 ghost use Rattle.bp_lanes.specs.Lanes.{offered, taken, known, is_closed, IsLane, IsSameEar};
 ghost use Rattle.bp_feeds.specs.Feeds.{GoesOn, is_over};
 ghost use Rattle.bp_inject.specs.Injectors.{feed_of, is_beside, IsHanded, IsTied, IsUnread, IsFrom, CameBack};
 
+use crate::berth::Berth;
 use crate::beside::{FromIntake, NotOver, Turned, take_and_turn};
 use crate::injecting::Injected;
 use bp_base::{Memory, Source};
 use bp_feeds::Feed;
-use bp_lanes::{Bell, Ear, lane};
-use rtrb::{Consumer, Producer, RingBuffer};
+use bp_lanes::{Bell, Ear};
+use rtrb::{Consumer, Producer};
 use std::alloc::Global;
 use std::snapshot::Snapshot;
 use std::sync::Wait;
@@ -50,25 +51,26 @@ fn thread_of<'s, S: Source + Send + Drop + 's, R: Threads + Wait + Sync, E>(
 
 /// Starts the thread of an injector, which makes the turns of a feed over the source. Where no thread
 /// can be made, the feed comes back. Either way it is unread: a thread is handed its feed once it was
-/// made.
-///
-/// # Errors
-///
-/// Want of memory, and then no thread was started.
+/// made. It takes no memory; the turns of the feed do.
 pub fn start<'s, S: Source + Send + Drop + 's, R: Threads + Wait + Sync, E>(
     rt: &'s R,
     alloc: Global,
     scope: &Scope<'s, E>,
     bell: &'s Bell,
+    berth: Berth<S>,
     source: S,
-) -> Result<(Started<S>, Ear), Memory>
-    ensures tied { IfOk result (λ r. IsTied r.0 r.1) }
-    ensures unread { IfOk result (λ r. IsUnread source (feed_of r.0)) }
-    ensures from { IfOk result (λ r. IsFrom S.left S.faults source (feed_of r.0)) }
-    ensures ear { IfOk result (λ r. (taken r.1 ≡ []) × (is_closed r.1 ≡ false)) }
+) -> (Started<S>, Ear)
+    ensures tied { IsTied result.0 result.1 }
+    ensures unread { IsUnread source (feed_of result.0) }
+    ensures from { IsFrom S.left S.faults source (feed_of result.0) }
+    ensures ear { (taken result.1 ≡ []) × (is_closed result.1 ≡ false) }
 {
-    let (mouth, ear) = lane(alloc)?;
-    let (mut outlet, intake) = RingBuffer::with_protocol::<Global, NotOver>(alloc, 1)?;
+    let Berth {
+        mouth,
+        ear,
+        mut outlet,
+        intake,
+    } = berth;
     let feed = Feed::new(alloc, source, mouth);
     match thread_of(rt, scope, bell, intake) {
         Some(thread) => {
@@ -80,9 +82,9 @@ pub fn start<'s, S: Source + Send + Drop + 's, R: Threads + Wait + Sync, E>(
                 outlet,
                 feed: handed,
             };
-            Ok((Started::Beside(beside), ear))
+            (Started::Beside(beside), ear)
         }
-        None => Ok((Started::Alone(feed), ear)),
+        None => (Started::Alone(feed), ear),
     }
 }
 

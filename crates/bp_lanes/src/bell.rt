@@ -68,20 +68,26 @@ pub trait Wake {
     /// How often it was found halted.
     ghost halts: { Self → ℕ };
 
+    /// How often it ordered a halt.
+    ghost orders: { Self → ℕ };
+
     /// Wakes who waits.
     fn ring<R: Threads + Wait + Sync>(&mut self, rt: &R)
         requires { IsSync R.row }
-        ensures { halts self.new ≡ halts self.old };
+        ensures found { halts self.new ≡ halts self.old }
+        ensures ordered { orders self.new ≡ orders self.old };
 
     /// Waits for the next ring that was not yet seen, or a halt.
     fn wait<R: Threads + Wait + Sync>(&mut self, rt: &R)
         requires { IsSync R.row }
-        ensures { halts self.new ≡ halts self.old };
+        ensures found { halts self.new ≡ halts self.old }
+        ensures ordered { orders self.new ≡ orders self.old };
 
     /// Halts all who listen.
     fn halt<R: Threads + Wait + Sync>(&mut self, rt: &R)
         requires { IsSync R.row }
-        ensures { halts self.new ≡ halts self.old };
+        ensures found { halts self.new ≡ halts self.old }
+        ensures ordered { Rose (orders self.old) (orders self.new) };
 
     /// Whether there was a halt. True only where the count of `halts` rose, and always once it was
     /// true.
@@ -89,16 +95,18 @@ pub trait Wake {
         requires { IsSync R.row }
         ensures counts { halts self.old ≤ halts self.new }
         ensures cause { IsTrue result → Rose (halts self.old) (halts self.new) }
-        ensures stays { 0 < halts self.old → IsTrue result };
+        ensures stays { 0 < halts self.old → IsTrue result }
+        ensures ordered { orders self.new ≡ orders self.old };
 }
 
-/// A rope of a bell. It keeps the counter that was last seen, and how often the bell was found
-/// halted.
+/// A rope of a bell. It keeps the counter that was last seen, how often the bell was found halted,
+/// and how often it was halted by this rope.
 #[derive(Drop)]
 pub struct Rope<'a> {
     bell: &'a Bell,
     seen: u64,
     halts: u64,
+    orders: u64,
 }
 
 impl<'a> Rope<'a> {
@@ -106,18 +114,21 @@ impl<'a> Rope<'a> {
 
     /// A rope of this bell, which has seen no ring and no halt. Takes no memory.
     pub fn new(bell: &'a Bell) -> Rope<'a>
-        ensures { result.halts ≡ 0 }
+        ensures { (result.halts ≡ 0) × (result.orders ≡ 0) }
     {
         Rope {
             bell,
             seen: 0,
             halts: 0,
+            orders: 0,
         }
     }
 }
 
 impl<'a> Wake for Rope<'a> {
     ghost halts = { λ r. r.halts };
+
+    ghost orders = { λ r. r.orders };
 
     fn ring<R: Threads + Wait + Sync>(&mut self, rt: &R) {
         self.bell.ring(rt);
@@ -129,6 +140,7 @@ impl<'a> Wake for Rope<'a> {
 
     fn halt<R: Threads + Wait + Sync>(&mut self, rt: &R) {
         self.bell.halt(rt);
+        self.orders = self.orders.saturating_add(1);
     }
 
     fn halted<R: Threads + Wait + Sync>(&mut self, rt: &R) -> bool {

@@ -3,7 +3,7 @@ ghost use Rattle.bp_lanes.specs.Lanes.{IsSameEar};
 
 use crate::told::add_taken;
 use bp_base::MemorySource;
-use bp_inject::{join, start};
+use bp_inject::{Berth, join, start};
 use bp_lanes::{Bell, Ear, Rope, Wake};
 use std::alloc::{AllocError, Global};
 use std::sync::Wait;
@@ -101,8 +101,9 @@ fn offered<R: Threads + Wait + Sync>(
         thread::scope_env(),
         rt,
         move |scope| -> Result<(String, String), Fail> {
-            let (first, mut ear) = start(rt, alloc, scope, bell, first)?;
-            let (second, mut other) = start(rt, alloc, scope, bell, second)?;
+            let (berth, next) = (Berth::new(alloc)?, Berth::new(alloc)?);
+            let (first, mut ear) = start(rt, alloc, scope, bell, berth, first);
+            let (second, mut other) = start(rt, alloc, scope, bell, next, second);
             let taken = take_all(rt, alloc, bell, &mut ear, &mut other);
             bell.halt(rt);
             let (_, one) = join(rt, first, &mut ear);

@@ -16,16 +16,21 @@ const LINES: &[u8] = b"[\"a\",1]\n[\"a\",2]\n[\"a\",3]\n";
 struct Countdown {
     left: u32,
     halts: u64,
+    orders: u64,
 }
 
 impl Wake for Countdown {
     ghost halts = { λ c. c.halts };
 
+    ghost orders = { λ c. c.orders };
+
     fn ring<R: Threads + Wait + Sync>(&mut self, _rt: &R) {}
 
     fn wait<R: Threads + Wait + Sync>(&mut self, _rt: &R) {}
 
-    fn halt<R: Threads + Wait + Sync>(&mut self, _rt: &R) {}
+    fn halt<R: Threads + Wait + Sync>(&mut self, _rt: &R) {
+        self.orders = self.orders.saturating_add(1);
+    }
 
     fn halted<R: Threads + Wait + Sync>(&mut self, _rt: &R) -> bool {
         let halted = self.halts > 0 || self.left == 0;
@@ -50,6 +55,7 @@ fn halted_after<R: Threads + Wait + Sync>(
     let mut wake = Countdown {
         left: turns,
         halts: 0,
+        orders: 0,
     };
     let mut text = String::new(alloc);
     if inject(rt, &mut feed, &mut wake)? == Injected::Halted {
@@ -98,6 +104,22 @@ fn a_halted_bell_ends_an_injector(rt: HostRuntime) -> Result<(), Fail> {
     let injected = inject(&rt, &mut feed, &mut rope)?;
     assert!(rt; injected == Injected::Halted);
     assert!(rt; ear.take().is_none());
+    Ok(())
+}
+
+/// An injector that meets want of memory has halted the bell before it answers, and one that reads all
+/// of its lines leaves it as it was.
+#[test]
+fn an_injector_that_wants_memory_halts_the_bell(rt: HostRuntime) -> Result<(), Fail> {
+    let alloc = rt.alloc();
+    let (mouth, _ear) = lane(alloc)?;
+    let mut feed = Feed::new(alloc, Drip::new(alloc, LINES, 8, 0)?, mouth);
+    let bell = Bell::new();
+    let mut rope = Rope::new(&bell);
+    match inject(&rt, &mut feed, &mut rope) {
+        Ok(injected) => assert!(rt; injected == Injected::Over && !bell.halted(&rt)),
+        Err(_) => assert!(rt; bell.halted(&rt) && !feed.is_over()),
+    }
     Ok(())
 }
 

@@ -1,7 +1,7 @@
 //! Injectors on threads of their own.
 use crate::sources::{Drip, Meeting};
 use crate::told::add_taken;
-use bp_inject::{join, start};
+use bp_inject::{Berth, join, start};
 use bp_lanes::Bell;
 use std::alloc::Global;
 use std::sync::Wait;
@@ -36,8 +36,9 @@ fn both<R: Threads + Wait + Sync>(rt: &R, alloc: Global) -> Result<String, Fail>
         move |scope| -> Result<String, Fail> {
             let first = meeting(alloc, FIRST, begun)?;
             let second = meeting(alloc, SECOND, begun)?;
-            let (first, mut ear) = start(rt, alloc, scope, bell, first)?;
-            let (second, mut other) = start(rt, alloc, scope, bell, second)?;
+            let (berth, next) = (Berth::new(alloc)?, Berth::new(alloc)?);
+            let (first, mut ear) = start(rt, alloc, scope, bell, berth, first);
+            let (second, mut other) = start(rt, alloc, scope, bell, next, second);
             let mut text = String::new(alloc);
             let (_, answer) = join(rt, first, &mut ear);
             answer?;

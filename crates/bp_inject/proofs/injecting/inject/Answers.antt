@@ -1,4 +1,4 @@
-use Rattle.std.proofs.Common.{rules, ◌≡◌, ◌≤◌, [], false, refl, arith}
+use Rattle.std.proofs.Common.{rules, ◌≡◌, ◌≤◌, [], false, refl, ◌∙◌, arith}
 use Rattle.std.proofs.lemmas.Bool.{both_ways}
 use Rattle.bp_feeds.proofs.Going.{stands_on, goes_nowhere, goes_on}
 use Rattle.bp_inject.proofs.Begins.{begins, over_is_last}
@@ -38,6 +38,7 @@ loop-init g c = record {
   goes_on = goes_nowhere g.S.Source.left g.S.Source.faults c.args.feed.now;
   going = search rules;
   halts = search rules;
+  orders = refl;
   stays = λ _. refl;
 }
 
@@ -50,6 +51,7 @@ loop-preserved-in-Ok-Went g c =
       goes_on = goes_on g.S.Source.left g.S.Source.faults c.args.feed.now c.loop.feed c.turn.new.self c.loop.invariant.goes_on c.turn.ensures.goes_on;
       going = going;
       halts = halts;
+      orders = c.ring-in-Ok-Went.ensures.ordered ∙ c.halted.ensures.ordered ∙ c.loop.invariant.orders;
       stays = λ h. absurd (both_ways c.halted.result none (c.halted.ensures.stays (omega (arith, h, c.loop.invariant.halts))));
     }
 
@@ -62,6 +64,7 @@ loop-preserved g c =
       goes_on = goes_on g.S.Source.left g.S.Source.faults c.args.feed.now c.loop.feed c.turn.new.self c.loop.invariant.goes_on c.turn.ensures.goes_on;
       going = going;
       halts = halts;
+      orders = c.wait.ensures.ordered ∙ c.halted.ensures.ordered ∙ c.loop.invariant.orders;
       stays = λ h. absurd (both_ways c.halted.result none (c.halted.ensures.stays (omega (arith, h, c.loop.invariant.halts))));
     }
 

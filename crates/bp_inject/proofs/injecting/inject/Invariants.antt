@@ -7,5 +7,6 @@ invariant-loop g l = record {
   goes_on : GoesOn g.S.Source.left g.S.Source.faults l.fn.feed l.feed;
   going : is_over l.feed ≡ false;
   halts : g.W.Wake.halts l.fn.wake ≤ g.W.Wake.halts l.wake;
+  orders : g.W.Wake.orders l.wake ≡ g.W.Wake.orders l.fn.wake;
   stays : 0 < g.W.Wake.halts l.fn.wake → l.feed ≡ l.fn.feed;
 }
