@@ -1,6 +1,6 @@
 //! The verdict that the end of a line says.
 ghost use Rattle.std.specs.Prelude.{◌≡◌, IfOk, option_map};
-ghost use Rattle.bp_reading.specs.Lines.{place_at, limit_at, limits_at, bad_end_at, numbered_at, said_at, violated_at, fault_at, kind_at, blamed_at, faulty_at, spent_by, spent_at, placed_at, verdict_at};
+ghost use Rattle.bp_reading.specs.Lines.{name_at, place_at, limit_at, limits_at, bad_end_at, numbered_at, said_at, violated_at, fault_at, kind_at, blamed_at, faulty_at, spent_by, spent_at, placed_at, verdict_at};
 
 use crate::words::{
     around_byte, behind_word, number_behind, number_of, numbers_of, quoted_at_front,
@@ -8,8 +8,21 @@ use crate::words::{
 };
 use bp_log::limits::{MOST_THREADS, MOST_WAITING, MOST_WEIGHT};
 use bp_log::{Memory, Place, Verdict};
-use js_data::Fault;
+use js_data::{Fault, Text};
 use std::alloc::Global;
+
+/// The text at the front, in its quotation marks, and what stands behind it.
+fn name_of(alloc: Global, bytes: &[u8]) -> Result<Option<(Text, &[u8])>, Memory>
+    ensures { IfOk result (λ p. option_map (λ q. (q.0, q.1.now)) p ≡ name_at bytes.now) }
+{
+    let Some((front, rest)) = quoted_at_front(bytes) else {
+        return Ok(None);
+    };
+    match text_of(alloc, front)? {
+        None => Ok(None),
+        Some(name) => Ok(Some((name, rest))),
+    }
+}
 
 /// The place at the front, and what stands behind it.
 fn place_of(alloc: Global, bytes: &[u8]) -> Result<Option<(Place, &[u8])>, Memory>
@@ -18,12 +31,9 @@ fn place_of(alloc: Global, bytes: &[u8]) -> Result<Option<(Place, &[u8])>, Memor
     if let Some(rest) = behind_word(b"top", bytes) {
         return Ok(Some((Place::Top, rest)));
     }
-    let Some((front, rest)) = quoted_at_front(bytes) else {
-        return Ok(None);
-    };
-    match text_of(alloc, front)? {
+    match name_of(alloc, bytes)? {
         None => Ok(None),
-        Some(name) => Ok(Some((Place::Thread(name), rest))),
+        Some((name, rest)) => Ok(Some((Place::Thread(name), rest))),
     }
 }
 

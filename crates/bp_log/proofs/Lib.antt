@@ -1,3 +1,4 @@
+pub mod Bounds
 pub mod Complete
 pub mod Equality
 mod Plain

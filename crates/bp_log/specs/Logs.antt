@@ -6,6 +6,8 @@ use Rattle.bp_log.specs.Options.{PlainOptions}
 use Rattle.bp_log.specs.Header.{PlainHeader}
 use Rattle.bp_log.specs.declared.options.Strategy.{Strategy}
 use Rattle.bp_log.specs.declared.options.Strategy.TheVariants.{Simple, Ordered, Priority}
+use Rattle.bp_log.specs.declared.version.Version.{Version}
+use Rattle.bp_log.specs.declared.version.Version.TheVariants.{First}
 use Rattle.bp_log.specs.declared.record.Record.{Record}
 use Rattle.bp_log.specs.declared.record.Record.TheVariants.{In, Bad, Eof, Sel, End}
 use Rattle.bp_log.specs.Texts.{verdict_text}
@@ -44,9 +46,17 @@ options_text o =
     ++ codes "\nsteps " ++ decimal o.steps
     ++ codes "\ninjectors " ++ decimal o.injectors
 
+-- the first line of a log, without its LF
+abbrev pub version_line : Version → List ℕ
+version_line First = codes "bp-log 1"
+
+-- the version of a first line
+abbrev pub version_of : List ℕ → Option Version
+version_of line = if bytes_eq line (version_line First) then Some First else None
+
 abbrev pub header_text : PlainHeader → List ℕ
 header_text h =
-    codes "bp-log 1\n" ++ options_text h.options
+    version_line First ++ codes "\n" ++ options_text h.options
     ++ codes "\nprogram " ++ decimal (length h.program) ++ codes "\n" ++ h.program ++ codes "\n"
 
 unfoldable pub log_text : PlainHeader → List Record → List ℕ

@@ -13,6 +13,7 @@ pub mod options;
 pub mod record;
 pub mod trace;
 pub mod verdict;
+pub mod version;
 
 pub use beside::Beside;
 pub use header::Header;
@@ -23,7 +24,8 @@ pub use options::{Options, Strategy};
 pub use record::{Record, Records};
 use std::alloc::AllocError;
 pub use trace::{Line, Lines};
-pub use verdict::{Place, Verdict};
+pub use verdict::{Place, Verdict, VerdictKind};
+pub use version::Version;
 
 /// Want of memory.
 pub type Memory = AllocError;

@@ -100,6 +100,7 @@ pub fn print<K: Sink>(alloc: Global, line: &Line, sink: &mut K) -> Result<(), Pr
     ensures nothing { IsErrOf result PrintError.Memory → K.written sink.new ≡ K.written sink.old }
     ensures cause { IsErrOf result PrintError.Write → Rose (K.faults sink.old) (K.faults sink.new) }
     ensures counts { K.faults sink.old ≤ K.faults sink.new }
+    ensures named { K.made_as sink.new ≡ K.made_as sink.old }
 {
     let text = whole_line_of(alloc, line)?;
     write_all(sink, text.as_str().as_bytes())?;

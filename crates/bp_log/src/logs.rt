@@ -5,7 +5,7 @@ ghost use Rattle.bp_base.specs.Pieces.{Appends, AppendsFront};
 ghost use Rattle.bp_log.specs.Logs.{record_text, whole_record, strategy_name, options_text, header_text};
 
 use crate::behind::{push_counted, push_event, push_numbers, push_verdict};
-use crate::{Header, Memory, Options, PrintError, Record, Strategy};
+use crate::{Header, Memory, Options, PrintError, Record, Strategy, Version};
 use bp_base::{Sink, write_all};
 use js_data::{Event, Text};
 use std::alloc::Global;
@@ -49,7 +49,8 @@ fn header_of(alloc: Global, header: &Header) -> Result<Vec<u8>, Memory>
     let options = options.as_str();
     let program = header.program();
     let size = program.len();
-    let front = format!(in alloc; "bp-log 1\n{options}\nprogram {size}\n")?;
+    let first = Version::First.line();
+    let front = format!(in alloc; "{first}\n{options}\nprogram {size}\n")?;
     let mut bytes = front.into_bytes();
     bytes.extend_from_slice(program)?;
     bytes.extend_from_slice(b"\n")?;
@@ -66,6 +67,7 @@ pub fn write_header<K: Sink>(alloc: Global, header: &Header, sink: &mut K) -> Re
     ensures nothing { IsErrOf result PrintError.Memory → K.written sink.new ≡ K.written sink.old }
     ensures cause { IsErrOf result PrintError.Write → Rose (K.faults sink.old) (K.faults sink.new) }
     ensures counts { K.faults sink.old ≤ K.faults sink.new }
+    ensures named { K.made_as sink.new ≡ K.made_as sink.old }
 {
     let bytes = header_of(alloc, header)?;
     write_all(sink, bytes.as_slice())?;
@@ -125,6 +127,7 @@ pub fn write_record<K: Sink>(alloc: Global, entry: &Record, sink: &mut K) -> Res
     ensures nothing { IsErrOf result PrintError.Memory → K.written sink.new ≡ K.written sink.old }
     ensures cause { IsErrOf result PrintError.Write → Rose (K.faults sink.old) (K.faults sink.new) }
     ensures counts { K.faults sink.old ≤ K.faults sink.new }
+    ensures named { K.made_as sink.new ≡ K.made_as sink.old }
 {
     let text = whole_record_of(alloc, entry)?;
     write_all(sink, text.as_str().as_bytes())?;

@@ -1,6 +1,6 @@
 //! What a run ends in.
 ghost use Rattle.std.specs.Prelude.{◌≡◌, ◌↔◌, IsTrue, IfOk};
-ghost use Rattle.bp_log.specs.Verdicts.{same_place as place_is_same, same_fault as fault_is_same, same_verdict as verdict_is_same};
+ghost use Rattle.bp_log.specs.Verdicts.{kind_of, same_place as place_is_same, same_fault as fault_is_same, same_verdict as verdict_is_same};
 
 use crate::Memory;
 use js_data::{Fault, Text};
@@ -35,6 +35,23 @@ pub enum Verdict {
     Weight,
     /// This injector had a bad line, with its number.
     Bad(u32, u32),
+}
+
+/// The kinds of verdicts.
+#[derive(Clone, Copy, Debug, PartialEq, Eq)]
+pub enum VerdictKind {
+    /// Nothing can be selected any more.
+    Quiet,
+    /// An assertion didn't hold.
+    Violated,
+    /// There was a fault.
+    Fault,
+    /// A budget was spent.
+    Spent,
+    /// A limit of runs was reached.
+    Limit,
+    /// An injector had a bad line.
+    Bad,
 }
 
 impl Drop for Verdict {
@@ -104,6 +121,23 @@ fn same_verdict(left: &Verdict, right: &Verdict) -> bool
 }
 
 impl Verdict {
+    /// The kind of the verdict. Takes no memory.
+    pub fn kind(&self) -> VerdictKind
+        ensures { result ≡ kind_of self.now }
+    {
+        match self {
+            Verdict::Quiet(_) => VerdictKind::Quiet,
+            Verdict::Violated(_, _) => VerdictKind::Violated,
+            Verdict::Fault(_, _, _) => VerdictKind::Fault,
+            Verdict::Spent(_) => VerdictKind::Spent,
+            Verdict::Steps(_) => VerdictKind::Limit,
+            Verdict::Queue => VerdictKind::Limit,
+            Verdict::Threads => VerdictKind::Limit,
+            Verdict::Weight => VerdictKind::Limit,
+            Verdict::Bad(_, _) => VerdictKind::Bad,
+        }
+    }
+
     /// An equal verdict. Its only error is want of memory.
     pub fn copy(&self) -> Result<Verdict, Memory>
         ensures { IfOk result (λ v. v ≡ self.now) }

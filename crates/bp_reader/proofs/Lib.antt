@@ -1,3 +1,4 @@
 pub mod Along
 pub mod Programs
 pub mod Headed
+pub mod Cuts

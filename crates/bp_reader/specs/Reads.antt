@@ -7,10 +7,12 @@ use Rattle.bp_reader.specs.declared.fault.LogFault.{LogFault}
 use Rattle.bp_reader.specs.Gets.{refusal_of}
 
 -- where a reader stands: the bytes still to come, where the source tells them, how often it failed,
--- what is known of the records before, and what was refused
+-- which of the bytes the source itself has still, what is known of the records before, and what was
+-- refused
 pub record Standing : Type 0 where
   pub left : Option (List ℕ)
   pub faults : ℕ
+  pub source : Option (List ℕ)
   pub stage : Stage
   pub refusal : Option LogFault
 

@@ -1,7 +1,8 @@
 //! The header of a log.
 ghost use Rattle.std.specs.Prelude.{◌≡◌, ◌≤◌, IfOk, IfSome, IsErrOf, length};
 ghost use Rattle.bp_base.specs.Counts.{Rose};
-ghost use Rattle.bp_reading.specs.Heads.{version_at, strategy_behind, strategy_line_at, field, field_at, program_at, choice_at, limits_at, options_at, header_at};
+ghost use Rattle.bp_reading.specs.Heads.{version_at, strategy_behind, strategy_line_at, field, field_at, program_at, choice_at, limits_at, options_at, header_at, CutsOff};
+ghost use Rattle.bp_reader.specs.Fed.{Between};
 ghost use Rattle.bp_reader.specs.Gets.{Gets};
 
 use crate::LogFault;
@@ -9,28 +10,29 @@ use crate::input::{Input, Taken};
 use bp_base::Source;
 use bp_lines::{behind_word, number_of};
 use bp_log::limits::{MOST_BUDGET, MOST_BYTES, MOST_INJECTORS, MOST_STEPS};
-use bp_log::{Header, Options, Strategy};
+use bp_log::{Header, Options, Strategy, Version};
+use bp_reading::limits::MOST_LINE_BYTES;
 use std::alloc::Global;
 
 /// The first line.
 #[tactic(auto, unfolding(bp_reading::specs::Heads::version_at))]
-fn version_of<S: Source>(alloc: Global, input: &mut Input<S>) -> Result<(), LogFault>
+fn version_of<S: Source>(alloc: Global, input: &mut Input<S>) -> Result<Version, LogFault>
     ensures gets { IfSome input.old.left
-        (λ bytes. Gets (λ _. tt) result (version_at bytes) input.new.left) }
+        (λ bytes. Gets (λ v. v) result (version_at bytes) input.new.left) }
+    ensures failed { IsErrOf result LogFault.Read
+        → Between input.old.left input.new.left (CutsOff version_at) }
+    ensures empty { IsErrOf result LogFault.Read → input.new.left ≡ input.new.source }
     ensures cause { IsErrOf result LogFault.Read → Rose input.old.faults input.new.faults }
     ensures counts { input.old.faults ≤ input.new.faults }
 {
-    let taken = input.line(alloc)?;
+    let taken = input.line(alloc, MOST_LINE_BYTES)?;
     match &taken {
         Taken::Partial => Err(LogFault::Cut),
         Taken::Excess => Err(LogFault::Version),
-        Taken::Line(line) => {
-            if line.as_slice() == b"bp-log 1".as_slice() {
-                Ok(())
-            } else {
-                Err(LogFault::Version)
-            }
-        }
+        Taken::Line(line) => match Version::of_line(line.as_slice()) {
+            None => Err(LogFault::Version),
+            Some(version) => Ok(version),
+        },
     }
 }
 
@@ -46,10 +48,13 @@ fn named(line: &[u8]) -> Option<Strategy>
 fn strategy_of<S: Source>(alloc: Global, input: &mut Input<S>) -> Result<Strategy, LogFault>
     ensures gets { IfSome input.old.left
         (λ bytes. Gets (λ s. s) result (strategy_line_at bytes) input.new.left) }
+    ensures failed { IsErrOf result LogFault.Read
+        → Between input.old.left input.new.left (CutsOff strategy_line_at) }
+    ensures empty { IsErrOf result LogFault.Read → input.new.left ≡ input.new.source }
     ensures cause { IsErrOf result LogFault.Read → Rose input.old.faults input.new.faults }
     ensures counts { input.old.faults ≤ input.new.faults }
 {
-    let taken = input.line(alloc)?;
+    let taken = input.line(alloc, MOST_LINE_BYTES)?;
     match &taken {
         Taken::Partial => Err(LogFault::Cut),
         Taken::Excess => Err(LogFault::Header),
@@ -86,10 +91,13 @@ fn field_of<S: Source>(
         (λ bytes. Gets (λ n. n) result (field_at word.now least most bytes) input.new.left) }
     ensures from { IfOk result (λ n. least ≤ n) }
     ensures within { IfOk result (λ n. n ≤ most) }
+    ensures failed { IsErrOf result LogFault.Read
+        → Between input.old.left input.new.left (CutsOff (field_at word.now least most)) }
+    ensures empty { IsErrOf result LogFault.Read → input.new.left ≡ input.new.source }
     ensures cause { IsErrOf result LogFault.Read → Rose input.old.faults input.new.faults }
     ensures counts { input.old.faults ≤ input.new.faults }
 {
-    let taken = input.line(alloc)?;
+    let taken = input.line(alloc, MOST_LINE_BYTES)?;
     match &taken {
         Taken::Partial => Err(LogFault::Cut),
         Taken::Excess => Err(LogFault::Header),
@@ -109,6 +117,9 @@ fn program_of<S: Source>(
     ensures gets { IfSome input.old.left
         (λ bytes. Gets (λ v. v.items) result (program_at size bytes) input.new.left) }
     ensures within { IfOk result (λ v. length v.items ≤ size) }
+    ensures failed { IsErrOf result LogFault.Read
+        → Between input.old.left input.new.left (CutsOff (program_at size)) }
+    ensures empty { IsErrOf result LogFault.Read → input.new.left ≡ input.new.source }
     ensures cause { IsErrOf result LogFault.Read → Rose input.old.faults input.new.faults }
     ensures counts { input.old.faults ≤ input.new.faults }
 {
@@ -133,6 +144,9 @@ fn program_of<S: Source>(
 fn choice_of<S: Source>(alloc: Global, input: &mut Input<S>) -> Result<(Strategy, u64), LogFault>
     ensures gets { IfSome input.old.left
         (λ bytes. Gets (λ p. p) result (choice_at bytes) input.new.left) }
+    ensures failed { IsErrOf result LogFault.Read
+        → Between input.old.left input.new.left (CutsOff choice_at) }
+    ensures empty { IsErrOf result LogFault.Read → input.new.left ≡ input.new.source }
     ensures cause { IsErrOf result LogFault.Read → Rose input.old.faults input.new.faults }
     ensures counts { input.old.faults ≤ input.new.faults }
 {
@@ -149,6 +163,9 @@ fn limits_of<S: Source>(alloc: Global, input: &mut Input<S>) -> Result<(u64, u32
         (λ bytes. Gets (λ p. p) result (limits_at bytes) input.new.left) }
     ensures budget { IfOk result (λ p. (1 ≤ p.0) × (p.0 ≤ MOST_BUDGET)) }
     ensures steps { IfOk result (λ p. (1 ≤ p.1) × (p.1 ≤ MOST_STEPS)) }
+    ensures failed { IsErrOf result LogFault.Read
+        → Between input.old.left input.new.left (CutsOff limits_at) }
+    ensures empty { IsErrOf result LogFault.Read → input.new.left ≡ input.new.source }
     ensures cause { IsErrOf result LogFault.Read → Rose input.old.faults input.new.faults }
     ensures counts { input.old.faults ≤ input.new.faults }
 {
@@ -162,6 +179,9 @@ fn limits_of<S: Source>(alloc: Global, input: &mut Input<S>) -> Result<(u64, u32
 fn options_of<S: Source>(alloc: Global, input: &mut Input<S>) -> Result<Options, LogFault>
     ensures gets { IfSome input.old.left
         (λ bytes. Gets (λ o. o) result (options_at bytes) input.new.left) }
+    ensures failed { IsErrOf result LogFault.Read
+        → Between input.old.left input.new.left (CutsOff options_at) }
+    ensures empty { IsErrOf result LogFault.Read → input.new.left ≡ input.new.source }
     ensures cause { IsErrOf result LogFault.Read → Rose input.old.faults input.new.faults }
     ensures counts { input.old.faults ≤ input.new.faults }
 {
@@ -179,6 +199,9 @@ fn options_of<S: Source>(alloc: Global, input: &mut Input<S>) -> Result<Options,
 pub fn header_of<S: Source>(alloc: Global, input: &mut Input<S>) -> Result<Header, LogFault>
     ensures gets { IfSome input.old.left
         (λ bytes. Gets (λ h. h) result (header_at bytes) input.new.left) }
+    ensures failed { IsErrOf result LogFault.Read
+        → Between input.old.left input.new.left (CutsOff header_at) }
+    ensures empty { IsErrOf result LogFault.Read → input.new.left ≡ input.new.source }
     ensures cause { IsErrOf result LogFault.Read → Rose input.old.faults input.new.faults }
     ensures counts { input.old.faults ≤ input.new.faults }
 {

@@ -2,11 +2,10 @@
 ghost use Rattle.std.specs.Prelude.{◌≡◌, ◌≤◌, Some, IfOk, OnErr, IfSome, IsErrOf};
 ghost use Rattle.bp_base.specs.Counts.{Rose};
 ghost use Rattle.bp_base.specs.Pieces.{GivesSome};
-ghost use Rattle.bp_reading.specs.Heads.{line_at};
-ghost use Rattle.bp_reader.specs.Fed.{Fed, Comes, IsFront};
+ghost use Rattle.bp_reading.specs.Heads.{line_at, LineBreaksOff};
+ghost use Rattle.bp_reader.specs.Fed.{Fed, Between, Comes, IsFront};
 
 use bp_base::{Failed, Source};
-use bp_reading::limits::MOST_LINE_BYTES;
 use std::alloc::{AllocError, AllocFailed, Global};
 use std::marker::Model;
 
@@ -90,6 +89,7 @@ impl<S: Source> Model for Input<S> {
     ghost view = { λ i. record {
       left = option_map (λ rest. drop i.at (take i.filled i.block) ++ rest) (S.left i.source);
       faults = S.faults i.source;
+      source = S.left i.source;
     } };
 
     ghost invariant = { λ i. (i.at ≤ i.filled) × (i.filled ≤ 4096) };
@@ -98,7 +98,11 @@ impl<S: Source> Model for Input<S> {
 impl<S: Source> Input<S> {
     /// The source, of which nothing is taken yet.
     pub fn new(source: S) -> Input<S>
-        ensures { result ≡ record { left = S.left source; faults = S.faults source } }
+        ensures { result ≡ record {
+          left = S.left source;
+          faults = S.faults source;
+          source = S.left source;
+        } }
     {
         Input {
             source,
@@ -112,6 +116,7 @@ impl<S: Source> Input<S> {
     pub fn back(self) -> S
         ensures faults { S.faults result ≡ self.faults }
         ensures left { GivesSome self.left (S.left result) }
+        ensures source { S.left result ≡ self.source }
     {
         self.source
     }
@@ -120,6 +125,7 @@ impl<S: Source> Input<S> {
     pub fn byte(&mut self) -> Result<Option<u8>, Failed>
         ensures given { IfOk result (λ b. Comes self.old.left b self.new.left) }
         ensures failed { OnErr result (self.new.left ≡ self.old.left) }
+        ensures empty { OnErr result (self.new.left ≡ self.new.source) }
         ensures cause { OnErr result (Rose self.old.faults self.new.faults) }
         ensures counts { self.old.faults ≤ self.new.faults }
     {
@@ -136,15 +142,20 @@ impl<S: Source> Input<S> {
         Ok(Some(byte))
     }
 
-    /// The next line, of at most 1,048,576 bytes.
-    pub fn line(&mut self, alloc: Global) -> Result<Taken, Fault>
+    /// The next line, of at most `room` bytes. Where the source failed, a part of a line was taken,
+    /// and all that is still to come is the source's.
+    pub fn line(&mut self, alloc: Global, room: u32) -> Result<Taken, Fault>
         ensures line { IfOk result (λ t. IfSome self.old.left
-            (λ bytes. IsFront t (line_at MOST_LINE_BYTES bytes) self.new.left)) }
+            (λ bytes. IsFront t (line_at room bytes) self.new.left)) }
+        ensures failed { IsErrOf result Fault.Read
+            → Between self.old.left self.new.left (LineBreaksOff room) }
+        ensures empty { IsErrOf result Fault.Read → self.new.left ≡ self.new.source }
+        ensures taken { GivesSome self.old.left self.new.left }
         ensures cause { IsErrOf result Fault.Read → Rose self.old.faults self.new.faults }
         ensures counts { self.old.faults ≤ self.new.faults }
     {
         let mut line = Vec::new(alloc);
-        while line.len() < MOST_LINE_BYTES as usize {
+        while line.len() < room as usize {
             match self.byte()? {
                 None => return Ok(Taken::Partial),
                 Some(10) => return Ok(Taken::Line(line)),

@@ -1,17 +1,19 @@
 //! What is known of the records that were read.
 ghost use Rattle.std.specs.Prelude.{◌≡◌, ◌<◌, ◌+◌, IfOk, OnErr, nat_le};
+ghost use Rattle.bp_reading.specs.Heads.{line_room};
 ghost use Rattle.bp_reading.specs.Reading.{is_live as live, is_known as known, can_stand as stands, after, next_record, first_stage};
 
 use crate::LogFault;
 use bp_lines::record_of;
-use bp_log::{Memory, Record, Verdict};
-use bp_reading::limits::MOST_RECORDS;
+use bp_log::{Memory, Record, Verdict, Version};
+use bp_reading::limits::{MOST_LINE_BYTES, MOST_RECORDS};
 use std::alloc::Global;
 use std::marker::Model;
 
-/// What is known of the records before.
+/// What is known of the log and of the records before.
 #[derive(Drop)]
 pub struct Progress {
+    version: Version,
     injectors: u32,
     over: Vec<u32>,
     lines: u32,
@@ -26,6 +28,7 @@ impl Model for Progress {
     ghost Value = { Stage };
 
     ghost view = { λ p. record {
+      version = p.version;
       injectors = p.injectors;
       over = p.over.items;
       lines = p.lines;
@@ -41,10 +44,20 @@ impl Progress {
         ensures { result ≡ first_stage injectors }
     {
         Progress {
+            version: Version::First,
             injectors,
             over: Vec::new(alloc),
             lines: 0,
             ended: false,
+        }
+    }
+
+    /// How many bytes the line of a record may have.
+    pub fn line_room(&self) -> u32
+        ensures { result ≡ line_room self.now.version }
+    {
+        match self.version {
+            Version::First => MOST_LINE_BYTES,
         }
     }
 

@@ -2,8 +2,9 @@
 ghost use Rattle.std.specs.Prelude.{◌≡◌, ◌≤◌, ◌<◌, Some, None, IfOk, IfErr, IsSomeAnd, IfSome, IsErrOf, OnErr};
 ghost use Rattle.bp_base.specs.Counts.{Rose};
 ghost use Rattle.bp_base.specs.Pieces.{GivesSome};
-ghost use Rattle.bp_reading.specs.Heads.{header_at, line_at};
-ghost use Rattle.bp_reading.specs.Reading.{first_stage, next_at, next_of, after, behind_end as ends, too_many};
+ghost use Rattle.bp_reading.specs.Heads.{header_at, line_at, line_room, CutsOff, LineBreaksOff};
+ghost use Rattle.bp_reading.specs.Reading.{first_stage, next_at, next_of, after, behind_end as ends, too_many, BreaksOff};
+ghost use Rattle.bp_reader.specs.Fed.{Between};
 ghost use Rattle.bp_reader.specs.Gets.{MeansRead};
 ghost use Rattle.bp_reader.specs.Reads.{Standing, Tells, TellsRecord, MeansNext, IsStageAfter, ComesInTime, IsRefusalAfter};
 
@@ -13,7 +14,7 @@ use crate::input::{Input, Taken};
 use crate::progress::Progress;
 use bp_base::Source;
 use bp_log::{Header, Record};
-use bp_reading::limits::{MOST_LINE_BYTES, MOST_RECORDS};
+use bp_reading::limits::MOST_RECORDS;
 use std::alloc::Global;
 use std::marker::Model;
 
@@ -33,6 +34,7 @@ impl<S: Source> Model for Reader<S> {
     ghost view = { λ r. record {
       left = r.input.left;
       faults = r.input.faults;
+      source = r.input.source;
       stage = r.progress;
       refusal = r.refusal;
     } };
@@ -55,6 +57,9 @@ fn behind_end<S: Source>(
     ensures tells { IfSome input.old.left
         (λ bytes. Tells result (next_of progress.now (ends bytes)) input.new.left) }
     ensures none { IfOk result (λ r. r ≡ None) }
+    ensures failed { IsErrOf result LogFault.Read → input.new.left ≡ input.old.left }
+    ensures empty { IsErrOf result LogFault.Read → input.new.left ≡ input.new.source }
+    ensures taken { GivesSome input.old.left input.new.left }
     ensures cause { IsErrOf result LogFault.Read → Rose input.old.faults input.new.faults }
     ensures counts { input.old.faults ≤ input.new.faults }
 {
@@ -69,6 +74,9 @@ fn behind_end<S: Source>(
 fn behind_last<S: Source>(input: &mut Input<S>, progress: &Progress) -> LogFault
     ensures tells { IfSome input.old.left
         (λ bytes. MeansNext result (next_of progress.now (too_many bytes))) }
+    ensures failed { result ≡ LogFault.Read → input.new.left ≡ input.old.left }
+    ensures empty { result ≡ LogFault.Read → input.new.left ≡ input.new.source }
+    ensures taken { GivesSome input.old.left input.new.left }
     ensures cause { result ≡ LogFault.Read → Rose input.old.faults input.new.faults }
     ensures counts { input.old.faults ≤ input.new.faults }
 {
@@ -87,14 +95,18 @@ fn next_line<S: Source>(
 ) -> Result<Record, LogFault>
     requires { progress.old.lines < MOST_RECORDS }
     ensures tells { IfSome input.old.left
-        (λ bytes. TellsRecord result (next_of progress.old (line_at MOST_LINE_BYTES bytes))
-        input.new.left) }
+        (λ bytes. TellsRecord result
+        (next_of progress.old (line_at (line_room progress.old.version) bytes)) input.new.left) }
     ensures stage { IfOk result (λ r. progress.new ≡ after progress.old r) }
     ensures failed { OnErr result (progress.new ≡ progress.old) }
+    ensures broken { IsErrOf result LogFault.Read → Between input.old.left input.new.left
+        (LineBreaksOff (line_room progress.old.version)) }
+    ensures empty { IsErrOf result LogFault.Read → input.new.left ≡ input.new.source }
+    ensures taken { GivesSome input.old.left input.new.left }
     ensures cause { IsErrOf result LogFault.Read → Rose input.old.faults input.new.faults }
     ensures counts { input.old.faults ≤ input.new.faults }
 {
-    let taken = input.line(alloc)?;
+    let taken = input.line(alloc, progress.line_room())?;
     match &taken {
         Taken::Partial => Err(LogFault::Cut),
         Taken::Excess => Err(progress.bad_line()),
@@ -119,6 +131,10 @@ fn step<S: Source>(
         (λ bytes. Tells result (next_at progress.old bytes) input.new.left) }
     ensures stage { IsStageAfter progress.old result progress.new }
     ensures time { ComesInTime progress.old result }
+    ensures failed { IsErrOf result LogFault.Read
+        → Between input.old.left input.new.left (BreaksOff progress.old) }
+    ensures empty { IsErrOf result LogFault.Read → input.new.left ≡ input.new.source }
+    ensures taken { GivesSome input.old.left input.new.left }
     ensures cause { IsErrOf result LogFault.Read → Rose input.old.faults input.new.faults }
     ensures counts { input.old.faults ≤ input.new.faults }
 {
@@ -141,6 +157,8 @@ impl<S: Source> Reader<S> {
         ensures counts { IfOk result (λ p. S.faults source ≤ p.0.faults) }
         ensures refused { IfErr result (λ e. IfSome (S.left source)
             (λ bytes. MeansRead e.fault (header_at bytes))) }
+        ensures failed { IfErr result (λ e. e.fault ≡ LogFault.Read
+            → Between (S.left source) (S.left e.source) (CutsOff header_at)) }
         ensures cause { IfErr result (λ e. e.fault ≡ LogFault.Read
             → Rose (S.faults source) (S.faults e.source)) }
         ensures refused_counts { IfErr result (λ e. S.faults source ≤ S.faults e.source) }
@@ -168,11 +186,14 @@ impl<S: Source> Reader<S> {
     pub fn back(self) -> S
         ensures faults { S.faults result ≡ self.faults }
         ensures left { GivesSome self.left (S.left result) }
+        ensures source { S.left result ≡ self.source }
     {
         self.input.back()
     }
 
-    /// The next record, or `None` behind the end. After a refusal it answers the same one.
+    /// The next record, or `None` behind the end. After a refusal it answers the same one. Where the
+    /// source failed, what was taken says no more than nothing would, and all that is still to come
+    /// is the source's.
     pub fn next(&mut self, alloc: Global) -> Result<Option<Record>, LogFault>
         ensures tells { self.old.refusal ≡ None
             → IfSome self.old.left
@@ -182,6 +203,11 @@ impl<S: Source> Reader<S> {
         ensures again { IfSome self.old.refusal
             (λ f. (result ≡ Err f) × (self.new ≡ self.old)) }
         ensures kept { IsRefusalAfter result self.new.refusal }
+        ensures failed { self.old.refusal ≡ None → IsErrOf result LogFault.Read
+            → Between self.old.left self.new.left (BreaksOff self.old.stage) }
+        ensures empty { self.old.refusal ≡ None → IsErrOf result LogFault.Read
+            → self.new.left ≡ self.new.source }
+        ensures taken { GivesSome self.old.left self.new.left }
         ensures cause { self.old.refusal ≡ None
             → IsErrOf result LogFault.Read → Rose self.old.faults self.new.faults }
         ensures counts { self.old.faults ≤ self.new.faults }

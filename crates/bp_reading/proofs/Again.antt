@@ -27,7 +27,7 @@ use Rattle.bp_log.specs.declared.verdict.Place.{Place}
 use Rattle.bp_log.specs.declared.verdict.Verdict.{Verdict}
 use Rattle.bp_log.specs.declared.verdict.Verdict.TheVariants as verdict
 use Rattle.bp_reading.specs.Words.{behind, around, number_at, number_behind, numbers_at, most_32, if_compact, compact_event_at, if_quoted, text_at, onto_front, to_quote, quoted_front}
-use Rattle.bp_reading.specs.Lines.{top_at, thread_at, place_at, quiet_at, steps_at, if_same, limit_at, bad_end_at, limits_at, numbered_at, said_at, violated_at, fault_at, kind_at, blamed_at, faulty_at, spent_by, spent_at, placed_at, verdict_at, handed_at, in_at, bad_at, eof_at, sel_at, end_at, record_at}
+use Rattle.bp_reading.specs.Lines.{top_at, name_at, thread_at, place_at, quiet_at, steps_at, if_same, limit_at, bad_end_at, limits_at, numbered_at, said_at, violated_at, fault_at, kind_at, blamed_at, faulty_at, spent_by, spent_at, placed_at, verdict_at, handed_at, in_at, bad_at, eof_at, sel_at, end_at, record_at}
 use Rattle.bp_reading.proofs.Numbers.{number_text}
 use Rattle.bp_reading.proofs.Spelled.{spelled_verdict, spelled_record, record_is}
 
@@ -125,17 +125,22 @@ front_spelled bytes a b h =
 
 -- ---- places and names
 
+name_spelled : (bytes : List ℕ) (n : List ℕ × List ℕ) → name_at bytes ≡ Some n → bytes ≡ quoted_text n.0 ++ n.1
+name_spelled bytes n h =
+    let a = chained _ (quoted_front bytes) n h in
+    let b = mapped _ (text_at a.0.0) n a.2 in
+    front_spelled bytes a.0.0 a.0.1 a.1
+    ∙ ap (λ (x : List ℕ). x ++ a.0.1) (text_spelled a.0.0 b.0 b.1)
+    ∙ ap (λ (q : List ℕ × List ℕ). quoted_text q.0 ++ q.1) b.2
+
 place_spelled : (bytes : List ℕ) (p : Place × List ℕ) → place_at bytes ≡ Some p → bytes ≡ place_text p.0 ++ p.1
 place_spelled bytes p h = elim (either (top_at bytes) (thread_at bytes) p h) [
   | inl top ↦
       let a = mapped _ (behind (codes "top") bytes) p top in
       behind_spelled (codes "top") bytes a.0 a.1 ∙ ap (λ (q : Place × List ℕ). place_text q.0 ++ q.1) a.2
   | inr thread ↦
-      let a = chained _ (quoted_front bytes) p thread in
-      let b = mapped _ (text_at a.0.0) p a.2 in
-      front_spelled bytes a.0.0 a.0.1 a.1
-      ∙ ap (λ (x : List ℕ). x ++ a.0.1) (text_spelled a.0.0 b.0 b.1)
-      ∙ ap (λ (q : Place × List ℕ). place_text q.0 ++ q.1) b.2
+      let n = mapped _ (name_at bytes) p thread in
+      name_spelled bytes n.0 n.1 ∙ ap (λ (q : Place × List ℕ). place_text q.0 ++ q.1) n.2
 ]
 
 named : (name word : List ℕ) (f g : Fault) → word ≡ fault_name f → (bytes_eq name word ≡ true) × (f ≡ g) → name ≡ fault_name g

@@ -13,9 +13,10 @@ use Rattle.bp_log.specs.declared.record.Record.{Record}
 use Rattle.bp_reading.specs.declared.limits.TheConstants.{MOST_LINE_BYTES, MOST_RECORDS}
 use Rattle.bp_reading.specs.Words.{most_64, number_behind}
 use Rattle.bp_reading.specs.Lines.{record_at}
-use Rattle.bp_reading.specs.Heads.{whole, line_at, header, from_least, field, version_at, strategy_line_at, field_at, program_at, choice_at, limits_at, options_at, header_at}
+use Rattle.bp_reading.specs.Heads.{whole, line_at, line_room, header, from_least, field, version_at, strategy_line_at, field_at, program_at, choice_at, limits_at, options_at, header_at}
 use Rattle.bp_reading.specs.Reading.{Stage, first_stage, after, can_stand, Says, if_stands, front_at, found, finished, next_at}
 use Rattle.bp_reading.specs.Laws.{IsHeader, AreRecords, Stands, ReadLogsAreTexts, LinesAreTexts, Spells}
+use Rattle.bp_reading.proofs.Lines.{room_is}
 use Rattle.bp_reading.proofs.Back.{record_back}
 use Rattle.bp_reading.proofs.Law.{header_then, header_regrouped}
 use Rattle.bp_reading.proofs.Again.{chosen, record_again}
@@ -63,7 +64,7 @@ options_fit bytes rest o h =
       record { some_budget = limits.0.0; budget = limits.0.1; some_steps = limits.1.0; steps = limits.1.1; injectors = injectors.1 },
     )
 
-header_fits : (bytes rest : List ℕ) (h : PlainHeader) → header_at bytes ≡ Ok (h, rest) → IsHeader h
+pub header_fits : (bytes rest : List ℕ) (h : PlainHeader) → header_at bytes ≡ Ok (h, rest) → IsHeader h
 unfolding header_at
 header_fits bytes rest h k =
     let o = bound (options_at bytes) _ (h, rest) k in
@@ -77,17 +78,17 @@ header_fits bytes rest h k =
 -- ---- the records
 
 -- a line stands before the end, among not too many, and isn't too long
-record Room (s : Stage) (line : List ℕ) : Type 0 where
-  going : s.ended ≡ false
-  few : s.lines < MOST_RECORDS
-  short : length line ≤ MOST_LINE_BYTES
+pub record Room (s : Stage) (line : List ℕ) : Type 0 where
+  pub going : s.ended ≡ false
+  pub few : s.lines < MOST_RECORDS
+  pub short : length line ≤ MOST_LINE_BYTES
 
 front_fits : (s : Stage) (bytes line rest : List ℕ) → front_at s bytes ≡ whole line rest → Room s line
 front_fits s bytes line rest h = elim (chosen s.ended _ _ _ h) [
   | inl over ↦ absurd (ends_no_line bytes line rest over.1)
   | inr going ↦ elim (chosen (nat_le MOST_RECORDS s.lines) _ _ _ going.1) [
     | inl full ↦ absurd (many_no_line bytes line rest full.1)
-    | inr more ↦ record { going = going.0; few = leb-false MOST_RECORDS s.lines more.0; short = line_short bytes MOST_LINE_BYTES line rest more.1 }
+    | inr more ↦ record { going = going.0; few = leb-false MOST_RECORDS s.lines more.0; short = subst (λ (n : ℕ). length line ≤ n) (room_is s.version) (line_short bytes (line_room s.version) line rest more.1) }
   ]
 ]
 
@@ -99,7 +100,7 @@ is_over s bytes h = elim (chosen s.ended _ _ _ (front_finished s (front_at s byt
 ]
 
 -- the record is that of a line
-found_line : (s : Stage) (bytes rest : List ℕ) (r : Record) → next_at s bytes ≡ found r rest → (line : List ℕ) × Room s line × (record_at line ≡ Some r) × (can_stand s r ≡ true)
+pub found_line : (s : Stage) (bytes rest : List ℕ) (r : Record) → next_at s bytes ≡ found r rest → (line : List ℕ) × Room s line × (record_at line ≡ Some r) × (can_stand s r ≡ true)
 unfolding next_at
 found_line s bytes rest r h =
     let p = front_found s (front_at s bytes) r rest h in

@@ -7,9 +7,10 @@ use Rattle.std.proofs.lemmas.Fmt.{decimal_injective}
 use Rattle.std.proofs.lemmas.Option.{same_Some}
 use Rattle.bp_log.specs.Options.{PlainOptions, AreOptions}
 use Rattle.bp_log.specs.Header.{PlainHeader}
-use Rattle.bp_log.specs.Logs.{record_text, records_text, log_text, header_text, options_text, strategy_name, strategy_at}
+use Rattle.bp_log.specs.Logs.{record_text, records_text, log_text, header_text, options_text, strategy_name, strategy_at, version_line}
 use Rattle.bp_log.specs.declared.options.Strategy.{Strategy}
 use Rattle.bp_log.specs.declared.options.Strategy.TheVariants.{Simple, Ordered, Priority}
+use Rattle.bp_log.specs.declared.version.Version.TheVariants.{First}
 use Rattle.bp_log.specs.declared.record.Record.{Record}
 use Rattle.bp_reading.specs.Lines.{record_at}
 use Rattle.bp_reading.specs.Laws.{IsHeader, IsRecord, AreRecords, OneReading}
@@ -69,12 +70,12 @@ strategy_cut s t x y e =
 -- a header's text, and what follows
 unfoldable pub header_then : PlainHeader → List ℕ → List ℕ
 header_then h more =
-    codes "bp-log 1" ++ 10 ∷ options_then h.options (10 ∷ (codes "program " ++ (decimal (length h.program) ++ 10 ∷ (h.program ++ 10 ∷ more))))
+    version_line First ++ 10 ∷ options_then h.options (10 ∷ (codes "program " ++ (decimal (length h.program) ++ 10 ∷ (h.program ++ 10 ∷ more))))
 
 pub header_regrouped : (h : PlainHeader) (more : List ℕ) → header_text h ++ more ≡ header_then h more
 unfolding header_then
 header_regrouped h more =
-    ap (λ l. codes "bp-log 1" ++ (10 ∷ l))
+    ap (λ l. version_line First ++ (10 ∷ l))
     (six (options_text h.options) (codes "\nprogram ") (decimal (length h.program)) (codes "\n") h.program (codes "\n") more
     ∙ options_regrouped h.options (10 ∷ (codes "program " ++ (decimal (length h.program) ++ (10 ∷ (h.program ++ (10 ∷ more)))))))
 
@@ -91,7 +92,7 @@ options_cut o p x y small low ok fine e =
 header_cut : (h g : PlainHeader) (x y : List ℕ) → IsHeader h → IsHeader g → header_then h x ≡ header_then g y → (h ≡ g) × (x ≡ y)
 unfolding header_then
 header_cut h g x y ok fine e =
-    let a = options_cut h.options g.options _ _ ok.seed fine.seed ok.options fine.options (append_cancel_left (codes "bp-log 1" ++ 10 ∷ []) _ _ e) in
+    let a = options_cut h.options g.options _ _ ok.seed fine.seed ok.options fine.options (append_cancel_left (version_line First ++ 10 ∷ []) _ _ e) in
     let b = append_cancel_left (codes "program ") _ _ a.1 in
     let c = number_cut 10 (length h.program) (length g.program) _ _ (omega arith) (omega (arith, ok.program)) (omega (arith, fine.program)) b in
     let p = front_same (length g.program) h.program g.program (10 ∷ x) (10 ∷ y) c.0 refl c.1 in

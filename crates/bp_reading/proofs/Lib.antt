@@ -14,3 +14,5 @@ pub mod Held
 pub mod Ranges
 pub mod Fits
 pub mod Refusals
+pub mod OneWay
+pub mod Fronts

@@ -5,7 +5,10 @@ use Rattle.std.proofs.lemmas.Bool.{false≢true, eq-eqb}
 use Rattle.std.specs.Prelude.{◌==◌}
 use Rattle.std.proofs.lemmas.Option.{same_Some}
 use Rattle.bp_reading.specs.Words.{around}
-use Rattle.bp_reading.specs.Heads.{line_at, whole}
+use Rattle.bp_log.specs.declared.version.Version.{Version}
+use Rattle.bp_log.specs.declared.version.Version.TheVariants.{First}
+use Rattle.bp_reading.specs.declared.limits.TheConstants.{MOST_LINE_BYTES}
+use Rattle.bp_reading.specs.Heads.{line_at, line_room, whole}
 
 -- the byte isn't among them
 abbrev pub lacks : ℕ → List ℕ → Bool
@@ -53,3 +56,7 @@ line_is room (x ∷ a) rest h w =
     let p = lacks_parts 10 x a h in
     let some : (room == 0) ≡ false = elim (eqb_tells room 0) [ inl none ↦ absurd (omega (arith, none.1, w)) | inr other ↦ other.0 ] in
     rw (p.other, some, line_is (room - 1) a rest p.rest (omega (arith, w))) refl
+
+-- the lines of records of all versions have one limit
+pub room_is : (v : Version) → line_room v ≡ MOST_LINE_BYTES
+room_is First = refl

@@ -20,7 +20,7 @@ use Rattle.bp_log.specs.declared.verdict.Place.{Place}
 use Rattle.bp_log.specs.declared.verdict.Verdict.{Verdict}
 use Rattle.bp_log.specs.declared.verdict.Verdict.TheVariants as verdict
 use Rattle.bp_reading.specs.Words.{behind, around, number_at, number_behind, numbers_at, most_32, if_compact, compact_event_at, text_at, quoted_front}
-use Rattle.bp_reading.specs.Lines.{place_at, quiet_at, steps_at, if_same, limit_at, bad_end_at, limits_at, numbered_at, said_at, violated_at, fault_at, kind_at, blamed_at, faulty_at, spent_at, placed_at, verdict_at, handed_at, in_at, bad_at, eof_at, sel_at, end_at, record_at, top_at, thread_at}
+use Rattle.bp_reading.specs.Lines.{place_at, quiet_at, steps_at, if_same, limit_at, bad_end_at, limits_at, numbered_at, said_at, violated_at, fault_at, kind_at, blamed_at, faulty_at, spent_at, placed_at, verdict_at, handed_at, in_at, bad_at, eof_at, sel_at, end_at, record_at, top_at, name_at, thread_at}
 use Rattle.bp_reading.specs.Laws.{IsVerdict, IsRecord, IsPlace}
 use Rattle.bp_reading.proofs.Numbers.{number_text}
 use Rattle.bp_reading.proofs.Unquoted.{past_ascii, utf8_unquoted}
@@ -55,13 +55,18 @@ text_low bytes s h = elim (chosen (is_utf8 bytes) _ _ _ h) [
   | inr bad ↦ absurd (none-some _ bad.1)
 ]
 
+name_low : (bytes : List ℕ) (n : List ℕ × List ℕ) → name_at bytes ≡ Some n → is_utf8 n.0 ≡ true
+name_low bytes n h =
+    let a = chained _ (quoted_front bytes) n h in
+    let b = mapped _ (text_at a.0.0) n a.2 in
+    subst (λ (q : List ℕ × List ℕ). is_utf8 q.0 ≡ true) b.2 (text_low a.0.0 b.0 b.1)
+
 place_low : (bytes : List ℕ) (p : Place × List ℕ) → place_at bytes ≡ Some p → IsPlace p.0
 place_low bytes p h = elim (either (top_at bytes) (thread_at bytes) p h) [
   | inl top ↦ let a = mapped _ (behind (codes "top") bytes) p top in subst (λ (q : Place × List ℕ). IsPlace q.0) a.2 tt
   | inr thread ↦
-      let a = chained _ (quoted_front bytes) p thread in
-      let b = mapped _ (text_at a.0.0) p a.2 in
-      subst (λ (q : Place × List ℕ). IsPlace q.0) b.2 (text_low a.0.0 b.0 b.1)
+      let n = mapped _ (name_at bytes) p thread in
+      subst (λ (q : Place × List ℕ). IsPlace q.0) n.2 (name_low bytes n.0 n.1)
 ]
 
 -- what is read of an event, but that its texts are UTF-8

@@ -1,10 +1,13 @@
 -- The definitions compute: what is refused, and where.
 use Rattle.std.proofs.Common.{◌≡◌, ℕ, true, false, List, [], ◌∷◌, ◌++◌, Err, refl}
 use Rattle.std.specs.Prelude.{codes, map}
+use Rattle.std.proofs.Math.ListN.{replicate}
 use Rattle.js_data.specs.Event.{PlainEvent}
 use Rattle.js_data.proofs.Shared.{named}
+use Rattle.bp_log.specs.declared.version.Version.TheVariants.{First}
 use Rattle.bp_log.specs.declared.record.Record.TheVariants.{In, Bad, Eof, Sel, End}
 use Rattle.bp_log.specs.declared.verdict.Verdict.TheVariants as verdict
+use Rattle.bp_log.specs.Logs.{version_line}
 use Rattle.bp_reading.specs.Words.{most_64}
 use Rattle.bp_reading.specs.Lines.{record_at}
 use Rattle.bp_reading.specs.Heads.{version, header, record_line, cut, line_at, said, field, version_at, strategy_line_at, field_at, program_at, choice_at, limits_at, options_at, header_at}
@@ -12,7 +15,10 @@ use Rattle.bp_reading.specs.Reading.{Stage, first_stage, can_stand, after, found
 
 -- ---- the header
 
-pub no_first_line : header_at (codes "bp-log 1") ≡ Err cut
+abbrev first_line : List ℕ
+first_line = version_line First ++ codes "\n"
+
+pub no_first_line : header_at (version_line First) ≡ Err cut
 unfolding version_at choice_at options_at header_at
 no_first_line = refl
 
@@ -20,19 +26,24 @@ pub another_version : header_at (codes "bp-log 2\n") ≡ Err version
 unfolding version_at choice_at options_at header_at
 another_version = refl
 
-pub unknown_strategy : header_at (codes "bp-log 1\nstrategy fast\n") ≡ Err header
+-- as many bytes as a first line may not yet be refused for
+pub long_first_line : version_at (replicate 200 120) ≡ Err cut
+unfolding version_at
+long_first_line = refl
+
+pub unknown_strategy : header_at (first_line ++ codes "strategy fast\n") ≡ Err header
 unfolding version_at strategy_line_at choice_at options_at header_at
 unknown_strategy = refl
 
-pub no_strategy : header_at (codes "bp-log 1\nstrategy simple") ≡ Err cut
+pub no_strategy : header_at (first_line ++ codes "strategy simple") ≡ Err cut
 unfolding version_at strategy_line_at choice_at options_at header_at
 no_strategy = refl
 
-pub seed_of_65_bits : header_at (codes "bp-log 1\nstrategy simple\nseed 18446744073709551616\n") ≡ Err header
+pub seed_of_65_bits : header_at (first_line ++ codes "strategy simple\nseed 18446744073709551616\n") ≡ Err header
 unfolding version_at strategy_line_at field_at choice_at options_at header_at
 seed_of_65_bits = refl
 
-pub no_steps : header_at (codes "bp-log 1\nstrategy simple\nseed 0\nbudget 1\nsteps 0\n") ≡ Err header
+pub no_steps : header_at (first_line ++ codes "strategy simple\nseed 0\nbudget 1\nsteps 0\n") ≡ Err header
 unfolding version_at strategy_line_at field_at choice_at limits_at options_at header_at
 no_steps = refl
 
@@ -42,7 +53,7 @@ too_long_line = refl
 
 -- the lines before the program
 abbrev head : List ℕ
-head = codes "bp-log 1\nstrategy simple\nseed 0\nbudget 1\nsteps 1\ninjectors 0\n"
+head = first_line ++ codes "strategy simple\nseed 0\nbudget 1\nsteps 1\ninjectors 0\n"
 
 pub short_program : header_at (head ++ codes "program 3\nx=") ≡ Err cut
 unfolding version_at strategy_line_at field_at program_at choice_at limits_at options_at header_at
@@ -60,7 +71,7 @@ longer_program = refl
 
 -- behind two records, of two injectors the second of which has ended
 abbrev third : Stage
-third = record { injectors = 2; over = 1 ∷ []; lines = 2; ended = false }
+third = record { version = First; injectors = 2; over = 1 ∷ []; lines = 2; ended = false }
 
 pub record_on_the_third_line : next_at third (codes "eof 0\nend quiet 0\n") ≡ found (Eof 0) (codes "end quiet 0\n")
 unfolding record_at next_at
@@ -118,8 +129,8 @@ pub injectors_that_are_there : map (can_stand third) (End (verdict.Bad 0 7) ∷ 
 injectors_that_are_there = refl
 
 -- `bad` and `eof` end their injectors, each record is one line, and `end` is the last one
-pub what_is_known : after (after (after (after (first_stage 3) (In 0 e)) (Bad 1 7)) (Eof 2)) (Sel e) ≡ record { injectors = 3; over = 1 ∷ 2 ∷ []; lines = 4; ended = false }
+pub what_is_known : after (after (after (after (first_stage 3) (In 0 e)) (Bad 1 7)) (Eof 2)) (Sel e) ≡ record { version = First; injectors = 3; over = 1 ∷ 2 ∷ []; lines = 4; ended = false }
 what_is_known = refl
 
-pub what_is_known_at_the_end : after third (End (verdict.Quiet 0)) ≡ record { injectors = 2; over = 1 ∷ []; lines = 3; ended = true }
+pub what_is_known_at_the_end : after third (End (verdict.Quiet 0)) ≡ record { version = First; injectors = 2; over = 1 ∷ []; lines = 3; ended = true }
 what_is_known_at_the_end = refl

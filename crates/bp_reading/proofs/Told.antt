@@ -9,16 +9,18 @@ use Rattle.std.proofs.lemmas.Slice.Eq.{bytes_eq-Decides}
 use Rattle.js_data.proofs.Shared.{chained}
 use Rattle.bp_log.specs.Options.{PlainOptions}
 use Rattle.bp_log.specs.Header.{PlainHeader}
-use Rattle.bp_log.specs.Logs.{record_text, records_text, strategy_name, strategy_at}
+use Rattle.bp_log.specs.Logs.{record_text, records_text, strategy_name, strategy_at, version_line, version_of}
 use Rattle.bp_log.specs.declared.limits.TheConstants.{MOST_BYTES, MOST_BUDGET, MOST_STEPS, MOST_INJECTORS}
 use Rattle.bp_log.specs.declared.options.Strategy.{Strategy}
 use Rattle.bp_log.specs.Records.{is_complete}
+use Rattle.bp_log.specs.declared.version.Version.{Version}
+use Rattle.bp_log.specs.declared.version.Version.TheVariants.{First}
 use Rattle.bp_log.specs.declared.record.Record.{Record}
 use Rattle.bp_log.specs.declared.record.Record.TheVariants.{In, Bad, Eof, Sel, End}
 use Rattle.bp_reading.specs.declared.limits.TheConstants.{MOST_LINE_BYTES, MOST_RECORDS}
 use Rattle.bp_reading.specs.Words.{most_64, behind, number_behind}
 use Rattle.bp_reading.specs.Lines.{record_at}
-use Rattle.bp_reading.specs.Heads.{Front, nothing, partial, excess, whole, onto, line_at, Refusal, version, header, cut, ◌>>=◌, or_else, said, is_version, version_at, strategy_behind, strategy_line_at, from_least, field, field_at, program_at, choice_at, limits_at, options_at, header_at}
+use Rattle.bp_reading.specs.Heads.{Front, nothing, partial, excess, whole, onto, line_at, Refusal, version, header, cut, ◌>>=◌, or_else, said, line_room, version_at, strategy_behind, strategy_line_at, from_least, field, field_at, program_at, choice_at, limits_at, options_at, header_at}
 use Rattle.bp_reading.specs.Reading.{Stage, after, Says, if_stands, next_record, behind_end, too_many, front_at, Next, found, finished, refused, next_found, next_of, next_at}
 use Rattle.bp_reading.proofs.Spelled.{options_then}
 use Rattle.bp_reading.proofs.Law.{regrouped, header_then}
@@ -87,7 +89,7 @@ onto_parts b (whole l r) line rest h =
     let e = whole_is (b ∷ l) r line rest h in
     (l, sym e.0, ap (λ (t : List ℕ). whole l t) e.1)
 
-line_spelled : (bytes : List ℕ) (room : ℕ) (line rest : List ℕ) → line_at room bytes ≡ whole line rest → bytes ≡ line ++ (10 ∷ rest)
+pub line_spelled : (bytes : List ℕ) (room : ℕ) (line rest : List ℕ) → line_at room bytes ≡ whole line rest → bytes ≡ line ++ (10 ∷ rest)
 unfolding kind
 line_spelled [] room line rest h = absurd (apart partial (whole line rest) 1 3 refl refl (λ d. omega arith) h)
 line_spelled (b ∷ bytes) room line rest h = elim (eqb_tells b 10) [
@@ -99,6 +101,23 @@ line_spelled (b ∷ bytes) room line rest h = elim (eqb_tells b 10) [
     | inr some ↦
         let p = onto_parts b (line_at (room - 1) bytes) line rest some.1 in
         ap (λ (t : List ℕ). b ∷ t) (line_spelled bytes (room - 1) p.0 rest p.2) ∙ ap (λ (l : List ℕ). l ++ (10 ∷ rest)) (sym p.1)
+  ]
+]
+
+-- the same line stands there, whatever follows
+pub line_other : (bytes : List ℕ) (room : ℕ) (line rest other : List ℕ) → line_at room bytes ≡ whole line rest → line_at room (line ++ (10 ∷ other)) ≡ whole line other
+unfolding kind
+line_other [] room line rest other h = absurd (apart partial (whole line rest) 1 3 refl refl (λ d. omega arith) h)
+line_other (b ∷ bytes) room line rest other h = elim (eqb_tells b 10) [
+  | inl same ↦
+      let e = whole_is [] bytes line rest (rw same.0 at h) in
+      subst (λ (l : List ℕ). line_at room (l ++ (10 ∷ other)) ≡ whole l other) e.0 refl
+  | inr differs ↦ elim (chosen (room == 0) _ _ _ (rw differs.0 at h)) [
+    | inl none ↦ absurd (apart excess (whole line rest) 2 3 refl refl (λ d. omega arith) none.1)
+    | inr some ↦
+        let p = onto_parts b (line_at (room - 1) bytes) line rest some.1 in
+        subst (λ (l : List ℕ). line_at room (l ++ (10 ∷ other)) ≡ whole l other) (sym p.1)
+        (rw (differs.0, some.0) (ap (onto b) (line_other bytes (room - 1) p.0 rest other p.2)))
   ]
 ]
 
@@ -137,12 +156,12 @@ line_some (b ∷ bytes) room h = elim (chosen (b == 10) _ _ _ h) [
 
 -- ---- the header
 
-version_again : (bytes rest : List ℕ) (v : Unit {0}) → version_at bytes ≡ Ok (v, rest) → bytes ≡ codes "bp-log 1" ++ (10 ∷ rest)
+version_again : (bytes rest : List ℕ) (v : Version) → version_at bytes ≡ Ok (v, rest) → bytes ≡ version_line First ++ (10 ∷ rest)
 unfolding version_at
 version_again bytes rest v h =
-    let p = said_parts version is_version (line_at MOST_LINE_BYTES bytes) v rest h in
-    let q = cond_some (bytes_eq p.0 (codes "bp-log 1")) tt v p.2 in
-    line_spelled bytes MOST_LINE_BYTES p.0 rest p.1 ∙ ap (λ (l : List ℕ). l ++ (10 ∷ rest)) ((bytes_eq-Decides p.0 (codes "bp-log 1")).0 q.0)
+    let p = said_parts version version_of (line_at MOST_LINE_BYTES bytes) v rest h in
+    let q = cond_some (bytes_eq p.0 (version_line First)) First v p.2 in
+    line_spelled bytes MOST_LINE_BYTES p.0 rest p.1 ∙ ap (λ (l : List ℕ). l ++ (10 ∷ rest)) ((bytes_eq-Decides p.0 (version_line First)).0 q.0)
 
 strategy_again : (bytes rest : List ℕ) (s : Strategy) → strategy_line_at bytes ≡ Ok (s, rest) → bytes ≡ codes "strategy " ++ (strategy_name s ++ (10 ∷ rest))
 unfolding strategy_line_at
@@ -183,7 +202,7 @@ program_again (suc n) (b ∷ bytes) p rest h =
     )
 
 choice_again : (bytes rest : List ℕ) (c : Strategy × ℕ) → choice_at bytes ≡ Ok (c, rest)
-    → bytes ≡ codes "bp-log 1" ++ (10 ∷ (codes "strategy " ++ (strategy_name c.0 ++ (10 ∷ (codes "seed " ++ (decimal c.1 ++ (10 ∷ rest)))))))
+    → bytes ≡ version_line First ++ (10 ∷ (codes "strategy " ++ (strategy_name c.0 ++ (10 ∷ (codes "seed " ++ (decimal c.1 ++ (10 ∷ rest)))))))
 unfolding choice_at
 choice_again bytes rest c h =
     let v = bound (version_at bytes) _ (c, rest) h in
@@ -191,9 +210,9 @@ choice_again bytes rest c h =
     let n = bound (field_at (codes "seed ") 0 most_64 s.0.1) _ (c, rest) s.2 in
     let e = ok_is _ _ _ refl n.2 in
     version_again bytes v.0.1 v.0.0 v.1
-    ∙ ap (λ (t : List ℕ). codes "bp-log 1" ++ (10 ∷ t)) (strategy_again v.0.1 s.0.1 s.0.0 s.1
+    ∙ ap (λ (t : List ℕ). version_line First ++ (10 ∷ t)) (strategy_again v.0.1 s.0.1 s.0.0 s.1
     ∙ ap (λ (t : List ℕ). codes "strategy " ++ (strategy_name s.0.0 ++ (10 ∷ t))) (field_again (codes "seed ") s.0.1 n.0.1 0 most_64 n.0.0 (omega arith) n.1))
-    ∙ ap (λ (q : (Strategy × ℕ) × List ℕ). codes "bp-log 1" ++ (10 ∷ (codes "strategy " ++ (strategy_name q.0.0 ++ (10 ∷ (codes "seed " ++ (decimal q.0.1 ++ (10 ∷ q.1)))))))) e
+    ∙ ap (λ (q : (Strategy × ℕ) × List ℕ). version_line First ++ (10 ∷ (codes "strategy " ++ (strategy_name q.0.0 ++ (10 ∷ (codes "seed " ++ (decimal q.0.1 ++ (10 ∷ q.1)))))))) e
 
 limits_again : (bytes rest : List ℕ) (l : ℕ × ℕ) → limits_at bytes ≡ Ok (l, rest)
     → bytes ≡ codes "budget " ++ (decimal l.0 ++ (10 ∷ (codes "steps " ++ (decimal l.1 ++ (10 ∷ rest)))))
@@ -206,7 +225,7 @@ limits_again bytes rest l h =
     ∙ ap (λ (t : List ℕ). codes "budget " ++ (decimal b.0.0 ++ (10 ∷ t))) (field_again (codes "steps ") b.0.1 s.0.1 1 MOST_STEPS s.0.0 (omega arith) s.1)
     ∙ ap (λ (q : (ℕ × ℕ) × List ℕ). codes "budget " ++ (decimal q.0.0 ++ (10 ∷ (codes "steps " ++ (decimal q.0.1 ++ (10 ∷ q.1)))))) e
 
-options_again : (bytes rest : List ℕ) (o : PlainOptions) → options_at bytes ≡ Ok (o, rest) → bytes ≡ codes "bp-log 1" ++ (10 ∷ options_then o (10 ∷ rest))
+options_again : (bytes rest : List ℕ) (o : PlainOptions) → options_at bytes ≡ Ok (o, rest) → bytes ≡ version_line First ++ (10 ∷ options_then o (10 ∷ rest))
 unfolding options_at options_then
 options_again bytes rest o h =
     let c = bound (choice_at bytes) _ (o, rest) h in
@@ -216,8 +235,8 @@ options_again bytes rest o h =
     let last = field_again (codes "injectors ") l.0.1 i.0.1 0 MOST_INJECTORS i.0.0 (omega arith) i.1 in
     let limits = limits_again c.0.1 l.0.1 l.0.0 l.1 ∙ ap (λ (t : List ℕ). codes "budget " ++ (decimal l.0.0.0 ++ (10 ∷ (codes "steps " ++ (decimal l.0.0.1 ++ (10 ∷ t)))))) last in
     choice_again bytes c.0.1 c.0.0 c.1
-    ∙ ap (λ (t : List ℕ). codes "bp-log 1" ++ (10 ∷ (codes "strategy " ++ (strategy_name c.0.0.0 ++ (10 ∷ (codes "seed " ++ (decimal c.0.0.1 ++ (10 ∷ t)))))))) limits
-    ∙ ap (λ (q : PlainOptions × List ℕ). codes "bp-log 1" ++ (10 ∷ options_then q.0 (10 ∷ q.1))) e
+    ∙ ap (λ (t : List ℕ). version_line First ++ (10 ∷ (codes "strategy " ++ (strategy_name c.0.0.0 ++ (10 ∷ (codes "seed " ++ (decimal c.0.0.1 ++ (10 ∷ t)))))))) limits
+    ∙ ap (λ (q : PlainOptions × List ℕ). version_line First ++ (10 ∷ options_then q.0 (10 ∷ q.1))) e
 
 pub header_again : (bytes rest : List ℕ) (h : PlainHeader) → header_at bytes ≡ Ok (h, rest) → bytes ≡ header_then h rest
 unfolding header_at header_then
@@ -230,8 +249,8 @@ header_again bytes rest h k =
     let size = field_again (codes "program ") o.0.1 n.0.1 0 MOST_BYTES n.0.0 (omega arith) n.1 in
     let tail = size ∙ ap₂ (λ (m : ℕ) (t : List ℕ). codes "program " ++ (decimal m ++ (10 ∷ t))) (sym program.0) program.1 in
     options_again bytes o.0.1 o.0.0 o.1
-    ∙ ap (λ (t : List ℕ). codes "bp-log 1" ++ (10 ∷ options_then o.0.0 (10 ∷ t))) tail
-    ∙ ap (λ (q : PlainHeader × List ℕ). codes "bp-log 1" ++ (10 ∷ options_then q.0.options (10 ∷ (codes "program " ++ (decimal (length q.0.program) ++ (10 ∷ (q.0.program ++ (10 ∷ q.1)))))))) e
+    ∙ ap (λ (t : List ℕ). version_line First ++ (10 ∷ options_then o.0.0 (10 ∷ t))) tail
+    ∙ ap (λ (q : PlainHeader × List ℕ). version_line First ++ (10 ∷ options_then q.0.options (10 ∷ (codes "program " ++ (decimal (length q.0.program) ++ (10 ∷ (q.0.program ++ (10 ∷ q.1)))))))) e
 
 -- ---- the records
 
@@ -251,7 +270,7 @@ rest_found : Next → List ℕ
 rest_found (found s rest) = rest
 rest_found _ = []
 
-found_is : (r s : Record) (a b : List ℕ) → found r a ≡ found s b → (r ≡ s) × (a ≡ b)
+pub found_is : (r s : Record) (a b : List ℕ) → found r a ≡ found s b → (r ≡ s) × (a ≡ b)
 unfolding of_found rest_found
 found_is r s a b h = (ap (of_found r) h, ap rest_found h)
 
@@ -278,13 +297,13 @@ many_something [] h = apart partial nothing 1 0 refl refl (λ d. omega arith) h
 many_something (b ∷ bytes) h = apart excess nothing 2 0 refl refl (λ d. omega arith) h
 
 -- before the end the bytes don't end well
-pub goes_on : (s : Stage) (bytes : List ℕ) → (if nat_le MOST_RECORDS s.lines then too_many bytes else line_at MOST_LINE_BYTES bytes) ≡ nothing → ⊥
+pub goes_on : (s : Stage) (bytes : List ℕ) → (if nat_le MOST_RECORDS s.lines then too_many bytes else line_at (line_room s.version) bytes) ≡ nothing → ⊥
 goes_on s bytes h = elim (chosen (nat_le MOST_RECORDS s.lines) _ _ _ h) [
   | inl full ↦ many_something bytes full.1
-  | inr more ↦ line_some bytes MOST_LINE_BYTES more.1
+  | inr more ↦ line_some bytes (line_room s.version) more.1
 ]
 
-finished_again : (s : Stage) (bytes : List ℕ) → next_at s bytes ≡ finished → bytes ≡ []
+pub finished_again : (s : Stage) (bytes : List ℕ) → next_at s bytes ≡ finished → bytes ≡ []
 unfolding next_at
 finished_again s bytes h = elim (chosen s.ended _ _ _ (front_finished s (front_at s bytes) h)) [
   | inl over ↦ ends_nothing bytes over.1
@@ -322,11 +341,11 @@ front_line s bytes line rest h = elim (chosen s.ended _ _ _ h) [
   | inl over ↦ absurd (ends_no_line bytes line rest over.1)
   | inr going ↦ elim (chosen (nat_le MOST_RECORDS s.lines) _ _ _ going.1) [
     | inl full ↦ absurd (many_no_line bytes line rest full.1)
-    | inr more ↦ line_spelled bytes MOST_LINE_BYTES line rest more.1
+    | inr more ↦ line_spelled bytes (line_room s.version) line rest more.1
   ]
 ]
 
-found_again : (s : Stage) (bytes rest : List ℕ) (r : Record) → next_at s bytes ≡ found r rest → bytes ≡ record_text r ++ (10 ∷ rest)
+pub found_again : (s : Stage) (bytes rest : List ℕ) (r : Record) → next_at s bytes ≡ found r rest → bytes ≡ record_text r ++ (10 ∷ rest)
 unfolding next_at
 found_again s bytes rest r h =
     let p = front_found s (front_at s bytes) r rest h in

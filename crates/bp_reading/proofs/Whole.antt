@@ -6,27 +6,28 @@ use Rattle.std.proofs.lemmas.Bool.Decides.{eqb_tells}
 use Rattle.std.proofs.lemmas.Fmt.{length-decimal-le}
 use Rattle.bp_log.specs.Options.{PlainOptions, AreOptions}
 use Rattle.bp_log.specs.Header.{PlainHeader}
-use Rattle.bp_log.specs.Logs.{record_text, records_text, log_text, strategy_name}
+use Rattle.bp_log.specs.Logs.{record_text, records_text, log_text, strategy_name, version_line}
 use Rattle.bp_log.specs.declared.limits.TheConstants.{MOST_BYTES, MOST_BUDGET, MOST_STEPS, MOST_INJECTORS}
 use Rattle.bp_log.specs.declared.options.Strategy.{Strategy}
 use Rattle.bp_log.specs.declared.options.Strategy.TheVariants.{Simple, Ordered, Priority}
+use Rattle.bp_log.specs.declared.version.Version.TheVariants.{First}
 use Rattle.bp_log.specs.declared.record.Record.{Record}
 use Rattle.bp_reading.specs.declared.limits.TheConstants.{MOST_LINE_BYTES, MOST_RECORDS}
 use Rattle.bp_reading.specs.Words.{most_64, behind}
 use Rattle.bp_reading.specs.Heads.{◌>>=◌, version_at, strategy_line_at, field_at, program_at, choice_at, limits_at, options_at, header_at}
 use Rattle.bp_reading.specs.Reading.{Stage, first_stage, after, can_stand, Says, next_at, found, finished}
 use Rattle.bp_reading.specs.Laws.{IsHeader, IsRecord, AreRecords, Stands, LogsAreRead}
-use Rattle.bp_reading.proofs.Lines.{lacks, lacks-append, line_is}
+use Rattle.bp_reading.proofs.Lines.{lacks, lacks-append, line_is, room_is}
 use Rattle.bp_reading.proofs.Numbers.{number_back, lacks-decimal}
 use Rattle.bp_reading.proofs.Spelled.{options_then}
 use Rattle.bp_reading.proofs.Texts.{lacks-record}
 use Rattle.bp_reading.proofs.Law.{regrouped, header_then, header_regrouped}
 use Rattle.bp_reading.proofs.Back.{record_back}
 
-next_back : (s : Stage) (r : Record) (rest : List ℕ) → IsRecord r → s.ended ≡ false → s.lines < MOST_RECORDS → can_stand s r ≡ true → length (record_text r) ≤ MOST_LINE_BYTES → next_at s (record_text r ++ 10 ∷ rest) ≡ found r rest
+pub next_back : (s : Stage) (r : Record) (rest : List ℕ) → IsRecord r → s.ended ≡ false → s.lines < MOST_RECORDS → can_stand s r ≡ true → length (record_text r) ≤ MOST_LINE_BYTES → next_at s (record_text r ++ 10 ∷ rest) ≡ found r rest
 unfolding next_at
 next_back s r rest h going few can short =
-    rw (going, lt-leb MOST_RECORDS s.lines few, line_is MOST_LINE_BYTES (record_text r) rest (lacks-record r h) short, record_back r h, can) refl
+    rw (going, lt-leb MOST_RECORDS s.lines few, room_is s.version, line_is MOST_LINE_BYTES (record_text r) rest (lacks-record r h) short, record_back r h, can) refl
 
 end_back : (s : Stage) → s.ended ≡ true → next_at s [] ≡ finished
 unfolding next_at
@@ -42,7 +43,7 @@ behind_is : (w x : List ℕ) → behind w (w ++ x) ≡ Some x
 behind_is [] x = refl
 behind_is (c ∷ w) x = elim (eqb_tells c c) [ inl same ↦ rw same.0 (behind_is w x) | inr other ↦ absurd (other.1 refl) ]
 
-version_back : (rest : List ℕ) → version_at (codes "bp-log 1" ++ 10 ∷ rest) ≡ Ok (tt, rest)
+version_back : (rest : List ℕ) → version_at (version_line First ++ 10 ∷ rest) ≡ Ok (First, rest)
 unfolding version_at
 version_back rest = refl
 
@@ -58,12 +59,12 @@ field_back w least most n rest h short small low fits =
     let some : length (decimal n) ≤ 20 = length-decimal-le 20 n (omega arith) (omega (arith, small, fits)) (omega (arith, small, fits)) in
     rw (← append_assoc w (decimal n) (10 ∷ rest), line_is MOST_LINE_BYTES (w ++ decimal n) rest (lacks-append 10 w (decimal n) h (lacks-decimal 10 (omega arith) n (omega (arith, small, fits)))) (omega (arith, length-append w (decimal n), short, some)), behind_is w (decimal n), number_back most n small fits, le-leb least n low) refl
 
-program_back : (p rest : List ℕ) → program_at (length p) (p ++ 10 ∷ rest) ≡ Ok (p, rest)
+pub program_back : (p rest : List ℕ) → program_at (length p) (p ++ 10 ∷ rest) ≡ Ok (p, rest)
 unfolding program_at
 program_back [] rest = refl
 program_back (b ∷ p) rest = ap (λ r. r >>= λ q. Ok (b ∷ q.0, q.1)) (program_back p rest)
 
-options_back : (o : PlainOptions) (rest : List ℕ) → o.seed < 2 ^ 64 → AreOptions o → options_at (codes "bp-log 1" ++ 10 ∷ options_then o (10 ∷ rest)) ≡ Ok (o, rest)
+options_back : (o : PlainOptions) (rest : List ℕ) → o.seed < 2 ^ 64 → AreOptions o → options_at (version_line First ++ 10 ∷ options_then o (10 ∷ rest)) ≡ Ok (o, rest)
 unfolding options_at choice_at limits_at options_then
 options_back o rest small k =
     rw (
@@ -75,7 +76,7 @@ options_back o rest small k =
       field_back (codes "injectors ") 0 MOST_INJECTORS o.injectors _ refl (omega arith) (omega arith) (omega arith) k.injectors,
     ) refl
 
-header_back : (h : PlainHeader) (rest : List ℕ) → IsHeader h → header_at (header_then h rest) ≡ Ok (h, rest)
+pub header_back : (h : PlainHeader) (rest : List ℕ) → IsHeader h → header_at (header_then h rest) ≡ Ok (h, rest)
 unfolding header_at header_then
 header_back h rest k =
     rw (

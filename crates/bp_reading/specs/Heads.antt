@@ -1,11 +1,12 @@
 -- The lines of a log, and its header.
-use Rattle.std.specs.Prelude.{ℕ, zero, suc, ◌-◌, ◌==◌, nat_le, if◌then◌else◌, List, [], ◌∷◌, Option, Some, None, Result, Ok, Err, option_and_then, codes}
-use Rattle.std.specs.Str.{bytes_eq}
+use Rattle.std.specs.Prelude.{◌≡◌, ◌++◌, ℕ, zero, suc, ◌-◌, ◌==◌, nat_le, if◌then◌else◌, List, [], ◌∷◌, Option, Some, None, Result, Ok, Err, option_and_then, codes}
 use Rattle.bp_log.specs.Options.{PlainOptions}
 use Rattle.bp_log.specs.Header.{PlainHeader}
-use Rattle.bp_log.specs.Logs.{strategy_at}
+use Rattle.bp_log.specs.Logs.{strategy_at, version_of}
 use Rattle.bp_log.specs.declared.limits.TheConstants.{MOST_BYTES, MOST_BUDGET, MOST_STEPS, MOST_INJECTORS}
 use Rattle.bp_log.specs.declared.options.Strategy.{Strategy}
+use Rattle.bp_log.specs.declared.version.Version.{Version}
+use Rattle.bp_log.specs.declared.version.Version.TheVariants.{First}
 use Rattle.bp_reading.specs.declared.limits.TheConstants.{MOST_LINE_BYTES}
 use Rattle.bp_reading.specs.Words.{most_64, behind, number_behind}
 
@@ -33,6 +34,15 @@ line_at room (b ∷ bytes) =
     if b == 10 then whole [] bytes else
     (if room == 0 then excess else onto b (line_at (room - 1) bytes))
 
+-- what was taken of the bytes, before the rest, is a part of a line
+abbrev pub LineBreaksOff : ℕ → List ℕ → List ℕ → Type 0
+LineBreaksOff room bytes rest =
+    (taken : List ℕ) × (bytes ≡ taken ++ rest) × (line_at room taken ≡ partial)
+
+-- how many bytes the line of a record may have
+abbrev pub line_room : Version → ℕ
+line_room First = MOST_LINE_BYTES
+
 -- ---- what is refused
 
 pub data Refusal : Type 0 where
@@ -46,6 +56,12 @@ pub data Refusal : Type 0 where
   cut : Refusal
 
 -- ---- the header: what each part says, and the bytes behind it
+
+-- what was taken of the bytes, before the rest, ends too early
+abbrev pub CutsOff : {A : Type 0} →
+    (List ℕ → Result (A × List ℕ) Refusal) → List ℕ → List ℕ → Type 0
+CutsOff says bytes rest =
+    (taken : List ℕ) × (bytes ≡ taken ++ rest) × (says taken ≡ Err cut)
 
 infixl 10 ◌>>=◌
 abbrev pub ◌>>=◌ : {A B : Type 0} → Result A Refusal → (A → Result B Refusal) → Result B Refusal
@@ -63,11 +79,8 @@ said f says partial = Err cut
 said f says excess = Err f
 said f says (whole line rest) = or_else f rest (says line)
 
-abbrev pub is_version : List ℕ → Option (Unit {0})
-is_version line = if bytes_eq line (codes "bp-log 1") then Some tt else None
-
-unfoldable pub version_at : List ℕ → Result (Unit {0} × List ℕ) Refusal
-version_at bytes = said version is_version (line_at MOST_LINE_BYTES bytes)
+unfoldable pub version_at : List ℕ → Result (Version × List ℕ) Refusal
+version_at bytes = said version version_of (line_at MOST_LINE_BYTES bytes)
 
 abbrev pub strategy_behind : List ℕ → Option Strategy
 strategy_behind line = option_and_then strategy_at (behind (codes "strategy ") line)

@@ -14,7 +14,7 @@ use Rattle.bp_log.specs.declared.verdict.Place.TheVariants.{Top, Thread}
 use Rattle.bp_log.specs.declared.verdict.Verdict.{Verdict}
 use Rattle.bp_log.specs.declared.verdict.Verdict.TheVariants as verdict
 use Rattle.bp_reading.specs.declared.limits.TheConstants.{MOST_LINE_BYTES, MOST_RECORDS}
-use Rattle.bp_reading.specs.Heads.{header_at}
+use Rattle.bp_reading.specs.Heads.{Refusal, header_at}
 use Rattle.bp_reading.specs.Lines.{record_at}
 use Rattle.bp_reading.specs.Reading.{Stage, first_stage, after, can_stand, Says}
 
@@ -95,3 +95,10 @@ Spells line None = (r : Record) → IsRecord r → ¬ (line ≡ record_text r)
 -- a line says the record whose text it is, and is refused where it is the text of none
 abbrev pub LinesAreTexts : Type 0
 LinesAreTexts = (line : List ℕ) → Spells line (record_at line)
+
+-- from each stage on all bytes say one list of records and one end, and no other
+abbrev pub ReadOneWay : Type 0
+ReadOneWay =
+    (s : Stage) (bytes : List ℕ) →
+    (rs : List Record) × (f : Option Refusal) × Says s bytes rs f ×
+    ((ss : List Record) (g : Option Refusal) → Says s bytes ss g → (ss ≡ rs) × (g ≡ f))

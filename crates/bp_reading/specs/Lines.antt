@@ -18,9 +18,13 @@ use Rattle.bp_reading.specs.Words.{number_at, most_32, behind, around, number_be
 abbrev pub top_at : List ℕ → Option (Place × List ℕ)
 top_at bytes = option_map (λ rest. (Top, rest)) (behind (codes "top") bytes)
 
+-- the text at the front, in its quotation marks, and what stands behind it
+abbrev pub name_at : List ℕ → Option (List ℕ × List ℕ)
+name_at bytes =
+    option_and_then (λ p. option_map (λ name. (name, p.1)) (text_at p.0)) (quoted_front bytes)
+
 abbrev pub thread_at : List ℕ → Option (Place × List ℕ)
-thread_at bytes =
-    option_and_then (λ p. option_map (λ name. (Thread name, p.1)) (text_at p.0)) (quoted_front bytes)
+thread_at bytes = option_map (λ p. (Thread p.0, p.1)) (name_at bytes)
 
 -- the place at the front, and what stands behind it
 abbrev pub place_at : List ℕ → Option (Place × List ℕ)

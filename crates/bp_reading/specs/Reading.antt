@@ -1,24 +1,33 @@
 -- Reading the records of a log, one after another.
 use Rattle.std.specs.Prelude.{◌≡◌, ℕ, ◌+◌, ◌&&◌, ◌==◌, Bool, true, false, not, nat_lt, nat_le, if◌then◌else◌, List, [], ◌∷◌, ◌++◌, Option, Some, None, option_and_then}
 use Rattle.std.specs.List.{list_any}
+use Rattle.bp_log.specs.declared.version.Version.{Version}
+use Rattle.bp_log.specs.declared.version.Version.TheVariants.{First}
 use Rattle.bp_log.specs.declared.record.Record.{Record}
 use Rattle.bp_log.specs.declared.record.Record.TheVariants.{In, Bad, Eof, Sel, End}
 use Rattle.bp_log.specs.declared.verdict.Verdict.{Verdict}
 use Rattle.bp_log.specs.declared.verdict.Verdict.TheVariants as verdict
-use Rattle.bp_reading.specs.declared.limits.TheConstants.{MOST_LINE_BYTES, MOST_RECORDS}
+use Rattle.bp_reading.specs.declared.limits.TheConstants.{MOST_RECORDS}
 use Rattle.bp_reading.specs.Lines.{record_at}
-use Rattle.bp_reading.specs.Heads.{Front, nothing, partial, excess, whole, line_at, Refusal, record_line, cut}
+use Rattle.bp_reading.specs.Heads.{Front, nothing, partial, excess, whole, line_at, line_room, Refusal, record_line, cut}
 
--- what is known of the records before: how many injectors there are, which of them have ended, how many
--- lines there were, and whether the last was `end`
+-- what is known of the log and of the records before: its version, how many injectors there are, which
+-- of them have ended, how many lines there were, and whether the last was `end`
 pub record Stage : Type 0 where
+  pub version : Version
   pub injectors : ℕ
   pub over : List ℕ
   pub lines : ℕ
   pub ended : Bool
 
 abbrev pub first_stage : ℕ → Stage
-first_stage injectors = record { injectors = injectors; over = []; lines = 0; ended = false }
+first_stage injectors = record {
+  version = First;
+  injectors = injectors;
+  over = [];
+  lines = 0;
+  ended = false;
+}
 
 abbrev pub is_live : Stage → ℕ → Bool
 is_live s j = nat_lt j s.injectors && not (list_any (λ i. i == j) s.over)
@@ -64,7 +73,7 @@ too_many (b ∷ bytes) = excess
 abbrev pub front_at : Stage → List ℕ → Front
 front_at s bytes =
     if s.ended then behind_end bytes else
-    (if nat_le MOST_RECORDS s.lines then too_many bytes else line_at MOST_LINE_BYTES bytes)
+    (if nat_le MOST_RECORDS s.lines then too_many bytes else line_at (line_room s.version) bytes)
 
 -- a record and the bytes behind its line, the good end, or a refusal
 pub data Next : Type 0 where
@@ -92,3 +101,14 @@ Says s bytes [] None = next_at s bytes ≡ finished
 Says s bytes [] (Some f) = next_at s bytes ≡ refused f
 Says s bytes (r ∷ rs) f =
     (rest : List ℕ) × (next_at s bytes ≡ found r rest) × Says (after s r) rest rs f
+
+-- at this stage the bytes begin with these records; behind them that stage and those bytes are left
+abbrev pub BeginsWith : Stage → List ℕ → List Record → Stage → List ℕ → Type 0
+BeginsWith s bytes [] t left = (t ≡ s) × (left ≡ bytes)
+BeginsWith s bytes (r ∷ rs) t left =
+    (rest : List ℕ) × (next_at s bytes ≡ found r rest) × BeginsWith (after s r) rest rs t left
+
+-- what was taken of the bytes, before the rest, says no more at this stage than no bytes do
+abbrev pub BreaksOff : Stage → List ℕ → List ℕ → Type 0
+BreaksOff s bytes rest =
+    (taken : List ℕ) × (bytes ≡ taken ++ rest) × (next_at s taken ≡ next_at s [])

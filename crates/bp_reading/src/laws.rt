@@ -1,5 +1,5 @@
 //! The laws of logs, each as the contract of a function that does nothing.
-ghost use Rattle.bp_reading.specs.Laws.{OneReading, LogsAreRead, ReadLogsAreTexts, LinesAreTexts};
+ghost use Rattle.bp_reading.specs.Laws.{OneReading, LogsAreRead, ReadLogsAreTexts, LinesAreTexts, ReadOneWay};
 
 /// No two pairs of a header and a list of records have one text.
 pub fn one_reading()
@@ -23,4 +23,10 @@ pub fn read_logs_are_texts()
 /// refused where it is the text of none.
 pub fn lines_are_texts()
     ensures { LinesAreTexts }
+{}
+
+/// Whatever the bytes behind a header, they say one list of records and how these end, and no other:
+/// well, or in the first refusal.
+pub fn read_one_way()
+    ensures { ReadOneWay }
 {}

@@ -4,4 +4,4 @@
 mod laws;
 pub mod limits;
 
-pub use laws::{lines_are_texts, logs_are_read, one_reading, read_logs_are_texts};
+pub use laws::{lines_are_texts, logs_are_read, one_reading, read_logs_are_texts, read_one_way};

@@ -15,9 +15,14 @@ pub enum Lines {
     Replayed,
 }
 
-/// The front and the bytes of a cell, in which `;` stands for a line end and `%` with two digits for a byte.
-fn log_of(alloc: Global, front: &[u8], cell: &str) -> Result<Vec<u8>, Fail> {
-    let text = cell.replace(alloc, ";", "\n")?;
+/// The first line of a log.
+pub const FIRST_LINE: &str = "bp-log 1";
+
+/// The front and the bytes of a cell, in which `@` stands for the first line of a log, `;` for a line end and `%` with two digits
+/// for a byte.
+pub fn log_of(alloc: Global, front: &[u8], cell: &str) -> Result<Vec<u8>, Fail> {
+    let headed = cell.replace(alloc, "@", FIRST_LINE)?;
+    let text = headed.as_str().replace(alloc, ";", "\n")?;
     let mut log = front.to_vec(alloc)?;
     percent_decode(text.as_bytes()).append_to(&mut log)?;
     Ok(log)

@@ -23,8 +23,8 @@ fn two(alloc: Global) -> Result<Vec<u8>, Fail> {
 const REFUSED: &str = "
  --> -->cut
 bp-log 2; --> -->version
-bp-log 1;seed 0; --> -->header
-bp-log 1;strategy simple;seed 0 --> -->cut
+@;seed 0; --> -->header
+@;strategy simple;seed 0 --> -->cut
 ";
 
 #[test]
@@ -69,5 +69,30 @@ fn the_verdict_is_answered(rt: HostRuntime) -> Result<(), Fail> {
     assert!(rt; matches!(&replayed.ended, Ok(Verdict::Quiet(0))));
     assert!(rt; replayed.log.faults() == 0);
     assert!(rt; sink.written() == PRINTED);
+    Ok(())
+}
+
+/// It asks for one event for ever.
+const FOR_EVER: &str =
+    r#"bp.registerBThread("A", () => { while (true) bp.sync({request: bp.Event("t")}) })"#;
+
+/// The first read gives 4,096 bytes, and the second fails: what the whole lines before say is printed.
+#[test]
+fn a_failed_read_comes_after_what_was_read(rt: HostRuntime) -> Result<(), Fail> {
+    let alloc = rt.alloc();
+    let options = Options::new(Strategy::Simple, 7, 1_000, 1_000, 0).ok_or("no options")?;
+    let mut log = front(alloc, FOR_EVER, options)?;
+    // A line of a record has ten bytes.
+    let lines = 4_096usize.saturating_sub(log.len()) / 10;
+    let records = "sel [\"t\"]\n".repeat(alloc, 1_000)?;
+    log.extend_from_slice(records.as_str().as_bytes())?;
+    let source = MemorySource::new(log, [2].to_vec(alloc)?);
+    let mut sink = MemorySink::new(alloc, 100_000, Vec::new(alloc))?;
+    let replayed = replay(alloc, source, &mut sink);
+    assert!(rt; matches!(&replayed.ended, Err(ReplayFault::Log(LogFault::Read))));
+    assert!(rt; replayed.log.faults() == 1);
+    let printed = "event [\"t\"]\n".repeat(alloc, lines)?;
+    assert!(rt; lines > 300);
+    assert!(rt; sink.written() == printed.as_str().as_bytes());
     Ok(())
 }

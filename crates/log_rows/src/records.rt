@@ -1,14 +1,14 @@
 //! Lines of records behind a good header.
 use crate::answers::{answer, answer_of_long};
-use crate::lines::{Lines, agree};
+use crate::lines::{Lines, agree, log_of};
 use bp_base::MemorySource;
 use bp_reader::Reader;
 use bp_reading::limits::{MOST_LINE_BYTES, MOST_RECORDS};
 use std::alloc::Global;
 use std::test::Fail;
 
-const FRONT: &[u8] =
-    b"bp-log 1\nstrategy simple\nseed 0\nbudget 1000000\nsteps 100000\ninjectors 2\nprogram 3\nx=1\n";
+const FRONT: &str =
+    "@;strategy simple;seed 0;budget 1000000;steps 100000;injectors 2;program 3;x=1;";
 
 /// Each form, each as it is written.
 const FORMS: &str = r#"
@@ -120,34 +120,41 @@ end fault "A 1 type; --> line 1
 
 #[test]
 fn records_are_read_exactly(rt: HostRuntime) -> Result<(), Fail> {
+    let front = log_of(rt.alloc(), b"", FRONT)?;
     for table in [FORMS, ENDS, INJECTORS, NUMBERS, SPELLINGS] {
-        agree(&rt, rt.alloc(), Lines::Read, FRONT, table)?;
+        agree(&rt, rt.alloc(), Lines::Read, front.as_slice(), table)?;
     }
     Ok(())
 }
 
 /// The log of a whole run.
-const WHOLE: &[u8] =
-    b"bp-log 1\nstrategy simple\nseed 0\nbudget 1000000\nsteps 100000\ninjectors 1\nprogram 4\nx=1\n\nin 0 [\"x\"]\neof 0\nsel [\"x\"]\nend quiet 1\n";
+const WHOLE: &str =
+    r#"@;strategy simple;seed 0;budget 1000000;steps 100000;injectors 1;program 4;x=1;;in 0 ["x"];eof 0;sel ["x"];end quiet 1;"#;
 
 /// Cut anywhere, a log is cut.
 #[test]
 fn a_front_of_a_log_is_cut(rt: HostRuntime) -> Result<(), Fail> {
     let alloc = rt.alloc();
-    for size in 0..WHOLE.len() {
-        assert!(rt; answer(alloc, &WHOLE[..size])?.as_str() == "cut", "{size}");
+    let whole = log_of(alloc, b"", WHOLE)?;
+    let whole = whole.as_slice();
+    for size in 0..whole.len() {
+        assert!(rt; answer(alloc, &whole[..size])?.as_str() == "cut", "{size}");
     }
-    assert!(rt; answer(alloc, WHOLE)?.as_str() == "read");
+    assert!(rt; answer(alloc, whole)?.as_str() == "read");
     Ok(())
 }
 
-const HEAD: &str =
-    "bp-log 1\nstrategy simple\nseed 0\nbudget 1\nsteps 1\ninjectors 0\nprogram 0\n\n";
+/// A header without a program.
+fn head(alloc: Global) -> Result<String, Fail> {
+    let cell = "@;strategy simple;seed 0;budget 1;steps 1;injectors 0;program 0;;";
+    Ok(String::from_utf8(log_of(alloc, b"", cell)?)?)
+}
 
 /// Whether this is answered where so many letters stand between these two on the first line of a record.
 fn answers(alloc: Global, line: (&str, u32, &str), want: &str) -> Result<bool, Fail> {
     let (start, count, end) = line;
-    let before = format!(in alloc; "{HEAD}{start}")?;
+    let head = head(alloc)?;
+    let before = format!(in alloc; "{}{start}", head.as_str())?;
     Ok(answer_of_long(alloc, before.as_str(), count, end)?.as_str() == want)
 }
 
@@ -168,7 +175,8 @@ fn lines_and_events_have_limits(rt: HostRuntime) -> Result<(), Fail> {
 /// How the reading of a log ends that has so many equal lines and then this, behind the number of its records.
 fn counted(alloc: Global, count: u32, end: &str) -> Result<String, Fail> {
     let lines = "sel [\"x\"]\n".repeat(alloc, count as usize)?;
-    let log = format!(in alloc; "{HEAD}{}{end}", lines.as_str())?;
+    let head = head(alloc)?;
+    let log = format!(in alloc; "{}{}{end}", head.as_str(), lines.as_str())?;
     let source = MemorySource::new(log.into_bytes(), Vec::new(alloc));
     let Ok((mut reader, _header)) = Reader::open(alloc, source) else {
         return Err(Fail::from("refused"));

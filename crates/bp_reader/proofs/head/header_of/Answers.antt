@@ -1,4 +1,5 @@
 use Rattle.std.proofs.Common.{rules, Ok}
+use Rattle.bp_reader.proofs.Cuts.{in_size, in_program}
 use Rattle.bp_reader.proofs.Headed.{program_refused, program_found}
 use Rattle.bp_reader.proofs.head.header_of.Goals as goal
 
@@ -13,3 +14,12 @@ returns-in-Some-clause-gets g c =
     program_found c.args.input.now.left c.options_of.new.input.left c.field_of.new.input.left c.program_of.new.input.left
     c.in_ok-options.options c.in_ok-size.size c.in_ok-program.program.items (Ok c.in-Some.header)
     (c.in_ok-options.ensures.gets, rw c.from.ensures at c.in_ok-size.ensures.gets) c.in_ok-program.ensures.gets (search rules)
+
+pub returns-in_err-size-clause-failed : goal.returns-in_err-size-clause-failed
+returns-in_err-size-clause-failed g c =
+    λ e. in_size c.args.input.now.left c.options_of.new.input.left c.field_of.new.input.left c.in_ok-options.options c.in_ok-options.ensures.gets (rw c.from.ensures at (c.in_err-size.ensures.failed (search rules)))
+
+pub returns-in_err-program-clause-failed : goal.returns-in_err-program-clause-failed
+returns-in_err-program-clause-failed g c =
+    λ e. in_program c.args.input.now.left c.options_of.new.input.left c.field_of.new.input.left c.program_of.new.input.left c.in_ok-options.options c.in_ok-size.size c.in_ok-options.ensures.gets (rw c.from.ensures at c.in_ok-size.ensures.gets)
+    (c.in_err-program.ensures.failed (search rules))

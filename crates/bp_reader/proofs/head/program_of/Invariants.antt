@@ -4,7 +4,7 @@ use Rattle.bp_reader.proofs.head.program_of.Given as goal
 
 abbrev pub invariant-loop : goal.invariant-loop
 invariant-loop g l = record {
-  so_far : Along l.fn.input.left l.input.left l.size l.program.items (l.size - l.counter);
+  so_far : Along l.size l.fn.input.left l.input.left l.program.items (l.size - l.counter);
   taken : length l.program.items ≡ l.counter;
   counts : l.fn.input.faults ≤ l.input.faults;
 }
