@@ -12,7 +12,7 @@ use Rattle.js_data.specs.declared.fault.Fault.{Fault}
 use Rattle.js_data.specs.declared.fault.Fault.TheVariants as fault
 use Rattle.bp_log.specs.Texts.{place_text}
 use Rattle.bp_log.specs.Logs.{record_text}
-use Rattle.bp_log.specs.declared.record.Record.TheVariants.{Sel, End}
+use Rattle.bp_log.specs.declared.record.Record.TheVariants.{In, Bad, Eof, Sel, End}
 use Rattle.bp_log.specs.declared.verdict.Place.{Place}
 use Rattle.bp_log.specs.declared.verdict.Place.TheVariants.{Top, Thread}
 use Rattle.bp_log.specs.declared.verdict.Verdict.{Verdict}
@@ -115,20 +115,29 @@ fault_most fault.Truth = omega arith
 number_most : (n : ℕ) → n < 2 ^ 32 → length (decimal n) ≤ 10
 number_most n h = length-decimal-le 10 n (omega arith) (omega (arith, h)) (omega (arith, h))
 
-verdict_most : (v : Verdict) → IsVerdict v → IsShortVerdict v → length (spelled_verdict v) ≤ 786_500
-verdict_most (verdict.Quiet n) h k = omega (arith, number_most n h)
-verdict_most (verdict.Violated place t) h k = omega (arith, length-append (place_text place) (32 ∷ quoted_text t), place_most place k.0, quoted_most t, k.1)
-verdict_most (verdict.Fault place line f) h k =
+verdict_most : (most : ℕ) (v : Verdict) → IsVerdict v → IsShortVerdict most v → length (spelled_verdict v) ≤ 786_500
+verdict_most most (verdict.Quiet n) h k = omega (arith, number_most n h)
+verdict_most most (verdict.Violated place t) h k = omega (arith, length-append (place_text place) (32 ∷ quoted_text t), place_most place k.0, quoted_most t, k.1)
+verdict_most most (verdict.Fault place line f) h k =
     omega (arith, length-append (place_text place) (32 ∷ (decimal line ++ (32 ∷ fault_name f))), length-append (decimal line) (32 ∷ fault_name f), place_most place k, number_most line h.1, fault_most f)
-verdict_most (verdict.Spent place) h k = omega (arith, place_most place k)
-verdict_most (verdict.Steps n) h k = omega (arith, number_most n h)
-verdict_most verdict.Queue h k = omega (arith, number_most 16384 (omega arith))
-verdict_most verdict.Threads h k = omega (arith, number_most 4096 (omega arith))
-verdict_most verdict.Weight h k = omega (arith, number_most 16777216 (omega arith))
-verdict_most (verdict.Bad j line) h k = absurd k
+verdict_most most (verdict.Spent place) h k = omega (arith, place_most place k)
+verdict_most most (verdict.Steps n) h k = omega (arith, number_most n h)
+verdict_most most verdict.Queue h k = omega (arith, number_most 16384 (omega arith))
+verdict_most most verdict.Threads h k = omega (arith, number_most 4096 (omega arith))
+verdict_most most verdict.Weight h k = omega (arith, number_most 16777216 (omega arith))
+verdict_most most (verdict.Bad j line) h k = omega (arith, length-append (decimal j) (32 ∷ decimal line), number_most j h.0, number_most line h.1)
 
 pub selected_fits : (e : PlainEvent) → IsEvent e → length (record_text (Sel e)) ≤ MOST_LINE_BYTES
 selected_fits e h = rw (record_is (Sel e)) (omega (arith, event_most e h))
 
-pub end_fits : (v : Verdict) → IsVerdict v → IsShortVerdict v → length (record_text (End v)) ≤ MOST_LINE_BYTES
-end_fits v h k = rw (record_is (End v)) (omega (arith, verdict_most v h k))
+pub end_fits : (most : ℕ) (v : Verdict) → IsVerdict v → IsShortVerdict most v → length (record_text (End v)) ≤ MOST_LINE_BYTES
+end_fits most v h k = rw (record_is (End v)) (omega (arith, verdict_most most v h k))
+
+pub handed_fits : (j : ℕ) (e : PlainEvent) → j < 2 ^ 32 → IsEvent e → length (record_text (In j e)) ≤ MOST_LINE_BYTES
+handed_fits j e k h = rw (record_is (In j e)) (omega (arith, length-append (decimal j) (32 ∷ event_text e), number_most j k, event_most e h))
+
+pub bad_fits : (j line : ℕ) → j < 2 ^ 32 → line < 2 ^ 32 → length (record_text (Bad j line)) ≤ MOST_LINE_BYTES
+bad_fits j line h k = rw (record_is (Bad j line)) (omega (arith, length-append (decimal j) (32 ∷ decimal line), number_most j h, number_most line k))
+
+pub over_fits : (j : ℕ) → j < 2 ^ 32 → length (record_text (Eof j)) ≤ MOST_LINE_BYTES
+over_fits j h = rw (record_is (Eof j)) (omega (arith, number_most j h))

@@ -6,5 +6,5 @@ pub mod Evaluation
 pub mod Verdicts
 pub mod Bounds
 pub mod Runs
-pub mod Standing
+pub mod Stories
 pub mod Programs

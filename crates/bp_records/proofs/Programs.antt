@@ -1,6 +1,7 @@
 -- The code of every program gives short texts alone.
-use Rattle.std.proofs.Common.{ℕ, zero, suc, ◌+◌, List, [], ◌∷◌, Option, Some, None, map, refl, arith}
-use Rattle.std.specs.Prelude.{slice_get, fold, drop, option_map}
+use Rattle.std.proofs.Common.{◌≡◌, ℕ, zero, suc, true, List, [], ◌∷◌, Option, Some, None, map, refl, sym}
+use Rattle.std.specs.Prelude.{IsSome, slice_get, fold, drop, option_map}
+use Rattle.std.proofs.lemmas.Bool.{false≢true}
 use Rattle.js_data.specs.Event.{PlainEvent}
 use Rattle.js_data.proofs.Shared.{OfSome}
 use Rattle.js_value.specs.Value as v
@@ -13,21 +14,24 @@ use Rattle.js_meaning.specs.Variables.{constant_start}
 use Rattle.js_meaning.specs.Meaning.{does_node, begins_with, within, allowed, eval}
 use Rattle.js_meaning.specs.Statements.{turns}
 use Rattle.js_meaning.specs.Bodies.{Origin, the_top, function, bare, setting_of, own_constants, start_of, evaluation, constants_left, ground_of}
-use Rattle.bp_log.specs.Options.{PlainOptions}
+use Rattle.bp_log.specs.Options.{PlainOptions, AreOptions}
+use Rattle.bp_log.specs.Records.{is_complete, Complete}
+use Rattle.bp_log.specs.declared.record.Record.{Record}
 use Rattle.bp_reading.specs.Reading.{first_stage}
+use Rattle.bp_reading.specs.Laws.{AreRecords, Stands}
 use Rattle.bp_run.specs.Bodies.{Statement}
+use Rattle.bp_run.specs.Configuration.{Configuration}
 use Rattle.bp_run.specs.Settling.{initial}
-use Rattle.bp_run.specs.Story.{alone}
-use Rattle.bp_run.proofs.Stories.{alone_is}
+use Rattle.bp_run.specs.Story.{story}
 use Rattle.bp_meaning.specs.After.{effect_of, stopped_with, outcome_of, part_of, handler_after}
 use Rattle.bp_code.specs.Code.{ground_for, code_of}
-use Rattle.bp_records.specs.Laws.{RecordsStand}
+use Rattle.bp_records.specs.Laws.{StoriesStand}
 use Rattle.bp_records.proofs.Lists.{Each, each_drop, or_default}
 use Rattle.bp_records.proofs.Short.{IsLight, IsShort}
 use Rattle.bp_records.proofs.Outcomes.{AreShortSlots, IsShortEffect, AreShortEffects, IsShortState, IsShortOutcome, IsShortOrigin}
 use Rattle.bp_records.proofs.Evaluation.{Keeps, spends_keeps, turns_keeps, node_keeps, body_keeps}
-use Rattle.bp_records.proofs.Runs.{ShortEffect, ShortOutcome, ShortPart, ShortCode, initial_short}
-use Rattle.bp_records.proofs.Standing.{alone_stands}
+use Rattle.bp_records.proofs.Runs.{ShortEffect, ShortOutcome, ShortPart, ShortCode}
+use Rattle.bp_records.proofs.Stories.{story_stands, begins}
 
 -- ---- evaluation
 
@@ -133,9 +137,16 @@ module _ (program : PlainProgram) (options : PlainOptions) where
         handled_seen e (fold handler_after None (effects_of outcome)) light (handler_seen None (effects_of outcome) tt (all_effects_short outcome (code_outcome o replies h k)));
   }
 
-pub records_stand : RecordsStand
-unfolding alone
-records_stand program options fine none are =
-    alone_stands IsShortOrigin (code_of program options) (code_short program options) options (options.steps + 1) (initial (code_of program options) options.injectors) (first_stage 0)
-    (initial_short IsShortOrigin (code_of program options) (code_short program options) options.injectors) refl (omega (arith, fine.steps)) are
-    (alone_is (code_of program options) options none).2
+told_stands : (program : PlainProgram) (options : PlainOptions) (records : List Record) (o : Option (Configuration Origin)) → AreOptions options → AreRecords records → is_complete records ≡ true →
+    o ≡ story (code_of program options) options records → IsSome o → Stands (first_stage options.injectors) records
+unfolding story
+told_stands program options records None fine are whole e h = absurd (false≢true h)
+told_stands program options records (Some d) fine are whole e h =
+    story_stands IsShortOrigin (code_of program options) (code_short program options) options fine records (initial (code_of program options) options.injectors) d (first_stage options.injectors)
+    (begins IsShortOrigin (code_of program options) (code_short program options) options fine) are whole (sym e)
+
+complete_is : (records : List Record) → Complete records → is_complete records ≡ true
+complete_is records h = h
+
+pub stories_stand : StoriesStand
+stories_stand program options records fine are whole h = told_stands program options records (story (code_of program options) options records) fine are whole refl h

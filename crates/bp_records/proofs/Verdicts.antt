@@ -1,5 +1,6 @@
--- Verdicts in which no text is longer than a value may be, and that come of no injector.
-use Rattle.std.proofs.Common.{◌≡◌, true, refl}
+-- Verdicts in which no text is longer than a value may be.
+use Rattle.std.proofs.Common.{◌≡◌, ℕ, ◌<◌, true, refl}
+use Rattle.std.proofs.lemmas.Bool.{lt-ltb}
 use Rattle.bp_log.specs.declared.verdict.Place.{Place}
 use Rattle.bp_log.specs.declared.verdict.Place.TheVariants.{Top, Thread}
 use Rattle.bp_log.specs.declared.verdict.Verdict.{Verdict}
@@ -11,13 +12,14 @@ abbrev pub IsShortPlace : Place → Type 0
 IsShortPlace Top = Unit {0}
 IsShortPlace (Thread name) = IsShortText name
 
-abbrev pub IsShortVerdict : Verdict → Type 0
-IsShortVerdict (verdict.Violated place t) = IsShortPlace place × IsShortText t
-IsShortVerdict (verdict.Fault place line f) = IsShortPlace place
-IsShortVerdict (verdict.Spent place) = IsShortPlace place
-IsShortVerdict (verdict.Bad j line) = ⊥
-IsShortVerdict _ = Unit {0}
+-- of a run with so many injectors
+abbrev pub IsShortVerdict : ℕ → Verdict → Type 0
+IsShortVerdict most (verdict.Violated place t) = IsShortPlace place × IsShortText t
+IsShortVerdict most (verdict.Fault place line f) = IsShortPlace place
+IsShortVerdict most (verdict.Spent place) = IsShortPlace place
+IsShortVerdict most (verdict.Bad j line) = j < most
+IsShortVerdict most _ = Unit {0}
 
-pub short_known : (s : Stage) (v : Verdict) → IsShortVerdict v → is_known s v ≡ true
-short_known s (verdict.Bad j line) h = absurd h
+pub short_known : (s : Stage) (v : Verdict) → IsShortVerdict s.injectors v → is_known s v ≡ true
+short_known s (verdict.Bad j line) h = lt-ltb j s.injectors h
 short_known s _ h = refl

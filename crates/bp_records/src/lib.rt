@@ -5,4 +5,4 @@ mod keeping;
 mod laws;
 
 pub use keeping::{header_keeps, records_keep};
-pub use laws::records_stand;
+pub use laws::stories_stand;

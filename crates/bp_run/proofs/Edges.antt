@@ -1,5 +1,5 @@
 -- The definitions computed at single places, where a wrong line would show.
-use Rattle.std.proofs.Common.{◌≡◌, ℕ, ◌+◌, Bool, true, false, List, [], ◌∷◌, length, refl, nat_eq}
+use Rattle.std.proofs.Common.{◌≡◌, ℕ, ◌+◌, Bool, true, false, List, [], ◌∷◌, length, map, refl, nat_eq}
 use Rattle.std.proofs.lemmas.Bool.{eq-eqb}
 use Rattle.std.specs.Prelude.{ℤ, pos, negsuc, Some, None, Ok, Err, codes, option_map, slice_get}
 use Rattle.js_data.specs.Event.{PlainEvent}
@@ -7,7 +7,8 @@ use Rattle.js_data.specs.declared.fault.Fault.TheVariants.{Zero, Truth}
 use Rattle.bp_log.specs.Options.{PlainOptions, default_options}
 use Rattle.bp_log.specs.declared.limits.TheConstants.{MOST_WAITING, MOST_THREADS}
 use Rattle.bp_log.specs.declared.options.Strategy.TheVariants.{Ordered, Priority}
-use Rattle.bp_log.specs.declared.record.Record.TheVariants.{In, Bad, Eof}
+use Rattle.bp_log.specs.declared.record.Record.{Record}
+use Rattle.bp_log.specs.declared.record.Record.TheVariants.{In, Bad, Eof, Sel, End}
 use Rattle.bp_log.specs.declared.trace.Line.TheVariants.{Log}
 use Rattle.bp_log.specs.declared.verdict.Place.{Place}
 use Rattle.bp_log.specs.declared.verdict.Place.TheVariants.{Thread as Named}
@@ -22,7 +23,8 @@ use Rattle.bp_run.specs.Selecting.{Live, Enabled, selectable, blocker, requested
 use Rattle.bp_run.specs.Choosing.{choice, remaining, reach}
 use Rattle.bp_run.specs.Choosing.Touched.{Moves, Interrupts}
 use Rattle.bp_run.specs.Story.{next, next_idle, fault_verdict, weight_after, after_record, story_from, story}
-use Rattle.bp_run.specs.Story.Next.{Ends, Selects}
+use Rattle.bp_run.specs.Story.Next.{Ends, Selects, Waits}
+use Rattle.bp_run.specs.Injectors.{has_last_of, has_bad}
 use Rattle.bp_run.proofs.Rows.{Small, All, Nothing, Only, Untrue, Fails, has, Body, A, B, x, y, go, at_point, doing, code, violations, with_injectors}
 
 -- a live b-thread: its number, requests, waitFor, block and interrupt sets, and priority
@@ -210,12 +212,19 @@ untrue_set = refl
 -- ---- what comes next
 
 -- the first bad line, also where the queue is full and nothing is read any more
-pub bad_line_comes_first : (c : Configuration Body) (j n : ℕ) → next_idle c (Some (j, n)) ≡ Ends (verdict.Bad j n)
-bad_line_comes_first c j n = refl
+pub bad_line_comes_first : (o : PlainOptions) (c : Configuration Body) (j n : ℕ) → next_idle o c (Some (j, n)) ≡ Ends (verdict.Bad j n)
+bad_line_comes_first o c j n = refl
 
 -- also where every injector has ended
-pub full_queue_comes_before_quiet : (c : Configuration Body) → length c.stand.queue ≡ MOST_WAITING → next_idle c None ≡ Ends verdict.Queue
-full_queue_comes_before_quiet c h = rw (full (length c.stand.queue) MOST_WAITING h) refl
+pub full_queue_comes_before_quiet : (o : PlainOptions) (c : Configuration Body) → length c.stand.queue ≡ MOST_WAITING → next_idle o c None ≡ Ends verdict.Queue
+full_queue_comes_before_quiet o c h = rw (full (length c.stand.queue) MOST_WAITING h) refl
+
+-- an injector that is still read is waited for, and one transition was made
+pub reading_is_waited_for : (o : PlainOptions) → next_idle {Origin = Body} o (record { stand = record empty { transitions = 1 }; drawn = 0; reading = 1 ∷ []; bad = None }) None ≡ Waits
+reading_is_waited_for o = refl
+
+pub quiet_where_all_have_ended : (o : PlainOptions) → next_idle {Origin = Body} o (record { stand = record empty { transitions = 1 }; drawn = 0; reading = []; bad = None }) None ≡ Ends (verdict.Quiet 1)
+quiet_where_all_have_ended o = refl
 
 -- A requests x, and what B waits for can't be told
 abbrev faulty : Body → List PlainEvent → Part Body Small
@@ -279,6 +288,16 @@ pub bad_lines_need_no_room : (l : Code Body Small) (o : PlainOptions) (c : Confi
     after_record l o c (Bad 1 n) ≡ Some (record c { reading = 0 ∷ []; bad = Some (1, n) })
 unfolding after_record
 bad_lines_need_no_room l o c n v r b = rw (v, r, b) refl
+
+-- the last of 0 is its end, the last of 1 its bad line; 2 is still read, and no other record is a last one
+abbrev heard : List Record
+heard = In 2 x ∷ Eof 0 ∷ Sel x ∷ Bad 1 7 ∷ In 2 y ∷ End (verdict.Bad 1 7) ∷ []
+
+pub last_records : map (λ j. has_last_of j heard) (0 ∷ 1 ∷ 2 ∷ []) ≡ true ∷ true ∷ false ∷ []
+last_records = refl
+
+pub bad_records : map has_bad (heard ∷ (In 0 x ∷ Eof 0 ∷ []) ∷ []) ≡ true ∷ false ∷ []
+bad_records = refl
 
 -- what a b-thread does after the queue was full is not merged: neither its text nor its end
 pub nothing_is_merged_after_a_verdict : (e : PlainEvent) (p : Pair Body) → p.stand.verdict ≡ None → length p.stand.queue ≡ MOST_WAITING →

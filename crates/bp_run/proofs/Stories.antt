@@ -3,6 +3,7 @@ use Rattle.std.proofs.Common.{◌≡◌, ℕ, zero, suc, ◌+◌, ◌<◌, ◌�
 use Rattle.std.specs.Prelude.{option_to_list}
 use Rattle.std.specs.List.{list_any}
 use Rattle.std.proofs.lemmas.Grind.{flat_map-append}
+use Rattle.std.proofs.lemmas.Option.{same_Some}
 use Rattle.std.proofs.lemmas.Bool.{eq-eqb, ltb-false, and_parts, both_ways, and_right}
 use Rattle.js_data.specs.Event.{PlainEvent, same_event}
 use Rattle.js_data.proofs.SameEvent.{same_event-sound, same_event-self}
@@ -24,7 +25,7 @@ use Rattle.bp_run.specs.Configuration.{Configuration, Stand}
 use Rattle.bp_run.specs.Settling.{initial, queued, opening}
 use Rattle.bp_run.specs.Selecting.{Asked, live, selectable}
 use Rattle.bp_run.specs.Choosing.{Choice, choice, Touched, reach}
-use Rattle.bp_run.specs.Story.{Next, next, next_unless, next_choice, next_chosen, next_idle, step, stepped, move, may_come, has_room, is_over, if_selected, if_ended, over_with, line_of_choice, after_record, story_from, story, alone_from, alone, weight_after, record_of, after_next}
+use Rattle.bp_run.specs.Story.{Next, next, next_unless, next_choice, next_chosen, next_idle, waits_for_none, step, stepped, move, may_come, has_room, is_over, if_selected, if_ended, over_with, line_of_choice, after_record, story_from, story, alone_from, alone, weight_after, record_of, after_next}
 use Rattle.bp_run.specs.Story.Next.{Ends, Selects, Waits}
 use Rattle.bp_run.specs.Text.{text}
 use Rattle.bp_run.proofs.Growing.{grown_settle}
@@ -32,6 +33,33 @@ use Rattle.bp_run.proofs.Growing.{grown_settle}
 pub and_then_if : {A B : Type 0} (b : Bool) (g : A → Option B) (x : A) (d : B) → option_and_then g (if b then Some x else None) ≡ Some d → (b ≡ true) × (g x ≡ Some d)
 and_then_if true g x d h = (refl, h)
 and_then_if false g x d h = absurd (cc)
+
+pub leads_if : {A : Type 0} (b : Bool) (x y : A) → (if b then Some x else None) ≡ Some y → (b ≡ true) × (x ≡ y)
+leads_if true x y h = (refl, same_Some x y h)
+leads_if false x y h = absurd (cc)
+
+-- a record of an event leads where the event does, which comes next
+pub record Moves {O S : Type 0} (l : Code O S) (c m : Configuration O) (e : PlainEvent) (x : Next) : Type 0 where
+  pub choice : Choice
+  pub reached : List Touched
+  pub comes : x ≡ Selects choice reached
+  pub event : e ≡ choice.event
+  pub leads : move l c choice reached ≡ m
+
+pub selected_moves : {O S : Type 0} (l : Code O S) (c m : Configuration O) (e : PlainEvent) (x : Next) → if_selected l c e x ≡ Some m → Moves l c m e x
+selected_moves l c m e (Ends v) h = absurd (cc)
+selected_moves l c m e Waits h = absurd (cc)
+selected_moves l c m e (Selects ch r) h =
+    let p = leads_if (same_event e ch.event) (move l c ch r) m h in
+    record { choice = ch; reached = r; comes = refl; event = same_event-sound e ch.event p.0; leads = p.1 }
+
+-- a record of the end is of the verdict that comes next
+pub ended_with : {O : Type 0} (c m : Configuration O) (v : Verdict) (x : Next) → if_ended c v x ≡ Some m → (x ≡ Ends v) × (over_with c v ≡ m)
+ended_with c m v (Selects ch r) h = absurd (cc)
+ended_with c m v Waits h = absurd (cc)
+ended_with c m v (Ends w) h =
+    let p = leads_if (same_verdict v w) (over_with c v) m h in
+    (ap (λ (x : Verdict). Ends x) (sym (verdict_path v w p.0)), p.1)
 
 -- a transition is one more
 pub move_transitions : {O S : Type 0} (l : Code O S) (c : Configuration O) (ch : Choice) (r : List Touched) → (move l c ch r).stand.transitions ≡ c.stand.transitions + 1
@@ -50,9 +78,9 @@ steps_left : (t n : ℕ) (b : Bool) (x : Next) (ch : Choice) (r : List Touched) 
 steps_left t n true x ch r h k = absurd (cc)
 steps_left t n false x ch r h k = (h, k)
 
-idle_not : {O : Type 0} (c : Configuration O) (b : Option (ℕ × ℕ)) (ch : Choice) (r : List Touched) → next_idle c b ≡ Selects ch r → ⊥
-idle_not c (Some b) ch r h = cc
-idle_not c None ch r h = idle_selects_not c (length c.stand.queue == MOST_WAITING) (length c.reading == 0) ch r h
+idle_not : {O : Type 0} (o : PlainOptions) (c : Configuration O) (b : Option (ℕ × ℕ)) (ch : Choice) (r : List Touched) → next_idle o c b ≡ Selects ch r → ⊥
+idle_not o c (Some b) ch r h = cc
+idle_not o c None ch r h = idle_selects_not c (length c.stand.queue == MOST_WAITING) (waits_for_none o c) ch r h
 
 -- what is known where an event is selected
 pub record Selected {O S : Type 0} (l : Code O S) (o : PlainOptions) (c : Configuration O) (ch : Choice) (r : List Touched) : Type 0 where
@@ -77,7 +105,7 @@ chosen_selects s d ch (Ok q) r h =
 choice_selects : {O S : Type 0} (l : Code O S) (o : PlainOptions) (c : Configuration O) (x : Asked (Option Choice)) (ch : Choice) (r : List Touched) → next_choice l o c x ≡ Selects ch r →
     (x ≡ Ok (Some ch)) × (nat_eq c.stand.transitions o.steps ≡ false) × (reach l.has ch.event (live l c.stand) ≡ Ok r) × (weight_after c.stand ch.event r ≤ MOST_WEIGHT)
 choice_selects l o c (Err f) ch r h = absurd (cc)
-choice_selects l o c (Ok None) ch r h = absurd (idle_not c c.bad ch r h)
+choice_selects l o c (Ok None) ch r h = absurd (idle_not o c c.bad ch r h)
 choice_selects l o c (Ok (Some d)) ch r h =
     let s = steps_left c.stand.transitions o.steps (nat_eq c.stand.transitions o.steps) (next_chosen c.stand d (reach l.has d.event (live l c.stand))) ch r refl h in
     let k = chosen_selects c.stand d ch (reach l.has d.event (live l c.stand)) r s.1 in (
@@ -124,17 +152,28 @@ alone_on l o n c (Ends v) h = rw (alone_from, h) refl
 alone_on l o n c (Selects ch r) h = rw (alone_from, h) refl
 alone_on l o n c Waits h = rw (alone_from, h) refl
 
-unique_sel : {O S : Type 0} (l : Code O S) (o : PlainOptions) (n : ℕ) (c d : Configuration O) (e : PlainEvent) (rest : List Record) (x : Next) → next l o c ≡ x →
+-- these records begin those, and are all of them where they are complete
+pub record Begins (records all : List Record) : Type 0 where
+  pub later : List Record
+  pub whole : records ++ later ≡ all
+  pub none : is_complete records ≡ true → later ≡ []
+
+begins_sel : {O S : Type 0} (l : Code O S) (o : PlainOptions) (n : ℕ) (c d : Configuration O) (e : PlainEvent) (rest : List Record) (x : Next) → next l o c ≡ x →
     option_and_then (story_from l o rest) (if_selected l c e x) ≡ Some d →
-    ((ch : Choice) (r : List Touched) → x ≡ Selects ch r → story_from l o rest (move l c ch r) ≡ Some d → rest ≡ alone_from l o n (move l c ch r)) →
-    Sel e ∷ rest ≡ alone_from l o (suc n) c
-unique_sel l o n c d e rest (Ends v) h k ih = absurd (cc)
-unique_sel l o n c d e rest Waits h k ih = absurd (cc)
-unique_sel l o n c d e rest (Selects ch r) h k ih =
+    ((ch : Choice) (r : List Touched) → x ≡ Selects ch r → story_from l o rest (move l c ch r) ≡ Some d → Begins rest (alone_from l o n (move l c ch r))) →
+    Begins (Sel e ∷ rest) (alone_from l o (suc n) c)
+begins_sel l o n c d e rest (Ends v) h k ih = absurd (cc)
+begins_sel l o n c d e rest Waits h k ih = absurd (cc)
+begins_sel l o n c d e rest (Selects ch r) h k ih =
     let p = and_then_if (same_event e ch.event) (story_from l o rest) (move l c ch r) d k in
-    ap (λ (x : PlainEvent). Sel x ∷ rest) (same_event-sound e ch.event p.0)
-    ∙ ap (λ (s : List Record). Sel ch.event ∷ s) (ih ch r refl p.1)
-    ∙ sym (alone_on l o n c (Selects ch r) h)
+    let b = ih ch r refl p.1 in
+    record {
+      later = b.later;
+      whole =
+          ap (λ (x : PlainEvent). Sel x ∷ (rest ++ b.later)) (same_event-sound e ch.event p.0) ∙ ap (λ (s : List Record). Sel ch.event ∷ s) b.whole
+          ∙ sym (alone_on l o n c (Selects ch r) h);
+      none = b.none;
+    }
 
 unique_end : {O S : Type 0} (l : Code O S) (o : PlainOptions) (n : ℕ) (c d : Configuration O) (v : Verdict) (x : Next) → next l o c ≡ x →
     option_and_then (story_from l o []) (if_ended c v x) ≡ Some d → End v ∷ [] ≡ alone_from l o (suc n) c
@@ -144,24 +183,24 @@ unique_end l o n c d v (Ends w) h k =
     let p = and_then_if (same_verdict v w) (story_from l o []) (over_with c v) d k in
     ap (λ (x : Verdict). End x ∷ []) (verdict_path v w p.0) ∙ sym (alone_on l o n c (Ends w) h)
 
--- With no injectors, a complete list that is a story from c is the one that is computed.
-pub only_from : {O S : Type 0} (l : Code O S) (o : PlainOptions) (n : ℕ) (rs : List Record) (c d : Configuration O) → c.reading ≡ [] → c.stand.transitions ≤ o.steps → o.steps < n + c.stand.transitions →
-    story_from l o rs c ≡ Some d → is_complete rs ≡ true → rs ≡ alone_from l o n c
+-- With no injectors, a list that is a story from c begins the one that is computed.
+begins_from : {O S : Type 0} (l : Code O S) (o : PlainOptions) (n : ℕ) (rs : List Record) (c d : Configuration O) → c.reading ≡ [] → c.stand.transitions ≤ o.steps → o.steps < n + c.stand.transitions →
+    story_from l o rs c ≡ Some d → Begins rs (alone_from l o n c)
 unfolding story_from after_record
-only_from l o zero rs c d i t f h k = absurd (omega arith)
-only_from l o (suc n) [] c d i t f h k = absurd (cc)
-only_from l o (suc n) (In j e ∷ rest) c d i t f h k =
+begins_from l o zero rs c d i t f h = absurd (omega arith)
+begins_from l o (suc n) [] c d i t f h = record { later = alone_from l o (suc n) c; whole = refl; none = λ k. absurd (cc) }
+begins_from l o (suc n) (In j e ∷ rest) c d i t f h =
     absurd (comes_not c j i (and_parts (may_come c j) (has_room c.stand) (and_then_if (may_come c j && has_room c.stand) (story_from l o rest) _ d h).0).0)
-only_from l o (suc n) (Bad j m ∷ rest) c d i t f h k = absurd (comes_not c j i (and_then_if (may_come c j) (story_from l o rest) _ d h).0)
-only_from l o (suc n) (Eof j ∷ rest) c d i t f h k = absurd (comes_not c j i (and_then_if (may_come c j) (story_from l o rest) _ d h).0)
-only_from l o (suc n) (End v ∷ []) c d i t f h k = unique_end l o n c d v (next l o c) refl h
-only_from l o (suc n) (End v ∷ r ∷ rest) c d i t f h k = absurd (cc)
-only_from l o (suc n) (Sel e ∷ rest) c d i t f h k =
-    unique_sel l o n c d e rest (next l o c) refl h
+begins_from l o (suc n) (Bad j m ∷ rest) c d i t f h = absurd (comes_not c j i (and_then_if (may_come c j) (story_from l o rest) _ d h).0)
+begins_from l o (suc n) (Eof j ∷ rest) c d i t f h = absurd (comes_not c j i (and_then_if (may_come c j) (story_from l o rest) _ d h).0)
+begins_from l o (suc n) (End v ∷ []) c d i t f h = record { later = []; whole = unique_end l o n c d v (next l o c) refl h; none = λ k. refl }
+begins_from l o (suc n) (End v ∷ r ∷ rest) c d i t f h = absurd (cc)
+begins_from l o (suc n) (Sel e ∷ rest) c d i t f h =
+    begins_sel l o n c d e rest (next l o c) refl h
     (λ ch r x s.
     let less = selects_steps l o c ch r x t in
     let more = move_transitions l c ch r in
-    only_from l o n rest (move l c ch r) d i (omega (arith, less, more)) (omega (arith, less, more)) s k)
+    begins_from l o n rest (move l c ch r) d i (omega (arith, less, more)) (omega (arith, less, more)) s)
 
 pub initial_transitions : {O S : Type 0} (l : Code O S) (n : ℕ) → (initial l n).stand.transitions ≡ 0
 unfolding initial
@@ -171,13 +210,19 @@ pub initial_reading : {O S : Type 0} (l : Code O S) → (initial l 0).reading �
 unfolding initial
 initial_reading l = refl
 
+-- With no injectors every story begins `alone`.
+pub begins_alone : {O S : Type 0} (l : Code O S) (o : PlainOptions) (rs : List Record) (d : Configuration O) → o.injectors ≡ 0 → story l o rs ≡ Some d → Begins rs (alone l o)
+unfolding story alone
+begins_alone l o rs d i h =
+    let z = initial_transitions l o.injectors in
+    begins_from l o (o.steps + 1) rs (initial l o.injectors) d (ap (λ (n : ℕ). (initial l n).reading) i ∙ initial_reading l) (omega (arith, z)) (omega (arith, z)) h
+
 -- With no injectors there is at most one complete list, `alone`.
 pub only_alone : {O S : Type 0} (l : Code O S) (o : PlainOptions) (rs : List Record) (d : Configuration O) → o.injectors ≡ 0 →
     story l o rs ≡ Some d → is_complete rs ≡ true → rs ≡ alone l o
-unfolding story alone
 only_alone l o rs d i h k =
-    let z = initial_transitions l o.injectors in
-    only_from l o (o.steps + 1) rs (initial l o.injectors) d (ap (λ (n : ℕ). (initial l n).reading) i ∙ initial_reading l) (omega (arith, z)) (omega (arith, z)) h k
+    let b = begins_alone l o rs d i h in
+    sym (append-nil rs) ∙ ap (λ (s : List Record). rs ++ s) (sym (b.none k)) ∙ b.whole
 
 -- with no injectors the run never waits
 idle_waits_not : {O : Type 0} (c : Configuration O) (b e : Bool) → e ≡ true → (if b then Ends verdict.Queue else if e then Ends (verdict.Quiet c.stand.transitions) else Waits) ≡ Waits → ⊥
@@ -185,9 +230,9 @@ idle_waits_not c true e k h = cc
 idle_waits_not c false true k h = cc
 idle_waits_not c false false k h = cc
 
-idle_not_waits : {O : Type 0} (c : Configuration O) (b : Option (ℕ × ℕ)) → c.reading ≡ [] → next_idle c b ≡ Waits → ⊥
-idle_not_waits c (Some b) i h = cc
-idle_not_waits c None i h = idle_waits_not c (length c.stand.queue == MOST_WAITING) (length c.reading == 0) (ap (λ (r : List ℕ). length r == 0) i) h
+idle_not_waits : {O : Type 0} (o : PlainOptions) (c : Configuration O) (b : Option (ℕ × ℕ)) → c.reading ≡ [] → next_idle o c b ≡ Waits → ⊥
+idle_not_waits o c (Some b) i h = cc
+idle_not_waits o c None i h = idle_waits_not c (length c.stand.queue == MOST_WAITING) (waits_for_none o c) (ap (λ (r : List ℕ). length r == 0) i) h
 
 weight_not_waits : (ch : Choice) (r : List Touched) (b : Bool) → (if b then Ends verdict.Weight else Selects ch r) ≡ Waits → ⊥
 weight_not_waits ch r true h = cc
@@ -203,7 +248,7 @@ steps_not_waits n false x k h = k h
 
 choice_not_waits : {O S : Type 0} (l : Code O S) (o : PlainOptions) (c : Configuration O) (x : Asked (Option Choice)) → c.reading ≡ [] → next_choice l o c x ≡ Waits → ⊥
 choice_not_waits l o c (Err f) i h = cc
-choice_not_waits l o c (Ok None) i h = idle_not_waits c c.bad i h
+choice_not_waits l o c (Ok None) i h = idle_not_waits o c c.bad i h
 choice_not_waits l o c (Ok (Some ch)) i h =
     let x = reach l.has ch.event (live l c.stand) in
     steps_not_waits o.steps (nat_eq c.stand.transitions o.steps) (next_chosen c.stand ch x) (chosen_not_waits c.stand ch x) h

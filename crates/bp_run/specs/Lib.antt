@@ -7,3 +7,4 @@ pub mod Chosen
 pub mod Story
 pub mod Text
 pub mod Numbers
+pub mod Injectors

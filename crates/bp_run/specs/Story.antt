@@ -107,18 +107,23 @@ next_chosen s ch (Ok reached) =
     if nat_lt MOST_WEIGHT (weight_after s ch.event reached) then Ends verdict.Weight
     else Selects ch reached
 
+-- no item is waited for: every injector has ended
+abbrev pub waits_for_none : {Origin : Type 0} → PlainOptions → Configuration Origin → Bool
+waits_for_none o c = length c.reading == 0
+
 -- nothing is selectable
-abbrev pub next_idle : {Origin : Type 0} → Configuration Origin → Option (ℕ × ℕ) → Next
-next_idle c (Some bad) = Ends (verdict.Bad bad.0 bad.1)
-next_idle c None =
+abbrev pub next_idle : {Origin : Type 0} → PlainOptions → Configuration Origin → Option (ℕ × ℕ) →
+    Next
+next_idle o c (Some bad) = Ends (verdict.Bad bad.0 bad.1)
+next_idle o c None =
     if length c.stand.queue == MOST_WAITING then Ends verdict.Queue
-    else if length c.reading == 0 then Ends (verdict.Quiet c.stand.transitions)
+    else if waits_for_none o c then Ends (verdict.Quiet c.stand.transitions)
     else Waits
 
 abbrev pub next_choice : {Origin Set : Type 0} → Code Origin Set → PlainOptions → Configuration Origin →
     Asked (Option Choice) → Next
 next_choice l o c (Err x) = Ends (fault_verdict c.stand x)
-next_choice l o c (Ok None) = next_idle c c.bad
+next_choice l o c (Ok None) = next_idle o c c.bad
 next_choice l o c (Ok (Some ch)) =
     if c.stand.transitions == o.steps then Ends (verdict.Steps o.steps)
     else next_chosen c.stand ch (reach l.has ch.event (live l c.stand))

@@ -1,11 +1,13 @@
 //! The laws of runs, each as the contract of a function that does nothing.
-ghost use Rattle.std.specs.Prelude.{◌≡◌, ◌≤◌, ◌∷◌, ◌++◌, ℕ, List, length, map, Option, Some, None, Ok, true, false, slice_get};
+ghost use Rattle.std.specs.Prelude.{◌≡◌, ◌≤◌, ◌<◌, ◌∷◌, ◌++◌, ℕ, List, [], length, map, nat_eq, Option, Some, None, is_some, Ok, true, false, not, slice_get};
+ghost use Rattle.std.specs.List.{list_any};
 ghost use Rattle.js_data.specs.Event.{PlainEvent};
 ghost use Rattle.bp_log.specs.Options.{PlainOptions};
-ghost use Rattle.bp_log.specs.Records.{Complete};
+ghost use Rattle.bp_log.specs.Records.{Complete, verdict_of};
 ghost use Rattle.bp_log.specs.declared.record.Record.{Record};
 ghost use Rattle.bp_log.specs.declared.record.Record.TheVariants as recorded;
 ghost use Rattle.bp_log.specs.declared.verdict.Verdict.{Verdict};
+ghost use Rattle.bp_log.specs.declared.verdict.Verdict.TheVariants as verdict;
 ghost use Rattle.bp_run.specs.Bodies.{Code};
 ghost use Rattle.bp_run.specs.Configuration.{Configuration, Thread};
 ghost use Rattle.bp_run.specs.Settling.{Pair, turn, settle, at_rest};
@@ -15,6 +17,7 @@ ghost use Rattle.bp_run.specs.Chosen.{IsChosen, AllBlocked};
 ghost use Rattle.bp_run.specs.Numbers.{IsRising, number_of, touch_at, after_touch, touch_of};
 ghost use Rattle.bp_run.specs.Story as story;
 ghost use Rattle.bp_run.specs.Story.{story as told, alone, next, step, stepped};
+ghost use Rattle.bp_run.specs.Injectors.{has_last_of, has_bad};
 ghost use Rattle.bp_run.specs.Text.{text};
 
 use bp_log::limits::MOST_THREADS;
@@ -26,6 +29,41 @@ pub fn one_run()
     ensures is_only { (l : Code ℕ (Option PlainEvent)) (o : PlainOptions) (records : List Record)
         (c : Configuration ℕ) →
         o.injectors ≡ 0 → told l o records ≡ Some c → Complete records → records ≡ alone l o }
+    ensures begins { (l : Code ℕ (Option PlainEvent)) (o : PlainOptions) (records : List Record)
+        (c : Configuration ℕ) →
+        o.injectors ≡ 0 → told l o records ≡ Some c →
+        (later : List Record) × (records ++ later ≡ alone l o) }
+{}
+
+/// The records tell who is still read: an injector is read until its last record. They tell too
+/// whether a line was bad.
+pub fn records_tell_who_is_read()
+    ensures read { (l : Code ℕ (Option PlainEvent)) (o : PlainOptions) (records : List Record)
+        (c : Configuration ℕ) (j : ℕ) →
+        told l o records ≡ Some c → j < o.injectors →
+        list_any (nat_eq j) c.reading ≡ not (has_last_of j records) }
+    ensures bad { (l : Code ℕ (Option PlainEvent)) (o : PlainOptions) (records : List Record)
+        (c : Configuration ℕ) →
+        told l o records ≡ Some c → is_some c.bad ≡ has_bad records }
+{}
+
+/// A run ends quietly only where every injector was heard to its end and no line was bad; what is
+/// merged never ends it so.
+pub fn quiet_runs_heard_everyone()
+    ensures comes { (l : Code ℕ (Option PlainEvent)) (o : PlainOptions) (records : List Record)
+        (c : Configuration ℕ) (n : ℕ) →
+        told l o records ≡ Some c → next l o c ≡ story.Next.Ends (verdict.Quiet n) →
+        (c.reading ≡ []) × (c.bad ≡ None) × (n ≡ c.stand.transitions) }
+    ensures heard { (l : Code ℕ (Option PlainEvent)) (o : PlainOptions) (records : List Record)
+        (c : Configuration ℕ) (n j : ℕ) →
+        told l o records ≡ Some c → verdict_of records ≡ Some (verdict.Quiet n) →
+        j < o.injectors → has_last_of j records ≡ true }
+    ensures good { (l : Code ℕ (Option PlainEvent)) (o : PlainOptions) (records : List Record)
+        (c : Configuration ℕ) (n : ℕ) →
+        told l o records ≡ Some c → verdict_of records ≡ Some (verdict.Quiet n) →
+        has_bad records ≡ false }
+    ensures merged { (l : Code ℕ (Option PlainEvent)) (p : Pair ℕ) (n : ℕ) →
+        (settle l p).verdict ≡ Some (verdict.Quiet n) → p.stand.verdict ≡ Some (verdict.Quiet n) }
 {}
 
 /// The text of a prefix of the records is a prefix of the text.

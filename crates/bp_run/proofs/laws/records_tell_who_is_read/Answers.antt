@@ -1,0 +1,8 @@
+use Rattle.bp_run.proofs.Injectors.{who_is_read, bad_is_known}
+use Rattle.bp_run.proofs.laws.records_tell_who_is_read.Goals as goal
+
+pub returns-clause-read : goal.returns-clause-read
+returns-clause-read c = λ l o records d j h k. who_is_read l o records d j h k
+
+pub returns-clause-bad : goal.returns-clause-bad
+returns-clause-bad c = λ l o records d h. bad_is_known l o records d h
