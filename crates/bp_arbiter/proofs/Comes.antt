@@ -72,9 +72,9 @@ pub next_chosen_is : (r s : Run) (e : PlainEvent) (place : Option ℕ) → r.flo
 next_chosen_is r s e place h k f c = next_of_choice r (Ok (Some (record { event = e; place = place; drawn = s.draw.drawn }))) h k c ∙ chosen_same r s e place f
 
 idle_on : PlainFloor → List ℕ → Option (ℕ × ℕ) → Next
-idle_on f reading bad = next_idle (record { stand = f.pair.stand; drawn = 0; reading = reading; bad = bad }) bad
+idle_on f reading bad = next_idle f.options (record { stand = f.pair.stand; drawn = 0; reading = reading; bad = bad }) bad
 
-idle_same : (r : Run) (b : Option (ℕ × ℕ)) → next_idle (configuration_of r) b ≡ idle_on r.floor r.reading b
+idle_same : (r : Run) (b : Option (ℕ × ℕ)) → next_idle r.floor.options (configuration_of r) b ≡ idle_on r.floor r.reading b
 unfolding idle_on
 idle_same r None = refl
 idle_same r (Some b) = refl

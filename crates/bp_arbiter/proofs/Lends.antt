@@ -14,9 +14,9 @@ use Rattle.bp_run.specs.Settling.Entry.{The_top, Runs, Stops}
 use Rattle.bp_run.specs.Numbers.{number_of}
 use Rattle.bp_meaning.specs.After.{effect_of, outcome_of}
 use Rattle.bp_thread.specs.declared.job.Job.{Job}
-use Rattle.bp_thread.specs.Jobs.{PlainJob, plain_job, IsWhole, StandsFor as JobStands}
+use Rattle.bp_thread.specs.Jobs.{PlainJob, plain_job, IsFresh, StandsFor as JobStands}
 use Rattle.bp_thread.specs.Carried.{CarriedOut, AreCarriedOut}
-use Rattle.bp_thread.proofs.Carrying.{carried_out, whole_stands}
+use Rattle.bp_thread.proofs.Carrying.{carried_out, whole_stands, fresh_whole}
 use Rattle.bp_code.specs.Code.{ground_for}
 use Rattle.bp_floor.specs.Programs.{code_of}
 use Rattle.bp_floor.specs.Forgetting.{forget, AreGoing}
@@ -113,7 +113,7 @@ module _ (base : Ground) (o : PlainOptions) where
         of_program = (l.job).of_program;
         effects = l.effects;
         outcome = l.outcome;
-        whole = subst (λ (x : Ground). IsWhole x o.budget j) (sym g) l.whole;
+        whole = fresh_whole base o.budget j (subst (λ (x : Ground). IsFresh x o.budget j) (sym g) l.fresh);
       }
 
   run_at : (n : ℕ) (b : Option (Body Origin)) (js : List Job) (rest : List Job → Type 0) → JobFor (IsLent base.program o) n b js rest →

@@ -27,15 +27,15 @@ chosen_forgotten o s ch (Ok reached) = refl
 forgetful : {O : Type 0} → O → Configuration O → Configuration O
 forgetful o c = record c { stand = forgotten_in o c.stand }
 
-idle_forgotten : {O : Type 0} (o : O) (c : Configuration O) (b : Option (ℕ × ℕ)) → next_idle (forgetful o c) b ≡ next_idle c b
+idle_forgotten : {O : Type 0} (p : PlainOptions) (o : O) (c : Configuration O) (b : Option (ℕ × ℕ)) → next_idle p (forgetful o c) b ≡ next_idle p c b
 unfolding forgetful
-idle_forgotten o c (Some bad) = refl
-idle_forgotten o c None = refl
+idle_forgotten p o c (Some bad) = refl
+idle_forgotten p o c None = refl
 
 choice_forgotten : {O S : Type 0} (l : Code O S) (p : PlainOptions) (o : O) (c : Configuration O) (x : Asked (Option Choice)) → next_choice l p (forgetful o c) x ≡ next_choice l p c x
 unfolding forgetful
 choice_forgotten l p o c (Err y) = ap (λ (v : Verdict). Ends v) (fault_forgotten o c.stand y)
-choice_forgotten l p o c (Ok None) = idle_forgotten o c c.bad
+choice_forgotten l p o c (Ok None) = idle_forgotten p o c c.bad
 choice_forgotten l p o c (Ok (Some ch)) =
     ap (λ (n : Next). if c.stand.transitions == p.steps then Ends (verdict.Steps p.steps) else n)
     (ap (λ (ts : List (Live _)). next_chosen (forgotten_in o c.stand) ch (reach l.has ch.event ts)) (live_forgotten l o c.stand)

@@ -47,7 +47,7 @@ next_chosen_in r e place =
 
 -- what comes next where nothing can be chosen
 abbrev pub next_idle_in : Run → Next
-next_idle_in r = next_idle (configuration_of r) r.bad
+next_idle_in r = next_idle r.floor.options (configuration_of r) r.bad
 
 -- the verdict, or waiting
 abbrev pub ends_or_waits : Option Verdict → Next

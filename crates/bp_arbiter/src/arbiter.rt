@@ -3,7 +3,7 @@ ghost use Rattle.std.specs.Prelude.{◌≡◌, ◌↔◌, ◌<◌, ◌≤◌, �
 ghost use Rattle.std.specs.List.{list_any};
 ghost use Rattle.js_meaning.specs.Bodies.{Origin};
 ghost use Rattle.js_frames.specs.Places.{plain_ground};
-ghost use Rattle.bp_log.specs.Records.{verdict_of};
+ghost use Rattle.bp_log.specs.Records.{is_complete, verdict_of};
 ghost use Rattle.bp_log.specs.declared.limits.TheConstants.{MOST_THREADS};
 ghost use Rattle.bp_log.specs.declared.trace.Line.{Line};
 ghost use Rattle.bp_log.specs.declared.verdict.Verdict.{Verdict as End};
@@ -14,9 +14,9 @@ ghost use Rattle.bp_run.specs.Story as story;
 ghost use Rattle.bp_thread.specs.declared.job.Job.{Job as Lent};
 ghost use Rattle.bp_thread.specs.Carried.{HaveDistinctNumbers};
 ghost use Rattle.bp_floor.specs.declared.phase.Phase.TheVariants as phase;
-ghost use Rattle.bp_floor.specs.Floors.{is_idle, phase_of};
+ghost use Rattle.bp_floor.specs.Floors.{IsPhased, is_idle, phase_of};
 ghost use Rattle.bp_arbiter.specs.declared.picked.Picked.TheVariants as picked;
-ghost use Rattle.bp_arbiter.specs.Arbiters.{opened, code_in, options_in, stand_in, Recounts, coming, StandsFor, StandsSomewhere, Tells, is_lent, HadMemory, IsGivenUp, Keeps, Shows};
+ghost use Rattle.bp_arbiter.specs.Arbiters.{opened, code_in, options_in, stand_in, Recounts, coming, StandsFor, StandsSomewhere, Tells, is_lent, is_over, HadMemory, IsGivenUp, Keeps, Shows};
 ghost use Rattle.bp_arbiter.specs.Absorbing.{is_failed, fits, ComesBack, with_item, absorbed};
 ghost use Rattle.bp_arbiter.specs.Picking.{picked_of, after_pick, phase_after};
 ghost use Rattle.bp_arbiter.specs.Lending.{AreOut, AreBack, AreReturned};
@@ -117,6 +117,8 @@ impl Arbiter {
             StandsSomewhere self.now }
         ensures kept { self.now.broken ≡ false → Keeps self.now }
         ensures few { self.now.broken ≡ false → length (stand_in self.now).threads ≤ MOST_THREADS }
+        ensures complete { is_complete self.now.records ≡ is_over self.now.phase }
+        ensures phased { self.now.broken ≡ false → IsPhased self.now.floor }
         ensures tells { (jobs : List Lent) (taken : List Line) (p : Pair Origin) →
             StandsFor self.now jobs taken p → Tells self.now taken }
         ensures exact { (taken : List Line) (p : Pair Origin) → StandsFor self.now [] taken p →
@@ -177,6 +179,13 @@ impl Arbiter {
         !self.run.reading.contains(injector)
     }
 
+    /// Whether an injector of this number has not ended. Takes no memory.
+    pub fn reads(&self, injector: u32) -> bool
+        ensures { result ≡ list_any (nat_eq injector) self.now.reading }
+    {
+        self.run.reading.contains(injector)
+    }
+
     /// Whether a further event may wait. Takes no memory.
     pub fn room(&self) -> bool
         ensures { result ≡ has_room (stand_in self.now) }
@@ -213,8 +222,8 @@ impl Arbiter {
         run.into_records()
     }
 
-    /// Whether the item needs no place of the queue, or has one.
-    fn fits(&self, item: &Item) -> bool
+    /// Whether the item needs no place of the queue, or has one. Takes no memory.
+    pub fn fits(&self, item: &Item) -> bool
         ensures { result ≡ fits (stand_in self.now) item.now }
     {
         match item {

@@ -4,3 +4,4 @@ pub mod Giving
 pub mod Slicing
 pub mod Carrying
 pub mod Crosses
+pub mod Behind

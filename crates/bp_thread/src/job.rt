@@ -58,7 +58,7 @@ impl Drop for Job {
 }
 
 impl Job {
-    ghost use Rattle.bp_thread.specs.Jobs.{plain_job, IsOf, IsLost, is_stopped, is_ended, StandsAt, StandsFor, IsWhole, IsSame, Sliced};
+    ghost use Rattle.bp_thread.specs.Jobs.{plain_job, IsOf, IsLost, is_stopped, is_ended, StandsAt, StandsFor, IsWhole, IsFresh, IsSame, Sliced};
     ghost use Rattle.bp_thread.specs.Carried.{carried, Carries};
 
     /// A job that has this machine, which has not begun.
@@ -73,9 +73,9 @@ impl Job {
           outcome = None;
         } }
         ensures machine { result.machine ≡ Some machine }
-        ensures whole { (base : js.Ground) → (budget : ℕ) →
+        ensures fresh { (base : js.Ground) → (budget : ℕ) →
             Stands base budget (plain_origin origin) [] 0 [] machine →
-            untaken machine ≡ [] → IsWhole base budget result }
+            untaken machine ≡ [] → IsFresh base budget result }
     {
         Job {
             alloc,
@@ -114,7 +114,7 @@ impl Job {
           handler = None;
           outcome = None;
         }) }
-        ensures whole { IfOk result (λ j. IsWhole (plain_ground ground.now) budget j) }
+        ensures fresh { IfOk result (λ j. IsFresh (plain_ground ground.now) budget j) }
     {
         let args = Items::new(alloc, args)?;
         let machine = Machine::start(alloc, ground, &callee, args.as_slice(), kind, budget)?;
@@ -135,7 +135,7 @@ impl Job {
           handler = None;
           outcome = None;
         }) }
-        ensures whole { IfOk result (λ j. IsWhole (plain_ground ground.now) budget j) }
+        ensures fresh { IfOk result (λ j. IsFresh (plain_ground ground.now) budget j) }
     {
         let machine = Machine::top(alloc, ground, budget)?;
         let name = Text::new(String::new(alloc));
@@ -226,8 +226,8 @@ impl Job {
           replies = (plain_job self.old).replies ++ event.now ∷ [];
           outcome = None;
         }) }
-        ensures whole { (base : js.Ground) → (budget : ℕ) → StandsFor base budget self.old →
-            OnOk result (IsWhole base budget self.new) }
+        ensures fresh { (base : js.Ground) → (budget : ℕ) → StandsFor base budget self.old →
+            OnOk result (IsFresh base budget self.new) }
         ensures err { OnErr result (self.new ≡ self.old) }
     {
         let kept = event.copy()?;
@@ -283,6 +283,7 @@ impl Job {
             self.old self.new) }
         ensures carries { (budget : ℕ) →
             OnOk result (Carries (plain_ground ground.now) budget self.old self.new) }
+        ensures open { OnErr result ((plain_job self.new).outcome ≡ None) }
         ensures lost { OnErr result (IsLost self.new) }
         ensures stays_lost { IsLost self.old → IsErr result }
     {

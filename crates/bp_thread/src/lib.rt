@@ -6,6 +6,7 @@ mod crossing;
 mod events;
 mod job;
 mod keeping;
+pub mod laws;
 mod origin;
 mod outcome;
 mod pausing;

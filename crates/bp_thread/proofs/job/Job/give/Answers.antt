@@ -4,8 +4,8 @@ use Rattle.bp_thread.specs.Views.{plain_origin}
 use Rattle.bp_thread.proofs.Giving.{given}
 use Rattle.bp_thread.proofs.job.Job.give.Goals as goal
 
-pub returns-in-Some-clause-whole : goal.returns-in-Some-clause-whole
-returns-in-Some-clause-whole c = λ base budget h.
+pub returns-in-Some-clause-fresh : goal.returns-in-Some-clause-fresh
+returns-in-Some-clause-fresh c = λ base budget h.
     given base budget c.args.self.now _ c.in-Some.machine c.resume.new.self c.args.event.now c.in-Some.is refl refl
     (c.in_ok-push.ensures.ok ∙ ap (λ x. c.args.self.now.replies ++ x ∷ []) c.in_ok-kept.ensures)
     refl c.requires.taken refl c.requires.stopped

@@ -2,6 +2,6 @@ use Rattle.std.proofs.Common.{refl}
 use Rattle.bp_thread.proofs.Beginning.{begins}
 use Rattle.bp_thread.proofs.job.Job.on.Goals as goal
 
-pub returns-clause-whole : goal.returns-clause-whole
-returns-clause-whole c = λ base budget stands taken.
+pub returns-clause-fresh : goal.returns-clause-fresh
+returns-clause-fresh c = λ base budget stands taken.
     begins base budget _ c.args.machine refl c.new.ensures c.new-2.ensures refl refl stands taken

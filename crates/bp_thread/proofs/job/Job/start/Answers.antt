@@ -12,8 +12,8 @@ returns-clause-made c =
     let made : Origin → PlainJob = λ o. record { number = c.args.number; name = c.args.name; origin = o; replies = []; effects = []; handler = None; outcome = None } in
     c.on.ensures.made ∙ ap (λ xs. made (function c.args.kind (plain_value c.args.callee) xs)) (ap values_in c.in_ok-args.ensures ∙ values_in-of _)
 
-pub returns-clause-whole : goal.returns-clause-whole
-returns-clause-whole c =
-    c.on.ensures.whole _ _
+pub returns-clause-fresh : goal.returns-clause-fresh
+returns-clause-fresh c =
+    c.on.ensures.fresh _ _
     (subst (λ xs. Stands (plain_ground c.args.ground.now) c.args.budget (function c.args.kind (plain_value c.args.callee) xs) [] 0 [] c.in_ok-machine.machine) c.as_slice.ensures.values c.in_ok-machine.ensures.stands)
     c.in_ok-machine.ensures.effects

@@ -1,0 +1,5 @@
+use Rattle.bp_core.proofs.Begun.{carries_self}
+use Rattle.core_rows.proofs.cores.slice_one.Goals as goal
+
+pub returns : goal.returns
+returns c = λ budget. c.in_ok-slice.ensures.carries budget
