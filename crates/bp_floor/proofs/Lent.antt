@@ -16,7 +16,7 @@ use Rattle.bp_run.specs.Settling.Entry.{The_top, Runs, Stops}
 use Rattle.bp_run.proofs.Turns.{length-change}
 use Rattle.bp_run.proofs.Numbers.{changed_elsewhere}
 use Rattle.bp_thread.specs.declared.job.Job.{Job}
-use Rattle.bp_thread.specs.Jobs.{PlainJob, plain_job, IsOf, IsWhole}
+use Rattle.bp_thread.specs.Jobs.{PlainJob, plain_job, IsOf, IsFresh}
 use Rattle.bp_floor.specs.declared.entry.Handler.{Handler}
 use Rattle.bp_floor.specs.declared.entry.Entry.{Entry as Code_entry}
 use Rattle.bp_floor.specs.declared.entry.Entry.TheVariants.{Top, Runs as Code_runs, Stops as Code_stops}
@@ -192,7 +192,7 @@ started_lent r base o n b j s e p g h =
       job = record { number_is = s.number_is; origin_is = s.origin_is; replies_are = s.replies ∙ sym e; of_program = subst (λ (x : PlainProgram). IsOf x j) p s.of_program };
       effects = s.effects;
       outcome = s.outcome;
-      whole = subst (λ (x : Ground). IsWhole x r.options.budget j) g (subst (λ (x : PlainOptions). IsWhole base x.budget j) h s.whole);
+      fresh = subst (λ (x : Ground). IsFresh x r.options.budget j) g (subst (λ (x : PlainOptions). IsFresh base x.budget j) h s.fresh);
     }
 
 lend_top : (r : Running) (base : Ground) (o : PlainOptions) (all ns : List (Entry Origin)) (js more : List Job) (old ss new : List PlainSeat) → Lends base o The_top ss new more →
@@ -294,7 +294,7 @@ lend_runs r base o i all ns js more old ss new h l =
       job = record { number_is = own.number_is; origin_is = refl; replies_are = refl; of_program = own.of_program };
       effects = own.effects;
       outcome = j.outcome;
-      whole = own.whole j.outcome;
+      fresh = own.fresh j.outcome;
     } in
     let rises : Rises (i ∷ runs_in ns) = subst (λ (xs : List ℕ). Rises xs) c.ready (where_rises is_ready 0 ss) in
     let len : length (change out i ss) ≡ length ss = length-change out i ss in
@@ -363,7 +363,7 @@ outgoing_end base o all left js old ss g h r c = lending_end r base o all js old
 
 -- a job that has just been made
 pub started : (base : Ground) (o : PlainOptions) (number : ℕ) (name : List ℕ) (origin : Origin) (j : Job) (budget : ℕ) →
-    plain_job j ≡ record { number = number; name = name; origin = origin; replies = []; effects = []; handler = None; outcome = None } → IsOf base.program j → budget ≡ o.budget → IsWhole base budget j → IsStarted base o number origin j
+    plain_job j ≡ record { number = number; name = name; origin = origin; replies = []; effects = []; handler = None; outcome = None } → IsOf base.program j → budget ≡ o.budget → IsFresh base budget j → IsStarted base o number origin j
 started base o number name origin j budget p q h w =
     record {
       number_is = ap (λ (x : PlainJob). x.number) p;
@@ -372,5 +372,5 @@ started base o number name origin j budget p q h w =
       effects = ap (λ (x : PlainJob). x.effects) p;
       outcome = ap (λ (x : PlainJob). x.outcome) p;
       of_program = q;
-      whole = subst (λ (n : ℕ). IsWhole base n j) h w;
+      fresh = subst (λ (n : ℕ). IsFresh base n j) h w;
     }

@@ -25,7 +25,7 @@ use Rattle.bp_run.specs.Selecting.{Live}
 use Rattle.bp_run.proofs.Turns.{length-change}
 use Rattle.bp_select.specs.Benches.{PlainBench, placed, Fits}
 use Rattle.bp_thread.specs.declared.job.Job.{Job}
-use Rattle.bp_thread.specs.Jobs.{PlainJob, plain_job, IsOf, IsWhole}
+use Rattle.bp_thread.specs.Jobs.{PlainJob, plain_job, IsOf, IsFresh}
 use Rattle.bp_floor.specs.declared.board.Board.{Board}
 use Rattle.bp_floor.specs.Seating.{PlainSeat, seated, is_waiting, is_ready, where_from, stated_from, IsOwn, AreOwn}
 use Rattle.bp_floor.specs.Boards.{pair_of}
@@ -48,8 +48,8 @@ onward_then base o a b c x y = record { keeps = λ r first h k. y r first h (x.k
 
 pub admitted : (r : Running) (first : ℕ) (base : Ground) (o : PlainOptions) (b new : Board) (name : List ℕ) (callee : PlainValue) (j : Job) → IsOn r base o → length b.seats < MOST_THREADS →
     new.seats ≡ b.seats ++ record { name = name; job = Some j; ended = false } ∷ [] → new.wave ≡ b.wave ++ Runs (length b.seats) ∷ [] → new.bench ≡ b.bench → new.queue ≡ b.queue → IsOf base.program j →
-    plain_job j ≡ record { number = length b.seats; name = name; origin = function mode.Thread callee []; replies = []; effects = []; handler = None; outcome = None } → IsWhole base o.budget j → IsKept r first b → IsKept r first new
-admitted r first base o b new name callee j on low s w bench queue of p whole k =
+    plain_job j ≡ record { number = length b.seats; name = name; origin = function mode.Thread callee []; replies = []; effects = []; handler = None; outcome = None } → IsFresh base o.budget j → IsKept r first b → IsKept r first new
+admitted r first base o b new name callee j on low s w bench queue of p fresh k =
     let seat : PlainSeat = record { name = name; job = Some j; ended = false } in
     let outcome : (plain_job j).outcome ≡ None = ap (λ (x : PlainJob). x.outcome) p in
     let n = length b.seats in
@@ -57,8 +57,8 @@ admitted r first base o b new name callee j on low s w bench queue of p whole k 
       number_is = ap (λ (x : PlainJob). x.number) p;
       of_program = subst (λ (g : PlainProgram). IsOf g j) on.program_is of;
       effects = ap (λ (x : PlainJob). x.effects) p;
-      whole = λ _. subst (λ (x : Origin). IsWhole (ground_for r.program r.options.budget x) r.options.budget j) (sym (ap (λ (x : PlainJob). x.origin) p))
-          (subst (λ (g : Ground). IsWhole g r.options.budget j) on.ground_is (subst (λ (x : PlainOptions). IsWhole base x.budget j) on.options_are whole));
+      fresh = λ _. subst (λ (x : Origin). IsFresh (ground_for r.program r.options.budget x) r.options.budget j) (sym (ap (λ (x : PlainJob). x.origin) p))
+          (subst (λ (g : Ground). IsFresh g r.options.budget j) on.ground_is (subst (λ (x : PlainOptions). IsFresh base x.budget j) on.options_are fresh));
       stands = λ x h. absurd (none-some x (sym outcome ∙ h));
       outcome = λ x h. absurd (none-some x (sym outcome ∙ h));
     } in

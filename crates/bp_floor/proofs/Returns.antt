@@ -174,7 +174,7 @@ own_carried r n b j c e =
       number_is = c.job.number_is;
       of_program = c.job.of_program;
       effects = e;
-      whole = λ h. absurd (let o = c.outcome in cc);
+      fresh = λ h. absurd (let o = c.outcome in cc);
       stands = λ x h. subst (λ (o : Origin). StandsFor (ground_for r.program r.options.budget o) r.options.budget j) (sym c.job.origin_is) c.stands;
       outcome = λ x h.
           let same : x ≡ ((code_of r.program r.options).after b.origin b.replies).outcome = same_Some x _ (sym h ∙ c.outcome) in

@@ -24,7 +24,7 @@ use Rattle.bp_run.proofs.Turns.{length-change}
 use Rattle.bp_run.proofs.Numbers.{changed_elsewhere}
 use Rattle.bp_select.specs.Benches.{PlainBench, placed, Fits}
 use Rattle.bp_thread.specs.declared.job.Job.{Job}
-use Rattle.bp_thread.specs.Jobs.{PlainJob, plain_job, IsOf, StandsFor, IsWhole, is_stopped}
+use Rattle.bp_thread.specs.Jobs.{PlainJob, plain_job, IsOf, StandsFor, IsFresh, is_stopped}
 use Rattle.bp_floor.specs.declared.board.Board.{Board}
 use Rattle.bp_floor.specs.Seating.{PlainSeat, seated, origin_in, replies_in, outcome_in, is_waiting, is_ready, where_from, statement_at, stated_from, IsOwn, IsOwnIn, AreOwn, swept}
 use Rattle.bp_floor.specs.Boards.{stand_of, pair_of}
@@ -129,7 +129,7 @@ given_silent : (s : PlainSeat) (g : Job) (n : ℕ) → (plain_job g).outcome ≡
 given_silent s g n k = rw k (if_none s.ended)
 
 given_own : (r : Running) (n : ℕ) (j g : Job) (e : PlainEvent) → IsOwn r.program r.options n j → is_stopped (plain_job j).outcome ≡ true → plain_job g ≡ record (plain_job j) { replies = (plain_job j).replies ++ e ∷ []; outcome = None } →
-    ((program : PlainProgram) → IsOf program j → IsOf program g) → ((base : Ground) (budget : ℕ) → StandsFor base budget j → IsWhole base budget g) → IsOwn r.program r.options n g
+    ((program : PlainProgram) → IsOf program j → IsOf program g) → ((base : Ground) (budget : ℕ) → StandsFor base budget j → IsFresh base budget g) → IsOwn r.program r.options n g
 given_own r n j g e o s p q w =
     let some = stopped_some (plain_job j).outcome s in
     let outcome : (plain_job g).outcome ≡ None = ap (λ (x : PlainJob). x.outcome) p in
@@ -137,7 +137,7 @@ given_own r n j g e o s p q w =
       number_is = ap (λ (x : PlainJob). x.number) p ∙ o.number_is;
       of_program = q r.program o.of_program;
       effects = ap (λ (x : PlainJob). x.effects) p ∙ o.effects;
-      whole = λ h. subst (λ (x : Origin). IsWhole (ground_for r.program r.options.budget x) r.options.budget g) (sym (ap (λ (x : PlainJob). x.origin) p))
+      fresh = λ h. subst (λ (x : Origin). IsFresh (ground_for r.program r.options.budget x) r.options.budget g) (sym (ap (λ (x : PlainJob). x.origin) p))
           (w (ground_for r.program r.options.budget (plain_job j).origin) r.options.budget (o.stands some.1 some.2));
       stands = λ x h. absurd (none-some x (sym outcome ∙ h));
       outcome = λ x h. absurd (none-some x (sym outcome ∙ h));
@@ -163,7 +163,7 @@ touch_moves r e i all xs old now new h t =
       threads = ap (λ (ts : List (Thread Origin)). touch_all e xs ts) threads ∙ t.threads;
       own = subst (λ (ss : List PlainSeat). AreOwn r.program r.options 0 ss) (sym h.0.seats)
           (own_changed0 r.program r.options i put now.seats t.own
-          (λ s w y. given_own r i h.0.job g e (subst (λ (o : Option Job). IsOwnIn r.program r.options i o) (h.0.old_is s w) y) (subst (λ (j : Job). is_stopped (plain_job j).outcome ≡ true) (sym (jobs s w)) k.stopped) h.0.plain h.0.of_program h.0.whole));
+          (λ s w y. given_own r i h.0.job g e (subst (λ (o : Option Job). IsOwnIn r.program r.options i o) (h.0.old_is s w) y) (subst (λ (j : Job). is_stopped (plain_job j).outcome ≡ true) (sym (jobs s w)) k.stopped) h.0.plain h.0.of_program h.0.fresh));
       waiting = ap (λ (ss : List PlainSeat). where_from is_waiting 0 ss ++ moves_in xs) h.0.seats
           ∙ ap (λ (ns : List ℕ). ns ++ moves_in xs) (where_more0 is_waiting i put now.seats low (λ s w. let q = stands_quiet now.seats i s k w in (q.2, given_waits s g q.0 outcome)) below)
           ∙ append_assoc (where_from is_waiting 0 now.seats) (i ∷ []) (moves_in xs) ∙ t.waiting;

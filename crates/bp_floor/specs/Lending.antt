@@ -9,7 +9,7 @@ use Rattle.bp_run.specs.Settling.Entry.{The_top, Runs, Stops}
 use Rattle.bp_run.specs.Numbers.{number_of}
 use Rattle.bp_meaning.specs.After.{effect_of}
 use Rattle.bp_thread.specs.declared.job.Job.{Job}
-use Rattle.bp_thread.specs.Jobs.{PlainJob, plain_job, IsOf, StandsFor, IsWhole}
+use Rattle.bp_thread.specs.Jobs.{PlainJob, plain_job, IsOf, StandsFor, IsFresh}
 use Rattle.bp_code.specs.Code.{ground_for}
 use Rattle.bp_floor.specs.Programs.{code_of}
 
@@ -26,7 +26,7 @@ pub record IsLent (program : PlainProgram) (o : PlainOptions) (n : ℕ) (b : Bod
   pub job : IsJobOf program n b j
   pub effects : (plain_job j).effects ≡ []
   pub outcome : (plain_job j).outcome ≡ None
-  pub whole : IsWhole (ground_for program o.budget b.origin) o.budget j
+  pub fresh : IsFresh (ground_for program o.budget b.origin) o.budget j
 
 -- carried to its outcome
 pub record IsCarried (program : PlainProgram) (o : PlainOptions) (n : ℕ) (b : Body Origin) (j : Job)

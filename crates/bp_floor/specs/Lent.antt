@@ -7,7 +7,7 @@ use Rattle.bp_run.specs.Configuration.{change}
 use Rattle.bp_run.specs.Settling.{Entry}
 use Rattle.bp_run.specs.Settling.Entry.{The_top, Runs, Stops}
 use Rattle.bp_thread.specs.declared.job.Job.{Job}
-use Rattle.bp_thread.specs.Jobs.{plain_job, IsOf, IsWhole}
+use Rattle.bp_thread.specs.Jobs.{plain_job, IsOf, IsFresh}
 use Rattle.bp_floor.specs.Seating.{PlainSeat, seated, is_waiting, is_ready, where_from, stated_from, AreOwn}
 use Rattle.bp_floor.specs.Seated.{job_at}
 use Rattle.bp_floor.specs.Kept.{Running, AreBelow, runs_in}
@@ -23,7 +23,7 @@ pub record IsStarted (base : Ground) (o : PlainOptions) (number : ℕ) (origin :
   pub effects : (plain_job j).effects ≡ []
   pub outcome : (plain_job j).outcome ≡ None
   pub of_program : IsOf base.program j
-  pub whole : IsWhole base o.budget j
+  pub fresh : IsFresh base o.budget j
 
 -- the job of an entry: a new one of the top level and of a handler, and a b-thread's own, which is taken out
 abbrev pub Lends : Ground → PlainOptions → Entry Origin → List PlainSeat → List PlainSeat → List Job

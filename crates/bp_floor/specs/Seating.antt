@@ -10,7 +10,7 @@ use Rattle.bp_run.specs.Bodies.{Outcome}
 use Rattle.bp_run.specs.Configuration.{Thread}
 use Rattle.bp_run.specs.Selecting.{Live, at_stop}
 use Rattle.bp_thread.specs.declared.job.Job.{Job}
-use Rattle.bp_thread.specs.Jobs.{plain_job, IsOf, StandsFor, IsWhole}
+use Rattle.bp_thread.specs.Jobs.{plain_job, IsOf, StandsFor, IsFresh}
 use Rattle.bp_code.specs.Code.{ground_for}
 use Rattle.bp_floor.specs.Programs.{code_of}
 
@@ -67,8 +67,8 @@ pub record IsOwn (program : PlainProgram) (o : PlainOptions) (n : ℕ) (j : Job)
   pub number_is : (plain_job j).number ≡ n
   pub of_program : IsOf program j
   pub effects : (plain_job j).effects ≡ []
-  pub whole : (plain_job j).outcome ≡ None
-      → IsWhole (ground_for program o.budget (plain_job j).origin) o.budget j
+  pub fresh : (plain_job j).outcome ≡ None
+      → IsFresh (ground_for program o.budget (plain_job j).origin) o.budget j
   pub stands : (x : Outcome PlainSet) → (plain_job j).outcome ≡ Some x
       → StandsFor (ground_for program o.budget (plain_job j).origin) o.budget j
   pub outcome : (x : Outcome PlainSet) → (plain_job j).outcome ≡ Some x

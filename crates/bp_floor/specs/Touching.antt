@@ -19,7 +19,7 @@ use Rattle.bp_meaning.specs.After.{handler}
 use Rattle.bp_select.specs.Benches.{placed, Fits}
 use Rattle.bp_select.specs.Answers.{move_of}
 use Rattle.bp_thread.specs.declared.job.Job.{Job}
-use Rattle.bp_thread.specs.Jobs.{plain_job, IsOf, StandsFor, IsWhole, is_stopped}
+use Rattle.bp_thread.specs.Jobs.{plain_job, IsOf, StandsFor, IsFresh, is_stopped}
 use Rattle.bp_floor.specs.declared.board.Board.{Board}
 use Rattle.bp_floor.specs.declared.touching.Touch.{Touch}
 use Rattle.bp_floor.specs.declared.touching.Touch.TheVariants.{Moves, Interrupts}
@@ -60,7 +60,7 @@ pub record IsGivenTo (e : PlainEvent) (i : ℕ) (old new : List PlainSeat) : Typ
   pub plain : plain_job given
       ≡ record (plain_job job) { replies = (plain_job job).replies ++ e ∷ []; outcome = None }
   pub of_program : (program : PlainProgram) → IsOf program job → IsOf program given
-  pub whole : (base : Ground) (budget : ℕ) → StandsFor base budget job → IsWhole base budget given
+  pub fresh : (base : Ground) (budget : ℕ) → StandsFor base budget job → IsFresh base budget given
 
 -- it states nothing any more
 pub record IsSilent (i : ℕ) (old new : Board) : Type 0 where

@@ -244,6 +244,30 @@ impl Board {
         }
     }
 
+    /// Merges the effects of an entry. Where there are none, its place is not made.
+    fn effects_of(
+        &mut self,
+        alloc: Global,
+        ground: &Ground,
+        options: Options,
+        entry: &Entry,
+        effects: Effects,
+    ) -> Result<(), Memory>
+        requires { IsBelow (length self.old.seats) (entry_seen entry.now) }
+        ensures merged { OnOk result (pair_of self.new
+            ≡ with_effects (place_of (stand_of self.old) (entry_seen entry.now)) (map effect_of
+            (plain_effects effects)) (pair_of self.old)) }
+        ensures keeps { OnOk result ((r : Running) (first : ℕ) →
+            IsOn r (plain_ground ground.now) options → IsKept r first self.old →
+            IsKept r first self.new) }
+    {
+        if effects.items.is_empty() {
+            return Ok(());
+        }
+        let place = self.place(entry)?;
+        self.effects(alloc, ground, options, &place, effects)
+    }
+
     /// Merges what the body of an entry did.
     pub fn part(
         &mut self,
@@ -263,8 +287,7 @@ impl Board {
         if self.verdict.is_some() {
             return Ok(());
         }
-        let place = self.place(entry)?;
-        self.effects(alloc, ground, options, &place, part.effects)?;
+        self.effects_of(alloc, ground, options, entry, part.effects)?;
         if self.verdict.is_some() {
             return Ok(());
         }

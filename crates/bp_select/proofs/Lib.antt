@@ -1,6 +1,4 @@
-pub mod Lives
 pub mod Questions
-pub mod Feeds
 pub mod Blocks
 pub mod Gathered
 pub mod Remains
@@ -10,3 +8,4 @@ pub mod Firsts
 pub mod Touching
 pub mod Selects
 pub mod Putting
+pub mod Leaving

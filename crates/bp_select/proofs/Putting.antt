@@ -1,7 +1,6 @@
 -- Statements put at their places.
-use Rattle.std.proofs.Common.{◌≡◌, ℕ, zero, suc, ◌<◌, ◌≤◌, arith, Bool, true, false, List, [], ◌∷◌, ◌++◌, length, map, take, drop, set, get_or, refl, ap, sym, ◌∙◌, subst, Option, Some, None, Result, Ok, Err, nat_lt, nat_eq, if◌then◌else◌, slice_get}
-use Rattle.std.specs.List.{AllWithin, cons_option, insert, remove}
-use Rattle.std.specs.Result.{OnOk, OnErr}
+use Rattle.std.proofs.Common.{◌≡◌, ℕ, zero, suc, ◌<◌, ◌≤◌, arith, Bool, true, false, List, [], ◌∷◌, ◌++◌, length, map, take, drop, set, get_or, refl, ap, sym, ◌∙◌, subst, Option, Some, None, nat_lt, nat_eq, if◌then◌else◌, slice_get}
+use Rattle.std.specs.List.{AllWithin, cons_option, insert}
 use Rattle.std.proofs.lemmas.Bool.{lt-ltb, le-ltb, ltb-false, ltb-true, eqb-true, eq-eqb, ne_eqb}
 use Rattle.js_value.specs.Value.{PlainSet}
 use Rattle.bp_run.specs.Bodies.{Statement}
@@ -13,7 +12,7 @@ use Rattle.bp_select.specs.Places.{place_in, is_number, AreAbove, AreInOrder}
 
 -- ---- where it stands
 
-place_of_one : (n : ℕ) (x : Stated) (rest : List Stated) (b : Bool) → nat_lt (live_of x).number n ≡ b → place_in n (map live_of (x ∷ rest)) ≡ (if b then suc (place_in n (map live_of rest)) else 0)
+pub place_of_one : (n : ℕ) (x : Stated) (rest : List Stated) (b : Bool) → nat_lt (live_of x).number n ≡ b → place_in n (map live_of (x ∷ rest)) ≡ (if b then suc (place_in n (map live_of rest)) else 0)
 place_of_one n x rest b h = rw h refl
 
 point_place_at : (n : ℕ) (x : Stated) (xs : List Stated) (i : ℕ) → nat_lt x.number n ≡ true → i ≡ place_in n (map live_of xs) → suc i ≡ place_in n (map live_of (x ∷ xs))
@@ -51,24 +50,24 @@ place_within n (x ∷ xs) = at (nat_lt (live_of x).number n) refl (place_within 
 
 -- ---- what is placed, by the first one
 
-placed_before : (n : ℕ) (o : Option (Statement PlainSet)) (t : Live PlainSet) (ts : List (Live PlainSet)) → n < t.number → placed n o (t ∷ ts) ≡ cons_option (live_at n o) (t ∷ ts)
+pub placed_before : (n : ℕ) (o : Option (Statement PlainSet)) (t : Live PlainSet) (ts : List (Live PlainSet)) → n < t.number → placed n o (t ∷ ts) ≡ cons_option (live_at n o) (t ∷ ts)
 placed_before n o t ts h = rw (lt-ltb n t.number h) refl
 
-placed_at : (n : ℕ) (o : Option (Statement PlainSet)) (t : Live PlainSet) (ts : List (Live PlainSet)) → t.number ≡ n → placed n o (t ∷ ts) ≡ cons_option (live_at n o) ts
+pub placed_at : (n : ℕ) (o : Option (Statement PlainSet)) (t : Live PlainSet) (ts : List (Live PlainSet)) → t.number ≡ n → placed n o (t ∷ ts) ≡ cons_option (live_at n o) ts
 placed_at n o t ts h = rw (le-ltb n t.number (omega (arith, h)), eq-eqb n t.number (sym h)) refl
 
-placed_after : (n : ℕ) (o : Option (Statement PlainSet)) (t : Live PlainSet) (ts : List (Live PlainSet)) → t.number < n → placed n o (t ∷ ts) ≡ t ∷ placed n o ts
+pub placed_after : (n : ℕ) (o : Option (Statement PlainSet)) (t : Live PlainSet) (ts : List (Live PlainSet)) → t.number < n → placed n o (t ∷ ts) ≡ t ∷ placed n o ts
 placed_after n o t ts h = rw (le-ltb n t.number (omega (arith, h)), ne_eqb n t.number (λ e. omega (arith, e, h))) refl
 
 -- ---- the order stays
 
-above : (a n : ℕ) → nat_lt a n ≡ false → nat_eq a n ≡ false → n < a
+pub above : (a n : ℕ) → nat_lt a n ≡ false → nat_eq a n ≡ false → n < a
 above a n h k =
     let m : n ≤ a = ltb-false a n h in
     let f : (a ≡ n) → ⊥ = λ e. (let t : nat_eq a n ≡ true = eq-eqb a n e in cc) in
     omega (arith, m, f)
 
-above_trans : (a b : ℕ) (ts : List (Live PlainSet)) → a < b → AreAbove b ts → AreAbove a ts
+pub above_trans : (a b : ℕ) (ts : List (Live PlainSet)) → a < b → AreAbove b ts → AreAbove a ts
 above_trans a b [] h k = tt
 above_trans a b (t ∷ ts) h k = let m = k.0 in (omega (arith, h, m), above_trans a b ts h k.1)
 
@@ -100,11 +99,6 @@ module _ (n : ℕ) (o : Option (Statement PlainSet)) where
   pub order_placed : (ts : List (Live PlainSet)) → AreInOrder ts → AreInOrder (placed n o ts)
   order_placed [] h = order_cons o [] tt tt
   order_placed (t ∷ ts) h = order_at t ts (nat_lt n t.number) (nat_eq n t.number) refl refl h (order_placed ts h.1)
-
--- whether or not memory was wanting
-pub order_put : {E : Type 0} (n : ℕ) (o : Option (Statement PlainSet)) (ts us : List (Live PlainSet)) (r : Result (Unit {0}) E) → OnOk r (us ≡ placed n o ts) → OnErr r (us ≡ ts) → AreInOrder ts → AreInOrder us
-order_put n o ts us (Ok x) h k m = subst (λ (vs : List (Live PlainSet)). AreInOrder vs) (sym h) (order_placed n o ts m)
-order_put n o ts us (Err x) h k m = subst (λ (vs : List (Live PlainSet)). AreInOrder vs) (sym k) m
 
 -- ---- in the place of one of its number
 
@@ -163,50 +157,3 @@ pub put_insert : (n : ℕ) (x : Stated) (o : Option (Statement PlainSet)) (xs : 
     b ≡ is_number n (slice_get (map live_of xs) k) → b ≡ false → map live_of (insert xs k x) ≡ placed n o (map live_of xs)
 put_insert n x o xs k b s e f t =
     subst (λ (i : ℕ). Insert_is n x o xs i) (sym e) (insert_in n x o xs s (subst (λ (i : ℕ). is_number n (slice_get (map live_of xs) i) ≡ false) e (sym f ∙ t)))
-
--- ---- taken away
-
-abbrev Remove_is : ℕ → List Stated → ℕ → Type 0
-Remove_is n xs k = map live_of (take k xs ++ drop (suc k) xs) ≡ placed n None (map live_of xs)
-
-remove_at : (n : ℕ) (y : Stated) (xs : List Stated) (k : ℕ) (b : Bool) → nat_lt (live_of y).number n ≡ b → k ≡ (if b then suc (place_in n (map live_of xs)) else 0) →
-    is_number n (slice_get (map live_of (y ∷ xs)) k) ≡ true →
-    (is_number n (slice_get (map live_of xs) (place_in n (map live_of xs))) ≡ true → Remove_is n xs (place_in n (map live_of xs))) → Remove_is n (y ∷ xs) k
-remove_at n y xs k true h e f ih =
-    let j = place_in n (map live_of xs) in
-    let f' : is_number n (slice_get (map live_of xs) j) ≡ true = subst (λ (i : ℕ). is_number n (slice_get (map live_of (y ∷ xs)) i) ≡ true) e f in
-    subst (λ (i : ℕ). Remove_is n (y ∷ xs) i) (sym e)
-    (ap (λ (ts : List (Live PlainSet)). live_of y ∷ ts) (ih f') ∙ sym (placed_after n None (live_of y) (map live_of xs) (ltb-true (live_of y).number n h)))
-remove_at n y xs k false h e f ih =
-    let f' : nat_eq (live_of y).number n ≡ true = subst (λ (i : ℕ). is_number n (slice_get (map live_of (y ∷ xs)) i) ≡ true) e f in
-    subst (λ (i : ℕ). Remove_is n (y ∷ xs) i) (sym e) (sym (placed_at n None (live_of y) (map live_of xs) (eqb-true (live_of y).number n f')))
-
-remove_in : (n : ℕ) (xs : List Stated) → is_number n (slice_get (map live_of xs) (place_in n (map live_of xs))) ≡ true → Remove_is n xs (place_in n (map live_of xs))
-remove_in n [] f = absurd (cc)
-remove_in n (y ∷ xs) f =
-    remove_at n y xs (place_in n (map live_of (y ∷ xs))) (nat_lt (live_of y).number n) refl (place_of_one n y xs (nat_lt (live_of y).number n) refl) f (λ g. remove_in n xs g)
-
-pub take_removes : (n : ℕ) (xs : List Stated) (k : ℕ) (b : Bool) → k ≡ place_in n (map live_of xs) → b ≡ is_number n (slice_get (map live_of xs) k) → b ≡ true →
-    map live_of (remove xs k) ≡ placed n None (map live_of xs)
-take_removes n xs k b e f t =
-    subst (λ (i : ℕ). Remove_is n xs i) (sym e) (remove_in n xs (subst (λ (i : ℕ). is_number n (slice_get (map live_of xs) i) ≡ true) e (sym f ∙ t)))
-
-absent_at : (n : ℕ) (y : Stated) (xs : List Stated) (k : ℕ) (b : Bool) → nat_lt (live_of y).number n ≡ b → k ≡ (if b then suc (place_in n (map live_of xs)) else 0) →
-    is_number n (slice_get (map live_of (y ∷ xs)) k) ≡ false →
-    (is_number n (slice_get (map live_of xs) (place_in n (map live_of xs))) ≡ false → map live_of xs ≡ placed n None (map live_of xs)) → map live_of (y ∷ xs) ≡ placed n None (map live_of (y ∷ xs))
-absent_at n y xs k true h e f ih =
-    let j = place_in n (map live_of xs) in
-    let f' : is_number n (slice_get (map live_of xs) j) ≡ false = subst (λ (i : ℕ). is_number n (slice_get (map live_of (y ∷ xs)) i) ≡ false) e f in
-    ap (λ (ts : List (Live PlainSet)). live_of y ∷ ts) (ih f') ∙ sym (placed_after n None (live_of y) (map live_of xs) (ltb-true (live_of y).number n h))
-absent_at n y xs k false h e f ih =
-    let f' : nat_eq (live_of y).number n ≡ false = subst (λ (i : ℕ). is_number n (slice_get (map live_of (y ∷ xs)) i) ≡ false) e f in
-    sym (placed_before n None (live_of y) (map live_of xs) (above (live_of y).number n h f'))
-
-absent_in : (n : ℕ) (xs : List Stated) → is_number n (slice_get (map live_of xs) (place_in n (map live_of xs))) ≡ false → map live_of xs ≡ placed n None (map live_of xs)
-absent_in n [] f = refl
-absent_in n (y ∷ xs) f =
-    absent_at n y xs (place_in n (map live_of (y ∷ xs))) (nat_lt (live_of y).number n) refl (place_of_one n y xs (nat_lt (live_of y).number n) refl) f (λ g. absent_in n xs g)
-
-pub take_nothing : (n : ℕ) (xs : List Stated) (k : ℕ) (b : Bool) → k ≡ place_in n (map live_of xs) → b ≡ is_number n (slice_get (map live_of xs) k) → b ≡ false →
-    map live_of xs ≡ placed n None (map live_of xs)
-take_nothing n xs k b e f t = absent_in n xs (subst (λ (i : ℕ). is_number n (slice_get (map live_of xs) i) ≡ false) e (sym f ∙ t))

@@ -1,26 +1,26 @@
--- What a hasher is fed for an event: equal events are fed alike, and most others are not.
-use Rattle.std.specs.Prelude.{ℕ, List, [], ◌++◌, flat_map, Option, Some, None}
+-- What a hasher is fed for an event: equal events are fed alike, and events that differ in a leaf are not.
+use Rattle.std.specs.Prelude.{ℕ, List, [], ◌++◌, Option, Some, None}
 use Rattle.std.specs.Hash as fed
-use Rattle.js_data.specs.Data.{PlainData, null, truth, whole, words, list, fields}
-use Rattle.js_data.specs.Lists.{data_in, data_fields_in}
+use Rattle.js_data.specs.Data.{PlainData, null, truth, whole, words, list, fields, DataList, no_data, item, DataFields, no_fields, field}
 use Rattle.js_data.specs.Event.{PlainEvent}
 
-abbrev pub leaf_writes : PlainData → List (List ℕ)
-leaf_writes null = []
-leaf_writes (truth b) = fed.bool b
-leaf_writes (whole n) = fed.i64 n
-leaf_writes (words s) = fed.str s
-leaf_writes (list ds) = []
-leaf_writes (fields fs) = []
+-- all leaves
+abbrev mutual
+  pub data_writes : PlainData → List (List ℕ)
+  data_writes null = []
+  data_writes (truth b) = fed.bool b
+  data_writes (whole n) = fed.i64 n
+  data_writes (words s) = fed.str s
+  data_writes (list ds) = data_list_writes ds
+  data_writes (fields fs) = data_fields_writes fs
 
--- of a list and of fields the leaves among the parts
-abbrev pub data_writes : PlainData → List (List ℕ)
-data_writes null = []
-data_writes (truth b) = fed.bool b
-data_writes (whole n) = fed.i64 n
-data_writes (words s) = fed.str s
-data_writes (list ds) = flat_map leaf_writes (data_in ds)
-data_writes (fields fs) = flat_map (λ f. leaf_writes f.1) (data_fields_in fs)
+  pub data_list_writes : DataList → List (List ℕ)
+  data_list_writes no_data = []
+  data_list_writes (item d ds) = data_writes d ++ data_list_writes ds
+
+  pub data_fields_writes : DataFields → List (List ℕ)
+  data_fields_writes no_fields = []
+  data_fields_writes (field k d fs) = data_writes d ++ data_fields_writes fs
 
 abbrev pub extra_writes : Option PlainData → List (List ℕ)
 extra_writes None = []

@@ -11,3 +11,4 @@ pub mod Blocking
 pub mod Touches
 pub mod Free
 pub mod Places
+pub mod Lists

@@ -13,7 +13,7 @@ ghost use Rattle.bp_select.specs.Lives.{live_of};
 ghost use Rattle.bp_select.specs.Answers.{AnswersAs, AnswersReach, IsWithin, chosen_of, enabled_of};
 
 use crate::asking::blocker;
-use crate::placing::{place_of, put, take_away};
+use crate::placing::StatedList;
 use crate::reaching::reach;
 use crate::selecting::{chosen, selectable};
 use crate::{Choice, Draw, Enabled, Reach, SelectFault};
@@ -31,6 +31,8 @@ pub(crate) struct Stated {
     pub number: u32,
     /// What it states at its synchronisation point.
     pub statement: Statement,
+    /// Whether it is live.
+    pub here: bool,
 }
 
 /// What the live b-threads state, by their numbers. Contracts see the list of statements, and the
@@ -40,25 +42,21 @@ pub(crate) struct Stated {
 /// them. A new bench fits all of them.
 #[derive(Drop)]
 pub struct Bench {
-    live: Vec<Stated>,
+    live: StatedList,
 }
 
 impl Model for Bench {
-    ghost use Rattle.std.specs.Prelude.{[], map};
+    ghost use Rattle.std.specs.Prelude.{[]};
     ghost use Rattle.std.specs.Coded.{codes};
     ghost use Rattle.js_data.specs.Codes.{event_code};
     ghost use Rattle.js_value.specs.Codes.{set_code};
     ghost use Rattle.bp_select.specs.Benches.{PlainBench};
-    ghost use Rattle.bp_select.specs.Lives.{live_of};
-    ghost use Rattle.bp_select.specs.Places.{AreInOrder};
 
     ghost Value = { PlainBench };
 
     ghost coded = { Prim.hlevel (codes, event_code, set_code) };
 
-    ghost view = { λ b. record { live = map live_of b.live.items; kept = [] } };
-
-    ghost invariant = { λ b. AreInOrder (map live_of b.live.items) };
+    ghost view = { λ b. record { live = b.live.live; kept = [] } };
 }
 
 impl Bench {
@@ -68,7 +66,7 @@ impl Bench {
         ensures fits { (base : Base) (budget : ℕ) → Fits result base budget }
     {
         Bench {
-            live: Vec::new(alloc),
+            live: StatedList::new(alloc),
         }
     }
 
@@ -84,14 +82,7 @@ impl Bench {
         ensures fits { (base : Base) (budget : ℕ) →
             Fits self.old base budget → Fits self.new base budget }
     {
-        let at = place_of(self.live.as_slice(), number);
-        match statement {
-            Some(statement) => put(&mut self.live, at, Stated { number, statement }),
-            None => {
-                take_away(&mut self.live, at, number);
-                Ok(())
-            }
-        }
+        self.live.place(number, statement)
     }
 
     /// What can be selected: the requested events that nobody blocks, or else the first event of
@@ -115,6 +106,7 @@ impl Bench {
         ensures same { self.new.live ≡ self.old.live }
         ensures fits { Fits self.new (plain_ground ground.now) budget }
     {
+        self.live.tidy();
         let free = selectable(alloc, ground, budget, self.live.as_slice(), queue)?;
         Ok(free.into_enabled(alloc)?)
     }
@@ -148,6 +140,7 @@ impl Bench {
         ensures same { self.new.live ≡ self.old.live }
         ensures fits { Fits self.new (plain_ground ground.now) budget }
     {
+        self.live.tidy();
         let free = selectable(alloc, ground, budget, self.live.as_slice(), queue)?;
         Ok(chosen(alloc, strategy, self.live.as_slice(), free, draw)?)
     }
@@ -171,6 +164,7 @@ impl Bench {
         ensures same { self.new.live ≡ self.old.live }
         ensures fits { Fits self.new (plain_ground ground.now) budget }
     {
+        self.live.tidy();
         reach(alloc, ground, budget, self.live.as_slice(), event)
     }
 
@@ -192,6 +186,7 @@ impl Bench {
         ensures same { self.new.live ≡ self.old.live }
         ensures fits { Fits self.new (plain_ground ground.now) budget }
     {
+        self.live.tidy();
         blocker(alloc, ground, budget, self.live.as_slice(), event)
     }
 
@@ -199,15 +194,8 @@ impl Bench {
     pub fn requested(&self, event: &Event) -> bool
         ensures { result ≡ requested self.now.live event.now }
     {
-        is_requested(self.live.as_slice(), event)
+        self.live.requested(event)
     }
-}
-
-/// Whether one of them requests the event.
-fn is_requested(live: &[Stated], event: &Event) -> bool
-    ensures { result ≡ list_any (λ t. requests event.now (live_of t)) live.now }
-{
-    live.iter().any(|t| requests(event, t))
 }
 
 /// Whether the b-thread requests the event.

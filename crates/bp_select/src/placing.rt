@@ -1,53 +1,168 @@
 //! Statements in the order of their numbers.
-ghost use Rattle.std.specs.Prelude.{◌≡◌, Some, None, map, slice_get, OnOk, OnErr};
+ghost use Rattle.std.specs.Prelude.{◌≡◌, ◌<◌, ◌&&◌, [], Some, None, get_or, length, map, option_map, slice_get, true, OnOk, OnErr};
+ghost use Rattle.std.specs.List.{list_any};
+ghost use Rattle.bp_run.specs.Selecting.{requests, requested};
 ghost use Rattle.bp_thread.specs.Views.{plain_statement};
-ghost use Rattle.bp_select.specs.Lives.{live_of};
 ghost use Rattle.bp_select.specs.Benches.{placed};
+ghost use Rattle.bp_select.specs.Lists.{AreCounted, gap, live_in};
+ghost use Rattle.bp_select.specs.Lives.{live_of};
 ghost use Rattle.bp_select.specs.Places.{AreInOrder, place_in, is_number};
 
-use crate::bench::Stated;
+use crate::bench::{Stated, requests};
 use bp_log::Memory;
+use bp_thread::Statement;
+use js_data::Event;
+use std::alloc::Global;
+use std::marker::Model;
+
+/// What b-threads state, by their numbers. Contracts see those that are live, and how many are not.
+///
+/// One that is live no more keeps its place until the list is tidied, so that nothing is moved where
+/// it comes back before.
+#[derive(Drop)]
+pub(crate) struct StatedList {
+    items: Vec<Stated>,
+    gone: usize,
+}
+
+impl Model for StatedList {
+    ghost use Rattle.std.specs.Coded.{codes};
+    ghost use Rattle.js_data.specs.Codes.{event_code};
+    ghost use Rattle.js_value.specs.Codes.{set_code};
+    ghost use Rattle.bp_select.specs.Lists.{AreCounted, PlainList, live_in};
+
+    ghost Value = { PlainList };
+
+    ghost coded = { Prim.hlevel (codes, event_code, set_code) };
+
+    ghost view = { λ l. record { live = live_in l.items.items; gone = l.gone } };
+
+    ghost invariant = { λ l. AreCounted l.items.items l.gone };
+}
 
 /// How many of them have a smaller number, by a search by halves.
-pub(crate) fn place_of(live: &[Stated], number: u32) -> usize
-    requires { AreInOrder (map live_of live.now) }
-    ensures { result ≡ place_in number (map live_of live.now) }
+fn place_of(items: &[Stated], number: u32) -> usize
+    requires { AreInOrder (map live_of items.now) }
+    ensures { result ≡ place_in number (map live_of items.now) }
 {
-    live.partition_point(|stated| stated.number < number)
+    items.partition_point(|stated| stated.number < number)
 }
 
 /// Whether the one at this place has this number.
-fn is_at(live: &[Stated], at: usize, number: u32) -> bool
-    ensures { result ≡ is_number number (slice_get (map live_of live.now) at) }
+fn is_at(items: &[Stated], at: usize, number: u32) -> bool
+    ensures { result ≡ is_number number (slice_get (map live_of items.now) at) }
 {
-    match live.get(at) {
+    match items.get(at) {
         None => false,
         Some(stated) => stated.number == number,
     }
 }
 
-/// Puts the statement at its place, for that of the same number if there is one.
-pub(crate) fn put(live: &mut Vec<Stated>, at: usize, stated: Stated) -> Result<(), Memory>
-    requires { at ≡ place_in stated.number (map live_of live.old.items) }
-    ensures put { let o = Some (plain_statement stated.statement) in
-        OnOk result
-        (map live_of live.new.items ≡ placed stated.number o (map live_of live.old.items)) }
-    ensures failed { OnErr result (map live_of live.new.items ≡ map live_of live.old.items) }
+/// 1 where the one at this place is not live, and 0 where it is.
+fn gap_at(items: &[Stated], at: usize) -> usize
+    requires { at < length items.now }
+    ensures { (d : Stated) → result ≡ gap (get_or items.now at d) }
 {
-    if is_at(live.as_slice(), at, stated.number) {
-        live[at] = stated;
+    if items[at].here { 0 } else { 1 }
+}
+
+/// Puts a statement at its place, for that of the same number if there is one.
+fn put(items: &mut Vec<Stated>, gone: &mut usize, at: usize, stated: Stated) -> Result<(), Memory>
+    requires counted { AreCounted items.old.items gone.old }
+    requires at { at ≡ place_in stated.number (map live_of items.old.items) }
+    requires here { stated.here ≡ true }
+    ensures put { OnOk result (live_in items.new.items
+        ≡ placed stated.number (Some (plain_statement stated.statement)) (live_in items.old.items)) }
+    ensures failed { OnErr result (live_in items.new.items ≡ live_in items.old.items) }
+    ensures counted { AreCounted items.new.items gone.new }
+{
+    if is_at(items.as_slice(), at, stated.number) {
+        *gone -= gap_at(items.as_slice(), at);
+        items[at] = stated;
         return Ok(());
     }
-    live.insert(at, stated)?;
+    items.insert(at, stated)?;
     Ok(())
 }
 
-/// Takes away what the one of this number states, if it is there.
-pub(crate) fn take_away(live: &mut Vec<Stated>, at: usize, number: u32)
-    requires { at ≡ place_in number (map live_of live.old.items) }
-    ensures { map live_of live.new.items ≡ placed number None (map live_of live.old.items) }
+/// The one of this number is live no more, if it is there.
+fn take_away(items: &mut Vec<Stated>, gone: &mut usize, at: usize, number: u32)
+    requires counted { AreCounted items.old.items gone.old }
+    requires at { at ≡ place_in number (map live_of items.old.items) }
+    ensures taken { live_in items.new.items ≡ placed number None (live_in items.old.items) }
+    ensures counted { AreCounted items.new.items gone.new }
 {
-    if is_at(live.as_slice(), at, number) {
-        live.remove(at);
+    if is_at(items.as_slice(), at, number) {
+        *gone += 1 - gap_at(items.as_slice(), at);
+        items[at].here = false;
+    }
+}
+
+/// Whether one of them that is live requests the event.
+fn is_requested(items: &[Stated], event: &Event) -> bool
+    ensures { result ≡ list_any (λ t. t.here && requests event.now (live_of t)) items.now }
+{
+    items.iter().any(|t| t.here && requests(event, t))
+}
+
+impl StatedList {
+    /// Nobody states anything. Takes no memory.
+    pub fn new(alloc: Global) -> StatedList
+        ensures live { result.live ≡ [] }
+    {
+        StatedList {
+            items: Vec::new(alloc),
+            gone: 0,
+        }
+    }
+
+    /// The b-thread of this number states this from now on; with nothing it is not live. Its only
+    /// error is want of memory, and then all state what they stated.
+    pub fn place(&mut self, number: u32, statement: Option<Statement>) -> Result<(), Memory>
+        ensures placed { OnOk result
+            (self.new.live ≡ placed number (option_map plain_statement statement) self.old.live) }
+        ensures failed { OnErr result (self.new.live ≡ self.old.live) }
+    {
+        let at = place_of(self.items.as_slice(), number);
+        match statement {
+            Some(statement) => {
+                let stated = Stated {
+                    number,
+                    statement,
+                    here: true,
+                };
+                put(&mut self.items, &mut self.gone, at, stated)
+            }
+            None => {
+                take_away(&mut self.items, &mut self.gone, at, number);
+                Ok(())
+            }
+        }
+    }
+
+    /// Those that are not live give up their places. Takes no memory.
+    pub fn tidy(&mut self)
+        ensures same { self.new.live ≡ self.old.live }
+        ensures none { self.new.gone ≡ 0 }
+    {
+        if self.gone > 0 {
+            self.items.retain(|stated| stated.here);
+            self.gone = 0;
+        }
+    }
+
+    /// Those that are live, where all give what they state. Takes no memory.
+    pub fn as_slice(&self) -> &[Stated]
+        requires { self.now.gone ≡ 0 }
+        ensures { map live_of result.now ≡ self.now.live }
+    {
+        self.items.as_slice()
+    }
+
+    /// Whether one that is live requests the event. Takes no memory.
+    pub fn requested(&self, event: &Event) -> bool
+        ensures { result ≡ requested self.now.live event.now }
+    {
+        is_requested(self.items.as_slice(), event)
     }
 }

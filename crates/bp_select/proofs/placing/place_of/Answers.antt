@@ -6,6 +6,6 @@ use Rattle.bp_select.proofs.placing.place_of.Goals as goal
 
 pub returns : goal.returns
 returns c =
-    let parted = IsPartitionedBy-ltb (λ (s : Stated). s.number) c.args.live.now c.args.number (order_rises c.args.live.now c.requires) in
+    let parted = IsPartitionedBy-ltb (λ (s : Stated). s.number) c.args.items.now c.args.number (order_rises c.args.items.now c.requires) in
     let point = IsPartitionPoint-from_clause (λ (s : Stated). nat_lt s.number c.args.number) _ _ c.partition_point.ensures.partitioned parted (λ a r q k. search rules) in
-    point_place c.args.number c.args.live.now _ c.partition_point.ensures.bound point.0 point.1
+    point_place c.args.number c.args.items.now _ c.partition_point.ensures.bound point.0 point.1

@@ -22,5 +22,5 @@ returns-in_ok-give c = record {
       ∙ change_twice (λ s. record s { job = Some c.give.new.self }) (λ s. record s { job = None }) c.args.number c.args.self.now;
   plain = c.in_ok-give.ensures.given;
   of_program = c.give.ensures.program;
-  whole = c.in_ok-give.ensures.whole;
+  fresh = c.in_ok-give.ensures.fresh;
 }

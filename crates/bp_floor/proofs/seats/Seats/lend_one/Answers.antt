@@ -10,7 +10,7 @@ pub returns-in_ok-top-in-Top : goal.returns-in_ok-top-in-Top
 returns-in_ok-top-in-Top c =
     let j = c.in_ok-top-in-Top.field-0 in
     subst (λ (x : Entry). Lends (plain_ground c.args.ground.now) c.args.options (entry_seen x) c.args.self.now c.args.self.now (j ∷ [])) (sym c.in-Top.is)
-    (refl, j, refl, started _ _ _ _ _ _ _ c.in_ok-top-in-Top.ensures.made c.in_ok-top-in-Top.ensures.program c.budget.ensures.budget c.in_ok-top-in-Top.ensures.whole)
+    (refl, j, refl, started _ _ _ _ _ _ _ c.in_ok-top-in-Top.ensures.made c.in_ok-top-in-Top.ensures.program c.budget.ensures.budget c.in_ok-top-in-Top.ensures.fresh)
 
 pub returns-in-Stops : goal.returns-in-Stops
 returns-in-Stops c =

@@ -1,0 +1,12 @@
+use Rattle.std.proofs.Common.{◌∙◌, List, map, ap, sym}
+use Rattle.bp_select.specs.declared.bench.Stated.{Stated}
+use Rattle.bp_select.specs.Lists.{PlainList}
+use Rattle.bp_select.specs.Lives.{live_of}
+use Rattle.bp_select.proofs.Leaving.{none_gone}
+use Rattle.bp_select.proofs.placing.StatedList.as_slice.Goals as goal
+
+pub returns : goal.returns
+returns c =
+    ap (λ (xs : List Stated). map live_of xs) c.as_slice.ensures.value
+    ∙ sym (none_gone c.self.inside.items.items (sym c.self.invariant.gone ∙ ap (λ (l : PlainList). l.gone) c.self.view_is ∙ c.requires))
+    ∙ ap (λ (l : PlainList). l.live) c.self.view_is
