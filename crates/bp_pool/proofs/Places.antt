@@ -1,5 +1,5 @@
 -- Jobs that are taken out of their list and put back, over plain variables.
-use Rattle.std.proofs.Common.{◌≡◌, ◌≢◌, ℕ, drop, append_assoc, length-append, below_more, suc, ◌+◌, ◌<◌, ◌≤◌, Bool, false, cond, eqb, eq-eqb, ne_eqb, List, [], ◌∷◌, ◌++◌, map, All, length, get_or, set, length-set, get_or-set_same, get_or-set_other, ◌⊎◌, inl, inr, refl, sym, ap, ◌∙◌, subst, arith, Option, Some, None, IsSome, Result, Ok, Err, IfOk}
+use Rattle.std.proofs.Common.{◌≡◌, ◌≢◌, ℕ, drop, append_assoc, length-append, below_more, ◌+◌, ◌<◌, ◌≤◌, Bool, false, cond, eqb, eq-eqb, ne_eqb, List, [], ◌∷◌, ◌++◌, map, All, length, get_or, set, length-set, get_or-set_same, get_or-set_other, ◌⊎◌, inl, inr, refl, sym, ap, ◌∙◌, subst, arith, Option, Some, None, IsSome, Result, Ok, Err, IfOk}
 use Rattle.std.proofs.lemmas.Bool.{cases_eq}
 use Rattle.std.proofs.lemmas.List.{length-map, get_or_append_left, get_or-map, map_push, nil_from_length}
 use Rattle.std.proofs.Math.Seq.{get_or-append_seam}
@@ -11,8 +11,8 @@ use Rattle.bp_thread.specs.declared.job.Job.{Job}
 use Rattle.bp_thread.specs.Jobs.{plain_job, IsOf}
 use Rattle.bp_thread.specs.Carried.{CarriedOut, AreCarriedOut}
 use Rattle.bp_pool.specs.declared.seat.Seat.{Seat}
-use Rattle.bp_pool.specs.Carrying.{IsCarriedOn, Each}
-use Rattle.bp_pool.specs.Seats.{Turned, IsSeat, seats_of, IsOutOrSeated, AreSeated, StaySeated}
+use Rattle.bp_pool.specs.Carrying.{IsCarriedOn}
+use Rattle.bp_pool.specs.Seats.{Turned, IsSeat, seats_of, IsOutOrSeated, AreSeated, StaySeated, IsOpen, HaveOwnPlaces}
 use Rattle.bp_pool.proofs.Going.{itself, onward, carries_itself}
 
 -- 1 for a seat of the place k, and else 0
@@ -22,7 +22,7 @@ is_at k s = cond (eqb s.place k) 1 0
 of_parts : (k : ℕ) (xs ys : List Seat) → seats_of k (xs ++ ys) ≡ seats_of k xs + seats_of k ys
 of_parts k xs ys = sum_by-append (is_at k) xs ys
 
-of_next : (k : ℕ) (s : Seat) (xs : List Seat) → seats_of k (s ∷ xs) ≡ is_at k s + seats_of k xs
+pub of_next : (k : ℕ) (s : Seat) (xs : List Seat) → seats_of k (s ∷ xs) ≡ is_at k s + seats_of k xs
 of_next k s xs = sum_by-cons (is_at k) s xs
 
 -- a job with its outcome is back at its place, and one without may have more seats
@@ -53,7 +53,9 @@ pub record TakenOut (base : Ground) (jobs : List Job) (done : List (Option Job))
   pub within : length done ≤ length jobs
   pub each : (k : ℕ) (d : Job) (o : Option Job) → k < length done → IsOutOrSeated base (get_or jobs k d) (get_or done k o) (seats_of k seats)
   pub own : All (IsSeat base jobs) seats
-  pub still : All (λ (s : Seat). (plain_job s.job).outcome ≡ None) seats
+  pub opens : All (IsOpen base) seats
+  pub once : HaveOwnPlaces seats
+  pub none : (place : ℕ) → length done ≤ place → seats_of place seats ≡ 0
 
 -- the next job has its outcome, and stays in the list
 pub stays_in : (base : Ground) (jobs rest after : List Job) (done more : List (Option Job)) (seats : List Seat) (x : Job) → TakenOut base jobs done seats rest → rest ≡ x ∷ after →
@@ -69,14 +71,29 @@ stays_in base jobs rest after done more seats x t step out is =
       each = λ k d o low. pushed (λ j (y : Option Job). (c : Job) → IsOutOrSeated base (get_or jobs j c) y (seats_of j seats)) done more (Some x) n refl (λ j f b c. t.each j c f b)
           (λ c b. subst (λ (e : Job). CarriedOut base b e x) (sym (h.1 c)) (record { carries = carries_itself base b x; outcome = out })) is k o (omega (arith, low, long)) d;
       own = t.own;
-      still = t.still;
+      opens = t.opens;
+      once = t.once;
+      none = λ place le. t.none place (omega (arith, le, long));
     }
 
-seat_here : (k : ℕ) (s : Seat) → s.place ≡ k → is_at k s ≡ 1
+pub seat_here : (k : ℕ) (s : Seat) → s.place ≡ k → is_at k s ≡ 1
 seat_here k s e = ap (λ (b : Bool). cond b 1 0) (eq-eqb s.place k e)
 
 no_seat_here : (k : ℕ) (s : Seat) → s.place ≢ k → is_at k s ≡ 0
 no_seat_here k s e = ap (λ (b : Bool). cond b 1 0) (ne_eqb s.place k e)
+
+-- a seat of the next place is the only one of it
+still_once : (seats many : List Seat) (s : Seat) (n k : ℕ) → many ≡ seats ++ s ∷ [] → s.place ≡ n → HaveOwnPlaces seats → seats_of n seats ≡ 0 → (k ≡ n) ⊎ (k ≢ n) → seats_of k many ≤ 1
+still_once seats many s n k put place once none (inl q) =
+    let e = ap (seats_of k) put ∙ of_parts k seats (s ∷ []) ∙ ap (λ m. seats_of k seats + m) (of_next k s []) in
+    let here = seat_here k s (place ∙ sym q) in
+    let before : seats_of k seats ≡ 0 = subst (λ (m : ℕ). seats_of m seats ≡ 0) (sym q) none in
+    omega arith
+still_once seats many s n k put place once none (inr q) =
+    let e = ap (seats_of k) put ∙ of_parts k seats (s ∷ []) ∙ ap (λ m. seats_of k seats + m) (of_next k s []) in
+    let there = no_seat_here k s (λ p. q (sym p ∙ place)) in
+    let before = once k in
+    omega arith
 
 -- the next job has no outcome, and gets a seat
 pub gets_seat : (base : Ground) (jobs rest after : List Job) (done more : List (Option Job)) (seats many : List Seat) (x : Job) (s : Seat) → TakenOut base jobs done seats rest → rest ≡ x ∷ after →
@@ -104,7 +121,13 @@ gets_seat base jobs rest after done more seats many x s t step all out at here a
           (λ j f b c. more_seats base (get_or jobs j c) (get_or done j f) (seats_of j seats) (seats_of j many) (let e = counts j in omega arith) (t.each j c f b))
           (λ c. omega (arith, one, first)) is k o (omega (arith, low, long)) d;
       own = subst (All (IsSeat base jobs)) (sym put) (All-push (IsSeat base jobs) seats s t.own seat);
-      still = subst (All (λ (u : Seat). (plain_job u.job).outcome ≡ None)) (sym put) (All-push (λ (u : Seat). (plain_job u.job).outcome ≡ None) seats s t.still (ap (λ (j : Job). (plain_job j).outcome) job ∙ out));
+      opens = subst (All (IsOpen base)) (sym put) (All-push (IsOpen base) seats s t.opens (record { of_program = seat.of_program; still = ap (λ (j : Job). (plain_job j).outcome) job ∙ out; there = ap (λ (u : Seat). u.lost) here }));
+      once = λ k. still_once seats many s n k put place t.once (t.none n (omega arith)) (cases_eq k n);
+      none = λ k le.
+          let e = counts k in
+          let there = no_seat_here k s (λ p. omega (arith, le, long, p, place)) in
+          let before = t.none k (omega (arith, le, long)) in
+          omega arith;
     }
 
 -- ---- jobs are put back at their places
@@ -113,18 +136,6 @@ gets_seat base jobs rest after done more seats many x s t step all out at here a
 pub record PuttingBack (base : Ground) (before : List (Option Job)) (seats : List Seat) (done : List (Option Job)) (left rest : List Seat) : Type 0 where
   pub seated : StaySeated base before seats done (left ++ rest)
   pub within : All (λ (s : Seat). s.place < length done) rest
-  pub still : All (λ (s : Seat). (plain_job s.job).outcome ≡ None) left
-
--- the next seat's job has no outcome
-pub keeps_seat : (base : Ground) (before done : List (Option Job)) (seats left more rest after : List Seat) (s : Seat) → PuttingBack base before seats done left rest → rest ≡ s ∷ after →
-    (plain_job s.job).outcome ≡ None → more ≡ left ++ s ∷ [] → PuttingBack base before seats done more after
-keeps_seat base before done seats left more rest after s p step out is =
-    let same : left ++ rest ≡ more ++ after = ap (λ (l : List Seat). left ++ l) step ∙ sym (ap (λ (l : List Seat). l ++ after) is ∙ append_assoc left (s ∷ []) after) in
-    record {
-      seated = record { stay = λ jobs h. subst (AreSeated base jobs done) same (p.seated.stay jobs h) };
-      within = All-tail (λ (u : Seat). u.place < length done) s after (subst (All (λ (u : Seat). u.place < length done)) step p.within);
-      still = subst (All (λ (u : Seat). (plain_job u.job).outcome ≡ None)) (sym is) (All-push (λ (u : Seat). (plain_job u.job).outcome ≡ None) left s p.still out);
-    }
 
 back_at : (base : Ground) (jobs : List Job) (done : List (Option Job)) (left after : List Seat) (s : Seat) → AreSeated base jobs done (left ++ s ∷ after) → s.lost ≡ false → IsSome (plain_job s.job).outcome →
     (k : ℕ) (d : Job) (o : Option Job) → k < length jobs → (k ≡ s.place) ⊎ (k ≢ s.place) → IsOutOrSeated base (get_or jobs k d) (get_or (set done s.place (Some s.job)) k o) (seats_of k (left ++ after))
@@ -160,7 +171,6 @@ gets_back base before done seats left rest after s p step ok out = record {
   };
   within = (let w = All-tail (λ (u : Seat). u.place < length done) s after (subst (All (λ (u : Seat). u.place < length done)) step p.within) in
       λ k d lt. subst (λ (n : ℕ). (get_or after k d).place < n) (sym (length-set done s.place (Some s.job))) (w k d lt));
-  still = p.still;
 }
 
 pub gets_back_from : (base : Ground) (before done : List (Option Job)) (seats left rest after : List Seat) (s : Seat) (parts : ℕ × Job) → PuttingBack base before seats done left rest → rest ≡ s ∷ after →
@@ -175,21 +185,8 @@ place_within done rest after s parts n all step e long =
     let place : parts.0 ≡ s.place = ap (λ (x : ℕ × Job). x.0) e in
     omega (arith, here, place, long)
 
--- ---- rounds
-
-same_places : (k : ℕ) (base : Ground) (old new : List Seat) → Each (Turned base) old new → seats_of k new ≡ seats_of k old
-same_places k base [] [] h = refl
-same_places k base [] (t ∷ new) h = absurd (let m = h.as_many in omega arith)
-same_places k base (s ∷ old) [] h = absurd (let m = h.as_many in omega arith)
-same_places k base (s ∷ old) (t ∷ new) h =
-    let first : Turned base s t = h.each 0 s t (omega arith) in
-    let rest = same_places k base old new (record { as_many = (let m = h.as_many in omega arith); each = λ j d e lt. h.each (suc j) d e (omega arith) }) in
-    let a = of_next k s old in
-    let b = of_next k t new in
-    let c : is_at k t ≡ is_at k s = ap (λ (n : ℕ). cond (eqb n k) 1 0) first.place in
-    omega arith
-
-seat_turned : (base : Ground) (jobs : List Job) (s t : Seat) → IsSeat base jobs s → Turned base s t → IsSeat base jobs t
+-- a seat whose job was carried on is one of the list still
+pub seat_turned : (base : Ground) (jobs : List Job) (s t : Seat) → IsSeat base jobs s → Turned base s t → IsSeat base jobs t
 seat_turned base jobs s t h k =
     let w = h.within in
     let p = k.place in
@@ -201,15 +198,6 @@ seat_turned base jobs s t h k =
           let was = h.carried c.0 d in
           onward base (get_or jobs t.place d) s.job t.job (subst (λ (n : ℕ). IsCarriedOn base (get_or jobs n d) s.job) (sym p) was) c.1;
     }
-
--- whoever has a seat keeps it in a round
-pub round_seated : (base : Ground) (jobs : List Job) (done : List (Option Job)) (old new : List Seat) → AreSeated base jobs done old → Each (Turned base) old new → AreSeated base jobs done new
-round_seated base jobs done old new a h = record {
-  as_many = a.as_many;
-  each = λ k d o lt. subst (IsOutOrSeated base (get_or jobs k d) (get_or done k o)) (sym (same_places k base old new h)) (a.each k d o lt);
-  own = λ k d lt. (let m = h.as_many in let low : k < length old = omega (arith, lt, m) in
-      seat_turned base jobs (get_or old k d) (get_or new k d) (a.own k d low) (h.each k d d low));
-}
 
 -- each seat is of a place of the list
 pub seats_within : (base : Ground) (jobs : List Job) (done : List (Option Job)) (seats : List Seat) → AreSeated base jobs done seats → All (λ (s : Seat). s.place < length done) seats

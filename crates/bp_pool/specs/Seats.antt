@@ -1,5 +1,5 @@
 -- Jobs that are not done yet, taken out of their list.
-use Rattle.std.specs.Prelude.{◌≡◌, ℕ, ◌<◌, eqb, List, All, length, slice_index_or, Option, Some, None, false}
+use Rattle.std.specs.Prelude.{◌≡◌, ℕ, ◌<◌, ◌≤◌, eqb, List, All, length, slice_index_or, Option, Some, None, false, IsSome}
 use Rattle.std.specs.List.{count_by}
 use Rattle.js_meaning.specs.State.{Ground}
 use Rattle.bp_thread.specs.declared.job.Job.{Job}
@@ -8,16 +8,21 @@ use Rattle.bp_thread.specs.Carried.{CarriedOut}
 use Rattle.bp_pool.specs.declared.seat.Seat.{Seat}
 use Rattle.bp_pool.specs.Carrying.{IsCarriedOn}
 
--- a slice of the seat's job can be made
-pub record CanTurn (base : Ground) (s : Seat) : Type 0 where
-  pub of_program : IsOf base.program s.job
-  pub still : (plain_job s.job).outcome ≡ None
-
--- a slice was made of the seat's job; unless memory was wanting, it carried the job on
+-- slices were made of the seat's job; unless memory was wanting, they carried the job on
 pub record Turned (base : Ground) (old new : Seat) : Type 0 where
   pub place : new.place ≡ old.place
   pub of_program : IsOf base.program new.job
   pub carried : new.lost ≡ false → (old.lost ≡ false) × IsCarriedOn base old.job new.job
+
+-- a slice of the seat's job can be made, and memory was not wanting
+pub record IsOpen (base : Ground) (s : Seat) : Type 0 where
+  pub of_program : IsOf base.program s.job
+  pub still : (plain_job s.job).outcome ≡ None
+  pub there : s.lost ≡ false
+
+-- unless it was lost, the seat's job has its outcome
+pub record IsOut (s : Seat) : Type 0 where
+  pub out : s.lost ≡ false → IsSome (plain_job s.job).outcome
 
 -- unless memory was wanting, the seat has the list's job of its place, carried on
 pub record IsSeat (base : Ground) (jobs : List Job) (s : Seat) : Type 0 where
@@ -28,6 +33,10 @@ pub record IsSeat (base : Ground) (jobs : List Job) (s : Seat) : Type 0 where
 -- how many seats are of the place k
 abbrev pub seats_of : ℕ → List Seat → ℕ
 seats_of k seats = count_by (λ s. eqb s.place k) seats
+
+-- no two of the seats are of one place
+abbrev pub HaveOwnPlaces : List Seat → Type 0
+HaveOwnPlaces seats = (place : ℕ) → seats_of place seats ≤ 1
 
 -- at its place is the job e, carried out under whatever budget, or it has one of so many seats
 abbrev pub IsOutOrSeated : Ground → Job → Option Job → ℕ → Type 0

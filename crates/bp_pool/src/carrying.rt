@@ -1,4 +1,4 @@
-//! Jobs that are carried on in the calling thread.
+//! Jobs that are carried on, slice by slice, in the thread that has them.
 ghost use Rattle.std.specs.Prelude.{◌≡◌, ℕ, ◌<◌, ◌↔◌, IfOk, OnOk, IsSome, IsTrue, None, is_some};
 ghost use Rattle.js_frames.specs.Places.{plain_ground};
 ghost use Rattle.bp_thread.specs.Jobs.{plain_job, IsOf};
@@ -50,27 +50,30 @@ fn gated_slice<G: Gate>(
     sliced
 }
 
-/// Carries the job on by a round of so many nodes: by one slice, or by as many smaller ones as begin
-/// so many, or by fewer to its outcome. Its only error is want of memory.
-pub(crate) fn carry_a_round<G: Gate>(
+/// The nodes of a hold, so that small slices don't pay for the queue at each node.
+const HOLD: u64 = 1_000;
+
+/// A hold of the job: one slice, or as many smaller ones as begin the nodes of a hold, or fewer to
+/// its outcome. Whether it has its outcome. Its only error is want of memory.
+pub(crate) fn hold<G: Gate>(
     ground: &Ground,
     job: &mut Job,
     slice: u64,
-    nodes: u64,
     gate: &G,
-) -> Result<(), Memory>
+) -> Result<bool, Memory>
     requires some_slice { 0 < slice }
     requires program { IsOf (plain_ground ground.now).program job.old }
     requires open { (plain_job job.old).outcome ≡ None }
     ensures program { IsOf (plain_ground ground.now).program job.new }
+    ensures done { IfOk result (λ done. IsTrue done ↔ IsSome (plain_job job.new).outcome) }
     ensures carried { OnOk result (IsCarriedOn (plain_ground ground.now) job.old job.new) }
 {
-    for _slices in 0..nodes.div_ceil(slice) {
+    for _slices in 0..HOLD.div_ceil(slice) {
         if gated_slice(ground, job, slice, gate)? {
-            return Ok(());
+            return Ok(true);
         }
     }
-    Ok(())
+    Ok(false)
 }
 
 /// Carries the job to its outcome, unless it has one. Its only error is want of memory.

@@ -1,12 +1,17 @@
-//! Super-steps: jobs that are carried to their outcomes by several threads, in rounds.
+//! Super-steps: jobs that are carried to their outcomes by several workers over one shared queue.
 #![tactic(auto)]
 
+mod beside;
 mod carrying;
 mod gate;
+pub mod laws;
+mod pace;
 mod pool;
-mod rounds;
+mod queue;
+mod rule;
 mod seat;
 mod seating;
+mod worker;
 
 pub use gate::{Gate, Open};
 pub use pool::superstep;

@@ -1,12 +1,14 @@
 //! The super-step.
-ghost use Rattle.std.specs.Prelude.{ℕ, ◌<◌, IfOk};
+ghost use Rattle.std.specs.Prelude.{ℕ, ◌<◌, ◌≤◌, IfOk};
 ghost use Rattle.js_frames.specs.Places.{plain_ground};
+ghost use Rattle.bp_log.specs.declared.limits.TheConstants.{MOST_WORKERS};
 ghost use Rattle.bp_thread.specs.Carried.{AreCarriedOut, HaveDistinctNumbers};
 ghost use Rattle.bp_pool.specs.Carrying.{AreOf, AreOpen};
 
+use crate::beside::by_workers;
 use crate::carrying::{finish_all, has_outcome, look};
 use crate::gate::Gate;
-use crate::rounds::by_rounds;
+use crate::pace::Pace;
 use bp_thread::Job;
 use js_data::Memory;
 use js_frames::Ground;
@@ -19,15 +21,16 @@ fn are_several_open(jobs: &[Job]) -> bool {
     jobs.iter().filter(|job| !has_outcome(job)).nth(1).is_some()
 }
 
-/// Carries each job to its outcome, by slices of so many nodes and by so many workers at most: the
-/// same jobs in the same order, whatever the workers, the slice and the order in which threads come
-/// to run.
+/// Carries each job to its outcome, by slices of so many nodes and by so many workers at most, from
+/// 1 to 64: the same jobs in the same order, whatever the workers, the slice and the order in which
+/// threads come to run.
 ///
 /// The calling thread takes a look first: it carries each job on by one slice. Where at most one
-/// job is left without outcome, no thread is started; else the jobs that are left go on by rounds
-/// of one slice each, or of several, cut into runs of neighbours, one a worker; each round has more
-/// nodes than the one before. Where a thread can't be started, the round goes on with fewer. After
-/// want of memory, which is its only error, the jobs are dropped.
+/// job is left without outcome, or one worker is allowed, it carries them on itself. Else those that
+/// are left go into one shared queue, from which each worker takes a job, makes a slice of it or
+/// several, and puts it back, until none is there. So a job may go on with another worker between
+/// two slices. Where a thread can't be started, the calling thread does its work. After want of
+/// memory, which is its only error, the jobs are dropped.
 pub fn superstep<G: Gate + Sync, R: Threads + Wait + Sync>(
     rt: &R,
     alloc: Global,
@@ -38,6 +41,7 @@ pub fn superstep<G: Gate + Sync, R: Threads + Wait + Sync>(
     gate: &G,
 ) -> Result<Vec<Job>, Memory>
     requires some_workers { 0 < workers }
+    requires few_workers { workers ≤ MOST_WORKERS }
     requires some_slice { 0 < slice }
     requires program { AreOf (plain_ground ground.now) jobs.items }
     requires open { AreOpen jobs.items }
@@ -48,7 +52,7 @@ pub fn superstep<G: Gate + Sync, R: Threads + Wait + Sync>(
     let mut jobs = jobs;
     look(ground, jobs.as_mut_slice(), slice)?;
     if workers > 1 && are_several_open(jobs.as_slice()) {
-        return by_rounds(rt, alloc, ground, jobs, workers, slice, gate);
+        return by_workers(rt, alloc, ground, jobs, Pace { workers, slice }, gate);
     }
     finish_all(rt, ground, jobs.as_mut_slice(), slice, gate)?;
     Ok(jobs)

@@ -1,9 +1,9 @@
 //! Jobs that are taken out of their list while they are carried on, and put back at their places.
-ghost use Rattle.std.specs.Prelude.{◌≡◌, ◌<◌, length, map, All, IfOk, IsSome, Some, None};
+ghost use Rattle.std.specs.Prelude.{◌≡◌, ◌<◌, [], length, map, All, IfOk, OnOk, IsSome, Some, None, false};
 ghost use Rattle.js_frames.specs.Places.{plain_ground};
 ghost use Rattle.bp_thread.specs.Jobs.{plain_job};
 ghost use Rattle.bp_pool.specs.Carrying.{AreOf};
-ghost use Rattle.bp_pool.specs.Seats.{AreSeated, StaySeated};
+ghost use Rattle.bp_pool.specs.Seats.{AreSeated, StaySeated, IsOpen, IsOut, HaveOwnPlaces};
 
 use crate::carrying::has_outcome;
 use crate::seat::Seat;
@@ -22,8 +22,8 @@ pub(crate) fn take_out(
     requires program { AreOf (plain_ground ground.now) jobs.items }
     ensures seated { IfOk result (λ parts.
         AreSeated (plain_ground ground.now) jobs.items parts.0.items parts.1.items) }
-    ensures open { IfOk result (λ parts.
-        All (λ s. (plain_job s.job).outcome ≡ None) parts.1.items) }
+    ensures open { IfOk result (λ parts. All (IsOpen (plain_ground ground.now)) parts.1.items) }
+    ensures own { IfOk result (λ parts. HaveOwnPlaces parts.1.items) }
 {
     let mut done = Vec::new(alloc);
     let mut seats = Vec::new(alloc);
@@ -39,32 +39,26 @@ pub(crate) fn take_out(
     Ok((done, seats))
 }
 
-/// Puts the jobs that have their outcomes now back at their places, and gives back the seats of the
-/// others. Its only error is want of memory, here or in one of the jobs.
+/// Puts the jobs, each of which has its outcome now, back at their places, in any order. Its only
+/// error is want of memory in one of the jobs.
 pub(crate) fn put_back(
-    alloc: Global,
     ground: &Ground,
     seats: Vec<Seat>,
     done: &mut Vec<Option<Job>>,
-) -> Result<Vec<Seat>, Memory>
+) -> Result<(), Memory>
     requires within { All (λ s. s.place < length done.old.items) seats.items }
-    ensures seated { IfOk result (λ left.
-        StaySeated (plain_ground ground.now) done.old.items seats.items done.new.items left.items) }
-    ensures open { IfOk result (λ left. All (λ s. (plain_job s.job).outcome ≡ None) left.items) }
+    requires out { All IsOut seats.items }
+    ensures { OnOk result
+        (StaySeated (plain_ground ground.now) done.old.items seats.items done.new.items []) }
 {
-    let mut left = Vec::new(alloc);
     for seat in seats {
         if seat.lost {
             return Err(AllocError);
         }
-        if has_outcome(&seat.job) {
-            let (place, job) = seat.into_parts();
-            done[place] = Some(job);
-        } else {
-            left.push(seat)?;
-        }
+        let (place, job) = seat.into_parts();
+        done[place] = Some(job);
     }
-    Ok(left)
+    Ok(())
 }
 
 /// The jobs, each of which is back at its place. Its only error is want of memory.

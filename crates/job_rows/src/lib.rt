@@ -11,6 +11,8 @@ mod jobs;
 #[cfg(test)]
 mod lines;
 #[cfg(test)]
+mod many;
+#[cfg(test)]
 mod moving;
 #[cfg(test)]
 mod programs;

@@ -17,7 +17,7 @@ use std::test::Fail;
 pub const BUDGET: u64 = 100;
 
 /// The budget of every top level.
-const TOP_BUDGET: u64 = 100_000;
+const TOP_BUDGET: u64 = 1_000_000;
 
 /// The script of a line: its program, or a program that registers one b-thread, in which the part of a line stands. `\n`
 /// there is the end of a line.

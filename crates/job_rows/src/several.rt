@@ -5,6 +5,7 @@ ghost use Rattle.bp_thread.specs.Carried.{HaveDistinctNumbers};
 ghost use Rattle.bp_pool.specs.Carrying.{AreOf, AreOpen};
 
 use crate::programs::started;
+use bp_log::limits::MOST_WORKERS;
 use bp_pool::{Gate, superstep};
 use bp_thread::{Job, Outcome};
 use js_data::Text;
@@ -94,8 +95,8 @@ pub fn told_of<R: Threads + Wait + Sync, G: Gate + Sync>(
     slice: u64,
     gate: &G,
 ) -> Result<String, Fail> {
-    if workers == 0 || slice == 0 {
-        return Err("no worker or no node")?;
+    if workers == 0 || workers > MOST_WORKERS || slice == 0 {
+        return Err("no worker, too many, or no node")?;
     }
     let (ground, functions) = started(alloc, script)?;
     let jobs = jobs_of(alloc, &ground, functions, budget)?;
