@@ -1,6 +1,5 @@
 -- The command that words are.
-use Rattle.std.specs.Prelude.{ℕ, ◌&&◌, ◌||◌, Bool, true, false, not, nat_le, if◌then◌else◌, List, [], ◌∷◌, Option, Some, None, option_map, option_and_then, unwrap_or, codes}
-use Rattle.std.specs.Option.{is_some}
+use Rattle.std.specs.Prelude.{ℕ, ◌&&◌, Bool, true, not, nat_le, if◌then◌else◌, List, [], ◌∷◌, Option, Some, None, option_map, option_and_then, unwrap_or}
 use Rattle.std.specs.Str.{bytes_eq}
 use Rattle.bp_log.specs.Options.{PlainOptions, default_options}
 use Rattle.bp_log.specs.Beside.{PlainBeside, default_beside}
@@ -9,9 +8,10 @@ use Rattle.bp_args.specs.declared.command.Command.{Command}
 use Rattle.bp_args.specs.declared.command.Command.TheVariants as command
 use Rattle.bp_args.specs.declared.command.TheConstants.{MOST_LARGE}
 use Rattle.bp_args.specs.declared.said.Said.{Said}
-use Rattle.bp_args.specs.declared.said.Waiting.{Waiting}
-use Rattle.bp_args.specs.declared.said.Waiting.TheVariants.{Any, Value, Name}
-use Rattle.bp_args.specs.Said.{nothing_said, said_on, number_word}
+use Rattle.bp_args.specs.declared.verb.Verb.{Verb}
+use Rattle.bp_args.specs.declared.verb.Verb.TheVariants as verb
+use Rattle.bp_args.specs.Verbs.{verb_at, allows}
+use Rattle.bp_args.specs.Said.{nothing_said, said_on, number_word, is_whole, only}
 
 -- the options that are said, each other one as where nothing is said
 abbrev pub options_of : Said → PlainOptions
@@ -57,38 +57,35 @@ run_with s program =
     }))
     else None
 
--- no option is said
-abbrev pub is_bare : Said → Bool
-is_bare s = not (is_some s.log || (is_some s.strategy || (is_some s.seed || (is_some s.budget
-    || (is_some s.steps || (is_some s.workers || is_some s.slice))))))
-
--- no option waits for its value
-abbrev pub is_whole : Waiting → Bool
-is_whole (Value k) = false
-is_whole Any = true
-is_whole Name = true
+-- the one name
+abbrev pub one_name : List (List ℕ) → Option (List ℕ)
+one_name [] = None
+one_name (name ∷ []) = Some name
+one_name (name ∷ other ∷ names) = None
 
 abbrev pub run_of : Said → Option Command
-run_of s = option_and_then (run_with s) s.name
-
-abbrev pub bare_name : Said → Option (List ℕ)
-bare_name s = if is_bare s then s.name else None
+run_of s = option_and_then (run_with s) (one_name s.names)
 
 -- so many b-threads, from 1 to the most
 abbrev pub large_of : List ℕ → Option ℕ
 large_of word = option_and_then (λ n. if nat_le 1 n then Some n else None) (number_word MOST_LARGE word)
 
-abbrev pub command_with : List ℕ → Said → Option Command
-command_with verb s =
-    if not (is_whole s.waiting) then None
-    else if bytes_eq verb (codes "run") then run_of s
-    else if bytes_eq verb (codes "replay") then option_map command.Replay (bare_name s)
-    else if bytes_eq verb (codes "accept") then option_map command.Accept (bare_name s)
-    else if bytes_eq verb (codes "large")
-    then option_map command.Large (option_and_then large_of (bare_name s))
-    else None
+-- the command of this first word, where this is said behind it and each option is allowed
+abbrev pub command_for : Verb → Said → Option Command
+command_for verb.Run s = run_of s
+command_for verb.Replay s = option_map command.Replay (one_name s.names)
+command_for verb.Accept s = option_map command.Accept (one_name s.names)
+command_for verb.Large s = option_map command.Large (option_and_then large_of (one_name s.names))
+
+abbrev pub command_with : Verb → Said → Option Command
+command_with v s =
+    if is_whole s.waiting && only (allows v) s then command_for v s else None
+
+-- the command of these words behind this first one
+abbrev pub command_behind : List (List ℕ) → Verb → Option Command
+command_behind words v = option_and_then (command_with v) (said_on nothing_said words)
 
 -- the command that the words are
 abbrev pub command_of : List (List ℕ) → Option Command
 command_of [] = None
-command_of (verb ∷ words) = option_and_then (command_with verb) (said_on nothing_said words)
+command_of (first ∷ words) = option_and_then (command_behind words) (verb_at first)

@@ -1,12 +1,14 @@
 -- What the words of a command say, word by word from left to right.
-use Rattle.std.specs.Prelude.{ℕ, ◌&&◌, ◌==◌, Bool, true, false, nat_le, nat_lt, if◌then◌else◌, List, [], ◌∷◌, length, Option, Some, None, option_map, option_and_then, codes}
-use Rattle.std.specs.List.{position_or_len, before_first, after_first}
+use Rattle.std.specs.Prelude.{ℕ, ◌&&◌, ◌||◌, ◌==◌, not, Bool, true, false, nat_le, nat_lt, if◌then◌else◌, List, [], ◌∷◌, ◌++◌, length, Option, Some, None, option_map, option_and_then, codes}
+use Rattle.std.specs.List.{list_all, position_or_len, before_first, after_first}
+use Rattle.std.specs.Option.{is_some}
 use Rattle.std.specs.Str.{all_ascii_digits, bytes_eq}
 use Rattle.bp_log.specs.Logs.{strategy_at}
-use Rattle.bp_reading.specs.Words.{value_on, most_32, most_64}
+use Rattle.bp_reading.specs.Words.{value_on, most_32, most_64, behind}
+use Rattle.bp_matches.specs.declared.key.Key.{Key}
+use Rattle.bp_matches.specs.declared.key.Key.TheVariants.{Log, Strategy, Seed, Budget, Steps, Workers, Slice}
+use Rattle.bp_matches.specs.Keys.{keys, key_at}
 use Rattle.bp_args.specs.declared.said.TheConstants.{MOST_DIGITS}
-use Rattle.bp_args.specs.declared.said.Key.{Key}
-use Rattle.bp_args.specs.declared.said.Key.TheVariants.{Log, Strategy, Seed, Budget, Steps, Workers, Slice}
 use Rattle.bp_args.specs.declared.said.Waiting.{Waiting}
 use Rattle.bp_args.specs.declared.said.Waiting.TheVariants.{Any, Value, Name}
 use Rattle.bp_args.specs.declared.said.Said.{Said}
@@ -25,16 +27,9 @@ number_word most word =
     then Some (value_on 0 word)
     else None
 
+-- an option is its name behind two hyphens
 abbrev pub key_of : List ℕ → Option Key
-key_of word =
-    if bytes_eq word (codes "--log") then Some Log
-    else if bytes_eq word (codes "--strategy") then Some Strategy
-    else if bytes_eq word (codes "--seed") then Some Seed
-    else if bytes_eq word (codes "--budget") then Some Budget
-    else if bytes_eq word (codes "--steps") then Some Steps
-    else if bytes_eq word (codes "--workers") then Some Workers
-    else if bytes_eq word (codes "--slice") then Some Slice
-    else None
+key_of word = option_and_then key_at (behind (codes "--") word)
 
 -- a value is said at most once
 abbrev pub once : {A : Type 0} → Option A → Option A → Option (Option A)
@@ -64,9 +59,9 @@ set s Workers v =
 set s Slice v =
     option_map (λ o. record s { waiting = Any; slice = o }) (once s.slice (number_word most_64 v))
 
--- the word is the one name
-abbrev pub name : Said → List ℕ → Option Said
-name s word = option_map (λ o. record s { name = o }) (once s.name (Some word))
+-- the word is a name behind the others
+abbrev pub name : Said → List ℕ → Said
+name s word = record s { names = s.names ++ word ∷ [] }
 
 -- what stands before the first such byte, and behind it
 abbrev pub parts_at : ℕ → List ℕ → Option (List ℕ × List ℕ)
@@ -84,13 +79,13 @@ option_in s word (Some p) = option_and_then (λ k. set s k p.1) (key_of p.0)
 abbrev pub free_word : Said → List ℕ → Option Said
 free_word s word =
     if bytes_eq word (codes "--") then Some (record s { waiting = Name }) else
-    (if is_name word then name s word else option_in s word (parts_at 61 word))
+    (if is_name word then Some (name s word) else option_in s word (parts_at 61 word))
 
 -- what is said with one more word: a name, an option, or the value of the option before it
 abbrev pub step_at : Said → List ℕ → Waiting → Option Said
 step_at s word Any = free_word s word
 step_at s word (Value k) = if is_name word then set s k word else None
-step_at s word Name = name s word
+step_at s word Name = Some (name s word)
 
 abbrev pub step : Said → List ℕ → Option Said
 step s word = step_at s word s.waiting
@@ -99,7 +94,7 @@ step s word = step_at s word s.waiting
 abbrev pub nothing_said : Said
 nothing_said = record {
   waiting = Any;
-  name = None;
+  names = [];
   log = None;
   strategy = None;
   seed = None;
@@ -112,3 +107,24 @@ nothing_said = record {
 abbrev pub said_on : Said → List (List ℕ) → Option Said
 said_on s [] = Some s
 said_on s (word ∷ words) = option_and_then (λ t. said_on t words) (step s word)
+
+-- ---- what is known of all that was said
+
+-- no option waits for its value
+abbrev pub is_whole : Waiting → Bool
+is_whole (Value k) = false
+is_whole Any = true
+is_whole Name = true
+
+abbrev pub is_said : Said → Key → Bool
+is_said s Log = is_some s.log
+is_said s Strategy = is_some s.strategy
+is_said s Seed = is_some s.seed
+is_said s Budget = is_some s.budget
+is_said s Steps = is_some s.steps
+is_said s Workers = is_some s.workers
+is_said s Slice = is_some s.slice
+
+-- no option is said but those that are allowed
+abbrev pub only : (Key → Bool) → Said → Bool
+only allowed s = list_all (λ k. allowed k || not (is_said s k)) keys

@@ -1,10 +1,15 @@
 //! The command that words are.
 ghost use Rattle.std.specs.Prelude.{◌≡◌, Some, None, map, string_bytes, IfOk, IsErrOf, if◌then◌else◌};
+ghost use Rattle.bp_matches.specs.Keys.{keys};
 ghost use Rattle.bp_args.specs.Said.{nothing_said, said_on};
-ghost use Rattle.bp_args.specs.Command.{options_of, in_range, beside_of, beside_in_range, is_apart as apart, run_of, bare_name, large_of, command_with, command_of};
+ghost use Rattle.bp_args.specs.Command.{options_of, in_range, beside_of, beside_in_range, is_apart as apart, run_of, one_name, large_of, command_for, command_with, command_of};
+ghost use Rattle.bp_args.specs.Normal.{said_from, command_from};
 
+use crate::normal::normal_of;
 use crate::said::{Said, number_of};
+use crate::verb::Verb;
 use bp_log::{Beside, Options};
+use bp_matches::{Key, Values, Words, values_of};
 use js_data::Text;
 use std::alloc::{AllocError, Global};
 use thiserror::Error;
@@ -94,14 +99,26 @@ fn is_apart(program: &Text, log: &Option<Text>) -> bool
     }
 }
 
+/// The one name, or `None` exactly where there is none or more than one.
+fn one_name(names: Words) -> Option<Text>
+    ensures { result ≡ one_name names }
+{
+    let mut names = names.into_vec();
+    let last = names.pop()?;
+    if !names.is_empty() {
+        return None;
+    }
+    Some(last)
+}
+
 /// The run of the one name.
 fn run_of(said: Said) -> Option<Command>
     ensures { result ≡ run_of said }
 {
     let options = options_of(&said)?;
     let beside = beside_of(&said)?;
-    let (name, log) = said.into_names();
-    let program = name?;
+    let (names, log) = said.into_names();
+    let program = one_name(names)?;
     if !is_apart(&program, &log) {
         return None;
     }
@@ -113,15 +130,12 @@ fn run_of(said: Said) -> Option<Command>
     }))
 }
 
-/// The one name, where no option is said.
-fn bare_name(said: Said) -> Option<Text>
-    ensures { result ≡ bare_name said }
+/// The one name that is said.
+fn name_of(said: Said) -> Option<Text>
+    ensures { result ≡ one_name said.names }
 {
-    if !said.is_bare() {
-        return None;
-    }
-    let (name, _) = said.into_names();
-    name
+    let (names, _) = said.into_names();
+    one_name(names)
 }
 
 /// The number of b-threads, or `None` exactly where the word is no number from 1 to the most.
@@ -135,49 +149,92 @@ fn large_of(word: &Text) -> Option<u32>
     Some(threads as u32)
 }
 
-/// The command of this first word, where this is said behind it.
-fn command_with(verb: &str, said: Said) -> Option<Command>
-    ensures { result ≡ command_with verb.now said }
+/// The command of this first word, where this is said behind it and each option is allowed.
+fn command_for(verb: Verb, said: Said) -> Option<Command>
+    ensures { result ≡ command_for verb said }
 {
-    if !said.is_whole() {
-        return None;
-    }
     match verb {
-        "run" => run_of(said),
-        "replay" => Some(Command::Replay(bare_name(said)?)),
-        "accept" => Some(Command::Accept(bare_name(said)?)),
-        "large" => Some(Command::Large(large_of(&bare_name(said)?)?)),
-        _ => None,
+        Verb::Run => run_of(said),
+        Verb::Replay => Some(Command::Replay(name_of(said)?)),
+        Verb::Accept => Some(Command::Accept(name_of(said)?)),
+        Verb::Large => Some(Command::Large(large_of(&name_of(said)?)?)),
     }
 }
 
+/// The command of this first word, where this is said behind it.
+fn command_with(verb: Verb, said: Said) -> Option<Command>
+    ensures { result ≡ command_with verb said }
+{
+    if !said.is_whole() || !said.only(verb) {
+        return None;
+    }
+    command_for(verb, said)
+}
+
 /// What the words behind the first say.
-fn said_of(alloc: Global, words: &[String]) -> Result<Said, Usage>
+fn said_in(alloc: Global, words: &[String]) -> Result<Said, Usage>
     ensures said { IfOk result (λ s. said_on nothing_said (map string_bytes words.now) ≡ Some s) }
     ensures wrong { IsErrOf result Usage.Wrong
         → said_on nothing_said (map string_bytes words.now) ≡ None }
 {
-    let mut said = Said::new();
+    let mut said = Said::new(alloc);
     for word in words {
         said.step(alloc, word.as_str())?;
     }
     Ok(said)
 }
 
+/// The command that the words are.
+fn decide(alloc: Global, words: &[String]) -> Result<Command, Usage>
+    ensures command { IfOk result (λ c. command_of (map string_bytes words.now) ≡ Some c) }
+    ensures wrong { IsErrOf result Usage.Wrong → command_of (map string_bytes words.now) ≡ None }
+{
+    let [first, rest @ ..] = words else {
+        return Err(Usage::Wrong);
+    };
+    let verb = Verb::of_name(first.as_str()).ok_or(Usage::Wrong)?;
+    command_with(verb, said_in(alloc, rest)?).ok_or(Usage::Wrong)
+}
+
+/// What the values of options say.
+fn said_from(alloc: Global, values: &Values) -> Result<Said, Usage>
+    ensures said { IfOk result (λ s. said_from nothing_said values.now keys ≡ Some s) }
+    ensures wrong { IsErrOf result Usage.Wrong → said_from nothing_said values.now keys ≡ None }
+{
+    let mut said = Said::new(alloc);
+    for key in Key::all() {
+        if let Some(value) = values.value(key) {
+            said.set(alloc, key, value.as_str())?;
+        }
+    }
+    Ok(said)
+}
+
+/// The command that these values say.
+fn command_from(alloc: Global, values: Values) -> Result<Command, Usage>
+    ensures command { IfOk result (λ c. command_from values ≡ Some c) }
+    ensures wrong { IsErrOf result Usage.Wrong → command_from values ≡ None }
+{
+    let said = said_from(alloc, &values)?;
+    let mut words = values.into_words().into_vec();
+    if words.is_empty() {
+        return Err(Usage::Wrong);
+    }
+    let first = words.remove(0);
+    let verb = Verb::of_name(first.as_str()).ok_or(Usage::Wrong)?;
+    command_with(verb, said.with_names(Words::new(words))).ok_or(Usage::Wrong)
+}
+
 /// The command that the words are, without the name of the program that reads them. `Wrong` is
 /// answered exactly where they are none.
+///
+/// Whether they are a command is decided first. A command is then written out as words in the one
+/// normal form, these are read by `clap`, and the answer is made of what it matched.
 pub fn read(alloc: Global, words: &[String]) -> Result<Command, Usage>
     ensures command { IfOk result (λ c. command_of (map string_bytes words.now) ≡ Some c) }
     ensures wrong { IsErrOf result Usage.Wrong → command_of (map string_bytes words.now) ≡ None }
 {
-    match words {
-        [] => Err(Usage::Wrong),
-        [verb, rest @ ..] => {
-            let said = said_of(alloc, rest)?;
-            match command_with(verb.as_str(), said) {
-                None => Err(Usage::Wrong),
-                Some(command) => Ok(command),
-            }
-        }
-    }
+    let normal = normal_of(alloc, decide(alloc, words)?)?;
+    let values = values_of(alloc, normal.as_slice())?;
+    command_from(alloc, values)
 }

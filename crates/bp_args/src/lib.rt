@@ -2,6 +2,8 @@
 #![tactic(auto)]
 
 mod command;
+mod normal;
 mod said;
+mod verb;
 
 pub use command::{Command, MOST_LARGE, Run, Usage, read};

@@ -1,35 +1,19 @@
 //! What the words of a command say, word by word.
 ghost use Rattle.std.specs.Prelude.{◌≡◌, Some, None, IfOk, IsErrOf, OnErr, option_map};
-ghost use Rattle.bp_args.specs.Said.{is_name as word_is_name, number_word, key_of as key_named, once as said_once, some_text, set as with_value, name as with_name, option_in, parts_at, free_word as with_free, step, nothing_said};
-ghost use Rattle.bp_args.specs.Command.{is_bare as bare, is_whole as whole};
+ghost use Rattle.bp_args.specs.Verbs.{allows};
+ghost use Rattle.bp_args.specs.Said.{is_name as word_is_name, number_word, key_of as key_named, once as said_once, some_text, set as with_value, name as with_name, option_in, parts_at, free_word as with_free, step, nothing_said, is_said as said_is, only, is_whole as whole};
 ghost use Rattle.bp_reading.specs.Words.{most_32};
 
 use crate::command::Usage;
+use crate::verb::Verb;
+use bp_lines::behind_word;
 use bp_log::{Memory, Strategy};
+use bp_matches::{DASHES, Key, Words};
 use js_data::Text;
 use std::alloc::Global;
 
 /// The most digits of a number.
 pub const MOST_DIGITS: usize = 20;
-
-/// An option of `run`.
-#[derive(Clone, Copy)]
-pub enum Key {
-    /// The name of the log.
-    Log,
-    /// The strategy.
-    Strategy,
-    /// The seed.
-    Seed,
-    /// The budget.
-    Budget,
-    /// The limit of steps.
-    Steps,
-    /// The number of workers.
-    Workers,
-    /// The nodes of a slice.
-    Slice,
-}
 
 /// What the next word may be.
 #[derive(Clone, Copy)]
@@ -46,8 +30,8 @@ pub enum Waiting {
 pub struct Said {
     /// What the next word may be.
     pub waiting: Waiting,
-    /// The one name.
-    pub name: Option<Text>,
+    /// The names: words that are no options.
+    pub names: Words,
     /// The name of the log.
     pub log: Option<Text>,
     /// The strategy.
@@ -68,7 +52,7 @@ impl Drop for Said {
     fn drop(self) {
         let Said {
             waiting: _,
-            name: _,
+            names: _,
             log: _,
             strategy: _,
             seed: _,
@@ -90,27 +74,11 @@ fn is_name(word: &[u8]) -> bool
     }
 }
 
-/// The option of a name.
+/// The option that a word is, with its two hyphens and without a value.
 fn key_of(word: &[u8]) -> Option<Key>
     ensures { result ≡ key_named word.now }
 {
-    if word == b"--log".as_slice() {
-        Some(Key::Log)
-    } else if word == b"--strategy".as_slice() {
-        Some(Key::Strategy)
-    } else if word == b"--seed".as_slice() {
-        Some(Key::Seed)
-    } else if word == b"--budget".as_slice() {
-        Some(Key::Budget)
-    } else if word == b"--steps".as_slice() {
-        Some(Key::Steps)
-    } else if word == b"--workers".as_slice() {
-        Some(Key::Workers)
-    } else if word == b"--slice".as_slice() {
-        Some(Key::Slice)
-    } else {
-        None
-    }
+    Key::of_name(behind_word(DASHES.as_bytes(), word)?)
 }
 
 /// The number of 1 to `MOST_DIGITS` digits, at most `most`.
@@ -152,7 +120,7 @@ fn parts_of(word: &str) -> Option<(&str, &str)>
 }
 
 /// The text of a word.
-fn text_of(alloc: Global, word: &str) -> Result<Text, Memory>
+pub(crate) fn text_of(alloc: Global, word: &str) -> Result<Text, Memory>
     ensures { IfOk result (λ t. t ≡ word.now) }
 {
     Ok(Text::new(String::from_str(alloc, word)?))
@@ -182,12 +150,12 @@ fn once<T: Drop>(said: &mut Option<T>, value: Option<T>) -> Result<(), Usage>
 
 impl Said {
     /// Nothing is said. Takes no memory.
-    pub fn new() -> Said
+    pub fn new(alloc: Global) -> Said
         ensures { result ≡ nothing_said }
     {
         Said {
             waiting: Waiting::Any,
-            name: None,
+            names: Words::new(Vec::new(alloc)),
             log: None,
             strategy: None,
             seed: None,
@@ -208,24 +176,40 @@ impl Said {
         }
     }
 
-    /// Whether no option is said.
-    pub fn is_bare(&self) -> bool
-        ensures { result ≡ bare self.now }
+    /// Whether the option is said.
+    fn is_said(&self, key: Key) -> bool
+        ensures { result ≡ said_is self.now key }
     {
-        let beside = self.workers.is_some() || self.slice.is_some();
-        let limits = self.budget.is_some() || (self.steps.is_some() || beside);
-        let some = self.log.is_some()
-            || (self.strategy.is_some() || (self.seed.is_some() || limits));
-        !some
+        match key {
+            Key::Log => self.log.is_some(),
+            Key::Strategy => self.strategy.is_some(),
+            Key::Seed => self.seed.is_some(),
+            Key::Budget => self.budget.is_some(),
+            Key::Steps => self.steps.is_some(),
+            Key::Workers => self.workers.is_some(),
+            Key::Slice => self.slice.is_some(),
+        }
     }
 
-    /// The one name and the name of the log. Takes no memory.
-    pub fn into_names(self) -> (Option<Text>, Option<Text>)
-        ensures { result ≡ (self.name, self.log) }
+    /// Whether no option is said but those that the first word allows.
+    pub fn only(&self, verb: Verb) -> bool
+        ensures { result ≡ only (allows verb) self.now }
+    {
+        for key in Key::all() {
+            if self.is_said(key) && !verb.allows(key) {
+                return false;
+            }
+        }
+        true
+    }
+
+    /// The names and the name of the log. Takes no memory.
+    pub fn into_names(self) -> (Words, Option<Text>)
+        ensures { result ≡ (self.names, self.log) }
     {
         let Said {
             waiting: _,
-            name,
+            names,
             log,
             strategy: _,
             seed: _,
@@ -234,19 +218,26 @@ impl Said {
             workers: _,
             slice: _,
         } = self;
-        (name, log)
+        (names, log)
     }
 
-    /// The word is the one name.
-    fn name(&mut self, alloc: Global, word: &str) -> Result<(), Usage>
-        ensures named { IfOk result (λ _. with_name self.old word.now ≡ Some self.new) }
-        ensures wrong { IsErrOf result Usage.Wrong → with_name self.old word.now ≡ None }
+    /// The same, with these names. Takes no memory.
+    pub fn with_names(mut self, names: Words) -> Said
+        ensures { result ≡ record self { names = names } }
     {
-        once(&mut self.name, Some(text_of(alloc, word)?))
+        self.names = names;
+        self
+    }
+
+    /// The word is a name behind the others.
+    fn name(&mut self, alloc: Global, word: &str) -> Result<(), Memory>
+        ensures { IfOk result (λ _. self.new ≡ with_name self.old word.now) }
+    {
+        self.names.push(text_of(alloc, word)?)
     }
 
     /// The option gets the value.
-    fn set(&mut self, alloc: Global, key: Key, value: &str) -> Result<(), Usage>
+    pub fn set(&mut self, alloc: Global, key: Key, value: &str) -> Result<(), Usage>
         ensures set { IfOk result (λ _. with_value self.old key value.now ≡ Some self.new) }
         ensures wrong { IsErrOf result Usage.Wrong → with_value self.old key value.now ≡ None }
     {
@@ -288,12 +279,13 @@ impl Said {
         ensures said { IfOk result (λ _. with_free self.old word.now ≡ Some self.new) }
         ensures wrong { IsErrOf result Usage.Wrong → with_free self.old word.now ≡ None }
     {
-        if word == "--" {
+        if word == DASHES {
             self.waiting = Waiting::Name;
             return Ok(());
         }
         if is_name(word.as_bytes()) {
-            return self.name(alloc, word);
+            self.name(alloc, word)?;
+            return Ok(());
         }
         self.option(alloc, word)
     }
@@ -311,7 +303,10 @@ impl Said {
                 }
                 self.set(alloc, key, word)
             }
-            Waiting::Name => self.name(alloc, word),
+            Waiting::Name => {
+                self.name(alloc, word)?;
+                Ok(())
+            }
         }
     }
 }

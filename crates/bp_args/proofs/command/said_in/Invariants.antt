@@ -1,7 +1,7 @@
 use Rattle.std.proofs.Common.{◌≡◌, drop, map}
 use Rattle.std.specs.Prelude.{string_bytes}
 use Rattle.bp_args.specs.Said.{nothing_said, said_on}
-use Rattle.bp_args.proofs.command.said_of.Given as goal
+use Rattle.bp_args.proofs.command.said_in.Given as goal
 
 abbrev pub invariant-loop-word : goal.invariant-loop-word
 invariant-loop-word l = record {

@@ -1,0 +1,102 @@
+-- Commands of words, computed.
+use Rattle.std.proofs.Common.{◌≡◌, ℕ, List, [], ◌∷◌, Option, Some, None, refl}
+use Rattle.std.specs.Prelude.{codes}
+use Rattle.std.specs.Fmt.{digits}
+use Rattle.bp_log.specs.Options.{PlainOptions, default_options}
+use Rattle.bp_log.specs.Beside.{PlainBeside, default_beside}
+use Rattle.bp_log.specs.declared.options.Strategy.TheVariants.{Ordered}
+use Rattle.bp_matches.specs.Normal.{normal_words}
+use Rattle.bp_args.specs.declared.command.Command.{Command}
+use Rattle.bp_args.specs.declared.command.Command.TheVariants.{Run, Replay, Accept, Large}
+use Rattle.bp_args.specs.Command.{command_of}
+use Rattle.bp_args.specs.Normal.{said_of}
+
+abbrev p : List ℕ
+p = codes "p"
+
+-- a run of p
+abbrev run_p : Option (List ℕ) → PlainOptions → PlainBeside → Command
+run_p log options beside = Run (record { program = p; log = log; options = options; beside = beside })
+
+abbrev plain_p : Command
+plain_p = run_p None default_options default_beside
+
+-- ---- commands
+
+pub bare : command_of (codes "run" ∷ p ∷ []) ≡ Some plain_p
+bare = refl
+
+pub next_word : command_of (codes "run" ∷ codes "--seed" ∷ codes "7" ∷ p ∷ []) ≡ Some (run_p None (record default_options { seed = 7 }) default_beside)
+next_word = refl
+
+pub same_word : command_of (codes "run" ∷ p ∷ codes "--seed=007" ∷ []) ≡ Some (run_p None (record default_options { seed = 7 }) default_beside)
+same_word = refl
+
+pub options : command_of (codes "run" ∷ codes "--log=l=" ∷ codes "--strategy" ∷ codes "ordered" ∷ codes "--budget=2" ∷ p ∷ codes "--steps=3" ∷ codes "--workers=64" ∷ codes "--slice=1" ∷ []) ≡ Some (run_p (Some (codes "l=")) (record default_options { strategy = Ordered; budget = 2; steps = 3 }) (record { workers = 64; slice = 1 }))
+options = refl
+
+pub dashes : command_of (codes "run" ∷ codes "--" ∷ codes "--seed=1" ∷ []) ≡ Some (Run (record { program = codes "--seed=1"; log = None; options = default_options; beside = default_beside }))
+dashes = refl
+
+pub replay : command_of (codes "replay" ∷ codes "-" ∷ []) ≡ Some (Replay (codes "-"))
+replay = refl
+
+pub accept : command_of (codes "accept" ∷ codes "--" ∷ p ∷ []) ≡ Some (Accept p)
+accept = refl
+
+pub large : command_of (codes "large" ∷ codes "4000" ∷ []) ≡ Some (Large 4_000)
+large = refl
+
+-- ---- no commands
+
+pub nothing : command_of [] ≡ None
+nothing = refl
+
+pub help : command_of (codes "help" ∷ []) ≡ None
+help = refl
+
+pub no_name : command_of (codes "run" ∷ []) ≡ None
+no_name = refl
+
+pub two_names : command_of (codes "run" ∷ p ∷ codes "--" ∷ codes "q" ∷ []) ≡ None
+two_names = refl
+
+pub twice : command_of (codes "run" ∷ codes "--seed" ∷ codes "1" ∷ codes "--seed=1" ∷ p ∷ []) ≡ None
+twice = refl
+
+pub no_value : command_of (codes "run" ∷ p ∷ codes "--log" ∷ []) ≡ None
+no_value = refl
+
+pub empty_value : command_of (codes "run" ∷ codes "--log=" ∷ p ∷ []) ≡ None
+empty_value = refl
+
+pub option_as_value : command_of (codes "run" ∷ codes "--log" ∷ codes "--seed=1" ∷ p ∷ []) ≡ None
+option_as_value = refl
+
+pub unknown : command_of (codes "run" ∷ codes "--seeds=1" ∷ p ∷ []) ≡ None
+unknown = refl
+
+pub not_allowed : command_of (codes "accept" ∷ codes "--workers=1" ∷ p ∷ []) ≡ None
+not_allowed = refl
+
+pub out_of_range : command_of (codes "run" ∷ codes "--workers=65" ∷ p ∷ []) ≡ None
+out_of_range = refl
+
+pub too_many_digits : command_of (codes "run" ∷ codes "--seed=000000000000000000001" ∷ p ∷ []) ≡ None
+too_many_digits = refl
+
+pub same_name : command_of (codes "run" ∷ codes "--log" ∷ p ∷ p ∷ []) ≡ None
+same_name = refl
+
+pub too_large : command_of (codes "large" ∷ codes "4001" ∷ []) ≡ None
+too_large = refl
+
+-- ---- the normal form
+
+pub normal_run : normal_words (said_of plain_p) ≡ codes "--strategy=simple" ∷ codes "--seed=0" ∷ codes "--budget=1000000" ∷ codes "--steps=100000" ∷ codes "--workers=4" ∷ codes "--slice=10000" ∷ codes "--" ∷ codes "run" ∷ p ∷ []
+unfolding digits
+normal_run = refl
+
+pub normal_large : normal_words (said_of (Large 7)) ≡ codes "--" ∷ codes "large" ∷ codes "7" ∷ []
+unfolding digits
+normal_large = refl

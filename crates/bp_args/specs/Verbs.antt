@@ -1,0 +1,26 @@
+-- The first words of commands, and what each allows.
+use Rattle.std.specs.Prelude.{ℕ, Bool, true, false, List, [], ◌∷◌, Option, find, codes}
+use Rattle.std.specs.Str.{bytes_eq}
+use Rattle.bp_matches.specs.declared.key.Key.{Key}
+use Rattle.bp_args.specs.declared.verb.Verb.{Verb}
+use Rattle.bp_args.specs.declared.verb.Verb.TheVariants.{Run, Replay, Accept, Large}
+
+abbrev pub verb_name : Verb → List ℕ
+verb_name Run = codes "run"
+verb_name Replay = codes "replay"
+verb_name Accept = codes "accept"
+verb_name Large = codes "large"
+
+abbrev pub verbs : List Verb
+verbs = Run ∷ Replay ∷ Accept ∷ Large ∷ []
+
+-- the first word that a word is
+abbrev pub verb_at : List ℕ → Option Verb
+verb_at word = find (λ v. bytes_eq word (verb_name v)) verbs
+
+-- the options that may be said behind a first word
+abbrev pub allows : Verb → Key → Bool
+allows Run k = true
+allows Replay k = false
+allows Accept k = false
+allows Large k = false

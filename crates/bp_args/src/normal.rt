@@ -1,0 +1,92 @@
+//! A command, written out as words in the normal form.
+ghost use Rattle.std.specs.Prelude.{◌≡◌, [], ◌∷◌, IfOk, map, decimal, string_bytes};
+ghost use Rattle.bp_matches.specs.Normal.{normal_words};
+ghost use Rattle.bp_args.specs.declared.command.Command.TheVariants as command;
+ghost use Rattle.bp_args.specs.Verbs.{verb_name};
+ghost use Rattle.bp_args.specs.Normal.{said_of as said_by, bare_values};
+
+use crate::command::{Command, Run};
+use crate::said::text_of;
+use crate::verb::Verb;
+use bp_log::Memory;
+use bp_matches::{Values, Words};
+use js_data::Text;
+use std::alloc::Global;
+
+/// The text of a number. Its only error is want of memory.
+fn number_text(alloc: Global, number: u64) -> Result<Text, Memory>
+    ensures { IfOk result (λ t. t ≡ decimal number) }
+{
+    Ok(Text::new(format!(in alloc; "{number}")?))
+}
+
+/// The first word and the one name. Its only error is want of memory.
+fn words_of(alloc: Global, verb: Verb, name: Text) -> Result<Words, Memory>
+    ensures { IfOk result (λ w. w ≡ verb_name verb ∷ name ∷ []) }
+{
+    let mut words = Words::new(Vec::new(alloc));
+    words.push(text_of(alloc, verb.name())?)?;
+    words.push(name)?;
+    Ok(words)
+}
+
+/// What a command without options says. Its only error is want of memory.
+fn bare_values(alloc: Global, verb: Verb, name: Text) -> Result<Values, Memory>
+    ensures { IfOk result (λ v. v ≡ bare_values verb name) }
+{
+    Ok(Values {
+        log: None,
+        strategy: None,
+        seed: None,
+        budget: None,
+        steps: None,
+        workers: None,
+        slice: None,
+        words: words_of(alloc, verb, name)?,
+    })
+}
+
+/// What a run says: each option that it has, defaults written out. Its only error is want of
+/// memory.
+fn run_values(alloc: Global, run: Run) -> Result<Values, Memory>
+    ensures { IfOk result (λ v. v ≡ said_by (command.Run run)) }
+{
+    let Run {
+        program,
+        log,
+        options,
+        beside,
+    } = run;
+    Ok(Values {
+        log,
+        strategy: Some(text_of(alloc, options.strategy().name())?),
+        seed: Some(number_text(alloc, options.seed())?),
+        budget: Some(number_text(alloc, options.budget())?),
+        steps: Some(number_text(alloc, u64::from(options.steps()))?),
+        workers: Some(number_text(alloc, u64::from(beside.workers()))?),
+        slice: Some(number_text(alloc, beside.slice())?),
+        words: words_of(alloc, Verb::Run, program)?,
+    })
+}
+
+/// What a command says. Its only error is want of memory.
+fn said_of(alloc: Global, command: Command) -> Result<Values, Memory>
+    ensures { IfOk result (λ v. v ≡ said_by command) }
+{
+    match command {
+        Command::Run(run) => run_values(alloc, run),
+        Command::Replay(log) => bare_values(alloc, Verb::Replay, log),
+        Command::Accept(program) => bare_values(alloc, Verb::Accept, program),
+        Command::Large(threads) => {
+            bare_values(alloc, Verb::Large, number_text(alloc, u64::from(threads))?)
+        }
+    }
+}
+
+/// The words of a command in the normal form. Its only error is want of memory.
+pub(crate) fn normal_of(alloc: Global, command: Command) -> Result<Vec<String>, Memory>
+    ensures { IfOk result (λ v. map string_bytes v.items ≡ normal_words (said_by command)) }
+{
+    let values = said_of(alloc, command)?;
+    values.normal_words(alloc)
+}

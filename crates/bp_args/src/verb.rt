@@ -1,0 +1,61 @@
+//! The first words of commands.
+ghost use Rattle.std.specs.Prelude.{◌≡◌};
+ghost use Rattle.bp_args.specs.Verbs.{verb_name, verbs, verb_at, allows as allowed};
+
+use bp_matches::Key;
+
+/// The first word of a command.
+#[derive(Clone, Copy)]
+pub enum Verb {
+    /// A program is run.
+    Run,
+    /// A log is replayed.
+    Replay,
+    /// A program is accepted or refused.
+    Accept,
+    /// The large program is run and measured.
+    Large,
+}
+
+impl Verb {
+    /// All first words.
+    fn all() -> [Verb; 4]
+        ensures { result ≡ verbs }
+    {
+        [Verb::Run, Verb::Replay, Verb::Accept, Verb::Large]
+    }
+
+    /// The word.
+    pub fn name(self) -> &'static str
+        ensures { result.now ≡ verb_name self }
+    {
+        match self {
+            Verb::Run => "run",
+            Verb::Replay => "replay",
+            Verb::Accept => "accept",
+            Verb::Large => "large",
+        }
+    }
+
+    /// The first word that this word is, or `None` exactly where it is none. Takes no memory.
+    pub fn of_name(word: &str) -> Option<Verb>
+        ensures { result ≡ verb_at word.now }
+    {
+        for verb in Verb::all() {
+            if word == verb.name() {
+                return Some(verb);
+            }
+        }
+        None
+    }
+
+    /// Whether the option may be said behind the word.
+    pub fn allows(self, key: Key) -> bool
+        ensures { result ≡ allowed self key }
+    {
+        match (self, key) {
+            (Verb::Run, _) => true,
+            (Verb::Replay | Verb::Accept | Verb::Large, _) => false,
+        }
+    }
+}

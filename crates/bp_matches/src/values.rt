@@ -1,0 +1,156 @@
+//! The values that words say, and the words in the normal form.
+ghost use Rattle.std.specs.Prelude.{◌≡◌, [], ◌∷◌, ◌++◌, IfOk, map, option_map, codes, string_bytes};
+ghost use Rattle.bp_matches.specs.Normal.{value_in, option_word, option_words, all_options, normal_words};
+ghost use Rattle.bp_matches.specs.Keys.{keys, key_name};
+
+use crate::key::{DASHES, Key};
+use js_data::Text;
+use std::alloc::{AllocError, Global};
+use std::marker::Model;
+
+/// Words, in order. Contracts see them as the list of their texts.
+#[derive(Drop)]
+pub struct Words {
+    items: Vec<Text>,
+}
+
+impl Model for Words {
+    ghost use Rattle.std.specs.Prelude.{ℕ, List};
+
+    ghost Value = { List (List ℕ) };
+
+    ghost view = { λ w. w.items.items };
+}
+
+impl Words {
+    /// These words. Takes no memory.
+    pub fn new(items: Vec<Text>) -> Words
+        ensures { result ≡ items.items }
+    {
+        Words { items }
+    }
+
+    /// The words, in order.
+    pub fn as_slice(&self) -> &[Text]
+        ensures { result.now ≡ self.now }
+    {
+        self.items.as_slice()
+    }
+
+    /// The words, given back. Takes no memory.
+    pub fn into_vec(self) -> Vec<Text>
+        ensures { result.items ≡ self }
+    {
+        self.items
+    }
+
+    /// One more word behind them.
+    pub fn push(&mut self, word: Text) -> Result<(), AllocError>
+        ensures { IfOk result (λ _. self.new ≡ self.old ++ word ∷ []) }
+    {
+        self.items.push(word)?;
+        Ok(())
+    }
+}
+
+/// The value of each option, where it is said, and the words that are no options.
+pub struct Values {
+    /// The name of the log.
+    pub log: Option<Text>,
+    /// The strategy.
+    pub strategy: Option<Text>,
+    /// The seed.
+    pub seed: Option<Text>,
+    /// The budget.
+    pub budget: Option<Text>,
+    /// The limit of steps.
+    pub steps: Option<Text>,
+    /// The number of workers.
+    pub workers: Option<Text>,
+    /// The nodes of a slice.
+    pub slice: Option<Text>,
+    /// The words that are no options, in order.
+    pub words: Words,
+}
+
+impl Drop for Values {
+    fn drop(self) {
+        let Values {
+            log: _,
+            strategy: _,
+            seed: _,
+            budget: _,
+            steps: _,
+            workers: _,
+            slice: _,
+            words: _,
+        } = self;
+    }
+}
+
+/// The word of an option with its value. Its only error is want of memory.
+fn option_word(alloc: Global, key: Key, value: &Text) -> Result<String, AllocError>
+    ensures { IfOk result (λ s. string_bytes s ≡ option_word key value.now) }
+{
+    format!(in alloc; "{DASHES}{}={}", key.name(), value.as_str())
+}
+
+impl Values {
+    /// The value of this option, where it is said.
+    pub fn value(&self, key: Key) -> Option<&Text>
+        ensures { option_map (λ t. t.now) result ≡ value_in self.now key }
+    {
+        match key {
+            Key::Log => self.log.as_ref(),
+            Key::Strategy => self.strategy.as_ref(),
+            Key::Seed => self.seed.as_ref(),
+            Key::Budget => self.budget.as_ref(),
+            Key::Steps => self.steps.as_ref(),
+            Key::Workers => self.workers.as_ref(),
+            Key::Slice => self.slice.as_ref(),
+        }
+    }
+
+    /// The words that are no options. Takes no memory.
+    pub fn into_words(self) -> Words
+        ensures { result ≡ self.words }
+    {
+        let Values {
+            log: _,
+            strategy: _,
+            seed: _,
+            budget: _,
+            steps: _,
+            workers: _,
+            slice: _,
+            words,
+        } = self;
+        words
+    }
+
+    /// The word of each option that is said. Its only error is want of memory.
+    fn option_words(&self, alloc: Global) -> Result<Vec<String>, AllocError>
+        ensures { IfOk result (λ v. map string_bytes v.items ≡ all_options self.now keys) }
+    {
+        let mut words = Vec::new(alloc);
+        for key in Key::all() {
+            if let Some(value) = self.value(key) {
+                words.push(option_word(alloc, key, value)?)?;
+            }
+        }
+        Ok(words)
+    }
+
+    /// The words in the normal form: each option that is said as `--x=v`, then `--`, then the
+    /// words that are no options. Its only error is want of memory.
+    pub fn normal_words(&self, alloc: Global) -> Result<Vec<String>, AllocError>
+        ensures { IfOk result (λ v. map string_bytes v.items ≡ normal_words self.now) }
+    {
+        let mut words = self.option_words(alloc)?;
+        words.push(String::from_str(alloc, DASHES)?)?;
+        for word in self.words.as_slice() {
+            words.push(String::from_str(alloc, word.as_str())?)?;
+        }
+        Ok(words)
+    }
+}
