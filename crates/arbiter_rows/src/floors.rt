@@ -7,7 +7,7 @@ use crate::lines::{Lines, agree, event};
 use bp_floor::{Floor, Phase};
 use bp_log::{Line, Options, Strategy, Verdict, line_of};
 use bp_script::accept;
-use bp_serve::carry_all;
+use bp_turns::carry_all;
 use std::alloc::Global;
 use std::test::Fail;
 

@@ -7,7 +7,7 @@ use crate::lines::event;
 use bp_arbiter::{Arbiter, Phase, Picked};
 use bp_log::{Item, Options, Record, Strategy, line_of};
 use bp_script::accept;
-use bp_serve::carry_all;
+use bp_turns::carry_all;
 use std::alloc::Global;
 use std::test::Fail;
 

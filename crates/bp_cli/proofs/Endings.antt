@@ -25,16 +25,16 @@ use Rattle.bp_args.specs.declared.command.Command.TheVariants as command
 use Rattle.bp_args.specs.declared.command.Run.{Run}
 use Rattle.bp_cli.specs.declared.conclusion.Conclusion.{Conclusion}
 use Rattle.bp_cli.specs.declared.conclusion.Conclusion.TheVariants.{NoCommand, Refused, Accepted, Ran, NotRead, NotWritten, NoMemory, BadLog}
-use Rattle.bp_cli.specs.Outside.{Outside, IsAsBefore, IsUnder}
+use Rattle.bp_cli.specs.Outside.{Outside, ReadFailed, WriteFailed, IsAsBefore, IsUnder}
 use Rattle.bp_cli.specs.Asking.{names_of, WasAsked, AsksFor, AsksIn}
 use Rattle.bp_cli.specs.Conclusions.{code_of, conclusion_of, has_note, IsStatusOf}
-use Rattle.bp_cli.specs.Endings.{EndsSo, IsGiven, IsRefusedAt, TellsPartly, WantsAmid, EndsIn, Ends}
+use Rattle.bp_cli.specs.Endings.{ComesOf, EndsIn, EndsWith, Ends}
 use Rattle.bp_large.specs.Large.{large_program}
 use Rattle.bp_cli.specs.Large.{MeasureEnds}
 use Rattle.bp_cli.specs.Loading.{IsUnloaded}
 use Rattle.bp_cli.specs.Replaying.{ReplayEnds, IsCaused, replayed_of}
 use Rattle.bp_cli.specs.Refusing.{IsTooLong, program_of, Refuses}
-use Rattle.bp_cli.specs.Runs.{Holds, HoldsFront, HoldsBehind, KeepsLog, KeepsLogFront, RunEnds, log_alone, header_of}
+use Rattle.bp_cli.specs.Runs.{Holds, HoldsFront, HoldsBehind, KeepsLogFront, RunEnds, LogEnds, log_alone, header_of}
 use Rattle.bp_reading.specs.Laws.{IsHeader}
 use Rattle.bp_cli.proofs.Runs.{run_replays}
 
@@ -58,22 +58,12 @@ too_long (Some held) name None limit o e h =
 not_refused : {P : Type 0} (bytes : List ℕ) (program : PlainProgram) → IsProgram bytes program → (refusal : Refusal) → IsRefused bytes refusal → P
 not_refused bytes program p refusal h = absurd (never bytes p.tree refusal p.accepted h)
 
-pub refuses_loaded : (c : Command) (holds : Option Holdings) (name bytes : List ℕ) (program : PlainProgram) (code : ℕ) → program_of c ≡ Some name → IsUnder holds name bytes → IsProgram bytes program →
+refuses_loaded : (c : Command) (holds : Option Holdings) (name bytes : List ℕ) (program : PlainProgram) (code : ℕ) → program_of c ≡ Some name → IsUnder holds name bytes → IsProgram bytes program →
     Refuses (Some c) holds code
 refuses_loaded c None name bytes program code e u p = tt
 refuses_loaded c (Some held) name bytes program code e u p =
     subst (λ (o : Option (List ℕ)). IfSome o (λ n. IfSome (held n) (λ bs. (refusal : Refusal) → IsRefused bs refusal → (code ≡ 2) ⊎ ((code ≡ 8) ⊎ (code ≡ 10))))) (sym e)
     (subst (λ (o : Option (List ℕ)). IfSome o (λ bs. (refusal : Refusal) → IsRefused bs refusal → (code ≡ 2) ⊎ ((code ≡ 8) ⊎ (code ≡ 10)))) (sym u) (λ refusal h. not_refused bytes program p refusal h))
-
-unloaded_code : (holds : Option Holdings) (name : List ℕ) (unread : Type 0) (c : Conclusion) → IsUnloaded holds name unread c → (code_of c ≡ 2) ⊎ ((code_of c ≡ 8) ⊎ (code_of c ≡ 10))
-unloaded_code holds name unread (Refused refusal) u = inl refl
-unloaded_code holds name unread NotRead u = inr (inl refl)
-unloaded_code holds name unread NoMemory u = inr (inr refl)
-unloaded_code holds name unread NoCommand u = absurd u
-unloaded_code holds name unread Accepted u = absurd u
-unloaded_code holds name unread (Ran verdict) u = absurd u
-unloaded_code holds name unread NotWritten u = absurd u
-unloaded_code holds name unread (BadLog fault) u = absurd u
 
 refuses_held : (held : Holdings) (name : Option (List ℕ)) (code : ℕ) → ((code ≡ 2) ⊎ ((code ≡ 8) ⊎ (code ≡ 10))) →
     IfSome name (λ n. IfSome (held n) (λ bytes. (refusal : Refusal) → IsRefused bytes refusal → (code ≡ 2) ⊎ ((code ≡ 8) ⊎ (code ≡ 10))))
@@ -81,18 +71,19 @@ refuses_held held None code h = tt
 refuses_held held (Some n) code h =
     elim (held n) as (λ o. IfSome o (λ bytes. (refusal : Refusal) → IsRefused bytes refusal → (code ≡ 2) ⊎ ((code ≡ 8) ⊎ (code ≡ 10)))) [ None ↦ tt | Some bytes ↦ λ refusal r. h ]
 
-pub refuses_any : (c : Option Command) (holds : Option Holdings) (code : ℕ) → ((code ≡ 2) ⊎ ((code ≡ 8) ⊎ (code ≡ 10))) → Refuses c holds code
+refuses_any : (c : Option Command) (holds : Option Holdings) (code : ℕ) → ((code ≡ 2) ⊎ ((code ≡ 8) ⊎ (code ≡ 10))) → Refuses c holds code
 refuses_any c None code h = tt
 refuses_any c (Some held) code h = refuses_held held (option_and_then program_of c) code h
 
 -- why a program is not accepted
-pub unloaded_fault : (holds : Option Holdings) (name bytes : List ℕ) (unread : Type 0) (fault : ScriptFault) (c : Conclusion) → c ≡ conclusion_of fault → IsUnder holds name bytes → IsScriptFault bytes fault → IsUnloaded holds name unread c
-unloaded_fault holds name bytes unread (ScriptFault.Refused refusal) c e u f = subst (λ (x : Conclusion). IsUnloaded holds name unread x) (sym e) (bytes, u, f)
-unloaded_fault holds name bytes unread ScriptFault.Memory c e u f = subst (λ (x : Conclusion). IsUnloaded holds name unread x) (sym e) tt
+pub unloaded_fault : (holds : Option Holdings) (name bytes : List ℕ) (fault : ScriptFault) (c : Conclusion) → c ≡ conclusion_of fault → IsUnder holds name bytes → IsScriptFault bytes fault → IsUnloaded holds name c
+unloaded_fault holds name bytes (ScriptFault.Refused refusal) c e u f = subst (λ (x : Conclusion). IsUnloaded holds name x) (sym e) (bytes, u, f)
+unloaded_fault holds name bytes ScriptFault.Memory c e u f = subst (λ (x : Conclusion). IsUnloaded holds name x) (sym e) tt
 
--- a command that has no accepted program ends with 2, 8 or 10
-pub refuses_unloaded : (c : Option Command) (holds : Option Holdings) (name : List ℕ) (unread : Type 0) (conclusion : Conclusion) → IsUnloaded holds name unread conclusion → Refuses c holds (code_of conclusion)
-refuses_unloaded c holds name unread conclusion u = refuses_any c holds (code_of conclusion) (unloaded_code holds name unread conclusion u)
+-- that is a refusal, a failure or want of memory
+pub fault_read : (fault : ScriptFault) (c : Conclusion) → c ≡ conclusion_of fault → c ≡ NotRead → ⊥
+fault_read (ScriptFault.Refused refusal) c e n = cc
+fault_read ScriptFault.Memory c e n = cc
 
 -- ---- asked
 
@@ -118,61 +109,45 @@ asks_both (Some names) mid after p l a b =
     there ∙ ap (λ (x : List (List ℕ)). Some x) (append_assoc names (p ∷ []) (l ∷ []))
 
 -- a command that has no accepted program
-pub asks_unloaded : (c : Command) (name : List ℕ) (rest : List (List ℕ)) (holds : Option Holdings) (unread : Type 0) (before after : Option (List (List ℕ))) (conclusion : Conclusion) → names_of c ≡ name ∷ rest →
-    IsUnloaded holds name unread conclusion → (((conclusion ≡ NoMemory) × (after ≡ before)) ⊎ Asks before name after) → AsksIn (Some c) before after conclusion
-asks_unloaded c name rest holds unread before after (Refused refusal) e u (inl h) = let f : ⊥ = (let k = h.0 in cc) in absurd f
-asks_unloaded c name rest holds unread before after (Refused refusal) e u (inr h) = (name ∷ [], sym (ap (λ (x : List (List ℕ)). take 1 x) e), h)
-asks_unloaded c name rest holds unread before after NotRead e u (inl h) = let f : ⊥ = (let k = h.0 in cc) in absurd f
-asks_unloaded c name rest holds unread before after NotRead e u (inr h) = (name ∷ [], sym (ap (λ (x : List (List ℕ)). take 1 x) e), h)
-asks_unloaded c name rest holds unread before after NoMemory e u (inl h) = ([], (names_of c, refl), asks_same before after h.1)
-asks_unloaded c name rest holds unread before after NoMemory e u (inr h) = (name ∷ [], (rest, e), h)
-asks_unloaded c name rest holds unread before after NoCommand e u h = absurd u
-asks_unloaded c name rest holds unread before after Accepted e u h = absurd u
-asks_unloaded c name rest holds unread before after (Ran verdict) e u h = absurd u
-asks_unloaded c name rest holds unread before after NotWritten e u h = absurd u
-asks_unloaded c name rest holds unread before after (BadLog fault) e u h = absurd u
+pub asks_unloaded : (c : Command) (name : List ℕ) (rest : List (List ℕ)) (holds : Option Holdings) (before after : Option (List (List ℕ))) (conclusion : Conclusion) → names_of c ≡ name ∷ rest →
+    IsUnloaded holds name conclusion → (((conclusion ≡ NoMemory) × (after ≡ before)) ⊎ Asks before name after) → AsksIn (Some c) before after conclusion
+asks_unloaded c name rest holds before after (Refused refusal) e u (inl h) = let f : ⊥ = (let k = h.0 in cc) in absurd f
+asks_unloaded c name rest holds before after (Refused refusal) e u (inr h) = (name ∷ [], sym (ap (λ (x : List (List ℕ)). take 1 x) e), h)
+asks_unloaded c name rest holds before after NotRead e u (inl h) = let f : ⊥ = (let k = h.0 in cc) in absurd f
+asks_unloaded c name rest holds before after NotRead e u (inr h) = (name ∷ [], sym (ap (λ (x : List (List ℕ)). take 1 x) e), h)
+asks_unloaded c name rest holds before after NoMemory e u (inl h) = ([], (names_of c, refl), asks_same before after h.1)
+asks_unloaded c name rest holds before after NoMemory e u (inr h) = (name ∷ [], (rest, e), h)
+asks_unloaded c name rest holds before after _ e u h = absurd u
 
 -- a run that keeps no log
-pub asks_unlogged : (asked : Run) (program : PlainProgram) (o : PlainOptions) (unwritten whole partly : Type 0) (b a : Option (List ℕ)) (before after : Option (List (List ℕ))) (conclusion : Conclusion) → asked.log ≡ None →
-    RunEnds program o unwritten whole partly b a conclusion → Asks before asked.program after → AsksIn (Some (command.Run asked)) before after conclusion
-asks_unlogged asked program o unwritten whole partly b a before after (Ran v) e r h = (asked.program ∷ [], ap (λ (x : Option (List ℕ)). asked.program ∷ option_to_list x) (sym e), h)
-asks_unlogged asked program o unwritten whole partly b a before after NotWritten e r h = (asked.program ∷ [], ap (λ (x : Option (List ℕ)). asked.program ∷ option_to_list x) (sym e), h)
-asks_unlogged asked program o unwritten whole partly b a before after NoMemory e r h = (asked.program ∷ [], ([], ap (λ (x : Option (List ℕ)). asked.program ∷ option_to_list x) e), h)
-asks_unlogged asked program o unwritten whole partly b a before after NoCommand e r h = absurd r
-asks_unlogged asked program o unwritten whole partly b a before after (Refused refusal) e r h = absurd r
-asks_unlogged asked program o unwritten whole partly b a before after Accepted e r h = absurd r
-asks_unlogged asked program o unwritten whole partly b a before after NotRead e r h = absurd r
-asks_unlogged asked program o unwritten whole partly b a before after (BadLog fault) e r h = absurd r
+pub asks_unlogged : (asked : Run) (program : PlainProgram) (o : PlainOptions) (b a : Option (List ℕ)) (before after : Option (List (List ℕ))) (conclusion : Conclusion) → asked.log ≡ None →
+    RunEnds program o b a conclusion → Asks before asked.program after → AsksIn (Some (command.Run asked)) before after conclusion
+asks_unlogged asked program o b a before after (Ran v) e r h = (asked.program ∷ [], ap (λ (x : Option (List ℕ)). asked.program ∷ option_to_list x) (sym e), h)
+asks_unlogged asked program o b a before after NotWritten e r h = (asked.program ∷ [], ap (λ (x : Option (List ℕ)). asked.program ∷ option_to_list x) (sym e), h)
+asks_unlogged asked program o b a before after NoMemory e r h = (asked.program ∷ [], ([], ap (λ (x : Option (List ℕ)). asked.program ∷ option_to_list x) e), h)
+asks_unlogged asked program o b a before after _ e r h = absurd r
 
 -- a run that keeps a log
-pub asks_logged : (asked : Run) (name : List ℕ) (program : PlainProgram) (o : PlainOptions) (unwritten whole partly : Type 0) (b a : Option (List ℕ)) (before mid after : Option (List (List ℕ))) (conclusion : Conclusion) → asked.log ≡ Some name →
-    RunEnds program o unwritten whole partly b a conclusion → Asks before asked.program mid → (((conclusion ≡ NoMemory) × (after ≡ mid)) ⊎ Asks mid name after) → AsksIn (Some (command.Run asked)) before after conclusion
-asks_logged asked name program o unwritten whole partly b a before mid after (Ran v) e r h (inl k) = let f : ⊥ = (let m = k.0 in cc) in absurd f
-asks_logged asked name program o unwritten whole partly b a before mid after (Ran v) e r h (inr k) =
+pub asks_logged : (asked : Run) (name : List ℕ) (program : PlainProgram) (o : PlainOptions) (b a : Option (List ℕ)) (before mid after : Option (List (List ℕ))) (conclusion : Conclusion) → asked.log ≡ Some name →
+    RunEnds program o b a conclusion → Asks before asked.program mid → (((conclusion ≡ NoMemory) × (after ≡ mid)) ⊎ Asks mid name after) → AsksIn (Some (command.Run asked)) before after conclusion
+asks_logged asked name program o b a before mid after (Ran v) e r h (inl k) = let f : ⊥ = (let m = k.0 in cc) in absurd f
+asks_logged asked name program o b a before mid after (Ran v) e r h (inr k) =
     (asked.program ∷ name ∷ [], ap (λ (x : Option (List ℕ)). asked.program ∷ option_to_list x) (sym e), asks_both before mid after asked.program name h k)
-asks_logged asked name program o unwritten whole partly b a before mid after NotWritten e r h (inl k) = let f : ⊥ = (let m = k.0 in cc) in absurd f
-asks_logged asked name program o unwritten whole partly b a before mid after NotWritten e r h (inr k) =
+asks_logged asked name program o b a before mid after NotWritten e r h (inl k) = let f : ⊥ = (let m = k.0 in cc) in absurd f
+asks_logged asked name program o b a before mid after NotWritten e r h (inr k) =
     (asked.program ∷ name ∷ [], ap (λ (x : Option (List ℕ)). asked.program ∷ option_to_list x) (sym e), asks_both before mid after asked.program name h k)
-asks_logged asked name program o unwritten whole partly b a before mid after NoMemory e r h (inl k) =
+asks_logged asked name program o b a before mid after NoMemory e r h (inl k) =
     (asked.program ∷ [], (option_to_list asked.log, refl), subst (λ (x : Option (List (List ℕ))). Asks before asked.program x) (sym k.1) h)
-asks_logged asked name program o unwritten whole partly b a before mid after NoMemory e r h (inr k) =
+asks_logged asked name program o b a before mid after NoMemory e r h (inr k) =
     (asked.program ∷ name ∷ [], ([], ap (λ (x : Option (List ℕ)). asked.program ∷ option_to_list x) e), asks_both before mid after asked.program name h k)
-asks_logged asked name program o unwritten whole partly b a before mid after NoCommand e r h k = absurd r
-asks_logged asked name program o unwritten whole partly b a before mid after (Refused refusal) e r h k = absurd r
-asks_logged asked name program o unwritten whole partly b a before mid after Accepted e r h k = absurd r
-asks_logged asked name program o unwritten whole partly b a before mid after NotRead e r h k = absurd r
-asks_logged asked name program o unwritten whole partly b a before mid after (BadLog fault) e r h k = absurd r
+asks_logged asked name program o b a before mid after _ e r h k = absurd r
 
 -- measuring the large program asks for nothing
-pub asks_measured : (n : ℕ) (unwritten : Type 0) (b a : Option (List ℕ)) (before : Option (List (List ℕ))) (conclusion : Conclusion) → MeasureEnds n unwritten b a conclusion → AsksIn (Some (command.Large n)) before before conclusion
-asks_measured n unwritten b a before (Ran v) m = ([], refl, asks_none before)
-asks_measured n unwritten b a before (Refused refusal) m = absurd m
-asks_measured n unwritten b a before NotWritten m = ([], refl, asks_none before)
-asks_measured n unwritten b a before NoMemory m = ([], ([], refl), asks_none before)
-asks_measured n unwritten b a before NoCommand m = absurd m
-asks_measured n unwritten b a before Accepted m = absurd m
-asks_measured n unwritten b a before NotRead m = absurd m
-asks_measured n unwritten b a before (BadLog fault) m = absurd m
+pub asks_measured : (n : ℕ) (b a : Option (List ℕ)) (before : Option (List (List ℕ))) (conclusion : Conclusion) → MeasureEnds n b a conclusion → AsksIn (Some (command.Large n)) before before conclusion
+asks_measured n b a before (Ran v) m = ([], refl, asks_none before)
+asks_measured n b a before NotWritten m = ([], refl, asks_none before)
+asks_measured n b a before NoMemory m = ([], ([], refl), asks_none before)
+asks_measured n b a before _ m = absurd m
 
 -- where memory was wanting nothing was asked for
 pub asks_wanting : (c : Option Command) (before : Option (List (List ℕ))) → AsksIn c before before NoMemory
@@ -187,11 +162,7 @@ some_asked : (conclusion : Conclusion) (names asked : List (List ℕ)) → AsksF
 some_asked NotRead names asked h = let f = front_of_names names in (f.0, f.1 ∙ ap (λ (x : List (List ℕ)). x ++ f.0) (sym h))
 some_asked (Refused refusal) names asked h = let f = front_of_names names in (f.0, f.1 ∙ ap (λ (x : List (List ℕ)). x ++ f.0) (sym h))
 some_asked NoMemory names asked h = h
-some_asked NoCommand names asked h = ([], sym h ∙ sym (append-nil asked))
-some_asked Accepted names asked h = ([], sym h ∙ sym (append-nil asked))
-some_asked (Ran verdict) names asked h = ([], sym h ∙ sym (append-nil asked))
-some_asked NotWritten names asked h = ([], sym h ∙ sym (append-nil asked))
-some_asked (BadLog fault) names asked h = ([], sym h ∙ sym (append-nil asked))
+some_asked _ names asked h = ([], sym h ∙ sym (append-nil asked))
 
 asks_some : (c : Option Command) (before after : Option (List (List ℕ))) (conclusion : Conclusion) → AsksIn c before after conclusion → AsksIn c before after NoMemory
 asks_some None before after conclusion h = h
@@ -203,77 +174,49 @@ asks_some (Some c) before after conclusion h = (h.0, some_asked conclusion (name
 front_of : (before after : Option (List ℕ)) (text : List ℕ) → Appends before text after → AppendsFront before text after
 front_of before after text h = (text, [], sym (append-nil text), h)
 
-is_there : (c : Command) → IsSome (Some c)
-is_there c = search rules
-
 -- without an accepted program
-pub unloaded_ends : (c : Command) (name : List ℕ) (unread unwritten : Type 0) (before after : Outside) (conclusion : Conclusion) → ((bytes : List ℕ) → IsUnder before.holds name bytes → IsGiven before.holds c bytes) →
-    ((bytes : List ℕ) (refusal : Refusal) → IsRefused bytes refusal → IsAsBefore before after → IsRefusedAt c bytes refusal before after) → IsUnloaded before.holds name unread conclusion → IsAsBefore before after → EndsIn (Some c) unread unwritten before after conclusion
-unloaded_ends c name unread unwritten before after (Refused refusal) g k u same = (u.0, g u.0 u.1, k u.0 refusal u.2 same)
-unloaded_ends c name unread unwritten before after NotRead g k u same = (is_there c, u, same)
-unloaded_ends c name unread unwritten before after NoMemory g k u same = inl same
-unloaded_ends c name unread unwritten before after NoCommand g k u same = absurd u
-unloaded_ends c name unread unwritten before after Accepted g k u same = absurd u
-unloaded_ends c name unread unwritten before after (Ran verdict) g k u same = absurd u
-unloaded_ends c name unread unwritten before after NotWritten g k u same = absurd u
-unloaded_ends c name unread unwritten before after (BadLog fault) g k u same = absurd u
+pub run_unloaded : (asked : Run) (name : List ℕ) (before after : Outside) (conclusion : Conclusion) → name ≡ asked.program →
+    IsUnloaded before.holds name conclusion → (conclusion ≡ NotRead → ReadFailed before after) → IsAsBefore before after → EndsIn (command.Run asked) before after conclusion
+run_unloaded asked name before after (Refused refusal) e u k same = (u.0, subst (λ (n : List ℕ). IsUnder before.holds n u.0) e u.1, (u.2, same))
+run_unloaded asked name before after NotRead e u k same = (k refl, same)
+run_unloaded asked name before after NoMemory e u k same = inl same
+run_unloaded asked name before after _ e u k same = absurd u
+
+pub accept_unloaded : (program name : List ℕ) (before after : Outside) (conclusion : Conclusion) → name ≡ program →
+    IsUnloaded before.holds name conclusion → (conclusion ≡ NotRead → ReadFailed before after) → IsAsBefore before after → EndsIn (command.Accept program) before after conclusion
+accept_unloaded program name before after (Refused refusal) e u k same = (u.0, subst (λ (n : List ℕ). IsUnder before.holds n u.0) e u.1, (u.2, same))
+accept_unloaded program name before after NotRead e u k same = (k refl, same)
+accept_unloaded program name before after NoMemory e u k same = inl same
+accept_unloaded program name before after _ e u k same = absurd u
 
 -- a run of an accepted program
-pub run_given : (asked : Run) (bytes : List ℕ) (program : PlainProgram) (unread unwritten whole partly : Type 0) (before after : Outside) (conclusion : Conclusion) →
-    IsHeader (header_of asked bytes) → asked.options.injectors ≡ 0 → IsUnder before.holds asked.program bytes → IsProgram bytes program → (whole → KeepsLog asked.log before.holds (log_alone (header_of asked bytes) program) after.holds) →
-    (partly → KeepsLogFront asked.log before (header_of asked bytes) program after) →
-    RunEnds program asked.options unwritten whole partly before.printed after.printed conclusion → EndsIn (Some (command.Run asked)) unread unwritten before after conclusion
-run_given asked bytes program unread unwritten whole partly before after (Ran v) is none u p k f r =
-    (bytes, u, record { program = program; is_program = p; verdict = r.0; prints = r.1; keeps = k r.2; replays = run_replays (λ text. Appends before.printed text after.printed) (header_of asked bytes) program v is none p r.3 r.0 (text_alone program asked.options) refl r.1 })
-run_given asked bytes program unread unwritten whole partly before after NotWritten is none u p k f r = (bytes, u, (r.0, record { program = program; is_program = p; prints = r.1; keeps = f r.2 }))
-run_given asked bytes program unread unwritten whole partly before after NoMemory is none u p k f r = inr (bytes, u, record { program = program; is_program = p; prints = r.0; keeps = f r.1 })
-run_given asked bytes program unread unwritten whole partly before after NoCommand is none u p k f r = absurd r
-run_given asked bytes program unread unwritten whole partly before after (Refused refusal) is none u p k f r = absurd r
-run_given asked bytes program unread unwritten whole partly before after Accepted is none u p k f r = absurd r
-run_given asked bytes program unread unwritten whole partly before after NotRead is none u p k f r = absurd r
-run_given asked bytes program unread unwritten whole partly before after (BadLog fault) is none u p k f r = absurd r
-
-weaker : (program : PlainProgram) (o : PlainOptions) (unwritten more whole partly : Type 0) (b a : Option (List ℕ)) (conclusion : Conclusion) → RunEnds program o unwritten whole partly b a conclusion →
-    RunEnds program o (unwritten ⊎ more) whole partly b a conclusion
-weaker program o unwritten more whole partly b a (Ran v) r = r
-weaker program o unwritten more whole partly b a NotWritten r = (inl r.0, r.1, r.2)
-weaker program o unwritten more whole partly b a NoMemory r = r
-weaker program o unwritten more whole partly b a NoCommand r = absurd r
-weaker program o unwritten more whole partly b a (Refused refusal) r = absurd r
-weaker program o unwritten more whole partly b a Accepted r = absurd r
-weaker program o unwritten more whole partly b a NotRead r = absurd r
-weaker program o unwritten more whole partly b a (BadLog fault) r = absurd r
-
-caused_on : (program : PlainProgram) (o : PlainOptions) (u v whole partly : Type 0) (b a : Option (List ℕ)) (conclusion : Conclusion) → (u → v) → RunEnds program o u whole partly b a conclusion → RunEnds program o v whole partly b a conclusion
-caused_on program o u v whole partly b a (Ran x) f r = r
-caused_on program o u v whole partly b a NotWritten f r = (f r.0, r.1, r.2)
-caused_on program o u v whole partly b a NoMemory f r = r
-caused_on program o u v whole partly b a NoCommand f r = absurd r
-caused_on program o u v whole partly b a (Refused refusal) f r = absurd r
-caused_on program o u v whole partly b a Accepted f r = absurd r
-caused_on program o u v whole partly b a NotRead f r = absurd r
-caused_on program o u v whole partly b a (BadLog fault) f r = absurd r
+run_given : (asked : Run) (bytes : List ℕ) (program : PlainProgram) (before after : Outside) (conclusion : Conclusion) →
+    IsHeader (header_of asked bytes) → asked.options.injectors ≡ 0 → IsUnder before.holds asked.program bytes → IsProgram bytes program →
+    RunEnds program asked.options before.printed after.printed conclusion → LogEnds asked.log (header_of asked bytes) program before after conclusion → (conclusion ≡ NotWritten → WriteFailed before after) →
+    EndsIn (command.Run asked) before after conclusion
+run_given asked bytes program before after (Ran v) is none u p r l w =
+    (bytes, u, record { program = program; is_program = p; verdict = r.0; prints = r.1; keeps = l; replays = run_replays (λ text. Appends before.printed text after.printed) (header_of asked bytes) program v is p r.2 r.0 (text_alone program asked.options) refl r.1 })
+run_given asked bytes program before after NotWritten is none u p r l w = (bytes, u, (w refl, record { program = program; is_program = p; prints = r; keeps = l }))
+run_given asked bytes program before after NoMemory is none u p r l w = inr (bytes, u, record { program = program; is_program = p; prints = r; keeps = l })
+run_given asked bytes program before after _ is none u p r l w = absurd r
 
 -- the program that was run is the one that was read, and so are the header and the name
-runs_same : (asked : Run) (program run : PlainProgram) (bytes : List ℕ) (header : PlainHeader) (unwritten whole partly : Type 0) (b a : Option (List ℕ)) (conclusion : Conclusion) → run ≡ program → header ≡ header_of asked bytes →
-    RunEnds run header.options unwritten whole partly b a conclusion → RunEnds program asked.options unwritten whole partly b a conclusion
-runs_same asked program run bytes header unwritten whole partly b a conclusion e h r =
-    subst (λ (o : PlainOptions). RunEnds program o unwritten whole partly b a conclusion) (ap (λ (x : PlainHeader). x.options) h)
-    (subst (λ (p : PlainProgram). RunEnds p header.options unwritten whole partly b a conclusion) e r)
+pub run_loaded : (asked : Run) (program run : PlainProgram) (bytes name : List ℕ) (header : PlainHeader) (log : Option (List ℕ)) (before after : Outside) (conclusion : Conclusion) →
+    IsHeader header → asked.options.injectors ≡ 0 → name ≡ asked.program → IsUnder before.holds name bytes → IsProgram bytes program → run ≡ program → header ≡ header_of asked bytes → log ≡ asked.log →
+    RunEnds run header.options before.printed after.printed conclusion → LogEnds log header run before after conclusion → (conclusion ≡ NotWritten → WriteFailed before after) →
+    EndsIn (command.Run asked) before after conclusion
+run_loaded asked program run bytes name header log before after conclusion is none n u p e h k r l w =
+    run_given asked bytes program before after conclusion (subst IsHeader h is) none (subst (λ (x : List ℕ). IsUnder before.holds x bytes) n u) p
+    (subst (λ (o : PlainOptions). RunEnds program o before.printed after.printed conclusion) (ap (λ (x : PlainHeader). x.options) h)
+    (subst (λ (x : PlainProgram). RunEnds x header.options before.printed after.printed conclusion) e r))
+    (subst (λ (o : Option (List ℕ)). LogEnds o (header_of asked bytes) program before after conclusion) k
+    (subst (λ (x : PlainHeader). LogEnds log x program before after conclusion) h
+    (subst (λ (x : PlainProgram). LogEnds log header x before after conclusion) e l))) w
 
--- no log is kept
-pub unlogged_given : (asked : Run) (program run : PlainProgram) (bytes name : List ℕ) (header : PlainHeader) (unread unwritten more : Type 0) (before after : Outside) (conclusion : Conclusion) → IsHeader header → asked.options.injectors ≡ 0 → name ≡ asked.program →
-    IsUnder before.holds name bytes → IsProgram bytes program → run ≡ program → header ≡ header_of asked bytes → asked.log ≡ None → after.holds ≡ before.holds →
-    RunEnds run header.options unwritten (Unit {0}) (Unit {0}) before.printed after.printed conclusion → EndsIn (Some (command.Run asked)) unread (unwritten ⊎ more) before after conclusion
-unlogged_given asked program run bytes name header unread unwritten more before after conclusion is none n u p e h l same r =
-    let keeps : KeepsLog asked.log before.holds (log_alone (header_of asked bytes) program) after.holds =
-    subst (λ (o : Option (List ℕ)). KeepsLog o before.holds (log_alone (header_of asked bytes) program) after.holds) (sym l) same in
-    let partly : KeepsLogFront asked.log before (header_of asked bytes) program after =
-    subst (λ (o : Option (List ℕ)). KeepsLogFront o before (header_of asked bytes) program after) (sym l) same in
-    run_given asked bytes program unread (unwritten ⊎ more) (Unit {0}) (Unit {0}) before after conclusion (subst IsHeader h is) none
-    (subst (λ (x : List ℕ). IsUnder before.holds x bytes) n u) p (λ _. keeps) (λ _. partly)
-    (weaker program asked.options unwritten more (Unit {0}) (Unit {0}) before.printed after.printed conclusion
-    (runs_same asked program run bytes header unwritten (Unit {0}) (Unit {0}) before.printed after.printed conclusion e h r))
+-- where no log is kept nothing becomes of it
+pub unlogged : (header : PlainHeader) (program : PlainProgram) (before after : Outside) (conclusion : Conclusion) → after.holds ≡ before.holds → LogEnds None header program before after conclusion
+unlogged header program before after (Ran v) h = h
+unlogged header program before after _ h = h
 
 -- what the world held and what was printed when the log was made are those of the beginning
 behind_mid : (name : List ℕ) (header : PlainHeader) (program : PlainProgram) (mid before after : Outside) → mid.holds ≡ before.holds → mid.printed ≡ before.printed →
@@ -295,83 +238,49 @@ from_mid name header program mid before after m q (inl s) = inl (s.0 ∙ q, s.1 
 from_mid name header program mid before after m q (inr s) =
     inr (subst (λ (x : Option Holdings). HoldsFront x name (log_alone header program) after.holds) m s.0, behind_mid name header program mid before after m q s.1)
 
--- a log is kept
-pub logged_given : (asked : Run) (program run : PlainProgram) (bytes name log said : List ℕ) (header : PlainHeader) (unread said_unwritten unwritten : Type 0) (mid before after : Outside) (conclusion : Conclusion) → IsHeader header → asked.options.injectors ≡ 0 → (said_unwritten → unwritten) → name ≡ asked.program →
-    IsUnder before.holds name bytes → IsProgram bytes program → run ≡ program → header ≡ header_of asked bytes → asked.log ≡ Some said → log ≡ said → mid.holds ≡ before.holds → mid.printed ≡ before.printed →
-    RunEnds run header.options said_unwritten (Holds mid.holds log (log_alone header run) after.holds) (KeepsLogFront (Some log) mid header run after) before.printed after.printed conclusion →
-    EndsIn (Some (command.Run asked)) unread unwritten before after conclusion
-logged_given asked program run bytes name log said header unread said_unwritten unwritten mid before after conclusion is none f n u p e h l k m q r =
-    let text : log_alone header run ≡ log_alone (header_of asked bytes) program = λ i. log_alone (h i) (e i) in
-    let named : Some log ≡ asked.log = ap (λ (x : List ℕ). Some x) k ∙ sym l in
-    run_given asked bytes program unread unwritten (Holds mid.holds log (log_alone header run) after.holds) (KeepsLogFront (Some log) mid header run after) before after conclusion (subst IsHeader h is) none
-    (subst (λ (x : List ℕ). IsUnder before.holds x bytes) n u) p
-    (λ w. subst (λ (o : Option (List ℕ)). KeepsLog o before.holds (log_alone (header_of asked bytes) program) after.holds) named
-    (subst (λ (t : List ℕ). Holds before.holds log t after.holds) text (subst (λ (x : Option Holdings). Holds x log (log_alone header run) after.holds) m w)))
-    (λ w. subst (λ (o : Option (List ℕ)). KeepsLogFront o before (header_of asked bytes) program after) named
-    (subst (λ (x : PlainHeader). KeepsLogFront (Some log) before x program after) h
-    (subst (λ (p : PlainProgram). KeepsLogFront (Some log) before header p after) e (from_mid log header run mid before after m q w))))
-    (caused_on program asked.options said_unwritten unwritten _ _ before.printed after.printed conclusion f (runs_same asked program run bytes header said_unwritten _ _ before.printed after.printed conclusion e h r))
+pub logged : (name : List ℕ) (header : PlainHeader) (program : PlainProgram) (mid before after : Outside) (conclusion : Conclusion) → mid.holds ≡ before.holds → mid.printed ≡ before.printed →
+    LogEnds (Some name) header program mid after conclusion → LogEnds (Some name) header program before after conclusion
+logged name header program mid before after (Ran v) m q l = subst (λ (x : Option Holdings). Holds x name (log_alone header program) after.holds) m l
+logged name header program mid before after _ m q l = from_mid name header program mid before after m q l
 
 -- the large program
-pub measured : (n : ℕ) (unread unwritten : Type 0) (before after : Outside) (conclusion : Conclusion) → after.holds ≡ before.holds → MeasureEnds n unwritten before.printed after.printed conclusion →
-    EndsIn (Some (command.Large n)) unread unwritten before after conclusion
-measured n unread unwritten before after (Ran v) h m = (large_program n, refl, (m, h))
-measured n unread unwritten before after (Refused refusal) h m = absurd m
-measured n unread unwritten before after NotWritten h m = (large_program n, refl, (m.0, (m.1, h)))
-measured n unread unwritten before after NoMemory h m = inl (m, h)
-measured n unread unwritten before after NoCommand h m = absurd m
-measured n unread unwritten before after Accepted h m = absurd m
-measured n unread unwritten before after NotRead h m = absurd m
-measured n unread unwritten before after (BadLog fault) h m = absurd m
+pub measured : (n : ℕ) (before after : Outside) (conclusion : Conclusion) → after.holds ≡ before.holds → MeasureEnds n before.printed after.printed conclusion → (conclusion ≡ NotWritten → WriteFailed before after) →
+    EndsIn (command.Large n) before after conclusion
+measured n before after (Ran v) h m w = (large_program n, refl, (m, h))
+measured n before after NotWritten h m w = (large_program n, refl, (w refl, (m, h)))
+measured n before after NoMemory h m w = inl (m, h)
+measured n before after _ h m w = absurd m
 
-weaker_measure : (n : ℕ) (unwritten more : Type 0) (b a : Option (List ℕ)) (conclusion : Conclusion) → MeasureEnds n unwritten b a conclusion → MeasureEnds n (unwritten ⊎ more) b a conclusion
-weaker_measure n unwritten more b a (Ran v) m = m
-weaker_measure n unwritten more b a (Refused refusal) m = absurd m
-weaker_measure n unwritten more b a NotWritten m = (inl m.0, m.1)
-weaker_measure n unwritten more b a NoMemory m = m
-weaker_measure n unwritten more b a NoCommand m = absurd m
-weaker_measure n unwritten more b a Accepted m = absurd m
-weaker_measure n unwritten more b a NotRead m = absurd m
-weaker_measure n unwritten more b a (BadLog fault) m = absurd m
+-- no command on a program ends as no command, or with a bad log
+never_none : (c : Command) (bytes : List ℕ) (before after : Outside) → ComesOf c bytes before after NoCommand → ⊥
+never_none (command.Run asked) bytes before after h = h
+never_none (command.Accept program) bytes before after h = h
+never_none (command.Large n) bytes before after h = h
+never_none (command.Replay log) bytes before after h = h
 
-pub measured_aside : (n : ℕ) (unread unwritten more : Type 0) (before after : Outside) (conclusion : Conclusion) → after.holds ≡ before.holds → MeasureEnds n unwritten before.printed after.printed conclusion →
-    EndsIn (Some (command.Large n)) unread (unwritten ⊎ more) before after conclusion
-measured_aside n unread unwritten more before after conclusion h m = measured n unread (unwritten ⊎ more) before after conclusion h (weaker_measure n unwritten more before.printed after.printed conclusion m)
+never_bad : (c : Command) (bytes : List ℕ) (before after : Outside) (fault : ReplayFault) → ComesOf c bytes before after (BadLog fault) → ⊥
+never_bad (command.Run asked) bytes before after fault h = h
+never_bad (command.Accept program) bytes before after fault h = h
+never_bad (command.Large n) bytes before after fault h = h
+never_bad (command.Replay log) bytes before after fault h = h
 
-pub refuses_measured : (n : ℕ) (holds : Option Holdings) (code : ℕ) → Refuses (Some (command.Large n)) holds code
-refuses_measured n None code = tt
-refuses_measured n (Some held) code = tt
-
-pub refuses_none : (holds : Option Holdings) (code : ℕ) → Refuses None holds code
-refuses_none None code = tt
-refuses_none (Some held) code = tt
-
-refused_before : (c : Command) (bytes : List ℕ) (refusal : Refusal) (before after : Outside) → IsRefusedAt c bytes refusal before after → IsAsBefore before after
-refused_before (command.Run asked) bytes refusal before after r = r.1
-refused_before (command.Accept program) bytes refusal before after r = r.1
-refused_before (command.Large n) bytes refusal before after r = absurd r
-refused_before (command.Replay log) bytes refusal before after r = absurd r
-
--- where memory is wanting for its note, a front was printed only where writing failed
-unwritten_amid : (c : Command) (bytes : List ℕ) (unwritten : Type 0) (before after : Outside) → unwritten × TellsPartly c bytes before after → WantsAmid c bytes unwritten before after
-unwritten_amid (command.Run asked) bytes unwritten before after t = t.1
-unwritten_amid (command.Accept program) bytes unwritten before after t = t
-unwritten_amid (command.Large n) bytes unwritten before after t = t
-unwritten_amid (command.Replay log) bytes unwritten before after t = t.1
-
--- whatever noted conclusion a command ends in, memory may be wanting for the note
-ends_wanting_note : (c : Option Command) (unread unwritten : Type 0) (before after : Outside) (conclusion : Conclusion) → has_note conclusion ≡ true → EndsIn c unread unwritten before after conclusion → EndsIn c unread unwritten before after NoMemory
-ends_wanting_note c unread unwritten before after NoCommand h e = inl e.1
-ends_wanting_note c unread unwritten before after NotRead h e = inl e.2
-ends_wanting_note c unread unwritten before after NoMemory h e = e
-ends_wanting_note None unread unwritten before after (Refused refusal) h e = absurd e
-ends_wanting_note (Some c) unread unwritten before after (Refused refusal) h e = inl (refused_before c e.0 refusal before after e.2)
-ends_wanting_note c unread unwritten before after Accepted h e = absurd (false≢true h)
-ends_wanting_note c unread unwritten before after (Ran v) h e = absurd (false≢true h)
-ends_wanting_note None unread unwritten before after NotWritten h e = absurd e
-ends_wanting_note (Some c) unread unwritten before after NotWritten h e = inr (e.0, e.1, unwritten_amid c e.0 unwritten before after e.2)
-ends_wanting_note None unread unwritten before after (BadLog fault) h e = absurd e
-ends_wanting_note (Some c) unread unwritten before after (BadLog fault) h e = absurd e.2
+-- whatever noted conclusion a command ends in, memory may be wanting for the note: a front was printed
+-- only where writing failed
+in_wanting_note : (c : Command) (before after : Outside) (conclusion : Conclusion) → has_note conclusion ≡ true → EndsIn c before after conclusion → EndsIn c before after NoMemory
+in_wanting_note c before after NotRead h e = inl e.1
+in_wanting_note (command.Run asked) before after (Refused refusal) h e = inl e.2.1
+in_wanting_note (command.Accept program) before after (Refused refusal) h e = inl e.2.1
+in_wanting_note (command.Large n) before after (Refused refusal) h e = absurd e.2
+in_wanting_note (command.Replay log) before after (Refused refusal) h e = absurd e.2
+in_wanting_note (command.Run asked) before after NotWritten h e = inr (e.0, e.1, e.2.1)
+in_wanting_note (command.Accept program) before after NotWritten h e = inr e
+in_wanting_note (command.Large n) before after NotWritten h e = inr e
+in_wanting_note (command.Replay log) before after NotWritten h e = absurd e.2
+in_wanting_note c before after NoMemory h e = e
+in_wanting_note c before after Accepted h e = absurd (false≢true h)
+in_wanting_note c before after (Ran v) h e = absurd (false≢true h)
+in_wanting_note c before after NoCommand h e = absurd (never_none c e.0 before after e.2)
+in_wanting_note c before after (BadLog fault) h e = absurd (never_bad c e.0 before after fault e.2)
 
 -- ---- a replay
 
@@ -406,43 +315,36 @@ told_partly : (name : List ℕ) (holds : Option Holdings) (b a : Option (List �
 told_partly name None b a ended h = tt
 told_partly name (Some held) b a ended h = some_partly (held name) b a ended h
 
-replay_partly : (name : List ℕ) (unread unwritten : Type 0) (before after : Outside) (c : Conclusion) → ReplayEnds name unread unwritten before after c → ReplayEnds name unread unwritten before after NoMemory
-replay_partly name unread unwritten before after c (e, inl h) = (tt, inl (inr refl, h.1))
-replay_partly name unread unwritten before after c (e, inr r) =
+replay_partly : (name : List ℕ) (before after : Outside) (c : Conclusion) → ReplayEnds name before after c → ReplayEnds name before after NoMemory
+replay_partly name before after c (e, inl h) = (tt, inl (inr refl, h.1))
+replay_partly name before after c (e, inr r) =
     (tt, inr (record { ended = Err ReplayFault.Memory; is_conclusion = refl; ends = told_partly name before.holds before.printed after.printed r.ended r.ends; holds = r.holds }))
 
-so_wanting_note : (c : Option Command) (unread unwritten : Type 0) (before after : Outside) (conclusion : Conclusion) → has_note conclusion ≡ true → EndsSo c unread unwritten before after conclusion → EndsSo c unread unwritten before after NoMemory
-so_wanting_note None unread unwritten before after conclusion h e = ends_wanting_note None unread unwritten before after conclusion h e
-so_wanting_note (Some (command.Replay log)) unread unwritten before after conclusion h e = replay_partly log unread unwritten before after conclusion e
-so_wanting_note (Some (command.Run asked)) unread unwritten before after conclusion h e = ends_wanting_note (Some (command.Run asked)) unread unwritten before after conclusion h e
-so_wanting_note (Some (command.Accept program)) unread unwritten before after conclusion h e = ends_wanting_note (Some (command.Accept program)) unread unwritten before after conclusion h e
-so_wanting_note (Some (command.Large n)) unread unwritten before after conclusion h e = ends_wanting_note (Some (command.Large n)) unread unwritten before after conclusion h e
+wanting_note : (c : Option Command) (before after : Outside) (conclusion : Conclusion) → has_note conclusion ≡ true → EndsWith c before after conclusion → EndsWith c before after NoMemory
+wanting_note None before after conclusion h e = (inr refl, e.1)
+wanting_note (Some (command.Replay log)) before after conclusion h e = replay_partly log before after conclusion e
+wanting_note (Some (command.Run asked)) before after conclusion h e = in_wanting_note (command.Run asked) before after conclusion h e
+wanting_note (Some (command.Accept program)) before after conclusion h e = in_wanting_note (command.Accept program) before after conclusion h e
+wanting_note (Some (command.Large n)) before after conclusion h e = in_wanting_note (command.Large n) before after conclusion h e
 
 -- where memory was wanting before anything was done
-pub ends_wanting : (c : Option Command) (unread unwritten : Type 0) (same : Outside) → EndsSo c unread unwritten same same NoMemory
-ends_wanting None unread unwritten same = inl (refl, refl)
-ends_wanting (Some (command.Replay log)) unread unwritten same = (tt, inl (inr refl, (refl, refl)))
-ends_wanting (Some (command.Run asked)) unread unwritten same = inl (refl, refl)
-ends_wanting (Some (command.Accept program)) unread unwritten same = inl (refl, refl)
-ends_wanting (Some (command.Large n)) unread unwritten same = inl (refl, refl)
+pub ends_wanting : (c : Option Command) (same : Outside) → EndsWith c same same NoMemory
+ends_wanting None same = (inr refl, (refl, refl))
+ends_wanting (Some (command.Replay log)) same = (tt, inl (inr refl, (refl, refl)))
+ends_wanting (Some (command.Run asked)) same = inl (refl, refl)
+ends_wanting (Some (command.Accept program)) same = inl (refl, refl)
+ends_wanting (Some (command.Large n)) same = inl (refl, refl)
 
-caused_by : (ended : Result Verdict ReplayFault) (unread unwritten : Type 0) → (IsErrOf ended (ReplayFault.Log log_fault.Read) → unread) → (IsErrOf ended ReplayFault.Write → unwritten) → IsCaused unread unwritten (replayed_of ended)
-caused_by (Ok v) unread unwritten r w = tt
-caused_by (Err (ReplayFault.Log log_fault.Version)) unread unwritten r w = tt
-caused_by (Err (ReplayFault.Log log_fault.Header)) unread unwritten r w = tt
-caused_by (Err (ReplayFault.Log (log_fault.Line n))) unread unwritten r w = tt
-caused_by (Err (ReplayFault.Log log_fault.Cut)) unread unwritten r w = tt
-caused_by (Err (ReplayFault.Log log_fault.Read)) unread unwritten r w = r refl
-caused_by (Err (ReplayFault.Log log_fault.Memory)) unread unwritten r w = tt
-caused_by (Err (ReplayFault.Differs number expected other)) unread unwritten r w = tt
-caused_by (Err ReplayFault.Program) unread unwritten r w = tt
-caused_by (Err ReplayFault.Write) unread unwritten r w = w refl
-caused_by (Err ReplayFault.Memory) unread unwritten r w = tt
+caused_by : (ended : Result Verdict ReplayFault) (before after : Outside) → (IsErrOf ended (ReplayFault.Log log_fault.Read) → ReadFailed before after) → (IsErrOf ended ReplayFault.Write → WriteFailed before after) →
+    IsCaused before after (replayed_of ended)
+caused_by (Err (ReplayFault.Log log_fault.Read)) before after r w = r refl
+caused_by (Err ReplayFault.Write) before after r w = w refl
+caused_by _ before after r w = tt
 
 -- a failure of a replay has its cause
-pub caused : (ended : Result Verdict ReplayFault) (c : Conclusion) (unread unwritten : Type 0) → c ≡ replayed_of ended → (IsErrOf ended (ReplayFault.Log log_fault.Read) → unread) → (IsErrOf ended ReplayFault.Write → unwritten) →
-    IsCaused unread unwritten c
-caused ended c unread unwritten e r w = subst (λ (x : Conclusion). IsCaused unread unwritten x) (sym e) (caused_by ended unread unwritten r w)
+pub caused : (ended : Result Verdict ReplayFault) (c : Conclusion) (before after : Outside) → c ≡ replayed_of ended → (IsErrOf ended (ReplayFault.Log log_fault.Read) → ReadFailed before after) → (IsErrOf ended ReplayFault.Write → WriteFailed before after) →
+    IsCaused before after c
+caused ended c before after e r w = subst (λ (x : Conclusion). IsCaused before after x) (sym e) (caused_by ended before after r w)
 
 nothing : IsSome {T = List ℕ} None → ⊥
 nothing s = cc
@@ -467,21 +369,45 @@ pub asks_replayed : (name : List ℕ) (before after : Option (List (List ℕ))) 
 asks_replayed name before after NotRead h = (name ∷ [], refl, h)
 asks_replayed name before after (Refused refusal) h = (name ∷ [], refl, h)
 asks_replayed name before after NoMemory h = (name ∷ [], ([], refl), h)
-asks_replayed name before after NoCommand h = (name ∷ [], refl, h)
-asks_replayed name before after Accepted h = (name ∷ [], refl, h)
-asks_replayed name before after (Ran v) h = (name ∷ [], refl, h)
-asks_replayed name before after NotWritten h = (name ∷ [], refl, h)
-asks_replayed name before after (BadLog fault) h = (name ∷ [], refl, h)
+asks_replayed name before after _ h = (name ∷ [], refl, h)
 
 -- the status is that of the conclusion, or says that memory was wanting
-pub concluded : (c : Option Command) (unread unwritten : Type 0) (before after : Outside) (conclusion : Conclusion) (code : ℕ) (note : List ℕ) →
-    AsksIn c before.asked after.asked conclusion → EndsSo c unread unwritten before after conclusion → (IsStatusOf code note conclusion ⊎ ((has_note conclusion ≡ true) × IsStatusOf code note NoMemory)) → Ends c unread unwritten before after code note
-concluded c unread unwritten before after conclusion code note a e (inl s) = record { conclusion = conclusion; status = s; asks = a; ends = e }
-concluded c unread unwritten before after conclusion code note a e (inr s) =
-    record { conclusion = NoMemory; status = s.1; asks = asks_some c before.asked after.asked conclusion a; ends = so_wanting_note c unread unwritten before after conclusion s.0 e }
+pub concluded : (c : Option Command) (before after : Outside) (conclusion : Conclusion) (code : ℕ) (note : List ℕ) →
+    AsksIn c before.asked after.asked conclusion → EndsWith c before after conclusion → (IsStatusOf code note conclusion ⊎ ((has_note conclusion ≡ true) × IsStatusOf code note NoMemory)) → Ends c before after code note
+concluded c before after conclusion code note a e (inl s) = record { conclusion = conclusion; status = s; asks = a; ends = e }
+concluded c before after conclusion code note a e (inr s) =
+    record { conclusion = NoMemory; status = s.1; asks = asks_some c before.asked after.asked conclusion a; ends = wanting_note c before after conclusion s.0 e }
 
--- and a refused program comes to it
-pub refuses_concluded : (c : Option Command) (holds : Option Holdings) (conclusion : Conclusion) (code : ℕ) (note : List ℕ) → Refuses c holds (code_of conclusion) →
-    (IsStatusOf code note conclusion ⊎ ((has_note conclusion ≡ true) × IsStatusOf code note NoMemory)) → Refuses c holds code
-refuses_concluded c holds conclusion code note r (inl s) = subst (λ (n : ℕ). Refuses c holds n) (sym s.0) r
-refuses_concluded c holds conclusion code note r (inr s) = refuses_any c holds code (inr (inr s.1.0))
+-- ---- a refused program
+
+-- what a command on a refused program ends in
+run_refuses : (asked : Run) (before after : Outside) (c : Conclusion) → EndsIn (command.Run asked) before after c → Refuses (Some (command.Run asked)) before.holds (code_of c)
+run_refuses asked before after NotRead e = refuses_any (Some (command.Run asked)) before.holds 8 (inr (inl refl))
+run_refuses asked before after (Refused refusal) e = refuses_any (Some (command.Run asked)) before.holds 2 (inl refl)
+run_refuses asked before after NoMemory e = refuses_any (Some (command.Run asked)) before.holds 10 (inr (inr refl))
+run_refuses asked before after (Ran v) e = refuses_loaded (command.Run asked) before.holds asked.program e.0 e.2.program (code_of (Ran v)) refl e.1 e.2.is_program
+run_refuses asked before after NotWritten e = refuses_loaded (command.Run asked) before.holds asked.program e.0 e.2.1.program 9 refl e.1 e.2.1.is_program
+run_refuses asked before after _ e = absurd e.2
+
+accept_refuses : (program : List ℕ) (before after : Outside) (c : Conclusion) → EndsIn (command.Accept program) before after c → Refuses (Some (command.Accept program)) before.holds (code_of c)
+accept_refuses program before after NotRead e = refuses_any (Some (command.Accept program)) before.holds 8 (inr (inl refl))
+accept_refuses program before after (Refused refusal) e = refuses_any (Some (command.Accept program)) before.holds 2 (inl refl)
+accept_refuses program before after NoMemory e = refuses_any (Some (command.Accept program)) before.holds 10 (inr (inr refl))
+accept_refuses program before after Accepted e = refuses_loaded (command.Accept program) before.holds program e.0 e.2.0.0 0 refl e.1 e.2.0.1
+accept_refuses program before after NotWritten e = refuses_loaded (command.Accept program) before.holds program e.0 e.2.1.0.0 9 refl e.1 e.2.1.0.1
+accept_refuses program before after _ e = absurd e.2
+
+none_refused : (c : Option Command) (holds : Option Holdings) (code : ℕ) → option_and_then program_of c ≡ None → Refuses c holds code
+none_refused c None code e = tt
+none_refused c (Some held) code e =
+    subst (λ (o : Option (List ℕ)). IfSome o (λ name. IfSome (held name) (λ bytes. (refusal : Refusal) → IsRefused bytes refusal → (code ≡ 2) ⊎ ((code ≡ 8) ⊎ (code ≡ 10))))) (sym e) tt
+
+pub refuses_with : (c : Option Command) (before after : Outside) (conclusion : Conclusion) → EndsWith c before after conclusion → Refuses c before.holds (code_of conclusion)
+refuses_with None before after conclusion e = none_refused None before.holds (code_of conclusion) refl
+refuses_with (Some (command.Run asked)) before after conclusion e = run_refuses asked before after conclusion e
+refuses_with (Some (command.Accept program)) before after conclusion e = accept_refuses program before after conclusion e
+refuses_with (Some (command.Replay log)) before after conclusion e = none_refused (Some (command.Replay log)) before.holds (code_of conclusion) refl
+refuses_with (Some (command.Large n)) before after conclusion e = none_refused (Some (command.Large n)) before.holds (code_of conclusion) refl
+
+pub refuses_ended : (c : Option Command) (before after : Outside) (code : ℕ) (note : List ℕ) → Ends c before after code note → Refuses c before.holds code
+refuses_ended c before after code note e = subst (λ (n : ℕ). Refuses c before.holds n) (sym e.status.0) (refuses_with c before after e.conclusion e.ends)

@@ -3,7 +3,7 @@ use Rattle.std.specs.Prelude.{◌≡◌, ℕ, List, [], ◌∷◌, ◌++◌, tak
 use Rattle.bp_args.specs.declared.command.Command.{Command}
 use Rattle.bp_args.specs.declared.command.Command.TheVariants.{Run, Replay, Accept, Large}
 use Rattle.bp_cli.specs.declared.conclusion.Conclusion.{Conclusion}
-use Rattle.bp_cli.specs.declared.conclusion.Conclusion.TheVariants.{NoCommand, Refused, Accepted, Ran, NotRead, NotWritten, NoMemory, BadLog}
+use Rattle.bp_cli.specs.declared.conclusion.Conclusion.TheVariants.{Refused, NotRead, NoMemory}
 
 -- its names, in the order in which the world is asked for them
 abbrev pub names_of : Command → List (List ℕ)
@@ -22,11 +22,7 @@ abbrev pub AsksFor : Conclusion → List (List ℕ) → List (List ℕ) → Type
 AsksFor NotRead names asked = asked ≡ take 1 names
 AsksFor (Refused refusal) names asked = asked ≡ take 1 names
 AsksFor NoMemory names asked = (rest : List (List ℕ)) × (names ≡ asked ++ rest)
-AsksFor NoCommand names asked = asked ≡ names
-AsksFor Accepted names asked = asked ≡ names
-AsksFor (Ran verdict) names asked = asked ≡ names
-AsksFor NotWritten names asked = asked ≡ names
-AsksFor (BadLog fault) names asked = asked ≡ names
+AsksFor _ names asked = asked ≡ names
 
 -- words that are no command ask for nothing
 abbrev pub AsksIn : Option Command →

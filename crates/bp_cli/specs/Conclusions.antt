@@ -1,11 +1,12 @@
 -- How a command ends: the code and the note of each conclusion.
 use Rattle.std.specs.Prelude.{◌≡◌, ℕ, Bool, true, false, List, [], codes, Result, Ok, Err}
-use Rattle.bp_log.specs.declared.verdict.Verdict.{Verdict}
-use Rattle.bp_log.specs.declared.verdict.Verdict.TheVariants.{Quiet, Violated, Fault, Spent, Steps, Queue, Threads, Weight, Bad}
+use Rattle.bp_log.specs.Verdicts.{kind_of}
+use Rattle.bp_log.specs.declared.verdict.VerdictKind.{VerdictKind}
+use Rattle.bp_log.specs.declared.verdict.VerdictKind.TheVariants as kind
 use Rattle.bp_script.specs.Refusals as refusals
 use Rattle.bp_script.specs.declared.reading.ScriptFault.{ScriptFault}
 use Rattle.bp_serve.specs.declared.report.Report.{Report}
-use Rattle.bp_serve.specs.declared.fault.RunFault.{RunFault}
+use Rattle.bp_told.specs.declared.fault.RunFault.{RunFault}
 use Rattle.bp_cli.specs.Replaying.{bad_log_note}
 use Rattle.bp_cli.specs.declared.conclusion.Conclusion.{Conclusion}
 use Rattle.bp_cli.specs.declared.conclusion.Conclusion.TheVariants.{NoCommand, Refused, Accepted, Ran, NotRead, NotWritten, NoMemory, BadLog}
@@ -14,48 +15,41 @@ use Rattle.bp_cli.specs.declared.conclusion.Conclusion.TheVariants.{NoCommand, R
 abbrev pub usage : List ℕ
 usage = codes "usage: bp run [OPTIONS] PROGRAM [INJECTOR]... | bp replay LOG | bp accept PROGRAM | bp large N"
 
--- the code of a run that came to this verdict
-abbrev pub verdict_code : Verdict → ℕ
-verdict_code (Quiet n) = 0
-verdict_code (Violated place text) = 3
-verdict_code (Fault place line fault) = 4
-verdict_code (Spent place) = 5
-verdict_code (Steps n) = 6
-verdict_code Queue = 6
-verdict_code Threads = 6
-verdict_code Weight = 6
-verdict_code (Bad injector line) = 7
+-- the code of a run that came to a verdict of this kind
+abbrev pub verdict_code : VerdictKind → ℕ
+verdict_code kind.Quiet = 0
+verdict_code kind.Violated = 3
+verdict_code kind.Fault = 4
+verdict_code kind.Spent = 5
+verdict_code kind.Limit = 6
+verdict_code kind.Bad = 7
 
 abbrev pub code_of : Conclusion → ℕ
 code_of Accepted = 0
 code_of NoCommand = 1
 code_of (Refused refusal) = 2
-code_of (Ran verdict) = verdict_code verdict
+code_of (Ran verdict) = verdict_code (kind_of verdict)
 code_of NotRead = 8
 code_of NotWritten = 9
 code_of NoMemory = 10
 code_of (BadLog fault) = 11
 
 abbrev pub note_of : Conclusion → List ℕ
-note_of Accepted = []
 note_of NoCommand = usage
 note_of (Refused refusal) = refusals.note_of refusal
-note_of (Ran verdict) = []
 note_of NotRead = codes "read fault"
 note_of NotWritten = codes "write fault"
-note_of NoMemory = []
 note_of (BadLog fault) = bad_log_note fault
+note_of _ = []
 
 -- whether something is noted
 abbrev pub has_note : Conclusion → Bool
-has_note Accepted = false
 has_note NoCommand = true
 has_note (Refused refusal) = true
-has_note (Ran verdict) = false
 has_note NotRead = true
 has_note NotWritten = true
-has_note NoMemory = false
 has_note (BadLog fault) = true
+has_note _ = false
 
 -- the code and the note are those of the conclusion
 abbrev pub IsStatusOf : ℕ → List ℕ → Conclusion → Type 0

@@ -4,21 +4,18 @@ use Rattle.bp_base.specs.Pieces.{Appends, AppendsFront}
 use Rattle.js_program.specs.PlainProgram.{PlainProgram}
 use Rattle.bp_log.specs.Options.{default_options}
 use Rattle.bp_log.specs.declared.record.Record.{Record}
-use Rattle.bp_log.specs.declared.record.Record.TheVariants.{In, Bad, Eof, Sel, End}
+use Rattle.bp_log.specs.declared.record.Record.TheVariants.{Sel}
 use Rattle.bp_log.specs.declared.verdict.Verdict.{Verdict}
 use Rattle.bp_code.specs.Code.{records_alone, text_alone}
 use Rattle.bp_script.specs.Programs.{IsProgram}
 use Rattle.bp_large.specs.Large.{large_program}
 use Rattle.bp_serve.specs.Ends.{verdict_alone}
 use Rattle.bp_cli.specs.declared.conclusion.Conclusion.{Conclusion}
-use Rattle.bp_cli.specs.declared.conclusion.Conclusion.TheVariants.{NoCommand, Refused, Accepted, Ran, NotRead, NotWritten, NoMemory, BadLog}
+use Rattle.bp_cli.specs.declared.conclusion.Conclusion.TheVariants.{Ran, NotWritten, NoMemory}
 
 abbrev pub is_selection : Record → Bool
 is_selection (Sel e) = true
-is_selection (In j e) = false
-is_selection (Bad j n) = false
-is_selection (Eof j) = false
-is_selection (End v) = false
+is_selection _ = false
 
 -- the number of b-threads, and the selected events, the lines and the bytes of the text of a run
 unfoldable pub large_line : ℕ → List Record → List ℕ → List ℕ
@@ -47,14 +44,9 @@ pub record MeasuresPartly (n : ℕ) (before after : Option (List ℕ)) : Type 0 
   pub prints : IsSomeAnd (text_alone program default_options)
       (λ text. AppendsFront before (line_of n program text) after)
 
--- why measuring the program of so many b-threads ends so, where writing failed or not: it is never
--- refused
-abbrev pub MeasureEnds : ℕ → Type 0 → Option (List ℕ) → Option (List ℕ) → Conclusion → Type 0
-MeasureEnds n unwritten before after (Ran v) = MeasuresTo n before after v
-MeasureEnds n unwritten before after NotWritten = unwritten × MeasuresPartly n before after
-MeasureEnds n unwritten before after NoMemory = after ≡ before
-MeasureEnds n unwritten before after NoCommand = ⊥
-MeasureEnds n unwritten before after (Refused refusal) = ⊥
-MeasureEnds n unwritten before after Accepted = ⊥
-MeasureEnds n unwritten before after NotRead = ⊥
-MeasureEnds n unwritten before after (BadLog fault) = ⊥
+-- how measuring the program of so many b-threads ends: it is never refused
+abbrev pub MeasureEnds : ℕ → Option (List ℕ) → Option (List ℕ) → Conclusion → Type 0
+MeasureEnds n before after (Ran v) = MeasuresTo n before after v
+MeasureEnds n before after NotWritten = MeasuresPartly n before after
+MeasureEnds n before after NoMemory = after ≡ before
+MeasureEnds n before after _ = ⊥

@@ -5,7 +5,7 @@ use Rattle.bp_log.specs.declared.limits.TheConstants.{MOST_BYTES}
 use Rattle.bp_script.specs.declared.refusal.Refusal.{Refusal}
 use Rattle.bp_script.specs.Programs.{IsRefused}
 use Rattle.bp_args.specs.declared.command.Command.{Command}
-use Rattle.bp_args.specs.declared.command.Command.TheVariants.{Run, Replay, Accept, Large}
+use Rattle.bp_args.specs.declared.command.Command.TheVariants.{Run, Accept}
 use Rattle.bp_cli.specs.Outside.{IsUnder}
 
 -- the program of that name is too long
@@ -16,8 +16,7 @@ IsTooLong holds name = (bytes : List ℕ) × IsUnder holds name bytes × (MOST_B
 abbrev pub program_of : Command → Option (List ℕ)
 program_of (Run asked) = Some asked.program
 program_of (Accept program) = Some program
-program_of (Replay log) = None
-program_of (Large n) = None
+program_of _ = None
 
 -- where the world tells that the program is refused, the code is 2, unless reading failed or memory was
 -- wanting

@@ -9,21 +9,16 @@ use Rattle.bp_replay.specs.Replays as replays
 use Rattle.bp_notes.specs.Notes.{differing}
 use Rattle.bp_cli.specs.declared.conclusion.Conclusion.{Conclusion}
 use Rattle.bp_cli.specs.declared.conclusion.Conclusion.TheVariants.{NoCommand, Refused, Accepted, Ran, NotRead, NotWritten, NoMemory, BadLog}
-use Rattle.bp_cli.specs.Outside.{Outside, IsAsBefore}
+use Rattle.bp_cli.specs.Outside.{Outside, IsAsBefore, ReadFailed, WriteFailed}
 
 -- the conclusion where reading or writing failed or memory was wanting; where it is none of these the
 -- log is bad
 abbrev pub trouble_of : ReplayFault → Option Conclusion
-trouble_of (Log log.Version) = None
-trouble_of (Log log.Header) = None
-trouble_of (Log (log.Line n)) = None
-trouble_of (Log log.Cut) = None
 trouble_of (Log log.Read) = Some NotRead
 trouble_of (Log log.Memory) = Some NoMemory
-trouble_of (Differs number expected other) = None
-trouble_of Program = None
 trouble_of Write = Some NotWritten
 trouble_of Memory = Some NoMemory
+trouble_of _ = None
 
 -- how a command ends whose replay ended so
 abbrev pub replayed_of : Result Verdict ReplayFault → Conclusion
@@ -40,24 +35,24 @@ pub record ReplaysTo (name : List ℕ) (before after : Outside) (conclusion : Co
   pub holds : after.holds ≡ before.holds
 
 -- a failure has its cause
-abbrev pub IsCaused : Type 0 → Type 0 → Conclusion → Type 0
-IsCaused unread unwritten NotRead = unread
-IsCaused unread unwritten NotWritten = unwritten
-IsCaused unread unwritten NoMemory = Unit {0}
-IsCaused unread unwritten NoCommand = Unit {0}
-IsCaused unread unwritten (Refused refusal) = Unit {0}
-IsCaused unread unwritten Accepted = Unit {0}
-IsCaused unread unwritten (Ran verdict) = Unit {0}
-IsCaused unread unwritten (BadLog fault) = Unit {0}
+abbrev pub IsCaused : Outside → Outside → Conclusion → Type 0
+IsCaused before after NotRead = ReadFailed before after
+IsCaused before after NotWritten = WriteFailed before after
+IsCaused before after NoMemory = Unit {0}
+IsCaused before after NoCommand = Unit {0}
+IsCaused before after (Refused refusal) = Unit {0}
+IsCaused before after Accepted = Unit {0}
+IsCaused before after (Ran verdict) = Unit {0}
+IsCaused before after (BadLog fault) = Unit {0}
 
 -- the log was not opened
 abbrev pub IsUnopened : Conclusion → Type 0
 IsUnopened c = (c ≡ NotRead) ⊎ (c ≡ NoMemory)
 
 -- why the command that replays the log of that name ends so
-abbrev pub ReplayEnds : List ℕ → Type 0 → Type 0 → Outside → Outside → Conclusion → Type 0
-ReplayEnds name unread unwritten before after c =
-    IsCaused unread unwritten c
+abbrev pub ReplayEnds : List ℕ → Outside → Outside → Conclusion → Type 0
+ReplayEnds name before after c =
+    IsCaused before after c
     × ((IsUnopened c × IsAsBefore before after) ⊎ ReplaysTo name before after c)
 
 -- ---- what a bad log is told

@@ -17,7 +17,7 @@ use Rattle.bp_args.specs.declared.command.Run.{Run}
 use Rattle.bp_serve.specs.Ends.{verdict_alone}
 use Rattle.bp_replay.specs.Laws.{Retells}
 use Rattle.bp_cli.specs.declared.conclusion.Conclusion.{Conclusion}
-use Rattle.bp_cli.specs.declared.conclusion.Conclusion.TheVariants.{NoCommand, Refused, Accepted, Ran, NotRead, NotWritten, NoMemory, BadLog}
+use Rattle.bp_cli.specs.declared.conclusion.Conclusion.TheVariants.{Ran, NotWritten, NoMemory}
 use Rattle.bp_cli.specs.Outside.{Outside, IsAsBefore}
 
 -- the text is now under the name, and under each other name what was there, where the world tells what
@@ -86,24 +86,26 @@ pub record RunsPartly (asked : Run) (bytes : List ℕ) (before after : Outside) 
       (λ text. AppendsFront before.printed text after.printed)
   pub keeps : KeepsLogFront asked.log before (header_of asked bytes) program after
 
--- Why a run of this program ends so (`unwritten`: writing failed); how much of its text was printed;
--- what holds besides where all was told (`whole`) and where not (`partly`); and what its records keep
--- by their types.
-abbrev pub RunEnds : PlainProgram → PlainOptions → Type 0 → Type 0 → Type 0 →
-    Option (List ℕ) → Option (List ℕ) → Conclusion → Type 0
-RunEnds program options unwritten whole partly before after (Ran v) =
+-- how a run of this program ends: how much of its text was printed, and what its records keep by their
+-- types
+abbrev pub RunEnds : PlainProgram → PlainOptions → Option (List ℕ) → Option (List ℕ) → Conclusion →
+    Type 0
+RunEnds program options before after (Ran v) =
     (verdict_alone program options ≡ Some v)
-    × IsSomeAnd (text_alone program options) (λ text. Appends before text after) × whole
+    × IsSomeAnd (text_alone program options) (λ text. Appends before text after)
     × AreRecords (records_alone program options)
-RunEnds program options unwritten whole partly before after NotWritten =
-    unwritten × IsSomeAnd (text_alone program options) (λ text. AppendsFront before text after) × partly
-RunEnds program options unwritten whole partly before after NoMemory =
-    IsSomeAnd (text_alone program options) (λ text. AppendsFront before text after) × partly
-RunEnds program options unwritten whole partly before after NoCommand = ⊥
-RunEnds program options unwritten whole partly before after (Refused refusal) = ⊥
-RunEnds program options unwritten whole partly before after Accepted = ⊥
-RunEnds program options unwritten whole partly before after NotRead = ⊥
-RunEnds program options unwritten whole partly before after (BadLog fault) = ⊥
+RunEnds program options before after NotWritten =
+    IsSomeAnd (text_alone program options) (λ text. AppendsFront before text after)
+RunEnds program options before after NoMemory =
+    IsSomeAnd (text_alone program options) (λ text. AppendsFront before text after)
+RunEnds program options before after _ = ⊥
+
+-- what is held of the log of a run that ends so
+abbrev pub LogEnds : Option (List ℕ) → PlainHeader → PlainProgram → Outside → Outside → Conclusion →
+    Type 0
+LogEnds log header program before after (Ran v) =
+    KeepsLog log before.holds (log_alone header program) after.holds
+LogEnds log header program before after _ = KeepsLogFront log before header program after
 
 -- a run that is asked for has no injectors
 abbrev pub IsAlone : Option Command → Type 0

@@ -1,11 +1,9 @@
 //! The command.
-ghost use Rattle.std.specs.Prelude.{◌⊎◌, ◌≤◌, map, Some, string_bytes};
-ghost use Rattle.bp_base.specs.Counts.{Rose};
+ghost use Rattle.std.specs.Prelude.{map, Some, string_bytes};
 ghost use Rattle.bp_args.specs.Command.{command_of};
 ghost use Rattle.bp_cli.specs.Asking.{AsksIn};
-ghost use Rattle.bp_cli.specs.Conclusions.{code_of};
-ghost use Rattle.bp_cli.specs.Endings.{EndsSo, Ends};
-ghost use Rattle.bp_cli.specs.Outside.{outside};
+ghost use Rattle.bp_cli.specs.Endings.{EndsWith, Ends};
+ghost use Rattle.bp_cli.specs.Outside.{outside, NeverFalls};
 ghost use Rattle.bp_cli.specs.Refusing.{Refuses};
 ghost use Rattle.bp_cli.specs.Runs.{IsAlone};
 
@@ -29,17 +27,12 @@ fn carry_out<R: Threads + Wait + Sync, W: World, K: Sink>(
     out: &mut K,
 ) -> Conclusion
     requires alone { IsAlone (Some command) }
-    ensures ends { let before = outside (W.holds world.old) (W.asked world.old) (K.written out.old) in
-        let after = outside (W.holds world.new) (W.asked world.new) (K.written out.new) in
-        EndsSo (Some command) (Rose (W.read_faults world.old) (W.read_faults world.new))
-        (Rose (K.faults out.old) (K.faults out.new)
-        ⊎ Rose (W.write_faults world.old) (W.write_faults world.new))
-        before after result }
+    ensures ends { let seen = outside W.holds W.asked W.read_faults W.write_faults
+        K.written K.faults in EndsWith (Some command)
+        (seen world.old out.old) (seen world.new out.new) result }
     ensures asks { AsksIn (Some command) (W.asked world.old) (W.asked world.new) result }
-    ensures refuses { Refuses (Some command) (W.holds world.old) (code_of result) }
-    ensures read_counts { W.read_faults world.old ≤ W.read_faults world.new }
-    ensures write_counts { W.write_faults world.old ≤ W.write_faults world.new }
-    ensures counts { K.faults out.old ≤ K.faults out.new }
+    ensures counts { let seen = outside W.holds W.asked W.read_faults W.write_faults
+        K.written K.faults in NeverFalls (seen world.old out.old) (seen world.new out.new) }
 {
     match command {
         Command::Run(asked) => run_program(rt, alloc, &asked, world, out),
@@ -57,20 +50,13 @@ fn conclude<R: Threads + Wait + Sync, W: World, K: Sink>(
     world: &mut W,
     out: &mut K,
 ) -> Conclusion
-    ensures ends { let before = outside (W.holds world.old) (W.asked world.old) (K.written out.old) in
-        let after = outside (W.holds world.new) (W.asked world.new) (K.written out.new) in
-        EndsSo (command_of (map string_bytes words.now))
-        (Rose (W.read_faults world.old) (W.read_faults world.new))
-        (Rose (K.faults out.old) (K.faults out.new)
-        ⊎ Rose (W.write_faults world.old) (W.write_faults world.new))
-        before after result }
+    ensures ends { let seen = outside W.holds W.asked W.read_faults W.write_faults
+        K.written K.faults in EndsWith (command_of (map string_bytes words.now))
+        (seen world.old out.old) (seen world.new out.new) result }
     ensures asks { AsksIn (command_of (map string_bytes words.now))
         (W.asked world.old) (W.asked world.new) result }
-    ensures refuses { Refuses (command_of (map string_bytes words.now)) (W.holds world.old)
-        (code_of result) }
-    ensures read_counts { W.read_faults world.old ≤ W.read_faults world.new }
-    ensures write_counts { W.write_faults world.old ≤ W.write_faults world.new }
-    ensures counts { K.faults out.old ≤ K.faults out.new }
+    ensures counts { let seen = outside W.holds W.asked W.read_faults W.write_faults
+        K.written K.faults in NeverFalls (seen world.old out.old) (seen world.new out.new) }
 {
     match read(alloc, words) {
         Ok(command) => carry_out(rt, alloc, command, world, out),
@@ -100,20 +86,16 @@ pub fn command<R: Threads + Wait + Sync, W: World, K: Sink>(
     // the names of the words, in order: at 2 and 8 for the first alone, at 10 for some. So where no
     // count rose and memory was not wanting, the code is 1, 2, 11, that of the one run's verdict,
     // or 0 for an accepted program.
-    ensures ends { let before = outside (W.holds world.old) (W.asked world.old) (K.written out.old) in
-        let after = outside (W.holds world.new) (W.asked world.new) (K.written out.new) in
-        Ends (command_of (map string_bytes words.now))
-        (Rose (W.read_faults world.old) (W.read_faults world.new))
-        (Rose (K.faults out.old) (K.faults out.new)
-        ⊎ Rose (W.write_faults world.old) (W.write_faults world.new))
-        before after result.code result.note }
+    ensures ends { let seen = outside W.holds W.asked W.read_faults W.write_faults
+        K.written K.faults in Ends (command_of (map string_bytes words.now))
+        (seen world.old out.old) (seen world.new out.new) result.code result.note }
 
     // A refused program comes to no other end, but for a fault of reading or want of memory.
     ensures refuses { Refuses (command_of (map string_bytes words.now)) (W.holds world.old)
         result.code }
-    ensures read_counts { W.read_faults world.old ≤ W.read_faults world.new }
-    ensures world_counts { W.write_faults world.old ≤ W.write_faults world.new }
-    ensures write_counts { K.faults out.old ≤ K.faults out.new }
+
+    ensures counts { let seen = outside W.holds W.asked W.read_faults W.write_faults
+        K.written K.faults in NeverFalls (seen world.old out.old) (seen world.new out.new) }
 {
     let conclusion = conclude(rt, alloc, words, world, out);
     Status::of(alloc, &conclusion)

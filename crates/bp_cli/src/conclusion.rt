@@ -3,12 +3,13 @@ ghost use Rattle.std.specs.Prelude.{◌≡◌, true, IfOk, OnErr, string_bytes};
 ghost use Rattle.bp_cli.specs.Conclusions.{code_of, note_of, has_note, verdict_code, conclusion_of, ended_of};
 ghost use Rattle.bp_cli.specs.Replaying.{trouble_of as trouble_in, replayed_of, log_detail as log_fault_text, detail_of, bad_log_note as bad_log_text};
 
-use bp_log::{Memory, Verdict};
+use bp_log::{Memory, Verdict, VerdictKind};
 use bp_notes::differing;
 use bp_reader::LogFault;
 use bp_replay::ReplayFault;
 use bp_script::{Refusal, ScriptFault};
-use bp_serve::{Report, RunFault};
+use bp_serve::Report;
+use bp_told::RunFault;
 use js_data::Text;
 use std::alloc::Global;
 
@@ -71,17 +72,17 @@ impl From<ScriptFault> for Conclusion {
     }
 }
 
-/// The code of a run that came to this verdict.
-fn verdict_code(verdict: &Verdict) -> u8
-    ensures { result ≡ verdict_code verdict.now }
+/// The code of a run that came to a verdict of this kind.
+fn verdict_code(kind: VerdictKind) -> u8
+    ensures { result ≡ verdict_code kind }
 {
-    match verdict {
-        Verdict::Quiet(_) => 0,
-        Verdict::Violated(_, _) => 3,
-        Verdict::Fault(_, _, _) => 4,
-        Verdict::Spent(_) => 5,
-        Verdict::Steps(_) | Verdict::Queue | Verdict::Threads | Verdict::Weight => 6,
-        Verdict::Bad(_, _) => 7,
+    match kind {
+        VerdictKind::Quiet => 0,
+        VerdictKind::Violated => 3,
+        VerdictKind::Fault => 4,
+        VerdictKind::Spent => 5,
+        VerdictKind::Limit => 6,
+        VerdictKind::Bad => 7,
     }
 }
 
@@ -177,7 +178,7 @@ impl Conclusion {
             Conclusion::Accepted => 0,
             Conclusion::NoCommand => 1,
             Conclusion::Refused(_) => 2,
-            Conclusion::Ran(verdict) => verdict_code(verdict),
+            Conclusion::Ran(verdict) => verdict_code(verdict.kind()),
             Conclusion::NotRead => 8,
             Conclusion::NotWritten => 9,
             Conclusion::NoMemory => 10,

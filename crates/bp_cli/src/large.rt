@@ -95,8 +95,8 @@ pub(crate) fn measure_large<R: Threads + Wait + Sync, K: Sink>(
     count: u32,
     out: &mut K,
 ) -> Conclusion
-    ensures ends { MeasureEnds count (Rose (K.faults out.old) (K.faults out.new))
-        (K.written out.old) (K.written out.new) result }
+    ensures ends { MeasureEnds count (K.written out.old) (K.written out.new) result }
+    ensures cause { result ≡ Conclusion.NotWritten → Rose (K.faults out.old) (K.faults out.new) }
     ensures counts { K.faults out.old ≤ K.faults out.new }
 {
     let Ok(program) = large_program(alloc, count) else {

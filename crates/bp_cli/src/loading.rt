@@ -67,8 +67,9 @@ pub(crate) fn load<W: World>(alloc: Global, world: &mut W, name: &str) -> Result
     ensures program { IfOk result (λ l. IsProgram l.bytes.items l.program) }
     ensures bytes { IfOk result (λ l. IsUnder (W.holds world.old) name.now l.bytes.items) }
     ensures within { IfOk result (λ l. vec_len l.bytes ≤ MOST_BYTES) }
-    ensures unloaded { IfErr result (IsUnloaded (W.holds world.old) name.now
-        (Rose (W.read_faults world.old) (W.read_faults world.new))) }
+    ensures unloaded { IfErr result (IsUnloaded (W.holds world.old) name.now) }
+    ensures cause { IsErrOf result Conclusion.NotRead
+        → Rose (W.read_faults world.old) (W.read_faults world.new) }
     ensures asked { (IsErrOf result Conclusion.NoMemory × (W.asked world.new ≡ W.asked world.old))
         ⊎ Asks (W.asked world.old) name.now (W.asked world.new) }
     ensures holds { W.holds world.new ≡ W.holds world.old }

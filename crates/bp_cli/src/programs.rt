@@ -1,12 +1,9 @@
 //! Commands on a program of the world.
-ghost use Rattle.std.specs.Prelude.{◌≡◌, ◌⊎◌, ◌≤◌, Some};
-ghost use Rattle.bp_base.specs.Counts.{Rose};
+ghost use Rattle.std.specs.Prelude.{◌≡◌, Some};
 ghost use Rattle.bp_args.specs.declared.command.Command.TheVariants as command;
 ghost use Rattle.bp_cli.specs.Asking.{AsksIn};
-ghost use Rattle.bp_cli.specs.Conclusions.{code_of};
 ghost use Rattle.bp_cli.specs.Endings.{EndsIn};
-ghost use Rattle.bp_cli.specs.Outside.{outside};
-ghost use Rattle.bp_cli.specs.Refusing.{Refuses};
+ghost use Rattle.bp_cli.specs.Outside.{outside, NeverFalls};
 
 use crate::conclusion::Conclusion;
 use crate::loading::load;
@@ -33,19 +30,13 @@ pub(crate) fn run_program<R: Threads + Wait + Sync, W: World, K: Sink>(
     out: &mut K,
 ) -> Conclusion
     requires alone { asked.now.options.injectors ≡ 0 }
-    ensures ends { let before = outside (W.holds world.old) (W.asked world.old) (K.written out.old) in
-        let after = outside (W.holds world.new) (W.asked world.new) (K.written out.new) in
-        EndsIn (Some (command.Run asked.now))
-        (Rose (W.read_faults world.old) (W.read_faults world.new))
-        (Rose (K.faults out.old) (K.faults out.new)
-        ⊎ Rose (W.write_faults world.old) (W.write_faults world.new))
-        before after result }
+    ensures ends { let seen = outside W.holds W.asked W.read_faults W.write_faults
+        K.written K.faults in EndsIn (command.Run asked.now)
+        (seen world.old out.old) (seen world.new out.new) result }
     ensures asks { AsksIn (Some (command.Run asked.now))
         (W.asked world.old) (W.asked world.new) result }
-    ensures refuses { Refuses (Some (command.Run asked.now)) (W.holds world.old) (code_of result) }
-    ensures read_counts { W.read_faults world.old ≤ W.read_faults world.new }
-    ensures write_counts { W.write_faults world.old ≤ W.write_faults world.new }
-    ensures counts { K.faults out.old ≤ K.faults out.new }
+    ensures counts { let seen = outside W.holds W.asked W.read_faults W.write_faults
+        K.written K.faults in NeverFalls (seen world.old out.old) (seen world.new out.new) }
 {
     let loaded = match load(alloc, world, asked.program.as_str()) {
         Ok(loaded) => loaded,
@@ -78,19 +69,13 @@ pub(crate) fn accept_program<W: World, K: Sink>(
     world: &mut W,
     out: &mut K,
 ) -> Conclusion
-    ensures ends { let before = outside (W.holds world.old) (W.asked world.old) (K.written out.old) in
-        let after = outside (W.holds world.new) (W.asked world.new) (K.written out.new) in
-        EndsIn (Some (command.Accept name.now))
-        (Rose (W.read_faults world.old) (W.read_faults world.new))
-        (Rose (K.faults out.old) (K.faults out.new)
-        ⊎ Rose (W.write_faults world.old) (W.write_faults world.new))
-        before after result }
+    ensures ends { let seen = outside W.holds W.asked W.read_faults W.write_faults
+        K.written K.faults in EndsIn (command.Accept name.now)
+        (seen world.old out.old) (seen world.new out.new) result }
     ensures asks { AsksIn (Some (command.Accept name.now))
         (W.asked world.old) (W.asked world.new) result }
-    ensures refuses { Refuses (Some (command.Accept name.now)) (W.holds world.old) (code_of result) }
-    ensures read_counts { W.read_faults world.old ≤ W.read_faults world.new }
-    ensures write_counts { W.write_faults world.old ≤ W.write_faults world.new }
-    ensures counts { K.faults out.old ≤ K.faults out.new }
+    ensures counts { let seen = outside W.holds W.asked W.read_faults W.write_faults
+        K.written K.faults in NeverFalls (seen world.old out.old) (seen world.new out.new) }
 {
     let _loaded = match load(alloc, world, name.as_str()) {
         Ok(loaded) => loaded,

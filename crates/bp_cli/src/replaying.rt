@@ -1,9 +1,8 @@
 //! Logs that are replayed.
-ghost use Rattle.std.specs.Prelude.{◌⊎◌, ◌≤◌, Some};
-ghost use Rattle.bp_base.specs.Counts.{Rose};
+ghost use Rattle.std.specs.Prelude.{Some};
 ghost use Rattle.bp_args.specs.declared.command.Command.TheVariants as command;
 ghost use Rattle.bp_cli.specs.Asking.{AsksIn};
-ghost use Rattle.bp_cli.specs.Outside.{outside};
+ghost use Rattle.bp_cli.specs.Outside.{outside, NeverFalls};
 ghost use Rattle.bp_cli.specs.Replaying.{ReplayEnds};
 
 use crate::conclusion::Conclusion;
@@ -19,17 +18,13 @@ pub(crate) fn replay_log<W: World, K: Sink>(
     world: &mut W,
     out: &mut K,
 ) -> Conclusion
-    ensures ends { let before = outside (W.holds world.old) (W.asked world.old) (K.written out.old) in
-        let after = outside (W.holds world.new) (W.asked world.new) (K.written out.new) in
-        ReplayEnds name.now (Rose (W.read_faults world.old) (W.read_faults world.new))
-        (Rose (K.faults out.old) (K.faults out.new)
-        ⊎ Rose (W.write_faults world.old) (W.write_faults world.new))
-        before after result }
+    ensures ends { let seen = outside W.holds W.asked W.read_faults W.write_faults
+        K.written K.faults in ReplayEnds name.now
+        (seen world.old out.old) (seen world.new out.new) result }
     ensures asks { AsksIn (Some (command.Replay name.now))
         (W.asked world.old) (W.asked world.new) result }
-    ensures read_counts { W.read_faults world.old ≤ W.read_faults world.new }
-    ensures write_counts { W.write_faults world.old ≤ W.write_faults world.new }
-    ensures counts { K.faults out.old ≤ K.faults out.new }
+    ensures counts { let seen = outside W.holds W.asked W.read_faults W.write_faults
+        K.written K.faults in NeverFalls (seen world.old out.old) (seen world.new out.new) }
 {
     let input = match world.open(name.as_str()) {
         Ok(input) => input,

@@ -2,15 +2,16 @@
 ghost use Rattle.std.specs.Prelude.{◌≡◌, ◌⊎◌, ◌≤◌, Some, IfOk};
 ghost use Rattle.bp_base.specs.Counts.{Rose};
 ghost use Rattle.bp_base.specs.Worlds.{Asks};
-ghost use Rattle.bp_cli.specs.Outside.{outside};
+ghost use Rattle.bp_cli.specs.Outside.{outside, WriteFailed, NeverFalls};
 ghost use Rattle.bp_reading.specs.Laws.{AreRecords};
-ghost use Rattle.bp_cli.specs.Runs.{Holds, KeepsLogFront, log_alone, RunEnds};
+ghost use Rattle.bp_cli.specs.Runs.{LogEnds, RunEnds};
 
 use crate::conclusion::Conclusion;
 use bp_base::{MemorySink, Sink, World, WorldError};
 use bp_log::{Beside, Header};
 use bp_records::records_keep;
-use bp_serve::{Report, RunFault, run};
+use bp_serve::{Report, run};
+use bp_told::RunFault;
 use js_program::Program;
 use std::alloc::Global;
 use std::sync::Wait;
@@ -35,8 +36,8 @@ pub(crate) fn run_unlogged<R: Threads + Wait + Sync, K: Sink>(
     out: &mut K,
 ) -> Conclusion
     requires alone { header.now.options.injectors ≡ 0 }
-    ensures ends { RunEnds program header.now.options (Rose (K.faults out.old) (K.faults out.new))
-        (Unit {0}) (Unit {0}) (K.written out.old) (K.written out.new) result }
+    ensures ends { RunEnds program header.now.options (K.written out.old) (K.written out.new) result }
+    ensures cause { result ≡ Conclusion.NotWritten → Rose (K.faults out.old) (K.faults out.new) }
     ensures counts { K.faults out.old ≤ K.faults out.new }
 {
     let mut log: Option<MemorySink> = None;
@@ -57,19 +58,17 @@ pub(crate) fn run_logged<R: Threads + Wait + Sync, W: World, K: Sink>(
     out: &mut K,
 ) -> Conclusion
     requires alone { header.now.options.injectors ≡ 0 }
-    ensures ends { let log = log_alone header.now program in
-        let before = outside (W.holds world.old) (W.asked world.old) (K.written out.old) in
-        let after = outside (W.holds world.new) (W.asked world.new) (K.written out.new) in
-        RunEnds program header.now.options
-        (Rose (K.faults out.old) (K.faults out.new)
-        ⊎ Rose (W.write_faults world.old) (W.write_faults world.new))
-        (Holds (W.holds world.old) name.now log (W.holds world.new))
-        (KeepsLogFront (Some name.now) before header.now program after)
-        (K.written out.old) (K.written out.new) result }
+    ensures ends { RunEnds program header.now.options (K.written out.old) (K.written out.new) result }
+    ensures logs { let seen = outside W.holds W.asked W.read_faults W.write_faults
+        K.written K.faults in LogEnds (Some name.now) header.now program
+        (seen world.old out.old) (seen world.new out.new) result }
+    ensures cause { let seen = outside W.holds W.asked W.read_faults W.write_faults
+        K.written K.faults in result ≡ Conclusion.NotWritten
+        → WriteFailed (seen world.old out.old) (seen world.new out.new) }
     ensures asked { ((result ≡ Conclusion.NoMemory) × (W.asked world.new ≡ W.asked world.old))
         ⊎ Asks (W.asked world.old) name.now (W.asked world.new) }
-    ensures counts { K.faults out.old ≤ K.faults out.new }
-    ensures world_counts { W.write_faults world.old ≤ W.write_faults world.new }
+    ensures counts { let seen = outside W.holds W.asked W.read_faults W.write_faults
+        K.written K.faults in NeverFalls (seen world.old out.old) (seen world.new out.new) }
     ensures reads { W.read_faults world.new ≡ W.read_faults world.old }
 {
     let output = match world.create(name) {

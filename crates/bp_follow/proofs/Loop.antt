@@ -1,5 +1,5 @@
 -- A log that is followed record by record.
-use Rattle.std.proofs.Common.{◌≡◌, ℕ, ◌+◌, false, List, [], ◌∷◌, ◌++◌, length, refl, ap, sym, ◌∙◌, subst, append-nil, arith, length-append, Option, Some, None, Ok, Err, IsSomeAnd}
+use Rattle.std.proofs.Common.{◌≡◌, ℕ, ◌+◌, true, false, List, [], ◌∷◌, ◌++◌, length, refl, ap, sym, ◌∙◌, subst, append-nil, arith, length-append, Option, Some, None, Ok, Err, IsSomeAnd}
 use Rattle.std.specs.Prelude.{IfSome, Result}
 use Rattle.js_meaning.specs.Bodies.{Origin}
 use Rattle.bp_log.specs.Records.{is_complete, verdict_of}
@@ -9,23 +9,26 @@ use Rattle.bp_log.specs.declared.record.Record.TheVariants.{In, Bad, Eof, Sel, E
 use Rattle.bp_log.specs.declared.trace.Line.{Line}
 use Rattle.bp_log.specs.declared.trace.Line.TheVariants as trace
 use Rattle.bp_log.specs.declared.verdict.Verdict.{Verdict}
-use Rattle.bp_reading.specs.Reading.{Stage, found, finished, next_at, first_stage, after}
+use Rattle.bp_reading.specs.Heads.{cut}
+use Rattle.bp_reading.specs.Reading.{Stage, BeginsWith, BreaksOff, found, finished, refused, next_at, first_stage, after}
+use Rattle.bp_reading.proofs.Fronts.{begins_front, none_going, none_over}
+use Rattle.bp_reader.specs.Fed.{Between}
 use Rattle.bp_reader.specs.Reads.{Standing, MeansNext, Tells as ReaderTells}
 use Rattle.bp_reader.specs.declared.fault.LogFault.{LogFault}
 use Rattle.bp_reader.specs.declared.fault.LogFault.TheVariants as log
 use Rattle.bp_run.specs.Configuration.{Configuration}
 use Rattle.bp_arbiter.specs.Arbiters.{PlainArbiter, options_in}
-use Rattle.bp_serve.specs.Pages.{Shows, ShowsFront}
+use Rattle.bp_told.specs.Pages.{Shows, ShowsFront}
 use Rattle.bp_log.specs.declared.lines.PrintError.{PrintError}
 use Rattle.bp_log.specs.declared.lines.PrintError.TheVariants as print
 use Rattle.bp_log.proofs.Complete.{verdict_by_last}
-use Rattle.bp_serve.proofs.Pieces.{lines_text-append, lines_none, shows_page, shows_on, front_on}
+use Rattle.bp_told.proofs.Pieces.{lines_text-append, lines_none, shows_page, shows_on, front_on}
 use Rattle.bp_follow.specs.declared.fault.ReplayFault.{ReplayFault}
 use Rattle.bp_follow.specs.declared.fault.ReplayFault.TheVariants as fault
 use Rattle.bp_follow.specs.Faults.{fault_of_print, fault_of_log}
-use Rattle.bp_follow.specs.Courses.{Course, code_in, led, IsTold, text_in, BeginsWith}
-use Rattle.bp_follow.specs.Endings.{Parts, EndsAt}
-use Rattle.bp_follow.specs.Following.{first_of, IsOnWay, onto, GoesOn, Makes, Followed, Shown, Finishes, Tells}
+use Rattle.bp_follow.specs.Courses.{Course, code_in, led, IsTold, text_in}
+use Rattle.bp_follow.specs.Endings.{Parts, EndsAt, IsAtItsEnd}
+use Rattle.bp_follow.specs.Following.{first_of, IsOnWay, onto, GoesOn, Makes, Followed, Shown, Finishes, Tells, TellsTaken}
 use Rattle.bp_follow.proofs.Tales.{one_more, end_told}
 
 -- ---- what was read
@@ -68,6 +71,15 @@ front_course c taken more a b d page next e s t =
 
 pub front_whole : (a b : Option (List ℕ)) (text page : List ℕ) → Shows a text page b → ShowsFront a text page b
 front_whole a b text page s = record { shown = text; rest = []; is_text = sym (append-nil text); shows = s }
+
+-- the reader refused what stands next, and all of the text was put on the page before
+pub shown_log : (f : LogFault) (before : Option (List ℕ)) (text page : List ℕ) (after : Option (List ℕ)) → Shows before text page after → Shown (Err (fault_of_log f)) before text page after
+shown_log log.Version before text page after s = s
+shown_log log.Header before text page after s = s
+shown_log (log.Line n) before text page after s = s
+shown_log log.Cut before text page after s = s
+shown_log log.Read before text page after s = s
+shown_log log.Memory before text page after s = front_whole before after text page s
 
 -- ---- how it ends
 
@@ -148,6 +160,40 @@ module _ (first c : Course) (program : c.program ≡ first.program) (options : c
       verdict_of c.records ≡ Some v → IfSome left (λ bytes. Finishes v (next_at s bytes) result) → Shown result before (text_in c) page later → IfSome rest (λ bytes. Tells first bytes before page later result)
   tells_finished None before page later s left v result w g h shown = tt
   tells_finished (Some bytes) before page later s left v result w g h shown = ends_by bytes before page later s left result w (λ more e. finishes_at v s left result more g h e) shown
+
+  -- what was taken before a read failed, as a log that ends there
+  module _ (before : Option (List ℕ)) (page : List ℕ) (later : Option (List ℕ)) (s : Stage) where
+    taken_at : (rest left after_left : Option (List ℕ)) (ended : Result Verdict ReplayFault) → IsAtItsEnd ended → Shown ended before (text_in c) page later → ((part : List ℕ) → next_at s part ≡ next_at s [] → EndsAt c s part ended) →
+        Reached c rest s left → Between left after_left (BreaksOff s) → Between rest after_left (λ bytes more. TellsTaken first bytes more before page later)
+    taken_at None left after_left ended at shown ends w b = tt
+    taken_at (Some bytes) None after_left ended at shown ends w b = absurd w
+    taken_at (Some bytes) (Some l) None ended at shown ends w b = absurd b
+    taken_at (Some bytes) (Some l) (Some more) ended at shown ends w b =
+        let f = begins_front c.records (first_stage c.options.injectors) bytes s l b.0 more w b.1 in
+        record {
+          taken = f.0;
+          is_front = f.1;
+          ended = ended;
+          at_end = at;
+          tells = record {
+            course = c;
+            program = program;
+            options = options;
+            stage = s;
+            left = b.0;
+            follows = record { begins = f.2; told = told };
+            ends = ends b.0 b.2;
+            shown = shown;
+          };
+        }
+
+    pub taken_cut : (rest left after_left : Option (List ℕ)) → s.ended ≡ false → Shows before (text_in c) page later → Reached c rest s left → Between left after_left (BreaksOff s) →
+        Between rest after_left (λ bytes more. TellsTaken first bytes more before page later)
+    taken_cut rest left after_left going shown w b = taken_at rest left after_left (Err (fault.Log log.Cut)) tt shown (λ part e. e ∙ none_going s going) w b
+
+    pub taken_whole : (rest left after_left : Option (List ℕ)) (v : Verdict) → s.ended ≡ true → verdict_of c.records ≡ Some v → Shows before (text_in c) page later → Reached c rest s left → Between left after_left (BreaksOff s) →
+        Between rest after_left (λ bytes more. TellsTaken first bytes more before page later)
+    taken_whole rest left after_left v over said shown w b = taken_at rest left after_left (Ok v) tt shown (λ part e. (e ∙ none_over s over, said)) w b
 
 -- ---- the end
 

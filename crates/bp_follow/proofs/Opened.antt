@@ -7,8 +7,8 @@ use Rattle.bp_reading.specs.Reading.{Stage, first_stage}
 use Rattle.bp_run.specs.Settling.{opening}
 use Rattle.bp_run.specs.Story.{story, story_from}
 use Rattle.bp_arbiter.specs.Arbiters.{PlainArbiter, StandsFor, opened, is_lent}
-use Rattle.bp_serve.specs.Pages.{ShowsFront}
-use Rattle.bp_serve.proofs.Pieces.{shows_page}
+use Rattle.bp_told.specs.Pages.{ShowsFront}
+use Rattle.bp_told.proofs.Pieces.{shows_page}
 use Rattle.bp_follow.specs.declared.fault.ReplayFault.TheVariants as fault
 use Rattle.bp_follow.specs.Courses.{text_in}
 use Rattle.bp_follow.specs.Following.{first_course, first_of, IsOnWay, Tells}

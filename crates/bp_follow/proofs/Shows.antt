@@ -19,8 +19,8 @@ use Rattle.bp_floor.specs.declared.phase.Phase.{Phase}
 use Rattle.bp_floor.specs.declared.phase.Phase.TheVariants.{Ready, Lent, Rest, Over}
 use Rattle.bp_floor.specs.Floors.{is_idle}
 use Rattle.bp_arbiter.specs.Arbiters.{PlainArbiter, Recounts, StandsFor, options_in, stand_in, is_lent}
-use Rattle.bp_serve.specs.Turning.{StandsAfter, Closes, Settles}
-use Rattle.bp_serve.proofs.Way.{same_code, recounts_at}
+use Rattle.bp_turns.specs.Turning.{StandsAfter, Closes, Settles}
+use Rattle.bp_turns.proofs.Arbiters.{same_code, recounts_at}
 use Rattle.bp_follow.specs.Courses.{Course, code_in}
 use Rattle.bp_follow.specs.Following.{Runs, IsOnWay, StaysAt, IsThere, IsSaid}
 use Rattle.bp_follow.proofs.Tales.{one_more, end_told}
@@ -105,7 +105,7 @@ module _ (c : Course) (taken : List Line) (a mid b : PlainArbiter) (lines said :
       some_at {x} {u} h = subst (λ (y : Option Verdict). IsSome y) (sym h) refl
 
   pub settled : Settled c w.more b said
-  settled = elim s.recorded [ inl h ↦ settled_on h | inr k ↦ settled_over k ]
+  settled = elim s.recorded [ inl h ↦ settled_on h.0 | inr k ↦ settled_over k ]
 
 -- ---- answers
 

@@ -28,8 +28,8 @@ use Rattle.bp_arbiter.specs.Arbiters as arbiter
 use Rattle.bp_arbiter.specs.Arbiters.{PlainArbiter, Recounts, StandsFor, Shows, options_in, stand_in, is_lent}
 use Rattle.bp_arbiter.specs.Absorbing.{with_item, absorbed}
 use Rattle.bp_arbiter.specs.Picking.{picked_of, after_pick, phase_after}
-use Rattle.bp_serve.specs.Turning.{StandsAfter}
-use Rattle.bp_serve.proofs.Way.{same_code, recounts_at, recounts_in, coming_at}
+use Rattle.bp_turns.specs.Turning.{StandsAfter}
+use Rattle.bp_turns.proofs.Arbiters.{same_code, recounts_at, recounts_in, coming_at}
 use Rattle.bp_follow.specs.declared.fault.ReplayFault.{ReplayFault}
 use Rattle.bp_follow.specs.declared.fault.ReplayFault.TheVariants as fault
 use Rattle.bp_follow.specs.Courses.{Course, code_in, coming, led}

@@ -1,12 +1,12 @@
 -- How far a log was followed.
-use Rattle.std.specs.Prelude.{◌≡◌, ℕ, List, [], ◌∷◌, Option, Some}
+use Rattle.std.specs.Prelude.{◌≡◌, ℕ, List, Option, Some}
 use Rattle.js_value.specs.Value.{PlainSet}
 use Rattle.js_program.specs.PlainProgram.{PlainProgram}
 use Rattle.js_meaning.specs.Bodies.{Origin}
 use Rattle.bp_log.specs.Options.{PlainOptions}
 use Rattle.bp_log.specs.Texts.{lines_text}
 use Rattle.bp_log.specs.declared.record.Record.{Record}
-use Rattle.bp_reading.specs.Reading.{Stage, found, next_at, first_stage, after}
+use Rattle.bp_reading.specs.Reading.{Stage, BeginsWith, first_stage}
 use Rattle.bp_run.specs.Bodies.{Code}
 use Rattle.bp_run.specs.Configuration.{Configuration}
 use Rattle.bp_run.specs.Story.{Next, next, after_record, story}
@@ -36,12 +36,6 @@ coming c = next (code_in c) c.options c.told
 
 abbrev pub led : Course → Record → Option (Configuration Origin)
 led c r = after_record (code_in c) c.options c.told r
-
--- at this stage the bytes begin with these records; behind them that stage and those bytes are left
-abbrev pub BeginsWith : Stage → List ℕ → List Record → Stage → List ℕ → Type 0
-BeginsWith s bytes [] t left = (t ≡ s) × (left ≡ bytes)
-BeginsWith s bytes (r ∷ rs) t left =
-    (rest : List ℕ) × (next_at s bytes ≡ found r rest) × BeginsWith (after s r) rest rs t left
 
 -- the bytes behind a header begin with the records of this course, which are a story
 pub record Follows (rest : List ℕ) (c : Course) (s : Stage) (left : List ℕ) : Type 0 where

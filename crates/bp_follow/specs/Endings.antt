@@ -5,6 +5,7 @@ use Rattle.bp_log.specs.declared.record.Record.{Record}
 use Rattle.bp_log.specs.declared.verdict.Verdict.{Verdict}
 use Rattle.bp_reading.specs.Reading.{Stage, found, finished, next_at}
 use Rattle.bp_reader.specs.Reads.{MeansNext}
+use Rattle.bp_reader.specs.declared.fault.LogFault.TheVariants as log
 use Rattle.bp_run.specs.Story.{record_of}
 use Rattle.bp_follow.specs.declared.fault.ReplayFault.{ReplayFault}
 use Rattle.bp_follow.specs.declared.fault.ReplayFault.TheVariants.{Log, Differs, Program, Write, Memory}
@@ -27,3 +28,9 @@ EndsAt c s left (Err (Differs number expected other)) = Parts c s left number ex
 EndsAt c s left (Err Program) = ⊥
 EndsAt c s left (Err Write) = Unit {0}
 EndsAt c s left (Err Memory) = Unit {0}
+
+-- no more was refused than that the log ends there: it is cut, or it is whole
+abbrev pub IsAtItsEnd : Result Verdict ReplayFault → Type 0
+IsAtItsEnd (Ok v) = Unit {0}
+IsAtItsEnd (Err (Log log.Cut)) = Unit {0}
+IsAtItsEnd _ = ⊥

@@ -21,12 +21,12 @@ use Rattle.bp_floor.specs.declared.phase.Phase.{Phase}
 use Rattle.bp_floor.specs.declared.phase.Phase.TheVariants.{Ready, Lent, Rest, Over}
 use Rattle.bp_arbiter.specs.Arbiters.{PlainArbiter, options_in, is_lent}
 use Rattle.bp_arbiter.specs.Arbiters as arbiter
-use Rattle.bp_serve.specs.Pages.{Shows, ShowsFront}
-use Rattle.bp_serve.specs.Turning.{StandsAfter}
+use Rattle.bp_told.specs.Pages.{Shows, ShowsFront}
+use Rattle.bp_turns.specs.Turning.{StandsAfter}
 use Rattle.bp_follow.specs.declared.fault.ReplayFault.{ReplayFault}
 use Rattle.bp_follow.specs.declared.fault.ReplayFault.TheVariants.{Log, Differs, Program, Write, Memory}
 use Rattle.bp_follow.specs.Courses.{Course, code_in, coming, led, IsTold, text_in, Follows}
-use Rattle.bp_follow.specs.Endings.{EndsAt}
+use Rattle.bp_follow.specs.Endings.{EndsAt, IsAtItsEnd}
 
 -- only injectors that are there are read
 abbrev pub ReadsBelow : {O : Type 0} → ℕ → Configuration O → Type 0
@@ -175,3 +175,13 @@ pub record Tells (first : Course) (rest : List ℕ) (before : Option (List ℕ))
   pub follows : Follows rest course stage left
   pub ends : EndsAt course stage left ended
   pub shown : Shown ended before (text_in course) page after
+
+-- where a read failed, so much of the bytes was taken before the rest, and was followed as a log that ends
+-- there
+pub record TellsTaken (first : Course) (bytes rest : List ℕ) (before : Option (List ℕ))
+    (page : List ℕ) (after : Option (List ℕ)) : Type 0 where
+  pub taken : List ℕ
+  pub is_front : bytes ≡ taken ++ rest
+  pub ended : Result Verdict ReplayFault
+  pub at_end : IsAtItsEnd ended
+  pub tells : Tells first taken before page after ended

@@ -4,12 +4,13 @@ ghost use Rattle.bp_base.specs.Counts.{Rose};
 ghost use Rattle.bp_log.specs.Texts.{lines_text};
 ghost use Rattle.bp_log.specs.declared.trace.Line.{Line as Told};
 ghost use Rattle.bp_log.specs.declared.trace.Line.TheVariants as trace;
-ghost use Rattle.bp_reading.specs.Reading.{first_stage, next_at};
+ghost use Rattle.bp_reading.specs.Reading.{BreaksOff, first_stage, next_at};
+ghost use Rattle.bp_reader.specs.Fed.{Between};
 ghost use Rattle.bp_reader.specs.declared.fault.LogFault.TheVariants as log_fault;
 ghost use Rattle.bp_arbiter.specs.Arbiters.{options_in};
-ghost use Rattle.bp_serve.specs.Pages.{Shows, ShowsFront};
+ghost use Rattle.bp_told.specs.Pages.{Shows, ShowsFront};
 ghost use Rattle.bp_follow.specs.Courses.{Course};
-ghost use Rattle.bp_follow.specs.Following.{Finishes, first_course, first_of, IsOnSomeWay, IsOnWay, IsSaid, IsThere, Shown, Tells};
+ghost use Rattle.bp_follow.specs.Following.{Finishes, first_course, first_of, IsOnSomeWay, IsOnWay, IsSaid, IsThere, Shown, Tells, TellsTaken};
 
 use crate::ReplayFault;
 use crate::following::follow;
@@ -17,7 +18,8 @@ use bp_arbiter::Arbiter;
 use bp_base::{Sink, Source};
 use bp_log::{Beside, Line, Options, PrintError, Verdict};
 use bp_reader::Reader;
-use bp_serve::{Alone, Page, settle};
+use bp_told::Page;
+use bp_turns::{Alone, settle};
 use js_program::Program;
 use std::alloc::Global;
 
@@ -61,6 +63,7 @@ fn show<K: Sink>(
         (K.written out.new)) }
     ensures cause { IsErrOf result PrintError.Write → Rose (K.faults out.old) (K.faults out.new) }
     ensures counts { K.faults out.old ≤ K.faults out.new }
+    ensures named { K.made_as out.new ≡ K.made_as out.old }
 {
     settle(alloc, arbiter, &Alone(Beside::defaults()))?;
     arbiter.keeps();
@@ -82,12 +85,17 @@ fn finish<S: Source, K: Sink>(
         (λ left. Finishes verdict (next_at reader.old.stage left) result) }
     ensures shown { Shown result (K.written out.old)
         (page.old ++ lines_text (trace.Verdict verdict ∷ [])) page.new (K.written out.new) }
+    ensures failed { IsErrOf result (ReplayFault.Log log_fault.Read)
+        → Between reader.old.left reader.new.left (BreaksOff reader.old.stage) }
+    ensures empty { IsErrOf result (ReplayFault.Log log_fault.Read)
+        → reader.new.left ≡ reader.new.source }
     ensures read { IsErrOf result (ReplayFault.Log log_fault.Read)
         → Rose reader.old.faults reader.new.faults }
     ensures write { IsErrOf result ReplayFault.Write
         → Rose (K.faults out.old) (K.faults out.new) }
     ensures read_counts { reader.old.faults ≤ reader.new.faults }
     ensures write_counts { K.faults out.old ≤ K.faults out.new }
+    ensures named { K.made_as out.new ≡ K.made_as out.old }
 {
     let line = [Line::Verdict(verdict.copy()?)];
     page.print(alloc, line.as_slice(), out)?;
@@ -109,12 +117,18 @@ fn tell<S: Source, K: Sink>(
     requires empty { page.old ≡ [] }
     ensures tells { IfSome reader.old.left (λ rest. Tells (first_of arbiter.old) rest
         (K.written out.old) page.new (K.written out.new) result) }
+    ensures failed { IsErrOf result (ReplayFault.Log log_fault.Read)
+        → Between reader.old.left reader.new.left (λ bytes rest. TellsTaken (first_of arbiter.old)
+        bytes rest (K.written out.old) page.new (K.written out.new)) }
+    ensures empty { IsErrOf result (ReplayFault.Log log_fault.Read)
+        → reader.new.left ≡ reader.new.source }
     ensures read { IsErrOf result (ReplayFault.Log log_fault.Read)
         → Rose reader.old.faults reader.new.faults }
     ensures write { IsErrOf result ReplayFault.Write
         → Rose (K.faults out.old) (K.faults out.new) }
     ensures read_counts { reader.old.faults ≤ reader.new.faults }
     ensures write_counts { K.faults out.old ≤ K.faults out.new }
+    ensures named { K.made_as out.new ≡ K.made_as out.old }
 {
     let mut number = 0;
     loop {
@@ -133,7 +147,7 @@ fn tell<S: Source, K: Sink>(
 
 /// Makes the run of the program again, as far as the records that are still to be read are its own,
 /// and puts its text on the page. After `Write` and `Memory` a front of the text of such records
-/// was written or waits.
+/// was written or waits. After a failed read what was taken was followed as a log that ends there.
 pub fn replay_onto<S: Source, K: Sink>(
     alloc: Global,
     program: Program,
@@ -147,12 +161,18 @@ pub fn replay_onto<S: Source, K: Sink>(
     requires empty { page.old ≡ [] }
     ensures tells { IfSome reader.old.left (λ rest. Tells (first_course program options) rest
         (K.written out.old) page.new (K.written out.new) result) }
+    ensures failed { IsErrOf result (ReplayFault.Log log_fault.Read)
+        → Between reader.old.left reader.new.left (λ bytes rest. TellsTaken (first_course program options)
+        bytes rest (K.written out.old) page.new (K.written out.new)) }
+    ensures empty { IsErrOf result (ReplayFault.Log log_fault.Read)
+        → reader.new.left ≡ reader.new.source }
     ensures read { IsErrOf result (ReplayFault.Log log_fault.Read)
         → Rose reader.old.faults reader.new.faults }
     ensures write { IsErrOf result ReplayFault.Write
         → Rose (K.faults out.old) (K.faults out.new) }
     ensures read_counts { reader.old.faults ≤ reader.new.faults }
     ensures write_counts { K.faults out.old ≤ K.faults out.new }
+    ensures named { K.made_as out.new ≡ K.made_as out.old }
 {
     let mut arbiter = Arbiter::open(alloc, program, options)?;
     tell(alloc, reader, &mut arbiter, page, out)

@@ -1,3 +1,4 @@
 pub mod Whole
 pub mod WholeLogs
 pub mod RunLogs
+pub mod OneEnding

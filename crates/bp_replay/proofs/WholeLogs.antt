@@ -14,7 +14,7 @@ use Rattle.bp_log.specs.declared.record.Record.{Record}
 use Rattle.bp_log.specs.declared.record.Record.TheVariants.{In, Bad, Eof, Sel, End}
 use Rattle.bp_log.specs.declared.verdict.Verdict.{Verdict}
 use Rattle.bp_reading.specs.Heads.{Refusal, header_at}
-use Rattle.bp_reading.specs.Reading.{Stage, Next as Reads, found, finished, refused, next_at, first_stage, after, Says}
+use Rattle.bp_reading.specs.Reading.{Stage, Next as Reads, found, finished, refused, next_at, first_stage, after, Says, BeginsWith}
 use Rattle.bp_reading.proofs.Whole.{logs_are_read}
 use Rattle.bp_reader.specs.declared.fault.LogFault.TheVariants as log
 use Rattle.bp_run.specs.Bodies.{Code}
@@ -29,7 +29,7 @@ use Rattle.bp_script.specs.Programs.{IsProgram, IsRefused}
 use Rattle.bp_script.proofs.Once.{never, one_program}
 use Rattle.bp_follow.specs.declared.fault.ReplayFault.{ReplayFault}
 use Rattle.bp_follow.specs.declared.fault.ReplayFault.TheVariants.{Log, Differs, Program, Write, Memory}
-use Rattle.bp_follow.specs.Courses.{Course, code_in, led, text_in, BeginsWith}
+use Rattle.bp_follow.specs.Courses.{Course, code_in, led, text_in}
 use Rattle.bp_follow.specs.Endings.{Parts, EndsAt}
 use Rattle.bp_replay.specs.Replays.{Prints, Replays, HasNoRun, IsReplay}
 use Rattle.bp_replay.specs.Laws.{IsTrouble, IsLogOf, TellsAll, ReplaysTellTheRun}
@@ -52,10 +52,10 @@ refused_next (found r rest) = None
 refused_next finished = None
 refused_next (refused g) = Some g
 
-same_record : (x : Reads) (q r : Record) (a b : List ℕ) → x ≡ found q a → x ≡ found r b → q ≡ r
+pub same_record : (x : Reads) (q r : Record) (a b : List ℕ) → x ≡ found q a → x ≡ found r b → q ≡ r
 same_record x q r a b h k = let e : Some q ≡ Some r = ap record_next (sym h ∙ k) in cc
 
-same_rest : (x : Reads) (q r : Record) (a b : List ℕ) → x ≡ found q a → x ≡ found r b → a ≡ b
+pub same_rest : (x : Reads) (q r : Record) (a b : List ℕ) → x ≡ found q a → x ≡ found r b → a ≡ b
 same_rest x q r a b h k = ap rest_next (sym h ∙ k)
 
 -- what bytes begin with is the front of what they say
@@ -81,7 +81,7 @@ goes_at : {O S : Type 0} (l : Code O S) (o : PlainOptions) (rs : List Record) (x
 goes_at l o rs x m c h k = sym (ap (λ (y : Option (Configuration _)). option_and_then (story_from l o rs) y) h) ∙ k
 
 -- where a story goes on behind c, the next record leads on from c
-next_leads : {O S : Type 0} (l : Code O S) (o : PlainOptions) (rs qs : List Record) (q : Record) (b c d : Configuration O) → story_from l o rs b ≡ Some c → story_from l o (rs ++ q ∷ qs) b ≡ Some d →
+pub next_leads : {O S : Type 0} (l : Code O S) (o : PlainOptions) (rs qs : List Record) (q : Record) (b c d : Configuration O) → story_from l o rs b ≡ Some c → story_from l o (rs ++ q ∷ qs) b ≡ Some d →
     (m : Configuration O) × (after_record l o c q ≡ Some m)
 unfolding story_from
 next_leads l o [] qs q b c d h k = let f = story_first l o q qs b d k in let e : b ≡ c = cc in (f.0, subst (λ (x : Configuration _). after_record l o x q ≡ Some f.0) e f.1)
@@ -140,10 +140,10 @@ module _ (c : Course) (rs : List Record) (told : Configuration Origin) (text : L
   ends_whole more e says (Err Write) h p = inl tt
   ends_whole more e says (Err Memory) h p = inl tt
 
-one_ok : {A E : Type 0} (x : Result A E) (a b : A) → x ≡ Ok a → x ≡ Ok b → a ≡ b
+pub one_ok : {A E : Type 0} (x : Result A E) (a b : A) → x ≡ Ok a → x ≡ Ok b → a ≡ b
 one_ok x a b h k = cc
 
-read_ok : {A E : Type 0} (x : Result A E) (a : A) (f : E) → x ≡ Ok a → x ≡ Err f → ⊥
+pub read_ok : {A E : Type 0} (x : Result A E) (a : A) (f : E) → x ≡ Ok a → x ≡ Err f → ⊥
 read_ok x a f h k = cc
 
 module _ (bytes : List ℕ) (header : PlainHeader) (records : List Record) (program : PlainProgram) (text : List ℕ) (before later : Option (List ℕ)) (i : IsLogOf bytes header records program text) where

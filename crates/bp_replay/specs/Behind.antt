@@ -1,5 +1,5 @@
 -- What a replay does with what stands behind the header.
-use Rattle.std.specs.Prelude.{◌≡◌, ◌⊎◌, ℕ, List, Option, Result, Ok, Err}
+use Rattle.std.specs.Prelude.{◌≡◌, ◌⊎◌, ℕ, List, ◌++◌, Option, Result, Ok, Err}
 use Rattle.bp_log.specs.Header.{PlainHeader}
 use Rattle.bp_log.specs.declared.verdict.Verdict.{Verdict}
 use Rattle.bp_reading.specs.Reading.{Stage}
@@ -8,7 +8,7 @@ use Rattle.bp_script.specs.Programs.{IsProgram, IsRefused}
 use Rattle.bp_follow.specs.declared.fault.ReplayFault.{ReplayFault}
 use Rattle.bp_follow.specs.declared.fault.ReplayFault.TheVariants.{Log, Differs, Program, Write, Memory}
 use Rattle.bp_follow.specs.Courses.{Course, Follows, text_in}
-use Rattle.bp_follow.specs.Endings.{EndsAt}
+use Rattle.bp_follow.specs.Endings.{EndsAt, IsAtItsEnd}
 use Rattle.bp_replay.specs.Replays.{Prints}
 
 -- with the program refused, or with memory wanting before a record was read
@@ -36,3 +36,13 @@ abbrev pub EndsBehind : PlainHeader → List ℕ →
     Option (List ℕ) → Option (List ℕ) → Result Verdict ReplayFault → Type 0
 EndsBehind header rest before after ended =
     (HasNoProgram header ended × (after ≡ before)) ⊎ ReplaysBehind header rest before after ended
+
+-- where a read failed, so much of the bytes was taken before the rest, and was replayed as a log that ends
+-- there
+pub record TakenBehind (header : PlainHeader) (bytes rest : List ℕ)
+    (before after : Option (List ℕ)) : Type 0 where
+  pub taken : List ℕ
+  pub is_front : bytes ≡ taken ++ rest
+  pub ended : Result Verdict ReplayFault
+  pub at_end : IsAtItsEnd ended
+  pub ends : EndsBehind header taken before after ended

@@ -11,7 +11,7 @@ use Rattle.bp_reading.specs.Reading.{first_stage}
 use Rattle.bp_reading.specs.Laws.{IsHeader, AreRecords, Stands}
 use Rattle.bp_reader.specs.declared.fault.LogFault.TheVariants as log
 use Rattle.bp_script.specs.Programs.{IsProgram}
-use Rattle.bp_code.specs.Code.{text_of, records_alone, text_alone}
+use Rattle.bp_code.specs.Code.{text_of}
 use Rattle.bp_follow.specs.declared.fault.ReplayFault.{ReplayFault}
 use Rattle.bp_follow.specs.declared.fault.ReplayFault.TheVariants.{Log, Differs, Program, Write, Memory}
 use Rattle.bp_replay.specs.Replays.{IsReplay}
@@ -64,13 +64,27 @@ Retells bytes text verdict =
     IsReplay bytes before after ended →
     IsTrouble ended ⊎ ((ended ≡ Ok verdict) × Appends before text after)
 
--- The log of the run of an accepted program without injectors replays to the text and the verdict of
--- that run. Of its records no more is asked than what records keep by their types.
-abbrev pub LogsOfRunsReplay : Type 0
-LogsOfRunsReplay =
-    (header : PlainHeader) (program : PlainProgram) (text : List ℕ) (verdict : Verdict) →
-    IsHeader header → header.options.injectors ≡ 0 → IsProgram header.program program →
-    AreRecords (records_alone program header.options) →
-    text_alone program header.options ≡ Some text →
-    verdict_of (records_alone program header.options) ≡ Some verdict →
-    Retells (log_text header (records_alone program header.options)) text verdict
+-- The log of a complete story of an accepted program replays to the text and the verdict of that story,
+-- whatever its injectors. Of its records no more is asked than what records keep by their types.
+abbrev pub LogsOfStoriesReplay : Type 0
+LogsOfStoriesReplay =
+    (header : PlainHeader) (program : PlainProgram) (records : List Record) (text : List ℕ)
+    (verdict : Verdict) →
+    IsHeader header → IsProgram header.program program → AreRecords records →
+    text_of program header.options records ≡ Some text → verdict_of records ≡ Some verdict →
+    Retells (log_text header records) text verdict
+
+-- what was printed each time is one text
+abbrev pub PrintOne : Option (List ℕ) → Option (List ℕ) →
+    Option (List ℕ) → Option (List ℕ) → Type 0
+PrintOne before after other later =
+    (text : List ℕ) × Appends before text after × Appends other text later
+
+-- Two replays of the same bytes end in the same way and print the same text, unless reading or writing
+-- failed or memory was wanting.
+abbrev pub OneEnding : Type 0
+OneEnding =
+    (bytes : List ℕ) (before after other later : Option (List ℕ))
+    (x y : Result Verdict ReplayFault) →
+    IsReplay bytes before after x → IsReplay bytes other later y →
+    IsTrouble x ⊎ (IsTrouble y ⊎ ((x ≡ y) × PrintOne before after other later))

@@ -1,5 +1,5 @@
 -- What a replay of the bytes of a log prints, and how it ends.
-use Rattle.std.specs.Prelude.{◌≡◌, ◌⊎◌, ℕ, List, Option, Result, Ok, Err}
+use Rattle.std.specs.Prelude.{◌≡◌, ◌⊎◌, ℕ, List, ◌++◌, Option, Result, Ok, Err}
 use Rattle.bp_base.specs.Pieces.{Appends, AppendsFront}
 use Rattle.bp_log.specs.Header.{PlainHeader}
 use Rattle.bp_log.specs.declared.verdict.Verdict.{Verdict}
@@ -11,7 +11,7 @@ use Rattle.bp_script.specs.Programs.{IsProgram, IsRefused}
 use Rattle.bp_follow.specs.declared.fault.ReplayFault.{ReplayFault}
 use Rattle.bp_follow.specs.declared.fault.ReplayFault.TheVariants.{Log, Differs, Program, Write, Memory}
 use Rattle.bp_follow.specs.Courses.{Course, Follows, text_in}
-use Rattle.bp_follow.specs.Endings.{EndsAt}
+use Rattle.bp_follow.specs.Endings.{EndsAt, IsAtItsEnd}
 
 -- the bytes are a header, whose program and options are those of the course, and the rest
 pub record Heads (bytes : List ℕ) (c : Course) (rest : List ℕ) : Type 0 where
@@ -58,3 +58,12 @@ HasNoRun bytes (Err Memory) = Unit {0}
 abbrev pub IsReplay : List ℕ → Option (List ℕ) → Option (List ℕ) → Result Verdict ReplayFault → Type 0
 IsReplay bytes before after ended =
     (HasNoRun bytes ended × (after ≡ before)) ⊎ Replays bytes before after ended
+
+-- Where a read failed, so much of the bytes was taken before the rest, and what was printed is what a replay
+-- of a log prints that ends there: it is cut, or it is whole.
+pub record ReplaysTaken (bytes rest : List ℕ) (before after : Option (List ℕ)) : Type 0 where
+  pub taken : List ℕ
+  pub is_front : bytes ≡ taken ++ rest
+  pub ended : Result Verdict ReplayFault
+  pub at_end : IsAtItsEnd ended
+  pub replays : IsReplay taken before after ended

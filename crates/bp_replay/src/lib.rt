@@ -5,5 +5,5 @@ mod laws;
 mod replaying;
 
 pub use bp_follow::ReplayFault;
-pub use laws::{logs_of_runs_replay, replays_tell_the_run};
+pub use laws::{logs_of_stories_replay, one_ending, replays_tell_the_run};
 pub use replaying::{Replayed, replay};

@@ -3,15 +3,16 @@ ghost use Rattle.std.specs.Prelude.{◌≡◌, ◌≤◌, None, IfSome, IsErrOf}
 ghost use Rattle.bp_base.specs.Counts.{Rose};
 ghost use Rattle.bp_reading.specs.Reading.{first_stage};
 ghost use Rattle.bp_reader.specs.declared.fault.LogFault.TheVariants as log_fault;
-ghost use Rattle.bp_replay.specs.Replays.{IsReplay};
-ghost use Rattle.bp_replay.specs.Behind.{EndsBehind};
+ghost use Rattle.bp_reader.specs.Fed.{Between};
+ghost use Rattle.bp_replay.specs.Replays.{IsReplay, ReplaysTaken};
+ghost use Rattle.bp_replay.specs.Behind.{EndsBehind, TakenBehind};
 
 use bp_base::{Sink, Source};
 use bp_follow::{ReplayFault, replay_onto};
 use bp_log::{Header, Verdict};
 use bp_reader::Reader;
 use bp_script::{ScriptFault, accept};
-use bp_serve::Page;
+use bp_told::Page;
 use std::alloc::Global;
 
 /// What came of a replay.
@@ -34,12 +35,18 @@ fn replay_records<S: Source, K: Sink>(
     requires stage { reader.old.stage ≡ first_stage header.now.options.injectors }
     ensures ends { IfSome reader.old.left (λ rest. EndsBehind header.now rest
         (K.written out.old) (K.written out.new) result) }
+    ensures failed { IsErrOf result (ReplayFault.Log log_fault.Read)
+        → Between reader.old.left reader.new.left (λ bytes rest. TakenBehind header.now bytes rest
+        (K.written out.old) (K.written out.new)) }
+    ensures empty { IsErrOf result (ReplayFault.Log log_fault.Read)
+        → reader.new.left ≡ reader.new.source }
     ensures read { IsErrOf result (ReplayFault.Log log_fault.Read)
         → Rose reader.old.faults reader.new.faults }
     ensures write { IsErrOf result ReplayFault.Write
         → Rose (K.faults out.old) (K.faults out.new) }
     ensures read_counts { reader.old.faults ≤ reader.new.faults }
     ensures write_counts { K.faults out.old ≤ K.faults out.new }
+    ensures named { K.made_as out.new ≡ K.made_as out.old }
 {
     let program = match accept(alloc, header.program()) {
         Ok(program) => program,
@@ -59,12 +66,17 @@ fn replay_records<S: Source, K: Sink>(
 ///
 /// `Log` exactly where the bytes are no log at that place, `Program` exactly where its program is
 /// refused, and `Differs` exactly at the first record that the run does not make. Before the last
-/// two and the first the text of the records before was printed, and before `Write` and `Memory` a
-/// front of such a text.
+/// two and the first the text of the records before was printed, also where the log could not be
+/// read on, and before `Write` and `Memory` a front of such a text.
 pub fn replay<S: Source, K: Sink>(alloc: Global, log: S, out: &mut K) -> Replayed<S>
     // Of a source that tells its bytes: the answer and what was printed are those of these bytes.
     ensures ends { IfSome (S.left log)
         (λ bytes. IsReplay bytes (K.written out.old) (K.written out.new) result.ended) }
+
+    // Where reading failed: what was printed is what a log of the bytes that were taken says.
+    ensures failed { IsErrOf result.ended (ReplayFault.Log log_fault.Read)
+        → Between (S.left log) (S.left result.log) (λ bytes rest. ReplaysTaken bytes rest
+        (K.written out.old) (K.written out.new)) }
 
     ensures read { IsErrOf result.ended (ReplayFault.Log log_fault.Read)
         → Rose (S.faults log) (S.faults result.log) }
@@ -72,6 +84,7 @@ pub fn replay<S: Source, K: Sink>(alloc: Global, log: S, out: &mut K) -> Replaye
         → Rose (K.faults out.old) (K.faults out.new) }
     ensures read_counts { S.faults log ≤ S.faults result.log }
     ensures write_counts { K.faults out.old ≤ K.faults out.new }
+    ensures named { K.made_as out.new ≡ K.made_as out.old }
 {
     match Reader::open(alloc, log) {
         Err(refused) => Replayed {

@@ -1,9 +1,2 @@
-pub mod Pieces
-pub mod Logging
-pub mod Slices
 pub mod Way
-pub mod Verdicts
-pub mod Turned
-pub mod Order
-pub mod Beside
-pub mod Measure
+pub mod Telling

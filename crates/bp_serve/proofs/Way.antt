@@ -1,8 +1,7 @@
 -- A run on its way to its end.
-use Rattle.std.proofs.Common.{◌≡◌, ℕ, zero, suc, ◌+◌, ◌-◌, ◌<◌, ◌≤◌, true, List, [], ◌∷◌, ◌++◌, length, take, drop, refl, ap, sym, ◌∙◌, subst, append_assoc, append-nil, length-append, arith, Option, Some, None, Ok, Err, option_map, IsSomeAnd}
+use Rattle.std.proofs.Common.{◌≡◌, ℕ, zero, suc, ◌+◌, ◌-◌, ◌<◌, ◌≤◌, true, List, [], ◌∷◌, ◌++◌, length, take, drop, refl, ap, sym, ◌∙◌, subst, append_assoc, append-nil, length-append, arith, ◌⊎◌, inl, inr, false, Option, Some, None, Ok, Err, option_map, IsSomeAnd}
 use Rattle.std.specs.Prelude.{option_to_list, Result, OnOk, OnErr}
 use Rattle.std.proofs.lemmas.List.{length_push}
-use Rattle.js_data.proofs.Shared.{one_answer}
 use Rattle.js_value.specs.Value.{PlainSet}
 use Rattle.js_meaning.specs.State.{Ground}
 use Rattle.js_meaning.specs.Bodies.{Origin}
@@ -20,7 +19,7 @@ use Rattle.bp_run.specs.Choosing.{Choice, Touched}
 use Rattle.bp_run.specs.Story.{Next, next, move, record_of, after_next, story, story_from, alone_from, alone}
 use Rattle.bp_run.specs.Story.Next.{Ends, Selects, Waits}
 use Rattle.bp_run.specs.Text.{text}
-use Rattle.bp_run.proofs.Stories.{alone_is, alone_on, text_prefix, move_transitions, selects_steps, waits_not, initial_transitions, initial_reading, goes_on}
+use Rattle.bp_run.proofs.Stories.{alone_on, move_transitions, selects_steps, waits_not, verdict_next, initial_transitions, initial_reading, goes_on}
 use Rattle.bp_thread.specs.declared.job.Job.{Job}
 use Rattle.bp_thread.specs.Carried.{AreCarriedOut}
 use Rattle.bp_floor.specs.declared.phase.Phase.{Phase}
@@ -31,19 +30,17 @@ use Rattle.bp_arbiter.specs.declared.picked.Picked.{Picked}
 use Rattle.bp_code.specs.Code as bp_code
 use Rattle.bp_code.specs.Code.{text_alone, records_alone}
 use Rattle.js_program.specs.PlainProgram.{PlainProgram}
-use Rattle.bp_arbiter.specs.Arbiters.{PlainArbiter, opened, code_in, options_in, stand_in, Recounts, coming, StandsFor, Tells}
+use Rattle.bp_arbiter.specs.Arbiters.{PlainArbiter, opened, code_in, options_in, stand_in, Recounts, coming, StandsFor, Tells, StandsSomewhere, is_lent, is_over}
 use Rattle.bp_arbiter.specs.Lending.{AllCanRun}
 use Rattle.bp_arbiter.specs.Picking.{picked_of, after_pick, moved_phase, phase_after}
 use Rattle.bp_arbiter.specs.Sealing.{ending, after_turn}
-use Rattle.bp_base.specs.Pieces.{Appends, AppendsFront}
 use Rattle.bp_serve.specs.Ends.{verdict_alone}
-use Rattle.bp_serve.specs.Pages.{Shows, ShowsFront}
-use Rattle.bp_serve.specs.Serving.{Ahead, OnTheWay, Underway, KeepsUnderway, Begins, TakesLines}
-use Rattle.bp_log.specs.Logs.{records_text}
+use Rattle.bp_told.specs.Told.{ComesOf}
+use Rattle.bp_turns.specs.Turning.{GoesOn, Closes, Settles}
+use Rattle.bp_turns.proofs.Arbiters.{same_code, recounts_at, recounts_in, coming_at}
+use Rattle.bp_serve.specs.Serving.{Ahead, OnTheWay, Underway, TakesLines}
 use Rattle.bp_log.proofs.Complete.{complete_by_last}
-use Rattle.bp_serve.specs.Logging.{LogShows, LogShowsFront}
-use Rattle.bp_serve.proofs.Logging.{log_more_on, log_more_front}
-use Rattle.bp_serve.proofs.Pieces.{records_kept, records_later, lines_text-append, lines_none, let_go, shows_page, shows_on, front_on, written_all, written_front, written_part, written_front_part}
+use Rattle.bp_told.proofs.Pieces.{lines_text-append}
 
 -- ---- the records
 
@@ -111,39 +108,11 @@ picked_more l o rs c (Ends v) a h = length_push rs (End v)
 picked_more l o rs c (Selects ch r) a h = length_push rs (Sel ch.event)
 picked_more l o rs c Waits a h = absurd (waits_not l o c a.reading h)
 
--- a turn goes on with it, or ends it
-sealed_way : (l : Code Origin PlainSet) (o : PlainOptions) (rs : List Record) (c : Configuration Origin) (v : Option Verdict) (ns : List (Entry Origin)) → Ahead l o rs c →
-    ((w : Verdict) → v ≡ Some w → next l o c ≡ Ends w) → OnTheWay l o (phase_at v ns) (rs ++ ending v)
-sealed_way l o rs c None [] a h = (c, subst (λ (es : List Record). Ahead l o es c) (sym (append-nil rs)) a)
-sealed_way l o rs c None (n ∷ ns) a h = (c, subst (λ (es : List Record). Ahead l o es c) (sym (append-nil rs)) a)
-sealed_way l o rs c (Some w) ns a h = ends_at l o rs c w a (h w refl)
-
 -- ---- the text
 
 pub text_at : (l : Code Origin PlainSet) (o : PlainOptions) (rs : List Record) (c : Configuration Origin) → story l o rs ≡ Some c → text l o rs ≡ Some (lines_text c.stand.lines)
 unfolding text
 text_at l o rs c h = ap (λ (x : Option (Configuration Origin)). option_map (λ y. lines_text y.stand.lines) x) h
-
-pub begins_none : (l : Code Origin PlainSet) (o : PlainOptions) → o.injectors ≡ 0 → Begins l o []
-begins_none l o i =
-    let a = alone_is l o i in
-    record {
-      rest = lines_text (a.0).stand.lines;
-      text_is = text_at l o (alone l o) a.0 a.1 ∙ ap (λ (x : List ℕ). Some (x ++ lines_text (a.0).stand.lines)) (sym lines_none);
-    }
-
-begins_told : (l : Code Origin PlainSet) (o : PlainOptions) (rs later : List Record) (told : Configuration Origin) (lines more : List Line) → o.injectors ≡ 0 →
-    rs ++ later ≡ alone l o → story l o rs ≡ Some told → told.stand.lines ≡ lines ++ more → Begins l o lines
-begins_told l o rs later told lines more i e h k =
-    let a = alone_is l o i in
-    let whole : text l o (rs ++ later) ≡ Some (lines_text (a.0).stand.lines) = ap (λ (es : List Record). text l o es) e ∙ text_at l o (alone l o) a.0 a.1 in
-    let p = text_prefix l o rs later (lines_text (a.0).stand.lines) whole in
-    let front : p.0 ≡ lines_text told.stand.lines = one_answer (text l o rs) p.0 (lines_text told.stand.lines) p.2 (text_at l o rs told h) in
-    record {
-      rest = lines_text more ++ p.1;
-      text_is = text_at l o (alone l o) a.0 a.1
-          ∙ ap (λ (t : List ℕ). Some t) (p.3 ∙ ap (λ (t : List ℕ). t ++ p.1) (front ∙ ap (λ (ls : List Line). lines_text ls) k ∙ lines_text-append lines more) ∙ append_assoc (lines_text lines) (lines_text more) p.1);
-    }
 
 -- what is to come
 pub record Later (l : Code Origin PlainSet) (o : PlainOptions) (rs : List Record) : Type 0 where
@@ -158,26 +127,8 @@ later_on l o Over rs w = record { later = []; whole = append-nil rs ∙ w }
 
 -- ---- the arbiter
 
-pub same_code : (a b : PlainArbiter) → b.floor.base.program ≡ a.floor.base.program → options_in b ≡ options_in a → code_in b ≡ code_in a
-same_code a b p q = λ i. code_of (p i) (q i)
-
-pub recounts_at : (l : Code Origin PlainSet) (o : PlainOptions) (a : PlainArbiter) (c : Configuration Origin) → code_in a ≡ l → options_in a ≡ o → Recounts a c → story l o a.records ≡ Some c
-recounts_at l o a c e f h = subst (λ (x : PlainOptions). story l x a.records ≡ Some c) f (subst (λ (x : Code Origin PlainSet). story x (options_in a) a.records ≡ Some c) e h)
-
-pub recounts_in : (l : Code Origin PlainSet) (o : PlainOptions) (a : PlainArbiter) (c : Configuration Origin) → code_in a ≡ l → options_in a ≡ o → story l o a.records ≡ Some c → Recounts a c
-recounts_in l o a c e f h = subst (λ (x : PlainOptions). story (code_in a) x a.records ≡ Some c) (sym f) (subst (λ (x : Code Origin PlainSet). story x o a.records ≡ Some c) (sym e) h)
-
-pub coming_at : (l : Code Origin PlainSet) (o : PlainOptions) (a : PlainArbiter) (c : Configuration Origin) → code_in a ≡ l → options_in a ≡ o → coming a c ≡ next l o c
-coming_at l o a c e f = λ i. next (e i) (f i) c
-
--- the lines that were taken begin the text
-pub begins_underway : (l : Code Origin PlainSet) (o : PlainOptions) (a : PlainArbiter) (taken : List Line) → o.injectors ≡ 0 → Underway l o a taken → Tells a taken → Begins l o taken
-begins_underway l o a taken i u t =
-    let later = later_on l o a.phase a.records u.way in
-    begins_told l o a.records later.later t.told taken ((stand_in a).lines ++ t.rest) i later.whole (recounts_at l o a t.told u.code u.options t.story) t.lines
-
--- and that of what was recorded
-records_underway : (l : Code Origin PlainSet) (o : PlainOptions) (a : PlainArbiter) (taken : List Line) → Underway l o a taken → Tells a taken → (rest : List ℕ) × (text l o a.records ≡ Some (lines_text taken ++ rest))
+-- the lines that were taken begin the text of what was recorded
+records_underway : (l : Code Origin PlainSet) (o : PlainOptions) (a : PlainArbiter) (taken : List Line) → Underway l o a taken → Tells a taken → ComesOf (text l o) a.records taken
 records_underway l o a taken u t = (
   lines_text ((stand_in a).lines ++ t.rest),
   text_at l o a.records t.told (recounts_at l o a t.told u.code u.options t.story)
@@ -185,14 +136,13 @@ records_underway l o a taken u t = (
 )
 
 -- and are all of it at the end
-pub whole_underway : (l : Code Origin PlainSet) (o : PlainOptions) (a : PlainArbiter) (taken : List Line) → Underway l o a taken → a.phase ≡ Over →
-    ((c : Configuration Origin) → Recounts a c → c.stand.lines ≡ taken ++ (stand_in a).lines) → (stand_in a).lines ≡ [] → text l o (alone l o) ≡ Some (lines_text taken)
-whole_underway l o a taken u e x n =
+whole_underway : (l : Code Origin PlainSet) (o : PlainOptions) (a : PlainArbiter) (taken : List Line) → Underway l o a taken →
+    ((c : Configuration Origin) → Recounts a c → c.stand.lines ≡ taken ++ (stand_in a).lines) → (stand_in a).lines ≡ [] → text l o a.records ≡ Some (lines_text taken)
+whole_underway l o a taken u x n =
     let s = u.stands in
     let c = s.told in
-    let w : OnTheWay l o Over a.records = subst (λ (f : Phase). OnTheWay l o f a.records) e u.way in
     let lines : c.stand.lines ≡ taken = x c s.story ∙ ap (λ (ls : List Line). taken ++ ls) n ∙ append-nil taken in
-    sym (ap (λ (es : List Record). text l o es) w) ∙ text_at l o a.records c (recounts_at l o a c u.code u.options s.story) ∙ ap (λ (ls : List Line). Some (lines_text ls)) lines
+    text_at l o a.records c (recounts_at l o a c u.code u.options s.story) ∙ ap (λ (ls : List Line). Some (lines_text ls)) lines
 
 -- nothing is recorded after the end
 pub recorded_all : (l : Code Origin PlainSet) (o : PlainOptions) (a : PlainArbiter) (taken : List Line) → Underway l o a taken → a.phase ≡ Over → a.records ≡ alone l o
@@ -238,12 +188,11 @@ at_rest l o a taken u h k = (rests l o a.phase a.records u.way h k).0
 ahead_at_rest : (l : Code Origin PlainSet) (o : PlainOptions) (a : PlainArbiter) (taken : List Line) → Underway l o a taken → a.phase ≡ Rest → (c : Configuration Origin) × Ahead l o a.records c
 ahead_at_rest l o a taken u e = let w : OnTheWay l o Rest a.records = subst (λ (f : Phase). OnTheWay l o f a.records) e u.way in w
 
-ahead_ready : (l : Code Origin PlainSet) (o : PlainOptions) (a : PlainArbiter) (taken : List Line) → Underway l o a taken → a.phase ≡ Ready → (c : Configuration Origin) × Ahead l o a.records c
-ahead_ready l o a taken u e = let w : OnTheWay l o Ready a.records = subst (λ (f : Phase). OnTheWay l o f a.records) e u.way in w
-
 -- what comes next is picked
 pub record Picks (l : Code Origin PlainSet) (o : PlainOptions) (old new : PlainArbiter) (taken : List Line) : Type 0 where
   pub underway : Underway l o new taken
+  pub added : List Record
+  pub records : old.records ++ added ≡ new.records
   pub more : length new.records ≡ length old.records + 1
 
 pub underway_picked : (l : Code Origin PlainSet) (o : PlainOptions) (old new : PlainArbiter) (taken : List Line) (k : Picked) → Underway l o old taken → old.phase ≡ Rest →
@@ -268,33 +217,9 @@ underway_picked l o old new taken k u e kp rec st ph b q =
         way = subst (λ (f : Phase). OnTheWay l o f new.records) (sym phase)
             (subst (λ (es : List Record). OnTheWay l o (phase_after (picked_of x) new.floor.pair.entries) es) (sym records) (picked_way l o old.records c new.floor.pair.entries x a.1 refl));
       };
+      added = option_to_list (record_of x);
+      records = sym records;
       more = ap (λ (es : List Record). length es) records ∙ picked_more l o old.records c x a.1 refl;
-    }
-
--- the lent jobs are sealed
-pub underway_sealed : (l : Code Origin PlainSet) (o : PlainOptions) (old mid new : PlainArbiter) (taken : List Line) (jobs after : List Job) → Underway l o old taken → old.phase ≡ Ready →
-    ((t : List Line) (p : Pair Origin) → StandsFor old [] t p → StandsFor mid jobs t p) → mid.records ≡ old.records → mid.floor.base ≡ old.floor.base → options_in mid ≡ options_in old →
-    AreCarriedOut mid.floor.base (options_in mid).budget jobs after →
-    ((lent : List Job) (t : List Line) (p : Pair Origin) → StandsFor mid lent t p → AreCarriedOut mid.floor.base (options_in mid).budget lent after → StandsFor new [] t (after_turn (code_in mid) p)) →
-    new.phase ≡ phase_of new.floor.pair → new.records ≡ mid.records ++ ending (stand_in new).verdict →
-    ((c : Configuration Origin) → Recounts mid c → (v : Verdict) → (stand_in new).verdict ≡ Some v → coming mid c ≡ Ends v) →
-    new.floor.base.program ≡ mid.floor.base.program → options_in new ≡ options_in mid → Underway l o new taken
-underway_sealed l o old mid new taken jobs after u e lend rec b q carried seal ph recorded over p q' =
-    let a = ahead_ready l o old taken u e in
-    let c = a.0 in
-    let code : code_in mid ≡ l = same_code old mid (ap (λ y. y.program) b) q ∙ u.code in
-    let options : options_in mid ≡ o = q ∙ u.options in
-    let told : Recounts mid c = recounts_in l o mid c code options (ap (λ (es : List Record). story l o es) rec ∙ (a.1).story_is) in
-    let v = (stand_in new).verdict in
-    let ends : (w : Verdict) → v ≡ Some w → next l o c ≡ Ends w = λ w h. sym (coming_at l o mid c code options) ∙ over c told w h in
-    let records : new.records ≡ old.records ++ ending v = recorded ∙ ap (λ (es : List Record). es ++ ending v) rec in
-    record {
-      code = same_code mid new p q' ∙ code;
-      options = q' ∙ options;
-      pair = after_turn (code_in mid) u.pair;
-      stands = seal jobs taken u.pair (lend taken u.pair u.stands) carried;
-      way = subst (λ (f : Phase). OnTheWay l o f new.records) (sym ph)
-          (subst (λ (es : List Record). OnTheWay l o (phase_of new.floor.pair) es) (sym records) (sealed_way l o old.records c v new.floor.pair.entries a.1 ends));
     }
 
 -- lines are taken from the arbiter, which keeps that what it was is a story
@@ -309,82 +234,70 @@ takes_lines old new lines e n b q r f s tells exact =
     λ l o taken u. subst (λ (ls : List Line). Underway l o new (taken ++ ls)) (sym e) (underway_taken l o old new taken lines u b q r f s) in
     record {
       keeps = on;
-      begins = λ l o taken i u.
-          let w = on l o taken u in
-          begins_underway l o new (taken ++ (stand_in old).lines) i w (tells [] (taken ++ (stand_in old).lines) w.pair w.stands);
       so_far = λ l o taken u.
           let w = on l o taken u in
-          subst (λ (es : List Record). (rest : List ℕ) × (text l o es ≡ Some (lines_text (taken ++ (stand_in old).lines) ++ rest))) r
+          subst (λ (es : List Record). ComesOf (text l o) es (taken ++ (stand_in old).lines)) r
           (records_underway l o new (taken ++ (stand_in old).lines) w (tells [] (taken ++ (stand_in old).lines) w.pair w.stands));
       whole = λ l o taken u h.
           let w = on l o taken u in
-          let over : new.phase ≡ Over = f ∙ h in
-          whole_underway l o new (taken ++ (stand_in old).lines) w over
-          (exact (taken ++ (stand_in old).lines) w.pair w.stands (ap (λ (x : Phase). is_idle x) over)) n;
+          subst (λ (es : List Record). text l o es ≡ Some (lines_text (taken ++ (stand_in old).lines))) r
+          (whole_underway l o new (taken ++ (stand_in old).lines) w
+          (exact (taken ++ (stand_in old).lines) w.pair w.stands (ap (λ (x : Phase). is_idle x) (f ∙ h))) n);
     }
 
--- ---- turns
+-- ---- a run that is underway
 
--- where the jobs were sealed, the run is underway
-pub turn_keeps : {E : Type 0} (r : Result Phase E) (old mid new : PlainArbiter) (jobs after : List Job) → old.phase ≡ Ready →
-    ((t : List Line) (p : Pair Origin) → StandsFor old [] t p → StandsFor mid jobs t p) → mid.records ≡ old.records → mid.floor.base ≡ old.floor.base → options_in mid ≡ options_in old →
-    AreCarriedOut mid.floor.base (options_in mid).budget jobs after →
-    OnOk r ((lent : List Job) (t : List Line) (p : Pair Origin) → StandsFor mid lent t p → AreCarriedOut mid.floor.base (options_in mid).budget lent after → StandsFor new [] t (after_turn (code_in mid) p)) →
-    OnOk r (new.phase ≡ phase_of new.floor.pair) → OnOk r (new.records ≡ mid.records ++ ending (stand_in new).verdict) →
-    OnOk r ((c : Configuration Origin) → Recounts mid c → (v : Verdict) → (stand_in new).verdict ≡ Some v → coming mid c ≡ Ends v) →
-    new.floor.base.program ≡ mid.floor.base.program → options_in new ≡ options_in mid → OnOk r (KeepsUnderway old new)
-turn_keeps (Ok f) old mid new jobs after e lend rec b q carried seal ph recorded over p q' =
-    λ l o taken u. underway_sealed l o old mid new taken jobs after u e lend rec b q carried seal ph recorded over p q'
-turn_keeps (Err x) old mid new jobs after e lend rec b q carried seal ph recorded over p q' = tt
+pub underway_somewhere : (l : Code Origin PlainSet) (o : PlainOptions) (a : PlainArbiter) (taken : List Line) → Underway l o a taken → StandsSomewhere a
+underway_somewhere l o a taken u = record { taken = taken; pair = u.pair; stands = u.stands }
 
--- no record is lost
-pub turn_records : {E : Type 0} (r : Result Phase E) (old mid new : PlainArbiter) → mid.records ≡ old.records → OnOk r (new.records ≡ mid.records ++ ending (stand_in new).verdict) →
-    OnOk r (length old.records ≤ length new.records)
-turn_records (Ok f) old mid new e h =
-    let n : length new.records ≡ length old.records + length (ending (stand_in new).verdict) =
-    ap (λ (es : List Record). length es) (h ∙ ap (λ (es : List Record). es ++ ending (stand_in new).verdict) e) ∙ length-append old.records (ending (stand_in new).verdict) in
-    omega (arith, n)
-turn_records (Err x) old mid new e h = tt
+unlent_way : (l : Code Origin PlainSet) (o : PlainOptions) (f : Phase) (rs : List Record) → OnTheWay l o f rs → is_lent f ≡ false
+unlent_way l o Ready rs w = refl
+unlent_way l o Lent rs w = absurd w
+unlent_way l o Rest rs w = refl
+unlent_way l o Over rs w = refl
 
--- a budget that was read of the floor is that of the options
-pub budget_of : (o p : PlainOptions) (f g : PlainFloor) (n : ℕ) → n ≡ o.budget → o ≡ g.options → g ≡ f → p ≡ f.options → n ≡ p.budget
-budget_of o p f g n e h k q = e ∙ ap (λ (x : PlainOptions). x.budget) (h ∙ ap (λ (x : PlainFloor). x.options) k ∙ sym q)
+pub underway_unlent : (l : Code Origin PlainSet) (o : PlainOptions) (a : PlainArbiter) (taken : List Line) → Underway l o a taken → is_lent a.phase ≡ false
+underway_unlent l o a taken u = unlent_way l o a.phase a.records u.way
 
--- the lent jobs are those that are to be carried out
-pub carried_at : (base ground : Ground) (budget n : ℕ) (jobs after : List Job) → ground ≡ base → n ≡ budget → AreCarriedOut ground n jobs after → AreCarriedOut base budget jobs after
-carried_at base ground budget n jobs after e f h = subst (λ (x : ℕ). AreCarriedOut base x jobs after) f (subst (λ (g : Ground). AreCarriedOut g n jobs after) e h)
+open_way : (l : Code Origin PlainSet) (o : PlainOptions) (f g : Phase) (rs : List Record) → OnTheWay l o f rs → is_over g ≡ is_over f → is_lent g ≡ false → OnTheWay l o g rs
+open_way l o Lent g rs w e h = absurd w
+open_way l o f Lent rs w e h = absurd (let x : ⊥ = cc in x)
+open_way l o Ready Ready rs w e h = w
+open_way l o Ready Rest rs w e h = w
+open_way l o Ready Over rs w e h = absurd (let x : ⊥ = cc in x)
+open_way l o Rest Ready rs w e h = w
+open_way l o Rest Rest rs w e h = w
+open_way l o Rest Over rs w e h = absurd (let x : ⊥ = cc in x)
+open_way l o Over Ready rs w e h = absurd (let x : ⊥ = cc in x)
+open_way l o Over Rest rs w e h = absurd (let x : ⊥ = cc in x)
+open_way l o Over Over rs w e h = w
 
-pub can_run_here : (base ground : Ground) (budget n : ℕ) (jobs : List Job) → ground ≡ base → n ≡ budget → AllCanRun base budget jobs → AllCanRun ground n jobs
-can_run_here base ground budget n jobs e f h = subst (λ (x : ℕ). AllCanRun ground x jobs) (sym f) (subst (λ (g : Ground). AllCanRun g budget jobs) (sym e) h)
+going_on : (l : Code Origin PlainSet) (o : PlainOptions) (f : Phase) (rs : List Record) → OnTheWay l o f rs → is_over f ≡ false → (c : Configuration Origin) × Ahead l o rs c
+going_on l o Ready rs w e = w
+going_on l o Lent rs w e = absurd w
+going_on l o Rest rs w e = w
+going_on l o Over rs w e = absurd (let x : ⊥ = cc in x)
 
--- ---- what is shown
+settled_way : (l : Code Origin PlainSet) (o : PlainOptions) (a b : PlainArbiter) (taken : List Line) → Underway l o a taken → is_lent b.phase ≡ false → GoesOn a b ⊎ Closes a b → OnTheWay l o b.phase b.records
+settled_way l o a b taken u h (inl k) = subst (λ (es : List Record). OnTheWay l o b.phase es) (sym k.0) (open_way l o a.phase b.phase a.records u.way k.1 h)
+settled_way l o a b taken u h (inr k) =
+    let c = going_on l o a.phase a.records u.way k.going in
+    let ends = verdict_next l o c.0 k.verdict (k.comes c.0 (recounts_in l o a c.0 u.code u.options (c.1).story_is)) in
+    subst (λ (f : Phase). OnTheWay l o f b.records) (sym k.over) (k.records ∙ ends_at l o a.records c.0 k.verdict c.1 ends)
 
--- nothing
-pub shows_start : (a : Option (List ℕ)) (page : List ℕ) → page ≡ [] → Shows a (lines_text []) page a
-shows_start a page e = subst (λ (t : List ℕ). Shows a t page a) (e ∙ sym lines_none) (shows_page a page)
+-- settling leaves the run underway
+pub underway_settled : (l : Code Origin PlainSet) (o : PlainOptions) (a b : PlainArbiter) (taken : List Line) → Settles a b → Underway l o a taken → Underway l o b taken
+underway_settled l o a b taken s u =
+    let w = s.stands taken (u.pair, u.stands) in
+    record {
+      code = s.code ∙ u.code;
+      options = s.options ∙ u.options;
+      pair = w.0;
+      stands = w.1;
+      way = settled_way l o a b taken u (s.unlent (underway_unlent l o a taken u)) s.recorded;
+    }
 
--- so far
-pub shows_lines : (a b c : Option (List ℕ)) (taken lines : List Line) (page next : List ℕ) → Shows a (lines_text taken) page b → Shows b (page ++ lines_text lines) next c →
-    Shows a (lines_text (taken ++ lines)) next c
-shows_lines a b c taken lines page next s t =
-    shows_on a b c (lines_text taken) page (lines_text lines) (page ++ lines_text lines) next (lines_text (taken ++ lines)) refl (lines_text-append taken lines) s t
-
--- a front of the text
-pub front_so_far : (l : Code Origin PlainSet) (o : PlainOptions) (taken : List Line) (a b : Option (List ℕ)) (page : List ℕ) → Begins l o taken → Shows a (lines_text taken) page b →
-    IsSomeAnd (text l o (alone l o)) (λ t. ShowsFront a t page b)
-front_so_far l o taken a b page h s = rw h.text_is (record { shown = lines_text taken; rest = h.rest; is_text = refl; shows = s })
-
-pub front_lines : (l : Code Origin PlainSet) (o : PlainOptions) (taken lines : List Line) (a b c : Option (List ℕ)) (page next : List ℕ) → Begins l o (taken ++ lines) →
-    Shows a (lines_text taken) page b → ShowsFront b (page ++ lines_text lines) next c → IsSomeAnd (text l o (alone l o)) (λ t. ShowsFront a t next c)
-front_lines l o taken lines a b c page next h s t =
-    let whole : lines_text (taken ++ lines) ++ h.rest ≡ lines_text taken ++ (lines_text lines ++ h.rest) =
-    ap (λ (x : List ℕ). x ++ h.rest) (lines_text-append taken lines) ∙ append_assoc (lines_text taken) (lines_text lines) h.rest in
-    rw h.text_is (front_on a b c (lines_text taken) page (lines_text lines) h.rest (page ++ lines_text lines) next (lines_text (taken ++ lines) ++ h.rest) refl whole s t)
-
--- all of it
-pub shows_all : (l : Code Origin PlainSet) (o : PlainOptions) (taken : List Line) (a b : Option (List ℕ)) (page : List ℕ) → text l o (alone l o) ≡ Some (lines_text taken) → Shows a (lines_text taken) page b →
-    IsSomeAnd (text l o (alone l o)) (λ t. Shows a t page b)
-shows_all l o taken a b page h s = rw h s
+-- ---- the end
 
 -- fewer records are to come
 pub fewer : (l : Code Origin PlainSet) (o : PlainOptions) (old mid new : PlainArbiter) (taken : List Line) → length old.records ≤ length mid.records → Picks l o mid new taken →
@@ -398,26 +311,9 @@ fewer l o old mid new taken h p =
 -- ---- before the first call
 
 -- the run of an arbiter that was opened is that of the program
-text_opened : (program : PlainProgram) (options : PlainOptions) (a : PlainArbiter) → a ≡ opened program options → text (code_in a) (options_in a) (alone (code_in a) (options_in a)) ≡ text_alone program options
-unfolding code_of
-text_opened program options a e = ap (λ (x : PlainArbiter). text (code_in x) (options_in x) (alone (code_in x) (options_in x))) e
-
 pub records_opened : (program : PlainProgram) (options : PlainOptions) (a : PlainArbiter) → a ≡ opened program options → alone (code_in a) (options_in a) ≡ records_alone program options
 unfolding code_of
 records_opened program options a e = ap (λ (x : PlainArbiter). alone (code_in x) (options_in x)) e
-
-pub front_opened : (program : PlainProgram) (options : PlainOptions) (a : PlainArbiter) → a ≡ opened program options → (b c : Option (List ℕ)) (page : List ℕ) →
-    IsSomeAnd (text (code_in a) (options_in a) (alone (code_in a) (options_in a))) (λ t. ShowsFront b t page c) → IsSomeAnd (text_alone program options) (λ t. ShowsFront b t page c)
-front_opened program options a e b c page h = subst (λ (x : Option (List ℕ)). IsSomeAnd x (λ t. ShowsFront b t page c)) (text_opened program options a e) h
-
-pub shows_opened : (program : PlainProgram) (options : PlainOptions) (a : PlainArbiter) → a ≡ opened program options → (b c : Option (List ℕ)) (page : List ℕ) →
-    IsSomeAnd (text (code_in a) (options_in a) (alone (code_in a) (options_in a))) (λ t. Shows b t page c) → IsSomeAnd (text_alone program options) (λ t. Shows b t page c)
-shows_opened program options a e b c page h = subst (λ (x : Option (List ℕ)). IsSomeAnd x (λ t. Shows b t page c)) (text_opened program options a e) h
-
--- a text that is shown is a front of itself
-pub front_all : (b c : Option (List ℕ)) (page : List ℕ) (x : Option (List ℕ)) → IsSomeAnd x (λ t. Shows b t page c) → IsSomeAnd x (λ t. ShowsFront b t page c)
-front_all b c page None h = absurd h
-front_all b c page (Some t) h = record { shown = t; rest = []; is_text = sym (append-nil t); shows = h }
 
 -- its verdict is that of the last record
 pub verdict_opened : (program : PlainProgram) (options : PlainOptions) (a : PlainArbiter) (rs : List Record) (v : Verdict) → a ≡ opened program options → rs ≡ alone (code_in a) (options_in a) →
@@ -430,51 +326,3 @@ injectors_opened program options a e i = ap (λ (x : PlainArbiter). (options_in 
 pub underway_opened : (program : PlainProgram) (options : PlainOptions) (a : PlainArbiter) → a ≡ opened program options → options.injectors ≡ 0 → StandsFor a [] [] opening → Underway (code_in a) (options_in a) a []
 underway_opened program options a e i s =
     underway_first a opening (ap (λ (x : PlainArbiter). x.records) e) (ap (λ (x : PlainArbiter). x.phase) e) (injectors_opened program options a e i) s
-
-pub front_alone : (program : PlainProgram) (options : PlainOptions) (a : Option (List ℕ)) (page : List ℕ) → options.injectors ≡ 0 → page ≡ [] → IsSomeAnd (text_alone program options) (λ t. ShowsFront a t page a)
-front_alone program options a page i e =
-    let l = bp_code.code_of program options in
-    front_so_far l options [] a a page (begins_none l options i) (shows_start a page e)
-
--- ---- what was written in the end
-
-pub written_anyway : {T E : Type 0} (r : Result T E) (x : Option (List ℕ)) (a b c : Option (List ℕ)) (page : List ℕ) → OnOk r (IsSomeAnd x (λ t. Shows a t page b)) → OnErr r (IsSomeAnd x (λ t. ShowsFront a t page b)) →
-    AppendsFront b page c → IsSomeAnd x (λ t. AppendsFront a t c)
-written_anyway (Ok v) None a b c page h k w = absurd h
-written_anyway (Ok v) (Some t) a b c page h k w = written_part a b c t page h w
-written_anyway (Err e) None a b c page h k w = absurd k
-written_anyway (Err e) (Some t) a b c page h k w = written_front_part a b c t page k w
-
-pub written_whole : {T E : Type 0} (r : Result T E) (x : Option (List ℕ)) (a b c : Option (List ℕ)) (page : List ℕ) → OnOk r (IsSomeAnd x (λ t. Shows a t page b)) → Appends b page c → OnOk r (IsSomeAnd x (λ t. Appends a t c))
-written_whole (Ok v) None a b c page h w = absurd h
-written_whole (Ok v) (Some t) a b c page h w = written_all a b c t page h w
-written_whole (Err e) x a b c page h w = tt
-
-pub written_still : {T E : Type 0} (r : Result T E) (x : Option (List ℕ)) (a b c : Option (List ℕ)) (page : List ℕ) → OnErr r (IsSomeAnd x (λ t. ShowsFront a t page b)) → Appends b page c → OnErr r (IsSomeAnd x (λ t. AppendsFront a t c))
-written_still (Ok v) x a b c page h w = tt
-written_still (Err e) None a b c page h w = absurd h
-written_still (Err e) (Some t) a b c page h w = written_front a b c t page h w
-
--- what waits is let go
-pub unprinted : (x : Option (List ℕ)) (a b : Option (List ℕ)) (page : List ℕ) → IsSomeAnd x (λ t. ShowsFront a t page b) → IsSomeAnd x (λ t. AppendsFront a t b)
-unprinted None a b page h = absurd h
-unprinted (Some t) a b page h = let_go a b t page h
-
--- ---- the log
-
--- what was recorded of the run stands in its log, and the rest is to come
-pub log_told : {L : Type 0} (written : L → Option (List ℕ)) (l : Code Origin PlainSet) (o : PlainOptions) (a : PlainArbiter) (taken : List Line) → Underway l o a taken → (k : ℕ) → k ≤ length a.records →
-    (base page next : List ℕ) (x y z : Option L) → LogShows written x (base ++ records_text (take k (alone l o))) page y → LogShows written y (page ++ records_text (drop k a.records)) next z →
-    LogShows written x (base ++ records_text (take (length a.records) (alone l o))) next z
-log_told written l o a taken u k h base page next x y z s t =
-    let w = later_on l o a.phase a.records u.way in
-    log_more_on written x y z (base ++ records_text (take k (alone l o))) page (records_text (drop k a.records)) next (base ++ records_text (take (length a.records) (alone l o)))
-    (records_kept base a.records w.later (alone l o) k w.whole h) s t
-
-pub log_front_told : {L : Type 0} (written : L → Option (List ℕ)) (l : Code Origin PlainSet) (o : PlainOptions) (a : PlainArbiter) (taken : List Line) → Underway l o a taken → (k : ℕ) → k ≤ length a.records →
-    (base page next : List ℕ) (x y z : Option L) → LogShows written x (base ++ records_text (take k (alone l o))) page y → LogShowsFront written y (page ++ records_text (drop k a.records)) next z →
-    LogShowsFront written x (base ++ records_text (alone l o)) next z
-log_front_told written l o a taken u k h base page next x y z s t =
-    let w = later_on l o a.phase a.records u.way in
-    log_more_front written x y z (base ++ records_text (take k (alone l o))) page (records_text (drop k a.records)) (records_text w.later) next (base ++ records_text (alone l o))
-    (records_later base a.records w.later (alone l o) k w.whole h) s t

@@ -1,6 +1,2 @@
 pub mod Ends
-pub mod Pages
-pub mod Logging
 pub mod Serving
-pub mod Order
-pub mod Turning

@@ -14,14 +14,17 @@ use Rattle.bp_run.specs.Story.{story, alone_from, alone}
 use Rattle.bp_run.specs.Text.{text}
 use Rattle.bp_floor.specs.declared.phase.Phase.{Phase}
 use Rattle.bp_floor.specs.declared.phase.Phase.TheVariants.{Ready, Lent, Rest, Over}
+use Rattle.bp_told.specs.Order.{Texts}
+use Rattle.bp_told.specs.Told.{Given, Waiting, ComesOf, IsTold, IsBroken}
+use Rattle.bp_told.specs.declared.fault.RunFault.{RunFault}
 use Rattle.bp_arbiter.specs.Arbiters.{PlainArbiter, code_in, options_in, stand_in, StandsFor}
 
--- the records of its run without injectors, and their text
+-- the records of its run without injectors, and the text of records
 abbrev pub records_in : PlainArbiter → List Record
 records_in a = alone (code_in a) (options_in a)
 
-abbrev pub text_in : PlainArbiter → Option (List ℕ)
-text_in a = text (code_in a) (options_in a) (records_in a)
+abbrev pub text_in : PlainArbiter → Texts
+text_in a records = text (code_in a) (options_in a) records
 
 -- the records lead to c, and the run without injectors goes on from there
 pub record Ahead (l : Code Origin PlainSet) (o : PlainOptions) (records : List Record)
@@ -51,27 +54,35 @@ pub record Underway (l : Code Origin PlainSet) (o : PlainOptions) (a : PlainArbi
   pub stands : StandsFor a [] taken pair
   pub way : OnTheWay l o a.phase a.records
 
--- the same run is served, and no line was taken
-abbrev pub KeepsUnderway : PlainArbiter → PlainArbiter → Type 0
-KeepsUnderway old new =
-    (l : Code Origin PlainSet) (o : PlainOptions) (taken : List Line)
-    → Underway l o old taken → Underway l o new taken
-
--- the text of the run begins with that of these lines
-pub record Begins (l : Code Origin PlainSet) (o : PlainOptions) (lines : List Line) : Type 0 where
-  pub rest : List ℕ
-  pub text_is : text l o (alone l o) ≡ Some (lines_text lines ++ rest)
-
--- After the lines of this arbiter were taken the same run is served; its text begins with all that
--- was taken, as does that of the records so far, and at the end is no more than that.
+-- After the lines of this arbiter were taken the same run is served; the text of the records so far
+-- begins with all that was taken, and at the end is no more than that.
 pub record TakesLines (old new : PlainArbiter) : Type 0 where
   pub keeps : (l : Code Origin PlainSet) (o : PlainOptions) (taken : List Line)
       → Underway l o old taken → Underway l o new (taken ++ (stand_in old).lines)
-  pub begins : (l : Code Origin PlainSet) (o : PlainOptions) (taken : List Line) → o.injectors ≡ 0
-      → Underway l o old taken → Begins l o (taken ++ (stand_in old).lines)
   pub so_far : (l : Code Origin PlainSet) (o : PlainOptions) (taken : List Line)
-      → Underway l o old taken → (rest : List ℕ)
-      × (text l o old.records ≡ Some (lines_text (taken ++ (stand_in old).lines) ++ rest))
+      → Underway l o old taken → ComesOf (text l o) old.records (taken ++ (stand_in old).lines)
   pub whole : (l : Code Origin PlainSet) (o : PlainOptions) (taken : List Line)
       → Underway l o old taken → old.phase ≡ Over
-      → text l o (alone l o) ≡ Some (lines_text (taken ++ (stand_in old).lines))
+      → text l o old.records ≡ Some (lines_text (taken ++ (stand_in old).lines))
+
+-- where nothing was told before, these records and lines were told
+abbrev pub TellsTo : {L : Type 0} → (L → Option (List ℕ)) → Texts → Given L → Waiting → Given L → Waiting →
+    List Record → List Line → Type 0
+TellsTo written text old before new after records lines =
+    (head : List ℕ) (first : Given _) → IsTold _ written text head first old before [] []
+    → IsTold _ written text head first new after records lines
+
+-- a run of these records was told to its end
+abbrev pub TellsWhole : {L : Type 0} → (L → Option (List ℕ)) → Texts → List Record →
+    Given L → Waiting → Given L → Waiting → Type 0
+TellsWhole written text all old before new after =
+    (lines : List Line) × (text all ≡ Some (lines_text lines))
+    × TellsTo written text old before new after all lines
+
+-- or telling it broke off at the first of them
+abbrev pub TellsFront : {L : Type 0} → (L → Option (List ℕ)) → Texts → List Record →
+    Given L → Waiting → Given L → Waiting → RunFault → Type 0
+TellsFront written text all old before new after fault =
+    (head : List ℕ) (first : Given _) → IsTold _ written text head first old before [] []
+    → (records : List Record) × (later : List Record) × (lines : List Line)
+    × (records ++ later ≡ all) × IsBroken _ written text head first new after records lines fault

@@ -1,20 +1,21 @@
 //! A program, run to its end, printed, and kept in a log.
-ghost use Rattle.std.specs.Prelude.{◌≡◌, ◌<◌, ◌≤◌, ◌++◌, [], Some, IfOk, OnOk, OnErr, IsErrOf, IsSomeAnd};
+ghost use Rattle.std.specs.Prelude.{◌≡◌, ◌≤◌, Some, IfOk, IfErr, OnOk, OnErr, IsErrOf, IsSomeAnd};
 ghost use Rattle.bp_base.specs.Counts.{Rose};
 ghost use Rattle.bp_base.specs.Pieces.{Appends, AppendsFront};
-ghost use Rattle.bp_code.specs.Code.{code_of, records_alone, text_alone};
-ghost use Rattle.bp_log.specs.Logs.{header_text, records_text, log_text};
+ghost use Rattle.bp_code.specs.Code.{text_of, records_alone, text_alone};
+ghost use Rattle.bp_log.specs.Logs.{header_text, log_text};
+ghost use Rattle.bp_told.specs.Logging.{LogGets, LogGetsFront, LogFails, LogStays};
+ghost use Rattle.bp_told.specs.Order.{PrintsBehind};
+ghost use Rattle.bp_told.specs.Told.{given};
 ghost use Rattle.bp_serve.specs.Ends.{verdict_alone};
-ghost use Rattle.bp_serve.specs.Logging.{LogGets, LogGetsFront, LogShows, LogShowsFront, LogFails, LogStays};
-ghost use Rattle.bp_serve.specs.Order.{TellsBehind, PrintsBehind};
-ghost use Rattle.bp_serve.specs.Pages.{Shows, ShowsFront};
+ghost use Rattle.bp_serve.specs.Serving.{TellsWhole, TellsFront};
 
+use crate::Report;
 use crate::serving::serve;
-use crate::telling::Telling;
-use crate::{Report, RunFault};
 use bp_arbiter::Arbiter;
 use bp_base::Sink;
 use bp_log::{Beside, Header, Options};
+use bp_told::{RunFault, Telling};
 use js_program::Program;
 use std::alloc::Global;
 use std::sync::Wait;
@@ -32,26 +33,17 @@ fn run_onto<R: Threads + Wait + Sync, K: Sink, L: Sink>(
     log: &mut Option<L>,
 ) -> Result<Report, RunFault>
     requires alone { options.injectors ≡ 0 }
-    requires lines { telling.old.lines ≡ [] }
     requires kept { telling.old.kept ≡ 0 }
-    ensures shows { OnOk result (IsSomeAnd (text_alone program options)
-        (λ text. Shows (K.written out.old) text telling.new.lines (K.written out.new))) }
-    ensures front { OnErr result (IsSomeAnd (text_alone program options)
-        (λ text. ShowsFront (K.written out.old) text telling.new.lines (K.written out.new))) }
+    ensures tells { let all = records_alone program options in
+        OnOk result (TellsWhole L.written (text_of program options) all
+        (given K.written out.old log.old) telling.old
+        (given K.written out.new log.new) telling.new) }
+    ensures breaks { let all = records_alone program options in
+        IfErr result (TellsFront L.written (text_of program options) all
+        (given K.written out.old log.old) telling.old
+        (given K.written out.new log.new) telling.new) }
     ensures verdict { IfOk result (λ r. verdict_alone program options ≡ Some r.verdict) }
     ensures records { IfOk result (λ r. r.records ≡ records_alone program options) }
-    ensures log_shows { let more = records_text (records_alone program options) in
-        let text = telling.old.records ++ more in
-        OnOk result (LogShows L.written log.old text telling.new.records log.new) }
-    ensures log_front { let more = records_text (records_alone program options) in
-        let text = telling.old.records ++ more in
-        OnErr result (LogShowsFront L.written log.old text telling.new.records log.new) }
-    ensures behind { PrintsBehind L.written (code_of program options) options telling.old.records
-        (K.written out.old) (K.written out.new) log.old log.new }
-    ensures waits { ¬ IsErrOf result RunFault.LogWrite
-        → TellsBehind L.written (code_of program options) options telling.old.records
-        (K.written out.old) telling.new.lines (K.written out.new)
-        log.old telling.new.records log.new }
     ensures cause { IsErrOf result RunFault.Write → Rose (K.faults out.old) (K.faults out.new) }
     ensures log_cause { IsErrOf result RunFault.LogWrite → LogFails L.faults log.old log.new }
     ensures counts { K.faults out.old ≤ K.faults out.new }
@@ -91,8 +83,8 @@ pub fn run<R: Threads + Wait + Sync, K: Sink, L: Sink>(
 
     // However it ends, what was printed is of the text of records that stand in the log.
     ensures behind { let options = header.now.options in
-        PrintsBehind L.written (code_of program options) options (header_text header.now)
-        (K.written out.old) (K.written out.new) log.old log.new }
+        PrintsBehind L.written (text_of program options) (header_text header.now)
+        (records_alone program options) (K.written out.old) (K.written out.new) log.old log.new }
 
     ensures cause { IsErrOf result RunFault.Write → Rose (K.faults out.old) (K.faults out.new) }
     ensures log_cause { IsErrOf result RunFault.LogWrite → LogFails L.faults log.old log.new }
@@ -105,6 +97,6 @@ pub fn run<R: Threads + Wait + Sync, K: Sink, L: Sink>(
     if let Err(RunFault::LogWrite) = ended {
         return Err(RunFault::LogWrite);
     }
-    telling.write(out, log)?;
+    telling.flush(out, log)?;
     ended
 }

@@ -1,6 +1,6 @@
 use Rattle.std.proofs.Common.{◌∙◌, ap, sym, arith}
 use Rattle.bp_log.specs.Options.{PlainOptions}
-use Rattle.bp_serve.proofs.Way.{can_run_here, carried_at}
+use Rattle.bp_turns.proofs.Arbiters.{can_run_here, carried_at}
 use Rattle.arbiter_rows.proofs.Turning.{IsOut, out, back, goes_on}
 use Rattle.arbiter_rows.proofs.floors.turn.Goals as goal
 

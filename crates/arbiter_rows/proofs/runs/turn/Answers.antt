@@ -1,6 +1,6 @@
 use Rattle.std.proofs.Common.{ap, arith}
 use Rattle.bp_arbiter.specs.Arbiters.{is_lent, options_in}
-use Rattle.bp_serve.proofs.Way.{budget_of, can_run_here, carried_at}
+use Rattle.bp_turns.proofs.Arbiters.{budget_of, can_run_here, carried_at}
 use Rattle.arbiter_rows.proofs.runs.turn.Goals as goal
 
 pub carry_all-requires-clause-some_budget : goal.carry_all-requires-clause-some_budget

@@ -3,7 +3,7 @@ use Rattle.std.proofs.lemmas.Result.{on_ok_weaker, on_err_weaker}
 use Rattle.bp_log.specs.Texts.{lines_text}
 use Rattle.bp_log.specs.declared.trace.Line.{Line as Told}
 use Rattle.bp_arbiter.specs.Arbiters.{StandsFor}
-use Rattle.bp_serve.specs.Pages.{Shows, ShowsFront}
+use Rattle.bp_told.specs.Pages.{Shows, ShowsFront}
 use Rattle.bp_follow.specs.Courses.{Course}
 use Rattle.bp_follow.specs.Following.{IsOnWay}
 use Rattle.bp_follow.proofs.Shows.{Settled, settled, ok_any}

@@ -1,5 +1,5 @@
-use Rattle.std.proofs.Common.{ℕ, ◌≡◌, ◌∙◌, ◌+◌, arith, rules, ap, sym, subst, refl, [], ◌∷◌, Option, Some, None, Ok, Err}
-use Rattle.std.specs.Prelude.{IfSome}
+use Rattle.std.proofs.Common.{ℕ, ◌≡◌, ◌∙◌, ◌+◌, arith, rules, ap, sym, subst, refl, [], ◌∷◌, ◌++◌, Option, Some, None, Ok, Err}
+use Rattle.std.specs.Prelude.{IfSome, Result}
 use Rattle.bp_log.specs.Records.{verdict_of}
 use Rattle.bp_log.specs.Texts.{lines_text}
 use Rattle.bp_log.specs.declared.record.Record.{Record}
@@ -14,8 +14,8 @@ use Rattle.bp_follow.specs.Courses.{text_in}
 use Rattle.std.proofs.lemmas.Result.{err_from_is_err_and}
 use Rattle.bp_follow.specs.declared.fault.ReplayFault.{ReplayFault}
 use Rattle.bp_follow.specs.declared.fault.ReplayFault.TheVariants as fault
-use Rattle.bp_follow.specs.Following.{first_of, onto, Makes, Tells}
-use Rattle.bp_follow.proofs.Loop.{along_first, along_on, front_course, shows_course, tells_unwritten, tells_memory, tells_refused, tells_parted, tells_finished, followed_log, followed_write, same_error, shown_on, said_end, told_end, reached_on}
+use Rattle.bp_follow.specs.Following.{first_of, onto, Makes, Shown, Tells}
+use Rattle.bp_follow.proofs.Loop.{along_first, along_on, front_course, shows_course, tells_unwritten, tells_memory, tells_refused, tells_parted, tells_finished, taken_cut, taken_whole, followed_log, followed_write, same_error, shown_on, said_end, told_end, reached_on}
 use Rattle.bp_follow.proofs.telling.tell.Goals as goal
 
 pub loop-reader-init : goal.loop-reader-init
@@ -24,6 +24,7 @@ loop-reader-init g c =
       along = along_first c.args.arbiter.now c.args.reader.now c.args.page.now (g.K.Sink.written c.args.out.now) c.requires.first c.requires.fresh c.requires.stage c.requires.empty;
       read_counts = omega arith;
       write_counts = omega arith;
+      named = refl;
     }
 
 pub returns-in_err-show-clause-tells : goal.returns-in_err-show-clause-tells
@@ -48,6 +49,14 @@ returns-in_err-found-clause-tells g c =
     (tells_refused (first_of c.args.arbiter.now) d a.program a.options r.told c.args.reader.now.left (g.K.Sink.written c.args.out.now) c.show.new.page (g.K.Sink.written c.show.new.out) c.loop-reader.reader.stage c.loop-reader.reader.left _ a.reached
     (c.in_err-found.ensures.tells a.fresh)
     (shows_course d a.taken (a.way).more _ _ _ c.loop-reader.page _ (a.way).lines a.shows (c.in_ok-show.ensures.shows d a.taken a.way))))
+
+pub returns-in_err-found-clause-failed : goal.returns-in_err-found-clause-failed
+returns-in_err-found-clause-failed g c =
+    let a = c.loop-reader.invariant.along in
+    let d = a.course in
+    λ e.
+    taken_cut (first_of c.args.arbiter.now) d a.program a.options ((a.way).runs).told (g.K.Sink.written c.args.out.now) c.show.new.page (g.K.Sink.written c.show.new.out) c.loop-reader.reader.stage c.args.reader.now.left c.loop-reader.reader.left c.next.new.self.left a.going
+    (shows_course d a.taken (a.way).more _ _ _ c.loop-reader.page _ (a.way).lines a.shows (c.in_ok-show.ensures.shows d a.taken a.way)) a.reached (c.in_err-found.ensures.failed a.fresh (search rules))
 
 pub follow-requires : goal.follow-requires
 follow-requires g c = let a = c.loop-reader.invariant.along in (a.course, c.in_ok-show.ensures.there a.course a.taken a.way)
@@ -126,6 +135,45 @@ returns-in-Some-verdict-clause-tells g c =
     (shows_course d a.taken (a.way).more _ _ _ c.loop-reader.page _ (a.way).lines a.shows (c.in_ok-show.ensures.shows d a.taken a.way))
     c.finish.ensures.shown)
 
+pub returns-in_err-follow-clause-failed : goal.returns-in_err-follow-clause-failed
+returns-in_err-follow-clause-failed g c =
+    let p = err_from_is_err_and c.from_residual-in_err-follow.result c.from_residual-in_err-follow.ensures.1 in
+    let a = c.loop-reader.invariant.along in
+    let f = c.in_err-follow.ensures a.course (c.in_ok-show.ensures.there a.course a.taken a.way) in
+    λ h. absurd (followed_log a.course c.in-Some.found (c.loop-reader.number + 1) c.follow.new.arbiter _ log.Read f (sym p.2 ∙ same_error c.from_residual-in_err-follow.result p.0 (fault.Log log.Read) p.1 h))
+
+pub returns-in_err-follow-clause-empty : goal.returns-in_err-follow-clause-empty
+returns-in_err-follow-clause-empty g c =
+    let p = err_from_is_err_and c.from_residual-in_err-follow.result c.from_residual-in_err-follow.ensures.1 in
+    let a = c.loop-reader.invariant.along in
+    let f = c.in_err-follow.ensures a.course (c.in_ok-show.ensures.there a.course a.taken a.way) in
+    λ h. absurd (followed_log a.course c.in-Some.found (c.loop-reader.number + 1) c.follow.new.arbiter _ log.Read f (sym p.2 ∙ same_error c.from_residual-in_err-follow.result p.0 (fault.Log log.Read) p.1 h))
+
+pub returns-in-Some-verdict-clause-failed : goal.returns-in-Some-verdict-clause-failed
+returns-in-Some-verdict-clause-failed g c =
+    let a = c.loop-reader.invariant.along in
+    let d = a.course in
+    let r = (a.way).runs in
+    let s = c.loop-reader.reader.stage in
+    let v = c.in_ok-verdict.verdict in
+    let m : Makes d c.in-Some.found c.follow.new.arbiter = c.in_ok-follow.ensures d (c.in_ok-show.ensures.there d a.taken a.way) in
+    let said : verdict_of c.follow.new.arbiter.records ≡ Some v = sym (ap (λ (x : Verdict). Some x) c.in_ok-verdict.ensures ∙ c.in-Some-verdict.ensures.recorded) in
+    let e : c.in-Some.found ≡ End v = said_end d c.in-Some.found c.follow.new.arbiter v m said in
+    let n : Makes d (End v) c.follow.new.arbiter = subst (λ (x : Record). Makes d x c.follow.new.arbiter) e m in
+    let is : c.in_ok-found.field-0 ≡ Some (End v) = c.in-Some.is ∙ ap (λ (x : Record). Some x) e in
+    let stage : c.next.new.self.stage ≡ after s (End v) = subst (λ (x : Option Record). IsStageAfter s (Ok x) c.next.new.self.stage) is (c.in_ok-found.ensures.stage a.fresh) in
+    let tells : IfSome c.loop-reader.reader.left (λ bytes. ReaderTells (Ok (Some (End v))) (next_at s bytes) c.next.new.self.left) =
+    subst (λ (x : Option Record). IfSome c.loop-reader.reader.left (λ bytes. ReaderTells (Ok x) (next_at s bytes) c.next.new.self.left)) is (c.in_ok-found.ensures.tells a.fresh) in
+    let t = told_end d v n.0 r.told r.going n.1 in
+    λ h.
+    taken_whole (first_of c.args.arbiter.now) (onto d (End v) n.0) a.program a.options t.0 (g.K.Sink.written c.args.out.now) c.finish.new.page (g.K.Sink.written c.finish.new.out) c.next.new.self.stage c.args.reader.now.left c.next.new.self.left c.finish.new.reader.left v
+    (ap (λ (x : Stage). x.ended) stage) (verdict_by_last d.records (End v))
+    (shown_on (Err (fault.Log log.Read)) (g.K.Sink.written c.args.out.now) (g.K.Sink.written c.show.new.out) (g.K.Sink.written c.finish.new.out) (text_in d) c.show.new.page (lines_text (trace.Verdict v ∷ [])) c.finish.new.page (text_in (onto d (End v) n.0)) t.1
+    (shows_course d a.taken (a.way).more _ _ _ c.loop-reader.page _ (a.way).lines a.shows (c.in_ok-show.ensures.shows d a.taken a.way))
+    (subst (λ (x : Result Verdict ReplayFault). Shown x (g.K.Sink.written c.show.new.out) (c.show.new.page ++ lines_text (trace.Verdict v ∷ [])) c.finish.new.page (g.K.Sink.written c.finish.new.out)) h c.finish.ensures.shown))
+    (reached_on d c.args.reader.now.left c.loop-reader.reader.left c.next.new.self.left s c.next.new.self.stage (End v) n.0 a.reached tells stage)
+    (c.finish.ensures.failed h)
+
 pub loop-reader-preserved : goal.loop-reader-preserved
 loop-reader-preserved g c =
     let a = c.loop-reader.invariant.along in
@@ -145,4 +193,5 @@ loop-reader-preserved g c =
           c.loop-reader.page c.show.new.page (g.K.Sink.written c.loop-reader.out) (g.K.Sink.written c.show.new.out) c.in-Some.found a (c.in_ok-show.ensures.shows d a.taken a.way) c.in_ok-found.ensures.kept tells stage m none refl;
       read_counts = omega (arith, reads, more_reads);
       write_counts = omega (arith, writes, more_writes);
+      named = c.show.ensures.named ∙ c.loop-reader.invariant.named;
     }

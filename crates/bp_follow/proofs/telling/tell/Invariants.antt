@@ -1,4 +1,4 @@
-use Rattle.std.proofs.Common.{◌≤◌, ◌-◌}
+use Rattle.std.proofs.Common.{◌≡◌, ◌≤◌, ◌-◌}
 use Rattle.bp_reading.specs.declared.limits.TheConstants.{MOST_RECORDS}
 use Rattle.bp_follow.specs.Following.{first_of}
 use Rattle.bp_follow.proofs.Loop.{Along}
@@ -9,6 +9,7 @@ invariant-loop-reader g l = record {
   along : Along (first_of l.fn.arbiter) l.fn.reader.left (g.K.Sink.written l.fn.out) l.reader l.arbiter l.number l.page (g.K.Sink.written l.out);
   read_counts : l.fn.reader.faults ≤ l.reader.faults;
   write_counts : g.K.Sink.faults l.fn.out ≤ g.K.Sink.faults l.out;
+  named : g.K.Sink.made_as l.out ≡ g.K.Sink.made_as l.fn.out;
 }
 
 abbrev pub decreases-loop-reader : goal.decreases-loop-reader

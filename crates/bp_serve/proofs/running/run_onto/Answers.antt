@@ -1,22 +1,12 @@
-use Rattle.std.proofs.Common.{List, ◌++◌, refl, sym, subst, ◌∙◌, rules}
+use Rattle.std.proofs.Common.{sym, subst, ◌∙◌}
 use Rattle.std.proofs.lemmas.Result.{err_from_is_err_and}
-use Rattle.bp_log.specs.Logs.{records_text}
-use Rattle.bp_log.specs.declared.record.Record.{Record}
-use Rattle.bp_serve.specs.Logging.{LogShows, LogShowsFront}
-use Rattle.bp_serve.proofs.Logging.{log_shows_page, log_stop, log_stop_at}
-use Rattle.bp_serve.proofs.Way.{front_alone, front_all, front_opened, shows_opened, underway_opened, injectors_opened, records_opened, verdict_opened}
-use Rattle.bp_serve.proofs.Order.{behind_opened, waits_first, waits_opened}
+use Rattle.bp_code.specs.Code.{text_of, records_alone}
+use Rattle.bp_told.specs.Told.{given}
+use Rattle.bp_told.specs.declared.fault.RunFault.{RunFault}
+use Rattle.bp_serve.specs.Serving.{TellsFront}
+use Rattle.bp_serve.proofs.Telling.{whole_opened, front_opened, front_whole, front_none}
+use Rattle.bp_serve.proofs.Way.{underway_opened, injectors_opened, records_opened, verdict_opened}
 use Rattle.bp_serve.proofs.running.run_onto.Goals as goal
-
-pub returns-in_err-arbiter-clause-front : goal.returns-in_err-arbiter-clause-front
-returns-in_err-arbiter-clause-front g c =
-    let p = err_from_is_err_and c.from_residual.result c.from_residual.ensures.1 in
-    rw p.1 (front_alone c.args.program c.args.options _ c.args.telling.now.lines c.requires.alone c.requires.lines)
-
-pub returns-in_err-arbiter-clause-log_front : goal.returns-in_err-arbiter-clause-log_front
-returns-in_err-arbiter-clause-log_front g c =
-    let p = err_from_is_err_and c.from_residual.result c.from_residual.ensures.1 in
-    rw p.1 (log_stop_at g.L.Sink.written _ _ c.args.telling.now.records _ _ _ refl (log_shows_page g.L.Sink.written c.args.log.now c.args.telling.now.records))
 
 pub serve-requires-clause-alone : goal.serve-requires-clause-alone
 serve-requires-clause-alone g c κs within = injectors_opened c.args.program c.args.options c.in_ok-arbiter.arbiter c.in_ok-arbiter.ensures.opened c.requires.alone
@@ -24,36 +14,26 @@ serve-requires-clause-alone g c κs within = injectors_opened c.args.program c.a
 pub serve-requires-clause-underway : goal.serve-requires-clause-underway
 serve-requires-clause-underway g c κs within = underway_opened c.args.program c.args.options c.in_ok-arbiter.arbiter c.in_ok-arbiter.ensures.opened c.requires.alone c.in_ok-arbiter.ensures.stands
 
-pub returns-in_err-serve-clause-front : goal.returns-in_err-serve-clause-front
-returns-in_err-serve-clause-front g c =
+pub returns-in_err-arbiter-clause-breaks : goal.returns-in_err-arbiter-clause-breaks
+returns-in_err-arbiter-clause-breaks g c =
+    let p = err_from_is_err_and c.from_residual.result c.from_residual.ensures.1 in
+    rw p.1 (front_none g.L.Sink.written c.args.program c.args.options (given g.K.Sink.written c.args.out.now c.args.log.now) c.args.telling.now p.0)
+
+pub returns-in_err-serve-clause-breaks : goal.returns-in_err-serve-clause-breaks
+returns-in_err-serve-clause-breaks g c =
     let p = err_from_is_err_and c.from_residual-in_err-serve.result c.from_residual-in_err-serve.ensures.1 in
-    rw p.1 (front_opened c.args.program c.args.options c.in_ok-arbiter.arbiter c.in_ok-arbiter.ensures.opened _ _ _ c.in_err-serve.ensures.front)
+    rw p.1 (subst (λ (f : RunFault). TellsFront g.L.Sink.written (text_of c.args.program c.args.options) (records_alone c.args.program c.args.options) (given g.K.Sink.written c.args.out.now c.args.log.now) c.args.telling.now (given g.K.Sink.written c.serve.new.out c.serve.new.log) c.serve.new.telling f) (sym p.2)
+    (front_opened g.L.Sink.written c.args.program c.args.options c.in_ok-arbiter.arbiter c.in_ok-arbiter.ensures.opened (given g.K.Sink.written c.args.out.now c.args.log.now) c.args.telling.now (given g.K.Sink.written c.serve.new.out c.serve.new.log) c.serve.new.telling _ c.in_err-serve.ensures.breaks))
 
-pub returns-in_err-serve-clause-log_front : goal.returns-in_err-serve-clause-log_front
-returns-in_err-serve-clause-log_front g c =
-    let p = err_from_is_err_and c.from_residual-in_err-serve.result c.from_residual-in_err-serve.ensures.1 in
-    rw p.1 (subst (λ (rs : List Record). LogShowsFront g.L.Sink.written c.args.log.now (c.args.telling.now.records ++ records_text rs) c.serve.new.telling.records c.serve.new.log)
-    (records_opened c.args.program c.args.options c.in_ok-arbiter.arbiter c.in_ok-arbiter.ensures.opened) c.in_err-serve.ensures.log_front)
-
-pub returns-in_err-report-clause-front : goal.returns-in_err-report-clause-front
-returns-in_err-report-clause-front g c =
+pub returns-in_err-report-clause-breaks : goal.returns-in_err-report-clause-breaks
+returns-in_err-report-clause-breaks g c =
     let p = err_from_is_err_and c.from_residual-in_err-report.result c.from_residual-in_err-report.ensures.1 in
-    rw p.1 (front_all _ _ _ _ (shows_opened c.args.program c.args.options c.in_ok-arbiter.arbiter c.in_ok-arbiter.ensures.opened _ _ _ c.in_ok-serve.ensures.shows))
+    rw p.1 (front_whole g.L.Sink.written c.args.program c.args.options (given g.K.Sink.written c.args.out.now c.args.log.now) c.args.telling.now (given g.K.Sink.written c.serve.new.out c.serve.new.log) c.serve.new.telling p.0
+    (whole_opened g.L.Sink.written c.args.program c.args.options c.in_ok-arbiter.arbiter c.in_ok-arbiter.ensures.opened (given g.K.Sink.written c.args.out.now c.args.log.now) c.args.telling.now (given g.K.Sink.written c.serve.new.out c.serve.new.log) c.serve.new.telling c.in_ok-serve.ensures.tells))
 
-pub returns-in_err-report-clause-log_front : goal.returns-in_err-report-clause-log_front
-returns-in_err-report-clause-log_front g c =
-    let p = err_from_is_err_and c.from_residual-in_err-report.result c.from_residual-in_err-report.ensures.1 in
-    rw p.1 (subst (λ (rs : List Record). LogShowsFront g.L.Sink.written c.args.log.now (c.args.telling.now.records ++ records_text rs) c.serve.new.telling.records c.serve.new.log)
-    (records_opened c.args.program c.args.options c.in_ok-arbiter.arbiter c.in_ok-arbiter.ensures.opened)
-    (log_stop g.L.Sink.written _ _ _ _ c.in_ok-serve.ensures.log_shows))
-
-pub returns-clause-shows : goal.returns-clause-shows
-returns-clause-shows g c = shows_opened c.args.program c.args.options c.in_ok-arbiter.arbiter c.in_ok-arbiter.ensures.opened _ _ _ c.in_ok-serve.ensures.shows
-
-pub returns-clause-log_shows : goal.returns-clause-log_shows
-returns-clause-log_shows g c =
-    subst (λ (rs : List Record). LogShows g.L.Sink.written c.args.log.now (c.args.telling.now.records ++ records_text rs) c.serve.new.telling.records c.serve.new.log)
-    (records_opened c.args.program c.args.options c.in_ok-arbiter.arbiter c.in_ok-arbiter.ensures.opened) c.in_ok-serve.ensures.log_shows
+pub returns-clause-tells : goal.returns-clause-tells
+returns-clause-tells g c =
+    whole_opened g.L.Sink.written c.args.program c.args.options c.in_ok-arbiter.arbiter c.in_ok-arbiter.ensures.opened (given g.K.Sink.written c.args.out.now c.args.log.now) c.args.telling.now (given g.K.Sink.written c.serve.new.out c.serve.new.log) c.serve.new.telling c.in_ok-serve.ensures.tells
 
 pub returns-clause-verdict : goal.returns-clause-verdict
 returns-clause-verdict g c =
@@ -62,24 +42,3 @@ returns-clause-verdict g c =
 pub returns-clause-records : goal.returns-clause-records
 returns-clause-records g c =
     c.in_ok-report.ensures.records ∙ c.in_ok-serve.ensures.records ∙ records_opened c.args.program c.args.options c.in_ok-arbiter.arbiter c.in_ok-arbiter.ensures.opened
-
-pub returns-in_err-serve-clause-behind : goal.returns-in_err-serve-clause-behind
-returns-in_err-serve-clause-behind g c = behind_opened g.L.Sink.written c.args.program c.args.options c.in_ok-arbiter.arbiter c.in_ok-arbiter.ensures.opened _ _ _ _ _ c.serve.ensures.behind
-
-pub returns-in_err-report-clause-behind : goal.returns-in_err-report-clause-behind
-returns-in_err-report-clause-behind g c = behind_opened g.L.Sink.written c.args.program c.args.options c.in_ok-arbiter.arbiter c.in_ok-arbiter.ensures.opened _ _ _ _ _ c.serve.ensures.behind
-
-pub returns-clause-behind : goal.returns-clause-behind
-returns-clause-behind g c = behind_opened g.L.Sink.written c.args.program c.args.options c.in_ok-arbiter.arbiter c.in_ok-arbiter.ensures.opened _ _ _ _ _ c.serve.ensures.behind
-
-pub returns-in_err-arbiter-clause-waits : goal.returns-in_err-arbiter-clause-waits
-returns-in_err-arbiter-clause-waits g c = λ _. waits_first g.L.Sink.written c.args.program c.args.options c.args.telling.now.records c.args.telling.now.lines (g.K.Sink.written c.args.out.now) c.args.log.now c.requires.alone c.requires.lines
-
-pub returns-in_err-serve-clause-waits : goal.returns-in_err-serve-clause-waits
-returns-in_err-serve-clause-waits g c = λ n. waits_opened g.L.Sink.written c.args.program c.args.options c.in_ok-arbiter.arbiter c.in_ok-arbiter.ensures.opened _ _ _ _ _ _ _ (c.serve.ensures.waits (λ e. n (search rules)))
-
-pub returns-in_err-report-clause-waits : goal.returns-in_err-report-clause-waits
-returns-in_err-report-clause-waits g c = λ _. waits_opened g.L.Sink.written c.args.program c.args.options c.in_ok-arbiter.arbiter c.in_ok-arbiter.ensures.opened _ _ _ _ _ _ _ (c.serve.ensures.waits (search rules))
-
-pub returns-clause-waits : goal.returns-clause-waits
-returns-clause-waits g c = λ _. waits_opened g.L.Sink.written c.args.program c.args.options c.in_ok-arbiter.arbiter c.in_ok-arbiter.ensures.opened _ _ _ _ _ _ _ (c.serve.ensures.waits (search rules))

@@ -1,0 +1,4 @@
+pub mod Pieces
+pub mod Logging
+pub mod Order
+pub mod Told

@@ -1,0 +1,243 @@
+-- What was told: from one moment to the next.
+use Rattle.std.proofs.Common.{◌≡◌, ◌⊎◌, ℕ, List, [], ◌++◌, length, take, drop, refl, ap, sym, subst, ◌∙◌, append_assoc, append-nil, inl, inr, take-append-drop, Option, Some, None, IsSome, IsSomeAnd, Ok, Err}
+use Rattle.std.specs.Prelude.{Result, OnOk, OnErr, IfErr, IsErrOf}
+use Rattle.bp_base.specs.Pieces.{Appends, AppendsFront}
+use Rattle.bp_log.specs.Logs.{records_text}
+use Rattle.bp_log.specs.Texts.{lines_text}
+use Rattle.bp_log.specs.declared.record.Record.{Record}
+use Rattle.bp_log.specs.declared.trace.Line.{Line}
+use Rattle.bp_told.specs.Logging.{LogGets, LogHolds, LogWaits, LogShows, LogShowsFront}
+use Rattle.bp_told.specs.Order.{Texts, StaysBehind, PrintsBehind}
+use Rattle.bp_told.specs.Pages.{Shows, ShowsFront}
+use Rattle.bp_told.specs.Told.{Given, Waiting, ComesOf, IsTold, IsBroken, IsWritten, IsPartly, TellsOn, BreaksOff, WritesAll, WritesPart}
+use Rattle.bp_told.specs.declared.fault.RunFault.{RunFault}
+use Rattle.bp_told.specs.declared.fault.RunFault.TheVariants.{LogWrite}
+use Rattle.bp_told.proofs.Logging.{log_on, log_more_on, log_more_front, log_front_on, log_stop, log_waits, log_waits_on, log_holds_shown, log_let_go, log_written, log_written_front_part}
+use Rattle.bp_told.proofs.Pieces.{lines_text-append, lines_none, records_text-append, records_none, shows_page, shows_on, shows_stop, shows_written, front_on, longer_front, let_go, written_all, written_front_part}
+use Rattle.bp_told.proofs.Order.{behind_longer, behind_still, behind_written}
+
+-- the records up to a place, and those behind it
+pub records_up : (head : List ℕ) (rs : List Record) (k : ℕ) → head ++ records_text rs ≡ (head ++ records_text (take k rs)) ++ records_text (drop k rs)
+records_up head rs k =
+    ap (λ (es : List Record). head ++ records_text es) (sym (take-append-drop k rs)) ∙ ap (λ (t : List ℕ). head ++ t) (records_text-append (take k rs) (drop k rs))
+    ∙ sym (append_assoc head (records_text (take k rs)) (records_text (drop k rs)))
+
+-- fewer lines come of them too
+pub comes_less : (text : Texts) (rs : List Record) (lines more : List Line) → ComesOf text rs (lines ++ more) → ComesOf text rs lines
+comes_less text rs lines more c = (
+  lines_text more ++ c.0,
+  c.1 ∙ ap (λ (t : List ℕ). Some t) (ap (λ (t : List ℕ). t ++ c.0) (lines_text-append lines more) ∙ append_assoc (lines_text lines) (lines_text more) c.0),
+)
+
+-- what holds of a front of the lines holds of a front of the text
+in_text : (t : Option (List ℕ)) (P : List ℕ → Type 0) (whole : List ℕ) → t ≡ Some whole → P whole → IsSomeAnd t P
+in_text t P whole e h = subst (λ (x : Option (List ℕ)). IsSomeAnd x P) (sym e) h
+
+front_more : (a b : Option (List ℕ)) (text rest page : List ℕ) → ShowsFront a text page b → ShowsFront a (text ++ rest) page b
+front_more a b text rest page s = record {
+  shown = s.shown;
+  rest = s.rest ++ rest;
+  is_text = ap (λ (x : List ℕ). x ++ rest) s.is_text ∙ append_assoc s.shown s.rest rest;
+  shows = s.shows;
+}
+
+nothing : IsSome {T = List ℕ} None → ⊥
+nothing s = cc
+
+comes_first : (text : Texts) (t : Option (List ℕ)) → text [] ≡ t → IsSome t → ComesOf text [] []
+comes_first text None e s = absurd (nothing s)
+comes_first text (Some t) e s = (t, e ∙ ap (λ (x : List ℕ). Some (x ++ t)) (sym lines_none))
+
+same_shows : (a b c : Option (List ℕ)) (text page next : List ℕ) → c ≡ b → next ≡ page → Shows a text page b → Shows a text next c
+same_shows a b c text page next e f s = subst (λ (p : List ℕ). Shows a text p c) (sym f) (subst (λ (x : Option (List ℕ)). Shows a text page x) (sym e) s)
+
+module _ {L : Type 0} (written : L → Option (List ℕ)) (text : Texts) (head : List ℕ) (first : Given L) where
+  -- before anything was told
+  pub told_first : (w : Waiting) → IsSome (text []) → w.lines ≡ [] → w.kept ≡ 0 → LogShows written first.log head w.records first.log → IsTold L written text head first first w [] []
+  told_first w s e k h =
+      record {
+        comes = comes_first text (text []) refl s;
+        kept = k;
+        logs = subst (λ (t : List ℕ). LogShows written first.log t w.records first.log) (sym (ap (λ (t : List ℕ). head ++ t) records_none ∙ append-nil head)) h;
+        shows = subst (λ (t : List ℕ). Shows first.printed t w.lines first.printed) (e ∙ sym lines_none) (shows_page first.printed w.lines);
+        behind = inl refl;
+      }
+
+  told_waits : (now : Given L) (w : Waiting) (rs : List Record) (lines : List Line) → IsTold L written text head first now w rs lines →
+      StaysBehind L written text head rs first.printed w.lines now.printed first.log w.records now.log
+  told_waits now w rs lines t =
+      record {
+        records = rs;
+        later = [];
+        is_front = append-nil rs;
+        logged = log_waits written first.log now.log (head ++ records_text rs) w.records t.logs;
+        told = in_text (text rs) (λ v. ShowsFront first.printed v w.lines now.printed) (lines_text lines ++ t.comes.0) t.comes.1
+            (record { shown = lines_text lines; rest = t.comes.0; is_text = refl; shows = t.shows });
+      }
+
+  -- telling breaks off anywhere
+  pub told_broken : (now : Given L) (w : Waiting) (rs : List Record) (lines : List Line) (fault : RunFault) → IsTold L written text head first now w rs lines → IsBroken L written text head first now w rs lines fault
+  told_broken now w rs lines fault t =
+      record {
+        comes = t.comes;
+        logs = log_stop written first.log now.log (head ++ records_text rs) w.records t.logs;
+        shows = shows_stop first.printed now.printed (lines_text lines) w.lines [] (lines_text lines) (sym (append-nil (lines_text lines))) t.shows;
+        behind = t.behind;
+        waits = λ _. told_waits now w rs lines t;
+      }
+
+  -- what waits is let go
+  pub broken_part : (now : Given L) (w : Waiting) (rs : List Record) (lines : List Line) (fault : RunFault) → IsBroken L written text head first now w rs lines fault → IsPartly L written text head first now rs lines
+  broken_part now w rs lines fault b =
+      record {
+        comes = b.comes;
+        logs = log_let_go written first.log now.log (head ++ records_text rs) w.records b.logs;
+        prints = let_go first.printed now.printed (lines_text lines) w.lines b.shows;
+        behind = b.behind;
+      }
+
+  -- lines were written behind their records, or none was
+  told_behind : (old new : Given L) (rs : List Record) (lines : List Line) (page next : List ℕ) → ComesOf text rs lines → PrintsBehind written text head rs first.printed old.printed first.log old.log →
+      LogShows written first.log (head ++ records_text rs) page old.log → ((new.printed ≡ old.printed) ⊎ LogHolds written old.log page new.log) → LogShowsFront written old.log page next new.log →
+      AppendsFront first.printed (lines_text lines) new.printed → PrintsBehind written text head rs first.printed new.printed first.log new.log
+  told_behind old new rs lines page next c b s (inl e) t f = behind_still written text head rs first.printed old.printed new.printed first.log old.log new.log page next b e t
+  told_behind old new rs lines page next c b s (inr h) t f = inr (record {
+    records = rs;
+    later = [];
+    is_front = append-nil rs;
+    logged = log_holds_shown written first.log old.log new.log (head ++ records_text rs) page s h;
+    printed = in_text (text rs) (λ v. AppendsFront first.printed v new.printed) (lines_text lines ++ c.0) c.1 (longer_front first.printed new.printed (lines_text lines) c.0 f);
+  })
+
+  -- further records were put on the page of the log
+  pub recorded : (old new : Given L) (a b : Waiting) (rs : List Record) (lines : List Line) → IsTold L written text head first old a (take a.kept rs) lines → ComesOf text rs lines → new.printed ≡ old.printed →
+      b.lines ≡ a.lines → b.kept ≡ length rs → LogShows written old.log (a.records ++ records_text (drop a.kept rs)) b.records new.log → IsTold L written text head first new b rs lines
+  recorded old new a b rs lines t c p l k s =
+      let more = records_text (drop a.kept rs) in
+      record {
+        comes = c;
+        kept = k;
+        logs = log_more_on written first.log old.log new.log (head ++ records_text (take a.kept rs)) a.records more b.records (head ++ records_text rs) (records_up head rs a.kept) t.logs s;
+        shows = same_shows first.printed old.printed new.printed (lines_text lines) a.lines b.lines p l t.shows;
+        behind = behind_still written text head rs first.printed old.printed new.printed first.log old.log new.log (a.records ++ more) b.records
+            (behind_longer written text head (take a.kept rs) (drop a.kept rs) rs first.printed old.printed first.log old.log (take-append-drop a.kept rs) t.behind) p
+            (log_stop written old.log new.log (a.records ++ more) b.records s);
+      }
+
+  -- or that broke off
+  pub record_broke : (old new : Given L) (a b : Waiting) (rs : List Record) (lines more : List Line) (fault : RunFault) → IsTold L written text head first old a (take a.kept rs) lines → ComesOf text rs (lines ++ more) →
+      new.printed ≡ old.printed → b.lines ≡ a.lines → LogShowsFront written old.log (a.records ++ records_text (drop a.kept rs)) b.records new.log →
+      (¬ (fault ≡ LogWrite) → LogWaits written old.log a.records b.records new.log) → IsBroken L written text head first new b rs (lines ++ more) fault
+  record_broke old new a b rs lines more fault t c p l s w =
+      let next = records_text (drop a.kept rs) in
+      let shows = same_shows first.printed old.printed new.printed (lines_text lines) a.lines b.lines p l t.shows in
+      record {
+        comes = c;
+        logs = log_more_front written first.log old.log new.log (head ++ records_text (take a.kept rs)) a.records next [] b.records (head ++ records_text rs)
+            (records_up head rs a.kept ∙ ap (λ (x : List ℕ). (head ++ records_text (take a.kept rs)) ++ x) (sym (append-nil next))) t.logs s;
+        shows = shows_stop first.printed new.printed (lines_text lines) b.lines (lines_text more) (lines_text (lines ++ more)) (lines_text-append lines more) shows;
+        behind = behind_still written text head rs first.printed old.printed new.printed first.log old.log new.log (a.records ++ next) b.records
+            (behind_longer written text head (take a.kept rs) (drop a.kept rs) rs first.printed old.printed first.log old.log (take-append-drop a.kept rs) t.behind) p s;
+        waits = λ n. record {
+          records = take a.kept rs;
+          later = drop a.kept rs;
+          is_front = take-append-drop a.kept rs;
+          logged = log_waits_on written first.log old.log new.log (head ++ records_text (take a.kept rs)) a.records b.records t.logs (w n);
+          told = in_text (text (take a.kept rs)) (λ v. ShowsFront first.printed v b.lines new.printed) (lines_text lines ++ t.comes.0) t.comes.1
+              (record { shown = lines_text lines; rest = t.comes.0; is_text = refl; shows = shows });
+        };
+      }
+
+  -- further lines were put on the page, or written
+  pub printed_on : (old new : Given L) (a b : Waiting) (rs : List Record) (lines more : List Line) → IsTold L written text head first old a rs lines → ComesOf text rs (lines ++ more) →
+      Shows old.printed (a.lines ++ lines_text more) b.lines new.printed → LogShows written old.log a.records b.records new.log → ((new.printed ≡ old.printed) ⊎ LogHolds written old.log a.records new.log) →
+      b.kept ≡ a.kept → IsTold L written text head first new b rs (lines ++ more)
+  printed_on old new a b rs lines more t c f s h k =
+      let shows = shows_on first.printed old.printed new.printed (lines_text lines) a.lines (lines_text more) (a.lines ++ lines_text more) b.lines (lines_text (lines ++ more)) refl (lines_text-append lines more) t.shows f in
+      record {
+        comes = c;
+        kept = k ∙ t.kept;
+        logs = log_on written first.log old.log new.log (head ++ records_text rs) a.records b.records t.logs s;
+        shows = shows;
+        behind = told_behind old new rs (lines ++ more) a.records b.records c t.behind t.logs h (log_stop written old.log new.log a.records b.records s) (shows.front, b.lines, shows.is_text, shows.written);
+      }
+
+  -- or that broke off
+  pub print_broke : (old new : Given L) (a b : Waiting) (rs : List Record) (lines more : List Line) (fault : RunFault) → IsTold L written text head first old a rs lines → ComesOf text rs (lines ++ more) →
+      ShowsFront old.printed (a.lines ++ lines_text more) b.lines new.printed → LogShowsFront written old.log a.records b.records new.log → ((new.printed ≡ old.printed) ⊎ LogHolds written old.log a.records new.log) →
+      (¬ (fault ≡ LogWrite) → LogShows written old.log a.records b.records new.log) → IsBroken L written text head first new b rs (lines ++ more) fault
+  print_broke old new a b rs lines more fault t c f s h w =
+      let whole : lines_text (lines ++ more) ≡ lines_text lines ++ (lines_text more ++ []) = lines_text-append lines more ∙ ap (λ (x : List ℕ). lines_text lines ++ x) (sym (append-nil (lines_text more))) in
+      let shows = front_on first.printed old.printed new.printed (lines_text lines) a.lines (lines_text more) [] (a.lines ++ lines_text more) b.lines (lines_text (lines ++ more)) refl whole t.shows f in
+      record {
+        comes = c;
+        logs = log_front_on written first.log old.log new.log (head ++ records_text rs) a.records b.records t.logs s;
+        shows = shows;
+        behind = told_behind old new rs (lines ++ more) a.records b.records c t.behind t.logs h s (let_go first.printed new.printed (lines_text (lines ++ more)) b.lines shows);
+        waits = λ n. record {
+          records = rs;
+          later = [];
+          is_front = append-nil rs;
+          logged = log_waits written first.log new.log (head ++ records_text rs) b.records (log_on written first.log old.log new.log (head ++ records_text rs) a.records b.records t.logs (w n));
+          told = in_text (text rs) (λ v. ShowsFront first.printed v b.lines new.printed) (lines_text (lines ++ more) ++ c.0) c.1 (front_more first.printed new.printed (lines_text (lines ++ more)) c.0 b.lines shows);
+        };
+      }
+
+  -- what waits is written
+  pub flushed : (old new : Given L) (a b : Waiting) (rs : List Record) (lines : List Line) → IsTold L written text head first old a rs lines → Appends old.printed a.lines new.printed → LogGets written old.log a.records new.log →
+      LogShows written old.log a.records b.records new.log → b.lines ≡ [] → b.kept ≡ a.kept → ((new.printed ≡ old.printed) ⊎ LogGets written old.log a.records new.log) →
+      IsTold L written text head first new b rs lines × IsWritten L written head first new rs lines
+  flushed old new a b rs lines t f g s e k h =
+      let all = written_all first.printed old.printed new.printed (lines_text lines) a.lines t.shows f in (
+        record {
+          comes = t.comes;
+          kept = k ∙ t.kept;
+          logs = log_on written first.log old.log new.log (head ++ records_text rs) a.records b.records t.logs s;
+          shows = shows_written first.printed new.printed (lines_text lines) b.lines e all;
+          behind = behind_written written text head rs a.records a.lines b.records first.printed old.printed new.printed first.log old.log new.log t.behind (told_waits old a rs lines t) h
+              (log_stop written old.log new.log a.records b.records s) (a.lines, [], sym (append-nil a.lines), f);
+        },
+        record { logs = log_written written first.log old.log new.log (head ++ records_text rs) a.records t.logs g; prints = all },
+      )
+
+  -- or a front of it
+  pub flushed_part : (old new : Given L) (a : Waiting) (next : List ℕ) (rs : List Record) (lines : List Line) (fault : RunFault) → ¬ (fault ≡ LogWrite) → IsBroken L written text head first old a rs lines fault →
+      AppendsFront old.printed a.lines new.printed → LogShowsFront written old.log a.records next new.log → ((new.printed ≡ old.printed) ⊎ LogGets written old.log a.records new.log) →
+      IsPartly L written text head first new rs lines
+  flushed_part old new a next rs lines fault n b f s h =
+      record {
+        comes = b.comes;
+        logs = log_written_front_part written first.log old.log new.log (head ++ records_text rs) a.records b.logs (log_let_go written old.log new.log a.records next s);
+        prints = written_front_part first.printed old.printed new.printed (lines_text lines) a.lines b.shows f;
+        behind = behind_written written text head rs a.records a.lines next first.printed old.printed new.printed first.log old.log new.log b.behind (b.waits n) h s f;
+      }
+
+-- ---- what one call does, whatever was told before
+
+module _ {L T : Type 0} (written : L → Option (List ℕ)) (old mid new : Given L) (a b d : Waiting) (rs : List Record) (more : List Line) where
+  pub tells_on : (r : Result T RunFault) → mid.printed ≡ old.printed → b.lines ≡ a.lines → b.kept ≡ length rs → LogShows written old.log (a.records ++ records_text (drop a.kept rs)) b.records mid.log →
+      OnOk r (Shows mid.printed (b.lines ++ lines_text more) d.lines new.printed) → OnOk r (LogShows written mid.log b.records d.records new.log) → ((new.printed ≡ mid.printed) ⊎ LogHolds written mid.log b.records new.log) → d.kept ≡ b.kept →
+      OnOk r (TellsOn written rs more old a new d)
+  tells_on (Ok v) p l k s f g h e = λ text head first lines t c.
+      printed_on written text head first mid new b d rs lines more (recorded written text head first old mid a b rs lines t (comes_less text rs lines more c) p l k s) c f g h e
+  tells_on (Err x) p l k s f g h e = tt
+
+  pub breaks_off : (r : Result T RunFault) → mid.printed ≡ old.printed → b.lines ≡ a.lines → b.kept ≡ length rs → LogShows written old.log (a.records ++ records_text (drop a.kept rs)) b.records mid.log →
+      OnErr r (ShowsFront mid.printed (b.lines ++ lines_text more) d.lines new.printed) → OnErr r (LogShowsFront written mid.log b.records d.records new.log) → ((new.printed ≡ mid.printed) ⊎ LogHolds written mid.log b.records new.log) →
+      (¬ IsErrOf r LogWrite → LogShows written mid.log b.records d.records new.log) → IfErr r (BreaksOff written rs more old a new d)
+  breaks_off (Ok v) p l k s f g h w = tt
+  breaks_off (Err x) p l k s f g h w = λ text head first lines t c.
+      print_broke written text head first mid new b d rs lines more x (recorded written text head first old mid a b rs lines t (comes_less text rs lines more c) p l k s) c f g h (λ n. w (λ e. n (let q = e in cc)))
+
+module _ {L T E : Type 0} (written : L → Option (List ℕ)) (old new : Given L) (a b : Waiting) where
+  pub writes_all : (r : Result T E) → OnOk r (Appends old.printed a.lines new.printed) → OnOk r (LogGets written old.log a.records new.log) → OnOk r (LogShows written old.log a.records b.records new.log) → OnOk r (b.lines ≡ []) → b.kept ≡ a.kept →
+      ((new.printed ≡ old.printed) ⊎ LogGets written old.log a.records new.log) → OnOk r (WritesAll written old a new b)
+  writes_all (Ok v) f g s e k h = λ text head first rs lines t. flushed written text head first old new a b rs lines t f g s e k h
+  writes_all (Err x) f g s e k h = tt
+
+  pub writes_part : (r : Result T E) → OnOk r (Appends old.printed a.lines new.printed) → OnErr r (ShowsFront old.printed a.lines b.lines new.printed) → OnOk r (LogShows written old.log a.records b.records new.log) →
+      OnErr r (LogShowsFront written old.log a.records b.records new.log) → ((new.printed ≡ old.printed) ⊎ LogGets written old.log a.records new.log) → WritesPart written old a new
+  writes_part (Ok y) f u s v h = λ text head first rs lines fault n t.
+      flushed_part written text head first old new a b.records rs lines fault n t (a.lines, [], sym (append-nil a.lines), f) (log_stop written old.log new.log a.records b.records s) h
+  writes_part (Err x) f u s v h = λ text head first rs lines fault n t.
+      flushed_part written text head first old new a b.records rs lines fault n t (let_go old.printed new.printed a.lines b.lines u) v h

@@ -1,0 +1,10 @@
+//! What is told of a run: its records to a log, and its lines to an output, each behind its record.
+#![tactic(auto)]
+
+mod fault;
+mod page;
+mod telling;
+
+pub use fault::RunFault;
+pub use page::Page;
+pub use telling::Telling;

@@ -1,0 +1,160 @@
+//! Text that waits to be written, so that the outside gets few and large pieces.
+ghost use Rattle.std.specs.Prelude.{◌≡◌, ◌≤◌, ◌++◌, [], Some, OnOk, OnErr, IsErrOf};
+ghost use Rattle.bp_base.specs.Counts.{Rose};
+ghost use Rattle.bp_base.specs.Pieces.{Appends, AppendsFront};
+ghost use Rattle.bp_log.specs.Logs.{whole_record, records_text};
+ghost use Rattle.bp_log.specs.Texts.{whole_line, lines_text};
+ghost use Rattle.bp_told.specs.Pages.{Shows, ShowsFront};
+
+use bp_base::{Failed, Sink, write_all};
+use bp_log::{Line, Memory, PrintError, Record, print, write_record};
+use std::alloc::{AllocError, Global};
+use std::marker::Model;
+
+/// How many bytes wait at most before they are written.
+const FULL: usize = 65_536;
+
+/// Text that was not written yet. Contracts see its bytes.
+///
+/// A page takes what is written to it unless memory is wanting. It keeps no count of faults, which
+/// so stands at its greatest.
+#[derive(Drop)]
+pub struct Page {
+    bytes: Vec<u8>,
+}
+
+impl Model for Page {
+    ghost use Rattle.std.specs.Prelude.{ℕ, List};
+
+    ghost Value = { List ℕ };
+
+    ghost view = { λ p. p.bytes.items };
+}
+
+impl Sink for Page {
+    ghost use Rattle.std.specs.Prelude.{Some, None, ◌-◌, ◌^◌};
+
+    ghost written = { λ p. Some p };
+
+    ghost faults = { λ _. 2 ^ 64 - 1 };
+
+    ghost made_as = { λ _. None };
+
+    fn write(&mut self, bytes: &[u8]) -> Result<usize, Failed> {
+        if bytes.is_empty() {
+            return Ok(0);
+        }
+        match self.bytes.extend_from_slice(bytes) {
+            Ok(()) => Ok(bytes.len()),
+            Err(_) => Err(Failed),
+        }
+    }
+}
+
+impl Page {
+    /// An empty page. Takes no memory.
+    pub fn new(alloc: Global) -> Page
+        ensures { result ≡ [] }
+    {
+        Page {
+            bytes: Vec::new(alloc),
+        }
+    }
+
+    /// Whether as much waits as may.
+    pub(crate) fn is_full(&self) -> bool {
+        self.bytes.len() >= FULL
+    }
+
+    /// Puts a line at the end. After want of memory a part of it, from its front, is there.
+    pub(crate) fn add_line(&mut self, alloc: Global, line: &Line) -> Result<(), Memory>
+        ensures added { OnOk result (self.new ≡ self.old ++ whole_line line.now) }
+        ensures front { OnErr result
+            (AppendsFront (Some self.old) (whole_line line.now) (Some self.new)) }
+    {
+        match print(alloc, line, self) {
+            Ok(()) => Ok(()),
+            Err(_) => Err(AllocError),
+        }
+    }
+
+    /// Puts a record at the end. After want of memory a part of it, from its front, is there.
+    fn add_record(&mut self, alloc: Global, entry: &Record) -> Result<(), Memory>
+        ensures added { OnOk result (self.new ≡ self.old ++ whole_record entry.now) }
+        ensures front { OnErr result
+            (AppendsFront (Some self.old) (whole_record entry.now) (Some self.new)) }
+    {
+        match write_record(alloc, entry, self) {
+            Ok(()) => Ok(()),
+            Err(_) => Err(AllocError),
+        }
+    }
+
+    /// Puts the records at the end. After want of memory a part of their text, from its front, is
+    /// there.
+    pub(crate) fn add_records(&mut self, alloc: Global, records: &[Record]) -> Result<(), Memory>
+        ensures added { OnOk result (self.new ≡ self.old ++ records_text records.now) }
+        ensures front { OnErr result
+            (AppendsFront (Some self.old) (records_text records.now) (Some self.new)) }
+    {
+        for entry in records {
+            self.add_record(alloc, entry)?;
+        }
+        Ok(())
+    }
+
+    /// Writes what waits, and then nothing waits. After a refusal a front of it was written.
+    pub fn write<K: Sink>(&mut self, out: &mut K) -> Result<(), Failed>
+        ensures emptied { self.new ≡ [] }
+        ensures whole { OnOk result (Appends (K.written out.old) self.old (K.written out.new)) }
+        ensures front { OnErr result
+            (AppendsFront (K.written out.old) self.old (K.written out.new)) }
+        ensures cause { OnErr result (Rose (K.faults out.old) (K.faults out.new)) }
+        ensures counts { K.faults out.old ≤ K.faults out.new }
+        ensures named { K.made_as out.new ≡ K.made_as out.old }
+    {
+        let written = write_all(out, self.bytes.as_slice());
+        self.bytes.clear();
+        written
+    }
+
+    /// Writes what waits if that is much. After a refusal a front of it was written.
+    pub(crate) fn spill<K: Sink>(&mut self, out: &mut K) -> Result<(), Failed>
+        ensures shows { OnOk result
+            (Shows (K.written out.old) self.old self.new (K.written out.new)) }
+        ensures front { OnErr result
+            (ShowsFront (K.written out.old) self.old self.new (K.written out.new)) }
+        ensures cause { OnErr result (Rose (K.faults out.old) (K.faults out.new)) }
+        ensures counts { K.faults out.old ≤ K.faults out.new }
+        ensures named { K.made_as out.new ≡ K.made_as out.old }
+    {
+        if !self.is_full() {
+            return Ok(());
+        }
+        self.write(out)
+    }
+
+    /// Puts the lines at the end, and writes what waits whenever that is much. After a refusal a
+    /// front of the text was written or waits.
+    pub fn print<K: Sink>(
+        &mut self,
+        alloc: Global,
+        lines: &[Line],
+        out: &mut K,
+    ) -> Result<(), PrintError>
+        ensures shows { let text = self.old ++ lines_text lines.now in
+            OnOk result (Shows (K.written out.old) text self.new (K.written out.new)) }
+        ensures front { let text = self.old ++ lines_text lines.now in
+            OnErr result (ShowsFront (K.written out.old) text self.new (K.written out.new)) }
+        ensures cause { IsErrOf result PrintError.Write
+            → Rose (K.faults out.old) (K.faults out.new) }
+        ensures counts { K.faults out.old ≤ K.faults out.new }
+        ensures named { K.made_as out.new ≡ K.made_as out.old }
+    {
+        for line in lines {
+            self.add_line(alloc, line)?;
+            self.spill(out)?;
+        }
+        Ok(())
+    }
+}

@@ -1,0 +1,6 @@
+pub mod Slices
+pub mod Beside
+pub mod Measure
+pub mod Verdicts
+pub mod Arbiters
+pub mod Turned
