@@ -1,0 +1,4 @@
+pub mod Items
+pub mod Back
+pub mod Hears
+mod Rows

@@ -1,0 +1,12 @@
+use Rattle.std.proofs.Common.{◌≡◌, ◌+◌, false, length}
+use Rattle.bp_floor.specs.declared.phase.Phase.TheVariants as phase
+use Rattle.bp_hear.specs.Hearings.{Hears}
+use Rattle.bp_hear.proofs.hearing.hear.Given as goal
+
+abbrev pub invariant-loop-heard : goal.invariant-loop-heard
+invariant-loop-heard l = record {
+  hears : Hears l.fn.number l.fn.hearing l.fn.core l.hearing l.core;
+  whole : l.core.broken ≡ false;
+  rest : l.core.arbiter.phase ≡ phase.Rest;
+  count : length l.core.arbiter.records ≡ length l.fn.core.arbiter.records + l.heard;
+}
