@@ -1,18 +1,21 @@
 //! The laws of the runs of programs, each as the contract of a function that does nothing.
-ghost use Rattle.std.specs.Prelude.{◌≡◌, ◌≤◌, ◌∷◌, ◌++◌, ℕ, List, length, Some, None, Ok, true, false, slice_get};
+ghost use Rattle.std.specs.Prelude.{◌≡◌, ◌≤◌, ◌<◌, [], ◌∷◌, ◌++◌, ℕ, List, length, Some, None, Ok, true, false, not, nat_eq, is_some, slice_get};
+ghost use Rattle.std.specs.List.{list_any};
 ghost use Rattle.js_program.specs.PlainProgram.{PlainProgram};
 ghost use Rattle.js_meaning.specs.Bodies.{Origin};
 ghost use Rattle.bp_log.specs.Options.{PlainOptions};
-ghost use Rattle.bp_log.specs.Records.{Complete};
+ghost use Rattle.bp_log.specs.Records.{Complete, verdict_of};
 ghost use Rattle.bp_log.specs.declared.record.Record.{Record};
 ghost use Rattle.bp_log.specs.declared.record.Record.TheVariants as recorded;
 ghost use Rattle.bp_log.specs.declared.verdict.Verdict.{Verdict};
+ghost use Rattle.bp_log.specs.declared.verdict.Verdict.TheVariants.{Quiet};
 ghost use Rattle.bp_words.specs.Words.{draw_word};
 ghost use Rattle.bp_run.specs.Configuration.{Configuration, Thread};
 ghost use Rattle.bp_run.specs.Settling.{Pair, turn, settle, at_rest};
 ghost use Rattle.bp_run.specs.Selecting.{live, stated};
 ghost use Rattle.bp_run.specs.Choosing.{Choice, Touched, choice};
 ghost use Rattle.bp_run.specs.Chosen.{IsChosen, AllBlocked};
+ghost use Rattle.bp_run.specs.Injectors.{has_last_of, has_bad};
 ghost use Rattle.bp_run.specs.Numbers.{touch_at, after_touch, touch_of};
 ghost use Rattle.bp_run.specs.Story as story;
 ghost use Rattle.bp_run.specs.Story.{story as told, next, step};
@@ -29,6 +32,41 @@ pub fn one_run()
         (c : Configuration Origin) →
         o.injectors ≡ 0 → told (code_of p o) o records ≡ Some c → Complete records →
         records ≡ records_alone p o }
+    ensures begins { (p : PlainProgram) (o : PlainOptions) (records : List Record)
+        (c : Configuration Origin) →
+        o.injectors ≡ 0 → told (code_of p o) o records ≡ Some c →
+        (later : List Record) × (records ++ later ≡ records_alone p o) }
+{}
+
+/// The records tell who is still read: an injector is read until its last record. They tell too
+/// whether a line was bad.
+pub fn records_tell_who_is_read()
+    ensures read { (p : PlainProgram) (o : PlainOptions) (records : List Record)
+        (c : Configuration Origin) (j : ℕ) →
+        told (code_of p o) o records ≡ Some c → j < o.injectors →
+        list_any (nat_eq j) c.reading ≡ not (has_last_of j records) }
+    ensures bad { (p : PlainProgram) (o : PlainOptions) (records : List Record)
+        (c : Configuration Origin) →
+        told (code_of p o) o records ≡ Some c → is_some c.bad ≡ has_bad records }
+{}
+
+/// A run ends quietly only where every injector was heard to its end and no line was bad; what is
+/// merged never ends it so.
+pub fn quiet_runs_heard_everyone()
+    ensures comes { (p : PlainProgram) (o : PlainOptions) (records : List Record)
+        (c : Configuration Origin) (n : ℕ) →
+        told (code_of p o) o records ≡ Some c → next (code_of p o) o c ≡ story.Next.Ends (Quiet n) →
+        (c.reading ≡ []) × (c.bad ≡ None) × (n ≡ c.stand.transitions) }
+    ensures heard { (p : PlainProgram) (o : PlainOptions) (records : List Record)
+        (c : Configuration Origin) (n j : ℕ) →
+        told (code_of p o) o records ≡ Some c → verdict_of records ≡ Some (Quiet n) →
+        j < o.injectors → has_last_of j records ≡ true }
+    ensures good { (p : PlainProgram) (o : PlainOptions) (records : List Record)
+        (c : Configuration Origin) (n : ℕ) →
+        told (code_of p o) o records ≡ Some c → verdict_of records ≡ Some (Quiet n) →
+        has_bad records ≡ false }
+    ensures merged { (p : PlainProgram) (o : PlainOptions) (q : Pair Origin) (n : ℕ) →
+        (settle (code_of p o) q).verdict ≡ Some (Quiet n) → q.stand.verdict ≡ Some (Quiet n) }
 {}
 
 /// The text of a prefix of the records is a prefix of the text.

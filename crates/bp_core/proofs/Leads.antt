@@ -1,7 +1,7 @@
 -- Where the calls of an arbiter lead, by the steps of a core.
 use Rattle.std.proofs.Common.{◌≡◌, ℕ, Bool, true, false, ◌&&◌, List, [], ◌∷◌, ◌++◌, length, refl, sym, ap, ◌∙◌, subst, Option, Some, None, is_none, append-nil, option_to_list, if◌then◌else◌, nat_eq}
 use Rattle.std.specs.Prelude.{option_and_then, option_map, Result, Ok, Err, OnOk}
-use Rattle.std.specs.List.{list_any, list_all}
+use Rattle.std.specs.List.{list_any}
 use Rattle.js_data.specs.Event.{PlainEvent}
 use Rattle.js_value.specs.Value.{PlainSet}
 use Rattle.js_meaning.specs.State.{Ground}
@@ -10,7 +10,6 @@ use Rattle.bp_log.specs.Options.{PlainOptions}
 use Rattle.bp_log.specs.Records.{is_complete}
 use Rattle.bp_log.specs.declared.item.Item.{Item}
 use Rattle.bp_log.specs.declared.item.Item.TheVariants as item
-use Rattle.bp_log.specs.declared.limits.TheConstants.{MOST_THREADS}
 use Rattle.bp_log.specs.declared.record.Record.{Record}
 use Rattle.bp_log.specs.declared.record.Record.TheVariants.{In, Bad, Eof}
 use Rattle.bp_log.specs.declared.trace.Line.{Line}
@@ -24,7 +23,7 @@ use Rattle.bp_run.specs.Story.Next.{Ends, Selects, Waits}
 use Rattle.bp_run.proofs.Turns.{settle-rest, settle_over}
 use Rattle.bp_steps.specs.declared.step.CoreStep.TheVariants.{Absorb, Pick}
 use Rattle.bp_steps.specs.Merging.{record_by}
-use Rattle.bp_steps.specs.Steps.{Moment, pair_at, at_pair, ends_at, lent_bodies, lends, fresh, settled, is_lent, is_resting, picked, absorbed, turned_with, sealed, after_step}
+use Rattle.bp_steps.specs.Steps.{Moment, pair_at, ends_at, lent_bodies, lends, fresh, settled, is_resting, picked, absorbed, after_step}
 use Rattle.bp_thread.specs.declared.job.Job.{Job}
 use Rattle.bp_floor.specs.declared.phase.Phase.{Phase}
 use Rattle.bp_floor.specs.declared.phase.Phase.TheVariants.{Ready, Lent, Rest, Over}
@@ -36,6 +35,7 @@ use Rattle.bp_arbiter.specs.Arbiters.{opened, PlainArbiter, StandsFor, Recounts,
 use Rattle.bp_arbiter.specs.Absorbing as arbiters
 use Rattle.bp_arbiter.specs.Absorbing.{is_failed, fits, with_item}
 use Rattle.bp_arbiter.specs.Picking.{picked_of, after_pick, phase_after, moved_phase}
+use Rattle.bp_core.specs.Cores.{KeepsProgram}
 use Rattle.bp_core.specs.Moments.{is_ready, AreBegun, IsReadyAt, IsAt, lent_at_once, step_on}
 use Rattle.bp_arbiter.proofs.Absorbs.{one_more, comes_at, event_comes, bad_comes, end_comes}
 use Rattle.bp_arbiter.proofs.Picks.{on}
@@ -126,6 +126,10 @@ ready_from a b taken n program options s rs t f e =
       phase = f;
       lent = e ∙ ap (λ (l : Code Origin PlainSet). lends l (pair_at n)) (sym code);
     }
+
+-- the program of an arbiter that is known to be another
+pub kept_from : (a b new : PlainArbiter) → a ≡ b → KeepsProgram a new → KeepsProgram b new
+kept_from a b new e k = subst (λ (x : PlainArbiter). KeepsProgram x new) e k
 
 -- before anything has run
 pub ready_opened : (program : PlainProgram) (o : PlainOptions) → IsReadyAt (opened program o) [] (steps_opened (code_of program o) o)

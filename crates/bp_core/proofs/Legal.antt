@@ -17,8 +17,8 @@ use Rattle.bp_log.specs.declared.verdict.Verdict.{Verdict}
 use Rattle.bp_run.specs.Bodies as run
 use Rattle.bp_run.specs.Bodies.{Code}
 use Rattle.bp_run.specs.Configuration.{Configuration}
-use Rattle.bp_run.specs.Settling.{Body, Entry, Pair, at_rest}
-use Rattle.bp_run.specs.Story.{after_record, may_come, has_room, is_over}
+use Rattle.bp_run.specs.Settling.{Body, Entry, at_rest}
+use Rattle.bp_run.specs.Story.{after_record, may_come, has_room}
 use Rattle.bp_steps.specs.declared.step.CoreStep.{CoreStep}
 use Rattle.bp_steps.specs.declared.step.CoreStep.TheVariants.{Absorb, Pick, Slice, Seal}
 use Rattle.bp_steps.specs.Merging.{record_by}

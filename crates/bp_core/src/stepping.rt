@@ -1,5 +1,5 @@
 //! A core: an arbiter together with its lent jobs.
-ghost use Rattle.std.specs.Prelude.{◌≡◌, ◌++◌, [], IfOk, IfErr, OnOk, OnErr, IsErr, IsErrAnd, List, length, nat_eq, slice_get, ◌<◌, ◌^◌, Some, None, true, false};
+ghost use Rattle.std.specs.Prelude.{◌≡◌, ◌++◌, [], IfOk, IfErr, OnOk, OnErr, IsErrAnd, List, length, nat_eq, slice_get, ◌<◌, ◌^◌, Some, None, true, false};
 ghost use Rattle.std.specs.List.{list_any, list_all};
 ghost use Rattle.js_meaning.specs.Bodies.{Origin};
 ghost use Rattle.bp_log.specs.declared.trace.Line.{Line};
@@ -10,7 +10,7 @@ ghost use Rattle.bp_steps.specs.declared.step.CoreStep.TheVariants as step;
 ghost use Rattle.bp_steps.specs.Steps.{Moment};
 ghost use Rattle.bp_steps.specs.Steps as steps;
 ghost use Rattle.bp_floor.specs.declared.phase.Phase.TheVariants as phase;
-ghost use Rattle.bp_arbiter.specs.Arbiters.{is_lent, coming, stand_in, Tells};
+ghost use Rattle.bp_arbiter.specs.Arbiters.{opened, is_lent, coming, stand_in, Tells};
 ghost use Rattle.bp_arbiter.specs.Picking.{picked_of};
 ghost use Rattle.bp_arbiter.specs.Absorbing.{is_failed, absorbed, ComesBack};
 ghost use Rattle.bp_core.specs.Cores.{KeepsProgram, HasLent, is_rest, has_outcome};
@@ -122,6 +122,7 @@ impl Core {
     pub fn open(alloc: Global, program: Program, options: Options) -> Result<Core, Memory>
         ensures at { IfOk result (λ c. IsCoreAt c c.jobs.items []
             (steps.opened (code_of program options) options)) }
+        ensures kept { IfOk result (λ c. KeepsProgram (opened program options) c.arbiter) }
         ensures inside { IfOk result (λ c. c.out ≡ false) }
     {
         let mut arbiter = Arbiter::open(alloc, program, options)?;
@@ -283,6 +284,8 @@ impl Core {
     pub fn take_lines(&mut self) -> Lines
         ensures taken { (stand_in self.old.arbiter).lines ≡ result }
         ensures records { self.new.arbiter.records ≡ self.old.arbiter.records }
+        ensures phase { self.new.arbiter.phase ≡ self.old.arbiter.phase }
+        ensures kept { KeepsProgram self.old.arbiter self.new.arbiter }
         ensures jobs { self.new.jobs ≡ self.old.jobs }
         ensures inside { self.new.out ≡ self.old.out }
         ensures at { (lent : List Lent) (taken : List Line) (m : Moment Origin) →

@@ -1,8 +1,7 @@
 -- What is heard goes to the records of one injector, and leaves those of the others.
-use Rattle.std.proofs.Common.{◌≡◌, ◌≢◌, ◌⊎◌, ℕ, ◌+◌, ◌<◌, Bool, true, false, List, [], ◌∷◌, ◌++◌, map, Option, Some, None, option_to_list, length, get_or, set, refl, sym, ap, ◌∙◌, subst, append_assoc, append-nil, eqb-true, arith}
-use Rattle.std.specs.Prelude.{◌==◌, if◌then◌else◌, nat_eq}
-use Rattle.std.specs.List.{filter_map, list_any}
-use Rattle.std.proofs.lemmas.Bool.{false_from_ne_true, eq-eqb, or_parts, or_from, both_ways}
+use Rattle.std.proofs.Common.{◌≡◌, ◌≢◌, ℕ, ◌+◌, ◌<◌, Bool, true, false, List, [], ◌∷◌, ◌++◌, Option, None, option_to_list, length, get_or, set, refl, sym, ap, ◌∙◌, subst, append_assoc, append-nil, eqb-true}
+use Rattle.std.specs.Prelude.{◌==◌}
+use Rattle.std.proofs.lemmas.Bool.{false_from_ne_true, eq-eqb, or_parts, or_from}
 use Rattle.std.proofs.lemmas.List.{get_or-set_other, get_or-set_same, length-set}
 use Rattle.std.proofs.lemmas.List.Elements.{filter_map-append}
 use Rattle.std.proofs.lemmas.List.Folds.{list_any-append}
@@ -14,14 +13,14 @@ use Rattle.bp_log.specs.Options.{PlainOptions}
 use Rattle.bp_log.specs.declared.item.Item.{Item}
 use Rattle.bp_log.specs.declared.item.Item.TheVariants as item
 use Rattle.bp_log.specs.declared.record.Record.{Record}
-use Rattle.bp_log.specs.declared.record.Record.TheVariants.{In, Bad, Eof, Sel, End}
+use Rattle.bp_log.specs.declared.record.Record.TheVariants.{Bad, End}
 use Rattle.bp_lanes.specs.declared.ends.Ear.{Ear}
-use Rattle.bp_lanes.specs.Lanes.{taken, IsSameEar}
+use Rattle.bp_lanes.specs.Lanes.{taken}
 use Rattle.bp_feeds.specs.Items.{is_fault, has_fault}
 use Rattle.bp_steps.specs.declared.step.CoreStep.{CoreStep}
 use Rattle.bp_steps.specs.declared.step.CoreStep.TheVariants.{Absorb}
 use Rattle.bp_steps.specs.Merging.{record_by, item_by, items_by}
-use Rattle.bp_steps.specs.Steps.{Moment, after_step, played}
+use Rattle.bp_steps.specs.Steps.{Moment, played}
 use Rattle.bp_steps.proofs.Played.{last, one_step, steps_on}
 use Rattle.bp_code.specs.Nodes.{nodes_of}
 use Rattle.bp_floor.specs.Programs.{code_of}
@@ -31,7 +30,7 @@ use Rattle.bp_floor.specs.declared.absorb.Absorb.{Absorb as Absorbed}
 use Rattle.bp_floor.specs.declared.absorb.Absorb.TheVariants.{Full, Memory}
 use Rattle.bp_run.specs.Configuration.{Stand}
 use Rattle.bp_core.specs.declared.stepping.Core.{Core}
-use Rattle.bp_core.specs.Cores.{IsCoreAt, Makes, KeepsProgram, played_on, Plays}
+use Rattle.bp_core.specs.Cores.{Makes, KeepsProgram, played_on, Plays}
 use Rattle.bp_hear.specs.declared.hearing.Hearing.{Hearing}
 use Rattle.bp_hear.specs.Hearings.{Brings, Hears, entering, records_by, IsRecorded, AreOthers, AreHeard}
 

@@ -1,8 +1,7 @@
 -- Merges and what was heard, at small texts: two injectors of one or two events, and one with a bad line.
-use Rattle.std.proofs.Common.{◌≡◌, ℕ, zero, suc, List, [], ◌∷◌, ◌++◌, Some, None, refl, sym, ap, ◌∙◌, arith}
-use Rattle.std.specs.Prelude.{codes, slice_get, slice_index_or}
+use Rattle.std.proofs.Common.{◌≡◌, ℕ, zero, suc, List, [], ◌∷◌, Some, None, refl, sym, ap, ◌∙◌, arith}
+use Rattle.std.specs.Prelude.{codes, slice_index_or}
 use Rattle.std.specs.Str.{is_utf8, chars}
-use mathlib.Core.List.{IsPrefix}
 use Rattle.serde_json.proofs.OnLiterals.{serde_json_on_literals}
 use Rattle.js_data.specs.Event.{PlainEvent}
 use Rattle.bp_log.specs.declared.item.Item.{Item}

@@ -1,5 +1,5 @@
 -- How injectors are heard by a core.
-use Rattle.std.specs.Prelude.{◌≡◌, ◌⊎◌, ℕ, ◌<◌, Bool, true, false, nat_eq, List, [], ◌∷◌, ◌++◌, map, length, Option, None, option_to_list, IsSomeAnd, slice_index_or}
+use Rattle.std.specs.Prelude.{◌≡◌, ◌⊎◌, ℕ, ◌<◌, false, nat_eq, List, [], ◌++◌, map, length, None, option_to_list, IsSomeAnd, slice_index_or}
 use Rattle.std.specs.List.{filter_map, list_any}
 use Rattle.bp_log.specs.declared.item.Item.{Item}
 use Rattle.bp_log.specs.declared.record.Record.{Record}

@@ -1,5 +1,5 @@
 //! What is there of an injector enters a core.
-ghost use Rattle.std.specs.Prelude.{◌≡◌, ◌⊎◌, ◌+◌, ◌≤◌, ◌<◌, [], ◌++◌, length, nat_eq, nat_lt, option_to_list, None, Some, true, false, IfOk, OnOk, OnErr, IsErrOf, IfNone, IsSomeAnd, if◌then◌else◌};
+ghost use Rattle.std.specs.Prelude.{◌≡◌, ◌⊎◌, ◌+◌, ◌≤◌, ◌<◌, [], length, nat_eq, nat_lt, option_to_list, None, Some, true, false, IfOk, OnOk, OnErr, IsErrOf, IfNone, IsSomeAnd, if◌then◌else◌};
 ghost use Rattle.std.specs.List.{list_any};
 ghost use Rattle.bp_log.specs.declared.item.Item.TheVariants as item;
 ghost use Rattle.bp_lanes.specs.Lanes.{known};
@@ -58,6 +58,7 @@ fn hear_one(core: &mut Core, number: u32, hearing: &mut Hearing) -> Result<bool,
     ensures hears { Hears number hearing.old core.old hearing.new core.new }
     ensures whole { core.new.broken ≡ false }
     ensures rest { core.new.arbiter.phase ≡ phase.Rest }
+    ensures inside { core.new.out ≡ core.old.out }
     ensures one { IfOk result (λ some. length core.new.arbiter.records
         ≡ length core.old.arbiter.records + (if some then 1 else 0)) }
     ensures out { IfOk result (λ some. some ≡ false → IsHeardOut number core.new hearing.new) }
@@ -103,6 +104,7 @@ pub fn hear(core: &mut Core, number: u32, hearing: &mut Hearing) -> Result<bool,
     ensures others { AreOthers number core.old.arbiter.records core.new.arbiter.records }
     ensures whole { core.new.broken ≡ false }
     ensures rest { core.new.arbiter.phase ≡ phase.Rest }
+    ensures inside { core.new.out ≡ core.old.out }
 
     ensures some { IfOk result (λ some. some
         ≡ nat_lt (length core.old.arbiter.records) (length core.new.arbiter.records)) }

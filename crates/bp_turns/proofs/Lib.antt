@@ -4,3 +4,4 @@ pub mod Measure
 pub mod Verdicts
 pub mod Arbiters
 pub mod Turned
+pub mod Settled

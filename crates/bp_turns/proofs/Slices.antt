@@ -1,10 +1,9 @@
 -- Jobs that are carried on by slices.
-use Rattle.std.proofs.Common.{◌≡◌, ℕ, ◌+◌, ◌<◌, ◌≤◌, Bool, false, List, length, slice_index_or, sym, subst, arith}
-use Rattle.std.proofs.lemmas.List.Elements.{All-from_recursion}
+use Rattle.std.proofs.Common.{◌≡◌, ℕ, ◌+◌, ◌<◌, ◌≤◌, Bool, false, List, All, length, slice_index_or, sym, subst, arith}
+use Rattle.std.proofs.lemmas.List.Elements.{All-get_or}
 use Rattle.js_meaning.specs.State.{Ground, Effect}
 use Rattle.bp_thread.specs.declared.job.Job.{Job}
 use Rattle.bp_thread.specs.Jobs.{StandsAt, Sliced}
-use Rattle.bp_arbiter.specs.Lending.{CanRun, AllCanRun}
 
 -- so many slices were made of the job, and each began a node of the budget
 pub record Begun (base : Ground) (budget slices : ℕ) (j : Job) : Type 0 where
@@ -32,11 +31,7 @@ module _ (base : Ground) (budget : ℕ) where
 
 -- ---- many jobs
 
-pub can_run_at : (base : Ground) (budget : ℕ) (jobs : List Job) (k : ℕ) (d : Job) → AllCanRun base budget jobs → k < length jobs → CanRun base budget (slice_index_or jobs k d)
-can_run_at base budget jobs k d a h = All-from_recursion (CanRun base budget) jobs a k d h
-
 -- the next job is one of those that were given
-pub can_run_next : (base : Ground) (budget : ℕ) (jobs items given : List Job) (i : ℕ) (d : Job) → given ≡ jobs → i < length given → AllCanRun base budget jobs →
-    ((k : ℕ) (e : Job) → i ≤ k → slice_index_or items k e ≡ slice_index_or jobs k e) → CanRun base budget (slice_index_or items i d)
-can_run_next base budget jobs items given i d e h a rest =
-    subst (λ (x : Job). CanRun base budget x) (sym (rest i d (omega arith))) (can_run_at base budget jobs i d a (subst (λ (js : List Job). i < length js) e h))
+pub all_next : (P : Job → Type 0) (jobs items given : List Job) (i : ℕ) (d : Job) → given ≡ jobs → i < length given → All P jobs → ((k : ℕ) (e : Job) → i ≤ k → slice_index_or items k e ≡ slice_index_or jobs k e) →
+    P (slice_index_or items i d)
+all_next P jobs items given i d e h a rest = subst P (sym (rest i d (omega arith))) (All-get_or P jobs i d (subst (λ (js : List Job). i < length js) e h) a)

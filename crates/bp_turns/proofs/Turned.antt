@@ -2,21 +2,18 @@
 use Rattle.std.proofs.Common.{◌≡◌, ◌⊎◌, inl, inr, false, List, [], ◌∷◌, ◌++◌, refl, ap, sym, ◌∙◌, append-nil, Option, Some, None, Ok, Err}
 use Rattle.std.specs.Prelude.{Result, OnOk}
 use Rattle.js_data.proofs.Shared.{one_answer}
-use Rattle.js_value.specs.Value.{PlainSet}
 use Rattle.js_meaning.specs.Bodies.{Origin}
-use Rattle.bp_log.specs.Options.{PlainOptions}
 use Rattle.bp_log.specs.declared.record.Record.{Record}
 use Rattle.bp_log.specs.declared.record.Record.TheVariants.{End}
 use Rattle.bp_log.specs.declared.trace.Line.{Line}
 use Rattle.bp_log.specs.declared.verdict.Verdict.{Verdict}
-use Rattle.bp_run.specs.Bodies.{Code}
 use Rattle.bp_run.specs.Configuration.{Configuration, Stand}
 use Rattle.bp_run.specs.Settling.{Entry, Pair, turn}
 use Rattle.bp_run.specs.Story.{story}
 use Rattle.bp_thread.specs.declared.job.Job.{Job}
 use Rattle.bp_thread.specs.Carried.{AreCarriedOut}
 use Rattle.bp_floor.specs.declared.phase.Phase.{Phase}
-use Rattle.bp_floor.specs.declared.phase.Phase.TheVariants.{Ready, Lent, Rest, Over}
+use Rattle.bp_floor.specs.declared.phase.Phase.TheVariants.{Ready, Over}
 use Rattle.bp_floor.specs.Floors.{phase_at, phase_of}
 use Rattle.bp_arbiter.specs.Arbiters.{PlainArbiter, code_in, options_in, stand_in, Recounts, StandsFor, StandsSomewhere, is_lent, is_over}
 use Rattle.bp_arbiter.specs.Sealing.{ending, after_turn}

@@ -1,8 +1,9 @@
 //! Who carries lent jobs to their outcomes: the calling thread alone, or several workers.
-ghost use Rattle.std.specs.Prelude.{◌<◌, IfOk, ⊤};
+ghost use Rattle.std.specs.Prelude.{◌<◌, All, IfOk, ⊤};
 ghost use Rattle.js_frames.specs.Places.{plain_ground};
+ghost use Rattle.bp_thread.specs.Jobs.{IsWhole};
 ghost use Rattle.bp_thread.specs.Carried.{AreCarriedOut, HaveDistinctNumbers};
-ghost use Rattle.bp_arbiter.specs.Lending.{AllCanRun};
+ghost use Rattle.bp_pool.specs.Carrying.{AreOf, AreOpen};
 
 use crate::carrying::carry_all;
 use bp_log::{Beside, Memory};
@@ -29,7 +30,9 @@ pub trait Carrier {
     ) -> Result<Vec<Job>, Memory>
         requires can_carry { can_carry self.now }
         requires some_budget { 0 < budget }
-        requires can_run { AllCanRun (plain_ground ground.now) budget jobs.items }
+        requires program { AreOf (plain_ground ground.now) jobs.items }
+        requires open { AreOpen jobs.items }
+        requires whole { All (IsWhole (plain_ground ground.now) budget) jobs.items }
         requires distinct { HaveDistinctNumbers jobs.items }
         ensures { IfOk result (λ done.
             AreCarriedOut (plain_ground ground.now) budget jobs.items done.items) };

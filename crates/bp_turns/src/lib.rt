@@ -3,8 +3,10 @@
 
 mod carrier;
 mod carrying;
+mod cores;
 mod settling;
 
 pub use carrier::{Alone, Carrier, Workers};
 pub use carrying::carry_all;
+pub use cores::settle_core;
 pub use settling::settle;

@@ -1,9 +1,9 @@
-use Rattle.std.proofs.Common.{rules, ◌≡◌, ◌+◌, true, length, ◌∙◌, arith}
+use Rattle.std.proofs.Common.{rules, refl, ◌≡◌, ◌+◌, true, length, ◌∙◌, arith}
 use Rattle.bp_hear.proofs.Hears.{hears_still, hears_on, still_recorded, others_stay}
 use Rattle.bp_hear.proofs.hearing.hear.Goals as goal
 
 pub loop-heard-init : goal.loop-heard-init
-loop-heard-init c = record { hears = hears_still _ _ _; whole = c.requires.whole; rest = c.requires.rest; count = omega arith }
+loop-heard-init c = record { hears = hears_still _ _ _; whole = c.requires.whole; rest = c.requires.rest; inside = refl; count = omega arith }
 
 pub loop-heard-preserved : goal.loop-heard-preserved
 loop-heard-preserved c =
@@ -13,6 +13,7 @@ loop-heard-preserved c =
       hears = hears_on _ _ _ _ _ _ _ c.loop-heard.invariant.hears c.hear_one.ensures.hears;
       whole = c.hear_one.ensures.whole;
       rest = c.hear_one.ensures.rest;
+      inside = c.hear_one.ensures.inside ∙ c.loop-heard.invariant.inside;
       count = omega (arith, one, c.loop-heard.invariant.count);
     }
 

@@ -8,5 +8,6 @@ invariant-loop-heard l = record {
   hears : Hears l.fn.number l.fn.hearing l.fn.core l.hearing l.core;
   whole : l.core.broken ≡ false;
   rest : l.core.arbiter.phase ≡ phase.Rest;
+  inside : l.core.out ≡ l.fn.core.out;
   count : length l.core.arbiter.records ≡ length l.fn.core.arbiter.records + l.heard;
 }

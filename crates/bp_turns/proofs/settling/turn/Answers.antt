@@ -1,6 +1,8 @@
 use Rattle.std.proofs.Common.{arith}
 use Rattle.bp_arbiter.specs.Arbiters.{options_in}
 use Rattle.bp_turns.proofs.Arbiters.{turn_records, budget_of, carried_at, can_run_here}
+use Rattle.js_frames.specs.Places.{plain_ground}
+use Rattle.bp_turns.proofs.Beside.{are_of, are_open, are_whole}
 use Rattle.bp_turns.proofs.Turned.{turn_settles}
 use Rattle.bp_turns.proofs.settling.turn.Goals as goal
 
@@ -10,11 +12,26 @@ carry_out-requires-clause-some_budget g c =
     let same = c.budget-budget.ensures.budget in
     omega (arith, some, same)
 
-pub carry_out-requires-clause-can_run : goal.carry_out-requires-clause-can_run
-carry_out-requires-clause-can_run g c =
-    can_run_here _ _ _ c.budget-budget.result c.in_ok-lent.lent.items c.ground.ensures
+pub carry_out-requires-clause-program : goal.carry_out-requires-clause-program
+carry_out-requires-clause-program g c =
+    are_of (plain_ground c.ground.result.now) c.budget-budget.result c.in_ok-lent.lent.items
+    (can_run_here _ _ _ c.budget-budget.result c.in_ok-lent.lent.items c.ground.ensures
     (budget_of c.options.result (options_in c.lend.new.self) c.args.arbiter.now.floor c.floor.result.now c.budget-budget.result c.budget-budget.ensures.budget c.options.ensures c.floor.ensures.floor c.lend.ensures.options)
-    (c.in_ok-lent.ensures.lent).can_run
+    (c.in_ok-lent.ensures.lent).can_run)
+
+pub carry_out-requires-clause-open : goal.carry_out-requires-clause-open
+carry_out-requires-clause-open g c =
+    are_open (plain_ground c.ground.result.now) c.budget-budget.result c.in_ok-lent.lent.items
+    (can_run_here _ _ _ c.budget-budget.result c.in_ok-lent.lent.items c.ground.ensures
+    (budget_of c.options.result (options_in c.lend.new.self) c.args.arbiter.now.floor c.floor.result.now c.budget-budget.result c.budget-budget.ensures.budget c.options.ensures c.floor.ensures.floor c.lend.ensures.options)
+    (c.in_ok-lent.ensures.lent).can_run)
+
+pub carry_out-requires-clause-whole : goal.carry_out-requires-clause-whole
+carry_out-requires-clause-whole g c =
+    are_whole (plain_ground c.ground.result.now) c.budget-budget.result c.in_ok-lent.lent.items
+    (can_run_here _ _ _ c.budget-budget.result c.in_ok-lent.lent.items c.ground.ensures
+    (budget_of c.options.result (options_in c.lend.new.self) c.args.arbiter.now.floor c.floor.result.now c.budget-budget.result c.budget-budget.ensures.budget c.options.ensures c.floor.ensures.floor c.lend.ensures.options)
+    (c.in_ok-lent.ensures.lent).can_run)
 
 pub seal-requires-clause-back : goal.seal-requires-clause-back
 seal-requires-clause-back g c = λ _.
