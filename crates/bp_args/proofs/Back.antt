@@ -1,5 +1,5 @@
 -- The values that a command says are read as that command.
-use Rattle.std.proofs.Common.{◌≡◌, ℕ, ◌<◌, ◌≤◌, ◌^◌, true, List, [], ◌∷◌, Option, Some, None, option_map, option_and_then, refl, sym, ap, ◌∙◌, arith}
+use Rattle.std.proofs.Common.{◌≡◌, ℕ, ◌<◌, ◌≤◌, ◌^◌, true, List, [], ◌∷◌, length, Option, Some, None, option_map, option_and_then, refl, sym, ap, ◌∙◌, arith}
 use Rattle.std.specs.Prelude.{nat_le, if◌then◌else◌, decimal}
 use Rattle.std.proofs.lemmas.Bool.{and_parts, lt-ltb, le-leb, leb-true}
 use Rattle.std.proofs.lemmas.Fmt.{decimal_nonempty, digits_decimal, digits_value-decimal, length-decimal-le}
@@ -19,8 +19,9 @@ use Rattle.bp_args.specs.declared.command.Run.{Run as PlainRun}
 use Rattle.bp_args.specs.declared.command.TheConstants.{MOST_LARGE}
 use Rattle.bp_args.specs.declared.said.Said.{Said}
 use Rattle.bp_args.specs.declared.said.Waiting.TheVariants.{Any}
+use Rattle.bp_args.specs.declared.verb.Verb.TheVariants as verb
 use Rattle.bp_args.specs.Said.{nothing_said, number_word, set}
-use Rattle.bp_args.specs.Command.{run_with, large_of}
+use Rattle.bp_args.specs.Command.{in_range, run_with, large_of, command_with}
 use Rattle.bp_args.specs.Normal.{said_of, set_if, said_from, command_by, command_from}
 use Rattle.bp_args.proofs.Within.{IsRun, IsWithin, is_some_text}
 
@@ -117,18 +118,23 @@ run_said r h =
     ∙ (ap (onward r (Slice ∷ [])) (workers_said five r.beside.workers refl n.workers)
     ∙ ap (onward r []) (slice_said six r.beside.slice refl n.slice))))))
 
-run_back : (r : PlainRun) → IsRun r → run_with (said_by r) r.program ≡ Some (command.Run r)
+run_back : (r : PlainRun) → IsRun r → run_with (said_by r) r.program r.injectors ≡ Some (command.Run r)
 run_back r h =
-    ap (λ b. if b then Some (command.Run (record r { options = record r.options { injectors = 0 } })) else None)
-    (both_true h.options (both_true h.beside h.apart))
-    ∙ ap (λ k. Some (command.Run (record r { options = record r.options { injectors = k } }))) (sym h.none)
+    let count : in_range (record r.options { injectors = length r.injectors }) ≡ true = h.options in
+    ap (λ b. if b then Some (command.Run (record r { options = record r.options { injectors = length r.injectors } })) else None)
+    (both_true count (both_true h.beside h.apart))
+    ∙ ap (λ k. Some (command.Run (record r { options = record r.options { injectors = k } }))) (sym h.count)
+
+-- the word takes as many names
+run_taken : (r : PlainRun) → IsRun r → command_with verb.Run (record (said_by r) { names = r.program ∷ r.injectors }) ≡ run_with (said_by r) r.program r.injectors
+run_taken r h = ap (λ b. if b then run_with (said_by r) r.program r.injectors else None) h.few
 
 large_back : (n : ℕ) → nat_le 1 n ≡ true → nat_le n MOST_LARGE ≡ true → large_of (decimal n) ≡ Some n
 large_back n h k = rw (number_back MOST_LARGE n (omega arith) k, h) refl
 
 -- a command within its ranges is what its words in the normal form say
 pub back : (c : Command) → IsWithin c → command_from (said_of c) ≡ Some c
-back (command.Run r) h = ap (option_and_then (λ s. command_by s (said_of (command.Run r)).words)) (run_said r h) ∙ run_back r h
+back (command.Run r) h = ap (option_and_then (λ s. command_by s (said_of (command.Run r)).words)) (run_said r h) ∙ (run_taken r h ∙ run_back r h)
 back (command.Replay log) h = refl
 back (command.Accept program) h = refl
 back (command.Large n) h = ap (option_map command.Large) (large_back n h.0 h.1)

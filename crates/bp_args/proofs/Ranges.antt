@@ -1,15 +1,16 @@
 -- Options, workers and slice in their ranges.
-use Rattle.std.proofs.Common.{◌≡◌, true, Option, Some, None, refl, ap, arith}
+use Rattle.std.proofs.Common.{◌≡◌, ◌≤◌, true, Option, Some, None, refl, ap}
 use Rattle.std.specs.Prelude.{SomeIff, if◌then◌else◌}
 use Rattle.std.proofs.lemmas.Bool.{and_parts, le-leb, leb-true, false_from_ne_true}
 use Rattle.bp_log.specs.Options.{PlainOptions, AreOptions}
 use Rattle.bp_log.specs.Beside.{PlainBeside, AreBeside}
+use Rattle.bp_log.specs.declared.limits.TheConstants.{MOST_INJECTORS}
 use Rattle.bp_args.specs.Command.{in_range, beside_in_range}
 
 are_in_range : (o : PlainOptions) → AreOptions o → in_range o ≡ true
 are_in_range o h = rw (le-leb _ _ h.some_budget, le-leb _ _ h.budget, le-leb _ _ h.some_steps, le-leb _ _ h.steps) refl
 
-are_options : (o : PlainOptions) → o.injectors ≡ 0 → in_range o ≡ true → AreOptions o
+are_options : (o : PlainOptions) → o.injectors ≤ MOST_INJECTORS → in_range o ≡ true → AreOptions o
 are_options o e h =
     let a = and_parts _ _ h in
     let b = and_parts _ _ a.1 in
@@ -19,10 +20,10 @@ are_options o e h =
       budget = leb-true _ _ b.0;
       some_steps = leb-true _ _ c.0;
       steps = leb-true _ _ c.1;
-      injectors = omega (arith, e);
+      injectors = e;
     }
 
-pub told : (o : PlainOptions) (r : Option PlainOptions) → o.injectors ≡ 0 → SomeIff r (AreOptions o) o → r ≡ (if in_range o then Some o else None)
+pub told : (o : PlainOptions) (r : Option PlainOptions) → o.injectors ≤ MOST_INJECTORS → SomeIff r (AreOptions o) o → r ≡ (if in_range o then Some o else None)
 told o (Some p) e h = rw (are_in_range o h.0) (ap (λ (q : PlainOptions). Some q) h.1)
 told o None e h = rw (false_from_ne_true (in_range o) (λ t. h (are_options o e t))) refl
 

@@ -1,5 +1,5 @@
 -- Commands of words, computed.
-use Rattle.std.proofs.Common.{◌≡◌, ℕ, List, [], ◌∷◌, Option, Some, None, refl}
+use Rattle.std.proofs.Common.{◌≡◌, ℕ, List, [], ◌∷◌, length, Option, Some, None, refl}
 use Rattle.std.specs.Prelude.{codes}
 use Rattle.std.specs.Fmt.{digits}
 use Rattle.bp_log.specs.Options.{PlainOptions, default_options}
@@ -16,10 +16,22 @@ p = codes "p"
 
 -- a run of p
 abbrev run_p : Option (List ℕ) → PlainOptions → PlainBeside → Command
-run_p log options beside = Run (record { program = p; log = log; options = options; beside = beside })
+run_p log options beside = Run (record { program = p; injectors = []; log = log; options = options; beside = beside })
 
 abbrev plain_p : Command
 plain_p = run_p None default_options default_beside
+
+abbrev q : List ℕ
+q = codes "q"
+
+-- a run of p with these injectors
+abbrev run_with_all : List (List ℕ) → Option (List ℕ) → Command
+run_with_all names log =
+    Run (record { program = p; injectors = names; log = log; options = record default_options { injectors = length names }; beside = default_beside })
+
+-- sixteen names
+abbrev sixteen : List (List ℕ)
+sixteen = q ∷ q ∷ q ∷ q ∷ q ∷ q ∷ q ∷ q ∷ q ∷ q ∷ q ∷ q ∷ q ∷ q ∷ q ∷ q ∷ []
 
 -- ---- commands
 
@@ -35,8 +47,17 @@ same_word = refl
 pub options : command_of (codes "run" ∷ codes "--log=l=" ∷ codes "--strategy" ∷ codes "ordered" ∷ codes "--budget=2" ∷ p ∷ codes "--steps=3" ∷ codes "--workers=64" ∷ codes "--slice=1" ∷ []) ≡ Some (run_p (Some (codes "l=")) (record default_options { strategy = Ordered; budget = 2; steps = 3 }) (record { workers = 64; slice = 1 }))
 options = refl
 
-pub dashes : command_of (codes "run" ∷ codes "--" ∷ codes "--seed=1" ∷ []) ≡ Some (Run (record { program = codes "--seed=1"; log = None; options = default_options; beside = default_beside }))
+pub dashes : command_of (codes "run" ∷ codes "--" ∷ codes "--seed=1" ∷ []) ≡ Some (Run (record { program = codes "--seed=1"; injectors = []; log = None; options = default_options; beside = default_beside }))
 dashes = refl
+
+pub injector : command_of (codes "run" ∷ p ∷ q ∷ []) ≡ Some (run_with_all (q ∷ []) None)
+injector = refl
+
+pub injectors : command_of (codes "run" ∷ p ∷ codes "--log=l" ∷ q ∷ codes "--" ∷ codes "--r" ∷ p ∷ []) ≡ Some (run_with_all (q ∷ codes "--r" ∷ p ∷ []) (Some (codes "l")))
+injectors = refl
+
+pub most : command_of (codes "run" ∷ p ∷ sixteen) ≡ Some (run_with_all sixteen None)
+most = refl
 
 pub replay : command_of (codes "replay" ∷ codes "-" ∷ []) ≡ Some (Replay (codes "-"))
 replay = refl
@@ -57,9 +78,6 @@ help = refl
 
 pub no_name : command_of (codes "run" ∷ []) ≡ None
 no_name = refl
-
-pub two_names : command_of (codes "run" ∷ p ∷ codes "--" ∷ codes "q" ∷ []) ≡ None
-two_names = refl
 
 pub twice : command_of (codes "run" ∷ codes "--seed" ∷ codes "1" ∷ codes "--seed=1" ∷ p ∷ []) ≡ None
 twice = refl
@@ -88,6 +106,15 @@ too_many_digits = refl
 pub same_name : command_of (codes "run" ∷ codes "--log" ∷ p ∷ p ∷ []) ≡ None
 same_name = refl
 
+pub same_injector : command_of (codes "run" ∷ p ∷ codes "--log=q" ∷ q ∷ []) ≡ None
+same_injector = refl
+
+pub too_many : command_of (codes "run" ∷ p ∷ q ∷ sixteen) ≡ None
+too_many = refl
+
+pub two_logs : command_of (codes "replay" ∷ p ∷ q ∷ []) ≡ None
+two_logs = refl
+
 pub too_large : command_of (codes "large" ∷ codes "4001" ∷ []) ≡ None
 too_large = refl
 
@@ -96,6 +123,10 @@ too_large = refl
 pub normal_run : normal_words (said_of plain_p) ≡ codes "--strategy=simple" ∷ codes "--seed=0" ∷ codes "--budget=1000000" ∷ codes "--steps=100000" ∷ codes "--workers=4" ∷ codes "--slice=10000" ∷ codes "--" ∷ codes "run" ∷ p ∷ []
 unfolding digits
 normal_run = refl
+
+pub normal_injectors : normal_words (said_of (run_with_all (q ∷ []) (Some (codes "l")))) ≡ codes "--log=l" ∷ codes "--strategy=simple" ∷ codes "--seed=0" ∷ codes "--budget=1000000" ∷ codes "--steps=100000" ∷ codes "--workers=4" ∷ codes "--slice=10000" ∷ codes "--" ∷ codes "run" ∷ p ∷ q ∷ []
+unfolding digits
+normal_injectors = refl
 
 pub normal_large : normal_words (said_of (Large 7)) ≡ codes "--" ∷ codes "large" ∷ codes "7" ∷ []
 unfolding digits

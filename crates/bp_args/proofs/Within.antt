@@ -17,9 +17,9 @@ use Rattle.bp_args.specs.declared.said.Waiting.{Waiting}
 use Rattle.bp_args.specs.declared.said.Waiting.TheVariants.{Any, Value, Name}
 use Rattle.bp_args.specs.declared.verb.Verb.{Verb}
 use Rattle.bp_args.specs.declared.verb.Verb.TheVariants as verb
-use Rattle.bp_args.specs.Verbs.{verb_at, allows}
+use Rattle.bp_args.specs.Verbs.{verb_at, allows, takes}
 use Rattle.bp_args.specs.Said.{nothing_said, said_on, step, step_at, option_in, parts_at, key_of, name, is_name, set, once, some_text, number_word, is_whole, only}
-use Rattle.bp_args.specs.Command.{options_of, in_range, beside_of, beside_in_range, is_apart, run_with, one_name, large_of, command_for, command_with, command_behind, command_of}
+use Rattle.bp_args.specs.Command.{options_of, in_range, beside_of, beside_in_range, is_apart, run_with, command_on, command_for, command_with, command_behind, command_of}
 
 -- ---- what words say
 
@@ -110,10 +110,11 @@ said_kept s (word ∷ words) h = after_kept _ (step s word) (step_kept s word s.
 
 pub record IsRun (r : PlainRun) : Type 0 where
   pub options : in_range r.options ≡ true
-  pub none : r.options.injectors ≡ 0
+  pub count : r.options.injectors ≡ length r.injectors
+  pub few : takes verb.Run (length (r.program ∷ r.injectors)) ≡ true
   pub seed : nat_le r.options.seed most_64 ≡ true
   pub beside : beside_in_range r.beside ≡ true
-  pub apart : is_apart r.program r.log ≡ true
+  pub apart : is_apart (r.program ∷ r.injectors) r.log ≡ true
   pub log : is_some_text r.log ≡ true
 
 -- the numbers are in their ranges, and the log has a name of its own
@@ -143,17 +144,24 @@ seed_fits : (o : Option ℕ) → Capped most_64 o → nat_le (unwrap_or o 0) mos
 seed_fits None h = refl
 seed_fits (Some n) h = h
 
-abbrev run_asked : Said → List ℕ → PlainRun
-run_asked s program = record { program = program; log = s.log; options = options_of s; beside = beside_of s }
+abbrev run_asked : Said → List ℕ → List (List ℕ) → PlainRun
+run_asked s program injectors = record {
+  program = program;
+  injectors = injectors;
+  log = s.log;
+  options = options_of s (length injectors);
+  beside = beside_of s;
+}
 
-run_within : (s : Said) (program : List ℕ) → Holds s → Within (run_with s program)
-run_within s program h =
-    if_within _ (Some (command.Run (run_asked s program))) (λ t.
-    let a = and_parts (in_range (options_of s)) _ t in
+run_within : (s : Said) (program : List ℕ) (injectors : List (List ℕ)) → Holds s → takes verb.Run (length (program ∷ injectors)) ≡ true → Within (run_with s program injectors)
+run_within s program injectors h few =
+    if_within _ (Some (command.Run (run_asked s program injectors))) (λ t.
+    let a = and_parts (in_range (options_of s (length injectors))) _ t in
     let b = and_parts (beside_in_range (beside_of s)) _ a.1 in
     record {
       options = a.0;
-      none = refl;
+      count = refl;
+      few = few;
       seed = seed_fits s.seed h.seed;
       beside = b.0;
       apart = b.1;
@@ -168,15 +176,15 @@ threads_within : (o : Option ℕ) → Capped MOST_LARGE o → Within (option_map
 threads_within None h = tt
 threads_within (Some n) h = some_threads (nat_le 1 n) n (λ t. (t, h))
 
-large_within : (o : Option (List ℕ)) → Within (option_map command.Large (option_and_then large_of o))
-large_within None = tt
-large_within (Some word) = threads_within (number_word MOST_LARGE word) (number_capped MOST_LARGE word)
+on_within : (v : Verb) (s : Said) (name : List ℕ) (more : List (List ℕ)) → Holds s → takes v (length (name ∷ more)) ≡ true → Within (command_on v s name more)
+on_within verb.Run s program injectors h t = run_within s program injectors h t
+on_within verb.Replay s log more h t = tt
+on_within verb.Accept s program more h t = tt
+on_within verb.Large s number more h t = threads_within (number_word MOST_LARGE number) (number_capped MOST_LARGE number)
 
-for_within : (v : Verb) (s : Said) → Holds s → Within (command_for v s)
-for_within verb.Run s h = then_within (run_with s) (one_name s.names) (λ program. run_within s program h)
-for_within verb.Replay s h = map_within command.Replay (one_name s.names) (λ x. tt)
-for_within verb.Accept s h = map_within command.Accept (one_name s.names) (λ x. tt)
-for_within verb.Large s h = large_within (one_name s.names)
+for_within : (v : Verb) (s : Said) (names : List (List ℕ)) → Holds s → takes v (length names) ≡ true → Within (command_for v s names)
+for_within v s [] h t = tt
+for_within v s (name ∷ more) h t = on_within v s name more h t
 
 said_within : (f : Said → Option Command) (o : Option Said) → Kept o → ((s : Said) → Holds s → Within (f s)) → Within (option_and_then f o)
 said_within f None k h = tt
@@ -185,7 +193,9 @@ said_within f (Some s) k h = h s k
 behind_within : (words : List (List ℕ)) (v : Verb) → Within (command_behind words v)
 behind_within words v =
     said_within (command_with v) (said_on nothing_said words) (said_kept nothing_said words (record { log = refl; seed = tt })) (λ s h.
-    if_within (is_whole s.waiting && only (allows v) s) (command_for v s) (λ t. for_within v s h))
+    if_within (is_whole s.waiting && (only (allows v) s && takes v (length s.names))) (command_for v s s.names) (λ t.
+    let a = and_parts (is_whole s.waiting) _ t in
+    for_within v s s.names h (and_parts (only (allows v) s) _ a.1).1))
 
 words_within : (words : List (List ℕ)) → Within (command_of words)
 words_within [] = tt

@@ -1,5 +1,6 @@
 -- The command that words are.
-use Rattle.std.specs.Prelude.{ℕ, ◌&&◌, Bool, true, not, nat_le, if◌then◌else◌, List, [], ◌∷◌, Option, Some, None, option_map, option_and_then, unwrap_or}
+use Rattle.std.specs.Prelude.{ℕ, ◌&&◌, Bool, true, not, nat_le, if◌then◌else◌, List, [], ◌∷◌, length, Option, Some, None, option_map, option_and_then, unwrap_or}
+use Rattle.std.specs.List.{list_any}
 use Rattle.std.specs.Str.{bytes_eq}
 use Rattle.bp_log.specs.Options.{PlainOptions, default_options}
 use Rattle.bp_log.specs.Beside.{PlainBeside, default_beside}
@@ -10,17 +11,17 @@ use Rattle.bp_args.specs.declared.command.TheConstants.{MOST_LARGE}
 use Rattle.bp_args.specs.declared.said.Said.{Said}
 use Rattle.bp_args.specs.declared.verb.Verb.{Verb}
 use Rattle.bp_args.specs.declared.verb.Verb.TheVariants as verb
-use Rattle.bp_args.specs.Verbs.{verb_at, allows}
+use Rattle.bp_args.specs.Verbs.{verb_at, allows, takes}
 use Rattle.bp_args.specs.Said.{nothing_said, said_on, number_word, is_whole, only}
 
--- the options that are said, each other one as where nothing is said
-abbrev pub options_of : Said → PlainOptions
-options_of s = record {
+-- the options that are said, each other one as where nothing is said, for so many injectors
+abbrev pub options_of : Said → ℕ → PlainOptions
+options_of s injectors = record {
   strategy = unwrap_or s.strategy default_options.strategy;
   seed = unwrap_or s.seed default_options.seed;
   budget = unwrap_or s.budget default_options.budget;
   steps = unwrap_or s.steps default_options.steps;
-  injectors = 0;
+  injectors = injectors;
 }
 
 -- what is said of workers and slice, each as where nothing is said if it is not
@@ -41,45 +42,47 @@ beside_in_range b =
     nat_le 1 b.workers && (nat_le b.workers MOST_WORKERS
     && (nat_le 1 b.slice && nat_le b.slice MOST_SLICE))
 
--- the log has another name than the program
-abbrev pub is_apart : List ℕ → Option (List ℕ) → Bool
-is_apart program None = true
-is_apart program (Some log) = not (bytes_eq log program)
+-- the log has a name that none of these is
+abbrev pub is_apart : List (List ℕ) → Option (List ℕ) → Bool
+is_apart names None = true
+is_apart names (Some log) = not (list_any (bytes_eq log) names)
 
-abbrev pub run_with : Said → List ℕ → Option Command
-run_with s program =
-    if in_range (options_of s) && (beside_in_range (beside_of s) && is_apart program s.log)
+-- a run of this program with these injectors
+abbrev pub run_with : Said → List ℕ → List (List ℕ) → Option Command
+run_with s program injectors =
+    if in_range (options_of s (length injectors))
+    && (beside_in_range (beside_of s) && is_apart (program ∷ injectors) s.log)
     then Some (command.Run (record {
       program = program;
+      injectors = injectors;
       log = s.log;
-      options = options_of s;
+      options = options_of s (length injectors);
       beside = beside_of s;
     }))
     else None
-
--- the one name
-abbrev pub one_name : List (List ℕ) → Option (List ℕ)
-one_name [] = None
-one_name (name ∷ []) = Some name
-one_name (name ∷ other ∷ names) = None
-
-abbrev pub run_of : Said → Option Command
-run_of s = option_and_then (run_with s) (one_name s.names)
 
 -- so many b-threads, from 1 to the most
 abbrev pub large_of : List ℕ → Option ℕ
 large_of word = option_and_then (λ n. if nat_le 1 n then Some n else None) (number_word MOST_LARGE word)
 
--- the command of this first word, where this is said behind it and each option is allowed
-abbrev pub command_for : Verb → Said → Option Command
-command_for verb.Run s = run_of s
-command_for verb.Replay s = option_map command.Replay (one_name s.names)
-command_for verb.Accept s = option_map command.Accept (one_name s.names)
-command_for verb.Large s = option_map command.Large (option_and_then large_of (one_name s.names))
+-- the command of this first word, with this name and those behind it
+abbrev pub command_on : Verb → Said → List ℕ → List (List ℕ) → Option Command
+command_on verb.Run s program injectors = run_with s program injectors
+command_on verb.Replay s log more = Some (command.Replay log)
+command_on verb.Accept s program more = Some (command.Accept program)
+command_on verb.Large s number more = option_map command.Large (large_of number)
 
+abbrev pub command_for : Verb → Said → List (List ℕ) → Option Command
+command_for v s [] = None
+command_for v s (name ∷ more) = command_on v s name more
+
+-- the command of this first word, where this is said behind it: each option is allowed, and the
+-- word takes so many names
 abbrev pub command_with : Verb → Said → Option Command
 command_with v s =
-    if is_whole s.waiting && only (allows v) s then command_for v s else None
+    if is_whole s.waiting && (only (allows v) s && takes v (length s.names))
+    then command_for v s s.names
+    else None
 
 -- the command of these words behind this first one
 abbrev pub command_behind : List (List ℕ) → Verb → Option Command

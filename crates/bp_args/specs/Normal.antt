@@ -37,7 +37,7 @@ said_of (command.Run asked) = record {
   steps = Some (decimal asked.options.steps);
   workers = Some (decimal asked.beside.workers);
   slice = Some (decimal asked.beside.slice);
-  words = verb_name verb.Run ∷ asked.program ∷ [];
+  words = verb_name verb.Run ∷ asked.program ∷ asked.injectors;
 }
 said_of (command.Replay log) = bare_values verb.Replay log
 said_of (command.Accept program) = bare_values verb.Accept program

@@ -1,6 +1,7 @@
--- The first words of commands, and what each allows.
-use Rattle.std.specs.Prelude.{ℕ, Bool, true, false, List, [], ◌∷◌, Option, find, codes}
+-- The first words of commands, and what each allows behind it.
+use Rattle.std.specs.Prelude.{ℕ, ◌+◌, Bool, true, false, ◌&&◌, nat_le, List, [], ◌∷◌, Option, find, codes}
 use Rattle.std.specs.Str.{bytes_eq}
+use Rattle.bp_log.specs.declared.limits.TheConstants.{MOST_INJECTORS}
 use Rattle.bp_matches.specs.declared.key.Key.{Key}
 use Rattle.bp_args.specs.declared.verb.Verb.{Verb}
 use Rattle.bp_args.specs.declared.verb.Verb.TheVariants.{Run, Replay, Accept, Large}
@@ -24,3 +25,14 @@ allows Run k = true
 allows Replay k = false
 allows Accept k = false
 allows Large k = false
+
+-- how many names may stand behind a first word: of `run` the program and its injectors
+abbrev pub most_names : Verb → ℕ
+most_names Run = 1 + MOST_INJECTORS
+most_names Replay = 1
+most_names Accept = 1
+most_names Large = 1
+
+-- at least one name stands there, and no more than may
+abbrev pub takes : Verb → ℕ → Bool
+takes v n = nat_le 1 n && nat_le n (most_names v)

@@ -1,13 +1,16 @@
 //! The command that words are.
-ghost use Rattle.std.specs.Prelude.{◌≡◌, Some, None, map, string_bytes, IfOk, IsErrOf, if◌then◌else◌};
+ghost use Rattle.std.specs.Prelude.{◌≡◌, ◌≤◌, true, length, slice_get, Some, None, map, string_bytes, IfOk, IsErrOf, if◌then◌else◌};
 ghost use Rattle.bp_matches.specs.Keys.{keys};
+ghost use Rattle.bp_args.specs.declared.verb.Verb.TheVariants as verb;
+ghost use Rattle.bp_args.specs.Verbs.{takes};
 ghost use Rattle.bp_args.specs.Said.{nothing_said, said_on};
-ghost use Rattle.bp_args.specs.Command.{options_of, in_range, beside_of, beside_in_range, is_apart as apart, run_of, one_name, large_of, command_for, command_with, command_of};
+ghost use Rattle.bp_args.specs.Command.{options_of, in_range, beside_of, beside_in_range, is_apart as apart, large_of, command_for, command_with, command_of};
 ghost use Rattle.bp_args.specs.Normal.{said_from, command_from};
 
 use crate::normal::normal_of;
 use crate::said::{Said, number_of};
 use crate::verb::Verb;
+use bp_log::limits::MOST_INJECTORS;
 use bp_log::{Beside, Options};
 use bp_matches::{Key, Values, Words, values_of};
 use js_data::Text;
@@ -22,6 +25,8 @@ pub const MOST_LARGE: u32 = 4_000;
 pub struct Run {
     /// The name of the program.
     pub program: Text,
+    /// The names of the injectors, in order.
+    pub injectors: Words,
     /// The name of the log, where one is written.
     pub log: Option<Text>,
     /// What is asked of the run.
@@ -66,16 +71,19 @@ impl From<AllocError> for Usage {
     }
 }
 
-/// The options that are said, or `None` exactly where one is out of its range.
-fn options_of(said: &Said) -> Option<Options>
-    ensures { result ≡ (if in_range (options_of said.now) then Some (options_of said.now) else None) }
+/// The options that are said, for so many injectors, or `None` exactly where one is out of its
+/// range.
+fn options_of(said: &Said, injectors: u32) -> Option<Options>
+    requires { injectors ≤ MOST_INJECTORS }
+    ensures { result ≡ (if in_range (options_of said.now injectors)
+        then Some (options_of said.now injectors) else None) }
 {
     let defaults = Options::defaults();
     let strategy = said.strategy.unwrap_or(defaults.strategy());
     let seed = said.seed.unwrap_or(defaults.seed());
     let budget = said.budget.unwrap_or(defaults.budget());
     let steps = said.steps.unwrap_or(defaults.steps());
-    Options::new(strategy, seed, budget, steps, 0)
+    Options::new(strategy, seed, budget, steps, injectors)
 }
 
 /// Workers and slice as they are said, or `None` exactly where one is out of its range.
@@ -89,53 +97,54 @@ fn beside_of(said: &Said) -> Option<Beside>
     Beside::new(workers, slice)
 }
 
-/// Whether the log has another name than the program.
-fn is_apart(program: &Text, log: &Option<Text>) -> bool
-    ensures { result ≡ apart program.now log.now }
+/// Whether the log has a name that none of these is.
+fn is_apart(names: &[Text], log: &Option<Text>) -> bool
+    ensures { result ≡ apart names.now log.now }
 {
-    match log {
-        None => true,
-        Some(log) => !log.same(program),
+    let Some(own) = log else {
+        return true;
+    };
+    for name in names {
+        if own.same(name) {
+            return false;
+        }
     }
+    true
 }
 
-/// The one name, or `None` exactly where there is none or more than one.
-fn one_name(names: Words) -> Option<Text>
-    ensures { result ≡ one_name names }
-{
-    let mut names = names.into_vec();
-    let last = names.pop()?;
-    if !names.is_empty() {
-        return None;
-    }
-    Some(last)
-}
-
-/// The run of the one name.
+/// The run of the first name, with the other names as its injectors.
 fn run_of(said: Said) -> Option<Command>
-    ensures { result ≡ run_of said }
+    requires { takes verb.Run (length said.names) ≡ true }
+    ensures { result ≡ command_for verb.Run said said.names }
 {
-    let options = options_of(&said)?;
+    let injectors = (said.names.as_slice().len() - 1) as u32;
+    let options = options_of(&said, injectors)?;
     let beside = beside_of(&said)?;
     let (names, log) = said.into_names();
-    let program = one_name(names)?;
-    if !is_apart(&program, &log) {
+    if !is_apart(names.as_slice(), &log) {
         return None;
     }
+    let mut injectors = names.into_vec();
+    let program = injectors.remove(0);
     Some(Command::Run(Run {
         program,
+        injectors: Words::new(injectors),
         log,
         options,
         beside,
     }))
 }
 
-/// The one name that is said.
+/// The first name that is said.
 fn name_of(said: Said) -> Option<Text>
-    ensures { result ≡ one_name said.names }
+    ensures { result ≡ slice_get said.names 0 }
 {
     let (names, _) = said.into_names();
-    one_name(names)
+    let mut names = names.into_vec();
+    if names.is_empty() {
+        return None;
+    }
+    Some(names.remove(0))
 }
 
 /// The number of b-threads, or `None` exactly where the word is no number from 1 to the most.
@@ -149,9 +158,11 @@ fn large_of(word: &Text) -> Option<u32>
     Some(threads as u32)
 }
 
-/// The command of this first word, where this is said behind it and each option is allowed.
+/// The command of this first word, where this is said behind it, each option is allowed, and the
+/// word takes so many names.
 fn command_for(verb: Verb, said: Said) -> Option<Command>
-    ensures { result ≡ command_for verb said }
+    requires { takes verb (length said.names) ≡ true }
+    ensures { result ≡ command_for verb said said.names }
 {
     match verb {
         Verb::Run => run_of(said),
@@ -165,7 +176,7 @@ fn command_for(verb: Verb, said: Said) -> Option<Command>
 fn command_with(verb: Verb, said: Said) -> Option<Command>
     ensures { result ≡ command_with verb said }
 {
-    if !said.is_whole() || !said.only(verb) {
+    if !said.is_whole() || !said.only(verb) || !verb.takes(said.names.as_slice().len()) {
         return None;
     }
     command_for(verb, said)

@@ -20,14 +20,16 @@ fn number_text(alloc: Global, number: u64) -> Result<Text, Memory>
     Ok(Text::new(format!(in alloc; "{number}")?))
 }
 
-/// The first word and the one name. Its only error is want of memory.
-fn words_of(alloc: Global, verb: Verb, name: Text) -> Result<Words, Memory>
-    ensures { IfOk result (λ w. w ≡ verb_name verb ∷ name ∷ []) }
+/// The first word, a name, and the names behind it. Its only error is want of memory.
+fn words_of(alloc: Global, verb: Verb, name: Text, more: Words) -> Result<Words, Memory>
+    ensures { IfOk result (λ w. w ≡ verb_name verb ∷ name ∷ more) }
 {
-    let mut words = Words::new(Vec::new(alloc));
+    let mut words = Vec::new(alloc);
     words.push(text_of(alloc, verb.name())?)?;
     words.push(name)?;
-    Ok(words)
+    let mut more = more.into_vec();
+    words.append(&mut more)?;
+    Ok(Words::new(words))
 }
 
 /// What a command without options says. Its only error is want of memory.
@@ -42,7 +44,7 @@ fn bare_values(alloc: Global, verb: Verb, name: Text) -> Result<Values, Memory>
         steps: None,
         workers: None,
         slice: None,
-        words: words_of(alloc, verb, name)?,
+        words: words_of(alloc, verb, name, Words::new(Vec::new(alloc)))?,
     })
 }
 
@@ -53,6 +55,7 @@ fn run_values(alloc: Global, run: Run) -> Result<Values, Memory>
 {
     let Run {
         program,
+        injectors,
         log,
         options,
         beside,
@@ -65,7 +68,7 @@ fn run_values(alloc: Global, run: Run) -> Result<Values, Memory>
         steps: Some(number_text(alloc, u64::from(options.steps()))?),
         workers: Some(number_text(alloc, u64::from(beside.workers()))?),
         slice: Some(number_text(alloc, beside.slice())?),
-        words: words_of(alloc, Verb::Run, program)?,
+        words: words_of(alloc, Verb::Run, program, injectors)?,
     })
 }
 

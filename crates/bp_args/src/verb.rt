@@ -1,7 +1,8 @@
 //! The first words of commands.
 ghost use Rattle.std.specs.Prelude.{◌≡◌};
-ghost use Rattle.bp_args.specs.Verbs.{verb_name, verbs, verb_at, allows as allowed};
+ghost use Rattle.bp_args.specs.Verbs.{verb_name, verbs, verb_at, allows as allowed, most_names as most_behind, takes as taken_by};
 
+use bp_log::limits::MOST_INJECTORS;
 use bp_matches::Key;
 
 /// The first word of a command.
@@ -57,5 +58,22 @@ impl Verb {
             (Verb::Run, _) => true,
             (Verb::Replay | Verb::Accept | Verb::Large, _) => false,
         }
+    }
+
+    /// How many names may stand behind the word.
+    fn most_names(self) -> usize
+        ensures { result ≡ most_behind self }
+    {
+        match self {
+            Verb::Run => 1 + MOST_INJECTORS as usize,
+            Verb::Replay | Verb::Accept | Verb::Large => 1,
+        }
+    }
+
+    /// Whether so many names may stand behind the word.
+    pub fn takes(self, names: usize) -> bool
+        ensures { result ≡ taken_by self names }
+    {
+        1 <= names && names <= self.most_names()
     }
 }

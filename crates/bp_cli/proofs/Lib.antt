@@ -1,3 +1,9 @@
-pub mod Runs
+pub mod Asking
 pub mod Endings
+pub mod Injected
+pub mod Measured
+pub mod Opens
+pub mod Refused
+pub mod Replays
+pub mod Runs
 pub mod Words

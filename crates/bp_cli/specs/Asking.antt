@@ -1,5 +1,6 @@
 -- What a command asks of the world.
 use Rattle.std.specs.Prelude.{◌≡◌, ℕ, List, [], ◌∷◌, ◌++◌, take, Option, Some, None, IfSome, option_to_list}
+use mathlib.Core.List.{IsPrefix}
 use Rattle.bp_args.specs.declared.command.Command.{Command}
 use Rattle.bp_args.specs.declared.command.Command.TheVariants.{Run, Replay, Accept, Large}
 use Rattle.bp_cli.specs.declared.conclusion.Conclusion.{Conclusion}
@@ -7,7 +8,7 @@ use Rattle.bp_cli.specs.declared.conclusion.Conclusion.TheVariants.{Refused, Not
 
 -- its names, in the order in which the world is asked for them
 abbrev pub names_of : Command → List (List ℕ)
-names_of (Run asked) = asked.program ∷ option_to_list asked.log
+names_of (Run asked) = asked.program ∷ (asked.injectors ++ option_to_list asked.log)
 names_of (Replay log) = log ∷ []
 names_of (Accept program) = program ∷ []
 names_of (Large n) = []
@@ -16,12 +17,13 @@ names_of (Large n) = []
 abbrev pub WasAsked : Option (List (List ℕ)) → List (List ℕ) → Option (List (List ℕ)) → Type 0
 WasAsked before names after = IfSome before (λ asked. after ≡ Some (asked ++ names))
 
--- so many of its names a command asks for that ends so: the first where that was not read or is
--- refused, some where memory was wanting, and else all
+-- so many of its names, from their front, a command asks for that ends so: the first where that is
+-- refused, the first and maybe more where reading failed, some where memory was wanting, and else
+-- all
 abbrev pub AsksFor : Conclusion → List (List ℕ) → List (List ℕ) → Type 0
-AsksFor NotRead names asked = asked ≡ take 1 names
 AsksFor (Refused refusal) names asked = asked ≡ take 1 names
-AsksFor NoMemory names asked = (rest : List (List ℕ)) × (names ≡ asked ++ rest)
+AsksFor NotRead names asked = IsPrefix (take 1 names) asked × IsPrefix asked names
+AsksFor NoMemory names asked = IsPrefix asked names
 AsksFor _ names asked = asked ≡ names
 
 -- words that are no command ask for nothing
@@ -29,4 +31,5 @@ abbrev pub AsksIn : Option Command →
     Option (List (List ℕ)) → Option (List (List ℕ)) → Conclusion → Type 0
 AsksIn None before after conclusion = after ≡ before
 AsksIn (Some command) before after conclusion =
-    (asked : List (List ℕ)) × AsksFor conclusion (names_of command) asked × WasAsked before asked after
+    (asked : List (List ℕ)) × AsksFor conclusion (names_of command) asked
+    × WasAsked before asked after

@@ -1,80 +1,73 @@
 -- Why a command ends as it does, and what came of it outside.
-use Rattle.std.specs.Prelude.{◌≡◌, ◌⊎◌, ℕ, List, Option, Some, None}
-use Rattle.bp_base.specs.Worlds.{Holdings}
-use Rattle.bp_script.specs.Programs.{IsRefused}
+use Rattle.std.specs.Prelude.{◌≡◌, ◌⊎◌, ℕ, List, [], Option, Some, None}
+use Rattle.bp_log.specs.declared.record.Record.{Record}
 use Rattle.bp_args.specs.declared.command.Command.{Command}
 use Rattle.bp_args.specs.declared.command.Command.TheVariants.{Run, Replay, Accept, Large}
 use Rattle.bp_cli.specs.declared.conclusion.Conclusion.{Conclusion}
-use Rattle.bp_cli.specs.declared.conclusion.Conclusion.TheVariants.{NoCommand, Refused, Accepted, Ran, NotRead, NotWritten, NoMemory}
+use Rattle.bp_cli.specs.declared.conclusion.Conclusion.TheVariants.{NoCommand, Refused, Accepted, Ran, NotRead, NotWritten, NoMemory, BadLog}
 use Rattle.bp_cli.specs.Outside.{Outside, ReadFailed, WriteFailed, IsAsBefore, IsUnder}
-use Rattle.bp_cli.specs.Texts.{SaysAccepted, SaysAcceptedPartly}
-use Rattle.bp_cli.specs.Runs.{RunsTo, RunsPartly}
-use Rattle.bp_large.specs.Large.{large_program}
-use Rattle.bp_cli.specs.Large.{MeasuresTo, MeasuresPartly}
+use Rattle.bp_cli.specs.Texts.{SaysAccepted}
+use Rattle.bp_cli.specs.Runs.{IsRunOf}
+use Rattle.bp_cli.specs.Loading.{IsRefusedUnder}
+use Rattle.bp_cli.specs.Large.{Measures}
 use Rattle.bp_cli.specs.Conclusions.{IsStatusOf}
 use Rattle.bp_cli.specs.Asking.{AsksIn}
-use Rattle.bp_cli.specs.Replaying.{ReplayEnds}
+use Rattle.bp_cli.specs.Replaying.{ReplaysTo}
 
--- what a command works on: what the world holds under its first name, or the large program
-abbrev pub IsGiven : Option Holdings → Command → List ℕ → Type 0
-IsGiven holds (Run asked) bytes = IsUnder holds asked.program bytes
-IsGiven holds (Replay log) bytes = IsUnder holds log bytes
-IsGiven holds (Accept program) bytes = IsUnder holds program bytes
-IsGiven holds (Large n) bytes = bytes ≡ large_program n
+-- a failure has its cause
+abbrev pub IsCaused : Outside → Outside → Conclusion → Type 0
+IsCaused before after NotRead = ReadFailed before after
+IsCaused before after NotWritten = WriteFailed before after
+IsCaused before after NoMemory = Unit {0}
+IsCaused before after NoCommand = Unit {0}
+IsCaused before after (Refused refusal) = Unit {0}
+IsCaused before after Accepted = Unit {0}
+IsCaused before after (Ran verdict) = Unit {0}
+IsCaused before after (BadLog fault) = Unit {0}
 
--- what comes of a command on these bytes, where it ends so
-abbrev pub ComesOf : Command → List ℕ → Outside → Outside → Conclusion → Type 0
--- what runs them came to the verdict, and all that is told of it came outside
-ComesOf (Run asked) bytes before after (Ran v) = RunsTo asked bytes before after v
-ComesOf (Large n) bytes before after (Ran v) =
-    MeasuresTo n before.printed after.printed v × (after.holds ≡ before.holds)
--- they are accepted, and that was printed
-ComesOf (Accept program) bytes before after Accepted = SaysAccepted bytes before after
--- they are refused so, and nothing came of it outside; the large program is never refused
-ComesOf (Run asked) bytes before after (Refused refusal) =
-    IsRefused bytes refusal × IsAsBefore before after
-ComesOf (Accept program) bytes before after (Refused refusal) =
-    IsRefused bytes refusal × IsAsBefore before after
--- writing failed, and a part of what is told of them, from its front, came outside
-ComesOf (Run asked) bytes before after NotWritten =
-    WriteFailed before after × RunsPartly asked bytes before after
-ComesOf (Accept program) bytes before after NotWritten =
-    WriteFailed before after × SaysAcceptedPartly bytes before after
-ComesOf (Large n) bytes before after NotWritten =
-    WriteFailed before after
-    × (MeasuresPartly n before.printed after.printed × (after.holds ≡ before.holds))
--- memory was wanting while a run went on, or for the note of a failed write
-ComesOf (Run asked) bytes before after NoMemory = RunsPartly asked bytes before after
-ComesOf (Accept program) bytes before after NoMemory =
-    WriteFailed before after × SaysAcceptedPartly bytes before after
-ComesOf (Large n) bytes before after NoMemory =
-    WriteFailed before after
-    × (MeasuresPartly n before.printed after.printed × (after.holds ≡ before.holds))
-ComesOf _ bytes before after _ = ⊥
+-- nothing came of it outside, and nothing was recorded
+abbrev pub DoesNothing : List Record → Outside → Outside → Type 0
+DoesNothing records before after = IsAsBefore before after × (records ≡ [])
 
--- why and what are of the same bytes
-abbrev pub EndsOn : Command → Outside → Outside → Conclusion → Type 0
-EndsOn command before after conclusion =
-    (bytes : List ℕ) × IsGiven before.holds command bytes × ComesOf command bytes before after conclusion
+-- a command may end so before it has done anything: reading failed, or memory was wanting; the
+-- large program is not read
+abbrev pub IsEarly : Command → Conclusion → Type 0
+IsEarly (Large n) conclusion = conclusion ≡ NoMemory
+IsEarly _ conclusion = (conclusion ≡ NotRead) ⊎ (conclusion ≡ NoMemory)
 
--- why a command on a program ends so, and what came of it outside
-abbrev pub EndsIn : Command → Outside → Outside → Conclusion → Type 0
-EndsIn command before after NotRead = ReadFailed before after × IsAsBefore before after
-EndsIn command before after NoMemory = IsAsBefore before after ⊎ EndsOn command before after NoMemory
-EndsIn command before after conclusion = EndsOn command before after conclusion
+-- what a command has done that ends so
+abbrev pub Does : Command → List Record → Outside → Outside → Conclusion → Type 0
+-- its program is refused so, and nothing came of it
+Does (Run asked) records before after (Refused refusal) =
+    IsRefusedUnder before.holds asked.program refusal × DoesNothing records before after
+Does (Accept program) records before after (Refused refusal) =
+    IsRefusedUnder before.holds program refusal × DoesNothing records before after
+-- what the world holds under the program's name was run, or said to be accepted
+Does (Run asked) records before after conclusion =
+    (bytes : List ℕ) × IsUnder before.holds asked.program bytes
+    × IsRunOf asked bytes records before after conclusion
+Does (Accept program) records before after conclusion =
+    (bytes : List ℕ) × IsUnder before.holds program bytes
+    × SaysAccepted bytes before after conclusion × (records ≡ [])
+-- the large program was measured
+Does (Large n) records before after conclusion = Measures n records before after conclusion
+-- what the world holds under the log's name was replayed
+Does (Replay log) records before after conclusion =
+    ReplaysTo log before after conclusion × (records ≡ [])
 
--- the same of what words ask for: words that are no command do nothing, and a replay ends in its own
--- way
-abbrev pub EndsWith : Option Command → Outside → Outside → Conclusion → Type 0
-EndsWith None before after conclusion =
-    ((conclusion ≡ NoCommand) ⊎ (conclusion ≡ NoMemory)) × IsAsBefore before after
-EndsWith (Some (Replay log)) before after conclusion = ReplayEnds log before after conclusion
-EndsWith (Some command) before after conclusion = EndsIn command before after conclusion
+-- how a command ends; words that are no command do nothing
+abbrev pub EndsIn : Option Command → List Record → Outside → Outside → Conclusion → Type 0
+EndsIn None records before after conclusion =
+    ((conclusion ≡ NoCommand) ⊎ (conclusion ≡ NoMemory)) × DoesNothing records before after
+EndsIn (Some command) records before after conclusion =
+    IsCaused before after conclusion
+    × ((IsEarly command conclusion × DoesNothing records before after)
+    ⊎ Does command records before after conclusion)
 
 -- the code and the note are those of a conclusion in which the command ends, and for which it asks
 pub record Ends (command : Option Command) (before after : Outside) (code : ℕ) (note : List ℕ)
-    : Type 0 where
+    (records : List Record) : Type 0 where
   pub conclusion : Conclusion
   pub status : IsStatusOf code note conclusion
   pub asks : AsksIn command before.asked after.asked conclusion
-  pub ends : EndsWith command before after conclusion
+  pub ends : EndsIn command records before after conclusion

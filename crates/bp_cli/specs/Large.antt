@@ -1,17 +1,18 @@
 -- What is printed of the large program.
-use Rattle.std.specs.Prelude.{◌≡◌, ◌==◌, ℕ, Bool, true, false, List, ◌++◌, length, count_by, decimal, codes, Option, Some, IsSomeAnd}
-use Rattle.bp_base.specs.Pieces.{Appends, AppendsFront}
+use Rattle.std.specs.Prelude.{◌≡◌, ◌==◌, ℕ, Bool, true, false, List, ◌++◌, length, count_by, decimal, codes, Some, IsSomeAnd}
+use mathlib.Core.List.{IsPrefix}
 use Rattle.js_program.specs.PlainProgram.{PlainProgram}
 use Rattle.bp_log.specs.Options.{default_options}
 use Rattle.bp_log.specs.declared.record.Record.{Record}
 use Rattle.bp_log.specs.declared.record.Record.TheVariants.{Sel}
-use Rattle.bp_log.specs.declared.verdict.Verdict.{Verdict}
+use Rattle.bp_log.specs.Records.{verdict_of}
 use Rattle.bp_code.specs.Code.{records_alone, text_alone}
 use Rattle.bp_script.specs.Programs.{IsProgram}
 use Rattle.bp_large.specs.Large.{large_program}
-use Rattle.bp_serve.specs.Ends.{verdict_alone}
 use Rattle.bp_cli.specs.declared.conclusion.Conclusion.{Conclusion}
-use Rattle.bp_cli.specs.declared.conclusion.Conclusion.TheVariants.{Ran, NotWritten, NoMemory}
+use Rattle.bp_cli.specs.declared.conclusion.Conclusion.TheVariants.{Ran}
+use Rattle.bp_cli.specs.Outside.{Outside}
+use Rattle.bp_cli.specs.Texts.{LineEnds}
 
 abbrev pub is_selection : Record → Bool
 is_selection (Sel e) = true
@@ -28,25 +29,25 @@ large_line n records text =
 abbrev pub line_of : ℕ → PlainProgram → List ℕ → List ℕ
 line_of n program text = large_line n (records_alone program default_options) text
 
--- the program of so many b-threads is accepted, its run ends in this verdict, and the line of that run
--- was printed
-pub record MeasuresTo (n : ℕ) (before after : Option (List ℕ)) (v : Verdict) : Type 0 where
+-- a run that came to a verdict is the one run
+abbrev pub IsOneRun : PlainProgram → List Record → Conclusion → Type 0
+IsOneRun program records (Ran v) =
+    (verdict_of records ≡ Some v) × (records ≡ records_alone program default_options)
+IsOneRun program records _ = Unit {0}
+
+-- the whole text of a run that came to a verdict was written
+abbrev pub IsPrintedWhole : PlainProgram → List ℕ → Conclusion → Type 0
+IsPrintedWhole program written (Ran v) = text_alone program default_options ≡ Some written
+IsPrintedWhole program written _ = Unit {0}
+
+-- How measuring the program of so many b-threads ends, which is accepted: these are the records of
+-- its run, or the first of them, and the line of the one run was printed as that ends.
+pub record Measures (n : ℕ) (records : List Record) (before after : Outside)
+    (conclusion : Conclusion) : Type 0 where
   pub program : PlainProgram
   pub is_program : IsProgram (large_program n) program
-  pub verdict : verdict_alone program default_options ≡ Some v
+  pub begins : IsPrefix records (records_alone program default_options)
+  pub one_run : IsOneRun program records conclusion
   pub prints : IsSomeAnd (text_alone program default_options)
-      (λ text. Appends before (line_of n program text) after)
-
--- the program of so many b-threads is accepted, and a front of the line of its run was printed
-pub record MeasuresPartly (n : ℕ) (before after : Option (List ℕ)) : Type 0 where
-  pub program : PlainProgram
-  pub is_program : IsProgram (large_program n) program
-  pub prints : IsSomeAnd (text_alone program default_options)
-      (λ text. AppendsFront before (line_of n program text) after)
-
--- how measuring the program of so many b-threads ends: it is never refused
-abbrev pub MeasureEnds : ℕ → Option (List ℕ) → Option (List ℕ) → Conclusion → Type 0
-MeasureEnds n before after (Ran v) = MeasuresTo n before after v
-MeasureEnds n before after NotWritten = MeasuresPartly n before after
-MeasureEnds n before after NoMemory = after ≡ before
-MeasureEnds n before after _ = ⊥
+      (λ text. LineEnds (line_of n program text) before after conclusion)
+  pub holds : after.holds ≡ before.holds

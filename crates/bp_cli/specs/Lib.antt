@@ -1,10 +1,12 @@
 pub mod Outside
 pub mod Texts
+pub mod Injected
 pub mod Runs
 pub mod Large
 pub mod Conclusions
 pub mod Asking
-pub mod Endings
-pub mod Refusing
 pub mod Loading
 pub mod Replaying
+pub mod Endings
+pub mod Refusing
+pub mod Opening

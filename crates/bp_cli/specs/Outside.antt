@@ -3,8 +3,8 @@ use Rattle.std.specs.Prelude.{◌≡◌, ◌⊎◌, ◌≤◌, ℕ, List, Option
 use Rattle.bp_base.specs.Counts.{Rose}
 use Rattle.bp_base.specs.Worlds.{Holdings}
 
--- what the world holds and what it was asked for, where it tells it, and how often reading and writing
--- failed there; what was printed, where the output tells it, and how often printing failed
+-- what the world holds and what it was asked for, where it tells it, and how often reading and
+-- writing failed there; what was printed, where the output tells it, and how often printing failed
 pub record Outside : Type 0 where
   pub holds : Option Holdings
   pub asked : Option (List (List ℕ))
@@ -25,6 +25,10 @@ outside holds asked read_faults write_faults printed print_faults world out = re
   printed = printed out;
   print_faults = print_faults out;
 }
+
+-- the same, where this was printed, and printing failed so often
+abbrev pub printing : Outside → Option (List ℕ) → ℕ → Outside
+printing outside printed faults = record outside { printed = printed; print_faults = faults }
 
 -- reading failed in the world
 abbrev pub ReadFailed : Outside → Outside → Type 0

@@ -1,5 +1,5 @@
 -- A log that is replayed.
-use Rattle.std.specs.Prelude.{◌≡◌, ◌⊎◌, ℕ, List, ◌++◌, decimal, codes, Option, Some, None, Result, Ok, Err, IfSome, IsSomeAnd, unwrap_or}
+use Rattle.std.specs.Prelude.{◌≡◌, ℕ, List, ◌++◌, decimal, codes, Option, Some, None, Result, Ok, Err, IfSome, IsSomeAnd, unwrap_or}
 use Rattle.bp_log.specs.declared.verdict.Verdict.{Verdict}
 use Rattle.bp_reader.specs.declared.fault.LogFault.{LogFault}
 use Rattle.bp_reader.specs.declared.fault.LogFault.TheVariants as log
@@ -8,11 +8,11 @@ use Rattle.bp_follow.specs.declared.fault.ReplayFault.TheVariants.{Log, Differs,
 use Rattle.bp_replay.specs.Replays as replays
 use Rattle.bp_notes.specs.Notes.{differing}
 use Rattle.bp_cli.specs.declared.conclusion.Conclusion.{Conclusion}
-use Rattle.bp_cli.specs.declared.conclusion.Conclusion.TheVariants.{NoCommand, Refused, Accepted, Ran, NotRead, NotWritten, NoMemory, BadLog}
-use Rattle.bp_cli.specs.Outside.{Outside, IsAsBefore, ReadFailed, WriteFailed}
+use Rattle.bp_cli.specs.declared.conclusion.Conclusion.TheVariants.{Ran, NotRead, NotWritten, NoMemory, BadLog}
+use Rattle.bp_cli.specs.Outside.{Outside}
 
--- the conclusion where reading or writing failed or memory was wanting; where it is none of these the
--- log is bad
+-- the conclusion where reading or writing failed or memory was wanting; where it is none of these
+-- the log is bad
 abbrev pub trouble_of : ReplayFault → Option Conclusion
 trouble_of (Log log.Read) = Some NotRead
 trouble_of (Log log.Memory) = Some NoMemory
@@ -25,35 +25,14 @@ abbrev pub replayed_of : Result Verdict ReplayFault → Conclusion
 replayed_of (Ok v) = Ran v
 replayed_of (Err fault) = unwrap_or (trouble_of fault) (BadLog fault)
 
--- the command ends as a replay of the bytes that the world holds under the name, where it tells them,
--- which printed what a replay that ends so prints
+-- the command ends as a replay of the bytes that the world holds under the name, where it tells
+-- them, which printed what a replay that ends so prints
 pub record ReplaysTo (name : List ℕ) (before after : Outside) (conclusion : Conclusion) : Type 0 where
   pub ended : Result Verdict ReplayFault
   pub is_conclusion : conclusion ≡ replayed_of ended
   pub ends : IfSome before.holds (λ held. IsSomeAnd (held name)
       (λ bytes. replays.IsReplay bytes before.printed after.printed ended))
   pub holds : after.holds ≡ before.holds
-
--- a failure has its cause
-abbrev pub IsCaused : Outside → Outside → Conclusion → Type 0
-IsCaused before after NotRead = ReadFailed before after
-IsCaused before after NotWritten = WriteFailed before after
-IsCaused before after NoMemory = Unit {0}
-IsCaused before after NoCommand = Unit {0}
-IsCaused before after (Refused refusal) = Unit {0}
-IsCaused before after Accepted = Unit {0}
-IsCaused before after (Ran verdict) = Unit {0}
-IsCaused before after (BadLog fault) = Unit {0}
-
--- the log was not opened
-abbrev pub IsUnopened : Conclusion → Type 0
-IsUnopened c = (c ≡ NotRead) ⊎ (c ≡ NoMemory)
-
--- why the command that replays the log of that name ends so
-abbrev pub ReplayEnds : List ℕ → Outside → Outside → Conclusion → Type 0
-ReplayEnds name before after c =
-    IsCaused before after c
-    × ((IsUnopened c × IsAsBefore before after) ⊎ ReplaysTo name before after c)
 
 -- ---- what a bad log is told
 

@@ -2,13 +2,14 @@
 ghost use Rattle.std.specs.Prelude.{map, Some, string_bytes};
 ghost use Rattle.bp_args.specs.Command.{command_of};
 ghost use Rattle.bp_cli.specs.Asking.{AsksIn};
-ghost use Rattle.bp_cli.specs.Endings.{EndsWith, Ends};
+ghost use Rattle.bp_cli.specs.Endings.{EndsIn, Ends};
+ghost use Rattle.bp_cli.specs.Opening.{IsCounted};
 ghost use Rattle.bp_cli.specs.Outside.{outside, NeverFalls};
 ghost use Rattle.bp_cli.specs.Refusing.{Refuses};
-ghost use Rattle.bp_cli.specs.Runs.{IsAlone};
 
 use crate::Status;
 use crate::conclusion::Conclusion;
+use crate::ended::Ended;
 use crate::large::measure_large;
 use crate::programs::{accept_program, run_program};
 use crate::replaying::replay_log;
@@ -25,20 +26,22 @@ fn carry_out<R: Threads + Wait + Sync, W: World, K: Sink>(
     command: Command,
     world: &mut W,
     out: &mut K,
-) -> Conclusion
-    requires alone { IsAlone (Some command) }
+) -> Ended
+    requires counted { IsCounted command }
     ensures ends { let seen = outside W.holds W.asked W.read_faults W.write_faults
-        K.written K.faults in EndsWith (Some command)
-        (seen world.old out.old) (seen world.new out.new) result }
-    ensures asks { AsksIn (Some command) (W.asked world.old) (W.asked world.new) result }
+        K.written K.faults in EndsIn (Some command) result.records
+        (seen world.old out.old) (seen world.new out.new) result.conclusion }
+    ensures asks { AsksIn (Some command) (W.asked world.old) (W.asked world.new) result.conclusion }
     ensures counts { let seen = outside W.holds W.asked W.read_faults W.write_faults
         K.written K.faults in NeverFalls (seen world.old out.old) (seen world.new out.new) }
 {
     match command {
         Command::Run(asked) => run_program(rt, alloc, &asked, world, out),
-        Command::Accept(name) => accept_program(alloc, &name, world, out),
         Command::Large(count) => measure_large(rt, alloc, count, out),
-        Command::Replay(name) => replay_log(alloc, &name, world, out),
+        Command::Accept(name) => {
+            Ended::without_run(alloc, accept_program(alloc, &name, world, out))
+        }
+        Command::Replay(name) => Ended::without_run(alloc, replay_log(alloc, &name, world, out)),
     }
 }
 
@@ -49,26 +52,26 @@ fn conclude<R: Threads + Wait + Sync, W: World, K: Sink>(
     words: &[String],
     world: &mut W,
     out: &mut K,
-) -> Conclusion
+) -> Ended
     ensures ends { let seen = outside W.holds W.asked W.read_faults W.write_faults
-        K.written K.faults in EndsWith (command_of (map string_bytes words.now))
-        (seen world.old out.old) (seen world.new out.new) result }
+        K.written K.faults in EndsIn (command_of (map string_bytes words.now)) result.records
+        (seen world.old out.old) (seen world.new out.new) result.conclusion }
     ensures asks { AsksIn (command_of (map string_bytes words.now))
-        (W.asked world.old) (W.asked world.new) result }
+        (W.asked world.old) (W.asked world.new) result.conclusion }
     ensures counts { let seen = outside W.holds W.asked W.read_faults W.write_faults
         K.written K.faults in NeverFalls (seen world.old out.old) (seen world.new out.new) }
 {
     match read(alloc, words) {
         Ok(command) => carry_out(rt, alloc, command, world, out),
-        Err(Usage::Wrong) => Conclusion::NoCommand,
-        Err(Usage::Memory) => Conclusion::NoMemory,
+        Err(Usage::Wrong) => Ended::without_run(alloc, Conclusion::NoCommand),
+        Err(Usage::Memory) => Ended::without_run(alloc, Conclusion::NoMemory),
     }
 }
 
 /// Carries out what the words ask for.
 ///
-/// The words are those after the program's name: `run [OPTIONS] PROGRAM`, `replay LOG`, `accept
-/// PROGRAM` or `large N`.
+/// The words are those after the program's name: `run [OPTIONS] PROGRAM [INJECTOR]...`, `replay
+/// LOG`, `accept PROGRAM` or `large N`.
 pub fn command<R: Threads + Wait + Sync, W: World, K: Sink>(
     rt: &R,
     alloc: Global,
@@ -76,19 +79,21 @@ pub fn command<R: Threads + Wait + Sync, W: World, K: Sink>(
     world: &mut W,
     out: &mut K,
 ) -> Status
-    // It ends with the code and the note of a conclusion whose cause holds. It printed what that
-    // conclusion says: at 0 and 3 to 7 the whole text, at 9 a front of it, at 10 nothing or a front
-    // (of `accept` and `large` only where writing failed too), of a replay at 8 and 11 the text of
-    // the records that were followed, and else nothing. The world holds what it held, and where a
-    // log is kept that log; at 9 and 10 a front of it, in which the records of all that was printed
-    // stand, or, where nothing was printed, what it held. Each replay of the log of a run prints
-    // the same text and comes to the same verdict, unless it meets trouble. The world was asked for
-    // the names of the words, in order: at 2 and 8 for the first alone, at 10 for some. So where no
-    // count rose and memory was not wanting, the code is 1, 2, 11, that of the one run's verdict,
-    // or 0 for an accepted program.
+    // It ends with the code and the note of a conclusion, and each failure has its cause. At 0 and
+    // 3 to 7 a run printed the whole text of its records, which are a story of the program and
+    // merge what the world holds under the injectors' names, and where a log is kept, it holds the
+    // same records; each replay of that log prints the same text and comes to the same verdict,
+    // unless it meets trouble; at 0 all that the injectors brought was recorded. At 8 reading
+    // failed: before the run, and then nothing was printed, or an injector, and then all that was
+    // recorded was told. At 9 and 10 a front of the text was printed and a front of the log is
+    // held, in which the records of that text stand. Without injectors the records are those of the
+    // one run, or the first of them. A replay at 8 and 11 printed the text of the records that were
+    // followed. The world was asked for the names of the words, in order, and for all of them where
+    // a verdict came. So where no count rose and memory was not wanting, the code is 1, 2, 11, that
+    // of the verdict, or 0 for an accepted program.
     ensures ends { let seen = outside W.holds W.asked W.read_faults W.write_faults
         K.written K.faults in Ends (command_of (map string_bytes words.now))
-        (seen world.old out.old) (seen world.new out.new) result.code result.note }
+        (seen world.old out.old) (seen world.new out.new) result.code result.note result.records }
 
     // A refused program comes to no other end, but for a fault of reading or want of memory.
     ensures refuses { Refuses (command_of (map string_bytes words.now)) (W.holds world.old)
@@ -97,6 +102,6 @@ pub fn command<R: Threads + Wait + Sync, W: World, K: Sink>(
     ensures counts { let seen = outside W.holds W.asked W.read_faults W.write_faults
         K.written K.faults in NeverFalls (seen world.old out.old) (seen world.new out.new) }
 {
-    let conclusion = conclude(rt, alloc, words, world, out);
-    Status::of(alloc, &conclusion)
+    let ended = conclude(rt, alloc, words, world, out);
+    Status::of(alloc, ended)
 }

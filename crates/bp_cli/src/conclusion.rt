@@ -1,15 +1,15 @@
 //! How a command ends.
 ghost use Rattle.std.specs.Prelude.{◌≡◌, true, IfOk, OnErr, string_bytes};
-ghost use Rattle.bp_cli.specs.Conclusions.{code_of, note_of, has_note, verdict_code, conclusion_of, ended_of};
+ghost use Rattle.bp_cli.specs.Conclusions.{code_of, note_of, has_note, verdict_code, conclusion_of, ended_of, unopened_of, unmade_of};
 ghost use Rattle.bp_cli.specs.Replaying.{trouble_of as trouble_in, replayed_of, log_detail as log_fault_text, detail_of, bad_log_note as bad_log_text};
 
+use bp_base::WorldError;
 use bp_log::{Memory, Verdict, VerdictKind};
 use bp_notes::differing;
 use bp_reader::LogFault;
 use bp_replay::ReplayFault;
 use bp_script::{Refusal, ScriptFault};
-use bp_serve::Report;
-use bp_told::RunFault;
+use bp_session::Ending;
 use js_data::Text;
 use std::alloc::Global;
 
@@ -17,7 +17,7 @@ use std::alloc::Global;
 const USAGE: &str =
     "usage: bp run [OPTIONS] PROGRAM [INJECTOR]... | bp replay LOG | bp accept PROGRAM | bp large N";
 
-/// The note of a program that was not read.
+/// The note of what was not read.
 const READ_FAULT: &str = "read fault";
 
 /// The note of what was not printed.
@@ -33,9 +33,9 @@ pub enum Conclusion {
     Accepted,
     /// The run came to this verdict, and was printed whole.
     Ran(Verdict),
-    /// Reading the program failed.
+    /// Reading the program, an injector or the log failed.
     NotRead,
-    /// Printing failed.
+    /// Printing or writing the log failed.
     NotWritten,
     /// No memory was left.
     NoMemory,
@@ -145,14 +145,35 @@ fn bad_log_note(alloc: Global, fault: &ReplayFault) -> Result<Text, Memory>
 }
 
 impl Conclusion {
-    /// What comes of a run.
-    pub(crate) fn of(ended: Result<Report, RunFault>) -> Conclusion
-        ensures { result ≡ ended_of ended }
+    /// What comes of a session.
+    pub(crate) fn of(end: Ending) -> Conclusion
+        ensures { result ≡ ended_of end }
     {
-        match ended {
-            Ok(report) => Conclusion::Ran(report.into_verdict()),
-            Err(RunFault::Write) | Err(RunFault::LogWrite) => Conclusion::NotWritten,
-            Err(RunFault::Memory) => Conclusion::NoMemory,
+        match end {
+            Ending::Verdict(verdict) => Conclusion::Ran(verdict),
+            Ending::Read(_) => Conclusion::NotRead,
+            Ending::Write | Ending::LogWrite => Conclusion::NotWritten,
+            Ending::Memory => Conclusion::NoMemory,
+        }
+    }
+
+    /// What comes of an input that was not opened.
+    pub(crate) fn unopened(error: WorldError) -> Conclusion
+        ensures { result ≡ unopened_of error }
+    {
+        match error {
+            WorldError::Failed => Conclusion::NotRead,
+            WorldError::Memory => Conclusion::NoMemory,
+        }
+    }
+
+    /// What comes of a log that was not made.
+    pub(crate) fn unmade(error: WorldError) -> Conclusion
+        ensures { result ≡ unmade_of error }
+    {
+        match error {
+            WorldError::Failed => Conclusion::NotWritten,
+            WorldError::Memory => Conclusion::NoMemory,
         }
     }
 

@@ -1,18 +1,22 @@
 //! The run of the large program, which the command measures.
-ghost use Rattle.std.specs.Prelude.{◌≡◌, ◌==◌, ◌≤◌, ◌++◌, Some, IfOk, codes, count_by, decimal, string_bytes};
-ghost use Rattle.bp_base.specs.Counts.{Rose};
+ghost use Rattle.std.specs.Prelude.{◌≡◌, ◌==◌, ◌≤◌, ◌++◌, Some, IfOk, IsSome, codes, count_by, decimal, string_bytes};
+ghost use mathlib.Core.List.{IsPrefix};
 ghost use Rattle.bp_code.specs.Code.{records_alone, text_alone};
 ghost use Rattle.bp_log.specs.Options.{default_options};
-ghost use Rattle.bp_serve.specs.Ends.{verdict_alone};
-ghost use Rattle.bp_cli.specs.Large.{is_selection as selects, large_line, MeasureEnds};
+ghost use Rattle.bp_args.specs.declared.command.Command.TheVariants as command;
+ghost use Rattle.bp_cli.specs.Conclusions.{ended_of};
+ghost use Rattle.bp_cli.specs.Endings.{EndsIn};
+ghost use Rattle.bp_cli.specs.Large.{is_selection as selects, large_line, IsOneRun, IsPrintedWhole};
+ghost use Rattle.bp_cli.specs.Outside.{Outside, printing};
 
 use crate::conclusion::Conclusion;
-use bp_base::{MemorySink, Sink, write_all};
+use crate::ended::Ended;
+use bp_base::{MemorySink, MemorySource, Sink, write_all};
 use bp_large::large_program;
 use bp_log::{Beside, Header, Memory, Options, Record};
-use bp_serve::{Report, run};
+use bp_session::{Ending, Report, Session};
 use js_program::Program;
-use std::alloc::{AllocError, Global};
+use std::alloc::Global;
 use std::sync::Wait;
 use std::thread::Threads;
 
@@ -65,27 +69,30 @@ fn line_of(alloc: Global, count: u32, records: &[Record], text: &[u8]) -> Result
     format!(in alloc; "large {count} events {events} lines {sizes}")
 }
 
-/// What the run of the program under the default options came to, and its text. Want of room for
-/// the text is want of memory.
+/// Runs the program under the default options, aside: what its run came to, and its text. Want of
+/// room for the text ends the run as a failure of its output.
 fn run_aside<R: Threads + Wait + Sync>(
     rt: &R,
     alloc: Global,
     program: Program,
 ) -> Result<(Report, MemorySink), Memory>
-    ensures verdict { IfOk result (λ p. verdict_alone program default_options ≡ Some p.0.verdict) }
-    ensures records { IfOk result (λ p. p.0.records ≡ records_alone program default_options) }
-    ensures text { IfOk result (λ p. text_alone program default_options ≡ Some p.1.written) }
+    ensures begins { IfOk result
+        (λ p. IsPrefix p.0.records (records_alone program default_options)) }
+    ensures one_run { IfOk result (λ p. IsOneRun program p.0.records (ended_of p.0.end)) }
+    ensures story { IsSome (text_alone program default_options) }
+    ensures text { IfOk result
+        (λ p. IsPrintedWhole program p.1.written (ended_of p.0.end)) }
 {
     let mut sink = MemorySink::new(alloc, ROOM, Vec::new(alloc))?;
     let Some(header) = Header::new(Options::defaults(), Vec::new(alloc)) else {
         unreachable!()
     };
+    let inputs: Vec<MemorySource> = Vec::new(alloc);
     let mut log: Option<MemorySink> = None;
     let beside = Beside::defaults();
-    match run(rt, alloc, program, &header, beside, &mut sink, &mut log) {
-        Ok(report) => Ok((report, sink)),
-        Err(_) => Err(AllocError),
-    }
+    let out = &mut sink;
+    let (report, _) = Session::run(rt, alloc, program, &header, beside, inputs, out, &mut log);
+    Ok((report, sink))
 }
 
 /// Runs the program of so many b-threads, and prints one line of what its run comes to.
@@ -94,22 +101,37 @@ pub(crate) fn measure_large<R: Threads + Wait + Sync, K: Sink>(
     alloc: Global,
     count: u32,
     out: &mut K,
-) -> Conclusion
-    ensures ends { MeasureEnds count (K.written out.old) (K.written out.new) result }
-    ensures cause { result ≡ Conclusion.NotWritten → Rose (K.faults out.old) (K.faults out.new) }
+) -> Ended
+    ensures ends { (o : Outside) → EndsIn (Some (command.Large count)) result.records
+        (printing o (K.written out.old) (K.faults out.old))
+        (printing o (K.written out.new) (K.faults out.new)) result.conclusion }
     ensures counts { K.faults out.old ≤ K.faults out.new }
 {
     let Ok(program) = large_program(alloc, count) else {
-        return Conclusion::NoMemory;
+        return Ended::without_run(alloc, Conclusion::NoMemory);
     };
     let Ok((report, text)) = run_aside(rt, alloc, program) else {
-        return Conclusion::NoMemory;
+        return Ended::without_run(alloc, Conclusion::NoMemory);
     };
-    let Ok(line) = line_of(alloc, count, report.records.as_slice(), text.written()) else {
-        return Conclusion::NoMemory;
+    let Report { end, records } = report;
+    let Ending::Verdict(verdict) = end else {
+        return Ended {
+            conclusion: Conclusion::NoMemory,
+            records,
+        };
     };
-    match write_all(out, line.as_str().as_bytes()) {
-        Ok(()) => Conclusion::Ran(report.into_verdict()),
+    let Ok(line) = line_of(alloc, count, records.as_slice(), text.written()) else {
+        return Ended {
+            conclusion: Conclusion::NoMemory,
+            records,
+        };
+    };
+    let conclusion = match write_all(out, line.as_str().as_bytes()) {
+        Ok(()) => Conclusion::Ran(verdict),
         Err(_) => Conclusion::NotWritten,
+    };
+    Ended {
+        conclusion,
+        records,
     }
 }

@@ -3,8 +3,10 @@
 
 mod commands;
 mod conclusion;
+mod ended;
 mod large;
 mod loading;
+mod opening;
 mod programs;
 mod replaying;
 mod running;

@@ -1,17 +1,18 @@
 //! Commands on a program of the world.
-ghost use Rattle.std.specs.Prelude.{◌≡◌, Some};
+ghost use Rattle.std.specs.Prelude.{[], Some};
 ghost use Rattle.bp_args.specs.declared.command.Command.TheVariants as command;
 ghost use Rattle.bp_cli.specs.Asking.{AsksIn};
 ghost use Rattle.bp_cli.specs.Endings.{EndsIn};
+ghost use Rattle.bp_cli.specs.Opening.{IsCounted};
 ghost use Rattle.bp_cli.specs.Outside.{outside, NeverFalls};
 
 use crate::conclusion::Conclusion;
+use crate::ended::Ended;
 use crate::loading::load;
-use crate::running::{run_logged, run_unlogged};
+use crate::opening::{close_inputs, create_log, open_inputs};
+use crate::running::run_opened;
 use bp_args::Run;
 use bp_base::{Sink, World, write_all};
-use bp_log::Header;
-use bp_records::header_keeps;
 use js_data::Text;
 use std::alloc::Global;
 use std::sync::Wait;
@@ -20,46 +21,41 @@ use std::thread::Threads;
 /// What is printed of an accepted program.
 const ACCEPTED: &[u8] = b"accepted\n";
 
-/// Runs the program of that name as the words ask for, prints its run, and keeps its log where they
-/// ask for one.
+/// Runs the program of that name as the words ask for, with its injectors, prints its run, and
+/// keeps its log where they ask for one. The program is opened first, then the injectors, in order,
+/// and then the log.
 pub(crate) fn run_program<R: Threads + Wait + Sync, W: World, K: Sink>(
     rt: &R,
     alloc: Global,
     asked: &Run,
     world: &mut W,
     out: &mut K,
-) -> Conclusion
-    requires alone { asked.now.options.injectors ≡ 0 }
+) -> Ended
+    requires counted { IsCounted (command.Run asked.now) }
     ensures ends { let seen = outside W.holds W.asked W.read_faults W.write_faults
-        K.written K.faults in EndsIn (command.Run asked.now)
-        (seen world.old out.old) (seen world.new out.new) result }
+        K.written K.faults in EndsIn (Some (command.Run asked.now)) result.records
+        (seen world.old out.old) (seen world.new out.new) result.conclusion }
     ensures asks { AsksIn (Some (command.Run asked.now))
-        (W.asked world.old) (W.asked world.new) result }
+        (W.asked world.old) (W.asked world.new) result.conclusion }
     ensures counts { let seen = outside W.holds W.asked W.read_faults W.write_faults
         K.written K.faults in NeverFalls (seen world.old out.old) (seen world.new out.new) }
 {
     let loaded = match load(alloc, world, asked.program.as_str()) {
         Ok(loaded) => loaded,
-        Err(conclusion) => return conclusion,
+        Err(conclusion) => return Ended::without_run(alloc, conclusion),
     };
-    let (program, bytes) = loaded.into_parts();
-    let Some(header) = Header::new(asked.options, bytes) else {
-        unreachable!()
+    let inputs = match open_inputs(alloc, world, asked.injectors.as_slice()) {
+        Ok(inputs) => inputs,
+        Err(error) => return Ended::without_run(alloc, Conclusion::unopened(error)),
     };
-    header_keeps(&header);
-    match &asked.log {
-        None => run_unlogged(rt, alloc, program, &header, asked.beside, out),
-        Some(name) => run_logged(
-            rt,
-            alloc,
-            program,
-            &header,
-            asked.beside,
-            name.as_str(),
-            world,
-            out,
-        ),
-    }
+    let log = match create_log(world, &asked.log) {
+        Ok(log) => log,
+        Err(error) => {
+            close_inputs(world, inputs);
+            return Ended::without_run(alloc, Conclusion::unmade(error));
+        }
+    };
+    run_opened(rt, alloc, asked, loaded, inputs, log, world, out)
 }
 
 /// Prints that the program of that name is accepted, or refuses it.
@@ -70,7 +66,7 @@ pub(crate) fn accept_program<W: World, K: Sink>(
     out: &mut K,
 ) -> Conclusion
     ensures ends { let seen = outside W.holds W.asked W.read_faults W.write_faults
-        K.written K.faults in EndsIn (command.Accept name.now)
+        K.written K.faults in EndsIn (Some (command.Accept name.now)) []
         (seen world.old out.old) (seen world.new out.new) result }
     ensures asks { AsksIn (Some (command.Accept name.now))
         (W.asked world.old) (W.asked world.new) result }

@@ -1,12 +1,12 @@
 //! Logs that are replayed.
-ghost use Rattle.std.specs.Prelude.{Some};
+ghost use Rattle.std.specs.Prelude.{[], Some};
 ghost use Rattle.bp_args.specs.declared.command.Command.TheVariants as command;
 ghost use Rattle.bp_cli.specs.Asking.{AsksIn};
+ghost use Rattle.bp_cli.specs.Endings.{EndsIn};
 ghost use Rattle.bp_cli.specs.Outside.{outside, NeverFalls};
-ghost use Rattle.bp_cli.specs.Replaying.{ReplayEnds};
 
 use crate::conclusion::Conclusion;
-use bp_base::{Sink, World, WorldError};
+use bp_base::{Sink, World};
 use bp_replay::{Replayed, replay};
 use js_data::Text;
 use std::alloc::Global;
@@ -19,7 +19,7 @@ pub(crate) fn replay_log<W: World, K: Sink>(
     out: &mut K,
 ) -> Conclusion
     ensures ends { let seen = outside W.holds W.asked W.read_faults W.write_faults
-        K.written K.faults in ReplayEnds name.now
+        K.written K.faults in EndsIn (Some (command.Replay name.now)) []
         (seen world.old out.old) (seen world.new out.new) result }
     ensures asks { AsksIn (Some (command.Replay name.now))
         (W.asked world.old) (W.asked world.new) result }
@@ -28,8 +28,7 @@ pub(crate) fn replay_log<W: World, K: Sink>(
 {
     let input = match world.open(name.as_str()) {
         Ok(input) => input,
-        Err(WorldError::Failed) => return Conclusion::NotRead,
-        Err(WorldError::Memory) => return Conclusion::NoMemory,
+        Err(error) => return Conclusion::unopened(error),
     };
     let Replayed { ended, log } = replay(alloc, input, out);
     world.close_input(log);

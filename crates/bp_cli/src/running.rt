@@ -1,85 +1,68 @@
 //! Runs that words ask for.
-ghost use Rattle.std.specs.Prelude.{◌≡◌, ◌⊎◌, ◌≤◌, Some, IfOk};
-ghost use Rattle.bp_base.specs.Counts.{Rose};
-ghost use Rattle.bp_base.specs.Worlds.{Asks};
-ghost use Rattle.bp_cli.specs.Outside.{outside, WriteFailed, NeverFalls};
-ghost use Rattle.bp_reading.specs.Laws.{AreRecords};
-ghost use Rattle.bp_cli.specs.Runs.{LogEnds, RunEnds};
+ghost use Rattle.std.specs.Prelude.{◌≡◌, ◌≤◌, length, vec_len};
+ghost use Rattle.bp_log.specs.declared.limits.TheConstants.{MOST_BYTES};
+ghost use Rattle.bp_script.specs.Programs.{IsProgram};
+ghost use Rattle.bp_args.specs.declared.command.Command.TheVariants as command;
+ghost use Rattle.bp_cli.specs.Endings.{IsCaused};
+ghost use Rattle.bp_cli.specs.Opening.{IsCounted, AreOpened, IsLogMade};
+ghost use Rattle.bp_cli.specs.Outside.{Outside, outside, IsAsBefore, NeverFalls};
+ghost use Rattle.bp_cli.specs.Runs.{IsRunOf};
 
 use crate::conclusion::Conclusion;
-use bp_base::{MemorySink, Sink, World, WorldError};
-use bp_log::{Beside, Header};
-use bp_records::records_keep;
-use bp_serve::{Report, run};
-use bp_told::RunFault;
-use js_program::Program;
+use crate::ended::Ended;
+use crate::loading::Loaded;
+use crate::opening::{close_inputs, close_log};
+use bp_args::Run;
+use bp_base::{Sink, World};
+use bp_log::Header;
+use bp_records::{header_keeps, records_keep};
+use bp_session::{Report, Session};
 use std::alloc::Global;
 use std::sync::Wait;
 use std::thread::Threads;
 
-/// What the records of a run keep by their types, as a fact for its callers. Does nothing else.
-fn keep(ended: &Result<Report, RunFault>)
-    ensures { IfOk ended.now (λ r. AreRecords r.records) }
-{
-    if let Ok(report) = ended {
-        records_keep(&report.records);
-    }
-}
-
-/// Runs the program, and keeps no log.
-pub(crate) fn run_unlogged<R: Threads + Wait + Sync, K: Sink>(
+/// Runs the program with these inputs and this log, closes them, and says how the run ended.
+pub(crate) fn run_opened<R: Threads + Wait + Sync, W: World, K: Sink>(
     rt: &R,
     alloc: Global,
-    program: Program,
-    header: &Header,
-    beside: Beside,
-    out: &mut K,
-) -> Conclusion
-    requires alone { header.now.options.injectors ≡ 0 }
-    ensures ends { RunEnds program header.now.options (K.written out.old) (K.written out.new) result }
-    ensures cause { result ≡ Conclusion.NotWritten → Rose (K.faults out.old) (K.faults out.new) }
-    ensures counts { K.faults out.old ≤ K.faults out.new }
-{
-    let mut log: Option<MemorySink> = None;
-    let ended = run(rt, alloc, program, header, beside, out, &mut log);
-    keep(&ended);
-    Conclusion::of(ended)
-}
-
-/// Runs the program, and keeps its log under the name.
-pub(crate) fn run_logged<R: Threads + Wait + Sync, W: World, K: Sink>(
-    rt: &R,
-    alloc: Global,
-    program: Program,
-    header: &Header,
-    beside: Beside,
-    name: &str,
+    asked: &Run,
+    loaded: Loaded,
+    inputs: Vec<W::Input>,
+    mut log: Option<W::Output>,
     world: &mut W,
     out: &mut K,
-) -> Conclusion
-    requires alone { header.now.options.injectors ≡ 0 }
-    ensures ends { RunEnds program header.now.options (K.written out.old) (K.written out.new) result }
-    ensures logs { let seen = outside W.holds W.asked W.read_faults W.write_faults
-        K.written K.faults in LogEnds (Some name.now) header.now program
-        (seen world.old out.old) (seen world.new out.new) result }
-    ensures cause { let seen = outside W.holds W.asked W.read_faults W.write_faults
-        K.written K.faults in result ≡ Conclusion.NotWritten
-        → WriteFailed (seen world.old out.old) (seen world.new out.new) }
-    ensures asked { ((result ≡ Conclusion.NoMemory) × (W.asked world.new ≡ W.asked world.old))
-        ⊎ Asks (W.asked world.old) name.now (W.asked world.new) }
+) -> Ended
+    requires program { IsProgram loaded.bytes.items loaded.program }
+    requires within { vec_len loaded.bytes ≤ MOST_BYTES }
+    requires counted { IsCounted (command.Run asked.now) }
+    requires opened { AreOpened W.Input.left W.Input.faults (W.holds world.old) asked.now.injectors
+        inputs.items }
+    requires made { IsLogMade W.Output.written W.Output.made_as W.Output.faults (W.holds world.old)
+        asked.now.log log }
+    ensures ran { let seen = outside W.holds W.asked W.read_faults W.write_faults
+        K.written K.faults in (before : Outside) → IsAsBefore before (seen world.old out.old) →
+        IsRunOf asked.now loaded.bytes.items result.records before (seen world.new out.new)
+        result.conclusion }
+    ensures caused { let seen = outside W.holds W.asked W.read_faults W.write_faults
+        K.written K.faults in
+        IsCaused (seen world.old out.old) (seen world.new out.new) result.conclusion }
+    ensures asked { W.asked world.new ≡ W.asked world.old }
     ensures counts { let seen = outside W.holds W.asked W.read_faults W.write_faults
         K.written K.faults in NeverFalls (seen world.old out.old) (seen world.new out.new) }
-    ensures reads { W.read_faults world.new ≡ W.read_faults world.old }
 {
-    let output = match world.create(name) {
-        Ok(output) => output,
-        Err(WorldError::Failed) => return Conclusion::NotWritten,
-        Err(WorldError::Memory) => return Conclusion::NoMemory,
+    let (program, bytes) = loaded.into_parts();
+    let Some(header) = Header::new(asked.options, bytes) else {
+        unreachable!()
     };
-    let mut log = Some(output);
-    let ended = run(rt, alloc, program, header, beside, out, &mut log);
-    keep(&ended);
-    let Some(output) = log else { unreachable!() };
-    world.close_output(name, output);
-    Conclusion::of(ended)
+    header_keeps(&header);
+    let beside = asked.beside;
+    let (report, back) = Session::run(rt, alloc, program, &header, beside, inputs, out, &mut log);
+    let Report { end, records } = report;
+    records_keep(&records);
+    close_inputs(world, back);
+    close_log(world, &asked.log, log);
+    Ended {
+        conclusion: Conclusion::of(end),
+        records,
+    }
 }

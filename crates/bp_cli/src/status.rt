@@ -3,33 +3,45 @@ ghost use Rattle.std.specs.Prelude.{◌≡◌, ◌⊎◌, true};
 ghost use Rattle.bp_cli.specs.Conclusions.{has_note, IsStatusOf};
 
 use crate::conclusion::Conclusion;
+use crate::ended::Ended;
+use bp_log::Records;
 use js_data::Text;
 use std::alloc::Global;
 
-/// What a command ends with: the code for the system, from 0 to 11, and the note for standard
-/// error, which may be empty.
+/// What a command ends with.
 #[derive(Drop)]
 pub struct Status {
+    /// The code for the system, from 0 to 11.
     pub code: u8,
+    /// The note for standard error, which may be empty.
     pub note: Text,
+    /// All that was recorded of the run that the command made, in order.
+    pub records: Records,
 }
 
 impl Status {
-    /// The status of a conclusion, or, where that has a note, the one that says that no memory was
-    /// left for it.
-    pub(crate) fn of(alloc: Global, conclusion: &Conclusion) -> Status
-        ensures { IsStatusOf result.code result.note conclusion.now
-            ⊎ ((has_note conclusion.now ≡ true)
+    /// The status of a command that ended so, or, where that has a note, the one that says that no
+    /// memory was left for it.
+    pub(crate) fn of(alloc: Global, ended: Ended) -> Status
+        ensures status { IsStatusOf result.code result.note ended.conclusion
+            ⊎ ((has_note ended.conclusion ≡ true)
             × IsStatusOf result.code result.note Conclusion.NoMemory) }
+        ensures records { result.records ≡ ended.records }
     {
+        let Ended {
+            conclusion,
+            records,
+        } = ended;
         match conclusion.note(alloc) {
             Ok(note) => Status {
                 code: conclusion.code(),
                 note,
+                records,
             },
             Err(_) => Status {
                 code: Conclusion::NoMemory.code(),
                 note: Text::new(String::new(alloc)),
+                records,
             },
         }
     }

@@ -9,7 +9,6 @@ use Rattle.bp_log.specs.declared.record.Record.TheVariants.{In, Bad, Eof, Sel, E
 use Rattle.bp_log.specs.declared.trace.Line.{Line}
 use Rattle.bp_log.specs.declared.trace.Line.TheVariants as trace
 use Rattle.bp_log.specs.declared.verdict.Verdict.{Verdict}
-use Rattle.bp_reading.specs.Heads.{cut}
 use Rattle.bp_reading.specs.Reading.{Stage, BeginsWith, BreaksOff, found, finished, refused, next_at, first_stage, after}
 use Rattle.bp_reading.proofs.Fronts.{begins_front, none_going, none_over}
 use Rattle.bp_reader.specs.Fed.{Between}

@@ -1,7 +1,7 @@
 //! The values that words say, and the words in the normal form.
-ghost use Rattle.std.specs.Prelude.{◌≡◌, [], ◌∷◌, ◌++◌, IfOk, map, option_map, codes, string_bytes};
+ghost use Rattle.std.specs.Prelude.{◌≡◌, [], ◌∷◌, ◌++◌, IfOk, map, option_map, string_bytes};
 ghost use Rattle.bp_matches.specs.Normal.{value_in, option_word, option_words, all_options, normal_words};
-ghost use Rattle.bp_matches.specs.Keys.{keys, key_name};
+ghost use Rattle.bp_matches.specs.Keys.{keys};
 
 use crate::key::{DASHES, Key};
 use js_data::Text;

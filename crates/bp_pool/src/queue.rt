@@ -1,5 +1,5 @@
 //! Seats that are carried to their outcomes by workers over one shared queue.
-ghost use Rattle.std.specs.Prelude.{◌≡◌, ◌+◌, ◌-◌, ◌<◌, ◌≤◌, [], length, map, All, IfOk, vec_len};
+ghost use Rattle.std.specs.Prelude.{◌≡◌, ◌+◌, ◌-◌, ◌<◌, ◌≤◌, [], length, All, IfOk, vec_len};
 ghost use Rattle.crossbeam_queue.specs.Passes.{view, IsPassOf, ruled_capacity};
 ghost use Rattle.js_frames.specs.Places.{plain_ground};
 ghost use Rattle.bp_log.specs.declared.limits.TheConstants.{MOST_WORKERS};

@@ -1,7 +1,6 @@
 //! Jobs that are taken out of their list while they are carried on, and put back at their places.
-ghost use Rattle.std.specs.Prelude.{◌≡◌, ◌<◌, [], length, map, All, IfOk, OnOk, IsSome, Some, None, false};
+ghost use Rattle.std.specs.Prelude.{◌≡◌, ◌<◌, [], length, map, All, IfOk, OnOk, IsSome, Some, None};
 ghost use Rattle.js_frames.specs.Places.{plain_ground};
-ghost use Rattle.bp_thread.specs.Jobs.{plain_job};
 ghost use Rattle.bp_pool.specs.Carrying.{AreOf};
 ghost use Rattle.bp_pool.specs.Seats.{AreSeated, StaySeated, IsOpen, IsOut, HaveOwnPlaces};
 

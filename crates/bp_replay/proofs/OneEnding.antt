@@ -25,9 +25,9 @@ use Rattle.bp_script.specs.Programs.{IsProgram, IsRefused}
 use Rattle.bp_script.proofs.Once.{never, one_program}
 use Rattle.bp_follow.specs.declared.fault.ReplayFault.{ReplayFault}
 use Rattle.bp_follow.specs.declared.fault.ReplayFault.TheVariants.{Log, Differs, Program, Write, Memory}
-use Rattle.bp_follow.specs.Courses.{Course, code_in, led, text_in, IsTold, Follows}
-use Rattle.bp_follow.specs.Endings.{Parts, EndsAt}
-use Rattle.bp_replay.specs.Replays.{Prints, Replays, HasNoRun, HasRefusedProgram, IsReplay}
+use Rattle.bp_follow.specs.Courses.{Course, code_in, led, text_in, IsTold}
+use Rattle.bp_follow.specs.Endings.{EndsAt}
+use Rattle.bp_replay.specs.Replays.{Prints, Replays, HasNoRun, HasRefusedProgram}
 use Rattle.bp_replay.specs.Laws.{IsTrouble, PrintOne, OneEnding}
 use Rattle.bp_replay.proofs.WholeLogs.{same_record, same_rest, next_leads, one_ok, read_ok}
 

@@ -10,9 +10,12 @@ fn shown_run(alloc: Global, run: &Run) -> Result<String, Fail> {
         None => "none",
         Some(log) => log.as_str(),
     };
+    let mut names = run.program.as_str().to_string(alloc)?;
+    for injector in run.injectors.as_slice() {
+        write!(names, " {}", injector.as_str())?;
+    }
     Ok(format!(in alloc;
-        "run {} log {} {} {} {} {} {} {}",
-        run.program.as_str(),
+        "run {names} log {} {} {} {} {} {} {}",
         log,
         options.strategy().name(),
         options.seed(),
@@ -52,6 +55,15 @@ pub const GOOD: &str = r#"
 run p ==> run p log none simple 0 1000000 100000 4 10000
 accept p ==> accept p
 replay l ==> replay l
+run p i ==> run p i log none simple 0 1000000 100000 4 10000
+run --seed 1 p --log=l i -- --j p ==> run p i --j p log l simple 1 1000000 100000 4 10000
+run p 1 2 3 4 5 6 7 8 9 10 11 12 13 14 15 16 ==> run p 1 2 3 4 5 6 7 8 9 10 11 12 13 14 15 16 log none simple 0 1000000 100000 4 10000
+run p -- --log=l ==> run p --log=l log none simple 0 1000000 100000 4 10000
+run p -- --seed 1 ==> run p --seed 1 log none simple 0 1000000 100000 4 10000
+run p -- -- ==> run p -- log none simple 0 1000000 100000 4 10000
+run p --log l -- p ==> run p p log l simple 0 1000000 100000 4 10000
+run -- --log --log=--log ==> run --log --log=--log log none simple 0 1000000 100000 4 10000
+run -- p q ==> run p q log none simple 0 1000000 100000 4 10000
 run - ==> run - log none simple 0 1000000 100000 4 10000
 run <> ==> run  log none simple 0 1000000 100000 4 10000
 run -- -p ==> run -p log none simple 0 1000000 100000 4 10000
@@ -111,10 +123,10 @@ help ==> wrong
 run --help ==> wrong
 Run p ==> wrong
 <> p ==> wrong
-run p q ==> wrong
-run p -- q ==> wrong
-run -- p q ==> wrong
 accept p q ==> wrong
+replay l m ==> wrong
+run p i --log i ==> wrong
+run p --log=i -- j i ==> wrong
 run -p ==> wrong
 run --- ==> wrong
 run --workers 0 p ==> wrong
@@ -206,18 +218,9 @@ run p --slice= ==> wrong
 run p --slice <> ==> wrong
 run p --slice=1000000001 ==> wrong
 run p --slice=1 --slice 2 ==> wrong
-run p -- --log=l ==> wrong
-run p -- --strategy=simple ==> wrong
-run p -- --seed 1 ==> wrong
-run p -- --budget=1 ==> wrong
-run p -- --steps=1 ==> wrong
-run p -- --workers=1 ==> wrong
-run p -- --slice=1 ==> wrong
-run p -- -- ==> wrong
 run -- ==> wrong
-run p --log l -- p ==> wrong
 run p --log=p ==> wrong
-run -- --log --log=--log ==> wrong
+run --log=--log -- --log ==> wrong
 run p --SEED=1 ==> wrong
 run p --see=1 ==> wrong
 run p --no-log ==> wrong

@@ -6,6 +6,8 @@ mod accepted;
 #[cfg(test)]
 mod commands;
 #[cfg(test)]
+mod injected;
+#[cfg(test)]
 mod limits;
 #[cfg(test)]
 mod logs;

@@ -13,8 +13,7 @@ script.js
 run|--
 run|-x
 run|--script.js
-run|script.js|script.js
-run|script.js|
+run|script.js|--log|i|i
 run|a|--seed|x
 run|a|--log|a
 run|a|--budget|0
@@ -57,5 +56,5 @@ fn wrong_words_are_told_the_usage(rt: HostRuntime) -> Result<(), Fail> {
 
 /// Names that are not held.
 pub const NOT_HELD: &str = "
-run|other.js & run|- & run| & run|script.js  --> 8 ==> ! read fault
+run|other.js & run|- & run| & run|script.js  & run|script.js|i & run|script.js| & run|script.js|script.js|--|-i --> 8 ==> ! read fault
 ";

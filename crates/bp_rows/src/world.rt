@@ -65,6 +65,15 @@ pub fn run_words<R: Threads + Wait + Sync>(
     })
 }
 
+/// The words that stand between the `|` of the line.
+pub fn words_in(alloc: Global, line: &str) -> Result<Vec<String>, Fail> {
+    let mut words = Vec::new(alloc);
+    for word in line.split("|") {
+        words.push(word.to_string(alloc)?)?;
+    }
+    Ok(words)
+}
+
 /// Runs `bp` with the words that stand between the `|` of the line.
 pub fn run_with<R: Threads + Wait + Sync>(
     rt: &R,
@@ -73,10 +82,7 @@ pub fn run_with<R: Threads + Wait + Sync>(
     script: &[u8],
     fails: Fails<'_>,
 ) -> Result<Ran, Fail> {
-    let mut words = Vec::new(alloc);
-    for word in line.split("|") {
-        words.push(word.to_string(alloc)?)?;
-    }
+    let words = words_in(alloc, line)?;
     run_words(rt, alloc, &words, script, fails)
 }
 

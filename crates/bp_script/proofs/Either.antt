@@ -1,5 +1,5 @@
 -- Each bytes are a program, or they are refused.
-use Rattle.std.proofs.Common.{◌≡◌, ◌⊎◌, ℕ, zero, suc, ◌-◌, ◌<◌, ◌≤◌, nat_eq, nat_lt, Bool, true, false, List, [], ◌∷◌, length, take, refl, sym, ap, ◌∙◌, subst, arith, inl, inr, Option, Some, None, if◌then◌else◌, fold}
+use Rattle.std.proofs.Common.{◌≡◌, ℕ, zero, suc, ◌-◌, ◌<◌, ◌≤◌, nat_eq, nat_lt, Bool, true, false, List, [], ◌∷◌, length, take, refl, sym, ◌∙◌, subst, arith, inl, inr, Option, Some, None, if◌then◌else◌, fold}
 use Rattle.std.specs.Str.{IsUtf8, IsValidUpTo, is_utf8}
 use Rattle.std.specs.Str.Lossy.{valid_len_up_to}
 use Rattle.std.proofs.lemmas.Bool.{false≢true, eqb-true, eqb-false, ltb-true, ltb-false}
@@ -26,7 +26,7 @@ use Rattle.js_parser.proofs.Programs.{tree_found, tree_missed}
 use Rattle.bp_script.specs.declared.refusal.Kind.{Kind}
 use Rattle.bp_script.specs.declared.refusal.Rule.{Rule}
 use Rattle.bp_script.specs.declared.refusal.Refusal.{Refusal}
-use Rattle.bp_script.specs.Programs.{AreCut, AreSpelled, AreAccepted, HasFlaw, HasNameFault, IsNoText, IsRefused}
+use Rattle.bp_script.specs.Programs.{AreCut, AreSpelled, HasNameFault, IsRefused}
 use Rattle.bp_script.specs.Laws.{ProgramOrRefused}
 use Rattle.bp_script.proofs.Once.{each_is_program}
 

@@ -4,8 +4,8 @@ use std::alloc::{AllocError, Global};
 use std::sync::atomic::{AtomicU64, Ordering};
 use std::thread::yield_now;
 
-/// How often a gate looks at most.
-const LOOKS: u64 = 10_000_000;
+/// How often a gate looks at most; it lets other threads run after each look.
+const LOOKS: u64 = 20_000_000;
 
 /// Waits until the count is what is wanted: whether it came to that.
 fn comes_to(count: &AtomicU64, wanted: u64) -> bool {

@@ -5,6 +5,10 @@ use bp_base::{Failed, MemorySource, Source};
 use std::alloc::Global;
 use std::sync::atomic::{AtomicU64, Ordering};
 use std::test::Fail;
+use std::thread::yield_now;
+
+/// How often a source looks at most; it lets other threads run after each look.
+const LOOKS: u64 = 20_000_000;
 
 /// Gives at most so many bytes at each read.
 #[derive(Drop)]
@@ -68,12 +72,13 @@ impl<'a> Source for Meeting<'a> {
     }
 }
 
-/// Looks until so many have begun, at most 10,000,000 times.
+/// Waits until so many have begun: whether it came to that.
 fn all_came(begun: &AtomicU64, meets: u64) -> bool {
-    for _ in 0..10_000_000 {
+    for _ in 0..LOOKS {
         if begun.load(Ordering::SeqCst) >= meets {
             return true;
         }
+        yield_now();
     }
     false
 }

@@ -1,11 +1,10 @@
-use Rattle.std.proofs.Common.{refl}
 use Rattle.bp_args.specs.Command.{options_of}
 use Rattle.bp_args.proofs.Ranges.{told}
 use Rattle.bp_args.proofs.command.options_of.Goals as goal
 
 pub returns : goal.returns
 returns c =
-    told (options_of c.args.said.now) c.new.result refl
+    told (options_of c.args.said.now c.args.injectors) c.new.result c.requires
     (rw (
       c.unwrap_or-strategy.ensures,
       c.strategy.ensures,

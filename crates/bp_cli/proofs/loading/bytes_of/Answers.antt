@@ -1,4 +1,4 @@
-use Rattle.bp_cli.proofs.Endings.{too_long}
+use Rattle.bp_cli.proofs.Refused.{too_long}
 use Rattle.bp_cli.proofs.loading.bytes_of.Goals as goal
 
 pub returns-clause-too_long : goal.returns-clause-too_long

@@ -1,7 +1,7 @@
 use Rattle.std.proofs.Common.{Err, ap, subst, List, ℕ}
 use Rattle.bp_base.specs.declared.moving.ReadError.{ReadError}
 use Rattle.bp_script.specs.Faults.{IsScriptFault}
-use Rattle.bp_cli.proofs.Endings.{unloaded_fault, fault_read}
+use Rattle.bp_cli.proofs.Refused.{unloaded_fault, fault_read}
 use Rattle.bp_cli.proofs.loading.load.Goals as goal
 
 pub returns-in-Err-TooLong-clause-unloaded : goal.returns-in-Err-TooLong-clause-unloaded

@@ -1,4 +1,4 @@
-use Rattle.std.proofs.Common.{◌≡◌, ◌∙◌, All, ap, sym, subst}
+use Rattle.std.proofs.Common.{◌∙◌, All, ap, sym, subst}
 use Rattle.std.specs.List.{AllZip}
 use Rattle.js_meaning.specs.State.{Ground}
 use Rattle.bp_thread.specs.Jobs.{IsOf}

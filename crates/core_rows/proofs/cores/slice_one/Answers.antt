@@ -1,4 +1,3 @@
-use Rattle.bp_core.proofs.Begun.{carries_self}
 use Rattle.core_rows.proofs.cores.slice_one.Goals as goal
 
 pub returns : goal.returns

@@ -1,0 +1,15 @@
+//! An injector while something is served.
+ghost use Rattle.std.specs.Prelude.{◌≡◌, ◌≤◌, ◌++◌, List};
+
+use bp_base::Source;
+use bp_hear::Hearing;
+use bp_inject::Started;
+
+/// An injector that was started, and how it is heard.
+#[derive(Drop)]
+pub struct Reading<S: Source> {
+    /// Its thread, or its feed where no thread could be made.
+    pub started: Started<S>,
+    /// Its lane, and an item that was taken of it and has not entered.
+    pub hearing: Hearing,
+}

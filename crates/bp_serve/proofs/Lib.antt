@@ -1,2 +1,0 @@
-pub mod Way
-pub mod Telling

@@ -1,0 +1,139 @@
+-- How serving ends.
+use Rattle.std.proofs.Common.{◌≡◌, ◌≤◌, ◌⊎◌, inl, inr, ℕ, List, [], ◌++◌, refl, append-nil, Option, Some, None, IsSome, Ok, Err, subst, sym}
+use Rattle.std.specs.Prelude.{Result, IfOk, OnOk, IfErr, IfSome}
+use Rattle.js_value.specs.Value.{PlainSet}
+use Rattle.js_meaning.specs.Bodies.{Origin}
+use Rattle.bp_log.specs.Options.{PlainOptions}
+use Rattle.bp_log.specs.Records.{verdict_of}
+use Rattle.bp_log.specs.declared.verdict.Verdict as logs
+use Rattle.bp_run.specs.Bodies.{Code}
+use Rattle.bp_run.specs.Text.{text}
+use Rattle.bp_feeds.proofs.Going.{rose_on}
+use Rattle.bp_core.specs.declared.stepping.Core.{Core}
+use Rattle.bp_scope.specs.declared.reading.Reading.{Reading}
+use Rattle.bp_scope.specs.Readings.{HasFailed}
+use Rattle.bp_told.specs.Logging.{LogFails, LogStays}
+use Rattle.bp_told.specs.Told.{Given, Waiting, WritesAll, WritesPart}
+use Rattle.bp_told.specs.declared.fault.RunFault.{RunFault}
+use Rattle.bp_told.specs.declared.fault.RunFault.TheVariants.{Write, LogWrite, Memory}
+use Rattle.bp_told.proofs.Told.{told_broken, broken_part}
+use Rattle.bp_session.specs.declared.report.Ending.{Ending}
+use Rattle.bp_session.specs.declared.report.Ending.TheVariants as ending
+use Rattle.bp_session.specs.declared.stop.Stop.{Stop}
+use Rattle.bp_session.specs.declared.stop.Stop.TheVariants as stop
+use Rattle.bp_session.specs.Serving.{IsReady, IsServing, IsAllTold, IsBrokenOff, IsAllWritten, IsFrontWritten, IsServedTo, IsEnded, TellsAll, StopsServing, CanTellRest, IsCaused, EndIsCaused, ending_of, broke_at}
+use Rattle.bp_session.proofs.Causes.{caused_on}
+
+-- no fault is a failed source
+pub broke_none : (f : RunFault) → broke_at (ending_of f) ≡ None
+broke_none Write = refl
+broke_none LogWrite = refl
+broke_none Memory = refl
+
+module _ {K L : Type 0} (faults : K → ℕ) (log_faults : L → ℕ) where
+  -- the ending of a fault has its cause
+  pub fault_ends : (f : RunFault) (x y : K) (a b : Option L) → IsCaused faults log_faults x y a b f → EndIsCaused faults log_faults x y a b (ending_of f)
+  fault_ends Write x y a b h = h
+  fault_ends LogWrite x y a b h = h
+  fault_ends Memory x y a b h = tt
+
+  module _ (made : L → Option (List ℕ)) (x y z : K) (a b c : Option L) (counts : faults x ≤ faults y) (stays : LogStays made log_faults a b) where
+    -- a cause of the later part is one of the whole
+    pub end_on : (e : Ending) → EndIsCaused faults log_faults y z b c e → EndIsCaused faults log_faults x z a c e
+    end_on (ending.Verdict v) h = tt
+    end_on (ending.Read j) h = tt
+    end_on ending.Write h = caused_on faults log_faults made x y z a b c counts stays Write h
+    end_on ending.LogWrite h = caused_on faults log_faults made x y z a b c counts stays LogWrite h
+    end_on ending.Memory h = tt
+
+    module _ (more : faults y ≤ faults z) (still : LogStays made log_faults b c) where
+      fails_still : (a b c : Option L) → LogStays made log_faults a b → LogStays made log_faults b c → LogFails log_faults a b → LogFails log_faults a c
+      fails_still None b c s t f = absurd f
+      fails_still (Some l) None c s t f = absurd f
+      fails_still (Some l) (Some m) None s t f = absurd t
+      fails_still (Some l) (Some m) (Some n) s t f = rose_on (log_faults l) (log_faults m) (log_faults n) f s.1 t.1
+
+      -- a cause of the earlier part is one of the whole
+      pub caused_still : (f : RunFault) → IsCaused faults log_faults x y a b f → IsCaused faults log_faults x z a c f
+      caused_still Write h = rose_on (faults x) (faults y) (faults z) h counts more
+      caused_still LogWrite h = fails_still a b c stays still h
+      caused_still Memory h = tt
+
+      -- what was broken off ends by its own fault or by another
+      pub front_ends : (f : RunFault) (e : Ending) → IsCaused faults log_faults x y a b f → (e ≡ ending_of f) ⊎ EndIsCaused faults log_faults y z b c e → EndIsCaused faults log_faults x z a c e
+      front_ends f e h (inl s) = subst (λ (w : Ending). EndIsCaused faults log_faults x z a c w) (sym s) (fault_ends f x z a c (caused_still f h))
+      front_ends f e h (inr s) = end_on e s
+
+module _ {L : Type 0} (written : L → Option (List ℕ)) (l : Code Origin PlainSet) (o : PlainOptions) (head : List ℕ) (first : Given L) (c : Core) where
+  -- all that was told was written
+  pub all_written : (old new : Given L) (w v : Waiting) → WritesAll written old w new v → IsAllTold written l o head first c old w → IsAllWritten written l o head first c new
+  all_written old new w v f t =
+      let r = f (text l o) head first c.arbiter.records t.lines t.told in
+      record { lines = t.lines; text_is = t.text_is; written_all = r.1; behind = (r.0).behind }
+
+  -- all was told, and writing it failed
+  pub front_of_all : (old new : Given L) (w : Waiting) → WritesPart written old w new → IsAllTold written l o head first c old w → IsFrontWritten written l o head first c new
+  front_of_all old new w f t =
+      record {
+        story = subst (λ (x : Option (List ℕ)). IsSome x) (sym t.text_is) refl;
+        front = c.arbiter.records;
+        later = [];
+        lines = t.lines;
+        is_front = append-nil c.arbiter.records;
+        part = f (text l o) head first c.arbiter.records t.lines Memory (λ e. let x : ⊥ = cc in x) (told_broken written (text l o) head first old w c.arbiter.records t.lines Memory t.told);
+      }
+
+  -- telling broke off, and what waited was written, or a front of it
+  pub front_of_part : (old new : Given L) (w : Waiting) (fault : RunFault) → ¬ (fault ≡ LogWrite) → WritesPart written old w new → IsBrokenOff written l o head first c old w fault → IsFrontWritten written l o head first c new
+  front_of_part old new w fault n f b =
+      record {
+        story = b.story;
+        front = b.front;
+        later = b.later;
+        lines = b.lines;
+        is_front = b.is_front;
+        part = f (text l o) head first b.front b.lines fault n b.broken;
+      }
+
+  -- what waits is let go
+  pub front_let_go : (now : Given L) (w : Waiting) (fault : RunFault) → IsBrokenOff written l o head first c now w fault → IsFrontWritten written l o head first c now
+  front_let_go now w fault b =
+      record {
+        story = b.story;
+        front = b.front;
+        later = b.later;
+        lines = b.lines;
+        is_front = b.is_front;
+        part = broken_part written (text l o) head first now w b.front b.lines fault b.broken;
+      }
+
+  -- the ending of a fault is that of a front
+  pub fault_ended : (now : Given L) (f : RunFault) → IsFrontWritten written l o head first c now → IsEnded written l o head first c now (ending_of f)
+  fault_ended now Write h = h
+  fault_ended now LogWrite h = h
+  fault_ended now Memory h = h
+
+-- ---- where serving has come to
+
+module _ {L S : Type 0} (written : L → Option (List ℕ)) (before : Core) (old : Given L) (a : Waiting) (after : Core) (new : Given L) (b : Waiting) (readings : List (Reading S)) where
+  -- where an injector failed, the rest can be told
+  pub can_tell : (served : Result logs.Verdict Stop) → IsReady written before old a → IfErr served (StopsServing written before old a after new b readings) → CanTellRest written after new b served
+  can_tell (Ok v) r h = tt
+  can_tell (Err (stop.Read j)) r h =
+      let s = h r.code r.options r.head r.first r.serving in
+      (record { code = r.code; options = r.options; head = r.head; first = r.first; serving = s.0 }, s.2)
+  can_tell (Err (stop.Broken f)) r h = tt
+  can_tell (Err (stop.Unwritten f)) r h = tt
+
+  -- whatever run was served was served to where this stands
+  pub served_to : (served : Result logs.Verdict Stop) → IfOk served (λ v. verdict_of after.arbiter.records ≡ Some v) → OnOk served (TellsAll written before old a after new b) → IfErr served (StopsServing written before old a after new b readings) →
+      (l : Code Origin PlainSet) (o : PlainOptions) (head : List ℕ) (first : Given L) → IsServing written l o head first before old a → IsServedTo written l o head first after new b readings served
+  served_to (Ok v) f t h l o head first s = (f, t l o head first s)
+  served_to (Err e) f t h l o head first s = h l o head first s
+
+  -- it ends at a source that failed only where one failed
+  pub failed_of : (served : Result logs.Verdict Stop) (j : Option ℕ) → IsReady written before old a → IfErr served (StopsServing written before old a after new b readings) → IfSome j (λ k. served ≡ Err (stop.Read k)) → IfSome j (HasFailed readings)
+  failed_of served None r h e = tt
+  failed_of served (Some j) r h e =
+      let s = subst (λ (x : Result logs.Verdict Stop). IfErr x (StopsServing written before old a after new b readings)) e h in
+      (s r.code r.options r.head r.first r.serving).1

@@ -1,0 +1,11 @@
+pub mod Served
+pub mod Picked
+pub mod Tells
+pub mod Reports
+pub mod Hears
+pub mod Rounds
+pub mod Ends
+pub mod Turns
+pub mod Begins
+pub mod Causes
+pub mod Each

@@ -1,0 +1,132 @@
+-- Rounds of a session, and where they stop.
+use Rattle.std.proofs.Common.{◌≡◌, inl, inr, ℕ, true, false, List, take, drop, ap, sym, subst, ◌∙◌, take-append-drop, Option, Some}
+use Rattle.std.specs.Prelude.{Result, Ok, Err, OnOk, OnErr, IfErr, IsErrAnd, option_map}
+use Rattle.bp_run.specs.Text.{text}
+use Rattle.bp_floor.specs.declared.phase.Phase.{Phase}
+use Rattle.bp_floor.specs.declared.phase.Phase.TheVariants.{Rest, Over}
+use Rattle.bp_floor.specs.Floors.{is_idle}
+use Rattle.bp_core.specs.declared.stepping.Core.{Core}
+use Rattle.bp_core.specs.Cores.{KeepsProgram}
+use Rattle.bp_told.specs.Told.{Given, Waiting, IsTold}
+use Rattle.bp_told.specs.declared.fault.RunFault.{RunFault}
+use Rattle.bp_turns.specs.Settled.{IsSettled}
+use Rattle.bp_scope.specs.declared.reading.Reading.{Reading}
+use Rattle.bp_session.specs.declared.stop.Stop.{Stop}
+use Rattle.bp_session.specs.declared.stop.Stop.TheVariants as stop
+use Rattle.bp_session.specs.Hearing.{HearsOn, StopsHearing}
+use Rattle.bp_session.specs.Serving.{IsReady, IsUnwritten, TellsAll, ServesOn, BreaksServing, StillTold, PartTold, StopsTurning, StopsServing, LeadsOn, CutsAt}
+use Rattle.bp_session.proofs.Served.{serving_on, cut_off, stop_here, some_text, here_tells}
+
+-- what a `?` hands on
+pub from_err : {T E : Type 0} (r : Result T E) (s : E) (P : E → Type 0) → IsErrAnd r (λ e. e ≡ s) → P s → IfErr r P
+from_err (Ok x) s P h q = absurd h
+from_err (Err e) s P h q = subst P (sym h) q
+
+pub on_ok : {T E : Type 0} (r : Result T E) (A : Type 0) → A → OnOk r A
+on_ok (Ok x) A h = h
+on_ok (Err e) A h = tt
+
+pub on_err : {T E : Type 0} (r : Result T E) (A B : E → Type 0) → ((e : E) → A e → B e) → IfErr r A → IfErr r B
+on_err (Ok x) A B f h = tt
+on_err (Err e) A B f h = f e h
+
+pub verdict_told : {A V : Type 0} (f : A → V) (o : Option A) (x : A) (v : V) (r : Option V) → o ≡ Some x → option_map f o ≡ r → v ≡ f x → r ≡ Some v
+verdict_told f o x v r e h q = sym h ∙ ap (λ (y : Option _). option_map f y) e ∙ ap Some (sym q)
+
+-- what is settled and not over rests
+pub rest_of : (f : Phase) → IsSettled f → ¬ (f ≡ Over) → f ≡ Rest
+rest_of f (inl e) n = e
+rest_of f (inr e) n = absurd (n e)
+
+-- and is idle
+pub idle_of : (f : Phase) → IsSettled f → is_idle f ≡ true
+idle_of f (inl e) = ap is_idle e
+idle_of f (inr e) = ap is_idle e
+
+module _ {L : Type 0} (written : L → Option (List ℕ)) where
+  -- memory is not wanting where a run is served
+  pub whole_ready : (c : Core) (now : Given L) (w : Waiting) → IsReady written c now w → c.broken ≡ false
+  whole_ready c now w r = (((r.serving).here).at).whole
+
+  -- the core was led on, and nothing was told
+  pub lead_serves : (a b : Core) (now : Given L) (w : Waiting) → KeepsProgram a.arbiter b.arbiter → LeadsOn a b → ServesOn written a now w b now w
+  lead_serves a b now w p h l o head first s =
+      let y = h s.taken s.moment s.here in
+      serving_on written l o head first now w a b y.more p y.records (λ taken n x. let z = h taken n x in (z.moment, z.here)) s
+
+  pub hear_serves : (a b : Core) (now : Given L) (w : Waiting) → HearsOn a b → ServesOn written a now w b now w
+  hear_serves a b now w h = lead_serves a b now w h.kept h.leads
+
+  -- what was told is told still
+  pub still_serves : (c : Core) (old new : Given L) (w v : Waiting) → StillTold written old w new v → ServesOn written c old w c new v
+  still_serves c old new w v t l o head first s =
+      let rs = c.arbiter.records in
+      let told = t (text l o) head first (take w.kept rs) s.taken s.told in
+      let same : w.kept ≡ v.kept = (s.told).kept ∙ sym told.kept in
+      record {
+        code = s.code;
+        options = s.options;
+        taken = s.taken;
+        moment = s.moment;
+        here = s.here;
+        told = subst (λ (k : ℕ). IsTold L written (text l o) head first new v (take k rs) s.taken) same told;
+      }
+
+  pub serves_both : (a b d : Core) (x y z : Given L) (u v w : Waiting) → ServesOn written a x u b y v → ServesOn written b y v d z w → ServesOn written a x u d z w
+  serves_both a b d x y z u v w f g l o head first s = g l o head first (f l o head first s)
+
+  pub tells_then : (a b d : Core) (x y z : Given L) (u v w : Waiting) → ServesOn written a x u b y v → TellsAll written b y v d z w → TellsAll written a x u d z w
+  tells_then a b d x y z u v w f g l o head first s = g l o head first (f l o head first s)
+
+  pub still_none : (a : Given L) (w : Waiting) → StillTold written a w a w
+  still_none a w text head first records lines t = t
+
+  -- writing failed
+  pub unwritten_stops : (old new : Given L) (w v : Waiting) (s : Stop) → IsUnwritten s → PartTold written old w new → StopsTurning written old w new v s
+  unwritten_stops old new w v (stop.Read j) h p = absurd h
+  unwritten_stops old new w v (stop.Broken e) h p = absurd h
+  unwritten_stops old new w v (stop.Unwritten e) h p = p
+
+  pub unwritten_all : {T : Type 0} (old new : Given L) (w v : Waiting) (r : Result T Stop) → IfErr r IsUnwritten → OnErr r (PartTold written old w new) → IfErr r (StopsTurning written old w new v)
+  unwritten_all old new w v (Ok x) h p = tt
+  unwritten_all old new w v (Err s) h p = unwritten_stops old new w v s h p
+
+  pub serves_none : (a : Core) (x : Given L) (u : Waiting) → ServesOn written a x u a x u
+  serves_none a x u l o head first s = s
+
+  pub breaks_then : (a b d : Core) (x y z : Given L) (u v w : Waiting) (fault : RunFault) → ServesOn written a x u b y v → BreaksServing written b y v d z w fault → BreaksServing written a x u d z w fault
+  breaks_then a b d x y z u v w fault f g l o head first s = g l o head first (f l o head first s)
+
+  -- memory was wanting as what comes next came
+  pub pick_breaks : (a b : Core) (now : Given L) (w : Waiting) (fault : RunFault) → KeepsProgram a.arbiter b.arbiter → CutsAt a b → BreaksServing written a now w b now w fault
+  pick_breaks a b now w fault p t l o head first s =
+      let y = t s.taken s.moment s.here in
+      cut_off written l o head first now w a b y.more fault p y.records (λ taken n h. (t taken n h).tells) s
+
+  pub here_breaks : (c : Core) (now : Given L) (w : Waiting) (fault : RunFault) → BreaksServing written c now w c now w fault
+  here_breaks c now w fault l o head first s = stop_here written l o head first now w c fault s
+
+  module _ {S : Type 0} (readings : List (Reading S)) where
+    pub stops_then : (a b d : Core) (x y z : Given L) (u v w : Waiting) (s : Stop) → ServesOn written a x u b y v → StopsServing written b y v d z w readings s → StopsServing written a x u d z w readings s
+    stops_then a b d x y z u v w s f g l o head first h = g l o head first (f l o head first h)
+
+    -- an injector failed, or memory was wanting as it was heard
+    pub hear_stops : (a b : Core) (now : Given L) (w : Waiting) (s : Stop) → HearsOn a b → b.arbiter.phase ≡ Rest → StopsHearing readings s → StopsServing written a now w b now w readings s
+    hear_stops a b now w (stop.Read j) h r f l o head first s = (hear_serves a b now w h l o head first s, f, r)
+    hear_stops a b now w (stop.Broken e) h r f l o head first s = here_breaks b now w e l o head first (hear_serves a b now w h l o head first s)
+    hear_stops a b now w (stop.Unwritten e) h r f l o head first s = absurd f
+
+    -- an own turn or a wait stopped
+    pub turn_stops : (c : Core) (old new : Given L) (w v : Waiting) (s : Stop) → StopsTurning written old w new v s → StopsServing written c old w c new v readings s
+    turn_stops c old new w v (stop.Read j) f l o head first s = absurd f
+    turn_stops c old new w v (stop.Broken e) f l o head first s = here_breaks c new v e l o head first (still_serves c old new w v f.1 l o head first s)
+    turn_stops c old new w v (stop.Unwritten e) f l o head first s =
+        let rs = c.arbiter.records in
+        record {
+          story = some_text l o c.arbiter s.taken s.code s.options (here_tells c s.taken s.moment s.here);
+          front = take w.kept rs;
+          later = drop w.kept rs;
+          lines = s.taken;
+          is_front = take-append-drop w.kept rs;
+          part = f (text l o) head first (take w.kept rs) s.taken s.told;
+        }

@@ -1,0 +1,12 @@
+use Rattle.bp_scope.specs.Readings.{Pairs, GoesOnAs}
+use Rattle.bp_session.specs.Hearing.{AreAsHeard}
+use Rattle.bp_session.specs.Turning.{MakesTurn}
+use Rattle.bp_session.proofs.Each.{EachTo}
+use Rattle.bp_session.proofs.turning.turn_all_here.Given as goal
+
+abbrev pub invariant-loop-reading : goal.invariant-loop-reading
+invariant-loop-reading g l = record {
+  goes_on : Pairs (GoesOnAs g.S.Source.left g.S.Source.faults) l.fn.readings.items l.reading-items;
+  hearing : AreAsHeard l.fn.readings.items l.reading-items;
+  turned : EachTo (λ k. MakesTurn) l.reading-index l.fn.readings.items l.reading-items;
+}

@@ -1,0 +1,5 @@
+pub mod Serving
+pub mod Hearing
+pub mod Reports
+pub mod Lending
+pub mod Turning

@@ -1,0 +1,66 @@
+-- What a report says of the records, of what was written, and of the inputs.
+use Rattle.std.specs.Prelude.{◌≡◌, ◌≤◌, ℕ, ◌<◌, false, List, ◌++◌, length, Option, Some, IsSomeAnd, slice_index_or}
+use Rattle.bp_base.specs.Counts.{Rose}
+use Rattle.bp_base.specs.Pieces.{Appends, AppendsFront}
+use Rattle.bp_log.specs.Logs.{records_text}
+use Rattle.bp_log.specs.Records.{verdict_of, is_complete}
+use Rattle.bp_log.specs.declared.record.Record.{Record}
+use Rattle.bp_log.specs.declared.verdict.Verdict as logs
+use Rattle.bp_log.specs.declared.verdict.Verdict.TheVariants as verdict
+use Rattle.bp_steps.specs.Merging.{items_by}
+use Rattle.bp_told.specs.Logging.{LogGets, LogGetsFront, LogFails}
+use Rattle.bp_told.specs.Order.{Texts}
+use Rattle.bp_told.specs.Told.{Given}
+use Rattle.bp_hear.specs.Heard.{IsHeardToFault, EachHeardWhole}
+use Rattle.bp_session.specs.declared.report.Ending.{Ending}
+use Rattle.bp_session.specs.declared.report.Ending.TheVariants.{Verdict, Read, Write, LogWrite, Memory}
+
+-- the verdict of a run that has nothing more to do
+abbrev pub IsQuiet : logs.Verdict → Type 0
+IsQuiet (verdict.Quiet n) = Unit {0}
+IsQuiet _ = ⊥
+
+module _ {L : Type 0} (written : L → Option (List ℕ)) (text : Texts) (head : List ℕ)
+    (records : List Record) (old new : Given L) where
+  -- the whole text and the whole log of these records were written
+  pub record Wholly : Type 0 where
+    pub prints : IsSomeAnd (text records) (λ t. Appends old.printed t new.printed)
+    pub logs : LogGets written old.log (head ++ records_text records) new.log
+
+  -- a front of the text and a front of the log of these records were
+  pub record Partly : Type 0 where
+    pub prints : IsSomeAnd (text records) (λ t. AppendsFront old.printed t new.printed)
+    pub logs : LogGetsFront written old.log (head ++ records_text records) new.log
+
+module _ {S : Type 0} (left : S → Option (List ℕ)) (faults : S → ℕ) (sources back : List S)
+    (records : List Record) where
+  -- Injector j is there, its source failed, and what was heard of it are the items of the whole lines
+  -- that it gave before.
+  pub record BrokeAt (j : ℕ) : Type 0 where
+    pub there : j < length sources
+    pub rose : (d : S) → Rose (faults (slice_index_or sources j d)) (faults (slice_index_or back j d))
+    pub heard : (d : S) → IsHeardToFault (left (slice_index_or sources j d))
+        (left (slice_index_or back j d)) (items_by j records)
+
+  -- the inputs come back in order, and their counts of faults never fall
+  pub record ComeBack : Type 0 where
+    pub many : length back ≡ length sources
+    pub counts : (k : ℕ) (d : S) → k < length sources
+        → faults (slice_index_or sources k d) ≤ faults (slice_index_or back k d)
+
+-- what each ending says
+abbrev pub EndsAs : {K L S : Type 0} → (L → Option (List ℕ)) → (L → ℕ) → (K → ℕ) → Texts → List ℕ →
+    K → K → Given L → Given L → (S → Option (List ℕ)) → (S → ℕ) → List S → List S → List Record →
+    Ending → Type 0
+EndsAs written log_faults faults text head out_old out_new old new left broke sources back records (Verdict v) =
+    (verdict_of records ≡ Some v) × Wholly written text head records old new
+    × (IsQuiet v → EachHeardWhole left sources back records)
+EndsAs written log_faults faults text head out_old out_new old new left broke sources back records (Read j) =
+    (is_complete records ≡ false) × Wholly written text head records old new
+    × BrokeAt left broke sources back records j
+EndsAs written log_faults faults text head out_old out_new old new left broke sources back records Write =
+    Partly written text head records old new × Rose (faults out_old) (faults out_new)
+EndsAs written log_faults faults text head out_old out_new old new left broke sources back records LogWrite =
+    Partly written text head records old new × LogFails log_faults old.log new.log
+EndsAs written log_faults faults text head out_old out_new old new left broke sources back records Memory =
+    Partly written text head records old new

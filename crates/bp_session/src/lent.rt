@@ -1,0 +1,227 @@
+//! What a session owns and is lent while it is served.
+ghost use Rattle.std.specs.Prelude.{◌≡◌, ◌⊎◌, ◌≤◌, ◌<◌, ◌^◌, ℕ, List, [], All, length, Option, None, Err, false, IfSome};
+ghost use Rattle.js_value.specs.Value.{PlainSet};
+ghost use Rattle.js_meaning.specs.Bodies.{Origin};
+ghost use Rattle.bp_log.specs.Options.{PlainOptions};
+ghost use Rattle.bp_run.specs.Bodies.{Code};
+ghost use Rattle.bp_floor.specs.declared.phase.Phase.TheVariants as phase;
+ghost use Rattle.bp_hear.specs.Hearings.{AreHeard};
+ghost use Rattle.bp_scope.specs.Readings.{Pairs, IsHeld, GoesOnAs, HasFailed};
+ghost use Rattle.bp_told.specs.Logging.{LogStays};
+ghost use Rattle.bp_told.specs.Told.{Given, given};
+ghost use Rattle.bp_session.specs.Lending.{WritesTo};
+ghost use Rattle.bp_session.specs.Serving.{IsReady, IsServing, IsBrokenOff, IsServedTo, CanTellRest, IsEnded, EndsServing, EndIsCaused, ending_of, broke_at};
+
+use crate::report::Ending;
+use crate::serving::serve_on;
+use crate::stop::Stop;
+use crate::telling::tell;
+use bp_base::{Sink, Source};
+use bp_core::Core;
+use bp_lanes::{Bell, Rope};
+use bp_log::{Beside, Verdict};
+use bp_scope::{Reading, Serves};
+use bp_told::{RunFault, Telling};
+use std::alloc::Global;
+use std::sync::Wait;
+use std::thread::Threads;
+
+/// The ending that a fault comes to.
+fn ending_of(fault: RunFault) -> Ending
+    ensures { result ≡ ending_of fault }
+{
+    match fault {
+        RunFault::Write => Ending::Write,
+        RunFault::LogWrite => Ending::LogWrite,
+        RunFault::Memory => Ending::Memory,
+    }
+}
+
+/// Telling broke off: what waits is written, unless the log failed.
+fn write_front<K: Sink, L: Sink>(
+    fault: RunFault,
+    telling: &mut Telling,
+    out: &mut K,
+    log: &mut Option<L>,
+) -> Ending
+    ensures ends { (c : Core) (l : Code Origin PlainSet) (o : PlainOptions) (head : List ℕ)
+        (first : Given L) →
+        IsBrokenOff L.written l o head first c (given K.written out.old log.old) telling.old fault →
+        IsEnded L.written l o head first c (given K.written out.new log.new) result }
+    ensures fault { (result ≡ ending_of fault) ⊎ EndIsCaused K.faults L.faults out.old out.new
+        log.old log.new result }
+    ensures broke { broke_at result ≡ None }
+    ensures counts { K.faults out.old ≤ K.faults out.new }
+    ensures stays { LogStays L.made_as L.faults log.old log.new }
+{
+    if fault == RunFault::LogWrite {
+        return Ending::LogWrite;
+    }
+    match telling.flush(out, log) {
+        Ok(()) => ending_of(fault),
+        Err(other) => ending_of(other),
+    }
+}
+
+/// An injector failed: the rest is told, and what waits is written.
+fn write_read<K: Sink, L: Sink>(
+    alloc: Global,
+    number: u32,
+    core: &mut Core,
+    telling: &mut Telling,
+    out: &mut K,
+    log: &mut Option<L>,
+) -> Ending
+    requires ready { IsReady L.written core.old (given K.written out.old log.old) telling.old }
+    requires rest { core.old.arbiter.phase ≡ phase.Rest }
+    ensures ends { (l : Code Origin PlainSet) (o : PlainOptions) (head : List ℕ) (first : Given L) →
+        IsServing L.written l o head first core.old (given K.written out.old log.old) telling.old →
+        IsEnded L.written l o head first core.new (given K.written out.new log.new) result }
+    ensures cause { EndIsCaused K.faults L.faults out.old out.new log.old log.new result }
+    ensures broke { IfSome (broke_at result) (λ j. j ≡ number) }
+    ensures records { core.new.arbiter.records ≡ core.old.arbiter.records }
+    ensures counts { K.faults out.old ≤ K.faults out.new }
+    ensures stays { LogStays L.made_as L.faults log.old log.new }
+{
+    core.arbiter().keeps();
+    match tell(alloc, core, telling, out, log) {
+        Err(fault) => write_front(fault, telling, out, log),
+        Ok(()) => match telling.flush(out, log) {
+            Ok(()) => Ending::Read(number),
+            Err(fault) => ending_of(fault),
+        },
+    }
+}
+
+/// How serving ended. What was told of the run is written, unless that failed.
+fn ended<S: Source, K: Sink, L: Sink>(
+    alloc: Global,
+    served: Result<Verdict, Stop>,
+    core: &mut Core,
+    telling: &mut Telling,
+    out: &mut K,
+    log: &mut Option<L>,
+    readings: &Vec<Reading<S>>,
+) -> Ending
+    requires rest { CanTellRest L.written core.old (given K.written out.old log.old) telling.old
+        served }
+    ensures ends { (l : Code Origin PlainSet) (o : PlainOptions) (head : List ℕ) (first : Given L) →
+        IsServedTo L.written l o head first core.old (given K.written out.old log.old) telling.old
+        readings.now.items served →
+        IsEnded L.written l o head first core.new (given K.written out.new log.new) result }
+    ensures cause { (first : K) (first_log : Option L) →
+        WritesTo K.faults L.made_as L.faults served first out.old first_log log.old →
+        EndIsCaused K.faults L.faults first out.new first_log log.new result }
+    ensures broke { IfSome (broke_at result) (λ j. served ≡ Err (Stop.Read j)) }
+    ensures records { core.new.arbiter.records ≡ core.old.arbiter.records }
+    ensures counts { K.faults out.old ≤ K.faults out.new }
+    ensures stays { LogStays L.made_as L.faults log.old log.new }
+{
+    match served {
+        Ok(verdict) => match telling.flush(out, log) {
+            Ok(()) => Ending::Verdict(verdict),
+            Err(fault) => ending_of(fault),
+        },
+        Err(Stop::Read(number)) => write_read(alloc, number, core, telling, out, log),
+        Err(Stop::Broken(fault)) => write_front(fault, telling, out, log),
+        Err(Stop::Unwritten(fault)) => ending_of(fault),
+    }
+}
+
+/// All that a session owns.
+pub(crate) struct Parts<S> {
+    pub(crate) core: Core,
+    pub(crate) telling: Telling,
+    pub(crate) beside: Beside,
+    pub(crate) back: Vec<S>,
+    pub(crate) end: Ending,
+}
+
+/// What a session is lent, and all that it owns.
+pub(crate) struct Lent<'a, 'b, 'c, K, L, S> {
+    pub(crate) out: &'a mut K,
+    pub(crate) log: &'b mut Option<L>,
+    pub(crate) parts: &'c mut Parts<S>,
+}
+
+/// Serves the run to its end, and writes what was told of it.
+fn serve_parts<S: Source + Drop, R: Threads + Wait + Sync, K: Sink, L: Sink>(
+    rt: &R,
+    alloc: Global,
+    bell: &Bell,
+    parts: &mut Parts<S>,
+    out: &mut K,
+    log: &mut Option<L>,
+    readings: &mut Vec<Reading<S>>,
+)
+    requires ready { IsReady L.written parts.old.core (given K.written out.old log.old)
+        parts.old.telling }
+    requires inside { parts.old.core.out ≡ false }
+    requires few { length readings.old.items < 2 ^ 32 }
+    requires heard { AreHeard (λ r. r.hearing) parts.old.core.arbiter.records readings.old.items }
+    ensures ends { EndsServing L.written parts.old.core (given K.written out.old log.old)
+        parts.old.telling parts.new.core (given K.written out.new log.new) parts.new.end }
+    ensures broke { IfSome (broke_at parts.new.end) (HasFailed readings.new.items) }
+    ensures heard { AreHeard (λ r. r.hearing) parts.new.core.arbiter.records readings.new.items }
+    ensures goes_on { Pairs (GoesOnAs S.left S.faults) readings.old.items readings.new.items }
+    ensures cause { EndIsCaused K.faults L.faults out.old out.new log.old log.new parts.new.end }
+    ensures counts { K.faults out.old ≤ K.faults out.new }
+    ensures stays { LogStays L.made_as L.faults log.old log.new }
+{
+    let mut rope = Rope::new(bell);
+    let beside = parts.beside;
+    let core = &mut parts.core;
+    let telling = &mut parts.telling;
+    let served = serve_on(
+        rt, alloc, core, beside, telling, out, log, &mut rope, readings,
+    );
+    parts.end = ended(alloc, served, core, telling, out, log, readings);
+}
+
+impl<'a, 'b, 'c, K: Sink, L: Sink, S: Source + Drop, R: Threads + Wait + Sync> Serves<S, R>
+    for Lent<'a, 'b, 'c, K, L, S> {
+    ghost use denote.Param.Send.{IsSync};
+    ghost use Rattle.bp_session.specs.Lending.{IsServed};
+
+    ghost served = { λ o n. IsServed K.written K.faults L.written L.made_as L.faults o n };
+
+    ghost ready = { λ h. IsSync R.row × IsReady L.written h.parts.now.core
+        (given K.written h.out.now h.log.now) h.parts.now.telling
+        × (h.parts.now.core.out ≡ false) };
+
+    ghost records = { λ h. h.parts.now.core.arbiter.records };
+
+    ghost broke = { λ h. broke_at h.parts.now.end };
+
+    ghost back = { λ h. h.parts.now.back.items };
+
+    fn serve(&mut self, rt: &R, alloc: Global, bell: &Bell, readings: &mut Vec<Reading<S>>)
+        requires ready { IsSync R.row × IsReady L.written self.old.parts.now.core
+            (given K.written self.old.out.now self.old.log.now) self.old.parts.now.telling
+            × (self.old.parts.now.core.out ≡ false) }
+        requires fresh { self.old.parts.now.core.arbiter.records ≡ [] }
+        requires few { length readings.old.items < 2 ^ 32 }
+        requires heard { AreHeard (λ r. r.hearing) self.old.parts.now.core.arbiter.records
+            readings.old.items }
+        requires held { All IsHeld readings.old.items }
+        ensures served { IsServed K.written K.faults L.written L.made_as L.faults self.old self.new }
+        ensures heard { AreHeard (λ r. r.hearing) self.new.parts.now.core.arbiter.records
+            readings.new.items }
+        ensures goes_on { Pairs (GoesOnAs S.left S.faults) readings.old.items readings.new.items }
+        ensures broke { IfSome (broke_at self.new.parts.now.end) (HasFailed readings.new.items) }
+    {
+        serve_parts(rt, alloc, bell, self.parts, self.out, self.log, readings);
+    }
+
+    fn give_back(&mut self, sources: Vec<S>)
+        ensures served { (first : Lent K L S) →
+            IsServed K.written K.faults L.written L.made_as L.faults first self.old →
+            IsServed K.written K.faults L.written L.made_as L.faults first self.new }
+        ensures records { self.new.parts.now.core.arbiter.records
+            ≡ self.old.parts.now.core.arbiter.records }
+        ensures broke { broke_at self.new.parts.now.end ≡ broke_at self.old.parts.now.end }
+        ensures back { self.new.parts.now.back.items ≡ sources.items }
+    {
+        self.parts.back = sources;
+    }
+}

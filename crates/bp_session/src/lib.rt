@@ -1,0 +1,15 @@
+//! A session: a run that is served while injectors bring their events, printed and kept in a log as it
+//! comes.
+#![tactic(auto)]
+
+mod hearing;
+mod lent;
+mod report;
+mod running;
+mod serving;
+mod stop;
+mod telling;
+mod turning;
+
+pub use report::{Ending, Report};
+pub use running::Session;

@@ -1,0 +1,178 @@
+//! A program, run while injectors bring their events.
+ghost use Rattle.std.specs.Prelude.{◌≡◌, ◌≤◌, ◌<◌, ◌^◌, [], false, length, Some, IsSome, IfOk, IfSome};
+ghost use Rattle.bp_log.specs.Logs.{header_text};
+ghost use Rattle.bp_log.specs.Options.{AreOptions};
+ghost use Rattle.bp_steps.specs.Schedules.{schedule_of};
+ghost use Rattle.bp_steps.specs.Steps.{made_by};
+ghost use Rattle.bp_code.specs.Code.{code_of, text_of};
+ghost use Rattle.bp_code.specs.Nodes.{nodes_of};
+ghost use Rattle.bp_told.specs.Logging.{LogStays};
+ghost use Rattle.bp_told.specs.Order.{PrintsBehind};
+ghost use Rattle.bp_told.specs.Told.{given};
+ghost use Rattle.bp_hear.specs.Heard.{EachHeard};
+ghost use Rattle.bp_scope.specs.Places.{HasRoom};
+ghost use Rattle.bp_scope.specs.Readings.{AreBack, HasBroken};
+ghost use Rattle.bp_session.specs.Lending.{Begins};
+ghost use Rattle.bp_session.specs.Reports.{ComeBack, EndsAs};
+ghost use Rattle.bp_session.specs.Serving.{IsReady, EndsServing, EndIsCaused, broke_at};
+
+use crate::lent::{Lent, Parts};
+use crate::report::{Ending, Report};
+use bp_base::{Memory, Sink, Source};
+use bp_core::Core;
+use bp_core::laws::stories_have_legal_schedules;
+use bp_log::{Beside, Header, Records};
+use bp_scope::{Places, in_scope};
+use bp_told::Telling;
+use js_program::Program;
+use std::alloc::Global;
+use std::sync::Wait;
+use std::thread::Threads;
+
+/// All that a session needs memory for before it is served.
+struct Opened<S: Source> {
+    core: Core,
+    telling: Telling,
+    places: Places<S>,
+}
+
+/// Takes the memory for a session of as many injectors as the header says. Its only error is want of
+/// memory.
+fn begin<S: Source + Drop, L: Sink>(
+    alloc: Global,
+    program: Program,
+    header: &Header,
+    log: &Option<L>,
+) -> Result<Opened<S>, Memory>
+    ensures within { AreOptions header.now.options }
+    ensures serving { IfOk result (λ o. Begins L.written program header.now log.now o.core
+        o.telling) }
+    ensures fresh { IfOk result (λ o. o.core.arbiter.records ≡ []) }
+    ensures inside { IfOk result (λ o. o.core.out ≡ false) }
+    ensures room { IfOk result (λ o. HasRoom o.places header.now.options.injectors) }
+{
+    let options = header.options();
+    let count = options.injectors();
+    let telling = Telling::begin(alloc, header, log)?;
+    let core = Core::open(alloc, program, options)?;
+    let places = Places::new(alloc, count as usize)?;
+    Ok(Opened {
+        core,
+        telling,
+        places,
+    })
+}
+
+/// Serves what is lent, in a scope in which each input has an injector.
+fn served<S: Source + Send + Drop, R: Threads + Wait + Sync, K: Sink, L: Sink>(
+    rt: &R,
+    alloc: Global,
+    places: Places<S>,
+    inputs: Vec<S>,
+    parts: &mut Parts<S>,
+    out: &mut K,
+    log: &mut Option<L>,
+)
+    requires ready { IsReady L.written parts.old.core (given K.written out.old log.old)
+        parts.old.telling }
+    requires inside { parts.old.core.out ≡ false }
+    requires fresh { parts.old.core.arbiter.records ≡ [] }
+    requires room { HasRoom places (length inputs.items) }
+    requires few { length inputs.items < 2 ^ 32 }
+    ensures ends { EndsServing L.written parts.old.core (given K.written out.old log.old)
+        parts.old.telling parts.new.core (given K.written out.new log.new) parts.new.end }
+    ensures cause { EndIsCaused K.faults L.faults out.old out.new log.old log.new parts.new.end }
+    ensures many { length parts.new.back.items ≡ length inputs.items }
+    ensures back { AreBack S.left S.faults inputs.items parts.new.back.items
+        parts.new.core.arbiter.records }
+    ensures broke { IfSome (broke_at parts.new.end)
+        (HasBroken S.left S.faults inputs.items parts.new.back.items
+        parts.new.core.arbiter.records) }
+    ensures counts { K.faults out.old ≤ K.faults out.new }
+    ensures stays { LogStays L.made_as L.faults log.old log.new }
+{
+    let mut lent = Lent { out, log, parts };
+    in_scope::<_, S, R>(rt, alloc, places, inputs, &mut lent);
+    let Lent {
+        out: _,
+        log: _,
+        parts: _,
+    } = lent;
+}
+
+/// A run with its injectors.
+pub struct Session;
+
+impl Session {
+    /// Runs the program to its end under the options of the header, by so many workers and slices as is
+    /// said: neither shows in what is told. Each input is read on a thread of its own, or by the calling
+    /// one where none can be made, and what is there of it enters between two transitions. Prints the
+    /// text of the run, and writes its log, where one is kept: the header before anything is printed, and
+    /// each record before the lines that come of it. All that was told is written before anything waits.
+    /// It returns once each of the injectors has returned from its source, and gives the inputs back, in
+    /// order.
+    pub fn run<S: Source + Send + Drop, R: Threads + Wait + Sync, K: Sink, L: Sink>(
+        rt: &R,
+        alloc: Global,
+        program: Program,
+        header: &Header,
+        beside: Beside,
+        inputs: Vec<S>,
+        out: &mut K,
+        log: &mut Option<L>,
+    ) -> (Report, Vec<S>)
+        requires { length inputs.items ≡ header.now.options.injectors }
+        ensures story { IsSome (text_of program header.now.options result.0.records) }
+        ensures legal { let o = header.now.options in let l = code_of program o in
+            made_by l o (nodes_of program o) (schedule_of l o result.0.records)
+            ≡ Some result.0.records }
+        ensures heard { EachHeard S.left inputs.items result.1.items result.0.records }
+        ensures back { ComeBack S.left S.faults inputs.items result.1.items result.0.records }
+        ensures ends { EndsAs L.written L.faults K.faults (text_of program header.now.options)
+            (header_text header.now) out.old out.new (given K.written out.old log.old)
+            (given K.written out.new log.new) S.left S.faults inputs.items result.1.items
+            result.0.records result.0.end }
+
+        // However it ends, what was printed is of the text of records that stand in the log.
+        ensures behind { PrintsBehind L.written (text_of program header.now.options)
+            (header_text header.now) result.0.records (K.written out.old) (K.written out.new)
+            log.old log.new }
+
+        ensures counts { K.faults out.old ≤ K.faults out.new }
+        ensures stays { LogStays L.made_as L.faults log.old log.new }
+    {
+        stories_have_legal_schedules();
+        let Ok(opened) = begin(alloc, program, header, log) else {
+            let report = Report {
+                end: Ending::Memory,
+                records: Records::new(Vec::new(alloc)),
+            };
+            return (report, inputs);
+        };
+        let Opened {
+            core,
+            telling,
+            places,
+        } = opened;
+        let mut parts = Parts {
+            core,
+            telling,
+            beside,
+            back: Vec::new(alloc),
+            end: Ending::Memory,
+        };
+        served(rt, alloc, places, inputs, &mut parts, out, log);
+        let Parts {
+            core,
+            telling: _,
+            beside: _,
+            back,
+            end,
+        } = parts;
+        let report = Report {
+            end,
+            records: core.into_records(),
+        };
+        (report, back)
+    }
+}

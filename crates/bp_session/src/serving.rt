@@ -1,0 +1,259 @@
+//! The loop that serves a session.
+ghost use Rattle.std.specs.Prelude.{◌≡◌, ◌≤◌, ◌<◌, ◌^◌, length, Some, false, IfOk, IfErr, OnOk, OnErr};
+ghost use Rattle.std.specs.List.{list_any};
+ghost use Rattle.bp_log.specs.Records.{verdict_of};
+ghost use Rattle.bp_floor.specs.declared.phase.Phase.TheVariants as phase;
+ghost use Rattle.bp_core.specs.Cores.{KeepsProgram};
+ghost use Rattle.bp_hear.specs.Hearings.{AreHeard};
+ghost use Rattle.bp_scope.specs.Readings.{Pairs, GoesOnAs};
+ghost use Rattle.bp_told.specs.Logging.{LogStays};
+ghost use Rattle.bp_told.specs.Told.{given};
+ghost use Rattle.bp_session.specs.Hearing.{AreAsHeard};
+ghost use Rattle.bp_session.specs.Turning.{turns_here, MakeTurns};
+ghost use Rattle.bp_session.specs.Serving.{IsReady, ServesOn, BreaksServing, StillTold, StopsServing, IsCaused, StopIsCaused, StopsTurning, TellsAll, LeadsOn, CutsAt, KeepsItems};
+ghost use Rattle.bp_turns.specs.Settled.{IsSomewhereHere, IsSettled};
+
+use crate::hearing::hear_all;
+use crate::stop::Stop;
+use crate::telling::{tell, write};
+use crate::turning::{some_turn_here, turn_all_here};
+use bp_base::{Memory, Sink, Source};
+use bp_core::{Core, Phase, Picked};
+use bp_lanes::{Rope, Wake};
+use bp_log::{Beside, Verdict};
+use bp_scope::Reading;
+use bp_told::{RunFault, Telling};
+use bp_turns::{Carrier, Workers, settle_core};
+use std::alloc::Global;
+use std::sync::Wait;
+use std::thread::Threads;
+
+/// Own turns are made of injectors that have no thread. What waits to be written is written before, as a
+/// turn may wait for its source. True exactly where there was one.
+fn turn_here<S: Source, K: Sink, L: Sink>(
+    telling: &mut Telling,
+    out: &mut K,
+    log: &mut Option<L>,
+    readings: &mut Vec<Reading<S>>,
+) -> Result<bool, Stop>
+    ensures still { OnOk result (StillTold L.written (given K.written out.old log.old) telling.old
+        (given K.written out.new log.new) telling.new) }
+    ensures stops { IfErr result (StopsTurning L.written (given K.written out.old log.old) telling.old
+        (given K.written out.new log.new) telling.new) }
+    ensures some { IfOk result (λ some. some ≡ list_any turns_here readings.old.items) }
+    ensures turns { OnOk result (MakeTurns readings.old.items readings.new.items) }
+    ensures goes_on { Pairs (GoesOnAs S.left S.faults) readings.old.items readings.new.items }
+    ensures hearing { AreAsHeard readings.old.items readings.new.items }
+    ensures cause { IfErr result (StopIsCaused K.faults L.faults out.old out.new log.old log.new) }
+    ensures counts { K.faults out.old ≤ K.faults out.new }
+    ensures stays { LogStays L.made_as L.faults log.old log.new }
+{
+    if !some_turn_here(readings) {
+        return Ok(false);
+    }
+    write(telling, out, log)?;
+    turn_all_here(readings)?;
+    Ok(true)
+}
+
+/// Where all is done that can be, waits until an injector rings. What waits to be written is written
+/// before.
+fn wait_where<R: Threads + Wait + Sync, K: Sink, L: Sink>(
+    rt: &R,
+    waits: bool,
+    telling: &mut Telling,
+    out: &mut K,
+    log: &mut Option<L>,
+    rope: &mut Rope<'_>,
+) -> Result<(), Stop>
+    ensures still { OnOk result (StillTold L.written (given K.written out.old log.old) telling.old
+        (given K.written out.new log.new) telling.new) }
+    ensures stops { IfErr result (StopsTurning L.written (given K.written out.old log.old) telling.old
+        (given K.written out.new log.new) telling.new) }
+    ensures cause { IfErr result (StopIsCaused K.faults L.faults out.old out.new log.old log.new) }
+    ensures counts { K.faults out.old ≤ K.faults out.new }
+    ensures stays { LogStays L.made_as L.faults log.old log.new }
+{
+    if !waits {
+        return Ok(());
+    }
+    write(telling, out, log)?;
+    rope.wait(rt);
+    Ok(())
+}
+
+/// Writes what waits to be written, where something entered before.
+fn write_where<K: Sink, L: Sink>(
+    heard: bool,
+    telling: &mut Telling,
+    out: &mut K,
+    log: &mut Option<L>,
+) -> Result<(), Stop>
+    ensures still { OnOk result (StillTold L.written (given K.written out.old log.old) telling.old
+        (given K.written out.new log.new) telling.new) }
+    ensures stops { IfErr result (StopsTurning L.written (given K.written out.old log.old) telling.old
+        (given K.written out.new log.new) telling.new) }
+    ensures cause { IfErr result (StopIsCaused K.faults L.faults out.old out.new log.old log.new) }
+    ensures counts { K.faults out.old ≤ K.faults out.new }
+    ensures stays { LogStays L.made_as L.faults log.old log.new }
+{
+    if !heard {
+        return Ok(());
+    }
+    write(telling, out, log)
+}
+
+/// An injector that met want of memory has halted the bell: the session ends so then. Where there are no
+/// injectors nothing is asked.
+fn ask_halt<S: Source, R: Threads + Wait + Sync>(
+    rt: &R,
+    rope: &mut Rope<'_>,
+    readings: &Vec<Reading<S>>,
+) -> Result<(), Stop>
+    ensures { IfErr result (λ s. s ≡ Stop.Broken RunFault.Memory) }
+{
+    if !readings.is_empty() && rope.halted(rt) {
+        return Err(Stop::Broken(RunFault::Memory));
+    }
+    Ok(())
+}
+
+/// Wakes the injectors, where places became free for who waits with an item.
+fn ring_where<R: Threads + Wait + Sync>(rt: &R, heard: bool, rope: &mut Rope<'_>) {
+    if heard {
+        rope.ring(rt);
+    }
+}
+
+/// What comes next comes.
+fn pick(core: &mut Core) -> Result<Picked, Memory>
+    requires rest { core.old.arbiter.phase ≡ phase.Rest }
+    ensures picks { OnOk result (LeadsOn core.old core.new) }
+    ensures cut { OnErr result (CutsAt core.old core.new) }
+    ensures items { IsSomewhereHere core.old → KeepsItems core.old.arbiter.records
+        core.new.arbiter.records }
+    ensures kept { KeepsProgram core.old.arbiter core.new.arbiter }
+    ensures inside { core.new.out ≡ core.old.out }
+{
+    core.pick()
+}
+
+/// What is there of the injectors enters, and then what comes next comes. True exactly where something
+/// entered.
+fn round<S: Source, R: Threads + Wait + Sync, K: Sink, L: Sink>(
+    rt: &R,
+    core: &mut Core,
+    telling: &mut Telling,
+    out: &mut K,
+    log: &mut Option<L>,
+    rope: &mut Rope<'_>,
+    readings: &mut Vec<Reading<S>>,
+) -> Result<bool, Stop>
+    requires ready { IsReady L.written core.old (given K.written out.old log.old) telling.old }
+    requires whole { core.old.broken ≡ false }
+    requires rest { core.old.arbiter.phase ≡ phase.Rest }
+    requires few { length readings.old.items < 2 ^ 32 }
+    requires heard { AreHeard (λ r. r.hearing) core.old.arbiter.records readings.old.items }
+    ensures serves { OnOk result (ServesOn L.written core.old (given K.written out.old log.old)
+        telling.old core.new (given K.written out.new log.new) telling.new) }
+    ensures inside { OnOk result (core.new.out ≡ core.old.out) }
+    ensures stops { IfErr result (StopsServing L.written core.old (given K.written out.old log.old)
+        telling.old core.new (given K.written out.new log.new) telling.new readings.new.items) }
+    ensures heard { AreHeard (λ r. r.hearing) core.new.arbiter.records readings.new.items }
+    ensures goes_on { Pairs (GoesOnAs S.left S.faults) readings.old.items readings.new.items }
+    ensures cause { IfErr result (StopIsCaused K.faults L.faults out.old out.new log.old log.new) }
+    ensures counts { K.faults out.old ≤ K.faults out.new }
+    ensures stays { LogStays L.made_as L.faults log.old log.new }
+{
+    ask_halt(rt, rope, readings)?;
+    let heard = hear_all(core, readings)?;
+    ring_where(rt, heard, rope);
+    let turned = turn_here(telling, out, log, readings)?;
+    let picked = pick(core)?;
+    let waits = picked == Picked::Wait && !heard && !turned;
+    wait_where(rt, waits, telling, out, log, rope)?;
+    Ok(heard)
+}
+
+/// The verdict that was recorded. Its only error is want of memory.
+fn verdict_in(core: &Core) -> Result<Verdict, Memory>
+    requires { core.now.arbiter.phase ≡ phase.Over }
+    ensures { IfOk result (λ v. verdict_of core.now.arbiter.records ≡ Some v) }
+{
+    match core.arbiter().verdict() {
+        Some(verdict) => Ok(verdict.copy()?),
+        None => unreachable!(),
+    }
+}
+
+/// Carries jobs to their outcomes until nothing is to be run, and tells all that came of it.
+fn settle_and_tell<C: Carrier, K: Sink, L: Sink>(
+    alloc: Global,
+    core: &mut Core,
+    carrier: &C,
+    telling: &mut Telling,
+    out: &mut K,
+    log: &mut Option<L>,
+) -> Result<(), RunFault>
+    requires can_carry { C.can_carry carrier.now }
+    requires ready { IsReady L.written core.old (given K.written out.old log.old) telling.old }
+    requires inside { core.old.out ≡ false }
+    ensures serves { OnOk result (ServesOn L.written core.old (given K.written out.old log.old)
+        telling.old core.new (given K.written out.new log.new) telling.new) }
+    ensures tells { OnOk result (TellsAll L.written core.old (given K.written out.old log.old)
+        telling.old core.new (given K.written out.new log.new) telling.new) }
+    ensures settled { OnOk result (IsSettled core.new.arbiter.phase) }
+    ensures breaks { IfErr result (BreaksServing L.written core.old
+        (given K.written out.old log.old) telling.old core.new (given K.written out.new log.new)
+        telling.new) }
+    ensures items { KeepsItems core.old.arbiter.records core.new.arbiter.records }
+    ensures inside { OnOk result (core.new.out ≡ false) }
+    ensures cause { IfErr result (IsCaused K.faults L.faults out.old out.new log.old log.new) }
+    ensures counts { K.faults out.old ≤ K.faults out.new }
+    ensures stays { LogStays L.made_as L.faults log.old log.new }
+{
+    settle_core(alloc, core, carrier)?;
+    tell(alloc, core, telling, out, log)
+}
+
+/// Serves the run to its verdict: what is there of the injectors enters, what comes next comes, jobs are
+/// carried to their outcomes, and all of it is told as it comes. What is told is written before anything
+/// may wait, and after a round in which something entered.
+pub(crate) fn serve_on<S: Source, R: Threads + Wait + Sync, K: Sink, L: Sink>(
+    rt: &R,
+    alloc: Global,
+    core: &mut Core,
+    beside: Beside,
+    telling: &mut Telling,
+    out: &mut K,
+    log: &mut Option<L>,
+    rope: &mut Rope<'_>,
+    readings: &mut Vec<Reading<S>>,
+) -> Result<Verdict, Stop>
+    requires ready { IsReady L.written core.old (given K.written out.old log.old) telling.old }
+    requires inside { core.old.out ≡ false }
+    requires few { length readings.old.items < 2 ^ 32 }
+    requires heard { AreHeard (λ r. r.hearing) core.old.arbiter.records readings.old.items }
+    ensures verdict { IfOk result (λ v. verdict_of core.new.arbiter.records ≡ Some v) }
+    ensures tells { OnOk result (TellsAll L.written core.old (given K.written out.old log.old)
+        telling.old core.new (given K.written out.new log.new) telling.new) }
+    ensures stops { IfErr result (StopsServing L.written core.old (given K.written out.old log.old)
+        telling.old core.new (given K.written out.new log.new) telling.new readings.new.items) }
+    ensures heard { AreHeard (λ r. r.hearing) core.new.arbiter.records readings.new.items }
+    ensures goes_on { Pairs (GoesOnAs S.left S.faults) readings.old.items readings.new.items }
+    ensures cause { IfErr result (StopIsCaused K.faults L.faults out.old out.new log.old log.new) }
+    ensures counts { K.faults out.old ≤ K.faults out.new }
+    ensures stays { LogStays L.made_as L.faults log.old log.new }
+{
+    let workers = Workers { rt, beside };
+    let mut heard = false;
+    for _ in rt.forever() {
+        settle_and_tell(alloc, core, &workers, telling, out, log)?;
+        if core.arbiter().phase() == Phase::Over {
+            return Ok(verdict_in(core)?);
+        }
+        write_where(heard, telling, out, log)?;
+        heard = round(rt, core, telling, out, log, rope, readings)?;
+    }
+    unreachable!()
+}

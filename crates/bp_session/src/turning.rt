@@ -1,0 +1,62 @@
+//! Turns of feeds that have no thread: who serves makes them.
+ghost use Rattle.std.specs.Prelude.{◌≡◌, OnOk};
+ghost use Rattle.std.specs.List.{list_any};
+ghost use Rattle.bp_scope.specs.Readings.{Pairs, GoesOnAs};
+ghost use Rattle.bp_session.specs.Hearing.{AreAsHeard};
+ghost use Rattle.bp_session.specs.Turning.{turns_here, MakesTurn, MakeTurns};
+
+use bp_base::{Memory, Source};
+use bp_inject::Started;
+use bp_scope::Reading;
+
+/// Whether the injector has no thread and is not over.
+fn turns_here<S: Source>(reading: &Reading<S>) -> bool
+    ensures { result ≡ turns_here reading.now }
+{
+    match &reading.started {
+        Started::Beside(_) => false,
+        Started::Alone(feed) => !feed.is_over(),
+    }
+}
+
+/// Whether an injector has no thread and is not over.
+pub(crate) fn some_turn_here<S: Source>(readings: &Vec<Reading<S>>) -> bool
+    ensures { result ≡ list_any turns_here readings.now.items }
+{
+    for reading in readings {
+        if turns_here(reading) {
+            return true;
+        }
+    }
+    false
+}
+
+/// Makes one turn of an injector that has no thread and is not over, if it is such a one.
+fn turn_here<S: Source>(reading: &mut Reading<S>) -> Result<(), Memory>
+    ensures goes_on { GoesOnAs S.left S.faults reading.old reading.new }
+    ensures hearing { reading.new.hearing ≡ reading.old.hearing }
+    ensures turns { OnOk result (MakesTurn reading.old reading.new) }
+{
+    match &mut reading.started {
+        Started::Beside(_) => Ok(()),
+        Started::Alone(feed) => {
+            if feed.is_over() {
+                return Ok(());
+            }
+            let _fed = feed.turn()?;
+            Ok(())
+        }
+    }
+}
+
+/// Makes one turn of each injector that has no thread and is not over.
+pub(crate) fn turn_all_here<S: Source>(readings: &mut Vec<Reading<S>>) -> Result<(), Memory>
+    ensures goes_on { Pairs (GoesOnAs S.left S.faults) readings.old.items readings.new.items }
+    ensures hearing { AreAsHeard readings.old.items readings.new.items }
+    ensures turns { OnOk result (MakeTurns readings.old.items readings.new.items) }
+{
+    for reading in readings.iter_mut() {
+        turn_here(reading)?;
+    }
+    Ok(())
+}

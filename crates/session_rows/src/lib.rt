@@ -1,0 +1,13 @@
+//! Tests of sessions: what injectors bring while a script runs, and how a session ends.
+#![tactic(auto)]
+
+#[cfg(test)]
+mod bench;
+#[cfg(test)]
+mod endings;
+#[cfg(test)]
+mod many;
+#[cfg(test)]
+mod rows;
+#[cfg(test)]
+mod watched;
