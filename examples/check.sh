@@ -1,16 +1,25 @@
 #!/bin/sh
 # Runs the program on each example, and compares what it prints, and its status, with the files beside the example: NAME.trace,
 # NAME.status where the status is not 0, and NAME.options where it needs options. The same text must come for several numbers of
-# workers and slices, and from a replay of the run's log. The program is the one that `sh ./bp` runs, or the one at the path in
-# BP. Runs two more scripts by several workers and slices, one up to a limit of steps, and measures large programs. Says which
-# examples differ, and ends with a line `N passed, M failed`.
+# workers and slices, and from a replay of the run's log. An example with NAME.injectors, the names of its injectors, may print the
+# text of any merge of their lines (injected.sh says how that is looked at). The program is the one that `sh ./bp` builds, or the one
+# at the path in BP. Runs two more scripts by several workers and slices, one up to a limit of steps, measures large programs, and
+# tries injectors that are files, FIFOs and standard input. Says which examples differ, and ends with a line `N passed, M failed`.
 top=$(cd "$(dirname "$0")/.." && pwd) || exit 1
 got=$(mktemp -d) || exit 1
 trap 'rm -rf "$got"' EXIT
 
+if [ -z "$BP" ]; then
+    sh "$top/bp" accept "$top/examples/hot_and_cold.js" > /dev/null || exit 1
+    BP=$top/crates/bp/out/bp
+fi
+
+# program WORDS..: the program; where it takes longer than two minutes it is ended, with 124
 program() {
-    if [ -n "$BP" ]; then "$BP" "$@"; else sh "$top/bp" "$@"; fi
+    timeout 120 "$BP" "$@"
 }
+
+. "$top/examples/injected.sh"
 
 # wanted NAME: the status that the run of this example has
 wanted() {
@@ -37,6 +46,10 @@ agrees() {
 
 # check NAME: whether the runs of this example and the replay of its log are as the files beside it say
 check() {
+    if [ -f "$1.injectors" ]; then
+        check_injected "$1"
+        return
+    fi
     rm -f "$got/log"
     # (the options are words)
     # shellcheck disable=SC2046
@@ -129,7 +142,8 @@ large() {
 
 passed=0
 failed=0
-for what in registering forty endless large; do
+for what in registering forty endless large sixteen overtaken bad_line standard_input refused_injectors reader_leaves answered \
+    sleeping killed live; do
     if "$what"; then passed=$((passed + 1)); else failed=$((failed + 1)); fi
 done
 for script in "$top"/examples/*.js; do
