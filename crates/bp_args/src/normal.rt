@@ -1,5 +1,5 @@
 //! A command, written out as words in the normal form.
-ghost use Rattle.std.specs.Prelude.{◌≡◌, [], ◌∷◌, IfOk, map, decimal, string_bytes};
+ghost use Rattle.std.specs.Prelude.{◌≡◌, ◌∷◌, IfOk, map, decimal, string_bytes};
 ghost use Rattle.bp_matches.specs.Normal.{normal_words};
 ghost use Rattle.bp_args.specs.declared.command.Command.TheVariants as command;
 ghost use Rattle.bp_args.specs.Verbs.{verb_name};

@@ -1,8 +1,7 @@
 -- How a command ends: from its parts, and with its note or without the memory for it.
-use Rattle.std.proofs.Common.{◌≡◌, ℕ, List, [], ◌∷◌, ◌++◌, refl, sym, ap, subst, ◌∙◌, append-nil, inl, inr, Option, Some, None}
+use Rattle.std.proofs.Common.{◌≡◌, ℕ, List, [], refl, sym, ap, subst, append-nil, inl, inr, Option, Some, None}
 use Rattle.std.specs.Prelude.{◌⊎◌, true, IsSome, IsSomeAnd, slice_index_or}
 use Rattle.std.proofs.lemmas.Bool.{false≢true}
-use mathlib.Core.List.{IsPrefix}
 use Rattle.bp_base.specs.Worlds.{Holdings}
 use Rattle.bp_base.specs.declared.outside.WorldError.{WorldError}
 use Rattle.bp_base.specs.Pieces.{Appends, AppendsFront}
@@ -16,14 +15,13 @@ use Rattle.bp_run.specs.Text.{text}
 use Rattle.bp_code.specs.Code.{text_of}
 use Rattle.bp_script.specs.Programs.{IsProgram}
 use Rattle.bp_feeds.proofs.Going.{rose_from}
-use Rattle.bp_follow.specs.declared.fault.ReplayFault.{ReplayFault}
 use Rattle.bp_args.specs.declared.command.Command.{Command}
 use Rattle.bp_args.specs.declared.command.Command.TheVariants as command
 use Rattle.bp_args.specs.declared.command.Run.{Run}
 use Rattle.bp_cli.specs.declared.conclusion.Conclusion.{Conclusion}
 use Rattle.bp_cli.specs.declared.conclusion.Conclusion.TheVariants.{NoCommand, Refused, Accepted, Ran, NotRead, NotWritten, NoMemory, BadLog}
 use Rattle.bp_cli.specs.Outside.{Outside, WriteFailed, NeverFalls, IsAsBefore, IsUnder}
-use Rattle.bp_cli.specs.Texts.{IsAccepted, accepted_line, LineEnds}
+use Rattle.bp_cli.specs.Texts.{accepted_line, LineEnds}
 use Rattle.bp_cli.specs.Conclusions.{has_note, IsStatusOf, unmade_of}
 use Rattle.bp_cli.specs.Asking.{AsksIn}
 use Rattle.bp_cli.specs.Endings.{IsCaused, Does, EndsIn, Ends}

@@ -4,7 +4,6 @@ use Rattle.std.specs.Prelude.{Option, Some, None, IsSome, IfSome, slice_index_or
 use mathlib.Core.List.{IsPrefix}
 use Rattle.bp_base.specs.Pieces.{Gives}
 use Rattle.bp_base.specs.Worlds.{Holdings, Opens}
-use Rattle.bp_log.specs.declared.item.Item.{Item}
 use Rattle.bp_log.specs.declared.record.Record.{Record}
 use Rattle.bp_log.specs.declared.verdict.Verdict.{Verdict}
 use Rattle.bp_log.specs.declared.verdict.Verdict.TheVariants.{Quiet}

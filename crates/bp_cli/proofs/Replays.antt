@@ -1,5 +1,5 @@
 -- How the command ends that replays a log.
-use Rattle.std.proofs.Common.{◌≡◌, ℕ, List, [], ◌++◌, refl, sym, subst, append-nil, inl, inr}
+use Rattle.std.proofs.Common.{◌≡◌, ℕ, List, [], refl, sym, subst, append-nil, inl, inr}
 use Rattle.std.specs.Prelude.{Option, Some, None, Result, Ok, Err, IsErrOf, IsSome, IfSome, IsSomeAnd}
 use Rattle.bp_base.specs.Worlds.{Holdings, Opens}
 use Rattle.bp_base.specs.Pieces.{Appends, AppendsFront}

@@ -1,10 +1,10 @@
 -- How a run ends, and what is held of its log.
-use Rattle.std.proofs.Common.{◌≡◌, ℕ, zero, suc, ◌<◌, ◌≤◌, List, [], ◌∷◌, ◌++◌, length, refl, sym, ap, subst, ◌∙◌, append-nil, arith, inl, inr, lit<, Option, Some, None}
-use Rattle.std.specs.Prelude.{◌⊎◌, ◌-◌, ◌^◌, Bool, true, false, IfSome, IsSome, IsSomeAnd, is_some, option_map, slice_index_or}
+use Rattle.std.proofs.Common.{◌≡◌, ℕ, zero, suc, ◌<◌, List, [], ◌∷◌, ◌++◌, length, refl, sym, ap, subst, ◌∙◌, arith, inl, inr, lit<, Option, Some, None}
+use Rattle.std.specs.Prelude.{◌⊎◌, ◌-◌, ◌^◌, true, IfSome, IsSome, IsSomeAnd, is_some, option_map, slice_index_or}
 use mathlib.Core.List.{IsPrefix}
 use Rattle.bp_base.specs.Counts.{Rose}
 use Rattle.bp_base.specs.Worlds.{Holdings, Sets, Keeps, IsMadeAs}
-use Rattle.bp_base.specs.Pieces.{Appends, AppendsFront}
+use Rattle.bp_base.specs.Pieces.{Appends}
 use Rattle.js_program.specs.PlainProgram.{PlainProgram}
 use Rattle.bp_log.specs.Header.{PlainHeader}
 use Rattle.bp_log.specs.Logs.{header_text, records_text, log_text}
@@ -21,7 +21,6 @@ use Rattle.bp_code.specs.Code.{code_of, text_of, records_alone}
 use Rattle.bp_script.specs.Programs.{IsProgram}
 use Rattle.bp_told.specs.Logging.{LogGets, LogGetsFront, LogFails, LogStays}
 use Rattle.bp_told.specs.Order.{PrintsBehind}
-use Rattle.bp_told.specs.Told.{given}
 use Rattle.bp_told.proofs.Logging.{log_is}
 use Rattle.bp_hear.specs.Heard.{EachHeard}
 use Rattle.bp_session.specs.Reports.{IsQuiet, EndsAs, Wholly, Partly, BrokeAt}
@@ -33,8 +32,8 @@ use Rattle.bp_cli.specs.declared.conclusion.Conclusion.{Conclusion}
 use Rattle.bp_cli.specs.Conclusions.{ended_of}
 use Rattle.bp_cli.specs.Endings.{IsCaused}
 use Rattle.bp_cli.specs.Opening.{AreOpened, IsLogMade, IsLogNamed, IsLogHeld}
-use Rattle.bp_cli.specs.Outside.{Outside, IsAsBefore, ReadFailed, WriteFailed}
-use Rattle.bp_cli.specs.Runs.{Holds, HoldsFront, HoldsBehind, KeepsLog, KeepsLogFront, TellsWhole, TellsPartly, RunEnds, IsRunOf, header_of}
+use Rattle.bp_cli.specs.Outside.{Outside, ReadFailed, WriteFailed}
+use Rattle.bp_cli.specs.Runs.{Holds, HoldsBehind, KeepsLog, KeepsLogFront, TellsWhole, TellsPartly, RunEnds, IsRunOf, header_of}
 use Rattle.bp_cli.proofs.Injected.{Brought, brought, brought_to, breaks}
 
 -- ---- counts

@@ -4,7 +4,7 @@ use Rattle.bp_log.specs.declared.record.Record.{Record}
 use Rattle.bp_args.specs.declared.command.Command.{Command}
 use Rattle.bp_args.specs.declared.command.Command.TheVariants.{Run, Replay, Accept, Large}
 use Rattle.bp_cli.specs.declared.conclusion.Conclusion.{Conclusion}
-use Rattle.bp_cli.specs.declared.conclusion.Conclusion.TheVariants.{NoCommand, Refused, Accepted, Ran, NotRead, NotWritten, NoMemory, BadLog}
+use Rattle.bp_cli.specs.declared.conclusion.Conclusion.TheVariants.{NoCommand, Refused, NotRead, NotWritten, NoMemory}
 use Rattle.bp_cli.specs.Outside.{Outside, ReadFailed, WriteFailed, IsAsBefore, IsUnder}
 use Rattle.bp_cli.specs.Texts.{SaysAccepted}
 use Rattle.bp_cli.specs.Runs.{IsRunOf}
@@ -18,12 +18,7 @@ use Rattle.bp_cli.specs.Replaying.{ReplaysTo}
 abbrev pub IsCaused : Outside → Outside → Conclusion → Type 0
 IsCaused before after NotRead = ReadFailed before after
 IsCaused before after NotWritten = WriteFailed before after
-IsCaused before after NoMemory = Unit {0}
-IsCaused before after NoCommand = Unit {0}
-IsCaused before after (Refused refusal) = Unit {0}
-IsCaused before after Accepted = Unit {0}
-IsCaused before after (Ran verdict) = Unit {0}
-IsCaused before after (BadLog fault) = Unit {0}
+IsCaused before after _ = Unit {0}
 
 -- nothing came of it outside, and nothing was recorded
 abbrev pub DoesNothing : List Record → Outside → Outside → Type 0

@@ -1,5 +1,5 @@
 //! Runs that words ask for.
-ghost use Rattle.std.specs.Prelude.{◌≡◌, ◌≤◌, length, vec_len};
+ghost use Rattle.std.specs.Prelude.{◌≡◌, ◌≤◌, vec_len};
 ghost use Rattle.bp_log.specs.declared.limits.TheConstants.{MOST_BYTES};
 ghost use Rattle.bp_script.specs.Programs.{IsProgram};
 ghost use Rattle.bp_args.specs.declared.command.Command.TheVariants as command;

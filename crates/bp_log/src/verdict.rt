@@ -1,6 +1,7 @@
 //! What a run ends in.
-ghost use Rattle.std.specs.Prelude.{◌≡◌, ◌↔◌, IsTrue, IfOk};
-ghost use Rattle.bp_log.specs.Verdicts.{kind_of, same_place as place_is_same, same_fault as fault_is_same, same_verdict as verdict_is_same};
+ghost use Rattle.std.specs.Prelude.{◌≡◌, ◌↔◌, true, IsTrue, IfOk};
+ghost use Rattle.std.specs.Str.{is_utf8};
+ghost use Rattle.bp_log.specs.Verdicts.{IsPlace, IsVerdict, kind_of, same_place as place_is_same, same_fault as fault_is_same, same_verdict as verdict_is_same};
 
 use crate::Memory;
 use js_data::{Fault, Text};
@@ -70,7 +71,24 @@ impl Drop for Verdict {
     }
 }
 
+/// The text is UTF-8.
+fn text_keeps(text: &Text)
+    ensures { is_utf8 text.now ≡ true }
+{
+    let _bytes = text.as_str();
+}
+
 impl Place {
+    /// The name in it is UTF-8. It does nothing else.
+    fn keeps(&self)
+        ensures { IsPlace self.now }
+    {
+        match self {
+            Place::Top => {}
+            Place::Thread(name) => text_keeps(name),
+        }
+    }
+
     /// An equal place. Its only error is want of memory.
     pub fn copy(&self) -> Result<Place, Memory>
         ensures { IfOk result (λ p. p ≡ self.now) }
@@ -121,6 +139,34 @@ fn same_verdict(left: &Verdict, right: &Verdict) -> bool
 }
 
 impl Verdict {
+    /// The verdict's numbers are in their ranges, and its texts are UTF-8. It does nothing else.
+    pub fn keeps(&self)
+        ensures { IsVerdict self.now }
+    {
+        match self {
+            Verdict::Quiet(transitions) => {
+                let _transitions = *transitions;
+            }
+            Verdict::Violated(place, text) => {
+                place.keeps();
+                text_keeps(text);
+            }
+            Verdict::Fault(place, line, _) => {
+                place.keeps();
+                let _line = *line;
+            }
+            Verdict::Spent(place) => place.keeps(),
+            Verdict::Steps(steps) => {
+                let _steps = *steps;
+            }
+            Verdict::Queue | Verdict::Threads | Verdict::Weight => {}
+            Verdict::Bad(injector, line) => {
+                let _injector = *injector;
+                let _line = *line;
+            }
+        }
+    }
+
     /// The kind of the verdict. Takes no memory.
     pub fn kind(&self) -> VerdictKind
         ensures { result ≡ kind_of self.now }

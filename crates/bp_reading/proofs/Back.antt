@@ -28,7 +28,8 @@ use Rattle.bp_log.specs.declared.verdict.Verdict.{Verdict}
 use Rattle.bp_log.specs.declared.verdict.Verdict.TheVariants as verdict
 use Rattle.bp_reading.specs.Words.{text_at, compact_event_at, number_at, numbers_at, most_32}
 use Rattle.bp_reading.specs.Lines.{place_at, said_at, fault_at, kind_at, blamed_at, spent_by, verdict_at, handed_at, record_at}
-use Rattle.bp_reading.specs.Laws.{IsPlace, IsVerdict, IsRecord}
+use Rattle.bp_log.specs.Verdicts.{IsPlace, IsVerdict}
+use Rattle.bp_reading.specs.Laws.{IsRecord}
 use Rattle.bp_reading.proofs.Spelled.{spelled_verdict, spelled_record, record_is}
 use Rattle.bp_reading.proofs.Lines.{around_is}
 use Rattle.bp_reading.proofs.Numbers.{number_back, lacks-decimal}

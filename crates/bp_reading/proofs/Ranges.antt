@@ -21,7 +21,8 @@ use Rattle.bp_log.specs.declared.verdict.Verdict.{Verdict}
 use Rattle.bp_log.specs.declared.verdict.Verdict.TheVariants as verdict
 use Rattle.bp_reading.specs.Words.{behind, around, number_at, number_behind, numbers_at, most_32, if_compact, compact_event_at, text_at, quoted_front}
 use Rattle.bp_reading.specs.Lines.{place_at, quiet_at, steps_at, if_same, limit_at, bad_end_at, limits_at, numbered_at, said_at, violated_at, fault_at, kind_at, blamed_at, faulty_at, spent_at, placed_at, verdict_at, handed_at, in_at, bad_at, eof_at, sel_at, end_at, record_at, top_at, name_at, thread_at}
-use Rattle.bp_reading.specs.Laws.{IsVerdict, IsRecord, IsPlace}
+use Rattle.bp_log.specs.Verdicts.{IsPlace, IsVerdict}
+use Rattle.bp_reading.specs.Laws.{IsRecord}
 use Rattle.bp_reading.proofs.Numbers.{number_text}
 use Rattle.bp_reading.proofs.Unquoted.{past_ascii, utf8_unquoted}
 use Rattle.bp_reading.proofs.Held.{held_event}

@@ -17,7 +17,8 @@ use Rattle.bp_log.specs.declared.verdict.Place.{Place}
 use Rattle.bp_log.specs.declared.verdict.Place.TheVariants.{Top, Thread}
 use Rattle.bp_log.specs.declared.verdict.Verdict.{Verdict}
 use Rattle.bp_log.specs.declared.verdict.Verdict.TheVariants as verdict
-use Rattle.bp_reading.specs.Laws.{IsVerdict, IsRecord}
+use Rattle.bp_log.specs.Verdicts.{IsVerdict}
+use Rattle.bp_reading.specs.Laws.{IsRecord}
 use Rattle.bp_reading.proofs.Lines.{lacks, lacks-append}
 use Rattle.bp_reading.proofs.Numbers.{lacks-decimal}
 use Rattle.bp_reading.proofs.Quotes.{lacks-quoted}

@@ -6,13 +6,10 @@ use Rattle.bp_log.specs.Options.{AreOptions}
 use Rattle.bp_log.specs.Header.{PlainHeader}
 use Rattle.bp_log.specs.Logs.{record_text, records_text, log_text}
 use Rattle.bp_log.specs.Records.{is_complete}
+use Rattle.bp_log.specs.Verdicts.{IsVerdict}
 use Rattle.bp_log.specs.declared.limits.TheConstants.{MOST_BYTES}
 use Rattle.bp_log.specs.declared.record.Record.{Record}
 use Rattle.bp_log.specs.declared.record.Record.TheVariants.{In, Bad, Eof, Sel, End}
-use Rattle.bp_log.specs.declared.verdict.Place.{Place}
-use Rattle.bp_log.specs.declared.verdict.Place.TheVariants.{Top, Thread}
-use Rattle.bp_log.specs.declared.verdict.Verdict.{Verdict}
-use Rattle.bp_log.specs.declared.verdict.Verdict.TheVariants as verdict
 use Rattle.bp_reading.specs.declared.limits.TheConstants.{MOST_LINE_BYTES, MOST_RECORDS}
 use Rattle.bp_reading.specs.Heads.{Refusal, header_at}
 use Rattle.bp_reading.specs.Lines.{record_at}
@@ -24,19 +21,6 @@ pub record IsHeader (h : PlainHeader) : Type 0 where
   pub seed : h.options.seed < 2 ^ 64
   pub options : AreOptions h.options
   pub program : length h.program ≤ MOST_BYTES
-
-abbrev pub IsPlace : Place → Type 0
-IsPlace Top = Unit {0}
-IsPlace (Thread name) = is_utf8 name ≡ true
-
-abbrev pub IsVerdict : Verdict → Type 0
-IsVerdict (verdict.Quiet n) = n < 2 ^ 32
-IsVerdict (verdict.Violated place t) = IsPlace place × (is_utf8 t ≡ true)
-IsVerdict (verdict.Fault place line f) = IsPlace place × (line < 2 ^ 32)
-IsVerdict (verdict.Spent place) = IsPlace place
-IsVerdict (verdict.Steps n) = n < 2 ^ 32
-IsVerdict (verdict.Bad j line) = (j < 2 ^ 32) × (line < 2 ^ 32)
-IsVerdict _ = Unit {0}
 
 abbrev pub IsRecord : Record → Type 0
 IsRecord (In j e) = (j < 2 ^ 32) × IsEvent e

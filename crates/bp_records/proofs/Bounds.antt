@@ -18,7 +18,7 @@ use Rattle.bp_log.specs.declared.verdict.Place.TheVariants.{Top, Thread}
 use Rattle.bp_log.specs.declared.verdict.Verdict.{Verdict}
 use Rattle.bp_log.specs.declared.verdict.Verdict.TheVariants as verdict
 use Rattle.bp_reading.specs.declared.limits.TheConstants.{MOST_LINE_BYTES}
-use Rattle.bp_reading.specs.Laws.{IsVerdict}
+use Rattle.bp_log.specs.Verdicts.{IsVerdict}
 use Rattle.bp_reading.proofs.Spelled.{spelled_verdict, record_is}
 use Rattle.bp_records.proofs.Verdicts.{IsShortPlace, IsShortVerdict}
 

@@ -1,11 +1,8 @@
 //! What headers and records keep by their types, as facts for those who have them. The calls do
 //! nothing else.
-ghost use Rattle.std.specs.Prelude.{◌≡◌, true};
-ghost use Rattle.std.specs.Str.{is_utf8};
-ghost use Rattle.bp_reading.specs.Laws.{IsHeader, IsPlace, IsVerdict, IsRecord, AreRecords};
+ghost use Rattle.bp_reading.specs.Laws.{IsHeader, IsRecord, AreRecords};
 
-use bp_log::{Header, Place, Record, Records, Verdict};
-use js_data::Text;
+use bp_log::{Header, Record, Records};
 
 /// The header's numbers are in their ranges, and its program is no longer than a program may be.
 pub fn header_keeps(header: &Header)
@@ -15,53 +12,6 @@ pub fn header_keeps(header: &Header)
     let _seed = options.seed();
     let _budget = options.budget();
     let _program = header.program();
-}
-
-/// The text is UTF-8.
-fn text_keeps(text: &Text)
-    ensures { is_utf8 text.now ≡ true }
-{
-    let _bytes = text.as_str();
-}
-
-/// The name in it is UTF-8.
-fn place_keeps(place: &Place)
-    ensures { IsPlace place.now }
-{
-    match place {
-        Place::Top => {}
-        Place::Thread(name) => text_keeps(name),
-    }
-}
-
-/// The verdict's numbers are in their ranges, and its texts are UTF-8.
-fn verdict_keeps(verdict: &Verdict)
-    ensures { IsVerdict verdict.now }
-{
-    match verdict {
-        Verdict::Quiet(transitions) => {
-            let _transitions = *transitions;
-        }
-        Verdict::Violated(place, text) => {
-            place_keeps(place);
-            text_keeps(text);
-        }
-        Verdict::Fault(place, line, _) => {
-            place_keeps(place);
-            let _line = *line;
-        }
-        Verdict::Spent(place) => place_keeps(place),
-        Verdict::Steps(steps) => {
-            let _steps = *steps;
-        }
-        Verdict::Queue => {}
-        Verdict::Threads => {}
-        Verdict::Weight => {}
-        Verdict::Bad(injector, line) => {
-            let _injector = *injector;
-            let _line = *line;
-        }
-    }
 }
 
 /// The record's numbers are in their ranges, its events are events, and its texts are UTF-8.
@@ -81,7 +31,7 @@ fn record_keeps(entry: &Record)
             let _injector = *injector;
         }
         Record::Sel(event) => event.keeps(),
-        Record::End(verdict) => verdict_keeps(verdict),
+        Record::End(verdict) => verdict.keeps(),
     }
 }
 

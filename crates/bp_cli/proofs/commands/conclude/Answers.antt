@@ -1,6 +1,5 @@
-use Rattle.std.proofs.Common.{Option, ap, sym, subst}
+use Rattle.std.proofs.Common.{Option, sym, subst}
 use Rattle.std.specs.Prelude.{map, string_bytes}
-use Rattle.bp_args.specs.Command.{command_of}
 use Rattle.bp_args.specs.declared.command.Command.{Command}
 use Rattle.bp_cli.specs.Outside.{outside}
 use Rattle.bp_cli.specs.Asking.{AsksIn}

@@ -1,4 +1,4 @@
-use Rattle.std.proofs.Common.{◌∙◌, ◌++◌, Some, Err, Option, List, ℕ, ◌∷◌, ap, inl, inr, refl, sym, subst, take, arith}
+use Rattle.std.proofs.Common.{◌∙◌, ◌++◌, Some, Err, Option, List, ℕ, ◌∷◌, ap, inr, refl, sym, subst, take, arith}
 use Rattle.std.specs.Prelude.{option_to_list}
 use Rattle.bp_args.specs.declared.command.Command.TheVariants as command
 use Rattle.bp_base.specs.Counts.{Rose}

@@ -1,4 +1,4 @@
-use Rattle.std.proofs.Common.{◌≡◌, ◌∙◌, List, ℕ, Option, ap, inl, inr, sym, subst}
+use Rattle.std.proofs.Common.{◌∙◌, List, ℕ, Option, ap, inl, inr, sym, subst}
 use Rattle.js_program.specs.PlainProgram.{PlainProgram}
 use Rattle.bp_base.specs.Counts.{Rose}
 use Rattle.bp_base.specs.Worlds.{Holdings}
