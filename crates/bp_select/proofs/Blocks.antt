@@ -12,7 +12,7 @@ use Rattle.bp_select.specs.declared.bench.Stated.{Stated}
 use Rattle.bp_select.specs.Lives.{live_of}
 use Rattle.bp_select.specs.Blocking.{is_empty, blocking}
 
-nothing_in : (base : Ground) (budget : ℕ) (s : PlainSet) (e : PlainEvent) → is_empty s ≡ true → member base budget s e ≡ Ok false
+pub nothing_in : (base : Ground) (budget : ℕ) (s : PlainSet) (e : PlainEvent) → is_empty s ≡ true → member base budget s e ≡ Ok false
 nothing_in base budget v.nothing e h = refl
 nothing_in base budget (v.any v.no_sets) e h = refl
 nothing_in base budget (v.any (v.set_in s ss)) e h = absurd (cc)

@@ -9,3 +9,5 @@ pub mod Touching
 pub mod Selects
 pub mod Putting
 pub mod Leaving
+pub mod Telling
+pub mod Noting

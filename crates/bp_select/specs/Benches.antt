@@ -1,30 +1,26 @@
 -- What contracts see of a bench.
-use Rattle.std.specs.Prelude.{◌≡◌, ℕ, nat_lt, nat_eq, Bool, List, [], ◌∷◌, Option, Result, option_map, if◌then◌else◌, All}
+use Rattle.std.specs.Prelude.{ℕ, nat_lt, nat_eq, List, [], ◌∷◌, Option, option_map, if◌then◌else◌}
 use Rattle.std.specs.List.{cons_option}
-use Rattle.js_data.specs.Event.{PlainEvent}
 use Rattle.js_value.specs.Value.{PlainSet}
 use Rattle.js_meaning.specs.State.{Ground}
-use Rattle.bp_run.specs.Bodies.{Statement, SetFault}
+use Rattle.bp_run.specs.Bodies.{Statement}
 use Rattle.bp_run.specs.Selecting.{Live}
-use Rattle.bp_meaning.specs.Membership.{member}
+use Rattle.bp_known.specs.declared.known.Told.{Told}
+use Rattle.bp_known.specs.Known.{AreKnown, sets_in}
 
--- an answer that is kept: whether the set has the event
-pub record Kept : Type 0 where
-  pub set : PlainSet
-  pub event : PlainEvent
-  pub answer : Result Bool SetFault
-
--- what the live b-threads state, in the order of their numbers, and the answers that are kept
+-- what the live b-threads state, in the order of their numbers; the block sets that are noted, and
+-- what is told of events under them
 pub record PlainBench : Type 0 where
   pub live : List (Live PlainSet)
-  pub kept : List Kept
+  pub sets : List (ℕ × PlainSet)
+  pub told : List Told
 
 abbrev pub empty_bench : PlainBench
-empty_bench = record { live = []; kept = [] }
+empty_bench = record { live = []; sets = []; told = [] }
 
--- each kept answer is that of its set under this ground and budget
+-- what is told is so under this ground and budget
 abbrev pub Fits : PlainBench → Ground → ℕ → Type 0
-Fits b base budget = All (λ k. member base budget k.set k.event ≡ k.answer) b.kept
+Fits b base budget = AreKnown base budget (sets_in b.sets) b.told
 
 abbrev pub live_at : {Set : Type 0} → ℕ → Option (Statement Set) → Option (Live Set)
 live_at n o = option_map (λ s. record { number = n; statement = s }) o

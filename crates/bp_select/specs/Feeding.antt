@@ -1,4 +1,5 @@
--- What a hasher is fed for an event: equal events are fed alike, and events that differ in a leaf are not.
+-- What a hasher is fed for an event: equal events are fed alike, and those that differ in a leaf are
+-- not.
 use Rattle.std.specs.Prelude.{ℕ, List, [], ◌++◌, Option, Some, None}
 use Rattle.std.specs.Hash as fed
 use Rattle.js_data.specs.Data.{PlainData, null, truth, whole, words, list, fields, DataList, no_data, item, DataFields, no_fields, field}

@@ -8,6 +8,7 @@ pub mod Feeding
 pub mod Keys
 pub mod Candidates
 pub mod Blocking
+pub mod Blocks
 pub mod Touches
 pub mod Free
 pub mod Places

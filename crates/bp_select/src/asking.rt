@@ -1,5 +1,5 @@
 //! What block sets answer.
-ghost use Rattle.std.specs.Prelude.{◌≡◌, ◌<◌, ◌^◌, ◌||◌, List, length, map, IfOk};
+ghost use Rattle.std.specs.Prelude.{◌≡◌, ◌<◌, ◌^◌, ◌||◌, List, is_some, length, map, IfOk};
 ghost use Rattle.js_frames.specs.Places.{plain_ground};
 ghost use Rattle.bp_meaning.specs.Membership.{Membership, member};
 ghost use Rattle.js_value.specs.Value.{PlainSet};
@@ -8,6 +8,9 @@ ghost use Rattle.bp_thread.specs.Views.{stated_set};
 ghost use Rattle.bp_run.specs.Selecting.{Live, by_number, blocked, unblocked, first_unblocked, blocker};
 ghost use Rattle.bp_select.specs.Lives.{live_of, lent};
 ghost use Rattle.bp_select.specs.Answers.{AnswersAs};
+ghost use Rattle.bp_select.specs.Blocks.{AreOf, first_by, known_of};
+ghost use Rattle.bp_known.specs.Known.{Sets, IsKnown};
+ghost use Rattle.bp_select.specs.Places.{AreInOrder};
 ghost use Rattle.bp_select.specs.Blocking.{is_empty as is_plainly_empty, blocking as those_that_block};
 ghost use Rattle.bp_select.specs.Tops.{HaveTops};
 ghost use Rattle.bp_select.specs.Candidates.{events_in, tops_of};
@@ -66,7 +69,7 @@ fn is_empty(set: &Option<EventSet>) -> bool
 }
 
 /// Whether no event is in the set that is stated, without a look at an event.
-fn is_empty_set(set: &EventSet) -> bool
+pub(crate) fn is_empty_set(set: &EventSet) -> bool
     ensures { result ≡ is_plainly_empty set.now }
 {
     match set.tree() {
@@ -115,6 +118,40 @@ fn is_blocked(
         yes = either(yes, here);
     }
     Ok(yes)
+}
+
+/// The first of two, or this one where it has the event.
+fn first_by(by: Option<u32>, here: bool, number: u32) -> Option<u32>
+    ensures { result ≡ first_by by here number }
+{
+    match by {
+        Some(first) => Some(first),
+        None => { if here { Some(number) } else { None } }
+    }
+}
+
+/// The first b-thread that blocks the event. Every one is asked.
+pub(crate) fn blocked_by(
+    alloc: Global,
+    ground: &Ground,
+    budget: u64,
+    live: &[Stated],
+    event: &Event,
+) -> Result<Option<u32>, SelectFault>
+    requires { AreInOrder (map live_of live.now) }
+    ensures blocked { let has = member (plain_ground ground.now) budget in
+        AnswersAs is_some (blocked has (map live_of live.now) event.now) result }
+    ensures known { let base = plain_ground ground.now in (sets : Sets) →
+        AreOf (map live_of live.now) sets →
+        IfOk result (λ o. IsKnown base budget sets event.now (known_of o)) }
+{
+    let mut by = None;
+    for stated in live {
+        let block = &stated.statement.block;
+        let here = ask(alloc, ground, budget, stated.number, block, event)?;
+        by = first_by(by, here, stated.number);
+    }
+    Ok(by)
 }
 
 /// Those of the candidates that nobody blocks, in order.

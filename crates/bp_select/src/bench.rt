@@ -1,6 +1,5 @@
 //! The bench: what the live b-threads state, and the questions that are asked of it.
 ghost use Rattle.std.specs.Prelude.{◌≡◌, ◌<◌, ◌≤◌, ◌+◌, ◌^◌, ℕ, Ok, length, option_map, IfOk, OnOk, OnErr};
-ghost use Rattle.std.specs.List.{list_any};
 ghost use Rattle.js_meaning.specs.State.{Ground as Base};
 ghost use Rattle.js_frames.specs.Places.{plain_ground};
 ghost use Rattle.bp_words.specs.Words.{draw_word};
@@ -13,9 +12,11 @@ ghost use Rattle.bp_select.specs.Lives.{live_of};
 ghost use Rattle.bp_select.specs.Answers.{AnswersAs, AnswersReach, IsWithin, chosen_of, enabled_of};
 
 use crate::asking::blocker;
+use crate::block_sets::Blocks;
 use crate::placing::StatedList;
 use crate::reaching::reach;
 use crate::selecting::{chosen, selectable};
+use crate::settling::settle;
 use crate::{Choice, Draw, Enabled, Reach, SelectFault};
 use bp_log::{Memory, Strategy};
 use bp_thread::Statement;
@@ -35,28 +36,34 @@ pub(crate) struct Stated {
     pub here: bool,
 }
 
-/// What the live b-threads state, by their numbers. Contracts see the list of statements, and the
-/// answers of sets that are kept.
+/// What the live b-threads state, by their numbers. Contracts see the list of statements, the block
+/// sets that are noted, and what is known of events under these.
 ///
-/// A bench fits a ground and a budget where each answer that it keeps is that of its set under
-/// them. A new bench fits all of them.
+/// A bench fits a ground and a budget where what it knows is so under them. A new bench fits all
+/// of them.
 #[derive(Drop)]
 pub struct Bench {
     live: StatedList,
+    blocks: Blocks,
+    /// The numbers whose block sets may have changed since they were noted.
+    changed: Vec<u32>,
 }
 
 impl Model for Bench {
-    ghost use Rattle.std.specs.Prelude.{[]};
     ghost use Rattle.std.specs.Coded.{codes};
     ghost use Rattle.js_data.specs.Codes.{event_code};
     ghost use Rattle.js_value.specs.Codes.{set_code};
     ghost use Rattle.bp_select.specs.Benches.{PlainBench};
+    ghost use Rattle.bp_select.specs.Blocks.{IsNoted};
+    ghost use Rattle.bp_known.specs.Known.{sets_in};
 
     ghost Value = { PlainBench };
 
     ghost coded = { Prim.hlevel (codes, event_code, set_code) };
 
-    ghost view = { λ b. record { live = b.live.live; kept = [] } };
+    ghost view = { λ b. record { live = b.live.live; sets = b.blocks.sets; told = b.blocks.told } };
+
+    ghost invariant = { λ b. IsNoted b.live.live (sets_in b.blocks.sets) b.changed.items };
 }
 
 impl Bench {
@@ -67,6 +74,8 @@ impl Bench {
     {
         Bench {
             live: StatedList::new(alloc),
+            blocks: Blocks::new(alloc),
+            changed: Vec::new(alloc),
         }
     }
 
@@ -82,6 +91,7 @@ impl Bench {
         ensures fits { (base : Base) (budget : ℕ) →
             Fits self.old base budget → Fits self.new base budget }
     {
+        self.changed.push(number)?;
         self.live.place(number, statement)
     }
 
@@ -107,7 +117,16 @@ impl Bench {
         ensures fits { Fits self.new (plain_ground ground.now) budget }
     {
         self.live.tidy();
-        let free = selectable(alloc, ground, budget, self.live.as_slice(), queue)?;
+        let live = self.live.as_slice();
+        settle(
+            alloc,
+            ground,
+            budget,
+            live,
+            &mut self.blocks,
+            &mut self.changed,
+        )?;
+        let free = selectable(alloc, ground, budget, live, &mut self.blocks, queue)?;
         Ok(free.into_enabled(alloc)?)
     }
 
@@ -141,8 +160,17 @@ impl Bench {
         ensures fits { Fits self.new (plain_ground ground.now) budget }
     {
         self.live.tidy();
-        let free = selectable(alloc, ground, budget, self.live.as_slice(), queue)?;
-        Ok(chosen(alloc, strategy, self.live.as_slice(), free, draw)?)
+        let live = self.live.as_slice();
+        settle(
+            alloc,
+            ground,
+            budget,
+            live,
+            &mut self.blocks,
+            &mut self.changed,
+        )?;
+        let free = selectable(alloc, ground, budget, live, &mut self.blocks, queue)?;
+        Ok(chosen(alloc, strategy, live, free, draw)?)
     }
 
     /// Whom the event reaches: those that it interrupts, and of the others those that request it or

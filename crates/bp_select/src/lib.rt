@@ -1,12 +1,14 @@
 //! Which event comes next: the statements of the live b-threads on a bench, what can be selected
 //! of them and of the queue, which event is chosen, and whom it reaches.
 //!
-//! Every question is asked afresh.
+//! What the block sets answered of an event is kept until one of them changes; all else is asked
+//! afresh at each question.
 #![tactic(auto)]
 
 mod answers;
 mod asking;
 mod bench;
+mod block_sets;
 mod candidate;
 mod candidates;
 mod choosing;
@@ -16,6 +18,7 @@ mod key;
 mod placing;
 mod reaching;
 mod selecting;
+mod settling;
 
 pub use answers::{Choice, Enabled, Reach, SelectFault};
 pub use bench::Bench;

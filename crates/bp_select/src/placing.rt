@@ -17,8 +17,8 @@ use std::marker::Model;
 
 /// What b-threads state, by their numbers. Contracts see those that are live, and how many are not.
 ///
-/// One that is live no more keeps its place until the list is tidied, so that nothing is moved where
-/// it comes back before.
+/// One that is live no more keeps its place until the list is tidied, so that nothing is moved
+/// where it comes back before.
 #[derive(Drop)]
 pub(crate) struct StatedList {
     items: Vec<Stated>,
@@ -41,7 +41,7 @@ impl Model for StatedList {
 }
 
 /// How many of them have a smaller number, by a search by halves.
-fn place_of(items: &[Stated], number: u32) -> usize
+pub(crate) fn place_of(items: &[Stated], number: u32) -> usize
     requires { AreInOrder (map live_of items.now) }
     ensures { result ≡ place_in number (map live_of items.now) }
 {
@@ -49,7 +49,7 @@ fn place_of(items: &[Stated], number: u32) -> usize
 }
 
 /// Whether the one at this place has this number.
-fn is_at(items: &[Stated], at: usize, number: u32) -> bool
+pub(crate) fn is_at(items: &[Stated], at: usize, number: u32) -> bool
     ensures { result ≡ is_number number (slice_get (map live_of items.now) at) }
 {
     match items.get(at) {
@@ -71,8 +71,8 @@ fn put(items: &mut Vec<Stated>, gone: &mut usize, at: usize, stated: Stated) -> 
     requires counted { AreCounted items.old.items gone.old }
     requires at { at ≡ place_in stated.number (map live_of items.old.items) }
     requires here { stated.here ≡ true }
-    ensures put { OnOk result (live_in items.new.items
-        ≡ placed stated.number (Some (plain_statement stated.statement)) (live_in items.old.items)) }
+    ensures put { let o = Some (plain_statement stated.statement) in
+        OnOk result (live_in items.new.items ≡ placed stated.number o (live_in items.old.items)) }
     ensures failed { OnErr result (live_in items.new.items ≡ live_in items.old.items) }
     ensures counted { AreCounted items.new.items gone.new }
 {
@@ -154,7 +154,8 @@ impl StatedList {
     /// Those that are live, where all give what they state. Takes no memory.
     pub fn as_slice(&self) -> &[Stated]
         requires { self.now.gone ≡ 0 }
-        ensures { map live_of result.now ≡ self.now.live }
+        ensures live { map live_of result.now ≡ self.now.live }
+        ensures order { AreInOrder (map live_of result.now) }
     {
         self.items.as_slice()
     }

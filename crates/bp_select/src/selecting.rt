@@ -9,11 +9,16 @@ ghost use Rattle.bp_run.specs.Selecting.{Live, without_fault, first_unblocked, s
 ghost use Rattle.bp_run.specs.Choosing.{drawn_of, chosen};
 ghost use Rattle.bp_select.specs.Lives.{live_of, lent};
 ghost use Rattle.bp_select.specs.Answers.{AnswersAs, IsFrom, chosen_of, enabled_of};
-ghost use Rattle.bp_select.specs.Candidates.{events_in};
+ghost use Rattle.bp_select.specs.Blocks.{AreOf};
+ghost use Rattle.bp_select.specs.Candidates.{events_in, tops_of};
 ghost use Rattle.bp_select.specs.Free.{free_of, IsOf};
+ghost use Rattle.bp_known.specs.Known.{AreKnown, sets_in};
+ghost use Rattle.bp_select.specs.Places.{AreInOrder};
+ghost use Rattle.bp_select.specs.Tops.{with_live};
 
 use crate::asking::{blocking, first_unblocked, unblocked};
 use crate::bench::Stated;
+use crate::block_sets::Blocks;
 use crate::candidate::Candidate;
 use crate::candidates::candidates;
 use crate::choosing::remaining;
@@ -88,20 +93,21 @@ fn queued<'a>(
     }
 }
 
-/// What can be selected: candidates that nobody blocks, or else of the queue.
-pub(crate) fn selectable<'a>(
+/// What can be selected, where each block set is asked of each event.
+fn asked<'a>(
     alloc: Global,
     ground: &Ground,
     budget: u64,
     live: &'a [Stated],
+    candidates: Vec<Candidate<'a>>,
     queue: &[Event],
 ) -> Result<Free<'a>, SelectFault>
-    requires { length queue.now < 2 ^ 32 }
+    requires few { length queue.now < 2 ^ 32 }
+    requires candidates { tops_of candidates.items ≡ with_live [] (map live_of live.now) }
     ensures free { let has = member (plain_ground ground.now) budget in
         AnswersAs free_of (selectable has (map live_of live.now) queue.now) result }
     ensures tops { IfOk result (λ f. IsOf (map live_of live.now) f) }
 {
-    let candidates = candidates(alloc, live)?;
     let blocking = blocking(alloc, live)?;
     let inner = unblocked(
         alloc,
@@ -115,6 +121,101 @@ pub(crate) fn selectable<'a>(
         return queued(alloc, ground, budget, blocking.as_slice(), queue);
     }
     Ok(Free::Inner(inner))
+}
+
+/// What can be selected of the queue, where it is known of events whether they are blocked.
+fn queued_told<'a>(
+    alloc: Global,
+    ground: &Ground,
+    budget: u64,
+    live: &[Stated],
+    blocks: &mut Blocks,
+    queue: &[Event],
+) -> Result<Free<'a>, SelectFault>
+    requires few { length queue.now < 2 ^ 32 }
+    requires order { AreInOrder (map live_of live.now) }
+    requires sets { AreOf (map live_of live.now) (sets_in blocks.old.sets) }
+    requires known { AreKnown (plain_ground ground.now) budget (sets_in blocks.old.sets)
+        blocks.old.told }
+    ensures free { AnswersAs free_of
+        (without_fault (λ place. record { inner = []; outer = place })
+        (first_unblocked (member (plain_ground ground.now) budget) (map live_of live.now) 0
+        queue.now)) result }
+    ensures tops { (ts : List (Live PlainSet)) → IfOk result (λ f. IsOf ts f) }
+    ensures sets { blocks.new.sets ≡ blocks.old.sets }
+    ensures known { AreKnown (plain_ground ground.now) budget (sets_in blocks.old.sets)
+        blocks.new.told }
+{
+    match blocks.first_unblocked(alloc, ground, budget, live, queue)? {
+        Some(place) => {
+            blocks.note_waiting(place as usize);
+            Ok(Free::Outer(place))
+        }
+        None => {
+            blocks.note_waiting(queue.len());
+            Ok(Free::Nothing)
+        }
+    }
+}
+
+/// What can be selected, where it is known of events whether they are blocked.
+fn told<'a>(
+    alloc: Global,
+    ground: &Ground,
+    budget: u64,
+    live: &'a [Stated],
+    blocks: &mut Blocks,
+    candidates: Vec<Candidate<'a>>,
+    queue: &[Event],
+) -> Result<Free<'a>, SelectFault>
+    requires few { length queue.now < 2 ^ 32 }
+    requires candidates { tops_of candidates.items ≡ with_live [] (map live_of live.now) }
+    requires order { AreInOrder (map live_of live.now) }
+    requires sets { AreOf (map live_of live.now) (sets_in blocks.old.sets) }
+    requires known { AreKnown (plain_ground ground.now) budget (sets_in blocks.old.sets)
+        blocks.old.told }
+    ensures free { let has = member (plain_ground ground.now) budget in
+        AnswersAs free_of (selectable has (map live_of live.now) queue.now) result }
+    ensures tops { IfOk result (λ f. IsOf (map live_of live.now) f) }
+    ensures sets { blocks.new.sets ≡ blocks.old.sets }
+    ensures known { AreKnown (plain_ground ground.now) budget (sets_in blocks.old.sets)
+        blocks.new.told }
+{
+    let inner = blocks.unblocked(alloc, ground, budget, live, candidates.as_slice())?;
+    let count = inner.as_slice().len();
+    if count == 0 {
+        return queued_told(alloc, ground, budget, live, blocks, queue);
+    }
+    Ok(Free::Inner(inner))
+}
+
+/// What can be selected: candidates that nobody blocks, or else of the queue.
+pub(crate) fn selectable<'a>(
+    alloc: Global,
+    ground: &Ground,
+    budget: u64,
+    live: &'a [Stated],
+    blocks: &mut Blocks,
+    queue: &[Event],
+) -> Result<Free<'a>, SelectFault>
+    requires few { length queue.now < 2 ^ 32 }
+    requires order { AreInOrder (map live_of live.now) }
+    requires sets { AreOf (map live_of live.now) (sets_in blocks.old.sets) }
+    requires known { AreKnown (plain_ground ground.now) budget (sets_in blocks.old.sets)
+        blocks.old.told }
+    ensures free { let has = member (plain_ground ground.now) budget in
+        AnswersAs free_of (selectable has (map live_of live.now) queue.now) result }
+    ensures tops { IfOk result (λ f. IsOf (map live_of live.now) f) }
+    ensures sets { blocks.new.sets ≡ blocks.old.sets }
+    ensures known { AreKnown (plain_ground ground.now) budget (sets_in blocks.old.sets)
+        blocks.new.told }
+{
+    let candidates = candidates(alloc, live)?;
+    if blocks.are_cheap() {
+        return asked(alloc, ground, budget, live, candidates, queue);
+    }
+    blocks.begin_question(candidates.len());
+    told(alloc, ground, budget, live, blocks, candidates, queue)
 }
 
 /// The event that is drawn of these: the only one, or the one at the next word modulo their number.

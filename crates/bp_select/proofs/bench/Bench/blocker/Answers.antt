@@ -10,6 +10,6 @@ use Rattle.bp_select.proofs.bench.Bench.blocker.Goals as goal
 
 pub returns-clause-blocker : goal.returns-clause-blocker
 returns-clause-blocker c =
-    let here : map live_of c.as_slice.result.now ≡ c.args.self.now.live = c.as_slice.ensures ∙ c.tidy.ensures.same ∙ ap (λ (b : PlainBench). b.live) c.self.view_is in
+    let here : map live_of c.as_slice.result.now ≡ c.args.self.now.live = c.as_slice.ensures.live ∙ c.tidy.ensures.same ∙ ap (λ (b : PlainBench). b.live) c.self.view_is in
     let same : Option ℕ → Option ℕ = λ o. o in
     subst (λ (ts : List (Live PlainSet)). AnswersAs same (blocker (member (plain_ground c.args.ground.now) c.args.budget) ts c.args.event.now) c.blocker.result) here c.blocker.ensures

@@ -1,0 +1,19 @@
+use Rattle.std.proofs.Common.{rules, ◌≡◌, ◌++◌, ◌∷◌, [], List, ap, sym, subst}
+use Rattle.js_data.specs.Event.{PlainEvent}
+use Rattle.bp_known.specs.declared.known.Told.{Told}
+use Rattle.bp_select.specs.Blocks.{PlainBlocks}
+use Rattle.bp_known.specs.Known.{AreKnown, IsKnown}
+use Rattle.bp_known.proofs.Knowing.{noted_here, told_more}
+use Rattle.bp_select.proofs.block_sets.Blocks.note.Goals as goal
+
+pub returns-in-Some-clause-known : goal.returns-in-Some-clause-known
+returns-in-Some-clause-known c = λ base budget sets k told.
+    noted_here base budget sets c.args.self.now.told c.self.inside.told.items c.in-Some.at c.index_mut.result.now c.args.event.now c.args.known (ap (λ (b : PlainBlocks). b.told) c.self.view_is) c.in-Some.ensures.0 c.in-Some.ensures.1 c.index_mut.ensures.value k told
+
+pub returns-then-is_ok-clause-known : goal.returns-then-is_ok-clause-known
+returns-then-is_ok-clause-known c = λ base budget sets k told.
+    let more : c.push.new.self.items ≡ c.self.inside.told.items ++ record { event = c.in-Ok.event; known = c.args.known } ∷ [] = search rules in
+    rw more
+    (told_more base budget sets c.self.inside.told.items (record { event = c.in-Ok.event; known = c.args.known })
+    (subst (λ (us : List Told). AreKnown base budget sets us) (sym (ap (λ (b : PlainBlocks). b.told) c.self.view_is)) told)
+    (subst (λ (e : PlainEvent). IsKnown base budget sets e c.args.known) (sym c.in-Ok.ensures) k))

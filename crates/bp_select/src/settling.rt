@@ -1,0 +1,94 @@
+//! The block sets that are noted become those of the live b-threads.
+ghost use Rattle.std.specs.Prelude.{◌≡◌, ℕ, false, map, nat_eq, option_map, OnOk};
+ghost use Rattle.js_frames.specs.Places.{plain_ground};
+ghost use Rattle.bp_select.specs.Blocks.{AreOf, IsNoted, block_at, own_set};
+ghost use Rattle.bp_known.specs.Known.{AreKnown, sets_in};
+ghost use Rattle.bp_select.specs.Lives.{live_of};
+ghost use Rattle.bp_select.specs.Places.{AreInOrder};
+
+use crate::asking::is_empty_set;
+use crate::bench::Stated;
+use crate::block_sets::Blocks;
+use crate::placing::{is_at, place_of};
+use bp_known::is_same;
+use bp_log::Memory;
+use js_frames::Ground;
+use js_value::EventSet;
+use std::alloc::Global;
+
+/// The block set of a b-thread, unless it plainly blocks nothing.
+fn own_set(stated: &Stated) -> Option<&EventSet>
+    ensures { option_map (λ s. s.now) result ≡ own_set (live_of stated.now) }
+{
+    let set = stated.statement.block.as_ref()?;
+    if is_empty_set(set) {
+        return None;
+    }
+    Some(set)
+}
+
+/// The block set of the b-thread of this number.
+fn block_of(live: &[Stated], number: u32) -> Option<&EventSet>
+    requires { AreInOrder (map live_of live.now) }
+    ensures { option_map (λ s. s.now) result ≡ block_at (map live_of live.now) number }
+{
+    let at = place_of(live, number);
+    if !is_at(live, at, number) {
+        return None;
+    }
+    own_set(&live[at])
+}
+
+/// The block set of this number becomes that of its b-thread. Where it is made alike, nothing is
+/// done. Its only error is want of memory.
+fn settle_one(
+    alloc: Global,
+    ground: &Ground,
+    budget: u64,
+    live: &[Stated],
+    blocks: &mut Blocks,
+    number: u32,
+) -> Result<(), Memory>
+    requires order { AreInOrder (map live_of live.now) }
+    requires known { AreKnown (plain_ground ground.now) budget (sets_in blocks.old.sets)
+        blocks.old.told }
+    ensures known { AreKnown (plain_ground ground.now) budget (sets_in blocks.new.sets)
+        blocks.new.told }
+    ensures others { (n : ℕ) → nat_eq number n ≡ false →
+        sets_in blocks.new.sets n ≡ sets_in blocks.old.sets n }
+    ensures settled { OnOk result
+        (sets_in blocks.new.sets number ≡ block_at (map live_of live.now) number) }
+{
+    let set = block_of(live, number);
+    if is_same(blocks.set_of(number), set) {
+        return Ok(());
+    }
+    blocks.forget_idle();
+    blocks.restate(alloc, ground, budget, number, set)
+}
+
+/// The block sets become those of the b-threads, where these numbers may differ. Its only error is
+/// want of memory; then these numbers may still differ.
+pub(crate) fn settle(
+    alloc: Global,
+    ground: &Ground,
+    budget: u64,
+    live: &[Stated],
+    blocks: &mut Blocks,
+    changed: &mut Vec<u32>,
+) -> Result<(), Memory>
+    requires order { AreInOrder (map live_of live.now) }
+    requires noted { IsNoted (map live_of live.now) (sets_in blocks.old.sets) changed.old.items }
+    requires known { AreKnown (plain_ground ground.now) budget (sets_in blocks.old.sets)
+        blocks.old.told }
+    ensures noted { IsNoted (map live_of live.now) (sets_in blocks.new.sets) changed.new.items }
+    ensures settled { OnOk result (AreOf (map live_of live.now) (sets_in blocks.new.sets)) }
+    ensures known { AreKnown (plain_ground ground.now) budget (sets_in blocks.new.sets)
+        blocks.new.told }
+{
+    for at in 0..changed.len() {
+        settle_one(alloc, ground, budget, live, blocks, changed[at])?;
+    }
+    changed.clear();
+    Ok(())
+}
