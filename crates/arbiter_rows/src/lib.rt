@@ -3,11 +3,15 @@
 #![tactic(auto)]
 
 #[cfg(test)]
+mod again;
+#[cfg(test)]
 mod bench;
 #[cfg(test)]
 mod choices;
 #[cfg(test)]
 mod floors;
+#[cfg(test)]
+mod fronts;
 #[cfg(test)]
 mod lines;
 #[cfg(test)]

@@ -21,12 +21,12 @@ has_at_rest base o b budget s h =
     let r : Running = record { program = base.program; options = o } in
     ap (λ (g : Ground). member g budget) (rest_ground r base b s) ∙ ap (λ (n : ℕ). member (ground_of base.program o.budget) n) h ∙ sym (has_is base.program o)
 
-pub live_at_rest : (base : Ground) (o : PlainOptions) (b : Board) → IsResting base o b → b.bench.live ≡ live (code_of base.program o) (stand_of b)
+pub live_at_rest : (base : Ground) (o : PlainOptions) (b : Board) → IsResting base o b → b.desk.bench.live ≡ live (code_of base.program o) (stand_of b)
 live_at_rest base o b s = bench_live (record { program = base.program; options = o }) base b s
 
 -- what the bench answers is what the definitions say of the board
 pub asked_at_rest : {A B : Type 0} (base : Ground) (o : PlainOptions) (b : Board) (budget : ℕ) (view : B → A) (ask : Has PlainSet → List (Live PlainSet) → Asked A) (result : Result B SelectFault) → IsResting base o b → budget ≡ o.budget →
-    AnswersAs view (ask (member base budget) b.bench.live) result → AnswersAs view (ask (code_of base.program o).has (live (code_of base.program o) (stand_of b))) result
+    AnswersAs view (ask (member base budget) b.desk.bench.live) result → AnswersAs view (ask (code_of base.program o).has (live (code_of base.program o) (stand_of b))) result
 asked_at_rest base o b budget view ask result s h a =
     subst (λ (ts : List (Live PlainSet)). AnswersAs view (ask (code_of base.program o).has ts) result) (live_at_rest base o b s)
-    (subst (λ (has : Has PlainSet). AnswersAs view (ask has b.bench.live) result) (has_at_rest base o b budget s h) a)
+    (subst (λ (has : Has PlainSet). AnswersAs view (ask has b.desk.bench.live) result) (has_at_rest base o b budget s h) a)

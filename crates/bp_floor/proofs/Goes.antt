@@ -42,10 +42,10 @@ use Rattle.bp_floor.proofs.Weaving.{Weaves}
 
 -- what the bench answers is what the definitions say of the board
 pub reach_at_rest : (base : Ground) (o : PlainOptions) (b : Board) (budget : ℕ) (e : PlainEvent) (result : Result Reach SelectFault) → IsResting base o b → budget ≡ o.budget →
-    AnswersReach (reach (member base budget) e b.bench.live) result → AnswersReach (reach (code_of base.program o).has e (live (code_of base.program o) (stand_of b))) result
+    AnswersReach (reach (member base budget) e b.desk.bench.live) result → AnswersReach (reach (code_of base.program o).has e (live (code_of base.program o) (stand_of b))) result
 reach_at_rest base o b budget e result s h a =
     subst (λ (ts : List (Live PlainSet)). AnswersReach (reach (code_of base.program o).has e ts) result) (live_at_rest base o b s)
-    (subst (λ (has : Has PlainSet). AnswersReach (reach has e b.bench.live) result) (has_at_rest base o b budget s h) a)
+    (subst (λ (has : Has PlainSet). AnswersReach (reach has e b.desk.bench.live) result) (has_at_rest base o b budget s h) a)
 
 pub few_at_rest : (base : Ground) (o : PlainOptions) (b : Board) (e : PlainEvent) (k : Reach) → IsResting base o b →
     AnswersReach (reach (code_of base.program o).has e (live (code_of base.program o) (stand_of b))) (Ok k) → length k.moved.items ≤ MOST_THREADS

@@ -59,7 +59,7 @@ among_there : (f : PlainFloor) (e : PlainEvent) (place : Option ℕ) → CanGo f
 among_there f e None c = tt
 among_there f e (Some i) c = slice_get_within f.pair.stand.queue i e c.among.1
 
-pub place_there : (base : Ground) (o : PlainOptions) (b : Board) (e : PlainEvent) (place : Option ℕ) → CanGo (floor_on base o b) e place → IfSome place (λ i. i < length b.queue)
+pub place_there : (base : Ground) (o : PlainOptions) (b : Board) (e : PlainEvent) (place : Option ℕ) → CanGo (floor_on base o b) e place → IfSome place (λ i. i < length b.desk.queue)
 place_there base o b e place c = among_there (floor_on base o b) e place c
 
 -- transitions weigh something, so they are few

@@ -23,14 +23,15 @@ use Rattle.bp_run.specs.Settling.{Entry, Pair, Ran, registered, merged, stopped,
 use Rattle.bp_run.specs.Settling.Entry.{Runs}
 use Rattle.bp_run.specs.Selecting.{Live}
 use Rattle.bp_run.proofs.Turns.{length-change}
-use Rattle.bp_select.specs.Benches.{PlainBench, placed, Fits}
+use Rattle.bp_select.specs.Benches.{PlainBench, placed}
+use Rattle.bp_floor.specs.Desks.{PlainDesk, Fits}
 use Rattle.bp_thread.specs.declared.job.Job.{Job}
 use Rattle.bp_thread.specs.Jobs.{PlainJob, plain_job, IsOf, IsFresh}
 use Rattle.bp_floor.specs.declared.board.Board.{Board}
 use Rattle.bp_floor.specs.Seating.{PlainSeat, seated, is_waiting, is_ready, where_from, stated_from, IsOwn, AreOwn}
-use Rattle.bp_floor.specs.Boards.{pair_of}
+use Rattle.bp_floor.specs.Boards.{stand_of, pair_of, retired}
 use Rattle.bp_floor.specs.Kept.{Running, IsOn, IsKept, IsBelow, AreBelow, AreFrom, runs_in}
-use Rattle.bp_floor.specs.Returning.{entry_in}
+use Rattle.bp_floor.specs.Returning.{entry_in, IsMirrored, IsSameBut}
 use Rattle.bp_floor.proofs.Lists.{change_map}
 use Rattle.bp_floor.proofs.Places.{where_last0, stated_last, own_last0, from_last, runs_last, where_ended0, own_changed0, stated_changed0}
 use Rattle.bp_floor.proofs.Widening.{wider_effects, wider_part, below_more}
@@ -47,7 +48,7 @@ onward_then base o a b c x y = record { keeps = λ r first h k. y r first h (x.k
 -- ---- a b-thread is admitted
 
 pub admitted : (r : Running) (first : ℕ) (base : Ground) (o : PlainOptions) (b new : Board) (name : List ℕ) (callee : PlainValue) (j : Job) → IsOn r base o → length b.seats < MOST_THREADS →
-    new.seats ≡ b.seats ++ record { name = name; job = Some j; ended = false } ∷ [] → new.wave ≡ b.wave ++ Runs (length b.seats) ∷ [] → new.bench ≡ b.bench → new.queue ≡ b.queue → IsOf base.program j →
+    new.seats ≡ b.seats ++ record { name = name; job = Some j; ended = false } ∷ [] → new.wave ≡ b.wave ++ Runs (length b.seats) ∷ [] → new.desk ≡ b.desk → new.desk.queue ≡ b.desk.queue → IsOf base.program j →
     plain_job j ≡ record { number = length b.seats; name = name; origin = function mode.Thread callee []; replies = []; effects = []; handler = None; outcome = None } → IsFresh base o.budget j → IsKept r first b → IsKept r first new
 admitted r first base o b new name callee j on low s w bench queue of p fresh k =
     let seat : PlainSeat = record { name = name; job = Some j; ended = false } in
@@ -73,18 +74,40 @@ admitted r first base o b new name callee j on low s w bench queue of p fresh k 
       own = subst (λ (ss : List PlainSeat). AreOwn r.program r.options 0 ss) (sym s) (own_last0 r.program r.options b.seats seat k.own own);
       waiting = ap (λ (ss : List PlainSeat). where_from is_waiting 0 ss) s ∙ where_last0 is_waiting b.seats seat waits ∙ ap (λ (ns : List ℕ). ns ++ n ∷ []) k.waiting ∙ sym wave;
       ready = ap (λ (ss : List PlainSeat). where_from is_ready 0 ss) s ∙ where_last0 is_ready b.seats seat ready ∙ ap (λ (ns : List ℕ). ns ++ n ∷ []) k.ready ∙ sym wave;
-      mirror = ap (λ (x : PlainBench). x.live) bench ∙ k.mirror ∙ sym (stated_last 0 b.seats seat (λ m. rw outcome refl)) ∙ ap (λ (ss : List PlainSeat). stated_from 0 ss) (sym s);
-      fits = subst (λ (x : PlainBench). Fits x (ground_of r.program r.options.budget) r.options.budget) (sym bench) k.fits;
+      mirror = ap (λ (x : PlainDesk). x.bench.live) bench ∙ k.mirror ∙ sym (stated_last 0 b.seats seat (λ m. rw outcome refl)) ∙ ap (λ (ss : List PlainSeat). stated_from 0 ss) (sym s);
+      fits = subst (λ (x : PlainDesk). Fits x (ground_of r.program r.options.budget) r.options.budget) (sym bench) k.fits;
       fresh = subst (λ (ns : List ℕ). AreFrom first ns) (sym wave) (from_last first n (runs_in b.wave) k.fresh older);
       older = subst (λ (ss : List PlainSeat). first ≤ length ss) (sym s) (omega (arith, older, len));
       few = subst (λ (ss : List PlainSeat). length ss ≤ MOST_THREADS) (sym s) (omega (arith, low, len));
       room = subst (λ (q : List PlainEvent). length q ≤ MOST_WAITING) (sym queue) room;
     }
 
+-- ---- the desk is asked, and an event is put there
+
+pub pair_asked : (b : Board) (desk : PlainDesk) → desk.queue ≡ b.desk.queue → pair_of b ≡ pair_of (record b { desk = desk })
+pair_asked b desk h = ap (λ (q : List PlainEvent). let p : Pair Origin = record (pair_of b) { stand = record (stand_of b) { queue = q } } in p) (sym h)
+
+pub kept_queued : (r : Running) (first : ℕ) (b : Board) (desk : PlainDesk) (e : PlainEvent) → (length b.desk.queue ≡ MOST_WAITING → ⊥) → desk.queue ≡ b.desk.queue ++ e ∷ [] → desk.bench ≡ b.desk.bench →
+    ((base : Ground) (budget : ℕ) → Fits b.desk base budget → Fits desk base budget) → IsKept r first b → IsKept r first (record b { desk = desk })
+kept_queued r first b desk e not_full h bench fits k =
+    let len = length-append b.desk.queue (e ∷ []) in
+    let room = k.room in
+    record {
+      own = k.own;
+      waiting = k.waiting;
+      ready = k.ready;
+      mirror = ap (λ (x : PlainBench). x.live) bench ∙ k.mirror;
+      fits = fits (ground_of r.program r.options.budget) r.options.budget k.fits;
+      fresh = k.fresh;
+      older = k.older;
+      few = k.few;
+      room = subst (λ (q : List PlainEvent). length q ≤ MOST_WAITING) (sym h) (omega (arith, room, len, not_full));
+    }
+
 -- ---- a b-thread has come to its end
 
-pub kept_retired : (r : Running) (first i : ℕ) (b new : Board) → i < length b.seats → i < first → new.seats ≡ change (λ s. record s { ended = true }) i b.seats → new.bench.live ≡ placed i None b.bench.live →
-    ((base : Ground) (budget : ℕ) → Fits b.bench base budget → Fits new.bench base budget) → new.wave ≡ b.wave → new.queue ≡ b.queue → IsKept r first b → IsKept r first new
+pub kept_retired : (r : Running) (first i : ℕ) (b new : Board) → i < length b.seats → i < first → new.seats ≡ change (λ s. record s { ended = true }) i b.seats → new.desk.bench.live ≡ placed i None b.desk.bench.live →
+    ((base : Ground) (budget : ℕ) → IsMirrored b → Fits b.desk base budget → Fits new.desk base budget) → new.wave ≡ b.wave → new.desk.queue ≡ b.desk.queue → IsKept r first b → IsKept r first new
 kept_retired r first i b new low old s live fits w q k =
     let end : PlainSeat → PlainSeat = λ x. record x { ended = true } in
     let len : length (change end i b.seats) ≡ length b.seats = length-change end i b.seats in
@@ -98,7 +121,7 @@ kept_retired r first i b new low old s live fits w q k =
       waiting = ap (λ (ss : List PlainSeat). where_from is_waiting 0 ss) s ∙ where_ended0 is_waiting first i b.seats (λ x. refl) from_waits old ∙ k.waiting ∙ ap (λ (ns : List (Entry Origin)). runs_in ns) (sym w);
       ready = ap (λ (ss : List PlainSeat). where_from is_ready 0 ss) s ∙ where_ended0 is_ready first i b.seats (λ x. refl) from_ready old ∙ k.ready ∙ ap (λ (ns : List (Entry Origin)). runs_in ns) (sym w);
       mirror = live ∙ ap (λ (ts : List (Live PlainSet)). placed i None ts) k.mirror ∙ sym (stated_changed0 i end None b.seats low (λ x y n. refl)) ∙ ap (λ (ss : List PlainSeat). stated_from 0 ss) (sym s);
-      fits = fits (ground_of r.program r.options.budget) r.options.budget k.fits;
+      fits = fits (ground_of r.program r.options.budget) r.options.budget k.mirror k.fits;
       fresh = subst (λ (ns : List (Entry Origin)). AreFrom first (runs_in ns)) (sym w) k.fresh;
       older = subst (λ (ss : List PlainSeat). first ≤ length ss) (sym s) (omega (arith, older, len));
       few = subst (λ (ss : List PlainSeat). length ss ≤ MOST_THREADS) (sym s) (omega (arith, few, len));
@@ -107,6 +130,17 @@ kept_retired r first i b new low old s live fits w q k =
 
 pub threads_retired : (i : ℕ) (ss ts : List PlainSeat) → ts ≡ change (λ s. record s { ended = true }) i ss → map seated ts ≡ change (λ t. record t { ended = true }) i (map seated ss)
 threads_retired i ss ts h = ap (λ (xs : List PlainSeat). map seated xs) h ∙ change_map seated (λ s. record s { ended = true }) (λ t. record t { ended = true }) i ss (λ s. refl)
+
+pub retired_is : (i : ℕ) (b mid new : Board) → IsSameBut b mid → mid.seats ≡ b.seats → new.seats ≡ change (λ s. record s { ended = true }) i mid.seats → IsSameBut mid new → pair_of new ≡ retired i (pair_of b)
+retired_is i b mid new x s e y =
+    let threads = threads_retired i b.seats new.seats (e ∙ ap (λ (ss : List PlainSeat). change (λ s. record s { ended = true }) i ss) s) in
+    let queue = y.queue ∙ x.queue in
+    let transitions = y.transitions ∙ x.transitions in
+    let weight = y.weight ∙ x.weight in
+    let lines = y.lines ∙ x.lines in
+    let verdict = y.verdict ∙ x.verdict in
+    let wave = y.wave ∙ x.wave in
+    rw (threads, queue, transitions, weight, lines, verdict, wave) refl
 
 -- ---- entries are merged, one after the other
 

@@ -255,12 +255,12 @@ back_runs r base left i ns j k js old new t h m =
           ∙ where_first0 is_waiting i put old.seats (runs_in ns) m.waiting (λ s w. and_right (not s.ended) (is_none (plain_job k).outcome) some);
       ready = ap (λ (ss : List PlainSeat). where_from is_ready 0 ss) h.0.seats
           ∙ where_none is_ready 0 i put old.seats m.ready (λ s w. and_left (not s.ended && is_none (plain_job k).outcome) true (and_right (not s.ended) (is_none (plain_job k).outcome) some));
-      mirror = h.0.live ∙ ap (λ (ts : List _). placed i h.0.statement ts) m.mirror
-          ∙ sym (stated_changed0 i put h.0.statement old.seats low (λ s w n. open_states s n k h.0.statement (waits_at0 i old.seats (runs_in ns) s m.waiting w) (h.0.stated n)))
+      mirror = h.0.stated.live ∙ ap (λ (ts : List _). placed i h.0.statement ts) m.mirror
+          ∙ sym (stated_changed0 i put h.0.statement old.seats low (λ s w n. open_states s n k h.0.statement (waits_at0 i old.seats (runs_in ns) s m.waiting w) (h.0.stop_is n)))
           ∙ ap (λ (ss : List PlainSeat). stated_from 0 ss) (sym h.0.seats);
-      fits = h.0.fits (ground_of r.program r.options.budget) r.options.budget m.fits;
+      fits = h.0.stated.fits (ground_of r.program r.options.budget) r.options.budget m.mirror m.fits;
       few = subst (λ (ss : List PlainSeat). length ss ≤ MOST_THREADS) (sym h.0.seats) (omega (arith, few, len));
-      room = subst (λ (q : List PlainEvent). length q ≤ MOST_WAITING) (sym h.0.same.queue) room;
+      room = subst (λ (q : List PlainEvent). length q ≤ MOST_WAITING) (sym h.0.stated.same.queue) room;
       program_is = m.program_is;
       ground_is = m.ground_is ∙ sym (later_ground r.program r.options.budget ns m.alone);
     })
@@ -289,7 +289,7 @@ puts_kept (Runs i) j k js base left old new part b t h p e o =
       part_is = λ r ns m.
           part_done r (Runs i) (filled (Runs i ∷ ns) (j ∷ js) (map seated old.seats)) j (AreDone r.program r.options (standing (filled (Runs i ∷ ns) (j ∷ js) (map seated old.seats))) ns) js part
           (first_runs r base i ns j js old m) e (λ x w. o x (ap (λ (q : PlainJob). q.outcome) t.plain ∙ w));
-      same = h.0.same;
+      same = h.0.stated.same;
     }
 puts_kept (Stops i None) j k js base left old new part b t h p e o = absurd (cc)
 puts_kept (Stops i (Some x)) j k js base left old new part b t h p e o =

@@ -1,5 +1,5 @@
 -- What a floor keeps.
-use Rattle.std.proofs.Common.{◌≡◌, ◌≤◌, ◌<◌, List, [], ◌∷◌, ◌++◌, length, map, length-append, refl, sym, ap, ◌∙◌, subst, arith, Bool, Option, Some, None, Result, Ok, Err, OnOk, OnErr}
+use Rattle.std.proofs.Common.{◌≡◌, ◌≤◌, ◌<◌, ℕ, List, [], ◌∷◌, ◌++◌, length, map, length-append, refl, sym, ap, ◌∙◌, subst, arith, Bool, Option, Some, None, Result, Ok, Err, OnOk, OnErr}
 use Rattle.std.proofs.lemmas.List.{length-map}
 use Rattle.js_data.specs.Event.{PlainEvent}
 use Rattle.js_program.specs.PlainProgram.{PlainProgram}
@@ -13,7 +13,8 @@ use Rattle.bp_run.specs.Settling.Entry.{The_top}
 use Rattle.bp_run.specs.Selecting.{live}
 use Rattle.bp_run.specs.Numbers.{number_of}
 use Rattle.bp_meaning.specs.Membership.{member}
-use Rattle.bp_select.specs.Benches.{PlainBench, empty_bench, Fits}
+use Rattle.bp_select.specs.Benches.{PlainBench}
+use Rattle.bp_floor.specs.Desks.{PlainDesk, Fits}
 use Rattle.bp_floor.specs.declared.board.Board.{Board}
 use Rattle.bp_floor.specs.declared.phase.Phase.{Phase}
 use Rattle.bp_floor.specs.declared.phase.Phase.TheVariants.{Ready, Rest}
@@ -27,15 +28,16 @@ use Rattle.bp_floor.proofs.Unended.{seats_going}
 use Rattle.bp_floor.proofs.Rests.{stated_live}
 
 -- one more event waits
-pub sound_queued : (r : Running) (base : Ground) (b : Board) (phase : Phase) (queue : List PlainEvent) (e : PlainEvent) → IsSound r base b phase → length b.queue < MOST_WAITING → queue ≡ b.queue ++ e ∷ [] → IsSound r base (record b { queue = queue }) phase
-sound_queued r base b phase queue e s low h =
-    let len = length-append b.queue (e ∷ []) in
+pub sound_queued : (r : Running) (base : Ground) (b : Board) (phase : Phase) (desk : PlainDesk) (e : PlainEvent) → IsSound r base b phase → length b.desk.queue < MOST_WAITING → desk.queue ≡ b.desk.queue ++ e ∷ [] → desk.bench ≡ b.desk.bench →
+    ((base : Ground) (budget : ℕ) → Fits b.desk base budget → Fits desk base budget) → IsSound r base (record b { desk = desk }) phase
+sound_queued r base b phase desk e s low h bench fits =
+    let len = length-append b.desk.queue (e ∷ []) in
     record {
       own = s.own;
       waiting = s.waiting;
       ready = s.ready;
-      mirror = s.mirror;
-      fits = s.fits;
+      mirror = ap (λ (x : PlainBench). x.live) bench ∙ s.mirror;
+      fits = fits (ground_of r.program r.options.budget) r.options.budget s.fits;
       few = s.few;
       room = subst (λ (q : List PlainEvent). length q ≤ MOST_WAITING) (sym h) (omega (arith, low, len));
       alone = s.alone;
@@ -49,10 +51,10 @@ sound_queued r base b phase queue e s low h =
     }
 
 -- where it found room
-pub sound_pushed : {A E : Type 0} (r : Running) (base : Ground) (b : Board) (phase : Phase) (queue : List PlainEvent) (e : PlainEvent) (res : Result A E) → IsSound r base b phase → length b.queue < MOST_WAITING →
-    OnOk res (queue ≡ b.queue ++ e ∷ []) → OnErr res (queue ≡ b.queue) → IsSound r base (record b { queue = queue }) phase
-sound_pushed r base b phase queue e (Ok x) s low h k = sound_queued r base b phase queue e s low h
-sound_pushed r base b phase queue e (Err y) s low h k = subst (λ (q : List PlainEvent). IsSound r base (record b { queue = q }) phase) (sym k) s
+pub sound_pushed : {A E : Type 0} (r : Running) (base : Ground) (b : Board) (phase : Phase) (desk : PlainDesk) (e : PlainEvent) (res : Result A E) → IsSound r base b phase → length b.desk.queue < MOST_WAITING →
+    OnOk res (desk.queue ≡ b.desk.queue ++ e ∷ []) → OnErr res (desk ≡ b.desk) → desk.bench ≡ b.desk.bench → ((base : Ground) (budget : ℕ) → Fits b.desk base budget → Fits desk base budget) → IsSound r base (record b { desk = desk }) phase
+sound_pushed r base b phase desk e (Ok x) s low h k bench fits = sound_queued r base b phase desk e s low h bench fits
+sound_pushed r base b phase desk e (Err y) s low h k bench fits = subst (λ (d : PlainDesk). IsSound r base (record b { desk = d }) phase) (sym k) s
 
 rest_entries : (v : Option Verdict) (ns : List (Entry Origin)) → Rest ≡ phase_at v ns → ns ≡ []
 rest_entries None [] h = refl
@@ -64,7 +66,7 @@ pub rest_nobody : (r : Running) (base : Ground) (b : Board) → IsSound r base b
 rest_nobody r base b s = rest_entries b.verdict b.wave s.at_phase
 
 -- at rest the bench has what the live b-threads state
-pub bench_live : (r : Running) (base : Ground) (b : Board) → IsSound r base b Rest → b.bench.live ≡ live (code_of r.program r.options) (stand_of b)
+pub bench_live : (r : Running) (base : Ground) (b : Board) → IsSound r base b Rest → b.desk.bench.live ≡ live (code_of r.program r.options) (stand_of b)
 bench_live r base b s =
     s.mirror ∙ stated_live r 0 b.seats s.own (s.waiting ∙ ap (λ (ns : List (Entry Origin)). runs_in ns) (rest_nobody r base b s))
 
@@ -76,14 +78,14 @@ unfolding code_of
 has_is p o = refl
 
 -- before anything has run
-pub sound_opened : (r : Running) (base : Ground) (b : Board) → base.program ≡ r.program → base ≡ bare r.program → b.seats ≡ [] → b.bench ≡ empty_bench → b.queue ≡ [] → b.transitions ≡ 0 → b.weight ≡ 0 → b.verdict ≡ None → b.wave ≡ The_top ∷ [] →
-    Fits b.bench (ground_of r.program r.options.budget) r.options.budget → IsSound r base b Ready
+pub sound_opened : (r : Running) (base : Ground) (b : Board) → base.program ≡ r.program → base ≡ bare r.program → b.seats ≡ [] → b.desk.bench.live ≡ [] → b.desk.queue ≡ [] → b.transitions ≡ 0 → b.weight ≡ 0 → b.verdict ≡ None → b.wave ≡ The_top ∷ [] →
+    Fits b.desk (ground_of r.program r.options.budget) r.options.budget → IsSound r base b Ready
 sound_opened r base b p g s n q t w v a f =
     record {
       own = subst (λ (ss : List PlainSeat). AreOwn r.program r.options 0 ss) (sym s) tt;
       waiting = rw (s, a) refl;
       ready = rw (s, a) refl;
-      mirror = ap (λ (x : PlainBench). x.live) n ∙ ap (λ (ss : List PlainSeat). stated_from 0 ss) (sym s);
+      mirror = n ∙ ap (λ (ss : List PlainSeat). stated_from 0 ss) (sym s);
       fits = f;
       few = rw s (omega arith);
       room = rw q (omega arith);

@@ -22,7 +22,8 @@ use Rattle.bp_run.specs.Story.{touch, touch_all, without, line_of_choice}
 use Rattle.bp_run.specs.Numbers.{number_in}
 use Rattle.bp_run.proofs.Turns.{length-change}
 use Rattle.bp_run.proofs.Numbers.{changed_elsewhere}
-use Rattle.bp_select.specs.Benches.{PlainBench, placed, Fits}
+use Rattle.bp_select.specs.Benches.{placed}
+use Rattle.bp_floor.specs.Desks.{Fits}
 use Rattle.bp_thread.specs.declared.job.Job.{Job}
 use Rattle.bp_thread.specs.Jobs.{PlainJob, plain_job, IsOf, StandsFor, IsFresh, is_stopped}
 use Rattle.bp_floor.specs.declared.board.Board.{Board}
@@ -45,10 +46,10 @@ pub record Touching (r : Running) (e : PlainEvent) (all xs : List Touched) (old 
   pub waiting : where_from is_waiting 0 now.seats ++ moves_in xs ≡ moves_in all
   pub ready : where_from is_ready 0 now.seats ++ moves_in xs ≡ moves_in all
   pub rising : Rises (moves_in all)
-  pub mirror : now.bench.live ≡ stated_from 0 now.seats
-  pub fits : Fits now.bench (ground_of r.program r.options.budget) r.options.budget
+  pub mirror : now.desk.bench.live ≡ stated_from 0 now.seats
+  pub fits : Fits now.desk (ground_of r.program r.options.budget) r.options.budget
   pub few : length now.seats ≤ MOST_THREADS
-  pub room : length now.queue ≤ MOST_WAITING
+  pub room : length now.desk.queue ≤ MOST_WAITING
   pub standing : AreStanding xs now.seats
   pub rises : Rises (map number_in xs)
   pub same : IsSameBut old now
@@ -174,7 +175,7 @@ touch_moves r e i all xs old now new h t =
       mirror = h.1.live ∙ ap (λ (ts : List (Live PlainSet)). placed i None ts) t.mirror
           ∙ sym (stated_changed0 i put None now.seats low (λ s w n. given_silent s g n outcome))
           ∙ ap (λ (ss : List PlainSeat). stated_from 0 ss) (sym h.0.seats);
-      fits = h.1.fits (ground_of r.program r.options.budget) r.options.budget t.fits;
+      fits = h.1.fits (ground_of r.program r.options.budget) r.options.budget t.mirror t.fits;
       few = subst (λ (ss : List PlainSeat). length ss ≤ MOST_THREADS) (sym h.0.seats) (omega (arith, few, len));
       room = subst (λ (q : List PlainEvent). length q ≤ MOST_WAITING) (sym h.1.same.queue) room;
       standing = subst (λ (ss : List PlainSeat). AreStanding xs ss) (sym h.0.seats) (standing_changed xs put i now.seats t.rises.0 t.standing.1);
@@ -201,7 +202,7 @@ touch_interrupts r e i all xs old now new h t =
       rising = t.rising;
       mirror = h.1.live ∙ ap (λ (ts : List (Live PlainSet)). placed i None ts) t.mirror
           ∙ sym (stated_changed0 i end None now.seats low (λ s w n. refl)) ∙ ap (λ (ss : List PlainSeat). stated_from 0 ss) (sym h.0);
-      fits = h.1.fits (ground_of r.program r.options.budget) r.options.budget t.fits;
+      fits = h.1.fits (ground_of r.program r.options.budget) r.options.budget t.mirror t.fits;
       few = subst (λ (ss : List PlainSeat). length ss ≤ MOST_THREADS) (sym h.0) (omega (arith, few, len));
       room = subst (λ (q : List PlainEvent). length q ≤ MOST_WAITING) (sym h.1.same.queue) room;
       standing = subst (λ (ss : List PlainSeat). AreStanding xs ss) (sym h.0) (standing_changed xs end i now.seats t.rises.0 t.standing.1);
@@ -242,12 +243,12 @@ reaches_end e all xs old now h k r c = touching_end r e all old now (subst (λ (
 
 -- the pair after it
 pub stepped_is : (r : Running) (e : PlainEvent) (place : Option ℕ) (xs : List Touched) (weight : ℕ) (wave : List (Entry Origin)) (line : Line) (old mid new : Board) → IsTouchedBy r e xs old mid → line ≡ line_of_choice e place →
-    new.seats ≡ map swept mid.seats → new.queue ≡ without mid.queue place → new.transitions ≡ mid.transitions + 1 → new.weight ≡ weight → new.lines ≡ mid.lines ++ line ∷ [] → new.verdict ≡ mid.verdict → new.wave ≡ wave →
+    new.seats ≡ map swept mid.seats → new.desk.queue ≡ without mid.desk.queue place → new.transitions ≡ mid.transitions + 1 → new.weight ≡ weight → new.lines ≡ mid.lines ++ line ∷ [] → new.verdict ≡ mid.verdict → new.wave ≡ wave →
     pair_of new ≡ forgotten the_top (moved_pair (stand_of old) e place xs weight wave)
 stepped_is r e place xs weight wave line old mid new t l s q n w ls v a =
     let threads : map seated new.seats ≡ map (forget the_top) (touch_all e xs (map seated old.seats)) =
     ap (λ (ss : List PlainSeat). map seated ss) s ∙ forgets_swept mid.seats ∙ ap (λ (ts : List (Thread Origin)). map (forget the_top) ts) t.threads in
-    let queue : new.queue ≡ without old.queue place = q ∙ ap (λ (es : List PlainEvent). without es place) t.same.queue in
+    let queue : new.desk.queue ≡ without old.desk.queue place = q ∙ ap (λ (es : List PlainEvent). without es place) t.same.queue in
     let transitions : new.transitions ≡ old.transitions + 1 = n ∙ ap (λ (m : ℕ). m + 1) t.same.transitions in
     let lines : new.lines ≡ old.lines ++ line_of_choice e place ∷ [] = ls ∙ ap (λ (x : Line). mid.lines ++ x ∷ []) l ∙ ap (λ (xs : List Line). xs ++ line_of_choice e place ∷ []) t.same.lines in
     let verdict : new.verdict ≡ old.verdict = v ∙ t.same.verdict in
@@ -258,19 +259,20 @@ fewer_left None es h = omega arith
 fewer_left (Some i) es h = let e = length-remove es i h in omega (arith, e)
 
 -- and what it keeps
-pub stepped_keeps : (r : Running) (e : PlainEvent) (place : Option ℕ) (xs : List Touched) (wave : List (Entry Origin)) (old mid new : Board) → IsTouchedBy r e xs old mid → IfSome place (λ i. i < length old.queue) →
-    new.seats ≡ map swept mid.seats → new.bench ≡ mid.bench → new.queue ≡ without mid.queue place → new.wave ≡ wave → moves_in xs ≡ runs_in wave → IsKept r 0 new
-stepped_keeps r e place xs wave old mid new t there s bench q a h =
+pub stepped_keeps : (r : Running) (e : PlainEvent) (place : Option ℕ) (xs : List Touched) (wave : List (Entry Origin)) (old mid new : Board) → IsTouchedBy r e xs old mid → IfSome place (λ i. i < length old.desk.queue) →
+    new.seats ≡ map swept mid.seats → new.desk.bench.live ≡ mid.desk.bench.live → ((base : Ground) (budget : ℕ) → Fits mid.desk base budget → Fits new.desk base budget) → new.desk.queue ≡ without mid.desk.queue place → new.wave ≡ wave →
+    moves_in xs ≡ runs_in wave → IsKept r 0 new
+stepped_keeps r e place xs wave old mid new t there s live fits q a h =
     let few = t.few in
     let room = t.room in
     let len = length-map mid.seats swept in
-    let left = fewer_left place mid.queue (subst (λ (es : List PlainEvent). IfSome place (λ i. i < length es)) (sym t.same.queue) there) in
+    let left = fewer_left place mid.desk.queue (subst (λ (es : List PlainEvent). IfSome place (λ i. i < length es)) (sym t.same.queue) there) in
     record {
       own = subst (λ (ss : List PlainSeat). AreOwn r.program r.options 0 ss) (sym s) (own_swept r.program r.options 0 mid.seats t.own);
       waiting = ap (λ (ss : List PlainSeat). where_from is_waiting 0 ss) s ∙ waits_swept 0 mid.seats ∙ t.waiting ∙ h ∙ ap (λ (ns : List (Entry Origin)). runs_in ns) (sym a);
       ready = ap (λ (ss : List PlainSeat). where_from is_ready 0 ss) s ∙ ready_swept 0 mid.seats ∙ t.ready ∙ h ∙ ap (λ (ns : List (Entry Origin)). runs_in ns) (sym a);
-      mirror = ap (λ (x : PlainBench). x.live) bench ∙ t.mirror ∙ sym (stated_swept 0 mid.seats) ∙ ap (λ (ss : List PlainSeat). stated_from 0 ss) (sym s);
-      fits = subst (λ (x : PlainBench). Fits x (ground_of r.program r.options.budget) r.options.budget) (sym bench) t.fits;
+      mirror = live ∙ t.mirror ∙ sym (stated_swept 0 mid.seats) ∙ ap (λ (ss : List PlainSeat). stated_from 0 ss) (sym s);
+      fits = fits (ground_of r.program r.options.budget) r.options.budget t.fits;
       fresh = from_zero (runs_in new.wave);
       older = omega arith;
       few = subst (λ (ss : List PlainSeat). length ss ≤ MOST_THREADS) (sym s) (omega (arith, few, len));

@@ -10,7 +10,7 @@ abbrev pub stand_of : Board → Stand Origin
 stand_of b =
     record {
       threads = map seated b.seats;
-      queue = b.queue;
+      queue = b.desk.queue;
       transitions = b.transitions;
       weight = b.weight;
       lines = b.lines;

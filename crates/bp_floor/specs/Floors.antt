@@ -19,7 +19,6 @@ use Rattle.bp_run.specs.Selecting.{Asked, Enabled, Has, Live, live, selectable}
 use Rattle.bp_run.specs.Choosing.{Touched, reach}
 use Rattle.bp_run.specs.Numbers.{number_of}
 use Rattle.bp_run.specs.Story.{stepped, weight_after, fault_verdict}
-use Rattle.bp_select.specs.Benches.{Fits}
 use Rattle.bp_thread.specs.declared.job.Job.{Job}
 use Rattle.bp_floor.specs.declared.board.Board.{Board}
 use Rattle.bp_floor.specs.declared.phase.Phase.{Phase}
@@ -27,6 +26,7 @@ use Rattle.bp_floor.specs.declared.phase.Phase.TheVariants.{Ready, Lent, Rest, O
 use Rattle.bp_floor.specs.declared.went.Went.{Went}
 use Rattle.bp_floor.specs.declared.went.Went.TheVariants.{Moved, Stopped}
 use Rattle.bp_floor.specs.Programs.{code_of}
+use Rattle.bp_floor.specs.Desks.{Fits}
 use Rattle.bp_floor.specs.Seating.{is_waiting, is_ready, where_from, stated_from, AreOwn}
 use Rattle.bp_floor.specs.Boards.{pair_of}
 use Rattle.bp_floor.specs.Forgetting.{forget, forgotten, AreGoing}
@@ -97,10 +97,10 @@ pub record IsSound (r : Running) (base : Ground) (b : Board) (phase : Phase) : T
   pub own : AreOwn r.program r.options 0 b.seats
   pub waiting : where_from is_waiting 0 b.seats ≡ runs_in b.wave
   pub ready : where_from is_ready 0 b.seats ≡ ready_in phase b.wave
-  pub mirror : b.bench.live ≡ stated_from 0 b.seats
-  pub fits : Fits b.bench (ground_of r.program r.options.budget) r.options.budget
+  pub mirror : b.desk.bench.live ≡ stated_from 0 b.seats
+  pub fits : Fits b.desk (ground_of r.program r.options.budget) r.options.budget
   pub few : length b.seats ≤ MOST_THREADS
-  pub room : length b.queue ≤ MOST_WAITING
+  pub room : length b.desk.queue ≤ MOST_WAITING
   pub alone : RunsAlone b.wave
   pub below : AreBelow (length b.seats) b.wave
   pub rises : Rises (map number_of b.wave)

@@ -8,8 +8,8 @@ use Rattle.bp_log.specs.Options.{PlainOptions}
 use Rattle.bp_log.specs.declared.limits.TheConstants.{MOST_WAITING, MOST_THREADS}
 use Rattle.bp_run.specs.Settling.{Entry}
 use Rattle.bp_run.specs.Settling.Entry.{The_top, Runs, Stops}
-use Rattle.bp_select.specs.Benches.{Fits}
 use Rattle.bp_floor.specs.declared.board.Board.{Board}
+use Rattle.bp_floor.specs.Desks.{Fits}
 use Rattle.bp_floor.specs.Seating.{is_waiting, is_ready, where_from, stated_from, AreOwn}
 
 abbrev pub run_of : {O : Type 0} → Entry O → Option ℕ
@@ -58,9 +58,9 @@ pub record IsKept (r : Running) (first : ℕ) (b : Board) : Type 0 where
   pub own : AreOwn r.program r.options 0 b.seats
   pub waiting : where_from is_waiting 0 b.seats ≡ runs_in b.wave
   pub ready : where_from is_ready 0 b.seats ≡ runs_in b.wave
-  pub mirror : b.bench.live ≡ stated_from 0 b.seats
-  pub fits : Fits b.bench (ground_of r.program r.options.budget) r.options.budget
+  pub mirror : b.desk.bench.live ≡ stated_from 0 b.seats
+  pub fits : Fits b.desk (ground_of r.program r.options.budget) r.options.budget
   pub fresh : AreFrom first (runs_in b.wave)
   pub older : first ≤ length b.seats
   pub few : length b.seats ≤ MOST_THREADS
-  pub room : length b.queue ≤ MOST_WAITING
+  pub room : length b.desk.queue ≤ MOST_WAITING

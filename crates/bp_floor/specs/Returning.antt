@@ -9,11 +9,12 @@ use Rattle.bp_run.specs.Bodies.{Part, Statement}
 use Rattle.bp_run.specs.Configuration.{Stand, Thread, change}
 use Rattle.bp_run.specs.Settling.{Entry, Ran, Pair, part_of, body_of, merged}
 use Rattle.bp_run.specs.Settling.Entry.{The_top, Runs, Stops}
-use Rattle.bp_select.specs.Benches.{placed, live_at, Fits}
+use Rattle.bp_select.specs.Benches.{placed, live_at}
 use Rattle.bp_thread.specs.declared.job.Job.{Job}
 use Rattle.bp_thread.specs.Jobs.{plain_job, IsOf, StandsFor}
 use Rattle.bp_floor.specs.declared.board.Board.{Board}
 use Rattle.bp_floor.specs.Programs.{code_of}
+use Rattle.bp_floor.specs.Desks.{Fits}
 use Rattle.bp_floor.specs.Forgetting.{forgotten}
 use Rattle.bp_floor.specs.Seating.{seated, is_waiting, is_ready, where_from, stated_from, stop_at, AreOwn}
 use Rattle.bp_floor.specs.Parts.{unstated_part}
@@ -50,16 +51,16 @@ pub record IsBack (r : Running) (base : Ground) (ns : List (Entry Origin)) (js :
   pub own : AreOwn r.program r.options 0 b.seats
   pub waiting : where_from is_waiting 0 b.seats ≡ runs_in ns
   pub ready : where_from is_ready 0 b.seats ≡ []
-  pub mirror : b.bench.live ≡ stated_from 0 b.seats
-  pub fits : Fits b.bench (ground_of r.program r.options.budget) r.options.budget
+  pub mirror : b.desk.bench.live ≡ stated_from 0 b.seats
+  pub fits : Fits b.desk (ground_of r.program r.options.budget) r.options.budget
   pub few : length b.seats ≤ MOST_THREADS
-  pub room : length b.queue ≤ MOST_WAITING
+  pub room : length b.desk.queue ≤ MOST_WAITING
   pub program_is : base.program ≡ r.program
   pub ground_is : base ≡ ground_at r.program r.options.budget ns
 
 -- nothing but b-threads and what they state has changed
 pub record IsSameBut (old new : Board) : Type 0 where
-  pub queue : new.queue ≡ old.queue
+  pub queue : new.desk.queue ≡ old.desk.queue
   pub transitions : new.transitions ≡ old.transitions
   pub weight : new.weight ≡ old.weight
   pub lines : new.lines ≡ old.lines
@@ -82,14 +83,24 @@ pub record Puts (n : Entry Origin) (js : List Job) (base : Ground) (old : Board)
       → part ≡ part_in r (filled (n ∷ ns) js (map seated old.seats)) n
   pub same : IsSameBut old new
 
+-- what the b-threads state stands on the bench
+abbrev pub IsMirrored : Board → Type 0
+IsMirrored b = b.desk.bench.live ≡ stated_from 0 b.seats
+
+-- the b-thread of this number states this, or is not live
+pub record IsStated (number : ℕ) (statement : Option (Statement PlainSet)) (old new : Board)
+    : Type 0 where
+  pub live : new.desk.bench.live ≡ placed number statement old.desk.bench.live
+  pub fits : (base : Ground) (budget : ℕ) → IsMirrored old → Fits old.desk base budget
+      → Fits new.desk base budget
+  pub same : IsSameBut old new
+
 -- a job is in its place, and what it states stands on the bench
 pub record IsPut (number : ℕ) (j : Job) (old new : Board) : Type 0 where
   pub statement : Option (Statement PlainSet)
-  pub stated : (k : ℕ) → stop_at k (plain_job j).outcome ≡ live_at k statement
+  pub stop_is : (k : ℕ) → stop_at k (plain_job j).outcome ≡ live_at k statement
+  pub stated : IsStated number statement old new
   pub seats : new.seats ≡ change (λ s. record s { job = Some j }) number old.seats
-  pub live : new.bench.live ≡ placed number statement old.bench.live
-  pub fits : (base : Ground) (budget : ℕ) → Fits old.bench base budget → Fits new.bench base budget
-  pub same : IsSameBut old new
 
 -- the effects of a job were taken
 pub record IsTaken (j k : Job) : Type 0 where

@@ -16,16 +16,16 @@ use Rattle.bp_run.specs.Choosing.{Touched}
 use Rattle.bp_run.specs.Choosing.{Touched as to}
 use Rattle.bp_run.specs.Numbers.{number_in}
 use Rattle.bp_meaning.specs.After.{handler}
-use Rattle.bp_select.specs.Benches.{placed, Fits}
 use Rattle.bp_select.specs.Answers.{move_of}
 use Rattle.bp_thread.specs.declared.job.Job.{Job}
 use Rattle.bp_thread.specs.Jobs.{plain_job, IsOf, StandsFor, IsFresh, is_stopped}
 use Rattle.bp_floor.specs.declared.board.Board.{Board}
+use Rattle.bp_floor.specs.Desks.{Fits}
 use Rattle.bp_floor.specs.declared.touching.Touch.{Touch}
 use Rattle.bp_floor.specs.declared.touching.Touch.TheVariants.{Moves, Interrupts}
 use Rattle.bp_floor.specs.Seating.{PlainSeat, seated, is_waiting, is_ready, where_from, stated_from, AreOwn}
 use Rattle.bp_floor.specs.Kept.{Running, Rises}
-use Rattle.bp_floor.specs.Returning.{IsSameBut}
+use Rattle.bp_floor.specs.Returning.{IsSameBut, IsStated}
 
 abbrev pub touch_seen : Touch → Touched
 touch_seen (Moves i) = to.Moves i
@@ -62,17 +62,11 @@ pub record IsGivenTo (e : PlainEvent) (i : ℕ) (old new : List PlainSeat) : Typ
   pub of_program : (program : PlainProgram) → IsOf program job → IsOf program given
   pub fresh : (base : Ground) (budget : ℕ) → StandsFor base budget job → IsFresh base budget given
 
--- it states nothing any more
-pub record IsSilent (i : ℕ) (old new : Board) : Type 0 where
-  pub live : new.bench.live ≡ placed i None old.bench.live
-  pub fits : (base : Ground) (budget : ℕ) → Fits old.bench base budget → Fits new.bench base budget
-  pub same : IsSameBut old new
-
 -- what an event does to a b-thread
 abbrev pub IsTouch : PlainEvent → Touched → Board → Board → Type 0
-IsTouch e (to.Moves i) old new = IsGivenTo e i old.seats new.seats × IsSilent i old new
+IsTouch e (to.Moves i) old new = IsGivenTo e i old.seats new.seats × IsStated i None old new
 IsTouch e (to.Interrupts i) old new =
-    (new.seats ≡ change (λ s. record s { ended = true }) i old.seats) × IsSilent i old new
+    (new.seats ≡ change (λ s. record s { ended = true }) i old.seats) × IsStated i None old new
 
 -- those that are reached stand at their points
 abbrev pub AreStanding : List Touched → List PlainSeat → Type 0
@@ -88,10 +82,10 @@ pub record CanTouch (r : Running) (xs : List Touched) (b : Board) : Type 0 where
   pub own : AreOwn r.program r.options 0 b.seats
   pub waiting : where_from is_waiting 0 b.seats ≡ []
   pub ready : where_from is_ready 0 b.seats ≡ []
-  pub mirror : b.bench.live ≡ stated_from 0 b.seats
-  pub fits : Fits b.bench (ground_of r.program r.options.budget) r.options.budget
+  pub mirror : b.desk.bench.live ≡ stated_from 0 b.seats
+  pub fits : Fits b.desk (ground_of r.program r.options.budget) r.options.budget
   pub few : length b.seats ≤ MOST_THREADS
-  pub room : length b.queue ≤ MOST_WAITING
+  pub room : length b.desk.queue ≤ MOST_WAITING
   pub standing : AreStanding xs b.seats
   pub rises : Rises (map number_in xs)
 
@@ -102,10 +96,10 @@ pub record IsTouchedBy (r : Running) (e : PlainEvent) (xs : List Touched) (old n
   pub own : AreOwn r.program r.options 0 new.seats
   pub waiting : where_from is_waiting 0 new.seats ≡ moves_in xs
   pub ready : where_from is_ready 0 new.seats ≡ moves_in xs
-  pub mirror : new.bench.live ≡ stated_from 0 new.seats
-  pub fits : Fits new.bench (ground_of r.program r.options.budget) r.options.budget
+  pub mirror : new.desk.bench.live ≡ stated_from 0 new.seats
+  pub fits : Fits new.desk (ground_of r.program r.options.budget) r.options.budget
   pub few : length new.seats ≤ MOST_THREADS
-  pub room : length new.queue ≤ MOST_WAITING
+  pub room : length new.desk.queue ≤ MOST_WAITING
   pub same : IsSameBut old new
 
 -- where a run stands after the event, with what is to be run

@@ -22,10 +22,10 @@ ghost use Rattle.bp_floor.specs.Lending.{AreLent, filled_pair, standing};
 ghost use Rattle.bp_floor.specs.Floors.{StandsFor, StandsWith, AreBack, IsSealed, HadMemory, IsGivenUp, IsPhased, is_idle, CanGo, GoesAs, GoesFrom, ShowsOf, stop_of, told_verdict, code_on, has_on, live_on};
 ghost use Rattle.bp_floor.specs.Absorbing.{IsRefused};
 
-use crate::{Absorb, Board, Entry, EventList, LineList, Phase, Seats, Wave, Went};
+use crate::{Absorb, Board, Desk, Entry, LineList, Phase, Seats, Wave, Went};
 use bp_log::limits::MOST_WAITING;
 use bp_log::{Item, Line, Lines, Memory, Options, Verdict};
-use bp_select::{Bench, Choice, Draw, Enabled, SelectFault};
+use bp_select::{Choice, Draw, Enabled, SelectFault};
 use bp_sets::SetFault;
 use bp_thread::Job;
 use js_data::{Event, Text};
@@ -112,13 +112,11 @@ impl Floor {
         wave.push(Entry::Top)?;
         let ground = Ground::bare(alloc, program);
         let seats = Seats::new(alloc);
-        let bench = Bench::new(alloc);
-        let queue = EventList::new(alloc);
+        let desk = Desk::new(alloc);
         let lines = LineList::new(alloc);
         let board = Board {
             seats,
-            bench,
-            queue,
+            desk,
             transitions: 0,
             weight: 0,
             lines,
@@ -180,7 +178,7 @@ impl Floor {
     pub fn queue(&self) -> &[Event]
         ensures { result.now ≡ self.now.pair.stand.queue }
     {
-        self.board.queue.as_slice()
+        self.board.desk.queue()
     }
 
     /// How many transitions were made. Takes no memory.
@@ -310,10 +308,10 @@ impl Floor {
         ensures same { OnErr result (self.new ≡ self.old) }
         ensures room { OnOk result (length self.old.pair.stand.queue < MOST_WAITING) }
     {
-        if self.board.queue.len() >= MOST_WAITING as usize {
+        if self.board.desk.waiting() >= MOST_WAITING as usize {
             return Err(Absorb::Full(Item::Offered(event)));
         }
-        match self.board.queue.push(event) {
+        match self.board.desk.push(event) {
             Ok(()) => Ok(()),
             Err(failed) => Err(Absorb::Memory(Item::Offered(failed.value))),
         }
@@ -335,9 +333,7 @@ impl Floor {
             return Err(SelectFault::Memory);
         }
         let budget = self.options.budget();
-        self.board
-            .bench
-            .enabled(alloc, &self.ground, self.board.queue.as_slice(), budget)
+        self.board.desk.enabled(alloc, &self.ground, budget)
     }
 
     /// The first live b-thread that blocks the event.
@@ -356,7 +352,7 @@ impl Floor {
             return Err(SelectFault::Memory);
         }
         let budget = self.options.budget();
-        self.board.bench.blocker(alloc, &self.ground, event, budget)
+        self.board.desk.blocker(alloc, &self.ground, event, budget)
     }
 
     /// The lines since the last taking. Takes no memory.
@@ -396,14 +392,9 @@ impl Floor {
             return Err(SelectFault::Memory);
         }
         let budget = self.options.budget();
-        self.board.bench.choose(
-            alloc,
-            &self.ground,
-            self.board.queue.as_slice(),
-            self.options.strategy(),
-            budget,
-            draw,
-        )
+        self.board
+            .desk
+            .choose(alloc, &self.ground, self.options.strategy(), budget, draw)
     }
 
     /// Whether a live b-thread requests the event. Takes no memory.
@@ -411,7 +402,7 @@ impl Floor {
         requires rest { self.now.phase ≡ phase.Rest }
         ensures { self.now.broken ≡ false → result ≡ requested (live_on self.now) event.now }
     {
-        self.board.bench.requested(event)
+        self.board.desk.requested(event)
     }
 
     /// How many b-threads have not ended; 0 after want of memory. Takes no memory.

@@ -129,7 +129,7 @@ impl Board {
         ensures same { pair_of self.new ≡ pair_of self.old }
         ensures resting { IsResting (plain_ground ground.now) options self.new }
     {
-        match self.bench.reach(alloc, ground, event, options.budget()) {
+        match self.desk.reach(alloc, ground, event, options.budget()) {
             Ok(reach) => Ok(self.weighed(event, reach)),
             Err(SelectFault::Set(number, fault)) => Ok(Outlook::Stops(self.fault_verdict(
                 number, fault,

@@ -46,11 +46,11 @@ impl Board {
         ensures keeps { OnOk result ((r : Running) (first : ℕ) → IsKept r first self.old →
             IsKept r first self.new) }
     {
-        if self.queue.len() == MOST_WAITING as usize {
+        if self.desk.waiting() == MOST_WAITING as usize {
             self.stop(Verdict::Queue);
             return Ok(());
         }
-        self.queue.push(event)?;
+        self.desk.push(event)?;
         Ok(())
     }
 
@@ -188,7 +188,7 @@ impl Board {
         ensures keeps { OnOk result ((r : Running) (first : ℕ) → number < first →
             IsKept r first self.old → IsKept r first self.new) }
     {
-        self.bench.place(number, None)?;
+        self.restate(number, None)?;
         self.seats.end(number as usize);
         Ok(())
     }

@@ -146,11 +146,11 @@ impl Board {
     {
         match touch {
             Touch::Moves(number) => {
-                self.bench.place(number, None)?;
+                self.restate(number, None)?;
                 self.seats.give(number as usize, event)
             }
             Touch::Interrupts(number) => {
-                self.bench.place(number, None)?;
+                self.restate(number, None)?;
                 self.seats.end(number as usize);
                 Ok(())
             }
@@ -181,7 +181,7 @@ impl Board {
         wave: Wave,
         weight: u64,
     ) -> Result<(), Memory>
-        requires there { IfSome place (λ i. i < length self.old.queue) }
+        requires there { IfSome place (λ i. i < length self.old.desk.queue) }
         requires few { self.old.transitions + 1 < 2 ^ 32 }
         requires can { (r : Running) × CanTouch r (map touch_seen touches.now) self.old }
         ensures stepped { OnOk result ((r : Running) →
@@ -197,7 +197,7 @@ impl Board {
         let line = line_of(event, place)?;
         self.touch_all(event, touches)?;
         self.lines.push(line)?;
-        self.queue.without(place);
+        self.desk.without(place);
         self.transitions += 1;
         self.weight = weight;
         self.wave = wave;

@@ -96,7 +96,7 @@ impl Board {
         ensures { OnOk result (IsPut number job self.old self.new) }
     {
         let statement = statement_of(&job)?;
-        self.bench.place(number, statement)?;
+        self.restate(number, statement)?;
         self.seats.put(number as usize, job);
         Ok(())
     }

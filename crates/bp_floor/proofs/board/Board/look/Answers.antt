@@ -1,4 +1,4 @@
-use Rattle.std.proofs.Common.{◌<◌, ℕ, sym, subst, refl, length, Ok, Err}
+use Rattle.std.proofs.Common.{◌<◌, ℕ, sym, subst, length, Ok, Err}
 use Rattle.bp_run.specs.Choosing.{reach}
 use Rattle.bp_run.specs.Selecting.{live}
 use Rattle.bp_select.specs.declared.answers.SelectFault.{SelectFault}
@@ -7,6 +7,7 @@ use Rattle.js_frames.specs.Places.{plain_ground}
 use Rattle.bp_floor.specs.Boards.{stand_of}
 use Rattle.bp_floor.specs.Going.{floor_on}
 use Rattle.bp_floor.specs.Programs.{code_of}
+use Rattle.bp_floor.proofs.Onward.{pair_asked}
 use Rattle.bp_floor.proofs.Goes.{reach_at_rest, few_at_rest, faulty_at_rest, stops_at_fault, verdict_told}
 use Rattle.bp_floor.proofs.board.Board.look.Goals as goal
 
@@ -30,7 +31,7 @@ pub returns-in-Ok-clause-looks : goal.returns-in-Ok-clause-looks
 returns-in-Ok-clause-looks c =
     let base = plain_ground c.args.ground.now in
     let a = reach_at_rest base c.args.options c.args.self.now c.budget.result c.args.event.now (Ok c.in-Ok.reach) c.requires c.budget.ensures.budget c.in-Ok.ensures.reached in
-    c.weighed.ensures (floor_on base c.args.options c.args.self.now) a.0 refl a.1 a.2
+    c.weighed.ensures (floor_on base c.args.options c.args.self.now) a.0 (pair_asked c.args.self.now c.reach.new.self c.reach.ensures.queue) a.1 a.2
 
 pub returns-in_ok-fault_verdict-in-Err-Set-clause-looks :
     goal.returns-in_ok-fault_verdict-in-Err-Set-clause-looks

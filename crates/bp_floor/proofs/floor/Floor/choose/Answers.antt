@@ -1,5 +1,4 @@
-use Rattle.std.proofs.Common.{List, ℕ, IfOk, length, subst}
-use Rattle.js_data.specs.Event.{PlainEvent}
+use Rattle.std.proofs.Common.{ℕ, IfOk, length, subst}
 use Rattle.js_frames.specs.Places.{plain_ground}
 use Rattle.bp_run.specs.Selecting.{live}
 use Rattle.bp_words.specs.Words.{draw_word}
@@ -20,12 +19,10 @@ returns-clause-chosen c =
     let drawn = c.choose.new.draw.drawn in
     let rests = rests_now (plain_ground f.ground) f.options f.board f.phase f.broken c.args.self.now c.self.view_is c.requires.rest (c.self.invariant c.if-self.false) in
     subst (λ (x : PlainFloor). AnswersAs (chosen_of x.pair.stand.queue drawn) (choice (code_on x).has word x.options.strategy (live (code_on x) x.pair.stand) x.pair.stand.queue c.args.draw.now.drawn) c.choose.result) c.self.view_is
-    (subst (λ (s : log.Strategy). AnswersAs (chosen_of f.board.queue drawn) (choice (code_of f.ground.program f.options).has word s (live (code_of f.ground.program f.options) (stand_of f.board)) f.board.queue c.args.draw.now.drawn) c.choose.result) c.strategy.ensures
-    (subst (λ (q : List PlainEvent). AnswersAs (chosen_of q drawn) (choice (code_of f.ground.program f.options).has word c.strategy.result (live (code_of f.ground.program f.options) (stand_of f.board)) q c.args.draw.now.drawn) c.choose.result) c.as_slice.ensures
-    (asked_at_rest (plain_ground f.ground) f.options f.board c.budget-budget.result (chosen_of c.as_slice.result.now drawn) (λ has ts. choice has word c.strategy.result ts c.as_slice.result.now c.args.draw.now.drawn) c.choose.result rests c.budget-budget.ensures.budget
-    c.choose.ensures.chosen)))
+    (subst (λ (s : log.Strategy). AnswersAs (chosen_of f.board.desk.queue drawn) (choice (code_of f.ground.program f.options).has word s (live (code_of f.ground.program f.options) (stand_of f.board)) f.board.desk.queue c.args.draw.now.drawn) c.choose.result) c.strategy.ensures
+    (asked_at_rest (plain_ground f.ground) f.options f.board c.budget-budget.result (chosen_of f.board.desk.queue drawn) (λ has ts. choice has word c.strategy.result ts f.board.desk.queue c.args.draw.now.drawn) c.choose.result rests c.budget-budget.ensures.budget
+    c.choose.ensures.chosen))
 
 pub returns-clause-within : goal.returns-clause-within
 returns-clause-within c =
-    subst (λ (x : PlainFloor). IfOk c.choose.result (IsWithin (length x.pair.stand.queue))) c.self.view_is
-    (subst (λ (q : List PlainEvent). IfOk c.choose.result (IsWithin (length q))) c.as_slice.ensures c.choose.ensures.within)
+    subst (λ (x : PlainFloor). IfOk c.choose.result (IsWithin (length x.pair.stand.queue))) c.self.view_is c.choose.ensures.within

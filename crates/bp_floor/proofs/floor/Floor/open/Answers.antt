@@ -10,6 +10,6 @@ pub invariant_of-result : goal.invariant_of-result
 invariant_of-result c = λ _.
     sound_opened _ _ _ refl
     (c.bare-ground.ensures ∙ ap (λ (g : Ground). bare g.program) (sym c.bare-ground.ensures))
-    c.new-seats.ensures c.new-bench.ensures.empty c.new-queue.ensures refl refl refl
+    c.new-seats.ensures c.new-desk.ensures.empty c.new-desk.ensures.queue refl refl refl
     (c.in_ok-push.ensures ∙ ap (λ (ns : List (Entry Origin)). ns ++ The_top ∷ []) c.new-wave.ensures)
-    (c.new-bench.ensures.fits _ _)
+    (c.new-desk.ensures.fits _ _)
