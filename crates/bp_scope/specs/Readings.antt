@@ -38,8 +38,8 @@ module _ {S : Type 0} where
     pub from : (source : S) → IsFrom left faults source (feed_of old.started)
         → IsFrom left faults source (feed_of new.started)
 
-  -- The injector of this source was joined: it had offered these items, which begin those of the source's
-  -- bytes, and a fault is among them only where the source failed.
+  -- The injector of this source was joined: it had offered these items, which begin those of the
+  -- source's bytes, and a fault is among them only where the source failed.
   pub record HasOffered (left : S → Option (List ℕ)) (faults : S → ℕ) (source back : S)
       (offers : List Item) : Type 0 where
     pub begins : BeginsItems (left source) (left back) offers
@@ -78,7 +78,8 @@ module _ {S : Type 0} where
       (records : List Record) (j : ℕ) : Type 0 where
     pub there : j < length sources
     pub broken : (d : S)
-        → IsBroken left faults (slice_index_or sources j d) (slice_index_or back j d) (items_by j records)
+        → IsBroken left faults (slice_index_or sources j d) (slice_index_or back j d)
+        (items_by j records)
 
   -- the injector of this number is there, and its fault is kept
   pub record HasFailed (readings : List (Reading S)) (j : ℕ) : Type 0 where

@@ -1,5 +1,5 @@
 //! Room for injectors, all of it taken before the first of them is started.
-ghost use Rattle.std.specs.Prelude.{◌≡◌, ◌≤◌, ◌<◌, [], length, IfOk};
+ghost use Rattle.std.specs.Prelude.{IfOk};
 ghost use Rattle.bp_scope.specs.Places.{HasRoom};
 
 use crate::reading::Reading;

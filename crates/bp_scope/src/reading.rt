@@ -1,6 +1,4 @@
 //! An injector while something is served.
-ghost use Rattle.std.specs.Prelude.{◌≡◌, ◌≤◌, ◌++◌, List};
-
 use bp_base::Source;
 use bp_hear::Hearing;
 use bp_inject::Started;

@@ -1,5 +1,5 @@
 //! A scope in which injectors run on threads of their own.
-ghost use Rattle.std.specs.Prelude.{◌≡◌, ◌≤◌, ◌<◌, ◌^◌, ℕ, List, [], ◌++◌, All, length, vec_len, vec_capacity, Option, IfSome};
+ghost use Rattle.std.specs.Prelude.{◌≡◌, ◌≤◌, ◌<◌, ◌^◌, ℕ, List, [], All, length, vec_len, vec_capacity, Option, IfSome};
 ghost use Rattle.bp_log.specs.declared.record.Record.{Record};
 ghost use Rattle.bp_hear.specs.Hearings.{AreHeard};
 ghost use Rattle.bp_scope.specs.Places.{HasRoom};

@@ -199,3 +199,8 @@ module _ {S : Type 0} (left : S → Option (List ℕ)) (faults : S → ℕ) (sou
 
   pub nothing_lost : ComeBack left faults sources sources []
   nothing_lost = record { many = refl; counts = λ k d less. omega arith }
+
+-- of none, each is back
+pub none_back : {S : Type 0} (left : S → Option (List ℕ)) (faults : S → ℕ) (sources backs : List S) (records : List Record) → sources ≡ [] → AreBack left faults sources backs records
+none_back left faults sources backs records e =
+    record { each = λ k d less. absurd (let none = ap length e in omega (arith, none, less)) }

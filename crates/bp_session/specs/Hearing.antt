@@ -22,14 +22,15 @@ pub record HearsOn (old new : Core) : Type 0 where
   pub records : new.arbiter.records ≡ old.arbiter.records ++ more
 
 module _ {S : Type 0} where
-  -- what was taken of this injector's lane is recorded as before, and what was recorded of others stays
+  -- what was taken of this injector's lane is recorded as before, and what was recorded of others
+  -- stays
   pub record IsHeardOn (j : ℕ) (before : List Record) (old : Reading S) (after : List Record)
       (new : Reading S) : Type 0 where
     pub one : IsRecorded j before old.hearing → IsRecorded j after new.hearing
     pub others : (k : ℕ) → ¬ (k ≡ j) → items_by k after ≡ items_by k before
 
-  -- At some moment in between this injector was heard: as many items of it entered as may at once, or
-  -- nothing more of it could enter then.
+  -- At some moment in between this injector was heard: as many items of it entered as may at once,
+  -- or nothing more of it could enter then.
   pub record WasHeard (start end : Core) (j : ℕ) (old new : Reading S) : Type 0 where
     pub before : Core
     pub after : Core

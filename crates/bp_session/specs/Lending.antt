@@ -12,9 +12,10 @@ use Rattle.bp_session.specs.declared.stop.Stop.{Stop}
 use Rattle.bp_session.specs.Serving.{IsServing, EndsServing, EndIsCaused, StopIsCaused}
 
 module _ {K L : Type 0} (faults : K → ℕ) (made_as : L → Option (List ℕ)) (log_faults : L → ℕ) where
-  -- It was written, and no count fell; the log keeps its name. Where this stopped, there is a cause.
-  pub record WritesTo {V : Type 0} (served : Result V Stop) (out_old out_new : K) (old new : Option L)
-      : Type 0 where
+  -- It was written, and no count fell; the log keeps its name. Where this stopped, there is a
+  -- cause.
+  pub record WritesTo {V : Type 0} (served : Result V Stop) (out_old out_new : K)
+      (old new : Option L) : Type 0 where
     pub cause : IfErr served (StopIsCaused faults log_faults out_old out_new old new)
     pub counts : faults out_old ≤ faults out_new
     pub stays : LogStays made_as log_faults old new
@@ -27,10 +28,10 @@ Begins written program header log c w =
     → IsServing written (code_of program header.options) header.options (header_text header)
     (record { printed = printed; log = log }) c (record { printed = printed; log = log }) w
 
-module _ {K L S : Type 0} where
+module _ {K L S V : Type 0} where
   -- it was served to its end, through the same borrows
   pub record IsServed (written : K → Option (List ℕ)) (faults : K → ℕ)
-      (log_written made_as : L → Option (List ℕ)) (log_faults : L → ℕ) (old new : Lent K L S)
+      (log_written made_as : L → Option (List ℕ)) (log_faults : L → ℕ) (old new : Lent K L S V)
       : Type 0 where
     pub out_same : new.out.ghost_name ≡ old.out.ghost_name
     pub log_same : new.log.ghost_name ≡ old.log.ghost_name

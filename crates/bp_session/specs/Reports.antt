@@ -34,11 +34,12 @@ module _ {L : Type 0} (written : L → Option (List ℕ)) (text : Texts) (head :
 
 module _ {S : Type 0} (left : S → Option (List ℕ)) (faults : S → ℕ) (sources back : List S)
     (records : List Record) where
-  -- Injector j is there, its source failed, and what was heard of it are the items of the whole lines
-  -- that it gave before.
+  -- Injector j is there, its source failed, and what was heard of it are the items of the whole
+  -- lines that it gave before.
   pub record BrokeAt (j : ℕ) : Type 0 where
     pub there : j < length sources
-    pub rose : (d : S) → Rose (faults (slice_index_or sources j d)) (faults (slice_index_or back j d))
+    pub rose : (d : S)
+        → Rose (faults (slice_index_or sources j d)) (faults (slice_index_or back j d))
     pub heard : (d : S) → IsHeardToFault (left (slice_index_or sources j d))
         (left (slice_index_or back j d)) (items_by j records)
 
@@ -48,19 +49,18 @@ module _ {S : Type 0} (left : S → Option (List ℕ)) (faults : S → ℕ) (sou
     pub counts : (k : ℕ) (d : S) → k < length sources
         → faults (slice_index_or sources k d) ≤ faults (slice_index_or back k d)
 
--- what each ending says
-abbrev pub EndsAs : {K L S : Type 0} → (L → Option (List ℕ)) → (L → ℕ) → (K → ℕ) → Texts → List ℕ →
-    K → K → Given L → Given L → (S → Option (List ℕ)) → (S → ℕ) → List S → List S → List Record →
-    Ending → Type 0
-EndsAs written log_faults faults text head out_old out_new old new left broke sources back records (Verdict v) =
-    (verdict_of records ≡ Some v) × Wholly written text head records old new
-    × (IsQuiet v → EachHeardWhole left sources back records)
-EndsAs written log_faults faults text head out_old out_new old new left broke sources back records (Read j) =
-    (is_complete records ≡ false) × Wholly written text head records old new
-    × BrokeAt left broke sources back records j
-EndsAs written log_faults faults text head out_old out_new old new left broke sources back records Write =
-    Partly written text head records old new × Rose (faults out_old) (faults out_new)
-EndsAs written log_faults faults text head out_old out_new old new left broke sources back records LogWrite =
-    Partly written text head records old new × LogFails log_faults old.log new.log
-EndsAs written log_faults faults text head out_old out_new old new left broke sources back records Memory =
-    Partly written text head records old new
+module _ {K L S : Type 0} (written : L → Option (List ℕ)) (log_faults : L → ℕ) (faults : K → ℕ)
+    (text : Texts) (head : List ℕ) (out_old out_new : K) (old new : Given L)
+    (left : S → Option (List ℕ)) (broke : S → ℕ) (sources back : List S)
+    (records : List Record) where
+  -- what each ending says
+  abbrev pub EndsAs : Ending → Type 0
+  EndsAs (Verdict v) =
+      (verdict_of records ≡ Some v) × Wholly written text head records old new
+      × (IsQuiet v → EachHeardWhole left sources back records)
+  EndsAs (Read j) =
+      (is_complete records ≡ false) × Wholly written text head records old new
+      × BrokeAt left broke sources back records j
+  EndsAs Write = Partly written text head records old new × Rose (faults out_old) (faults out_new)
+  EndsAs LogWrite = Partly written text head records old new × LogFails log_faults old.log new.log
+  EndsAs Memory = Partly written text head records old new

@@ -32,7 +32,8 @@ use Rattle.bp_session.specs.declared.report.Ending.TheVariants.{Verdict, Read, W
 -- a fault comes only of the output or of the log that failed
 abbrev pub IsCaused : {K L : Type 0} → (K → ℕ) → (L → ℕ) → K → K → Option L → Option L → RunFault →
     Type 0
-IsCaused faults log_faults out_old out_new old new fault.Write = Rose (faults out_old) (faults out_new)
+IsCaused faults log_faults out_old out_new old new fault.Write =
+    Rose (faults out_old) (faults out_new)
 IsCaused faults log_faults out_old out_new old new fault.LogWrite = LogFails log_faults old new
 IsCaused faults log_faults out_old out_new old new fault.Memory = Unit {0}
 
@@ -74,8 +75,8 @@ broke_at LogWrite = None
 broke_at Memory = None
 
 module _ {L : Type 0} (written : L → Option (List ℕ)) where
-  -- The run of this code is served: the core is at some moment of it, and since the first moment the
-  -- first of its records, and the lines that were taken of it, were told.
+  -- The run of this code is served: the core is at some moment of it, and since the first moment
+  -- the first of its records, and the lines that were taken of it, were told.
   pub record IsServing (l : Code Origin PlainSet) (o : PlainOptions) (head : List ℕ)
       (first : Given L) (c : Core) (now : Given L) (w : Waiting) : Type 0 where
     pub code : code_in c.arbiter ≡ l
@@ -159,8 +160,8 @@ module _ {L : Type 0} (written : L → Option (List ℕ)) where
       → IsTold L written text head first old a records lines
       → IsPartly L written text head first new records lines
 
-  -- a turn or a wait stopped: what was told is told still where memory was wanting, and a front of it was
-  -- written where writing failed
+  -- a turn or a wait stopped: what was told is told still where memory was wanting, and a front of
+  -- it was written where writing failed
   abbrev pub StopsTurning : Given L → Waiting → Given L → Waiting → Stop → Type 0
   StopsTurning old a new b (stop.Read j) = ⊥
   StopsTurning old a new b (stop.Broken f) = (f ≡ fault.Memory) × StillTold old a new b
@@ -180,8 +181,8 @@ module _ {L : Type 0} (written : L → Option (List ℕ)) where
       (l : Code Origin PlainSet) (o : PlainOptions) (head : List ℕ) (first : Given L)
       → IsServing l o head first before old a → IsStopped l o head first after new b readings s
 
-  -- what is known of the run once it was served: it has its verdict, and all of it is told, or serving
-  -- stopped
+  -- what is known of the run once it was served: it has its verdict, and all of it is told, or
+  -- serving stopped
   abbrev pub IsServedTo : {S : Type 0} → Code Origin PlainSet → PlainOptions → List ℕ → Given L →
       Core → Given L → Waiting → List (Reading S) → Result logs.Verdict Stop → Type 0
   IsServedTo l o head first c now w readings (Ok v) =
@@ -207,8 +208,8 @@ module _ {L : Type 0} (written : L → Option (List ℕ)) where
   IsEnded l o head first c now Memory = IsFrontWritten l o head first c now
 
   -- whatever run was served has ended so
-  pub record EndsServing (before : Core) (old : Given L) (a : Waiting) (after : Core) (new : Given L)
-      (end : Ending) : Type 0 where
+  pub record EndsServing (before : Core) (old : Given L) (a : Waiting) (after : Core)
+      (new : Given L) (end : Ending) : Type 0 where
     pub ends : (l : Code Origin PlainSet) (o : PlainOptions) (head : List ℕ) (first : Given L)
         → IsServing l o head first before old a → IsEnded l o head first after new end
 
@@ -227,11 +228,13 @@ pub record IsCutAt (old new : Core) (taken : List Line) : Type 0 where
 
 -- wherever the core was, it was led on
 abbrev pub LeadsOn : Core → Core → Type 0
-LeadsOn old new = (taken : List Line) (m : Moment Origin) → IsHere old taken m → IsLedTo old new taken
+LeadsOn old new =
+    (taken : List Line) (m : Moment Origin) → IsHere old taken m → IsLedTo old new taken
 
 -- wherever the core was, memory was wanting then
 abbrev pub CutsAt : Core → Core → Type 0
-CutsAt old new = (taken : List Line) (m : Moment Origin) → IsHere old taken m → IsCutAt old new taken
+CutsAt old new =
+    (taken : List Line) (m : Moment Origin) → IsHere old taken m → IsCutAt old new taken
 
 -- what was recorded of injectors stays
 abbrev pub KeepsItems : List Record → List Record → Type 0

@@ -12,8 +12,8 @@ module _ {S : Type 0} where
   abbrev pub turns_here : Reading S → Bool
   turns_here r = not (is_beside r.started) && not (is_over (feed_of r.started))
 
-  -- The feed made a turn: an item was offered, or a line was passed over, or the last item was offered, or
-  -- an item is kept for which there is no place.
+  -- The feed made a turn: an item was offered, or a line was passed over, or the last item was
+  -- offered, or an item is kept for which there is no place.
   abbrev pub IsTurn : Feed S → Feed S → Type 0
   IsTurn old new =
       ((item : Item) × (offered new.mouth ≡ offered old.mouth ++ item ∷ []))

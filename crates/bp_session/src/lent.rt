@@ -6,19 +6,21 @@ ghost use Rattle.bp_log.specs.Options.{PlainOptions};
 ghost use Rattle.bp_run.specs.Bodies.{Code};
 ghost use Rattle.bp_floor.specs.declared.phase.Phase.TheVariants as phase;
 ghost use Rattle.bp_hear.specs.Hearings.{AreHeard};
-ghost use Rattle.bp_scope.specs.Readings.{Pairs, IsHeld, GoesOnAs, HasFailed};
+ghost use Rattle.bp_scope.specs.Readings.{Pairs, IsHeld, GoesOnAs, HasFailed, AreBack};
 ghost use Rattle.bp_told.specs.Logging.{LogStays};
 ghost use Rattle.bp_told.specs.Told.{Given, given};
 ghost use Rattle.bp_session.specs.Lending.{WritesTo};
 ghost use Rattle.bp_session.specs.Serving.{IsReady, IsServing, IsBrokenOff, IsServedTo, CanTellRest, IsEnded, EndsServing, EndIsCaused, ending_of, broke_at};
 
+use crate::calling::Calls;
 use crate::report::Ending;
 use crate::serving::serve_on;
+use crate::showing::Shows;
 use crate::stop::Stop;
 use crate::telling::tell;
 use bp_base::{Sink, Source};
 use bp_core::Core;
-use bp_lanes::{Bell, Rope};
+use bp_lanes::Bell;
 use bp_log::{Beside, Verdict};
 use bp_scope::{Reading, Serves};
 use bp_told::{RunFault, Telling};
@@ -129,27 +131,29 @@ fn ended<S: Source, K: Sink, L: Sink>(
 }
 
 /// All that a session owns.
-pub(crate) struct Parts<S> {
+pub(crate) struct Parts<S, V> {
     pub(crate) core: Core,
     pub(crate) telling: Telling,
     pub(crate) beside: Beside,
+    pub(crate) shows: V,
     pub(crate) back: Vec<S>,
     pub(crate) end: Ending,
 }
 
 /// What a session is lent, and all that it owns.
-pub(crate) struct Lent<'a, 'b, 'c, K, L, S> {
+pub(crate) struct Lent<'a, 'b, 'c, K, L, S, V> {
     pub(crate) out: &'a mut K,
     pub(crate) log: &'b mut Option<L>,
-    pub(crate) parts: &'c mut Parts<S>,
+    pub(crate) parts: &'c mut Parts<S, V>,
 }
 
-/// Serves the run to its end, and writes what was told of it.
-fn serve_parts<S: Source + Drop, R: Threads + Wait + Sync, K: Sink, L: Sink>(
+/// Serves the run to its end, and writes what was told of it. Where there are no injectors nobody
+/// calls.
+fn serve_parts<S: Source + Drop, R: Threads + Wait + Sync, K: Sink, L: Sink, V: Shows>(
     rt: &R,
     alloc: Global,
-    bell: &Bell,
-    parts: &mut Parts<S>,
+    mut calls: Option<Calls<'_>>,
+    parts: &mut Parts<S, V>,
     out: &mut K,
     log: &mut Option<L>,
     readings: &mut Vec<Reading<S>>,
@@ -168,18 +172,47 @@ fn serve_parts<S: Source + Drop, R: Threads + Wait + Sync, K: Sink, L: Sink>(
     ensures counts { K.faults out.old ≤ K.faults out.new }
     ensures stays { LogStays L.made_as L.faults log.old log.new }
 {
-    let mut rope = Rope::new(bell);
     let beside = parts.beside;
     let core = &mut parts.core;
     let telling = &mut parts.telling;
+    let shows = &mut parts.shows;
     let served = serve_on(
-        rt, alloc, core, beside, telling, out, log, &mut rope, readings,
+        rt, alloc, core, beside, telling, out, log, &mut calls, readings, shows,
     );
     parts.end = ended(alloc, served, core, telling, out, log, readings);
 }
 
-impl<'a, 'b, 'c, K: Sink, L: Sink, S: Source + Drop, R: Threads + Wait + Sync> Serves<S, R>
-    for Lent<'a, 'b, 'c, K, L, S> {
+/// Serves the run to its end where there are no injectors: no thread is made, no lock is taken and no bell
+/// is rung. The inputs, of which there are none, come back.
+pub(crate) fn serve_alone<S: Source + Drop, R: Threads + Wait + Sync, K: Sink, L: Sink, V: Shows>(
+    rt: &R,
+    alloc: Global,
+    inputs: Vec<S>,
+    parts: &mut Parts<S, V>,
+    out: &mut K,
+    log: &mut Option<L>,
+)
+    requires none { inputs.items ≡ [] }
+    requires ready { IsReady L.written parts.old.core (given K.written out.old log.old)
+        parts.old.telling }
+    requires inside { parts.old.core.out ≡ false }
+    ensures ends { EndsServing L.written parts.old.core (given K.written out.old log.old)
+        parts.old.telling parts.new.core (given K.written out.new log.new) parts.new.end }
+    ensures broke { broke_at parts.new.end ≡ None }
+    ensures cause { EndIsCaused K.faults L.faults out.old out.new log.old log.new parts.new.end }
+    ensures many { length parts.new.back.items ≡ length inputs.items }
+    ensures back { AreBack S.left S.faults inputs.items parts.new.back.items
+        parts.new.core.arbiter.records }
+    ensures counts { K.faults out.old ≤ K.faults out.new }
+    ensures stays { LogStays L.made_as L.faults log.old log.new }
+{
+    let mut readings = Vec::new(alloc);
+    serve_parts(rt, alloc, None, parts, out, log, &mut readings);
+    parts.back = inputs;
+}
+
+impl<K: Sink, L: Sink, S: Source + Drop, R: Threads + Wait + Sync, V: Shows> Serves<S, R>
+    for Lent<'_, '_, '_, K, L, S, V> {
     ghost use denote.Param.Send.{IsSync};
     ghost use Rattle.bp_session.specs.Lending.{IsServed};
 
@@ -210,11 +243,12 @@ impl<'a, 'b, 'c, K: Sink, L: Sink, S: Source + Drop, R: Threads + Wait + Sync> S
         ensures goes_on { Pairs (GoesOnAs S.left S.faults) readings.old.items readings.new.items }
         ensures broke { IfSome (broke_at self.new.parts.now.end) (HasFailed readings.new.items) }
     {
-        serve_parts(rt, alloc, bell, self.parts, self.out, self.log, readings);
+        let calls = Some(Calls::new(bell));
+        serve_parts(rt, alloc, calls, self.parts, self.out, self.log, readings);
     }
 
     fn give_back(&mut self, sources: Vec<S>)
-        ensures served { (first : Lent K L S) →
+        ensures served { (first : Lent K L S V) →
             IsServed K.written K.faults L.written L.made_as L.faults first self.old →
             IsServed K.written K.faults L.written L.made_as L.faults first self.new }
         ensures records { self.new.parts.now.core.arbiter.records

@@ -2,11 +2,13 @@
 //! comes.
 #![tactic(auto)]
 
+mod calling;
 mod hearing;
 mod lent;
 mod report;
 mod running;
 mod serving;
+mod showing;
 mod stop;
 mod telling;
 mod turning;

@@ -16,8 +16,9 @@ ghost use Rattle.bp_session.specs.Lending.{Begins};
 ghost use Rattle.bp_session.specs.Reports.{ComeBack, EndsAs};
 ghost use Rattle.bp_session.specs.Serving.{IsReady, EndsServing, EndIsCaused, broke_at};
 
-use crate::lent::{Lent, Parts};
+use crate::lent::{Lent, Parts, serve_alone};
 use crate::report::{Ending, Report};
+use crate::showing::{Shows, Silent};
 use bp_base::{Memory, Sink, Source};
 use bp_core::Core;
 use bp_core::laws::stories_have_legal_schedules;
@@ -63,13 +64,13 @@ fn begin<S: Source + Drop, L: Sink>(
     })
 }
 
-/// Serves what is lent, in a scope in which each input has an injector.
-fn served<S: Source + Send + Drop, R: Threads + Wait + Sync, K: Sink, L: Sink>(
+/// Serves what is lent, in a scope in which each input has an injector, where there are inputs.
+fn served<S: Source + Send + Drop, R: Threads + Wait + Sync, K: Sink, L: Sink, V: Shows>(
     rt: &R,
     alloc: Global,
     places: Places<S>,
     inputs: Vec<S>,
-    parts: &mut Parts<S>,
+    parts: &mut Parts<S, V>,
     out: &mut K,
     log: &mut Option<L>,
 )
@@ -91,6 +92,10 @@ fn served<S: Source + Send + Drop, R: Threads + Wait + Sync, K: Sink, L: Sink>(
     ensures counts { K.faults out.old ≤ K.faults out.new }
     ensures stays { LogStays L.made_as L.faults log.old log.new }
 {
+    if inputs.is_empty() {
+        serve_alone(rt, alloc, inputs, parts, out, log);
+        return;
+    }
     let mut lent = Lent { out, log, parts };
     in_scope::<_, S, R>(rt, alloc, places, inputs, &mut lent);
     let Lent {
@@ -158,6 +163,7 @@ impl Session {
             core,
             telling,
             beside,
+            shows: Silent,
             back: Vec::new(alloc),
             end: Ending::Memory,
         };
@@ -166,6 +172,7 @@ impl Session {
             core,
             telling: _,
             beside: _,
+            shows: _,
             back,
             end,
         } = parts;

@@ -1,5 +1,5 @@
 //! The loop that serves a session.
-ghost use Rattle.std.specs.Prelude.{◌≡◌, ◌≤◌, ◌<◌, ◌^◌, length, Some, false, IfOk, IfErr, OnOk, OnErr};
+ghost use Rattle.std.specs.Prelude.{◌≡◌, ◌≤◌, ◌<◌, ◌^◌, length, Some, false, IfOk, IfErr, OnOk, OnErr, IsTrue};
 ghost use Rattle.std.specs.List.{list_any};
 ghost use Rattle.bp_log.specs.Records.{verdict_of};
 ghost use Rattle.bp_floor.specs.declared.phase.Phase.TheVariants as phase;
@@ -7,19 +7,20 @@ ghost use Rattle.bp_core.specs.Cores.{KeepsProgram};
 ghost use Rattle.bp_hear.specs.Hearings.{AreHeard};
 ghost use Rattle.bp_scope.specs.Readings.{Pairs, GoesOnAs};
 ghost use Rattle.bp_told.specs.Logging.{LogStays};
-ghost use Rattle.bp_told.specs.Told.{given};
+ghost use Rattle.bp_told.specs.Told.{given, WritesAll};
 ghost use Rattle.bp_session.specs.Hearing.{AreAsHeard};
 ghost use Rattle.bp_session.specs.Turning.{turns_here, MakeTurns};
 ghost use Rattle.bp_session.specs.Serving.{IsReady, ServesOn, BreaksServing, StillTold, StopsServing, IsCaused, StopIsCaused, StopsTurning, TellsAll, LeadsOn, CutsAt, KeepsItems};
 ghost use Rattle.bp_turns.specs.Settled.{IsSomewhereHere, IsSettled};
 
+use crate::calling::Calls;
 use crate::hearing::hear_all;
+use crate::showing::Shows;
 use crate::stop::Stop;
 use crate::telling::{tell, write};
 use crate::turning::{some_turn_here, turn_all_here};
 use bp_base::{Memory, Sink, Source};
 use bp_core::{Core, Phase, Picked};
-use bp_lanes::{Rope, Wake};
 use bp_log::{Beside, Verdict};
 use bp_scope::Reading;
 use bp_told::{RunFault, Telling};
@@ -28,18 +29,48 @@ use std::alloc::Global;
 use std::sync::Wait;
 use std::thread::Threads;
 
+/// Writes what waits to be written, and shows the run as it stands: so it is before anything may wait.
+fn write_and_show<R: Threads + Wait + Sync, K: Sink, L: Sink, V: Shows>(
+    rt: &R,
+    alloc: Global,
+    core: &Core,
+    telling: &mut Telling,
+    out: &mut K,
+    log: &mut Option<L>,
+    shows: &mut V,
+) -> Result<(), Stop>
+    ensures all { OnOk result (WritesAll L.written (given K.written out.old log.old) telling.old
+        (given K.written out.new log.new) telling.new) }
+    ensures stops { IfErr result (StopsTurning L.written (given K.written out.old log.old)
+        telling.old (given K.written out.new log.new) telling.new) }
+    ensures cause { IfErr result (StopIsCaused K.faults L.faults out.old out.new log.old log.new) }
+    ensures counts { K.faults out.old ≤ K.faults out.new }
+    ensures stays { LogStays L.made_as L.faults log.old log.new }
+{
+    write(telling, out, log)?;
+    shows.show(rt, alloc, core)?;
+    Ok(())
+}
+
 /// Own turns are made of injectors that have no thread. What waits to be written is written before, as a
 /// turn may wait for its source. True exactly where there was one.
-fn turn_here<S: Source, K: Sink, L: Sink>(
+fn turn_here<S: Source, R: Threads + Wait + Sync, K: Sink, L: Sink, V: Shows>(
+    rt: &R,
+    alloc: Global,
+    core: &Core,
     telling: &mut Telling,
     out: &mut K,
     log: &mut Option<L>,
     readings: &mut Vec<Reading<S>>,
+    shows: &mut V,
 ) -> Result<bool, Stop>
     ensures still { OnOk result (StillTold L.written (given K.written out.old log.old) telling.old
         (given K.written out.new log.new) telling.new) }
-    ensures stops { IfErr result (StopsTurning L.written (given K.written out.old log.old) telling.old
-        (given K.written out.new log.new) telling.new) }
+    ensures all { IfOk result (λ some. IsTrue some → WritesAll L.written
+        (given K.written out.old log.old) telling.old (given K.written out.new log.new)
+        telling.new) }
+    ensures stops { IfErr result (StopsTurning L.written (given K.written out.old log.old)
+        telling.old (given K.written out.new log.new) telling.new) }
     ensures some { IfOk result (λ some. some ≡ list_any turns_here readings.old.items) }
     ensures turns { OnOk result (MakeTurns readings.old.items readings.new.items) }
     ensures goes_on { Pairs (GoesOnAs S.left S.faults) readings.old.items readings.new.items }
@@ -51,25 +82,38 @@ fn turn_here<S: Source, K: Sink, L: Sink>(
     if !some_turn_here(readings) {
         return Ok(false);
     }
-    write(telling, out, log)?;
+    write_and_show(rt, alloc, core, telling, out, log, shows)?;
     turn_all_here(readings)?;
     Ok(true)
 }
 
+/// Waits until an injector rings, where there are any.
+fn wait_at<R: Threads + Wait + Sync>(rt: &R, calls: &mut Option<Calls<'_>>) {
+    if let Some(calls) = calls {
+        calls.wait(rt);
+    }
+}
+
 /// Where all is done that can be, waits until an injector rings. What waits to be written is written
 /// before.
-fn wait_where<R: Threads + Wait + Sync, K: Sink, L: Sink>(
+fn wait_where<R: Threads + Wait + Sync, K: Sink, L: Sink, V: Shows>(
     rt: &R,
+    alloc: Global,
     waits: bool,
+    core: &Core,
     telling: &mut Telling,
     out: &mut K,
     log: &mut Option<L>,
-    rope: &mut Rope<'_>,
+    calls: &mut Option<Calls<'_>>,
+    shows: &mut V,
 ) -> Result<(), Stop>
     ensures still { OnOk result (StillTold L.written (given K.written out.old log.old) telling.old
         (given K.written out.new log.new) telling.new) }
-    ensures stops { IfErr result (StopsTurning L.written (given K.written out.old log.old) telling.old
-        (given K.written out.new log.new) telling.new) }
+    ensures all { OnOk result (IsTrue waits → WritesAll L.written
+        (given K.written out.old log.old) telling.old (given K.written out.new log.new)
+        telling.new) }
+    ensures stops { IfErr result (StopsTurning L.written (given K.written out.old log.old)
+        telling.old (given K.written out.new log.new) telling.new) }
     ensures cause { IfErr result (StopIsCaused K.faults L.faults out.old out.new log.old log.new) }
     ensures counts { K.faults out.old ≤ K.faults out.new }
     ensures stays { LogStays L.made_as L.faults log.old log.new }
@@ -77,8 +121,8 @@ fn wait_where<R: Threads + Wait + Sync, K: Sink, L: Sink>(
     if !waits {
         return Ok(());
     }
-    write(telling, out, log)?;
-    rope.wait(rt);
+    write_and_show(rt, alloc, core, telling, out, log, shows)?;
+    wait_at(rt, calls);
     Ok(())
 }
 
@@ -91,8 +135,11 @@ fn write_where<K: Sink, L: Sink>(
 ) -> Result<(), Stop>
     ensures still { OnOk result (StillTold L.written (given K.written out.old log.old) telling.old
         (given K.written out.new log.new) telling.new) }
-    ensures stops { IfErr result (StopsTurning L.written (given K.written out.old log.old) telling.old
-        (given K.written out.new log.new) telling.new) }
+    ensures all { OnOk result (IsTrue heard → WritesAll L.written
+        (given K.written out.old log.old) telling.old (given K.written out.new log.new)
+        telling.new) }
+    ensures stops { IfErr result (StopsTurning L.written (given K.written out.old log.old)
+        telling.old (given K.written out.new log.new) telling.new) }
     ensures cause { IfErr result (StopIsCaused K.faults L.faults out.old out.new log.old log.new) }
     ensures counts { K.faults out.old ≤ K.faults out.new }
     ensures stays { LogStays L.made_as L.faults log.old log.new }
@@ -105,23 +152,28 @@ fn write_where<K: Sink, L: Sink>(
 
 /// An injector that met want of memory has halted the bell: the session ends so then. Where there are no
 /// injectors nothing is asked.
-fn ask_halt<S: Source, R: Threads + Wait + Sync>(
-    rt: &R,
-    rope: &mut Rope<'_>,
-    readings: &Vec<Reading<S>>,
-) -> Result<(), Stop>
+fn ask_halt<R: Threads + Wait + Sync>(rt: &R, calls: &mut Option<Calls<'_>>) -> Result<(), Stop>
     ensures { IfErr result (λ s. s ≡ Stop.Broken RunFault.Memory) }
 {
-    if !readings.is_empty() && rope.halted(rt) {
+    let Some(calls) = calls else {
+        return Ok(());
+    };
+    if calls.halted(rt) {
         return Err(Stop::Broken(RunFault::Memory));
     }
     Ok(())
 }
 
-/// Wakes the injectors, where places became free for who waits with an item.
-fn ring_where<R: Threads + Wait + Sync>(rt: &R, heard: bool, rope: &mut Rope<'_>) {
-    if heard {
-        rope.ring(rt);
+/// So many items entered. Wakes the injectors where enough places became free for who waits with an item,
+/// or where own turns follow, which may wait.
+fn ring_where<R: Threads + Wait + Sync>(
+    rt: &R,
+    entered: usize,
+    turns: bool,
+    calls: &mut Option<Calls<'_>>,
+) {
+    if let Some(calls) = calls {
+        calls.entered(rt, entered, turns);
     }
 }
 
@@ -138,16 +190,19 @@ fn pick(core: &mut Core) -> Result<Picked, Memory>
     core.pick()
 }
 
-/// What is there of the injectors enters, and then what comes next comes. True exactly where something
+/// What is there of the injectors enters, and then what comes next comes. Only where nothing entered and
+/// nothing comes until something does, own turns are made, or it waits. True exactly where something
 /// entered.
-fn round<S: Source, R: Threads + Wait + Sync, K: Sink, L: Sink>(
+fn round<S: Source, R: Threads + Wait + Sync, K: Sink, L: Sink, V: Shows>(
     rt: &R,
+    alloc: Global,
     core: &mut Core,
     telling: &mut Telling,
     out: &mut K,
     log: &mut Option<L>,
-    rope: &mut Rope<'_>,
+    calls: &mut Option<Calls<'_>>,
     readings: &mut Vec<Reading<S>>,
+    shows: &mut V,
 ) -> Result<bool, Stop>
     requires ready { IsReady L.written core.old (given K.written out.old log.old) telling.old }
     requires whole { core.old.broken ≡ false }
@@ -165,14 +220,18 @@ fn round<S: Source, R: Threads + Wait + Sync, K: Sink, L: Sink>(
     ensures counts { K.faults out.old ≤ K.faults out.new }
     ensures stays { LogStays L.made_as L.faults log.old log.new }
 {
-    ask_halt(rt, rope, readings)?;
+    ask_halt(rt, calls)?;
+    let before = core.arbiter().records().len();
     let heard = hear_all(core, readings)?;
-    ring_where(rt, heard, rope);
-    let turned = turn_here(telling, out, log, readings)?;
+    let entered = core.arbiter().records().len().saturating_sub(before);
+    ring_where(rt, entered, some_turn_here(readings), calls);
     let picked = pick(core)?;
-    let waits = picked == Picked::Wait && !heard && !turned;
-    wait_where(rt, waits, telling, out, log, rope)?;
-    Ok(heard)
+    if heard || picked != Picked::Wait {
+        return Ok(heard);
+    }
+    let turned = turn_here(rt, alloc, core, telling, out, log, readings, shows)?;
+    wait_where(rt, alloc, !turned, core, telling, out, log, calls, shows)?;
+    Ok(false)
 }
 
 /// The verdict that was recorded. Its only error is want of memory.
@@ -184,6 +243,21 @@ fn verdict_in(core: &Core) -> Result<Verdict, Memory>
         Some(verdict) => Ok(verdict.copy()?),
         None => unreachable!(),
     }
+}
+
+/// The run is over: it is shown, and its verdict is answered. Its only error is want of memory.
+fn verdict_shown<R: Threads + Wait + Sync, V: Shows>(
+    rt: &R,
+    alloc: Global,
+    core: &Core,
+    shows: &mut V,
+) -> Result<Verdict, Memory>
+    requires { core.now.arbiter.phase ≡ phase.Over }
+    ensures { IfOk result (λ v. verdict_of core.now.arbiter.records ≡ Some v) }
+{
+    let verdict = verdict_in(core)?;
+    shows.show(rt, alloc, core)?;
+    Ok(verdict)
 }
 
 /// Carries jobs to their outcomes until nothing is to be run, and tells all that came of it.
@@ -218,8 +292,9 @@ fn settle_and_tell<C: Carrier, K: Sink, L: Sink>(
 
 /// Serves the run to its verdict: what is there of the injectors enters, what comes next comes, jobs are
 /// carried to their outcomes, and all of it is told as it comes. What is told is written before anything
-/// may wait, and after a round in which something entered.
-pub(crate) fn serve_on<S: Source, R: Threads + Wait + Sync, K: Sink, L: Sink>(
+/// may wait, and after a round in which something entered. The run is shown before anything may wait, and
+/// once it is over. Without injectors nobody calls, and nothing waits.
+pub(crate) fn serve_on<S: Source, R: Threads + Wait + Sync, K: Sink, L: Sink, V: Shows>(
     rt: &R,
     alloc: Global,
     core: &mut Core,
@@ -227,8 +302,9 @@ pub(crate) fn serve_on<S: Source, R: Threads + Wait + Sync, K: Sink, L: Sink>(
     telling: &mut Telling,
     out: &mut K,
     log: &mut Option<L>,
-    rope: &mut Rope<'_>,
+    calls: &mut Option<Calls<'_>>,
     readings: &mut Vec<Reading<S>>,
+    shows: &mut V,
 ) -> Result<Verdict, Stop>
     requires ready { IsReady L.written core.old (given K.written out.old log.old) telling.old }
     requires inside { core.old.out ≡ false }
@@ -250,10 +326,10 @@ pub(crate) fn serve_on<S: Source, R: Threads + Wait + Sync, K: Sink, L: Sink>(
     for _ in rt.forever() {
         settle_and_tell(alloc, core, &workers, telling, out, log)?;
         if core.arbiter().phase() == Phase::Over {
-            return Ok(verdict_in(core)?);
+            return Ok(verdict_shown(rt, alloc, core, shows)?);
         }
         write_where(heard, telling, out, log)?;
-        heard = round(rt, core, telling, out, log, rope, readings)?;
+        heard = round(rt, alloc, core, telling, out, log, calls, readings, shows)?;
     }
     unreachable!()
 }

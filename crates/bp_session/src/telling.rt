@@ -1,10 +1,10 @@
 //! What a session tells of its run.
 ghost use Rattle.std.specs.Prelude.{◌≡◌, ◌≤◌, true, OnOk, OnErr, IfErr};
 ghost use Rattle.bp_told.specs.Logging.{LogStays};
-ghost use Rattle.bp_told.specs.Told.{given};
+ghost use Rattle.bp_told.specs.Told.{given, WritesAll};
 ghost use Rattle.bp_floor.specs.Floors.{is_idle};
 ghost use Rattle.bp_core.specs.Cores.{KeepsProgram};
-ghost use Rattle.bp_session.specs.Serving.{IsReady, ServesOn, BreaksServing, TellsAll, StillTold, PartTold, IsUnwritten, IsCaused, StopIsCaused};
+ghost use Rattle.bp_session.specs.Serving.{IsReady, ServesOn, BreaksServing, TellsAll, PartTold, IsUnwritten, IsCaused, StopIsCaused};
 
 use crate::stop::Stop;
 use bp_base::Sink;
@@ -48,7 +48,7 @@ pub(crate) fn write<K: Sink, L: Sink>(
     out: &mut K,
     log: &mut Option<L>,
 ) -> Result<(), Stop>
-    ensures still { OnOk result (StillTold L.written (given K.written out.old log.old) telling.old
+    ensures all { OnOk result (WritesAll L.written (given K.written out.old log.old) telling.old
         (given K.written out.new log.new) telling.new) }
     ensures part { OnErr result (PartTold L.written (given K.written out.old log.old) telling.old
         (given K.written out.new log.new)) }

@@ -42,11 +42,37 @@ pub returns-in_err-heard-clause-stays : goal.returns-in_err-heard-clause-stays
 returns-in_err-heard-clause-stays g c =
     log_same g.L.Sink.made_as g.L.Sink.faults c.args.log.now
 
+pub returns-in_err-picked-clause-stops : goal.returns-in_err-picked-clause-stops
+returns-in_err-picked-clause-stops g c =
+    from_err c.from_residual-in_err-picked.result (stop.Broken Memory) (StopsServing g.L.Sink.written c.args.core.now (given g.K.Sink.written c.args.out.now c.args.log.now) c.args.telling.now c.pick.new.core (given g.K.Sink.written c.args.out.now c.args.log.now) c.args.telling.now c.hear_all.new.readings.items) c.from_residual-in_err-picked.ensures.1
+    (breaks_then g.L.Sink.written c.args.core.now c.hear_all.new.core c.pick.new.core (given g.K.Sink.written c.args.out.now c.args.log.now) (given g.K.Sink.written c.args.out.now c.args.log.now) (given g.K.Sink.written c.args.out.now c.args.log.now) c.args.telling.now c.args.telling.now c.args.telling.now Memory (hear_serves g.L.Sink.written c.args.core.now c.hear_all.new.core (given g.K.Sink.written c.args.out.now c.args.log.now) c.args.telling.now c.hear_all.ensures.hears)
+    (pick_breaks g.L.Sink.written c.hear_all.new.core c.pick.new.core (given g.K.Sink.written c.args.out.now c.args.log.now) c.args.telling.now Memory c.pick.ensures.kept c.in_err-picked.ensures.cut))
+
+pub returns-in_err-picked-clause-cause : goal.returns-in_err-picked-clause-cause
+returns-in_err-picked-clause-cause g c =
+    from_err c.from_residual-in_err-picked.result (stop.Broken Memory) (StopIsCaused g.K.Sink.faults g.L.Sink.faults c.args.out.now c.args.out.now c.args.log.now c.args.log.now) c.from_residual-in_err-picked.ensures.1 tt
+
+pub returns-in_err-picked-clause-heard : goal.returns-in_err-picked-clause-heard
+returns-in_err-picked-clause-heard g c =
+    (heard_kept c.hear_all.new.core.arbiter.records c.pick.new.core.arbiter.records c.hear_all.new.readings.items (c.pick.ensures.items (ready_somewhere g.L.Sink.written c.hear_all.new.core (given g.K.Sink.written c.args.out.now c.args.log.now) c.args.telling.now (ready_on g.L.Sink.written c.args.core.now c.hear_all.new.core (given g.K.Sink.written c.args.out.now c.args.log.now) (given g.K.Sink.written c.args.out.now c.args.log.now) c.args.telling.now c.args.telling.now (hear_serves g.L.Sink.written c.args.core.now c.hear_all.new.core (given g.K.Sink.written c.args.out.now c.args.log.now) c.args.telling.now c.hear_all.ensures.hears) c.requires.ready))) c.hear_all.ensures.heard)
+
+pub returns-in_err-picked-clause-stays : goal.returns-in_err-picked-clause-stays
+returns-in_err-picked-clause-stays g c =
+    log_same g.L.Sink.made_as g.L.Sink.faults c.args.log.now
+
+pub returns-then-heard-clause-serves : goal.returns-then-heard-clause-serves
+returns-then-heard-clause-serves g c =
+    (serves_both g.L.Sink.written c.args.core.now c.hear_all.new.core c.pick.new.core (given g.K.Sink.written c.args.out.now c.args.log.now) (given g.K.Sink.written c.args.out.now c.args.log.now) (given g.K.Sink.written c.args.out.now c.args.log.now) c.args.telling.now c.args.telling.now c.args.telling.now (hear_serves g.L.Sink.written c.args.core.now c.hear_all.new.core (given g.K.Sink.written c.args.out.now c.args.log.now) c.args.telling.now c.hear_all.ensures.hears) (lead_serves g.L.Sink.written c.hear_all.new.core c.pick.new.core (given g.K.Sink.written c.args.out.now c.args.log.now) c.args.telling.now c.pick.ensures.kept c.in_ok-picked.ensures.picks))
+
+pub returns-then-heard-clause-heard : goal.returns-then-heard-clause-heard
+returns-then-heard-clause-heard g c =
+    (heard_kept c.hear_all.new.core.arbiter.records c.pick.new.core.arbiter.records c.hear_all.new.readings.items (c.pick.ensures.items (ready_somewhere g.L.Sink.written c.hear_all.new.core (given g.K.Sink.written c.args.out.now c.args.log.now) c.args.telling.now (ready_on g.L.Sink.written c.args.core.now c.hear_all.new.core (given g.K.Sink.written c.args.out.now c.args.log.now) (given g.K.Sink.written c.args.out.now c.args.log.now) c.args.telling.now c.args.telling.now (hear_serves g.L.Sink.written c.args.core.now c.hear_all.new.core (given g.K.Sink.written c.args.out.now c.args.log.now) c.args.telling.now c.hear_all.ensures.hears) c.requires.ready))) c.hear_all.ensures.heard)
+
 pub returns-in_err-turned-clause-stops : goal.returns-in_err-turned-clause-stops
 returns-in_err-turned-clause-stops g c =
-    from_err c.from_residual-in_err-turned.result _ (StopsServing g.L.Sink.written c.args.core.now (given g.K.Sink.written c.args.out.now c.args.log.now) c.args.telling.now c.hear_all.new.core (given g.K.Sink.written c.turn_here.new.out c.turn_here.new.log) c.turn_here.new.telling c.turn_here.new.readings.items) c.from_residual-in_err-turned.ensures.1
-    (stops_then g.L.Sink.written c.turn_here.new.readings.items c.args.core.now c.hear_all.new.core c.hear_all.new.core (given g.K.Sink.written c.args.out.now c.args.log.now) (given g.K.Sink.written c.args.out.now c.args.log.now) (given g.K.Sink.written c.turn_here.new.out c.turn_here.new.log) c.args.telling.now c.args.telling.now c.turn_here.new.telling _ (hear_serves g.L.Sink.written c.args.core.now c.hear_all.new.core (given g.K.Sink.written c.args.out.now c.args.log.now) c.args.telling.now c.hear_all.ensures.hears)
-    (turn_stops g.L.Sink.written c.turn_here.new.readings.items c.hear_all.new.core (given g.K.Sink.written c.args.out.now c.args.log.now) (given g.K.Sink.written c.turn_here.new.out c.turn_here.new.log) c.args.telling.now c.turn_here.new.telling _ c.in_err-turned.ensures.stops))
+    from_err c.from_residual-in_err-turned.result _ (StopsServing g.L.Sink.written c.args.core.now (given g.K.Sink.written c.args.out.now c.args.log.now) c.args.telling.now c.pick.new.core (given g.K.Sink.written c.turn_here.new.out c.turn_here.new.log) c.turn_here.new.telling c.turn_here.new.readings.items) c.from_residual-in_err-turned.ensures.1
+    (stops_then g.L.Sink.written c.turn_here.new.readings.items c.args.core.now c.pick.new.core c.pick.new.core (given g.K.Sink.written c.args.out.now c.args.log.now) (given g.K.Sink.written c.args.out.now c.args.log.now) (given g.K.Sink.written c.turn_here.new.out c.turn_here.new.log) c.args.telling.now c.args.telling.now c.turn_here.new.telling _ (serves_both g.L.Sink.written c.args.core.now c.hear_all.new.core c.pick.new.core (given g.K.Sink.written c.args.out.now c.args.log.now) (given g.K.Sink.written c.args.out.now c.args.log.now) (given g.K.Sink.written c.args.out.now c.args.log.now) c.args.telling.now c.args.telling.now c.args.telling.now (hear_serves g.L.Sink.written c.args.core.now c.hear_all.new.core (given g.K.Sink.written c.args.out.now c.args.log.now) c.args.telling.now c.hear_all.ensures.hears) (lead_serves g.L.Sink.written c.hear_all.new.core c.pick.new.core (given g.K.Sink.written c.args.out.now c.args.log.now) c.args.telling.now c.pick.ensures.kept c.in_ok-picked.ensures.picks))
+    (turn_stops g.L.Sink.written c.turn_here.new.readings.items c.pick.new.core (given g.K.Sink.written c.args.out.now c.args.log.now) (given g.K.Sink.written c.turn_here.new.out c.turn_here.new.log) c.args.telling.now c.turn_here.new.telling _ c.in_err-turned.ensures.stops))
 
 pub returns-in_err-turned-clause-cause : goal.returns-in_err-turned-clause-cause
 returns-in_err-turned-clause-cause g c =
@@ -54,34 +80,16 @@ returns-in_err-turned-clause-cause g c =
 
 pub returns-in_err-turned-clause-heard : goal.returns-in_err-turned-clause-heard
 returns-in_err-turned-clause-heard g c =
-    (heard_still c.hear_all.new.core.arbiter.records c.hear_all.new.readings.items c.turn_here.new.readings.items c.turn_here.ensures.hearing c.hear_all.ensures.heard)
+    (heard_kept c.hear_all.new.core.arbiter.records c.pick.new.core.arbiter.records c.turn_here.new.readings.items (c.pick.ensures.items (ready_somewhere g.L.Sink.written c.hear_all.new.core (given g.K.Sink.written c.args.out.now c.args.log.now) c.args.telling.now (ready_on g.L.Sink.written c.args.core.now c.hear_all.new.core (given g.K.Sink.written c.args.out.now c.args.log.now) (given g.K.Sink.written c.args.out.now c.args.log.now) c.args.telling.now c.args.telling.now (hear_serves g.L.Sink.written c.args.core.now c.hear_all.new.core (given g.K.Sink.written c.args.out.now c.args.log.now) c.args.telling.now c.hear_all.ensures.hears) c.requires.ready))) (heard_still c.hear_all.new.core.arbiter.records c.hear_all.new.readings.items c.turn_here.new.readings.items c.turn_here.ensures.hearing c.hear_all.ensures.heard))
 
 pub returns-in_err-turned-clause-goes_on : goal.returns-in_err-turned-clause-goes_on
 returns-in_err-turned-clause-goes_on g c =
     (go_both g.S.Source.left g.S.Source.faults c.args.readings.now.items c.hear_all.new.readings.items c.turn_here.new.readings.items c.hear_all.ensures.goes_on c.turn_here.ensures.goes_on)
 
-pub returns-in_err-picked-clause-stops : goal.returns-in_err-picked-clause-stops
-returns-in_err-picked-clause-stops g c =
-    from_err c.from_residual-in_err-picked.result (stop.Broken Memory) (StopsServing g.L.Sink.written c.args.core.now (given g.K.Sink.written c.args.out.now c.args.log.now) c.args.telling.now c.pick.new.core (given g.K.Sink.written c.turn_here.new.out c.turn_here.new.log) c.turn_here.new.telling c.turn_here.new.readings.items) c.from_residual-in_err-picked.ensures.1
-    (breaks_then g.L.Sink.written c.args.core.now c.hear_all.new.core c.pick.new.core (given g.K.Sink.written c.args.out.now c.args.log.now) (given g.K.Sink.written c.turn_here.new.out c.turn_here.new.log) (given g.K.Sink.written c.turn_here.new.out c.turn_here.new.log) c.args.telling.now c.turn_here.new.telling c.turn_here.new.telling Memory (serves_both g.L.Sink.written c.args.core.now c.hear_all.new.core c.hear_all.new.core (given g.K.Sink.written c.args.out.now c.args.log.now) (given g.K.Sink.written c.args.out.now c.args.log.now) (given g.K.Sink.written c.turn_here.new.out c.turn_here.new.log) c.args.telling.now c.args.telling.now c.turn_here.new.telling (hear_serves g.L.Sink.written c.args.core.now c.hear_all.new.core (given g.K.Sink.written c.args.out.now c.args.log.now) c.args.telling.now c.hear_all.ensures.hears) (still_serves g.L.Sink.written c.hear_all.new.core (given g.K.Sink.written c.args.out.now c.args.log.now) (given g.K.Sink.written c.turn_here.new.out c.turn_here.new.log) c.args.telling.now c.turn_here.new.telling c.in_ok-turned.ensures.still))
-    (pick_breaks g.L.Sink.written c.hear_all.new.core c.pick.new.core (given g.K.Sink.written c.turn_here.new.out c.turn_here.new.log) c.turn_here.new.telling Memory c.pick.ensures.kept c.in_err-picked.ensures.cut))
-
-pub returns-in_err-picked-clause-cause : goal.returns-in_err-picked-clause-cause
-returns-in_err-picked-clause-cause g c =
-    from_err c.from_residual-in_err-picked.result (stop.Broken Memory) (StopIsCaused g.K.Sink.faults g.L.Sink.faults c.args.out.now c.turn_here.new.out c.args.log.now c.turn_here.new.log) c.from_residual-in_err-picked.ensures.1 tt
-
-pub returns-in_err-picked-clause-heard : goal.returns-in_err-picked-clause-heard
-returns-in_err-picked-clause-heard g c =
-    (heard_kept c.hear_all.new.core.arbiter.records c.pick.new.core.arbiter.records c.turn_here.new.readings.items (c.pick.ensures.items (ready_somewhere g.L.Sink.written c.hear_all.new.core (given g.K.Sink.written c.args.out.now c.args.log.now) c.args.telling.now (ready_on g.L.Sink.written c.args.core.now c.hear_all.new.core (given g.K.Sink.written c.args.out.now c.args.log.now) (given g.K.Sink.written c.args.out.now c.args.log.now) c.args.telling.now c.args.telling.now (hear_serves g.L.Sink.written c.args.core.now c.hear_all.new.core (given g.K.Sink.written c.args.out.now c.args.log.now) c.args.telling.now c.hear_all.ensures.hears) c.requires.ready))) (heard_still c.hear_all.new.core.arbiter.records c.hear_all.new.readings.items c.turn_here.new.readings.items c.turn_here.ensures.hearing c.hear_all.ensures.heard))
-
-pub returns-in_err-picked-clause-goes_on : goal.returns-in_err-picked-clause-goes_on
-returns-in_err-picked-clause-goes_on g c =
-    (go_both g.S.Source.left g.S.Source.faults c.args.readings.now.items c.hear_all.new.readings.items c.turn_here.new.readings.items c.hear_all.ensures.goes_on c.turn_here.ensures.goes_on)
-
 pub returns-in_err-wait_where-clause-stops : goal.returns-in_err-wait_where-clause-stops
 returns-in_err-wait_where-clause-stops g c =
     from_err c.from_residual-in_err-wait_where.result _ (StopsServing g.L.Sink.written c.args.core.now (given g.K.Sink.written c.args.out.now c.args.log.now) c.args.telling.now c.pick.new.core (given g.K.Sink.written c.wait_where.new.out c.wait_where.new.log) c.wait_where.new.telling c.turn_here.new.readings.items) c.from_residual-in_err-wait_where.ensures.1
-    (stops_then g.L.Sink.written c.turn_here.new.readings.items c.args.core.now c.pick.new.core c.pick.new.core (given g.K.Sink.written c.args.out.now c.args.log.now) (given g.K.Sink.written c.turn_here.new.out c.turn_here.new.log) (given g.K.Sink.written c.wait_where.new.out c.wait_where.new.log) c.args.telling.now c.turn_here.new.telling c.wait_where.new.telling _ (serves_both g.L.Sink.written c.args.core.now c.hear_all.new.core c.pick.new.core (given g.K.Sink.written c.args.out.now c.args.log.now) (given g.K.Sink.written c.turn_here.new.out c.turn_here.new.log) (given g.K.Sink.written c.turn_here.new.out c.turn_here.new.log) c.args.telling.now c.turn_here.new.telling c.turn_here.new.telling (serves_both g.L.Sink.written c.args.core.now c.hear_all.new.core c.hear_all.new.core (given g.K.Sink.written c.args.out.now c.args.log.now) (given g.K.Sink.written c.args.out.now c.args.log.now) (given g.K.Sink.written c.turn_here.new.out c.turn_here.new.log) c.args.telling.now c.args.telling.now c.turn_here.new.telling (hear_serves g.L.Sink.written c.args.core.now c.hear_all.new.core (given g.K.Sink.written c.args.out.now c.args.log.now) c.args.telling.now c.hear_all.ensures.hears) (still_serves g.L.Sink.written c.hear_all.new.core (given g.K.Sink.written c.args.out.now c.args.log.now) (given g.K.Sink.written c.turn_here.new.out c.turn_here.new.log) c.args.telling.now c.turn_here.new.telling c.in_ok-turned.ensures.still)) (lead_serves g.L.Sink.written c.hear_all.new.core c.pick.new.core (given g.K.Sink.written c.turn_here.new.out c.turn_here.new.log) c.turn_here.new.telling c.pick.ensures.kept c.in_ok-picked.ensures.picks))
+    (stops_then g.L.Sink.written c.turn_here.new.readings.items c.args.core.now c.pick.new.core c.pick.new.core (given g.K.Sink.written c.args.out.now c.args.log.now) (given g.K.Sink.written c.turn_here.new.out c.turn_here.new.log) (given g.K.Sink.written c.wait_where.new.out c.wait_where.new.log) c.args.telling.now c.turn_here.new.telling c.wait_where.new.telling _ (serves_both g.L.Sink.written c.args.core.now c.pick.new.core c.pick.new.core (given g.K.Sink.written c.args.out.now c.args.log.now) (given g.K.Sink.written c.args.out.now c.args.log.now) (given g.K.Sink.written c.turn_here.new.out c.turn_here.new.log) c.args.telling.now c.args.telling.now c.turn_here.new.telling (serves_both g.L.Sink.written c.args.core.now c.hear_all.new.core c.pick.new.core (given g.K.Sink.written c.args.out.now c.args.log.now) (given g.K.Sink.written c.args.out.now c.args.log.now) (given g.K.Sink.written c.args.out.now c.args.log.now) c.args.telling.now c.args.telling.now c.args.telling.now (hear_serves g.L.Sink.written c.args.core.now c.hear_all.new.core (given g.K.Sink.written c.args.out.now c.args.log.now) c.args.telling.now c.hear_all.ensures.hears) (lead_serves g.L.Sink.written c.hear_all.new.core c.pick.new.core (given g.K.Sink.written c.args.out.now c.args.log.now) c.args.telling.now c.pick.ensures.kept c.in_ok-picked.ensures.picks)) (still_serves g.L.Sink.written c.pick.new.core (given g.K.Sink.written c.args.out.now c.args.log.now) (given g.K.Sink.written c.turn_here.new.out c.turn_here.new.log) c.args.telling.now c.turn_here.new.telling c.in_ok-turned.ensures.still))
     (turn_stops g.L.Sink.written c.turn_here.new.readings.items c.pick.new.core (given g.K.Sink.written c.turn_here.new.out c.turn_here.new.log) (given g.K.Sink.written c.wait_where.new.out c.wait_where.new.log) c.turn_here.new.telling c.wait_where.new.telling _ c.in_err-wait_where.ensures.stops))
 
 pub returns-in_err-wait_where-clause-cause : goal.returns-in_err-wait_where-clause-cause
@@ -103,7 +111,7 @@ returns-in_err-wait_where-clause-stays g c =
 
 pub returns-clause-serves : goal.returns-clause-serves
 returns-clause-serves g c =
-    serves_both g.L.Sink.written c.args.core.now c.pick.new.core c.pick.new.core (given g.K.Sink.written c.args.out.now c.args.log.now) (given g.K.Sink.written c.turn_here.new.out c.turn_here.new.log) (given g.K.Sink.written c.wait_where.new.out c.wait_where.new.log) c.args.telling.now c.turn_here.new.telling c.wait_where.new.telling (serves_both g.L.Sink.written c.args.core.now c.hear_all.new.core c.pick.new.core (given g.K.Sink.written c.args.out.now c.args.log.now) (given g.K.Sink.written c.turn_here.new.out c.turn_here.new.log) (given g.K.Sink.written c.turn_here.new.out c.turn_here.new.log) c.args.telling.now c.turn_here.new.telling c.turn_here.new.telling (serves_both g.L.Sink.written c.args.core.now c.hear_all.new.core c.hear_all.new.core (given g.K.Sink.written c.args.out.now c.args.log.now) (given g.K.Sink.written c.args.out.now c.args.log.now) (given g.K.Sink.written c.turn_here.new.out c.turn_here.new.log) c.args.telling.now c.args.telling.now c.turn_here.new.telling (hear_serves g.L.Sink.written c.args.core.now c.hear_all.new.core (given g.K.Sink.written c.args.out.now c.args.log.now) c.args.telling.now c.hear_all.ensures.hears) (still_serves g.L.Sink.written c.hear_all.new.core (given g.K.Sink.written c.args.out.now c.args.log.now) (given g.K.Sink.written c.turn_here.new.out c.turn_here.new.log) c.args.telling.now c.turn_here.new.telling c.in_ok-turned.ensures.still)) (lead_serves g.L.Sink.written c.hear_all.new.core c.pick.new.core (given g.K.Sink.written c.turn_here.new.out c.turn_here.new.log) c.turn_here.new.telling c.pick.ensures.kept c.in_ok-picked.ensures.picks)) (still_serves g.L.Sink.written c.pick.new.core (given g.K.Sink.written c.turn_here.new.out c.turn_here.new.log) (given g.K.Sink.written c.wait_where.new.out c.wait_where.new.log) c.turn_here.new.telling c.wait_where.new.telling c.in_ok-wait_where.ensures.still)
+    serves_both g.L.Sink.written c.args.core.now c.pick.new.core c.pick.new.core (given g.K.Sink.written c.args.out.now c.args.log.now) (given g.K.Sink.written c.turn_here.new.out c.turn_here.new.log) (given g.K.Sink.written c.wait_where.new.out c.wait_where.new.log) c.args.telling.now c.turn_here.new.telling c.wait_where.new.telling (serves_both g.L.Sink.written c.args.core.now c.pick.new.core c.pick.new.core (given g.K.Sink.written c.args.out.now c.args.log.now) (given g.K.Sink.written c.args.out.now c.args.log.now) (given g.K.Sink.written c.turn_here.new.out c.turn_here.new.log) c.args.telling.now c.args.telling.now c.turn_here.new.telling (serves_both g.L.Sink.written c.args.core.now c.hear_all.new.core c.pick.new.core (given g.K.Sink.written c.args.out.now c.args.log.now) (given g.K.Sink.written c.args.out.now c.args.log.now) (given g.K.Sink.written c.args.out.now c.args.log.now) c.args.telling.now c.args.telling.now c.args.telling.now (hear_serves g.L.Sink.written c.args.core.now c.hear_all.new.core (given g.K.Sink.written c.args.out.now c.args.log.now) c.args.telling.now c.hear_all.ensures.hears) (lead_serves g.L.Sink.written c.hear_all.new.core c.pick.new.core (given g.K.Sink.written c.args.out.now c.args.log.now) c.args.telling.now c.pick.ensures.kept c.in_ok-picked.ensures.picks)) (still_serves g.L.Sink.written c.pick.new.core (given g.K.Sink.written c.args.out.now c.args.log.now) (given g.K.Sink.written c.turn_here.new.out c.turn_here.new.log) c.args.telling.now c.turn_here.new.telling c.in_ok-turned.ensures.still)) (still_serves g.L.Sink.written c.pick.new.core (given g.K.Sink.written c.turn_here.new.out c.turn_here.new.log) (given g.K.Sink.written c.wait_where.new.out c.wait_where.new.log) c.turn_here.new.telling c.wait_where.new.telling c.in_ok-wait_where.ensures.still)
 
 pub returns-clause-heard : goal.returns-clause-heard
 returns-clause-heard g c =

@@ -50,29 +50,29 @@ pub returns-in_err-settle_and_tell-clause-stays : goal.returns-in_err-settle_and
 returns-in_err-settle_and_tell-clause-stays g c =
     (stays_on g.L.Sink.made_as g.L.Sink.faults c.args.log.now c.loop.log c.settle_and_tell.new.log c.loop.invariant.stays c.settle_and_tell.ensures.stays)
 
-pub verdict_in-requires : goal.verdict_in-requires
-verdict_in-requires g c =
+pub verdict_shown-requires : goal.verdict_shown-requires
+verdict_shown-requires g c =
     search rules
 
-pub returns-in_err-verdict_in-clause-stops : goal.returns-in_err-verdict_in-clause-stops
-returns-in_err-verdict_in-clause-stops g c =
-    from_err c.from_residual-in_err-verdict_in.result (stop.Broken Memory) (StopsServing g.L.Sink.written c.args.core.now (given g.K.Sink.written c.args.out.now c.args.log.now) c.args.telling.now c.settle_and_tell.new.core (given g.K.Sink.written c.settle_and_tell.new.out c.settle_and_tell.new.log) c.settle_and_tell.new.telling c.loop.readings.items) c.from_residual-in_err-verdict_in.ensures.1
+pub returns-in_err-verdict_shown-clause-stops : goal.returns-in_err-verdict_shown-clause-stops
+returns-in_err-verdict_shown-clause-stops g c =
+    from_err c.from_residual-in_err-verdict_shown.result (stop.Broken Memory) (StopsServing g.L.Sink.written c.args.core.now (given g.K.Sink.written c.args.out.now c.args.log.now) c.args.telling.now c.settle_and_tell.new.core (given g.K.Sink.written c.settle_and_tell.new.out c.settle_and_tell.new.log) c.settle_and_tell.new.telling c.loop.readings.items) c.from_residual-in_err-verdict_shown.ensures.1
     (breaks_then g.L.Sink.written c.args.core.now c.settle_and_tell.new.core c.settle_and_tell.new.core (given g.K.Sink.written c.args.out.now c.args.log.now) (given g.K.Sink.written c.settle_and_tell.new.out c.settle_and_tell.new.log) (given g.K.Sink.written c.settle_and_tell.new.out c.settle_and_tell.new.log) c.args.telling.now c.settle_and_tell.new.telling c.settle_and_tell.new.telling Memory (serves_both g.L.Sink.written c.args.core.now c.loop.core c.settle_and_tell.new.core (given g.K.Sink.written c.args.out.now c.args.log.now) (given g.K.Sink.written c.loop.out c.loop.log) (given g.K.Sink.written c.settle_and_tell.new.out c.settle_and_tell.new.log) c.args.telling.now c.loop.telling c.settle_and_tell.new.telling c.loop.invariant.serves c.in_ok-settle_and_tell.ensures.serves) (here_breaks g.L.Sink.written c.settle_and_tell.new.core (given g.K.Sink.written c.settle_and_tell.new.out c.settle_and_tell.new.log) c.settle_and_tell.new.telling Memory))
 
-pub returns-in_err-verdict_in-clause-heard : goal.returns-in_err-verdict_in-clause-heard
-returns-in_err-verdict_in-clause-heard g c =
+pub returns-in_err-verdict_shown-clause-heard : goal.returns-in_err-verdict_shown-clause-heard
+returns-in_err-verdict_shown-clause-heard g c =
     heard_kept c.loop.core.arbiter.records c.settle_and_tell.new.core.arbiter.records c.loop.readings.items c.settle_and_tell.ensures.items c.loop.invariant.heard
 
-pub returns-in_err-verdict_in-clause-cause : goal.returns-in_err-verdict_in-clause-cause
-returns-in_err-verdict_in-clause-cause g c =
-    from_err c.from_residual-in_err-verdict_in.result (stop.Broken Memory) (StopIsCaused g.K.Sink.faults g.L.Sink.faults c.args.out.now c.settle_and_tell.new.out c.args.log.now c.settle_and_tell.new.log) c.from_residual-in_err-verdict_in.ensures.1 tt
+pub returns-in_err-verdict_shown-clause-cause : goal.returns-in_err-verdict_shown-clause-cause
+returns-in_err-verdict_shown-clause-cause g c =
+    from_err c.from_residual-in_err-verdict_shown.result (stop.Broken Memory) (StopIsCaused g.K.Sink.faults g.L.Sink.faults c.args.out.now c.settle_and_tell.new.out c.args.log.now c.settle_and_tell.new.log) c.from_residual-in_err-verdict_shown.ensures.1 tt
 
-pub returns-in_err-verdict_in-clause-counts : goal.returns-in_err-verdict_in-clause-counts
-returns-in_err-verdict_in-clause-counts g c =
+pub returns-in_err-verdict_shown-clause-counts : goal.returns-in_err-verdict_shown-clause-counts
+returns-in_err-verdict_shown-clause-counts g c =
     (omega (arith, c.loop.invariant.counts, c.settle_and_tell.ensures.counts))
 
-pub returns-in_err-verdict_in-clause-stays : goal.returns-in_err-verdict_in-clause-stays
-returns-in_err-verdict_in-clause-stays g c =
+pub returns-in_err-verdict_shown-clause-stays : goal.returns-in_err-verdict_shown-clause-stays
+returns-in_err-verdict_shown-clause-stays g c =
     (stays_on g.L.Sink.made_as g.L.Sink.faults c.args.log.now c.loop.log c.settle_and_tell.new.log c.loop.invariant.stays c.settle_and_tell.ensures.stays)
 
 pub returns-then-eq-clause-tells : goal.returns-then-eq-clause-tells

@@ -1,5 +1,8 @@
-use Rattle.bp_told.specs.Told.{given}
+use Rattle.bp_told.specs.Told.{given, WritesAll}
 use Rattle.bp_told.proofs.Logging.{log_same}
+use Rattle.bp_turns.proofs.Settled.{ok_map}
+use Rattle.bp_session.specs.Serving.{StillTold}
+use Rattle.bp_session.proofs.Tells.{write_still}
 use Rattle.bp_session.proofs.Rounds.{still_none, unwritten_all}
 use Rattle.bp_session.proofs.serving.write_where.Goals as goal
 
@@ -14,3 +17,12 @@ returns-then-not-heard-clause-stays g c =
 pub returns-clause-stops : goal.returns-clause-stops
 returns-clause-stops g c =
     unwritten_all g.L.Sink.written (given g.K.Sink.written c.args.out.now c.args.log.now) (given g.K.Sink.written c.write.new.out c.write.new.log) c.args.telling.now c.write.new.telling c.write.result c.write.ensures.unwritten c.write.ensures.part
+
+pub returns-clause-still : goal.returns-clause-still
+returns-clause-still g c =
+    ok_map c.write.result (WritesAll g.L.Sink.written (given g.K.Sink.written c.args.out.now c.args.log.now) c.args.telling.now (given g.K.Sink.written c.write.new.out c.write.new.log) c.write.new.telling)
+    (StillTold g.L.Sink.written (given g.K.Sink.written c.args.out.now c.args.log.now) c.args.telling.now (given g.K.Sink.written c.write.new.out c.write.new.log) c.write.new.telling)
+    (write_still g.L.Sink.written (given g.K.Sink.written c.args.out.now c.args.log.now) (given g.K.Sink.written c.write.new.out c.write.new.log) c.args.telling.now c.write.new.telling) c.write.ensures.all
+
+pub returns-clause-all : goal.returns-clause-all
+returns-clause-all g c = ok_map c.write.result _ _ (λ h yes. h) c.write.ensures.all

@@ -1,10 +1,7 @@
 use Rattle.bp_told.specs.Told.{given}
 use Rattle.bp_session.proofs.Causes.{caused_at}
-use Rattle.bp_session.proofs.Tells.{write_still, write_part}
+use Rattle.bp_session.proofs.Tells.{write_part}
 use Rattle.bp_session.proofs.telling.write.Goals as goal
-
-pub returns-in-Ok-clause-still : goal.returns-in-Ok-clause-still
-returns-in-Ok-clause-still g c = write_still g.L.Sink.written (given g.K.Sink.written c.args.out.now c.args.log.now) (given g.K.Sink.written c.flush.new.out c.flush.new.log) c.args.telling.now c.flush.new.self c.in-Ok.ensures.all
 
 pub returns-in-Err-clause-part : goal.returns-in-Err-clause-part
 returns-in-Err-clause-part g c = write_part g.L.Sink.written (given g.K.Sink.written c.args.out.now c.args.log.now) (given g.K.Sink.written c.flush.new.out c.flush.new.log) c.args.telling.now c.flush.new.self c.flush.ensures.part

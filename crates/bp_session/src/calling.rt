@@ -1,0 +1,53 @@
+//! How a session is woken by its injectors, and wakes them.
+use bp_lanes::{Bell, Rope, Wake};
+use std::sync::Wait;
+use std::thread::Threads;
+
+/// Once so many items entered the injectors are woken. Each lane has room for as many, and an injector waits
+/// only where its lane is full: so it is woken at the latest when its lane was emptied.
+const ENOUGH: usize = 64;
+
+/// The rope by which a session and its injectors wake one another, and how many items entered since it was
+/// last rung. A ring wakes all who wait for a place, and who is woken for a single one soon waits again: so
+/// it is rung only now and then.
+#[derive(Drop)]
+pub(crate) struct Calls<'a> {
+    rope: Rope<'a>,
+    unrung: usize,
+}
+
+impl<'a> Calls<'a> {
+    /// Those by this bell. Nothing entered.
+    pub(crate) fn new(bell: &'a Bell) -> Calls<'a> {
+        Calls {
+            rope: Rope::new(bell),
+            unrung: 0,
+        }
+    }
+
+    /// Whether the bell was halted.
+    pub(crate) fn halted<R: Threads + Wait + Sync>(&mut self, rt: &R) -> bool {
+        self.rope.halted(rt)
+    }
+
+    /// Waits until an injector rings.
+    pub(crate) fn wait<R: Threads + Wait + Sync>(&mut self, rt: &R) {
+        self.rope.wait(rt);
+    }
+
+    /// So many items entered, which left as many places free. Who waits for one is woken where they are
+    /// enough, and at once where who serves may wait for a source.
+    pub(crate) fn entered<R: Threads + Wait + Sync>(
+        &mut self,
+        rt: &R,
+        count: usize,
+        at_once: bool,
+    ) {
+        self.unrung = self.unrung.saturating_add(count);
+        let enough = if at_once { 1 } else { ENOUGH };
+        if self.unrung >= enough {
+            self.rope.ring(rt);
+            self.unrung = 0;
+        }
+    }
+}
