@@ -143,7 +143,7 @@ large() {
 passed=0
 failed=0
 for what in registering forty endless large sixteen overtaken bad_line standard_input refused_injectors reader_leaves answered \
-    sleeping killed live; do
+    sleeping killed live answered_without_threads requested_without_threads silent_without_threads; do
     if "$what"; then passed=$((passed + 1)); else failed=$((failed + 1)); fi
 done
 for script in "$top"/examples/*.js; do

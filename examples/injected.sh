@@ -249,6 +249,49 @@ killed() (
     comes 11 'bad log: cut'
 )
 
+# refuses_threads: from here on no thread can be made, since the stack of each would be larger than what a process can have
+refuses_threads() {
+    ulimit -s 100000000000
+}
+
+# each line is answered before the next one comes, by a run that has one thread alone
+answered_without_threads() (
+    watching
+    refuses_threads && begins watching "$got/fifo" || exit 1
+    exec 5<> "$got/fifo"
+    for number in 1 2 3; do
+        echo "[\"a\",$number]" >&5
+        hears "external [\"a\",$number]" || exit 1
+    done
+    for process in "$run" $(cat "/proc/$run/task/$run/children" 2> /dev/null); do
+        grep -q '^Threads:[^0-9]1$' "/proc/$process/status" || { echo "$what: there are threads"; exit 1; }
+    done
+    exec 5>&-
+    hears 'verdict quiet 3' && wait "$run"
+)
+
+# what the script requests comes before anything is waited for
+requested_without_threads() (
+    echo 'bp.registerBThread("A", () => { bp.sync({request: bp.Event("e")}) })' > "$got/requests.js"
+    refuses_threads && begins requests "$got/fifo" || exit 1
+    exec 5<> "$got/fifo"
+    hears 'event ["e"]' 'done "A"' || exit 1
+    exec 5>&-
+    hears 'verdict quiet 1' && wait "$run"
+)
+
+# an injector that sleeps holds up the others, and no more than that
+silent_without_threads() (
+    watching
+    refuses_threads && begins watching "$got/silent" "$got/fifo" || exit 1
+    exec 5<> "$got/silent" 6<> "$got/fifo"
+    echo '["b",1]' >&6
+    echo '["a",1]' >&5
+    hears 'external ["a",1]' 'external ["b",1]' || exit 1
+    exec 5>&- 6>&-
+    hears 'verdict quiet 2' && wait "$run"
+)
+
 # the thermostat, fed line by line
 live() {
     BP="$BP" sh "$top/examples/live.sh" > "$got/trace" 2> "$got/note" && return
