@@ -1,9 +1,9 @@
 -- How bytes are cut into lines, and what the items of a first line are.
 use Rattle.std.proofs.Common.{◌≡◌, ℕ, zero, suc, ◌+◌, ◌<◌, ◌≤◌, Bool, true, false, List, [], ◌∷◌, ◌++◌, Option, Some, None, length, take, drop, option_to_list, refl, sym, ap, ◌∙◌, append_assoc, length-append, length-take-le, arith}
-use Rattle.std.specs.Prelude.{◌==◌, nat_lt, slice_index, if◌then◌else◌}
-use Rattle.std.proofs.lemmas.Bool.{or_parts, or_from, or_left, or_right, false_from_ne_true}
+use Rattle.std.specs.Prelude.{◌==◌, ◌||◌, nat_lt, slice_index, if◌then◌else◌}
+use Rattle.std.proofs.lemmas.Bool.{or_parts, or_from, or_left, or_right, false_from_ne_true, ltb-true, ltb-false}
 use Rattle.std.proofs.lemmas.Bool.Decides.{nat_tests}
-use Rattle.std.proofs.lemmas.List.{take-append-drop}
+use Rattle.std.proofs.lemmas.List.{take-append-drop, drop_all}
 use Rattle.std.proofs.lemmas.List.Folds.{list_any-append}
 use Rattle.js_data.specs.Event.{PlainEvent}
 use Rattle.js_json.specs.Json.{event_at}
@@ -15,6 +15,18 @@ use Rattle.bp_feeds.specs.Items.{is_break, has_break, before_lines, lines_of, be
 
 pub unbroken_both : (xs ys : List ℕ) → has_break xs ≡ false → has_break ys ≡ false → has_break (xs ++ ys) ≡ false
 unbroken_both xs ys a b = list_any-append is_break xs ys ∙ or_from (has_break xs) (has_break ys) a b
+
+stopped_at : (n : ℕ) (block : List ℕ) → (n < length block → (rest : List ℕ) × (drop n block ≡ 10 ∷ rest)) → (b : Bool) → nat_lt n (length block) ≡ b → has_break (drop n block) ≡ b
+stopped_at n block stops true h = let r = stops (ltb-true n (length block) h) in ap has_break r.1
+stopped_at n block stops false h = ap has_break (drop_all n block (ltb-false n (length block) h))
+
+-- behind a line without LF, a block has one exactly where what stands before its first stops short of its end
+pub breaks_at : (line block : List ℕ) (n : ℕ) → has_break line ≡ false → has_break (take n block) ≡ false → (n < length block → (rest : List ℕ) × (drop n block ≡ 10 ∷ rest)) → nat_lt n (length block) ≡ has_break (line ++ block)
+breaks_at line block n unbroken front stops =
+    let behind : has_break block ≡ nat_lt n (length block) =
+    ap has_break (sym (take-append-drop n block)) ∙ list_any-append is_break (take n block) (drop n block)
+    ∙ ap (λ b. b || has_break (drop n block)) front ∙ stopped_at n block stops (nat_lt n (length block)) refl in
+    sym (list_any-append is_break line block ∙ ap (λ b. b || has_break block) unbroken ∙ behind)
 
 pub moved : (line block : List ℕ) (n : ℕ) → (line ++ take n block) ++ drop n block ≡ line ++ block
 moved line block n = append_assoc line (take n block) (drop n block) ∙ ap (λ l. line ++ l) (take-append-drop n block)

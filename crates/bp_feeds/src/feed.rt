@@ -2,7 +2,7 @@
 ghost use Rattle.std.specs.Prelude.{◌≡◌, ◌⊎◌, ◌↔◌, ◌+◌, ◌≤◌, [], ◌∷◌, ◌++◌, Option, option_to_list, None, Ok, true, false, ◌&&◌, IfOk, OnErr, IsSome};
 ghost use Rattle.std.specs.Option.{is_some};
 ghost use Rattle.bp_lanes.specs.Lanes.{offered, free_places, IsSameMouth};
-ghost use Rattle.bp_feeds.specs.Items.{is_last, ends, has_line};
+ghost use Rattle.bp_feeds.specs.Items.{is_last, ends, has_break, has_line};
 ghost use Rattle.bp_feeds.specs.Reading.{is_read, IsSameReading, PassesLine};
 
 use crate::line_reader::LineReader;
@@ -66,6 +66,13 @@ impl<S: Source> Feed<S> {
         ensures { result ≡ feed_is_over self.now }
     {
         self.lines.is_read() && self.kept.is_none()
+    }
+
+    /// Whether a whole line is held: then the next turn asks the source for nothing. Takes no memory.
+    pub fn holds_line(&self) -> bool
+        ensures { result ≡ has_break (held self.now.lines) }
+    {
+        self.lines.holds_line()
     }
 
     /// Offers the item, or keeps it.

@@ -66,6 +66,14 @@ impl<S: Source> LineReader<S> {
         }
     }
 
+    /// Whether a whole line is held. Takes no memory.
+    pub fn holds_line(&self) -> bool
+        ensures { result ≡ has_break (held self.now) }
+    {
+        let rest = self.block.rest();
+        length_of_front(rest) < rest.len()
+    }
+
     /// Moves bytes from the block to the line, up to the first LF.
     fn move_front(&mut self) -> Result<Moved, Memory>
         ensures same { held self.new ≡ held self.old }

@@ -21,8 +21,37 @@ pub enum Injected {
     Halted,
 }
 
-/// Makes turns of the feed until it is over or there is a halt, rings after each turn that went on, and
-/// waits while an item finds no place. Halted, it reads no further line: where its wake was found
+/// Rings, unless a whole line is held, whose turn will come without asking the source. True where it
+/// did not ring.
+fn ring_where<S: Source, W: Wake, R: Threads + Wait + Sync>(
+    rt: &R,
+    feed: &Feed<S>,
+    wake: &mut W,
+) -> bool
+    ensures found { W.halts wake.new ≡ W.halts wake.old }
+    ensures ordered { W.orders wake.new ≡ W.orders wake.old }
+{
+    if feed.holds_line() {
+        return true;
+    }
+    wake.ring(rt);
+    false
+}
+
+/// Rings, where that is owed, and waits. Who was woken and found no place rings no more: else those who
+/// wait for one would wake each other.
+fn ring_and_wait<W: Wake, R: Threads + Wait + Sync>(rt: &R, owed: bool, wake: &mut W)
+    ensures found { W.halts wake.new ≡ W.halts wake.old }
+    ensures ordered { W.orders wake.new ≡ W.orders wake.old }
+{
+    if owed {
+        wake.ring(rt);
+    }
+    wake.wait(rt);
+}
+
+/// Makes turns of the feed until it is over or there is a halt. Rings before the source is asked, so
+/// that all that came is heard, and where an item finds no place, for which it waits. Halted, it reads no further line: where its wake was found
 /// halted before, it reads nothing.
 ///
 /// # Errors
@@ -47,6 +76,7 @@ pub fn inject<S: Source, W: Wake, R: Threads + Wait + Sync>(
     ensures memory { OnErr result (Rose (W.orders wake.old) (W.orders wake.new)) }
     ensures spares { OnOk result (W.orders wake.new ≡ W.orders wake.old) }
 {
+    let mut owed = false;
     for _ in rt.forever() {
         if wake.halted(rt) {
             return Ok(Injected::Halted);
@@ -56,8 +86,13 @@ pub fn inject<S: Source, W: Wake, R: Threads + Wait + Sync>(
                 wake.ring(rt);
                 return Ok(Injected::Over);
             }
-            Ok(Fed::Went) => wake.ring(rt),
-            Ok(Fed::Full) => wake.wait(rt),
+            Ok(Fed::Went) => {
+                owed = ring_where(rt, feed, wake);
+            }
+            Ok(Fed::Full) => {
+                ring_and_wait(rt, owed, wake);
+                owed = false;
+            }
             Err(refused) => {
                 wake.halt(rt);
                 return Err(refused);

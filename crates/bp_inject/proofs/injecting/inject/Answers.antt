@@ -45,26 +45,26 @@ loop-init g c = record {
 pub loop-preserved-in-Ok-Went : goal.loop-preserved-in-Ok-Went
 loop-preserved-in-Ok-Went g c =
     let going : is_over c.turn.new.self ≡ false = search rules in
-    let halts : g.W.Wake.halts c.args.wake.now ≤ g.W.Wake.halts c.ring-in-Ok-Went.new.self = search rules in
+    let halts : g.W.Wake.halts c.args.wake.now ≤ g.W.Wake.halts c.ring_where-owed.new.wake = search rules in
     let none : c.halted.result ≡ false = search rules in
     record {
       goes_on = goes_on g.S.Source.left g.S.Source.faults c.args.feed.now c.loop.feed c.turn.new.self c.loop.invariant.goes_on c.turn.ensures.goes_on;
       going = going;
       halts = halts;
-      orders = c.ring-in-Ok-Went.ensures.ordered ∙ c.halted.ensures.ordered ∙ c.loop.invariant.orders;
+      orders = c.ring_where-owed.ensures.ordered ∙ c.halted.ensures.ordered ∙ c.loop.invariant.orders;
       stays = λ h. absurd (both_ways c.halted.result none (c.halted.ensures.stays (omega (arith, h, c.loop.invariant.halts))));
     }
 
 pub loop-preserved : goal.loop-preserved
 loop-preserved g c =
     let going : is_over c.turn.new.self ≡ false = search rules in
-    let halts : g.W.Wake.halts c.args.wake.now ≤ g.W.Wake.halts c.wait.new.self = search rules in
+    let halts : g.W.Wake.halts c.args.wake.now ≤ g.W.Wake.halts c.ring_and_wait.new.wake = search rules in
     let none : c.halted.result ≡ false = search rules in
     record {
       goes_on = goes_on g.S.Source.left g.S.Source.faults c.args.feed.now c.loop.feed c.turn.new.self c.loop.invariant.goes_on c.turn.ensures.goes_on;
       going = going;
       halts = halts;
-      orders = c.wait.ensures.ordered ∙ c.halted.ensures.ordered ∙ c.loop.invariant.orders;
+      orders = c.ring_and_wait.ensures.ordered ∙ c.halted.ensures.ordered ∙ c.loop.invariant.orders;
       stays = λ h. absurd (both_ways c.halted.result none (c.halted.ensures.stays (omega (arith, h, c.loop.invariant.halts))));
     }
 
