@@ -11,3 +11,5 @@ pub mod Putting
 pub mod Leaving
 pub mod Telling
 pub mod Noting
+pub mod Heeding
+pub mod Finding

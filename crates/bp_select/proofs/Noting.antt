@@ -42,7 +42,7 @@ noted_put n o ts us sets changed h k = record { each = λ m. by m (cases_eq n m)
     by m (inr q) (inl c) = inl (Contains-append_left changed (n ∷ []) m c)
     by m (inr q) (inr e) = inr (e ∙ sym (ap (λ (xs : List (Live PlainSet)). block_at xs m) h ∙ block_placed n m o ts q))
 
-noted_more : (n : ℕ) (ts us : List (Live PlainSet)) (sets : Sets) (changed : List ℕ) → us ≡ ts → IsNoted ts sets changed → IsNoted us sets (changed ++ n ∷ [])
+pub noted_more : (n : ℕ) (ts us : List (Live PlainSet)) (sets : Sets) (changed : List ℕ) → us ≡ ts → IsNoted ts sets changed → IsNoted us sets (changed ++ n ∷ [])
 noted_more n ts us sets changed h k = record { each = λ m. by m (k.each m) }
   where
     by : (m : ℕ) → Contains changed m ⊎ (sets m ≡ block_at ts m) → Contains (changed ++ n ∷ []) m ⊎ (sets m ≡ block_at us m)

@@ -1,7 +1,8 @@
 -- What a hasher is fed for an event: equal events are fed alike, and those that differ in a leaf are
 -- not.
-use Rattle.std.specs.Prelude.{ℕ, List, [], ◌++◌, Option, Some, None}
+use Rattle.std.specs.Prelude.{ℕ, List, [], ◌++◌, Option, Some, None, fold}
 use Rattle.std.specs.Hash as fed
+use Rattle.std.specs.Hash.FoldHasher.{initial, write, finish}
 use Rattle.js_data.specs.Data.{PlainData, null, truth, whole, words, list, fields, DataList, no_data, item, DataFields, no_fields, field}
 use Rattle.js_data.specs.Event.{PlainEvent}
 
@@ -29,3 +30,7 @@ extra_writes (Some d) = data_writes d
 
 abbrev pub event_writes : PlainEvent → List (List ℕ)
 event_writes e = fed.str e.name ++ extra_writes e.extra
+
+-- a hash of the event
+abbrev pub event_key : PlainEvent → ℕ
+event_key e = finish (fold write initial (event_writes e))

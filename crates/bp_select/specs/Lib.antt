@@ -11,5 +11,6 @@ pub mod Blocking
 pub mod Blocks
 pub mod Touches
 pub mod Free
+pub mod Heeding
 pub mod Places
 pub mod Lists

@@ -13,8 +13,8 @@ ghost use Rattle.bp_select.specs.Answers.{AnswersAs, AnswersReach, IsWithin, cho
 
 use crate::asking::blocker;
 use crate::block_sets::Blocks;
+use crate::heeds::Heeds;
 use crate::placing::StatedList;
-use crate::reaching::reach;
 use crate::selecting::{chosen, selectable};
 use crate::settling::settle;
 use crate::{Choice, Draw, Enabled, Reach, SelectFault};
@@ -47,6 +47,8 @@ pub struct Bench {
     blocks: Blocks,
     /// The numbers whose block sets may have changed since they were noted.
     changed: Vec<u32>,
+    /// Whom an event may touch. Only how fast they are found rests on it.
+    heeds: Heeds,
 }
 
 impl Model for Bench {
@@ -54,7 +56,7 @@ impl Model for Bench {
     ghost use Rattle.js_data.specs.Codes.{event_code};
     ghost use Rattle.js_value.specs.Codes.{set_code};
     ghost use Rattle.bp_select.specs.Benches.{PlainBench};
-    ghost use Rattle.bp_select.specs.Blocks.{IsNoted};
+    ghost use Rattle.bp_select.specs.Heeding.{AreKept};
     ghost use Rattle.bp_known.specs.Known.{sets_in};
 
     ghost Value = { PlainBench };
@@ -63,7 +65,7 @@ impl Model for Bench {
 
     ghost view = { λ b. record { live = b.live.live; sets = b.blocks.sets; told = b.blocks.told } };
 
-    ghost invariant = { λ b. IsNoted b.live.live (sets_in b.blocks.sets) b.changed.items };
+    ghost invariant = { λ b. AreKept b.live.live (sets_in b.blocks.sets) b.changed.items b.heeds };
 }
 
 impl Bench {
@@ -76,6 +78,7 @@ impl Bench {
             live: StatedList::new(alloc),
             blocks: Blocks::new(alloc),
             changed: Vec::new(alloc),
+            heeds: Heeds::new(alloc),
         }
     }
 
@@ -92,6 +95,7 @@ impl Bench {
             Fits self.old base budget → Fits self.new base budget }
     {
         self.changed.push(number)?;
+        self.heeds.note(number)?;
         self.live.place(number, statement)
     }
 
@@ -193,7 +197,8 @@ impl Bench {
         ensures fits { Fits self.new (plain_ground ground.now) budget }
     {
         self.live.tidy();
-        reach(alloc, ground, budget, self.live.as_slice(), event)
+        let live = self.live.as_slice();
+        self.heeds.reach(alloc, ground, budget, live, event)
     }
 
     /// The first live b-thread whose block set has the event.

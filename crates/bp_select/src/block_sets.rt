@@ -18,7 +18,7 @@ use crate::SelectFault;
 use crate::asking::blocked_by;
 use crate::bench::Stated;
 use crate::candidate::{Candidate, keep_if};
-use crate::key::Key;
+use crate::key::hash_of;
 use bp_known::{Known, Told, renew};
 use bp_log::Memory;
 use indexmap::IndexMap;
@@ -26,7 +26,6 @@ use js_data::Event;
 use js_frames::Ground;
 use js_value::{EventSet, SetTree};
 use std::alloc::Global;
-use std::hash::{FoldHasher, Hash, Hasher};
 use std::marker::Model;
 use std::mem;
 
@@ -61,13 +60,6 @@ impl Model for Blocks {
     ghost coded = { Prim.hlevel (codes, event_code, set_code) };
 
     ghost view = { λ b. record { sets = b.sets.entries; told = b.told.items } };
-}
-
-/// A hash of the event.
-fn hash_of(event: &Event) -> u64 {
-    let mut state = FoldHasher::default();
-    Key { event }.hash(&mut state);
-    state.finish()
 }
 
 /// 0 where the set is an event or nothing, and 1 where it is more.

@@ -1,11 +1,12 @@
 //! Events as keys of maps.
+ghost use Rattle.std.specs.Prelude.{◌≡◌};
 ghost use Rattle.js_data.specs.Event.{same_event};
-ghost use Rattle.bp_select.specs.Feeding.{event_writes};
+ghost use Rattle.bp_select.specs.Feeding.{event_key, event_writes};
 ghost use Rattle.bp_select.specs.Keys.{same_partial, same_equivalence, same_writes};
 
 use crate::feeding::feed;
 use js_data::Event;
-use std::hash::{Hash, Hasher};
+use std::hash::{FoldHasher, Hash, Hasher};
 
 /// An event as a key of a map. Two keys are equal exactly where their events are.
 #[derive(Clone, Copy)]
@@ -39,4 +40,13 @@ impl<'a> Hash for Key<'a> {
             feed(data, state);
         }
     }
+}
+
+/// A hash of the event.
+pub(crate) fn hash_of(event: &Event) -> u64
+    ensures { result ≡ event_key event.now }
+{
+    let mut state = FoldHasher::default();
+    Key { event }.hash(&mut state);
+    state.finish()
 }

@@ -1,8 +1,8 @@
 //! Which event comes next: the statements of the live b-threads on a bench, what can be selected
 //! of them and of the queue, which event is chosen, and whom it reaches.
 //!
-//! What the block sets answered of an event is kept until one of them changes; all else is asked
-//! afresh at each question.
+//! What the block sets answered of an event is kept until one of them changes. Whom an event reaches
+//! is asked of those alone whose statements name it, and of those whose sets are no lists of events.
 #![tactic(auto)]
 
 mod answers;
@@ -14,7 +14,9 @@ mod candidates;
 mod choosing;
 mod draw;
 mod feeding;
+mod heeds;
 mod key;
+mod keys;
 mod placing;
 mod reaching;
 mod selecting;

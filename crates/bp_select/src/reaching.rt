@@ -1,10 +1,14 @@
 //! Whom an event reaches.
-ghost use Rattle.std.specs.Prelude.{◌≡◌, ◌++◌, map, filter_map, option_to_list, OnOk};
+ghost use Rattle.std.specs.Prelude.{◌≡◌, ◌<◌, ◌≤◌, ◌⊎◌, ◌++◌, ℕ, false, get_or, length, map, filter_map, option_to_list, true, OnOk};
+ghost use Rattle.std.specs.List.Sorted.{IsNonDecreasing};
 ghost use Rattle.js_frames.specs.Places.{plain_ground};
 ghost use Rattle.bp_meaning.specs.Membership.{member};
 ghost use Rattle.bp_run.specs.Choosing.{touched, reach};
 ghost use Rattle.bp_select.specs.Lives.{live_of};
-ghost use Rattle.bp_select.specs.Answers.{AnswersAs, AnswersReach, move_of, interrupt_of};
+ghost use Rattle.bp_roll.specs.Rolls.{is_in};
+ghost use Rattle.bp_select.specs.declared.bench.Stated.{Stated};
+ghost use Rattle.bp_select.specs.Answers.{AddsTouch, AnswersAs, AnswersReach, move_of, interrupt_of};
+ghost use Rattle.bp_select.specs.Heeding.{Stays};
 ghost use Rattle.bp_select.specs.Touches.{touch_as};
 
 use crate::asking::ask;
@@ -71,6 +75,27 @@ fn note(reach: &mut Reach, number: u32, touch: Touch) -> Result<(), Memory>
     Ok(())
 }
 
+/// Notes what the event does to the b-thread at this place.
+fn ask_at(
+    alloc: Global,
+    ground: &Ground,
+    budget: u64,
+    live: &[Stated],
+    place: usize,
+    event: &Event,
+    reach: &mut Reach,
+) -> Result<(), SelectFault>
+    requires { place < length live.now }
+    ensures { (d : Stated) → let t = live_of (get_or live.now place d) in
+        AddsTouch (touched (member (plain_ground ground.now) budget) event.now t) reach.old
+        reach.new result }
+{
+    let stated = &live[place];
+    let touch = touch_of(alloc, ground, budget, stated, event)?;
+    note(reach, stated.number, touch)?;
+    Ok(())
+}
+
 /// Whom the event reaches.
 pub(crate) fn reach(
     alloc: Global,
@@ -89,6 +114,43 @@ pub(crate) fn reach(
     for stated in live {
         let touch = touch_of(alloc, ground, budget, stated, event)?;
         note(&mut reached, stated.number, touch)?;
+    }
+    Ok(reached)
+}
+
+/// Whether a place is one of those from the first on, before the last.
+fn is_between(place: usize, first: usize, last: usize) -> bool
+    ensures yes { result ≡ true → (first ≤ place) × (place < last) }
+    ensures no { result ≡ false → (place < first) ⊎ (last ≤ place) }
+{
+    first <= place && place < last
+}
+
+/// Whom the event reaches, where it may touch those at these places alone.
+pub(crate) fn reach_at(
+    alloc: Global,
+    ground: &Ground,
+    budget: u64,
+    live: &[Stated],
+    places: &[usize],
+    event: &Event,
+) -> Result<Reach, SelectFault>
+    requires order { IsNonDecreasing places.now }
+    requires others { (i : ℕ) (d : Stated) → i < length live.now →
+        (is_in i places.now ≡ true) ⊎ Stays event.now (live_of (get_or live.now i d)) }
+    ensures { AnswersReach
+        (reach (member (plain_ground ground.now) budget) event.now (map live_of live.now)) result }
+{
+    let mut reached = Reach {
+        moved: Vec::new(alloc),
+        interrupted: Vec::new(alloc),
+    };
+    let mut done = 0;
+    for place in places {
+        if is_between(*place, done, live.len()) {
+            ask_at(alloc, ground, budget, live, *place, event, &mut reached)?;
+            done = *place + 1;
+        }
     }
     Ok(reached)
 }

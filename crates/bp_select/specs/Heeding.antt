@@ -1,0 +1,54 @@
+-- Under which keys b-threads are noted, so that whoever an event touches is found by the event.
+use Rattle.std.specs.Prelude.{◌≡◌, ◌⊎◌, ℕ, Bool, false, true, List, [], ◌∷◌, Ok, None}
+use Rattle.js_data.specs.Event.{PlainEvent}
+use Rattle.js_value.specs.Value.{PlainSet}
+use Rattle.js_meaning.specs.State.{Ground}
+use Rattle.bp_meaning.specs.Membership.{member}
+use Rattle.bp_run.specs.Selecting.{Live}
+use Rattle.bp_run.specs.Choosing.{touched}
+use Rattle.bp_roll.specs.Rolls.{PlainRoll, is_in, is_noted}
+use Rattle.bp_select.specs.declared.heeds.Heeds as heeds
+use Rattle.bp_known.specs.Known.{Sets}
+use Rattle.bp_select.specs.Blocks as blocks
+use Rattle.bp_select.specs.Feeding.{event_key}
+
+-- the key of those that any event may touch
+abbrev pub any_key : ℕ
+any_key = 0
+
+-- the event does nothing to the b-thread, whatever the ground and the budget
+pub record Stays (e : PlainEvent) (t : Live PlainSet) : Type 0 where
+  pub each : (base : Ground) (budget : ℕ) → touched (member base budget) e t ≡ Ok None
+
+-- the keys have that of each event which the set may have, and no event puts the set at fault
+pub record HaveKeysOf (s : PlainSet) (ks : List ℕ) : Type 0 where
+  pub each : (base : Ground) (budget : ℕ) (e : PlainEvent) →
+      (is_in (event_key e) ks ≡ true) ⊎ (member base budget s e ≡ Ok false)
+
+-- at each event that touches the b-thread this holds of the event's key, or of the one for any event
+pub record HeedsAt (at : ℕ → Bool) (t : Live PlainSet) : Type 0 where
+  pub each : (e : PlainEvent) →
+      (at any_key ≡ true) ⊎ ((at (event_key e) ≡ true) ⊎ Stays e t)
+
+-- it is noted at the keys of all events that touch it
+abbrev pub IsNoted : PlainRoll → Live PlainSet → Type 0
+IsNoted r t = HeedsAt (λ k. is_noted r k t.number) t
+
+-- what holds of each
+abbrev pub Each : (Live PlainSet → Type 0) → List (Live PlainSet) → Type 0
+Each P [] = Unit {0}
+Each P (t ∷ ts) = P t × Each P ts
+
+-- each is noted, or is among the changed
+abbrev pub AreNoted : List (Live PlainSet) → PlainRoll → List ℕ → Type 0
+AreNoted ts r changed = Each (λ t. (is_in t.number changed ≡ true) ⊎ IsNoted r t) ts
+
+-- the same, where that is known of them at all
+abbrev pub WhereWhole : Bool → List (Live PlainSet) → PlainRoll → List ℕ → Type 0
+WhereWhole whole ts r changed = whole ≡ true → AreNoted ts r changed
+
+-- what is kept of the b-threads is so: which block sets they state, and whom an event may touch
+pub record AreKept (ts : List (Live PlainSet)) (sets : Sets) (changed : List ℕ) (h : heeds.Heeds)
+    : Type 0 where
+  pub blocking : blocks.IsNoted ts sets changed
+  pub heeding : WhereWhole h.whole ts h.roll h.changed.items

@@ -1,0 +1,230 @@
+//! Whom an event may touch, found by the keys under which the b-threads are noted.
+ghost use Rattle.std.specs.Prelude.{◌≡◌, ◌<◌, ◌⊎◌, ℕ, List, false, get_or, length, map, nat_eq, true, IfOk, OnOk};
+ghost use Rattle.std.specs.List.Sorted.{IsNonDecreasing};
+ghost use Rattle.js_frames.specs.Places.{plain_ground};
+ghost use Rattle.js_value.specs.Value.{PlainSet};
+ghost use Rattle.bp_meaning.specs.Membership.{member};
+ghost use Rattle.bp_roll.specs.Rolls.{is_in, is_noted};
+ghost use Rattle.bp_run.specs.Selecting.{Live};
+ghost use Rattle.bp_run.specs.Choosing.{reach};
+ghost use Rattle.bp_select.specs.declared.bench.Stated.{Stated};
+ghost use Rattle.bp_select.specs.Answers.{AnswersReach};
+ghost use Rattle.bp_select.specs.Heeding.{AreNoted, Each, HeedsAt, IsNoted, Stays, WhereWhole};
+ghost use Rattle.bp_select.specs.Lives.{live_of};
+ghost use Rattle.bp_select.specs.Places.{AreInOrder};
+
+use crate::bench::Stated;
+use crate::key::hash_of;
+use crate::keys::{ANY, keys_of};
+use crate::placing::{is_at, place_of};
+use crate::reaching::{reach, reach_at};
+use crate::{Reach, SelectFault};
+use bp_log::Memory;
+use bp_roll::Roll;
+use js_data::Event;
+use js_frames::Ground;
+use std::alloc::Global;
+
+/// So many b-threads are asked faster than it is found whom an event may touch.
+const FEW: usize = 32;
+
+/// Under which keys the live b-threads are noted.
+#[derive(Drop)]
+pub(crate) struct Heeds {
+    /// Who is noted under which keys.
+    pub roll: Roll,
+    /// The numbers whose statements may have changed since they were noted.
+    pub changed: Vec<u32>,
+    /// Whether all others are noted.
+    pub whole: bool,
+}
+
+/// The keys of the b-thread of this number, or none where it is not live. Its only error is want of
+/// memory.
+fn keys_at(alloc: Global, live: &[Stated], number: u32) -> Result<Vec<u64>, Memory>
+    requires { AreInOrder (map live_of live.now) }
+    ensures { IfOk result (λ ks.
+        Each (λ t. t.number ≡ number → HeedsAt (λ k. is_in k ks.items) t) (map live_of live.now)) }
+{
+    let at = place_of(live, number);
+    if !is_at(live, at, number) {
+        return Ok(Vec::new(alloc));
+    }
+    keys_of(alloc, &live[at])
+}
+
+/// The b-thread of this number is noted under its keys. Its only error is want of memory.
+fn settle_one(alloc: Global, live: &[Stated], roll: &mut Roll, number: u32) -> Result<(), Memory>
+    requires { AreInOrder (map live_of live.now) }
+    ensures noted { OnOk result
+        (Each (λ t. t.number ≡ number → IsNoted roll.new t) (map live_of live.now)) }
+    ensures others { (k n : ℕ) → nat_eq n number ≡ false → is_noted roll.old k n ≡ true →
+        is_noted roll.new k n ≡ true }
+{
+    let keys = keys_at(alloc, live, number)?;
+    roll.restate(alloc, number, keys)
+}
+
+/// The numbers of the b-threads. Its only error is want of memory.
+fn numbers_of(alloc: Global, live: &[Stated]) -> Result<Vec<u32>, Memory>
+    ensures { IfOk result (λ ns. Each (λ t. is_in t.number ns.items ≡ true) (map live_of live.now)) }
+{
+    let mut numbers = Vec::new(alloc);
+    for stated in live {
+        numbers.push(stated.number)?;
+    }
+    Ok(numbers)
+}
+
+/// Adds the places of those numbers. Its only error is want of memory.
+fn add_places(places: &mut Vec<usize>, live: &[Stated], numbers: &[u32]) -> Result<(), Memory>
+    requires { AreInOrder (map live_of live.now) }
+    ensures there { OnOk result ((i : ℕ) (d : Stated) → i < length live.now →
+        is_in (get_or live.now i d).number numbers.now ≡ true → is_in i places.new.items ≡ true) }
+    ensures others { (i : ℕ) → is_in i places.old.items ≡ true → is_in i places.new.items ≡ true }
+{
+    for number in numbers {
+        places.push(place_of(live, *number))?;
+    }
+    Ok(())
+}
+
+/// The places of those that the event may touch, in order. Its only error is want of memory.
+fn places_of(
+    alloc: Global,
+    live: &[Stated],
+    roll: &Roll,
+    event: &Event,
+) -> Result<Vec<usize>, Memory>
+    requires order { AreInOrder (map live_of live.now) }
+    requires noted { Each (λ t. IsNoted roll.now t) (map live_of live.now) }
+    ensures order { IfOk result (λ ps. IsNonDecreasing ps.items) }
+    ensures others { IfOk result (λ ps. (i : ℕ) (d : Stated) → i < length live.now →
+        (is_in i ps.items ≡ true) ⊎ Stays event.now (live_of (get_or live.now i d))) }
+{
+    let mut places = Vec::new(alloc);
+    add_places(&mut places, live, roll.at(hash_of(event)))?;
+    add_places(&mut places, live, roll.at(ANY))?;
+    places.sort()?;
+    Ok(places)
+}
+
+/// The b-threads of these numbers are noted as they are now. Its only error is want of memory.
+fn settle_all(
+    alloc: Global,
+    live: &[Stated],
+    roll: &mut Roll,
+    changed: &[u32],
+) -> Result<(), Memory>
+    requires order { AreInOrder (map live_of live.now) }
+    requires noted { AreNoted (map live_of live.now) roll.old changed.now }
+    ensures settled { OnOk result (Each (λ t. IsNoted roll.new t) (map live_of live.now)) }
+    ensures noted { AreNoted (map live_of live.now) roll.new changed.now }
+{
+    for number in changed {
+        settle_one(alloc, live, roll, *number)?;
+    }
+    Ok(())
+}
+
+impl Heeds {
+    /// Nobody is noted. Takes no memory.
+    pub fn new(alloc: Global) -> Heeds
+        ensures { result.whole ≡ false }
+    {
+        Heeds {
+            roll: Roll::new(alloc),
+            changed: Vec::new(alloc),
+            whole: false,
+        }
+    }
+
+    /// The statement of the b-thread of this number may change. Its only error is want of memory.
+    pub fn note(&mut self, number: u32) -> Result<(), Memory>
+        ensures noted { OnOk result
+            (self.new.whole ≡ true → is_in number self.new.changed.items ≡ true) }
+        ensures others { (ts : List (Live PlainSet)) →
+            WhereWhole self.old.whole ts self.old.roll self.old.changed.items →
+            WhereWhole self.new.whole ts self.new.roll self.new.changed.items }
+    {
+        if self.whole {
+            self.changed.push(number)?;
+        }
+        Ok(())
+    }
+
+    /// Whether it costs less to find whom an event may touch than to ask all of so many.
+    fn is_worth(&self, count: usize) -> bool {
+        let most = if self.whole { FEW / 2 } else { FEW };
+        count > most
+    }
+
+    /// All are noted anew, or are among the changed, if they were not. Its only error is want of
+    /// memory.
+    fn begin(&mut self, alloc: Global, live: &[Stated]) -> Result<(), Memory>
+        requires { WhereWhole self.old.whole (map live_of live.now) self.old.roll
+            self.old.changed.items }
+        ensures noted { OnOk result
+            (AreNoted (map live_of live.now) self.new.roll self.new.changed.items) }
+        ensures still { WhereWhole self.new.whole (map live_of live.now) self.new.roll
+            self.new.changed.items }
+    {
+        if self.whole {
+            return Ok(());
+        }
+        let numbers = numbers_of(alloc, live)?;
+        self.roll = Roll::new(alloc);
+        self.changed = numbers;
+        self.whole = true;
+        Ok(())
+    }
+
+    /// The changed are noted as they are now. Its only error is want of memory.
+    fn settle(&mut self, alloc: Global, live: &[Stated]) -> Result<(), Memory>
+        requires order { AreInOrder (map live_of live.now) }
+        requires noted { AreNoted (map live_of live.now) self.old.roll self.old.changed.items }
+        ensures settled { OnOk result (Each (λ t. IsNoted self.new.roll t) (map live_of live.now)) }
+        ensures noted { AreNoted (map live_of live.now) self.new.roll self.new.changed.items }
+        ensures whole { self.new.whole ≡ self.old.whole }
+    {
+        settle_all(alloc, live, &mut self.roll, self.changed.as_slice())?;
+        self.changed.clear();
+        Ok(())
+    }
+
+    /// Nobody counts as noted any more. Takes no memory.
+    fn rest(&mut self)
+        ensures { self.new.whole ≡ false }
+    {
+        self.whole = false;
+        self.changed.clear();
+    }
+
+    /// Whom the event reaches. Where b-threads are many, those alone are asked that it may touch.
+    pub fn reach(
+        &mut self,
+        alloc: Global,
+        ground: &Ground,
+        budget: u64,
+        live: &[Stated],
+        event: &Event,
+    ) -> Result<Reach, SelectFault>
+        requires order { AreInOrder (map live_of live.now) }
+        requires noted { WhereWhole self.old.whole (map live_of live.now) self.old.roll
+            self.old.changed.items }
+        ensures reached { AnswersReach
+            (reach (member (plain_ground ground.now) budget) event.now (map live_of live.now))
+            result }
+        ensures noted { WhereWhole self.new.whole (map live_of live.now) self.new.roll
+            self.new.changed.items }
+    {
+        if !self.is_worth(live.len()) {
+            self.rest();
+            return reach(alloc, ground, budget, live, event);
+        }
+        self.begin(alloc, live)?;
+        self.settle(alloc, live)?;
+        let places = places_of(alloc, live, &self.roll, event)?;
+        reach_at(alloc, ground, budget, live, places.as_slice(), event)
+    }
+}
