@@ -105,7 +105,7 @@ fn list_of(alloc: Global, items: &Vec<Json>) -> Result<Option<Vec<Data>>, Memory
     ensures { IfOk result (λ o. option_map (λ v. data_list_view v.items) o
         ≡ list_from (items_view items.now.items)) }
 {
-    let mut made = Vec::new(alloc);
+    let mut made = Vec::with_capacity(alloc, items.len())?;
     for item in items {
         match data_of(alloc, item)? {
             None => return Ok(None),
@@ -123,7 +123,7 @@ fn fields_of(
     ensures { IfOk result (λ o. option_map (λ v. data_fields_view v.items) o
         ≡ fields_from (members_view members.now.entries)) }
 {
-    let mut made = Vec::new(alloc);
+    let mut made = Vec::with_capacity(alloc, members.len())?;
     for (key, member) in members.iter() {
         match data_of(alloc, member)? {
             None => return Ok(None),
