@@ -22,6 +22,7 @@ options_of s injectors = record {
   budget = unwrap_or s.budget default_options.budget;
   steps = unwrap_or s.steps default_options.steps;
   injectors = injectors;
+  wait = unwrap_or s.wait default_options.wait;
 }
 
 -- what is said of workers and slice, each as where nothing is said if it is not
@@ -71,6 +72,7 @@ command_on verb.Run s program injectors = run_with s program injectors
 command_on verb.Replay s log more = Some (command.Replay log)
 command_on verb.Accept s program more = Some (command.Accept program)
 command_on verb.Large s number more = option_map command.Large (large_of number)
+command_on verb.Migrate s log more = Some (command.Migrate log)
 
 abbrev pub command_for : Verb → Said → List (List ℕ) → Option Command
 command_for v s [] = None

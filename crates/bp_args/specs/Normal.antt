@@ -1,6 +1,6 @@
 -- What a command says in the normal form, and the command that this says.
 use Rattle.std.specs.Prelude.{ℕ, List, [], ◌∷◌, Option, Some, None, option_and_then, decimal}
-use Rattle.bp_log.specs.Logs.{strategy_name}
+use Rattle.bp_log.specs.Logs.{strategy_name, wait_name}
 use Rattle.bp_matches.specs.declared.key.Key.{Key}
 use Rattle.bp_matches.specs.declared.values.Values.{Values}
 use Rattle.bp_matches.specs.Keys.{keys}
@@ -24,6 +24,7 @@ bare_values v name = record {
   steps = None;
   workers = None;
   slice = None;
+  wait = None;
   words = verb_name v ∷ name ∷ [];
 }
 
@@ -37,11 +38,13 @@ said_of (command.Run asked) = record {
   steps = Some (decimal asked.options.steps);
   workers = Some (decimal asked.beside.workers);
   slice = Some (decimal asked.beside.slice);
+  wait = Some (wait_name asked.options.wait);
   words = verb_name verb.Run ∷ asked.program ∷ asked.injectors;
 }
 said_of (command.Replay log) = bare_values verb.Replay log
 said_of (command.Accept program) = bare_values verb.Accept program
 said_of (command.Large n) = bare_values verb.Large (decimal n)
+said_of (command.Migrate log) = bare_values verb.Migrate log
 
 -- ---- back again
 

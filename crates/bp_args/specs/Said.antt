@@ -3,10 +3,10 @@ use Rattle.std.specs.Prelude.{ℕ, ◌&&◌, ◌||◌, ◌==◌, not, Bool, true
 use Rattle.std.specs.List.{list_all, position_or_len, before_first, after_first}
 use Rattle.std.specs.Option.{is_some}
 use Rattle.std.specs.Str.{all_ascii_digits, bytes_eq}
-use Rattle.bp_log.specs.Logs.{strategy_at}
+use Rattle.bp_log.specs.Logs.{strategy_at, wait_at}
 use Rattle.bp_reading.specs.Words.{value_on, most_32, most_64, behind}
 use Rattle.bp_matches.specs.declared.key.Key.{Key}
-use Rattle.bp_matches.specs.declared.key.Key.TheVariants.{Log, Strategy, Seed, Budget, Steps, Workers, Slice}
+use Rattle.bp_matches.specs.declared.key.Key.TheVariants.{Log, Strategy, Seed, Budget, Steps, Workers, Slice, Wait}
 use Rattle.bp_matches.specs.Keys.{keys, key_at}
 use Rattle.bp_args.specs.declared.said.TheConstants.{MOST_DIGITS}
 use Rattle.bp_args.specs.declared.said.Waiting.{Waiting}
@@ -58,6 +58,8 @@ set s Workers v =
     option_map (λ o. record s { waiting = Any; workers = o }) (once s.workers (number_word most_32 v))
 set s Slice v =
     option_map (λ o. record s { waiting = Any; slice = o }) (once s.slice (number_word most_64 v))
+set s Wait v =
+    option_map (λ o. record s { waiting = Any; wait = o }) (once s.wait (wait_at v))
 
 -- the word is a name behind the others
 abbrev pub name : Said → List ℕ → Said
@@ -102,6 +104,7 @@ nothing_said = record {
   steps = None;
   workers = None;
   slice = None;
+  wait = None;
 }
 
 abbrev pub said_on : Said → List (List ℕ) → Option Said
@@ -124,6 +127,7 @@ is_said s Budget = is_some s.budget
 is_said s Steps = is_some s.steps
 is_said s Workers = is_some s.workers
 is_said s Slice = is_some s.slice
+is_said s Wait = is_some s.wait
 
 -- no option is said but those that are allowed
 abbrev pub only : (Key → Bool) → Said → Bool

@@ -4,16 +4,17 @@ use Rattle.std.specs.Str.{bytes_eq}
 use Rattle.bp_log.specs.declared.limits.TheConstants.{MOST_INJECTORS}
 use Rattle.bp_matches.specs.declared.key.Key.{Key}
 use Rattle.bp_args.specs.declared.verb.Verb.{Verb}
-use Rattle.bp_args.specs.declared.verb.Verb.TheVariants.{Run, Replay, Accept, Large}
+use Rattle.bp_args.specs.declared.verb.Verb.TheVariants.{Run, Replay, Accept, Large, Migrate}
 
 abbrev pub verb_name : Verb → List ℕ
 verb_name Run = codes "run"
 verb_name Replay = codes "replay"
 verb_name Accept = codes "accept"
 verb_name Large = codes "large"
+verb_name Migrate = codes "migrate"
 
 abbrev pub verbs : List Verb
-verbs = Run ∷ Replay ∷ Accept ∷ Large ∷ []
+verbs = Run ∷ Replay ∷ Accept ∷ Large ∷ Migrate ∷ []
 
 -- the first word that a word is
 abbrev pub verb_at : List ℕ → Option Verb
@@ -25,6 +26,7 @@ allows Run k = true
 allows Replay k = false
 allows Accept k = false
 allows Large k = false
+allows Migrate k = false
 
 -- how many names may stand behind a first word: of `run` the program and its injectors
 abbrev pub most_names : Verb → ℕ
@@ -32,6 +34,7 @@ most_names Run = 1 + MOST_INJECTORS
 most_names Replay = 1
 most_names Accept = 1
 most_names Large = 1
+most_names Migrate = 1
 
 -- at least one name stands there, and no more than may
 abbrev pub takes : Verb → ℕ → Bool

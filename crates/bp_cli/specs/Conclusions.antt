@@ -9,11 +9,11 @@ use Rattle.bp_script.specs.declared.reading.ScriptFault.{ScriptFault}
 use Rattle.bp_session.specs.declared.report.Ending.{Ending}
 use Rattle.bp_cli.specs.Replaying.{bad_log_note}
 use Rattle.bp_cli.specs.declared.conclusion.Conclusion.{Conclusion}
-use Rattle.bp_cli.specs.declared.conclusion.Conclusion.TheVariants.{NoCommand, Refused, Accepted, Ran, NotRead, NotWritten, NoMemory, BadLog}
+use Rattle.bp_cli.specs.declared.conclusion.Conclusion.TheVariants.{NoCommand, Refused, Accepted, Ran, NotRead, NotWritten, NoMemory, BadLog, Migrated}
 
 -- what a wrong command is told
 abbrev pub usage : List ℕ
-usage = codes "usage: bp run [OPTIONS] PROGRAM [INJECTOR]... | bp replay LOG | bp accept PROGRAM | bp large N"
+usage = codes "usage: bp run [OPTIONS] PROGRAM [INJECTOR]... | bp replay LOG | bp accept PROGRAM | bp large N | bp migrate LOG"
 
 -- the code of a run that came to a verdict of this kind
 abbrev pub verdict_code : VerdictKind → ℕ
@@ -26,6 +26,7 @@ verdict_code kind.Bad = 7
 
 abbrev pub code_of : Conclusion → ℕ
 code_of Accepted = 0
+code_of Migrated = 0
 code_of NoCommand = 1
 code_of (Refused refusal) = 2
 code_of (Ran verdict) = verdict_code (kind_of verdict)

@@ -2,9 +2,9 @@
 use Rattle.std.specs.Prelude.{◌≡◌, ◌⊎◌, ℕ, List, [], Option, Some, None}
 use Rattle.bp_log.specs.declared.record.Record.{Record}
 use Rattle.bp_args.specs.declared.command.Command.{Command}
-use Rattle.bp_args.specs.declared.command.Command.TheVariants.{Run, Replay, Accept, Large}
+use Rattle.bp_args.specs.declared.command.Command.TheVariants.{Run, Replay, Accept, Large, Migrate}
 use Rattle.bp_cli.specs.declared.conclusion.Conclusion.{Conclusion}
-use Rattle.bp_cli.specs.declared.conclusion.Conclusion.TheVariants.{NoCommand, Refused, NotRead, NotWritten, NoMemory}
+use Rattle.bp_cli.specs.declared.conclusion.Conclusion.TheVariants.{NoCommand, Refused, Accepted, Ran, NotRead, NotWritten, NoMemory, BadLog, Migrated}
 use Rattle.bp_cli.specs.Outside.{Outside, ReadFailed, WriteFailed, IsAsBefore, IsUnder}
 use Rattle.bp_cli.specs.Texts.{SaysAccepted}
 use Rattle.bp_cli.specs.Runs.{IsRunOf}
@@ -13,6 +13,7 @@ use Rattle.bp_cli.specs.Large.{Measures}
 use Rattle.bp_cli.specs.Conclusions.{IsStatusOf}
 use Rattle.bp_cli.specs.Asking.{AsksIn}
 use Rattle.bp_cli.specs.Replaying.{ReplaysTo}
+use Rattle.bp_cli.specs.Migrating.{MigratesTo}
 
 -- a failure has its cause
 abbrev pub IsCaused : Outside → Outside → Conclusion → Type 0
@@ -49,6 +50,9 @@ Does (Large n) records before after conclusion = Measures n records before after
 -- what the world holds under the log's name was replayed
 Does (Replay log) records before after conclusion =
     ReplaysTo log before after conclusion × (records ≡ [])
+-- what the world holds under the log's name was migrated
+Does (Migrate log) records before after conclusion =
+    MigratesTo log before after conclusion × (records ≡ [])
 
 -- how a command ends; words that are no command do nothing
 abbrev pub EndsIn : Option Command → List Record → Outside → Outside → Conclusion → Type 0

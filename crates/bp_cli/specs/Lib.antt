@@ -7,6 +7,7 @@ pub mod Conclusions
 pub mod Asking
 pub mod Loading
 pub mod Replaying
+pub mod Migrating
 pub mod Endings
 pub mod Refusing
 pub mod Opening

@@ -1,12 +1,14 @@
 -- A run that was asked for: what its injectors brought, its text, its log, and what replays of that
 -- log tell.
-use Rattle.std.specs.Prelude.{◌≡◌, ◌⊎◌, ℕ, false, List, [], ◌++◌, Option, Some, None, IfSome, IsSomeAnd}
+use Rattle.std.specs.Prelude.{◌≡◌, ◌⊎◌, ℕ, true, false, List, [], ◌++◌, Option, Some, None, IfSome, IsSomeAnd}
 use mathlib.Core.List.{IsPrefix}
 use Rattle.bp_base.specs.Worlds.{Holdings, Sets}
 use Rattle.bp_base.specs.Pieces.{Appends, AppendsFront}
 use Rattle.js_program.specs.PlainProgram.{PlainProgram}
 use Rattle.bp_log.specs.Header.{PlainHeader}
-use Rattle.bp_log.specs.Logs.{log_text}
+use Rattle.bp_log.specs.Logs.{can_say, log_text}
+use Rattle.bp_log.specs.declared.version.Version.{Version}
+use Rattle.bp_log.specs.declared.version.Version.TheVariants.{Second}
 use Rattle.bp_log.specs.Records.{verdict_of, is_complete}
 use Rattle.bp_log.specs.declared.record.Record.{Record}
 use Rattle.bp_log.specs.declared.verdict.Verdict.{Verdict}
@@ -47,7 +49,7 @@ pub record HoldsBehind (name : List ℕ) (header : PlainHeader) (program : Plain
   pub later : List Record
   pub is_front : first ++ later ≡ records
   pub more : List ℕ
-  pub kept : Holds before.holds name (log_text header first ++ more) after.holds
+  pub kept : Holds before.holds name (log_text Second header first ++ more) after.holds
   pub printed : IsSomeAnd (text_of program header.options first)
       (λ text. AppendsFront before.printed text after.printed)
 
@@ -58,7 +60,7 @@ abbrev pub KeepsLogFront : Option (List ℕ) → PlainHeader → PlainProgram �
 KeepsLogFront None header program records before after = after.holds ≡ before.holds
 KeepsLogFront (Some name) header program records before after =
     IsAsBefore before after
-    ⊎ (HoldsFront before.holds name (log_text header records) after.holds
+    ⊎ (HoldsFront before.holds name (log_text Second header records) after.holds
     × ((after.printed ≡ before.printed) ⊎ HoldsBehind name header program records before after))
 
 -- ---- the run
@@ -72,8 +74,8 @@ module _ (asked : Run) (bytes : List ℕ) (program : PlainProgram) (records : Li
   pub record TellsWhole : Type 0 where
     pub prints : IsSomeAnd (text_of program asked.options records)
         (λ text. Appends before.printed text after.printed)
-    pub keeps : KeepsLog asked.log before.holds (log_text (header_of asked bytes) records)
-        after.holds
+    pub keeps : KeepsLog asked.log before.holds
+        (log_text Second (header_of asked bytes) records) after.holds
 
   -- a front of the text of the records was printed, and a front of their log is held in which the
   -- records of that text stand, or nothing was printed and the world holds what it held
@@ -83,15 +85,17 @@ module _ (asked : Run) (bytes : List ℕ) (program : PlainProgram) (records : Li
     pub keeps : KeepsLogFront asked.log (header_of asked bytes) program records before after
 
   -- The run came to this verdict, and all of it was told. Without injectors it is the one run.
-  -- Where nothing more could come, all that each injector brought was recorded. Each replay of the
-  -- log of these records that meets no trouble prints the same text and comes to the same verdict.
+  -- Where it waits for its injectors and nothing more could come, all that each of them brought was
+  -- recorded. Each replay of a log of these records, of either version, that meets no trouble prints
+  -- the same text and comes to the same verdict.
   pub record RunsTo (inputs : List (List ℕ)) (v : Verdict) : Type 0 where
     pub verdict : verdict_of records ≡ Some v
     pub told : TellsWhole
     pub one_run : asked.injectors ≡ [] → records ≡ records_alone program asked.options
-    pub whole : IsQuiet v → MergeWhole records inputs
+    pub whole : asked.options.wait ≡ true → IsQuiet v → MergeWhole records inputs
     pub replays : IsSomeAnd (text_of program asked.options records)
-        (λ text. Retells (log_text (header_of asked bytes) records) text v)
+        (λ text. (version : Version) → can_say version asked.options.wait ≡ true
+        → Retells (log_text version (header_of asked bytes) records) text v)
 
   -- how a run ends: with a verdict; without one where reading an injector failed, and all that was
   -- recorded until then was told; or where writing failed or memory was wanting

@@ -5,6 +5,7 @@ use Rattle.js_program.specs.PlainProgram.{PlainProgram}
 use Rattle.js_meaning.specs.Bodies.{Origin}
 use Rattle.bp_log.specs.Options.{PlainOptions}
 use Rattle.bp_log.specs.Texts.{lines_text}
+use Rattle.bp_log.specs.declared.version.Version.{Version}
 use Rattle.bp_log.specs.declared.record.Record.{Record}
 use Rattle.bp_reading.specs.Reading.{Stage, BeginsWith, first_stage}
 use Rattle.bp_run.specs.Bodies.{Code}
@@ -12,8 +13,9 @@ use Rattle.bp_run.specs.Configuration.{Configuration}
 use Rattle.bp_run.specs.Story.{Next, next, after_record, story}
 use Rattle.bp_floor.specs.Programs.{code_of}
 
--- a program under options, records of it, and where they lead
+-- a program under options, records of it in a log of this version, and where they lead
 pub record Course : Type 0 where
+  pub version : Version
   pub program : PlainProgram
   pub options : PlainOptions
   pub records : List Record
@@ -39,5 +41,5 @@ led c r = after_record (code_in c) c.options c.told r
 
 -- the bytes behind a header begin with the records of this course, which are a story
 pub record Follows (rest : List ℕ) (c : Course) (s : Stage) (left : List ℕ) : Type 0 where
-  pub begins : BeginsWith (first_stage c.options.injectors) rest c.records s left
+  pub begins : BeginsWith (first_stage c.version c.options.injectors) rest c.records s left
   pub told : IsTold c

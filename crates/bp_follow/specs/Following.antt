@@ -4,6 +4,7 @@ use Rattle.std.specs.List.{list_any}
 use Rattle.bp_log.specs.Records.{is_complete, verdict_of}
 use Rattle.bp_log.specs.declared.item.Item.{Item}
 use Rattle.bp_log.specs.declared.item.Item.TheVariants as item
+use Rattle.bp_log.specs.declared.version.Version.{Version}
 use Rattle.bp_log.specs.declared.record.Record.{Record}
 use Rattle.bp_log.specs.declared.record.Record.TheVariants.{In, Bad, Eof, Sel, End}
 use Rattle.bp_log.specs.declared.trace.Line.{Line}
@@ -41,16 +42,17 @@ pub record Runs (c : Course) (a : PlainArbiter) : Type 0 where
   pub reads : ReadsBelow c.options.injectors c.told
 
 -- before anything was recorded
-abbrev pub first_course : PlainProgram → PlainOptions → Course
-first_course program options = record {
+abbrev pub first_course : Version → PlainProgram → PlainOptions → Course
+first_course version program options = record {
+  version = version;
   program = program;
   options = options;
   records = [];
   told = initial (code_of program options) options.injectors;
 }
 
-abbrev pub first_of : PlainArbiter → Course
-first_of a = first_course a.floor.base.program (options_in a)
+abbrev pub first_of : Version → PlainArbiter → Course
+first_of version a = first_course version a.floor.base.program (options_in a)
 
 -- Where the run has ended the verdict's line is left out; it has ended exactly at `Over`.
 pub record IsSaid (a : PlainArbiter) (lines said : List Line) : Type 0 where
@@ -170,6 +172,7 @@ pub record Tells (first : Course) (rest : List ℕ) (before : Option (List ℕ))
   pub course : Course
   pub program : course.program ≡ first.program
   pub options : course.options ≡ first.options
+  pub version : course.version ≡ first.version
   pub stage : Stage
   pub left : List ℕ
   pub follows : Follows rest course stage left

@@ -2,7 +2,7 @@
 use Rattle.std.specs.Prelude.{ℕ, List, [], ◌∷◌, Option, find, codes}
 use Rattle.std.specs.Str.{bytes_eq}
 use Rattle.bp_matches.specs.declared.key.Key.{Key}
-use Rattle.bp_matches.specs.declared.key.Key.TheVariants.{Log, Strategy, Seed, Budget, Steps, Workers, Slice}
+use Rattle.bp_matches.specs.declared.key.Key.TheVariants.{Log, Strategy, Seed, Budget, Steps, Workers, Slice, Wait}
 
 abbrev pub key_name : Key → List ℕ
 key_name Log = codes "log"
@@ -12,10 +12,11 @@ key_name Budget = codes "budget"
 key_name Steps = codes "steps"
 key_name Workers = codes "workers"
 key_name Slice = codes "slice"
+key_name Wait = codes "wait"
 
 -- all options, in the order in which they are written
 abbrev pub keys : List Key
-keys = Log ∷ Strategy ∷ Seed ∷ Budget ∷ Steps ∷ Workers ∷ Slice ∷ []
+keys = Log ∷ Strategy ∷ Seed ∷ Budget ∷ Steps ∷ Workers ∷ Slice ∷ Wait ∷ []
 
 -- the option of this name
 abbrev pub key_at : List ℕ → Option Key

@@ -1,7 +1,7 @@
 -- The normal form of the words of a command.
 use Rattle.std.specs.Prelude.{◌≡◌, ℕ, List, [], ◌∷◌, ◌++◌, Option, Some, None, codes}
 use Rattle.bp_matches.specs.declared.key.Key.{Key}
-use Rattle.bp_matches.specs.declared.key.Key.TheVariants.{Log, Strategy, Seed, Budget, Steps, Workers, Slice}
+use Rattle.bp_matches.specs.declared.key.Key.TheVariants.{Log, Strategy, Seed, Budget, Steps, Workers, Slice, Wait}
 use Rattle.bp_matches.specs.declared.values.Values.{Values}
 use Rattle.bp_matches.specs.Keys.{key_name, keys}
 
@@ -14,6 +14,7 @@ value_in v Budget = v.budget
 value_in v Steps = v.steps
 value_in v Workers = v.workers
 value_in v Slice = v.slice
+value_in v Wait = v.wait
 
 abbrev pub option_word : Key → List ℕ → List ℕ
 option_word k value = codes "--" ++ (key_name k ++ (codes "=" ++ value))

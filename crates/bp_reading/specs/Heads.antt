@@ -1,12 +1,12 @@
 -- The lines of a log, and its header.
-use Rattle.std.specs.Prelude.{◌≡◌, ◌++◌, ℕ, zero, suc, ◌-◌, ◌==◌, nat_le, if◌then◌else◌, List, [], ◌∷◌, Option, Some, None, Result, Ok, Err, option_and_then, codes}
+use Rattle.std.specs.Prelude.{◌≡◌, ◌++◌, ℕ, Bool, true, zero, suc, ◌-◌, ◌==◌, nat_le, if◌then◌else◌, List, [], ◌∷◌, Option, Some, None, Result, Ok, Err, option_and_then, codes}
 use Rattle.bp_log.specs.Options.{PlainOptions}
 use Rattle.bp_log.specs.Header.{PlainHeader}
-use Rattle.bp_log.specs.Logs.{strategy_at, version_of}
+use Rattle.bp_log.specs.Logs.{strategy_at, version_of, wait_at}
 use Rattle.bp_log.specs.declared.limits.TheConstants.{MOST_BYTES, MOST_BUDGET, MOST_STEPS, MOST_INJECTORS}
 use Rattle.bp_log.specs.declared.options.Strategy.{Strategy}
 use Rattle.bp_log.specs.declared.version.Version.{Version}
-use Rattle.bp_log.specs.declared.version.Version.TheVariants.{First}
+use Rattle.bp_log.specs.declared.version.Version.TheVariants.{First, Second}
 use Rattle.bp_reading.specs.declared.limits.TheConstants.{MOST_LINE_BYTES}
 use Rattle.bp_reading.specs.Words.{most_64, behind, number_behind}
 
@@ -42,6 +42,7 @@ LineBreaksOff room bytes rest =
 -- how many bytes the line of a record may have
 abbrev pub line_room : Version → ℕ
 line_room First = MOST_LINE_BYTES
+line_room Second = MOST_LINE_BYTES
 
 -- ---- what is refused
 
@@ -105,11 +106,18 @@ program_at zero (b ∷ bytes) = if b == 10 then Ok ([], bytes) else Err header
 program_at (suc n) [] = Err cut
 program_at (suc n) (b ∷ bytes) = program_at n bytes >>= λ p. Ok (b ∷ p.0, p.1)
 
--- the first line, the strategy and the seed
+-- what is said of waiting: by the first version nothing, and then a run waits
+abbrev pub wait_behind : List ℕ → Option Bool
+wait_behind line = option_and_then wait_at (behind (codes "wait ") line)
+
+unfoldable pub wait_line_at : Version → List ℕ → Result (Bool × List ℕ) Refusal
+wait_line_at First bytes = Ok (true, bytes)
+wait_line_at Second bytes = said header wait_behind (line_at MOST_LINE_BYTES bytes)
+
+-- the strategy and the seed
 unfoldable pub choice_at : List ℕ → Result ((Strategy × ℕ) × List ℕ) Refusal
 choice_at bytes = do
-  v ← version_at bytes
-  strategy ← strategy_line_at v.1
+  strategy ← strategy_line_at bytes
   seed ← field_at (codes "seed ") 0 most_64 strategy.1
   Ok ((strategy.0, seed.0), seed.1)
 
@@ -120,6 +128,7 @@ limits_at bytes = do
   steps ← field_at (codes "steps ") 1 MOST_STEPS budget.1
   Ok ((budget.0, steps.0), steps.1)
 
+-- the options, of a run that waits
 unfoldable pub options_at : List ℕ → Result (PlainOptions × List ℕ) Refusal
 options_at bytes = do
   choice ← choice_at bytes
@@ -132,13 +141,29 @@ options_at bytes = do
       budget = limits.0.0;
       steps = limits.0.1;
       injectors = injectors.0;
+      wait = true;
     },
     injectors.1,
   )
 
-unfoldable pub header_at : List ℕ → Result (PlainHeader × List ℕ) Refusal
-header_at bytes = do
+-- all options
+unfoldable pub settings_at : Version → List ℕ → Result (PlainOptions × List ℕ) Refusal
+settings_at v bytes = do
   options ← options_at bytes
+  wait ← wait_line_at v options.1
+  Ok (record options.0 { wait = wait.0 }, wait.1)
+
+-- the header behind its first line
+unfoldable pub body_at : Version → List ℕ → Result (PlainHeader × List ℕ) Refusal
+body_at v bytes = do
+  options ← settings_at v bytes
   size ← field_at (codes "program ") 0 MOST_BYTES options.1
   program ← program_at size.0 size.1
   Ok (record { options = options.0; program = program.0 }, program.1)
+
+-- the version and the header
+unfoldable pub header_at : List ℕ → Result ((Version × PlainHeader) × List ℕ) Refusal
+header_at bytes = do
+  v ← version_at bytes
+  h ← body_at v.0 v.1
+  Ok ((v.0, h.0), h.1)

@@ -4,7 +4,8 @@ use Rattle.std.specs.Str.{is_utf8}
 use Rattle.js_data.specs.Event.{IsEvent}
 use Rattle.bp_log.specs.Options.{AreOptions}
 use Rattle.bp_log.specs.Header.{PlainHeader}
-use Rattle.bp_log.specs.Logs.{record_text, records_text, log_text}
+use Rattle.bp_log.specs.Logs.{record_text, records_text, can_say, log_text}
+use Rattle.bp_log.specs.declared.version.Version.{Version}
 use Rattle.bp_log.specs.Records.{is_complete}
 use Rattle.bp_log.specs.Verdicts.{IsVerdict}
 use Rattle.bp_log.specs.declared.limits.TheConstants.{MOST_BYTES}
@@ -35,12 +36,13 @@ AreRecords (r ∷ rs) = IsRecord r × AreRecords rs
 
 -- ---- the laws
 
--- no two pairs of a header and a list of records have one text
+-- no two logs, of one version or of two, have one text
 abbrev pub OneReading : Type 0
 OneReading =
-    (h g : PlainHeader) (rs ss : List Record) →
+    (v w : Version) (h g : PlainHeader) (rs ss : List Record) →
     IsHeader h → IsHeader g → AreRecords rs → AreRecords ss →
-    log_text h rs ≡ log_text g ss → (h ≡ g) × (rs ≡ ss)
+    can_say v h.options.wait ≡ true → can_say w g.options.wait ≡ true →
+    log_text v h rs ≡ log_text w g ss → (v ≡ w) × (h ≡ g) × (rs ≡ ss)
 
 -- the records can stand, one after another, each on a line that isn't too long, and the last is `end`
 abbrev pub Stands : Stage → List Record → Type 0
@@ -52,24 +54,27 @@ Stands s (r ∷ rs) =
 -- the text of a header and a complete list says that header and that list
 abbrev pub LogsAreRead : Type 0
 LogsAreRead =
-    (h : PlainHeader) (rs : List Record) →
-    IsHeader h → AreRecords rs → Stands (first_stage h.options.injectors) rs →
-    (header_at (log_text h rs) ≡ Ok (h, records_text rs)) ×
-    Says (first_stage h.options.injectors) (records_text rs) rs None
+    (v : Version) (h : PlainHeader) (rs : List Record) →
+    IsHeader h → AreRecords rs → can_say v h.options.wait ≡ true →
+    Stands (first_stage v h.options.injectors) rs →
+    (header_at (log_text v h rs) ≡ Ok ((v, h), records_text rs)) ×
+    Says (first_stage v h.options.injectors) (records_text rs) rs None
 
 -- the bytes are the text of the header and the records, which are complete and break no rule of lines
-pub record IsLog (bytes : List ℕ) (h : PlainHeader) (rs : List Record) : Type 0 where
-  pub text : bytes ≡ log_text h rs
+pub record IsLog (v : Version) (bytes : List ℕ) (h : PlainHeader) (rs : List Record) : Type 0 where
+  pub text : bytes ≡ log_text v h rs
+  pub version : can_say v h.options.wait ≡ true
   pub complete : is_complete rs ≡ true
   pub header : IsHeader h
   pub records : AreRecords rs
-  pub stands : Stands (first_stage h.options.injectors) rs
+  pub stands : Stands (first_stage v h.options.injectors) rs
 
 -- what bytes say as a header and records up to a good end is a log, and the bytes are its text
 abbrev pub ReadLogsAreTexts : Type 0
 ReadLogsAreTexts =
-    (bytes rest : List ℕ) (h : PlainHeader) (rs : List Record) → header_at bytes ≡ Ok (h, rest) →
-    Says (first_stage h.options.injectors) rest rs None → IsLog bytes h rs
+    (bytes rest : List ℕ) (v : Version) (h : PlainHeader) (rs : List Record) →
+    header_at bytes ≡ Ok ((v, h), rest) →
+    Says (first_stage v h.options.injectors) rest rs None → IsLog v bytes h rs
 
 -- the line is the text of the record, or of none
 abbrev pub Spells : List ℕ → Option Record → Type 0

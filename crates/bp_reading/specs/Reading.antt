@@ -2,7 +2,6 @@
 use Rattle.std.specs.Prelude.{◌≡◌, ℕ, ◌+◌, ◌&&◌, ◌==◌, Bool, true, false, not, nat_lt, nat_le, if◌then◌else◌, List, [], ◌∷◌, ◌++◌, Option, Some, None, option_and_then}
 use Rattle.std.specs.List.{list_any}
 use Rattle.bp_log.specs.declared.version.Version.{Version}
-use Rattle.bp_log.specs.declared.version.Version.TheVariants.{First}
 use Rattle.bp_log.specs.declared.record.Record.{Record}
 use Rattle.bp_log.specs.declared.record.Record.TheVariants.{In, Bad, Eof, Sel, End}
 use Rattle.bp_log.specs.declared.verdict.Verdict.{Verdict}
@@ -20,9 +19,9 @@ pub record Stage : Type 0 where
   pub lines : ℕ
   pub ended : Bool
 
-abbrev pub first_stage : ℕ → Stage
-first_stage injectors = record {
-  version = First;
+abbrev pub first_stage : Version → ℕ → Stage
+first_stage version injectors = record {
+  version = version;
   injectors = injectors;
   over = [];
   lines = 0;

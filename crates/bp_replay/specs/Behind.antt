@@ -1,6 +1,7 @@
 -- What a replay does with what stands behind the header.
 use Rattle.std.specs.Prelude.{◌≡◌, ◌⊎◌, ℕ, List, ◌++◌, Option, Result, Ok, Err}
 use Rattle.bp_log.specs.Header.{PlainHeader}
+use Rattle.bp_log.specs.declared.version.Version.{Version}
 use Rattle.bp_log.specs.declared.verdict.Verdict.{Verdict}
 use Rattle.bp_reading.specs.Reading.{Stage}
 use Rattle.bp_script.specs.declared.refusal.Refusal.{Refusal}
@@ -21,28 +22,30 @@ HasNoProgram header (Err Write) = ⊥
 HasNoProgram header (Err Memory) = Unit {0}
 
 -- what was told is written
-pub record ReplaysBehind (header : PlainHeader) (rest : List ℕ) (before after : Option (List ℕ))
-    (ended : Result Verdict ReplayFault) : Type 0 where
+pub record ReplaysBehind (version : Version) (header : PlainHeader) (rest : List ℕ)
+    (before after : Option (List ℕ)) (ended : Result Verdict ReplayFault) : Type 0 where
   pub course : Course
   pub program : IsProgram header.program course.program
   pub options : course.options ≡ header.options
+  pub version_is : course.version ≡ version
   pub stage : Stage
   pub left : List ℕ
   pub follows : Follows rest course stage left
   pub ends : EndsAt course stage left ended
   pub prints : Prints ended before (text_in course) after
 
-abbrev pub EndsBehind : PlainHeader → List ℕ →
+abbrev pub EndsBehind : Version → PlainHeader → List ℕ →
     Option (List ℕ) → Option (List ℕ) → Result Verdict ReplayFault → Type 0
-EndsBehind header rest before after ended =
-    (HasNoProgram header ended × (after ≡ before)) ⊎ ReplaysBehind header rest before after ended
+EndsBehind version header rest before after ended =
+    (HasNoProgram header ended × (after ≡ before))
+    ⊎ ReplaysBehind version header rest before after ended
 
 -- where a read failed, so much of the bytes was taken before the rest, and was replayed as a log that ends
 -- there
-pub record TakenBehind (header : PlainHeader) (bytes rest : List ℕ)
+pub record TakenBehind (version : Version) (header : PlainHeader) (bytes rest : List ℕ)
     (before after : Option (List ℕ)) : Type 0 where
   pub taken : List ℕ
   pub is_front : bytes ≡ taken ++ rest
   pub ended : Result Verdict ReplayFault
   pub at_end : IsAtItsEnd ended
-  pub ends : EndsBehind header taken before after ended
+  pub ends : EndsBehind version header taken before after ended

@@ -1,10 +1,11 @@
 -- What is true of replays.
-use Rattle.std.specs.Prelude.{◌≡◌, ◌⊎◌, ℕ, List, Option, Some, Result, Ok, Err}
+use Rattle.std.specs.Prelude.{◌≡◌, ◌⊎◌, ℕ, true, List, Option, Some, Result, Ok, Err}
 use Rattle.js_program.specs.PlainProgram.{PlainProgram}
 use Rattle.bp_base.specs.Pieces.{Appends}
 use Rattle.bp_log.specs.Header.{PlainHeader}
-use Rattle.bp_log.specs.Logs.{log_text}
+use Rattle.bp_log.specs.Logs.{can_say, log_text}
 use Rattle.bp_log.specs.Records.{verdict_of}
+use Rattle.bp_log.specs.declared.version.Version.{Version}
 use Rattle.bp_log.specs.declared.record.Record.{Record}
 use Rattle.bp_log.specs.declared.verdict.Verdict.{Verdict}
 use Rattle.bp_reading.specs.Reading.{first_stage}
@@ -30,13 +31,14 @@ IsTrouble (Err Program) = ⊥
 IsTrouble (Err Write) = Unit {0}
 IsTrouble (Err Memory) = Unit {0}
 
--- the bytes are the log of a run of this program, which has this text
-pub record IsLogOf (bytes : List ℕ) (header : PlainHeader) (records : List Record)
-    (program : PlainProgram) (text : List ℕ) : Type 0 where
-  pub bytes_are : bytes ≡ log_text header records
+-- the bytes are the log, of this version, of a run of this program, which has this text
+pub record IsLogOf (version : Version) (bytes : List ℕ) (header : PlainHeader)
+    (records : List Record) (program : PlainProgram) (text : List ℕ) : Type 0 where
+  pub bytes_are : bytes ≡ log_text version header records
+  pub says_so : can_say version header.options.wait ≡ true
   pub header_is : IsHeader header
   pub records_are : AreRecords records
-  pub stands : Stands (first_stage header.options.injectors) records
+  pub stands : Stands (first_stage version header.options.injectors) records
   pub program_is : IsProgram header.program program
   pub text_is : text_of program header.options records ≡ Some text
 
@@ -51,9 +53,10 @@ pub record TellsAll (records : List Record) (text : List ℕ) (before after : Op
 -- A replay of the log of a run tells the run: its whole text and its verdict.
 abbrev pub ReplaysTellTheRun : Type 0
 ReplaysTellTheRun =
-    (bytes : List ℕ) (header : PlainHeader) (records : List Record) (program : PlainProgram)
-    (text : List ℕ) (before after : Option (List ℕ)) (ended : Result Verdict ReplayFault) →
-    IsLogOf bytes header records program text → IsReplay bytes before after ended →
+    (version : Version) (bytes : List ℕ) (header : PlainHeader) (records : List Record)
+    (program : PlainProgram) (text : List ℕ) (before after : Option (List ℕ))
+    (ended : Result Verdict ReplayFault) →
+    IsLogOf version bytes header records program text → IsReplay bytes before after ended →
     IsTrouble ended ⊎ TellsAll records text before after ended
 
 -- each replay of these bytes prints this text and answers this verdict, unless reading or writing
@@ -64,15 +67,17 @@ Retells bytes text verdict =
     IsReplay bytes before after ended →
     IsTrouble ended ⊎ ((ended ≡ Ok verdict) × Appends before text after)
 
--- The log of a complete story of an accepted program replays to the text and the verdict of that story,
--- whatever its injectors. Of its records no more is asked than what records keep by their types.
+-- The log, of either version, of a complete story of an accepted program replays to the text and the
+-- verdict of that story, whatever its injectors. Of its records no more is asked than what records keep
+-- by their types.
 abbrev pub LogsOfStoriesReplay : Type 0
 LogsOfStoriesReplay =
-    (header : PlainHeader) (program : PlainProgram) (records : List Record) (text : List ℕ)
-    (verdict : Verdict) →
-    IsHeader header → IsProgram header.program program → AreRecords records →
+    (version : Version) (header : PlainHeader) (program : PlainProgram) (records : List Record)
+    (text : List ℕ) (verdict : Verdict) →
+    can_say version header.options.wait ≡ true → IsHeader header →
+    IsProgram header.program program → AreRecords records →
     text_of program header.options records ≡ Some text → verdict_of records ≡ Some verdict →
-    Retells (log_text header records) text verdict
+    Retells (log_text version header records) text verdict
 
 -- what was printed each time is one text
 abbrev pub PrintOne : Option (List ℕ) → Option (List ℕ) →

@@ -2,6 +2,7 @@
 use Rattle.std.specs.Prelude.{◌≡◌, ◌⊎◌, ℕ, List, ◌++◌, Option, Result, Ok, Err}
 use Rattle.bp_base.specs.Pieces.{Appends, AppendsFront}
 use Rattle.bp_log.specs.Header.{PlainHeader}
+use Rattle.bp_log.specs.declared.version.Version.{Version}
 use Rattle.bp_log.specs.declared.verdict.Verdict.{Verdict}
 use Rattle.bp_reading.specs.Heads.{header_at}
 use Rattle.bp_reading.specs.Reading.{Stage}
@@ -13,10 +14,11 @@ use Rattle.bp_follow.specs.declared.fault.ReplayFault.TheVariants.{Log, Differs,
 use Rattle.bp_follow.specs.Courses.{Course, Follows, text_in}
 use Rattle.bp_follow.specs.Endings.{EndsAt, IsAtItsEnd}
 
--- the bytes are a header, whose program and options are those of the course, and the rest
+-- the bytes are a header of the course's version, whose program and options are those of the course, and
+-- the rest
 pub record Heads (bytes : List ℕ) (c : Course) (rest : List ℕ) : Type 0 where
   pub header : PlainHeader
-  pub header_is : header_at bytes ≡ Ok (header, rest)
+  pub header_is : header_at bytes ≡ Ok ((c.version, header), rest)
   pub program : IsProgram header.program c.program
   pub options : c.options ≡ header.options
 
@@ -41,7 +43,8 @@ pub record Replays (bytes : List ℕ) (before after : Option (List ℕ))
 -- the bytes have a header whose program is refused
 abbrev pub HasRefusedProgram : List ℕ → Type 0
 HasRefusedProgram bytes =
-    (header : PlainHeader) × (rest : List ℕ) × (header_at bytes ≡ Ok (header, rest)) ×
+    (version : Version) × (header : PlainHeader) × (rest : List ℕ) ×
+    (header_at bytes ≡ Ok ((version, header), rest)) ×
     ((refusal : Refusal) × IsRefused header.program refusal)
 
 -- why a replay of these bytes ends before a record is read

@@ -1,5 +1,5 @@
 -- Transitions, and the runs that a list of records tells.
-use Rattle.std.specs.Prelude.{ℕ, zero, suc, ◌+◌, ◌*◌, Bool, true, false, not, ◌&&◌, ◌==◌, nat_lt, nat_eq, List, [], ◌∷◌, ◌++◌, length, map, Option, Some, None, Ok, Err, filter, if◌then◌else◌, option_and_then, option_map, remove, count_by, slice_get}
+use Rattle.std.specs.Prelude.{ℕ, zero, suc, ◌+◌, ◌*◌, Bool, true, false, not, ◌&&◌, ◌||◌, ◌==◌, nat_lt, nat_eq, List, [], ◌∷◌, ◌++◌, length, map, Option, Some, None, Ok, Err, filter, if◌then◌else◌, option_and_then, option_map, remove, count_by, slice_get}
 use Rattle.std.specs.List.{list_any}
 use Rattle.js_data.specs.Event.{PlainEvent, event_weight, same_event}
 use Rattle.js_data.specs.declared.fault.Fault.TheVariants.{Truth}
@@ -107,9 +107,9 @@ next_chosen s ch (Ok reached) =
     if nat_lt MOST_WEIGHT (weight_after s ch.event reached) then Ends verdict.Weight
     else Selects ch reached
 
--- no item is waited for: every injector has ended
+-- no item is waited for: every injector has ended, or the run does not wait
 abbrev pub waits_for_none : {Origin : Type 0} → PlainOptions → Configuration Origin → Bool
-waits_for_none o c = length c.reading == 0
+waits_for_none o c = (length c.reading == 0) || not o.wait
 
 -- nothing is selectable
 abbrev pub next_idle : {Origin : Type 0} → PlainOptions → Configuration Origin → Option (ℕ × ℕ) →

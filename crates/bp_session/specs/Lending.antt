@@ -3,6 +3,7 @@ use Rattle.std.specs.Prelude.{◌≡◌, ◌≤◌, ℕ, List, Option, Result, I
 use Rattle.js_program.specs.PlainProgram.{PlainProgram}
 use Rattle.bp_log.specs.Header.{PlainHeader}
 use Rattle.bp_log.specs.Logs.{header_text}
+use Rattle.bp_log.specs.declared.version.Version.TheVariants.{Second}
 use Rattle.bp_code.specs.Code.{code_of}
 use Rattle.bp_core.specs.declared.stepping.Core.{Core}
 use Rattle.bp_told.specs.Logging.{LogStays}
@@ -25,7 +26,7 @@ abbrev pub Begins : {L : Type 0} → (L → Option (List ℕ)) → PlainProgram 
     Core → Waiting → Type 0
 Begins written program header log c w =
     (printed : Option (List ℕ))
-    → IsServing written (code_of program header.options) header.options (header_text header)
+    → IsServing written (code_of program header.options) header.options (header_text Second header)
     (record { printed = printed; log = log }) c (record { printed = printed; log = log }) w
 
 module _ {K L S V : Type 0} where

@@ -1,5 +1,5 @@
 -- What a report says of the records, of what was written, and of the inputs.
-use Rattle.std.specs.Prelude.{◌≡◌, ◌≤◌, ℕ, ◌<◌, false, List, ◌++◌, length, Option, Some, IsSomeAnd, slice_index_or}
+use Rattle.std.specs.Prelude.{◌≡◌, ◌≤◌, ℕ, ◌<◌, Bool, true, false, List, ◌++◌, length, Option, Some, IsSomeAnd, slice_index_or}
 use Rattle.bp_base.specs.Counts.{Rose}
 use Rattle.bp_base.specs.Pieces.{Appends, AppendsFront}
 use Rattle.bp_log.specs.Logs.{records_text}
@@ -15,7 +15,7 @@ use Rattle.bp_hear.specs.Heard.{IsHeardToFault, EachHeardWhole}
 use Rattle.bp_session.specs.declared.report.Ending.{Ending}
 use Rattle.bp_session.specs.declared.report.Ending.TheVariants.{Verdict, Read, Write, LogWrite, Memory}
 
--- the verdict of a run that has nothing more to do
+-- the verdict of a run that has nothing more to do, or does not wait for more
 abbrev pub IsQuiet : logs.Verdict → Type 0
 IsQuiet (verdict.Quiet n) = Unit {0}
 IsQuiet _ = ⊥
@@ -50,14 +50,14 @@ module _ {S : Type 0} (left : S → Option (List ℕ)) (faults : S → ℕ) (sou
         → faults (slice_index_or sources k d) ≤ faults (slice_index_or back k d)
 
 module _ {K L S : Type 0} (written : L → Option (List ℕ)) (log_faults : L → ℕ) (faults : K → ℕ)
-    (text : Texts) (head : List ℕ) (out_old out_new : K) (old new : Given L)
+    (waits : Bool) (text : Texts) (head : List ℕ) (out_old out_new : K) (old new : Given L)
     (left : S → Option (List ℕ)) (broke : S → ℕ) (sources back : List S)
     (records : List Record) where
-  -- what each ending says
+  -- what each ending says, of a run that waits for its injectors or does not
   abbrev pub EndsAs : Ending → Type 0
   EndsAs (Verdict v) =
       (verdict_of records ≡ Some v) × Wholly written text head records old new
-      × (IsQuiet v → EachHeardWhole left sources back records)
+      × (waits ≡ true → IsQuiet v → EachHeardWhole left sources back records)
   EndsAs (Read j) =
       (is_complete records ≡ false) × Wholly written text head records old new
       × BrokeAt left broke sources back records j

@@ -1,11 +1,21 @@
--- Turns of injectors that have no thread.
+-- Where a run waits, and turns of injectors that have no thread.
 use Rattle.std.specs.Prelude.{◌≡◌, ◌⊎◌, ℕ, ◌+◌, Bool, true, false, not, ◌&&◌, List, [], ◌∷◌, ◌++◌, IsSome, ◌<◌, length, slice_index_or}
+use Rattle.js_meaning.specs.Bodies.{Origin}
 use Rattle.bp_log.specs.declared.item.Item.{Item}
+use Rattle.bp_run.specs.Configuration.{Configuration}
+use Rattle.bp_run.specs.Story.Next.{Waits}
+use Rattle.bp_arbiter.specs.Arbiters.{Recounts, options_in, coming}
+use Rattle.bp_core.specs.declared.stepping.Core.{Core}
 use Rattle.bp_lanes.specs.Lanes.{offered, free_places}
 use Rattle.bp_feeds.specs.declared.feed.Feed.{Feed}
 use Rattle.bp_feeds.specs.Feeds.{is_over}
 use Rattle.bp_inject.specs.Injectors.{feed_of, is_beside}
 use Rattle.bp_scope.specs.declared.reading.Reading.{Reading}
+
+-- the run waits for its injectors, and nothing comes of its records until an item does
+pub record IsWaiting (c : Core) : Type 0 where
+  pub waits : (options_in c.arbiter).wait ≡ true
+  pub nothing_comes : (d : Configuration Origin) → Recounts c.arbiter d → coming c.arbiter d ≡ Waits
 
 module _ {S : Type 0} where
   -- whether the injector has no thread and is not over
