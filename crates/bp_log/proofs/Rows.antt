@@ -1,16 +1,17 @@
 -- Each form of a line, of a verdict and of a record, as text.
-use Rattle.std.proofs.Common.{◌≡◌, ℕ, List, [], ◌∷◌, ◌++◌, refl}
-use Rattle.std.specs.Prelude.{None, codes}
+use Rattle.std.proofs.Common.{◌≡◌, ℕ, true, false, List, [], ◌∷◌, ◌++◌, refl}
+use Rattle.std.specs.Prelude.{Some, None, codes, map}
 use Rattle.std.specs.Fmt.{digits}
 use Rattle.js_data.specs.Event.{PlainEvent}
 use Rattle.js_data.specs.declared.fault.Fault.TheVariants.{Mistyped}
 use Rattle.bp_log.specs.Options.{default_options}
+use Rattle.bp_log.specs.declared.version.Version.TheVariants.{First, Second}
 use Rattle.bp_log.specs.declared.record.Record.TheVariants.{In, Bad, Eof, Sel, End}
 use Rattle.bp_log.specs.declared.trace.Line.TheVariants as line
 use Rattle.bp_log.specs.declared.verdict.Place.TheVariants.{Top, Thread}
 use Rattle.bp_log.specs.declared.verdict.Verdict.TheVariants as verdict
 use Rattle.bp_log.specs.Texts.{line_text, lines_text}
-use Rattle.bp_log.specs.Logs.{record_text, records_text, log_text}
+use Rattle.bp_log.specs.Logs.{record_text, records_text, version_of, wait_at, log_text}
 
 abbrev x : PlainEvent
 x = record { name = codes "x"; extra = None }
@@ -61,7 +62,27 @@ unfolding record_text records_text digits
 records_as_text = refl
 
 pub log_as_text :
-    log_text (record { options = record default_options { injectors = 1 }; program = codes "let a = 1\n" }) (Eof 0 ∷ End (verdict.Quiet 0) ∷ [])
-    ≡ codes "bp-log 1\nstrategy simple\nseed 0\nbudget 1000000\nsteps 100000\ninjectors 1\nprogram 10\nlet a = 1\n\neof 0\nend quiet 0\n"
+    log_text Second (record { options = record default_options { injectors = 1 }; program = codes "let a = 1\n" }) (Eof 0 ∷ End (verdict.Quiet 0) ∷ [])
+    ≡ codes "bp-log 2\nstrategy simple\nseed 0\nbudget 1000000\nsteps 100000\ninjectors 1\nwait yes\nprogram 10\nlet a = 1\n\neof 0\nend quiet 0\n"
 unfolding record_text records_text log_text digits
 log_as_text = refl
+
+pub first_log_as_text :
+    log_text First (record { options = record default_options { injectors = 1 }; program = codes "let a = 1\n" }) (Eof 0 ∷ End (verdict.Quiet 0) ∷ [])
+    ≡ codes "bp-log 1\nstrategy simple\nseed 0\nbudget 1000000\nsteps 100000\ninjectors 1\nprogram 10\nlet a = 1\n\neof 0\nend quiet 0\n"
+unfolding record_text records_text log_text digits
+first_log_as_text = refl
+
+pub log_of_a_run_that_does_not_wait :
+    log_text Second (record { options = record default_options { wait = false }; program = [] }) (End (verdict.Quiet 0) ∷ [])
+    ≡ codes "bp-log 2\nstrategy simple\nseed 0\nbudget 1000000\nsteps 100000\ninjectors 0\nwait no\nprogram 0\n\nend quiet 0\n"
+unfolding record_text records_text log_text digits
+log_of_a_run_that_does_not_wait = refl
+
+pub versions_of_lines :
+    map version_of (codes "bp-log 1" ∷ codes "bp-log 2" ∷ codes "bp-log 3" ∷ codes "bp-log 22" ∷ [])
+    ≡ Some First ∷ Some Second ∷ None ∷ None ∷ []
+versions_of_lines = refl
+
+pub waits_of_names : map wait_at (codes "yes" ∷ codes "no" ∷ codes "Yes" ∷ [] ∷ []) ≡ Some true ∷ Some false ∷ None ∷ None ∷ []
+waits_of_names = refl

@@ -3,8 +3,10 @@ ghost use Rattle.std.specs.Prelude.{◌≡◌, ◌≤◌, ◌++◌, IfOk, OnOk, 
 ghost use Rattle.bp_base.specs.Counts.{Rose};
 ghost use Rattle.bp_base.specs.Pieces.{Appends, AppendsFront};
 ghost use Rattle.bp_log.specs.Logs.{record_text, whole_record, strategy_name, options_text, header_text};
+ghost use Rattle.bp_log.specs.declared.version.Version.TheVariants as version;
 
 use crate::behind::{push_counted, push_event, push_numbers, push_verdict};
+use crate::options::wait_word;
 use crate::{Header, Memory, Options, PrintError, Record, Strategy, Version};
 use bp_base::{Sink, write_all};
 use js_data::{Event, Text};
@@ -43,27 +45,28 @@ fn options_of(alloc: Global, options: Options) -> Result<Text, Memory>
 
 /// The header as bytes, with the program in it.
 fn header_of(alloc: Global, header: &Header) -> Result<Vec<u8>, Memory>
-    ensures { IfOk result (λ v. v.items ≡ header_text header.now) }
+    ensures { IfOk result (λ v. v.items ≡ header_text version.Second header.now) }
 {
     let options = options_of(alloc, header.options())?;
     let options = options.as_str();
     let program = header.program();
     let size = program.len();
-    let first = Version::First.line();
-    let front = format!(in alloc; "{first}\n{options}\nprogram {size}\n")?;
+    let first = Version::Second.line();
+    let wait = wait_word(header.options().wait());
+    let front = format!(in alloc; "{first}\n{options}\nwait {wait}\nprogram {size}\n")?;
     let mut bytes = front.into_bytes();
     bytes.extend_from_slice(program)?;
     bytes.extend_from_slice(b"\n")?;
     Ok(bytes)
 }
 
-/// Writes the head of a log, up to the line end behind the program. After `Write` a part of it, from
+/// Writes the head of a log of the second version, up to the line end behind the program. After `Write` a part of it, from
 /// its front, was appended, and after `Memory` nothing.
 pub fn write_header<K: Sink>(alloc: Global, header: &Header, sink: &mut K) -> Result<(), PrintError>
-    ensures whole { OnOk result
-        (Appends (K.written sink.old) (header_text header.now) (K.written sink.new)) }
-    ensures front { OnErr result
-        (AppendsFront (K.written sink.old) (header_text header.now) (K.written sink.new)) }
+    ensures whole { OnOk result (Appends (K.written sink.old)
+        (header_text version.Second header.now) (K.written sink.new)) }
+    ensures front { OnErr result (AppendsFront (K.written sink.old)
+        (header_text version.Second header.now) (K.written sink.new)) }
     ensures nothing { IsErrOf result PrintError.Memory → K.written sink.new ≡ K.written sink.old }
     ensures cause { IsErrOf result PrintError.Write → Rose (K.faults sink.old) (K.faults sink.new) }
     ensures counts { K.faults sink.old ≤ K.faults sink.new }

@@ -1,6 +1,6 @@
 //! What is asked of a run.
-ghost use Rattle.std.specs.Prelude.{◌≡◌, SomeIff};
-ghost use Rattle.bp_log.specs.Logs.{strategy_name, strategy_at};
+ghost use Rattle.std.specs.Prelude.{◌≡◌, Option, SomeIff, true};
+ghost use Rattle.bp_log.specs.Logs.{strategy_name, strategy_at, wait_name, wait_at};
 ghost use Rattle.bp_log.specs.Options.{PlainOptions, AreOptions, default_options};
 
 use crate::limits::{MOST_BUDGET, MOST_INJECTORS, MOST_STEPS};
@@ -47,7 +47,27 @@ impl Strategy {
     }
 }
 
-/// What is asked of a run. Contracts see it as the record of its five parts.
+/// The word that says whether a run waits.
+pub fn wait_word(wait: bool) -> &'static str
+    ensures { result.now ≡ wait_name wait }
+{
+    if wait { "yes" } else { "no" }
+}
+
+/// Whether a run waits, by its word, or `None` exactly where the word says neither. Takes no memory.
+pub fn wait_of_word(word: &[u8]) -> Option<bool>
+    ensures { result ≡ wait_at word.now }
+{
+    if word == b"yes".as_slice() {
+        return Some(true);
+    }
+    if word == b"no".as_slice() {
+        return Some(false);
+    }
+    None
+}
+
+/// What is asked of a run. Contracts see it as the record of its six parts.
 ///
 /// Its type keeps that the budget is 1 to 1,000,000,000, the steps are 1 to 1,000,000, and the
 /// injectors are at most 16.
@@ -57,6 +77,7 @@ pub struct Options {
     budget: u64,
     steps: u32,
     injectors: u32,
+    wait: bool,
 }
 
 impl Model for Options {
@@ -70,6 +91,7 @@ impl Model for Options {
       budget = o.budget;
       steps = o.steps;
       injectors = o.injectors;
+      wait = o.wait;
     } };
 
     ghost invariant = { λ o. AreOptions (record {
@@ -78,6 +100,7 @@ impl Model for Options {
       budget = o.budget;
       steps = o.steps;
       injectors = o.injectors;
+      wait = o.wait;
     }) };
 
     ghost inverse = { λ p. record {
@@ -86,6 +109,7 @@ impl Model for Options {
       budget = p.budget;
       steps = p.steps;
       injectors = p.injectors;
+      wait = p.wait;
     } };
 }
 
@@ -104,7 +128,8 @@ impl Clone for Options {
 impl Copy for Options {}
 
 impl Options {
-    /// These options, or `None` exactly where a number is out of its range. Takes no memory.
+    /// These options, of a run that waits for its injectors, or `None` exactly where a number is out
+    /// of its range. Takes no memory.
     pub fn new(
         strategy: Strategy,
         seed: u64,
@@ -118,6 +143,7 @@ impl Options {
           budget = budget;
           steps = steps;
           injectors = injectors;
+          wait = true;
         } in
             SomeIff result (AreOptions plain) plain }
     {
@@ -132,10 +158,12 @@ impl Options {
             budget,
             steps,
             injectors,
+            wait: true,
         })
     }
 
-    /// The strategy `simple`, seed 0, a budget of 1,000,000, 100,000 steps and no injector.
+    /// The strategy `simple`, seed 0, a budget of 1,000,000, 100,000 steps and no injector, and
+    /// the run waits.
     pub fn defaults() -> Options
         ensures { result ≡ default_options }
     {
@@ -145,6 +173,7 @@ impl Options {
             budget: 1_000_000,
             steps: 100_000,
             injectors: 0,
+            wait: true,
         }
     }
 
@@ -184,5 +213,19 @@ impl Options {
         ensures within { AreOptions self.now }
     {
         self.injectors
+    }
+
+    /// Whether the run waits for its injectors where nothing is selectable.
+    pub fn wait(&self) -> bool
+        ensures { result ≡ self.now.wait }
+    {
+        self.wait
+    }
+
+    /// The same options, of a run that waits for its injectors or does not.
+    pub fn with_wait(self, wait: bool) -> Options
+        ensures { result ≡ record self { wait = wait } }
+    {
+        Options { wait, ..self }
     }
 }

@@ -5,8 +5,10 @@ ghost use Rattle.bp_log.specs.Logs.{version_line, version_of};
 /// A version of the text of a log.
 #[derive(Clone, Copy, Debug, PartialEq, Eq)]
 pub enum Version {
-    /// The first version, and the one that is written.
+    /// It says nothing of waiting: its runs wait.
     First,
+    /// It says whether its run waits. It is the one that is written.
+    Second,
 }
 
 impl Version {
@@ -16,6 +18,7 @@ impl Version {
     {
         match self {
             Version::First => "bp-log 1",
+            Version::Second => "bp-log 2",
         }
     }
 
@@ -26,6 +29,9 @@ impl Version {
     {
         if line == Version::First.line().as_bytes() {
             return Some(Version::First);
+        }
+        if line == Version::Second.line().as_bytes() {
+            return Some(Version::Second);
         }
         None
     }

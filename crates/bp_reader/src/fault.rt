@@ -8,7 +8,7 @@ use thiserror::Error;
 /// Why a log is refused.
 #[derive(Clone, Copy, Debug, PartialEq, Eq, Error)]
 pub enum LogFault {
-    /// Another first line than that of this version.
+    /// A first line of no version.
     #[error("version")]
     Version,
     /// A line of the header, or the byte behind the program.

@@ -1,7 +1,8 @@
 //! The header of a log.
 ghost use Rattle.std.specs.Prelude.{◌≡◌, ◌≤◌, IfOk, IfSome, IsErrOf, length};
 ghost use Rattle.bp_base.specs.Counts.{Rose};
-ghost use Rattle.bp_reading.specs.Heads.{version_at, strategy_behind, strategy_line_at, field, field_at, program_at, choice_at, limits_at, options_at, header_at, CutsOff};
+ghost use Rattle.bp_reading.specs.Heads.{version_at, strategy_behind, strategy_line_at, field, field_at, program_at, choice_at, limits_at, options_at, wait_behind, wait_line_at, settings_at, body_at, header_at, CutsOff};
+ghost use Rattle.bp_log.specs.declared.version.Version.TheVariants as version;
 ghost use Rattle.bp_reader.specs.Fed.{Between};
 ghost use Rattle.bp_reader.specs.Gets.{Gets};
 
@@ -10,6 +11,7 @@ use crate::input::{Input, Taken};
 use bp_base::Source;
 use bp_lines::{behind_word, number_of};
 use bp_log::limits::{MOST_BUDGET, MOST_BYTES, MOST_INJECTORS, MOST_STEPS};
+use bp_log::options::wait_of_word;
 use bp_log::{Header, Options, Strategy, Version};
 use bp_reading::limits::MOST_LINE_BYTES;
 use std::alloc::Global;
@@ -139,7 +141,7 @@ fn program_of<S: Source>(
     }
 }
 
-/// The first line, the strategy and the seed.
+/// The strategy and the seed.
 #[tactic(auto, unfolding(bp_reading::specs::Heads::choice_at))]
 fn choice_of<S: Source>(alloc: Global, input: &mut Input<S>) -> Result<(Strategy, u64), LogFault>
     ensures gets { IfSome input.old.left
@@ -150,7 +152,6 @@ fn choice_of<S: Source>(alloc: Global, input: &mut Input<S>) -> Result<(Strategy
     ensures cause { IsErrOf result LogFault.Read → Rose input.old.faults input.new.faults }
     ensures counts { input.old.faults ≤ input.new.faults }
 {
-    version_of(alloc, input)?;
     let strategy = strategy_of(alloc, input)?;
     let seed = field_of(alloc, input, b"seed ", 0, u64::MAX)?;
     Ok((strategy, seed))
@@ -174,7 +175,7 @@ fn limits_of<S: Source>(alloc: Global, input: &mut Input<S>) -> Result<(u64, u32
     Ok((budget, steps as u32))
 }
 
-/// The first line and the options.
+/// The options that every version says, of a run that waits.
 #[tactic(auto, unfolding(bp_reading::specs::Heads::options_at))]
 fn options_of<S: Source>(alloc: Global, input: &mut Input<S>) -> Result<Options, LogFault>
     ensures gets { IfSome input.old.left
@@ -194,22 +195,115 @@ fn options_of<S: Source>(alloc: Global, input: &mut Input<S>) -> Result<Options,
     }
 }
 
-/// The header.
-#[tactic(auto, unfolding(bp_reading::specs::Heads::header_at))]
-pub fn header_of<S: Source>(alloc: Global, input: &mut Input<S>) -> Result<Header, LogFault>
+/// What is said of waiting, behind its word.
+fn waiting(line: &[u8]) -> Option<bool>
+    ensures { result ≡ wait_behind line.now }
+{
+    wait_of_word(behind_word(b"wait ", line)?)
+}
+
+/// The line of waiting, which the second version has.
+#[tactic(auto, unfolding(bp_reading::specs::Heads::wait_line_at))]
+fn second_wait_of<S: Source>(alloc: Global, input: &mut Input<S>) -> Result<bool, LogFault>
     ensures gets { IfSome input.old.left
-        (λ bytes. Gets (λ h. h) result (header_at bytes) input.new.left) }
+        (λ bytes. Gets (λ b. b) result (wait_line_at version.Second bytes) input.new.left) }
     ensures failed { IsErrOf result LogFault.Read
-        → Between input.old.left input.new.left (CutsOff header_at) }
+        → Between input.old.left input.new.left (CutsOff (wait_line_at version.Second)) }
+    ensures empty { IsErrOf result LogFault.Read → input.new.left ≡ input.new.source }
+    ensures cause { IsErrOf result LogFault.Read → Rose input.old.faults input.new.faults }
+    ensures counts { input.old.faults ≤ input.new.faults }
+{
+    let taken = input.line(alloc, MOST_LINE_BYTES)?;
+    match &taken {
+        Taken::Partial => Err(LogFault::Cut),
+        Taken::Excess => Err(LogFault::Header),
+        Taken::Line(line) => match waiting(line.as_slice()) {
+            None => Err(LogFault::Header),
+            Some(wait) => Ok(wait),
+        },
+    }
+}
+
+/// Whether the run waits: the first version says nothing of it, and its runs wait.
+#[tactic(auto, unfolding(bp_reading::specs::Heads::wait_line_at))]
+fn wait_of<S: Source>(
+    alloc: Global,
+    input: &mut Input<S>,
+    version: Version,
+) -> Result<bool, LogFault>
+    ensures gets { IfSome input.old.left
+        (λ bytes. Gets (λ b. b) result (wait_line_at version bytes) input.new.left) }
+    ensures failed { IsErrOf result LogFault.Read
+        → Between input.old.left input.new.left (CutsOff (wait_line_at version)) }
+    ensures empty { IsErrOf result LogFault.Read → input.new.left ≡ input.new.source }
+    ensures cause { IsErrOf result LogFault.Read → Rose input.old.faults input.new.faults }
+    ensures counts { input.old.faults ≤ input.new.faults }
+{
+    match version {
+        Version::First => Ok(true),
+        Version::Second => second_wait_of(alloc, input),
+    }
+}
+
+/// All options.
+#[tactic(auto, unfolding(bp_reading::specs::Heads::settings_at))]
+fn settings_of<S: Source>(
+    alloc: Global,
+    input: &mut Input<S>,
+    version: Version,
+) -> Result<Options, LogFault>
+    ensures gets { IfSome input.old.left
+        (λ bytes. Gets (λ o. o) result (settings_at version bytes) input.new.left) }
+    ensures failed { IsErrOf result LogFault.Read
+        → Between input.old.left input.new.left (CutsOff (settings_at version)) }
     ensures empty { IsErrOf result LogFault.Read → input.new.left ≡ input.new.source }
     ensures cause { IsErrOf result LogFault.Read → Rose input.old.faults input.new.faults }
     ensures counts { input.old.faults ≤ input.new.faults }
 {
     let options = options_of(alloc, input)?;
+    let wait = wait_of(alloc, input, version)?;
+    Ok(options.with_wait(wait))
+}
+
+/// The header behind its first line.
+#[tactic(auto, unfolding(bp_reading::specs::Heads::body_at))]
+fn body_of<S: Source>(
+    alloc: Global,
+    input: &mut Input<S>,
+    version: Version,
+) -> Result<Header, LogFault>
+    ensures gets { IfSome input.old.left
+        (λ bytes. Gets (λ h. h) result (body_at version bytes) input.new.left) }
+    ensures failed { IsErrOf result LogFault.Read
+        → Between input.old.left input.new.left (CutsOff (body_at version)) }
+    ensures empty { IsErrOf result LogFault.Read → input.new.left ≡ input.new.source }
+    ensures cause { IsErrOf result LogFault.Read → Rose input.old.faults input.new.faults }
+    ensures counts { input.old.faults ≤ input.new.faults }
+{
+    let options = settings_of(alloc, input, version)?;
     let size = field_of(alloc, input, b"program ", 0, u64::from(MOST_BYTES))?;
     let program = program_of(alloc, input, size)?;
     match Header::new(options, program) {
         None => Err(LogFault::Header),
         Some(header) => Ok(header),
     }
+}
+
+/// The version and the header.
+#[tactic(auto, unfolding(bp_reading::specs::Heads::header_at))]
+pub fn header_of<S: Source>(
+    alloc: Global,
+    input: &mut Input<S>,
+) -> Result<(Version, Header), LogFault>
+    ensures gets { IfSome input.old.left
+        (λ bytes. Gets (λ p. p) result (header_at bytes) input.new.left) }
+    ensures failed { IsErrOf result LogFault.Read
+        → Between input.old.left input.new.left (CutsOff header_at) }
+    ensures empty { IsErrOf result LogFault.Read → input.new.left ≡ input.new.source }
+    ensures cause { IsErrOf result LogFault.Read → Rose input.old.faults input.new.faults }
+    ensures counts { input.old.faults ≤ input.new.faults }
+{
+    let version = version_of(alloc, input)?;
+    let header = body_of(alloc, input, version)?;
+    Ok((version, header))
 }

@@ -39,12 +39,12 @@ impl Model for Progress {
 }
 
 impl Progress {
-    /// Nothing is read yet, and there are so many injectors. Takes no memory.
-    pub fn new(alloc: Global, injectors: u32) -> Progress
-        ensures { result ≡ first_stage injectors }
+    /// Nothing is read yet of a log of this version with so many injectors. Takes no memory.
+    pub fn new(alloc: Global, version: Version, injectors: u32) -> Progress
+        ensures { result ≡ first_stage version injectors }
     {
         Progress {
-            version: Version::First,
+            version,
             injectors,
             over: Vec::new(alloc),
             lines: 0,
@@ -58,6 +58,7 @@ impl Progress {
     {
         match self.version {
             Version::First => MOST_LINE_BYTES,
+            Version::Second => MOST_LINE_BYTES,
         }
     }
 

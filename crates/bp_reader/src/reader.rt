@@ -151,8 +151,10 @@ impl<S: Source> Reader<S> {
     /// A reader of the log, and its header; a refusal hands the source back.
     pub fn open(alloc: Global, source: S) -> Result<(Reader<S>, Header), Refused<S>>
         ensures header { IfOk result (λ p. IfSome (S.left source)
-            (λ bytes. IsSomeAnd p.0.left (λ rest. header_at bytes ≡ Ok (p.1, rest)))) }
-        ensures stage { IfOk result (λ p. p.0.stage ≡ first_stage p.1.options.injectors) }
+            (λ bytes. IsSomeAnd p.0.left
+            (λ rest. header_at bytes ≡ Ok ((p.0.stage.version, p.1), rest)))) }
+        ensures stage { IfOk result (λ p. p.0.stage
+            ≡ first_stage p.0.stage.version p.1.options.injectors) }
         ensures fresh { IfOk result (λ p. p.0.refusal ≡ None) }
         ensures counts { IfOk result (λ p. S.faults source ≤ p.0.faults) }
         ensures refused { IfErr result (λ e. IfSome (S.left source)
@@ -165,8 +167,8 @@ impl<S: Source> Reader<S> {
     {
         let mut input = Input::new(source);
         match header_of(alloc, &mut input) {
-            Ok(header) => {
-                let progress = Progress::new(alloc, header.options().injectors());
+            Ok((version, header)) => {
+                let progress = Progress::new(alloc, version, header.options().injectors());
                 let reader = Reader {
                     input,
                     progress,

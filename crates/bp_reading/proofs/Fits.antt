@@ -1,5 +1,5 @@
 -- What is read up to a good end is a log.
-use Rattle.std.proofs.Common.{◌≡◌, ◌∙◌, ℕ, ◌<◌, ◌≤◌, ◌^◌, true, false, List, [], ◌∷◌, length, Option, Some, None, Ok, refl, sym, ap, subst, inl, inr, arith}
+use Rattle.std.proofs.Common.{◌≡◌, ◌∙◌, ℕ, ◌<◌, ◌≤◌, ◌^◌, Bool, true, false, List, [], ◌∷◌, length, Option, Some, None, Ok, refl, sym, ap, subst, inl, inr, arith}
 use Rattle.std.specs.Prelude.{nat_le, codes}
 use Rattle.std.proofs.lemmas.Bool.{leb-true, leb-false}
 use Rattle.std.proofs.lemmas.Option.{cond_some, none-some}
@@ -9,11 +9,12 @@ use Rattle.bp_log.specs.Header.{PlainHeader}
 use Rattle.bp_log.specs.Logs.{records_text, log_text}
 use Rattle.bp_log.specs.declared.limits.TheConstants.{MOST_BYTES, MOST_BUDGET, MOST_STEPS, MOST_INJECTORS}
 use Rattle.bp_log.specs.declared.options.Strategy.{Strategy}
+use Rattle.bp_log.specs.declared.version.Version.{Version}
 use Rattle.bp_log.specs.declared.record.Record.{Record}
 use Rattle.bp_reading.specs.declared.limits.TheConstants.{MOST_LINE_BYTES, MOST_RECORDS}
 use Rattle.bp_reading.specs.Words.{most_64, number_behind}
 use Rattle.bp_reading.specs.Lines.{record_at}
-use Rattle.bp_reading.specs.Heads.{whole, line_at, line_room, header, from_least, field, version_at, strategy_line_at, field_at, program_at, choice_at, limits_at, options_at, header_at}
+use Rattle.bp_reading.specs.Heads.{whole, line_at, line_room, header, from_least, field, version_at, strategy_line_at, field_at, program_at, choice_at, limits_at, options_at, wait_line_at, settings_at, body_at, header_at}
 use Rattle.bp_reading.specs.Reading.{Stage, first_stage, after, can_stand, Says, if_stands, front_at, found, finished, next_at}
 use Rattle.bp_reading.specs.Laws.{IsHeader, AreRecords, Stands, ReadLogsAreTexts, LinesAreTexts, Spells}
 use Rattle.bp_reading.proofs.Lines.{room_is}
@@ -36,8 +37,7 @@ field_fits w bytes rest least most n small h =
 choice_fits : (bytes rest : List ℕ) (c : Strategy × ℕ) → choice_at bytes ≡ Ok (c, rest) → c.1 < 2 ^ 64
 unfolding choice_at
 choice_fits bytes rest c h =
-    let v = bound (version_at bytes) _ (c, rest) h in
-    let s = bound (strategy_line_at v.0.1) _ (c, rest) v.2 in
+    let s = bound (strategy_line_at bytes) _ (c, rest) h in
     let n = bound (field_at (codes "seed ") 0 most_64 s.0.1) _ (c, rest) s.2 in
     let fits = (field_fits (codes "seed ") s.0.1 n.0.1 0 most_64 n.0.0 (omega arith) n.1).1 in
     subst (λ (q : (Strategy × ℕ) × List ℕ). q.0.1 < 2 ^ 64) (ok_is _ _ _ refl n.2) (omega (arith, fits))
@@ -64,16 +64,37 @@ options_fit bytes rest o h =
       record { some_budget = limits.0.0; budget = limits.0.1; some_steps = limits.1.0; steps = limits.1.1; injectors = injectors.1 },
     )
 
-pub header_fits : (bytes rest : List ℕ) (h : PlainHeader) → header_at bytes ≡ Ok (h, rest) → IsHeader h
-unfolding header_at
-header_fits bytes rest h k =
-    let o = bound (options_at bytes) _ (h, rest) k in
+-- options in their ranges, whether the run waits or not
+abbrev InRange : PlainOptions → Type 0
+InRange o = (o.seed < 2 ^ 64) × AreOptions o
+
+still : (o : PlainOptions) (b : Bool) → InRange o → InRange (record o { wait = b })
+still o b h = (h.0, record { some_budget = h.1.some_budget; budget = h.1.budget; some_steps = h.1.some_steps; steps = h.1.steps; injectors = h.1.injectors })
+
+settings_fit : (v : Version) (bytes rest : List ℕ) (o : PlainOptions) → settings_at v bytes ≡ Ok (o, rest) → InRange o
+unfolding settings_at
+settings_fit v bytes rest o h =
+    let p = bound (options_at bytes) _ (o, rest) h in
+    let w = bound (wait_line_at v p.0.1) _ (o, rest) p.2 in
+    subst (λ (q : PlainOptions × List ℕ). InRange q.0) (ok_is _ _ _ refl w.2) (still p.0.0 w.0.0 (options_fit bytes p.0.1 p.0.0 p.1))
+
+body_fits : (v : Version) (bytes rest : List ℕ) (h : PlainHeader) → body_at v bytes ≡ Ok (h, rest) → IsHeader h
+unfolding body_at
+body_fits v bytes rest h k =
+    let o = bound (settings_at v bytes) _ (h, rest) k in
     let n = bound (field_at (codes "program ") 0 MOST_BYTES o.0.1) _ (h, rest) o.2 in
     let p = bound (program_at n.0.0 n.0.1) _ (h, rest) n.2 in
-    let options = options_fit bytes o.0.1 o.0.0 o.1 in
+    let options = settings_fit v bytes o.0.1 o.0.0 o.1 in
     let size = (field_fits (codes "program ") o.0.1 n.0.1 0 MOST_BYTES n.0.0 (omega arith) n.1).1 in
     let length_is = (program_again n.0.0 n.0.1 p.0.0 p.0.1 p.1).0 in
     subst (λ (q : PlainHeader × List ℕ). IsHeader q.0) (ok_is _ _ _ refl p.2) (record { seed = options.0; options = options.1; program = omega (arith, size, length_is) })
+
+pub header_fits : (bytes rest : List ℕ) (v : Version) (h : PlainHeader) → header_at bytes ≡ Ok ((v, h), rest) → IsHeader h
+unfolding header_at
+header_fits bytes rest v h k =
+    let f = bound (version_at bytes) _ ((v, h), rest) k in
+    let b = bound (body_at f.0.0 f.0.1) _ ((v, h), rest) f.2 in
+    subst (λ (q : (Version × PlainHeader) × List ℕ). IsHeader q.0.1) (ok_is _ _ _ refl b.2) (body_fits f.0.0 f.0.1 b.0.1 b.0.0 b.1)
 
 -- ---- the records
 
@@ -125,12 +146,14 @@ records_low (r ∷ rs) s bytes h =
 
 pub read_logs_are_texts : ReadLogsAreTexts
 unfolding log_text
-read_logs_are_texts bytes rest h rs k l =
-    let s = first_stage h.options.injectors in
+read_logs_are_texts bytes rest v h rs k l =
+    let s = first_stage v h.options.injectors in
+    let said = header_again bytes rest v h k in
     record {
-      text = header_again bytes rest h k ∙ ap (header_then h) (records_again rs s rest l) ∙ sym (header_regrouped h (records_text rs));
+      text = said.0 ∙ ap (header_then v h) (records_again rs s rest l) ∙ sym (header_regrouped v h (records_text rs));
+      version = said.1;
       complete = complete_again rs s rest refl l;
-      header = header_fits bytes rest h k;
+      header = header_fits bytes rest v h k;
       records = records_low rs s rest l;
       stands = records_stand rs s rest l;
     }

@@ -4,10 +4,12 @@ use Rattle.std.proofs.Common.{◌≡◌, ◌∙◌, ℕ, ◌≤◌, Bool, true, 
 use Rattle.std.specs.Prelude.{codes, nat_le, if◌then◌else◌}
 use Rattle.bp_log.specs.Logs.{record_text, version_of}
 use Rattle.bp_log.specs.declared.limits.TheConstants.{MOST_BYTES, MOST_BUDGET, MOST_STEPS, MOST_INJECTORS}
+use Rattle.bp_log.specs.declared.version.Version.{Version}
+use Rattle.bp_log.specs.declared.version.Version.TheVariants.{First, Second}
 use Rattle.bp_log.specs.declared.record.Record.{Record}
 use Rattle.bp_reading.specs.declared.limits.TheConstants.{MOST_LINE_BYTES, MOST_RECORDS}
 use Rattle.bp_reading.specs.Words.{most_64}
-use Rattle.bp_reading.specs.Heads.{line_at, line_room, Refusal, version, header, cut, ◌>>=◌, or_else, said, version_at, strategy_behind, strategy_line_at, field, field_at, program_at, choice_at, limits_at, options_at, header_at, CutsOff, LineBreaksOff}
+use Rattle.bp_reading.specs.Heads.{line_at, line_room, Refusal, version, header, cut, ◌>>=◌, or_else, said, version_at, strategy_behind, strategy_line_at, field, field_at, program_at, choice_at, limits_at, options_at, wait_behind, wait_line_at, settings_at, body_at, header_at, CutsOff, LineBreaksOff}
 use Rattle.bp_reading.specs.Reading.{Stage, after, BeginsWith, BreaksOff, found, finished, refused, too_many, next_of, next_at}
 use Rattle.bp_reading.proofs.Again.{record_again}
 use Rattle.bp_reading.proofs.Told.{ok_is, bound, said_parts, line_spelled, line_other, program_again, found_again}
@@ -73,9 +75,8 @@ program_fronts n bytes r h =
 pub choice_fronts : ReadsFronts choice_at
 unfolding choice_at
 choice_fronts =
-    bind_fronts version_at _ version_fronts
-    (λ v. bind_fronts strategy_line_at _ strategy_fronts
-    (λ strategy. bind_fronts (field_at (codes "seed ") 0 most_64) _ (field_fronts (codes "seed ") 0 most_64) (λ seed. none_read (strategy, seed))))
+    bind_fronts strategy_line_at _ strategy_fronts
+    (λ strategy. bind_fronts (field_at (codes "seed ") 0 most_64) _ (field_fronts (codes "seed ") 0 most_64) (λ seed. none_read (strategy, seed)))
 
 pub limits_fronts : ReadsFronts limits_at
 unfolding limits_at
@@ -90,12 +91,29 @@ options_fronts =
     (λ choice. bind_fronts limits_at _ limits_fronts
     (λ limits. bind_fronts (field_at (codes "injectors ") 0 MOST_INJECTORS) _ (field_fronts (codes "injectors ") 0 MOST_INJECTORS) (λ injectors. none_read _)))
 
+pub wait_fronts : (v : Version) → ReadsFronts (wait_line_at v)
+unfolding wait_line_at
+wait_fronts First = none_read true
+wait_fronts Second = said_fronts header wait_behind MOST_LINE_BYTES
+
+pub settings_fronts : (v : Version) → ReadsFronts (settings_at v)
+unfolding settings_at
+settings_fronts v =
+    bind_fronts options_at _ options_fronts
+    (λ options. bind_fronts (wait_line_at v) _ (wait_fronts v) (λ wait. none_read _))
+
+pub body_fronts : (v : Version) → ReadsFronts (body_at v)
+unfolding body_at
+body_fronts v =
+    bind_fronts (settings_at v) _ (settings_fronts v)
+    (λ options. bind_fronts (field_at (codes "program ") 0 MOST_BYTES) _ (field_fronts (codes "program ") 0 MOST_BYTES)
+    (λ size. bind_fronts (program_at size) _ (program_fronts size) (λ program. none_read _)))
+
 pub header_fronts : ReadsFronts header_at
 unfolding header_at
 header_fronts =
-    bind_fronts options_at _ options_fronts
-    (λ options. bind_fronts (field_at (codes "program ") 0 MOST_BYTES) _ (field_fronts (codes "program ") 0 MOST_BYTES)
-    (λ size. bind_fronts (program_at size) _ (program_fronts size) (λ program. none_read _)))
+    bind_fronts version_at _ version_fronts
+    (λ v. bind_fronts (body_at v) _ (body_fronts v) (λ h. none_read (v, h)))
 
 -- ---- what ends too early
 
@@ -122,6 +140,11 @@ next_front s bytes rest r h =
     let p = found_line s bytes rest r h in
     let short = subst (λ (l : List ℕ). length l ≤ MOST_LINE_BYTES) (record_again p.0 r p.2) p.1.short in
     (found_again s bytes rest r h, λ other. next_back s r other (record_low p.0 r p.2) p.1.going p.1.few p.3 short)
+
+-- one more record was read
+pub begins_on : (s : Stage) (bytes : List ℕ) (rs : List Record) (t : Stage) (left : List ℕ) (r : Record) (rest : List ℕ) → BeginsWith s bytes rs t left → next_at t left ≡ found r rest → BeginsWith s bytes (rs ++ r ∷ []) (after t r) rest
+begins_on s bytes [] t left r rest b h = (rest, subst (λ (x : Stage). next_at x bytes ≡ found r rest) b.0 (subst (λ (xs : List ℕ). next_at t xs ≡ found r rest) b.1 h), (ap (λ (x : Stage). after x r) b.0, refl))
+begins_on s bytes (q ∷ rs) t left r rest b h = (b.0, b.1, begins_on (after s q) b.0 rs t left r rest b.2 h)
 
 -- the records that bytes begin with stand at their front, whatever follows
 pub begins_front : (rs : List Record) (s : Stage) (bytes : List ℕ) (t : Stage) (left part more : List ℕ) → BeginsWith s bytes rs t left → left ≡ part ++ more →

@@ -6,7 +6,7 @@ use Rattle.std.specs.Prelude.{◌==◌}
 use Rattle.std.proofs.lemmas.Option.{same_Some}
 use Rattle.bp_reading.specs.Words.{around}
 use Rattle.bp_log.specs.declared.version.Version.{Version}
-use Rattle.bp_log.specs.declared.version.Version.TheVariants.{First}
+use Rattle.bp_log.specs.declared.version.Version.TheVariants.{First, Second}
 use Rattle.bp_reading.specs.declared.limits.TheConstants.{MOST_LINE_BYTES}
 use Rattle.bp_reading.specs.Heads.{line_at, line_room, whole}
 
@@ -60,3 +60,4 @@ line_is room (x ∷ a) rest h w =
 -- the lines of records of all versions have one limit
 pub room_is : (v : Version) → line_room v ≡ MOST_LINE_BYTES
 room_is First = refl
+room_is Second = refl

@@ -1,29 +1,29 @@
 -- What is read as a header and a complete list is their text.
-use Rattle.std.proofs.Common.{◌≡◌, ◌∙◌, ◌<◌, ◌≤◌, ◌-◌, ◌^◌, ℕ, zero, suc, sym, ap, ap₂, subst, true, false, List, [], ◌++◌, ◌∷◌, length, Option, Some, None, Result, Ok, Err, refl, inl, inr, arith, append_assoc}
+use Rattle.std.proofs.Common.{◌≡◌, ◌∙◌, ◌<◌, ◌≤◌, ◌-◌, ◌^◌, ℕ, zero, suc, sym, ap, ap₂, subst, Bool, true, false, List, [], ◌++◌, ◌∷◌, length, Option, Some, None, Result, Ok, Err, refl, inl, inr, arith, append_assoc}
 use Rattle.std.specs.Prelude.{◌==◌, decimal, codes, nat_le, is_ok, if◌then◌else◌}
 use Rattle.std.specs.Str.{bytes_eq}
 use Rattle.std.proofs.lemmas.Bool.Decides.{eqb_tells}
 use Rattle.std.proofs.lemmas.Bool.{false≢true}
-use Rattle.std.proofs.lemmas.Option.{cond_some}
+use Rattle.std.proofs.lemmas.Option.{cond_some, same_Some}
 use Rattle.std.proofs.lemmas.Slice.Eq.{bytes_eq-Decides}
 use Rattle.js_data.proofs.Shared.{chained}
 use Rattle.bp_log.specs.Options.{PlainOptions}
 use Rattle.bp_log.specs.Header.{PlainHeader}
-use Rattle.bp_log.specs.Logs.{record_text, records_text, strategy_name, strategy_at, version_line, version_of}
+use Rattle.bp_log.specs.Logs.{record_text, records_text, strategy_name, strategy_at, version_line, version_of, wait_name, wait_at, can_say}
 use Rattle.bp_log.specs.declared.limits.TheConstants.{MOST_BYTES, MOST_BUDGET, MOST_STEPS, MOST_INJECTORS}
 use Rattle.bp_log.specs.declared.options.Strategy.{Strategy}
 use Rattle.bp_log.specs.Records.{is_complete}
 use Rattle.bp_log.specs.declared.version.Version.{Version}
-use Rattle.bp_log.specs.declared.version.Version.TheVariants.{First}
+use Rattle.bp_log.specs.declared.version.Version.TheVariants.{First, Second}
 use Rattle.bp_log.specs.declared.record.Record.{Record}
 use Rattle.bp_log.specs.declared.record.Record.TheVariants.{In, Bad, Eof, Sel, End}
 use Rattle.bp_reading.specs.declared.limits.TheConstants.{MOST_LINE_BYTES, MOST_RECORDS}
 use Rattle.bp_reading.specs.Words.{most_64, behind, number_behind}
 use Rattle.bp_reading.specs.Lines.{record_at}
-use Rattle.bp_reading.specs.Heads.{Front, nothing, partial, excess, whole, onto, line_at, Refusal, version, header, cut, ◌>>=◌, or_else, said, line_room, version_at, strategy_behind, strategy_line_at, from_least, field, field_at, program_at, choice_at, limits_at, options_at, header_at}
+use Rattle.bp_reading.specs.Heads.{Front, nothing, partial, excess, whole, onto, line_at, Refusal, version, header, cut, ◌>>=◌, or_else, said, line_room, version_at, strategy_behind, strategy_line_at, from_least, field, field_at, program_at, choice_at, limits_at, options_at, wait_behind, wait_line_at, settings_at, body_at, header_at}
 use Rattle.bp_reading.specs.Reading.{Stage, after, Says, if_stands, next_record, behind_end, too_many, front_at, Next, found, finished, refused, next_found, next_of, next_at}
 use Rattle.bp_reading.proofs.Spelled.{options_then}
-use Rattle.bp_reading.proofs.Law.{regrouped, header_then}
+use Rattle.bp_reading.proofs.Law.{regrouped, wait_then, body_then, header_then}
 use Rattle.bp_reading.proofs.Again.{chosen, behind_spelled, word_spelled, strategy_spelled, record_again}
 
 -- ---- answers taken apart
@@ -156,12 +156,39 @@ line_some (b ∷ bytes) room h = elim (chosen (b == 10) _ _ _ h) [
 
 -- ---- the header
 
-version_again : (bytes rest : List ℕ) (v : Version) → version_at bytes ≡ Ok (v, rest) → bytes ≡ version_line First ++ (10 ∷ rest)
+version_spelled : (line : List ℕ) (v : Version) → version_of line ≡ Some v → line ≡ version_line v
+version_spelled line v h = elim (chosen (bytes_eq line (version_line First)) _ _ _ h) [
+  | inl first ↦ (bytes_eq-Decides line (version_line First)).0 first.0 ∙ ap version_line (same_Some First v first.1)
+  | inr other ↦ let second = cond_some (bytes_eq line (version_line Second)) Second v other.1 in
+      (bytes_eq-Decides line (version_line Second)).0 second.0 ∙ ap version_line second.1
+]
+
+version_again : (bytes rest : List ℕ) (v : Version) → version_at bytes ≡ Ok (v, rest) → bytes ≡ version_line v ++ (10 ∷ rest)
 unfolding version_at
 version_again bytes rest v h =
     let p = said_parts version version_of (line_at MOST_LINE_BYTES bytes) v rest h in
-    let q = cond_some (bytes_eq p.0 (version_line First)) First v p.2 in
-    line_spelled bytes MOST_LINE_BYTES p.0 rest p.1 ∙ ap (λ (l : List ℕ). l ++ (10 ∷ rest)) ((bytes_eq-Decides p.0 (version_line First)).0 q.0)
+    line_spelled bytes MOST_LINE_BYTES p.0 rest p.1 ∙ ap (λ (l : List ℕ). l ++ (10 ∷ rest)) (version_spelled p.0 v p.2)
+
+wait_spelled : (name : List ℕ) (b : Bool) → wait_at name ≡ Some b → name ≡ wait_name b
+wait_spelled name b h = elim (chosen (bytes_eq name (wait_name true)) _ _ _ h) [
+  | inl first ↦ (bytes_eq-Decides name (wait_name true)).0 first.0 ∙ ap wait_name (same_Some true b first.1)
+  | inr other ↦ let second = cond_some (bytes_eq name (wait_name false)) false b other.1 in
+      (bytes_eq-Decides name (wait_name false)).0 second.0 ∙ ap wait_name second.1
+]
+
+-- what is read of waiting is what is said, and the first version says that a run waits
+wait_again : (v : Version) (bytes rest : List ℕ) (b : Bool) → wait_line_at v bytes ≡ Ok (b, rest) → (10 ∷ bytes ≡ wait_then v b (10 ∷ rest)) × (can_say v b ≡ true)
+unfolding wait_line_at
+wait_again First bytes rest b h =
+    let e = ok_is _ (true, bytes) (b, rest) refl h in
+    (ap (λ (q : Bool × List ℕ). 10 ∷ q.1) e, sym (ap (λ (q : Bool × List ℕ). q.0) e))
+wait_again Second bytes rest b h =
+    let p = said_parts header wait_behind (line_at MOST_LINE_BYTES bytes) b rest h in
+    let q = chained wait_at (behind (codes "wait ") p.0) b p.2 in (
+      ap (λ (t : List ℕ). 10 ∷ t) (line_spelled bytes MOST_LINE_BYTES p.0 rest p.1
+          ∙ ap (λ (l : List ℕ). l ++ (10 ∷ rest)) (behind_spelled (codes "wait ") p.0 q.0 q.1 ∙ ap (λ (t : List ℕ). codes "wait " ++ t) (wait_spelled q.0 b q.2))),
+      refl,
+    )
 
 strategy_again : (bytes rest : List ℕ) (s : Strategy) → strategy_line_at bytes ≡ Ok (s, rest) → bytes ≡ codes "strategy " ++ (strategy_name s ++ (10 ∷ rest))
 unfolding strategy_line_at
@@ -202,17 +229,15 @@ program_again (suc n) (b ∷ bytes) p rest h =
     )
 
 choice_again : (bytes rest : List ℕ) (c : Strategy × ℕ) → choice_at bytes ≡ Ok (c, rest)
-    → bytes ≡ version_line First ++ (10 ∷ (codes "strategy " ++ (strategy_name c.0 ++ (10 ∷ (codes "seed " ++ (decimal c.1 ++ (10 ∷ rest)))))))
+    → bytes ≡ codes "strategy " ++ (strategy_name c.0 ++ (10 ∷ (codes "seed " ++ (decimal c.1 ++ (10 ∷ rest)))))
 unfolding choice_at
 choice_again bytes rest c h =
-    let v = bound (version_at bytes) _ (c, rest) h in
-    let s = bound (strategy_line_at v.0.1) _ (c, rest) v.2 in
+    let s = bound (strategy_line_at bytes) _ (c, rest) h in
     let n = bound (field_at (codes "seed ") 0 most_64 s.0.1) _ (c, rest) s.2 in
     let e = ok_is _ _ _ refl n.2 in
-    version_again bytes v.0.1 v.0.0 v.1
-    ∙ ap (λ (t : List ℕ). version_line First ++ (10 ∷ t)) (strategy_again v.0.1 s.0.1 s.0.0 s.1
-    ∙ ap (λ (t : List ℕ). codes "strategy " ++ (strategy_name s.0.0 ++ (10 ∷ t))) (field_again (codes "seed ") s.0.1 n.0.1 0 most_64 n.0.0 (omega arith) n.1))
-    ∙ ap (λ (q : (Strategy × ℕ) × List ℕ). version_line First ++ (10 ∷ (codes "strategy " ++ (strategy_name q.0.0 ++ (10 ∷ (codes "seed " ++ (decimal q.0.1 ++ (10 ∷ q.1)))))))) e
+    strategy_again bytes s.0.1 s.0.0 s.1
+    ∙ ap (λ (t : List ℕ). codes "strategy " ++ (strategy_name s.0.0 ++ (10 ∷ t))) (field_again (codes "seed ") s.0.1 n.0.1 0 most_64 n.0.0 (omega arith) n.1)
+    ∙ ap (λ (q : (Strategy × ℕ) × List ℕ). codes "strategy " ++ (strategy_name q.0.0 ++ (10 ∷ (codes "seed " ++ (decimal q.0.1 ++ (10 ∷ q.1)))))) e
 
 limits_again : (bytes rest : List ℕ) (l : ℕ × ℕ) → limits_at bytes ≡ Ok (l, rest)
     → bytes ≡ codes "budget " ++ (decimal l.0 ++ (10 ∷ (codes "steps " ++ (decimal l.1 ++ (10 ∷ rest)))))
@@ -225,7 +250,7 @@ limits_again bytes rest l h =
     ∙ ap (λ (t : List ℕ). codes "budget " ++ (decimal b.0.0 ++ (10 ∷ t))) (field_again (codes "steps ") b.0.1 s.0.1 1 MOST_STEPS s.0.0 (omega arith) s.1)
     ∙ ap (λ (q : (ℕ × ℕ) × List ℕ). codes "budget " ++ (decimal q.0.0 ++ (10 ∷ (codes "steps " ++ (decimal q.0.1 ++ (10 ∷ q.1)))))) e
 
-options_again : (bytes rest : List ℕ) (o : PlainOptions) → options_at bytes ≡ Ok (o, rest) → bytes ≡ version_line First ++ (10 ∷ options_then o (10 ∷ rest))
+options_again : (bytes rest : List ℕ) (o : PlainOptions) → options_at bytes ≡ Ok (o, rest) → (bytes ≡ options_then o (10 ∷ rest)) × (o.wait ≡ true)
 unfolding options_at options_then
 options_again bytes rest o h =
     let c = bound (choice_at bytes) _ (o, rest) h in
@@ -233,24 +258,61 @@ options_again bytes rest o h =
     let i = bound (field_at (codes "injectors ") 0 MOST_INJECTORS l.0.1) _ (o, rest) l.2 in
     let e = ok_is _ _ _ refl i.2 in
     let last = field_again (codes "injectors ") l.0.1 i.0.1 0 MOST_INJECTORS i.0.0 (omega arith) i.1 in
-    let limits = limits_again c.0.1 l.0.1 l.0.0 l.1 ∙ ap (λ (t : List ℕ). codes "budget " ++ (decimal l.0.0.0 ++ (10 ∷ (codes "steps " ++ (decimal l.0.0.1 ++ (10 ∷ t)))))) last in
-    choice_again bytes c.0.1 c.0.0 c.1
-    ∙ ap (λ (t : List ℕ). version_line First ++ (10 ∷ (codes "strategy " ++ (strategy_name c.0.0.0 ++ (10 ∷ (codes "seed " ++ (decimal c.0.0.1 ++ (10 ∷ t)))))))) limits
-    ∙ ap (λ (q : PlainOptions × List ℕ). version_line First ++ (10 ∷ options_then q.0 (10 ∷ q.1))) e
+    let limits = limits_again c.0.1 l.0.1 l.0.0 l.1 ∙ ap (λ (t : List ℕ). codes "budget " ++ (decimal l.0.0.0 ++ (10 ∷ (codes "steps " ++ (decimal l.0.0.1 ++ (10 ∷ t)))))) last in (
+      choice_again bytes c.0.1 c.0.0 c.1
+          ∙ ap (λ (t : List ℕ). codes "strategy " ++ (strategy_name c.0.0.0 ++ (10 ∷ (codes "seed " ++ (decimal c.0.0.1 ++ (10 ∷ t)))))) limits
+          ∙ ap (λ (q : PlainOptions × List ℕ). options_then q.0 (10 ∷ q.1)) e,
+      sym (ap (λ (q : PlainOptions × List ℕ). q.0.wait) e),
+    )
 
-pub header_again : (bytes rest : List ℕ) (h : PlainHeader) → header_at bytes ≡ Ok (h, rest) → bytes ≡ header_then h rest
-unfolding header_at header_then
-header_again bytes rest h k =
-    let o = bound (options_at bytes) _ (h, rest) k in
+-- waiting is no part of the other options' text
+options_then-wait : (o : PlainOptions) (b : Bool) (more : List ℕ) → options_then (record o { wait = b }) more ≡ options_then o more
+unfolding options_then
+options_then-wait o b more = refl
+
+settings_again : (v : Version) (bytes rest : List ℕ) (o : PlainOptions) → settings_at v bytes ≡ Ok (o, rest) → (bytes ≡ options_then o (wait_then v o.wait (10 ∷ rest))) × (can_say v o.wait ≡ true)
+unfolding settings_at
+settings_again v bytes rest o h =
+    let p = bound (options_at bytes) _ (o, rest) h in
+    let w = bound (wait_line_at v p.0.1) _ (o, rest) p.2 in
+    let e = ok_is _ _ _ refl w.2 in
+    let said = wait_again v p.0.1 w.0.1 w.0.0 w.1 in (
+      (options_again bytes p.0.1 p.0.0 p.1).0
+          ∙ ap (options_then p.0.0) said.0
+          ∙ sym (options_then-wait p.0.0 w.0.0 (wait_then v w.0.0 (10 ∷ w.0.1)))
+          ∙ ap (λ (q : PlainOptions × List ℕ). options_then q.0 (wait_then v q.0.wait (10 ∷ q.1))) e,
+      subst (λ (q : PlainOptions × List ℕ). can_say v q.0.wait ≡ true) e said.1,
+    )
+
+pub body_again : (v : Version) (bytes rest : List ℕ) (h : PlainHeader) → body_at v bytes ≡ Ok (h, rest) → (bytes ≡ body_then v h rest) × (can_say v h.options.wait ≡ true)
+unfolding body_at
+body_again v bytes rest h k =
+    let o = bound (settings_at v bytes) _ (h, rest) k in
     let n = bound (field_at (codes "program ") 0 MOST_BYTES o.0.1) _ (h, rest) o.2 in
     let p = bound (program_at n.0.0 n.0.1) _ (h, rest) n.2 in
     let e = ok_is _ _ _ refl p.2 in
     let program = program_again n.0.0 n.0.1 p.0.0 p.0.1 p.1 in
     let size = field_again (codes "program ") o.0.1 n.0.1 0 MOST_BYTES n.0.0 (omega arith) n.1 in
     let tail = size ∙ ap₂ (λ (m : ℕ) (t : List ℕ). codes "program " ++ (decimal m ++ (10 ∷ t))) (sym program.0) program.1 in
-    options_again bytes o.0.1 o.0.0 o.1
-    ∙ ap (λ (t : List ℕ). version_line First ++ (10 ∷ options_then o.0.0 (10 ∷ t))) tail
-    ∙ ap (λ (q : PlainHeader × List ℕ). version_line First ++ (10 ∷ options_then q.0.options (10 ∷ (codes "program " ++ (decimal (length q.0.program) ++ (10 ∷ (q.0.program ++ (10 ∷ q.1)))))))) e
+    let said = settings_again v bytes o.0.1 o.0.0 o.1 in (
+      said.0
+          ∙ ap (λ (t : List ℕ). options_then o.0.0 (wait_then v o.0.0.wait (10 ∷ t))) tail
+          ∙ ap (λ (q : PlainHeader × List ℕ). body_then v q.0 q.1) e,
+      subst (λ (q : PlainHeader × List ℕ). can_say v q.0.options.wait ≡ true) e said.1,
+    )
+
+pub header_again : (bytes rest : List ℕ) (v : Version) (h : PlainHeader) → header_at bytes ≡ Ok ((v, h), rest) → (bytes ≡ header_then v h rest) × (can_say v h.options.wait ≡ true)
+unfolding header_at header_then
+header_again bytes rest v h k =
+    let f = bound (version_at bytes) _ ((v, h), rest) k in
+    let b = bound (body_at f.0.0 f.0.1) _ ((v, h), rest) f.2 in
+    let e = ok_is _ _ _ refl b.2 in
+    let said = body_again f.0.0 f.0.1 b.0.1 b.0.0 b.1 in (
+      version_again bytes f.0.1 f.0.0 f.1
+          ∙ ap (λ (t : List ℕ). version_line f.0.0 ++ (10 ∷ t)) said.0
+          ∙ ap (λ (q : (Version × PlainHeader) × List ℕ). version_line q.0.0 ++ (10 ∷ body_then q.0.0 q.0.1 q.1)) e,
+      subst (λ (q : (Version × PlainHeader) × List ℕ). can_say q.0.0 q.0.1.options.wait ≡ true) e said.1,
+    )
 
 -- ---- the records
 

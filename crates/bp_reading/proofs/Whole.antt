@@ -1,12 +1,14 @@
 -- A log's text is read as its header and its records.
-use Rattle.std.proofs.Common.{◌≡◌, ℕ, ◌<◌, ◌≤◌, ◌^◌, true, false, List, [], ◌∷◌, ◌++◌, length, Some, None, Ok, refl, ap, ◌∙◌, arith, append_assoc, inl, inr, length-append}
+use Rattle.std.proofs.Common.{Bool, sym, ◌≡◌, ℕ, ◌<◌, ◌≤◌, ◌^◌, true, false, List, [], ◌∷◌, ◌++◌, length, Some, None, Ok, refl, ap, ◌∙◌, arith, append_assoc, inl, inr, length-append}
 use Rattle.std.specs.Prelude.{decimal, codes}
 use Rattle.std.proofs.lemmas.Bool.{lt-leb, le-leb}
 use Rattle.std.proofs.lemmas.Bool.Decides.{eqb_tells}
 use Rattle.std.proofs.lemmas.Fmt.{length-decimal-le}
 use Rattle.bp_log.specs.Options.{PlainOptions, AreOptions}
 use Rattle.bp_log.specs.Header.{PlainHeader}
-use Rattle.bp_log.specs.Logs.{record_text, records_text, log_text, strategy_name, version_line}
+use Rattle.bp_log.specs.Logs.{record_text, records_text, log_text, strategy_name, version_line, wait_name, can_say}
+use Rattle.bp_log.specs.declared.version.Version.{Version}
+use Rattle.bp_log.specs.declared.version.Version.TheVariants.{First, Second}
 use Rattle.bp_log.specs.declared.limits.TheConstants.{MOST_BYTES, MOST_BUDGET, MOST_STEPS, MOST_INJECTORS}
 use Rattle.bp_log.specs.declared.options.Strategy.{Strategy}
 use Rattle.bp_log.specs.declared.options.Strategy.TheVariants.{Simple, Ordered, Priority}
@@ -14,14 +16,14 @@ use Rattle.bp_log.specs.declared.version.Version.TheVariants.{First}
 use Rattle.bp_log.specs.declared.record.Record.{Record}
 use Rattle.bp_reading.specs.declared.limits.TheConstants.{MOST_LINE_BYTES, MOST_RECORDS}
 use Rattle.bp_reading.specs.Words.{most_64, behind}
-use Rattle.bp_reading.specs.Heads.{◌>>=◌, version_at, strategy_line_at, field_at, program_at, choice_at, limits_at, options_at, header_at}
+use Rattle.bp_reading.specs.Heads.{◌>>=◌, version_at, strategy_line_at, field_at, program_at, choice_at, limits_at, options_at, wait_line_at, settings_at, body_at, header_at}
 use Rattle.bp_reading.specs.Reading.{Stage, first_stage, after, can_stand, Says, next_at, found, finished}
 use Rattle.bp_reading.specs.Laws.{IsHeader, IsRecord, AreRecords, Stands, LogsAreRead}
 use Rattle.bp_reading.proofs.Lines.{lacks, lacks-append, line_is, room_is}
 use Rattle.bp_reading.proofs.Numbers.{number_back, lacks-decimal}
 use Rattle.bp_reading.proofs.Spelled.{options_then}
 use Rattle.bp_reading.proofs.Texts.{lacks-record}
-use Rattle.bp_reading.proofs.Law.{regrouped, header_then, header_regrouped}
+use Rattle.bp_reading.proofs.Law.{regrouped, header_then, header_regrouped, wait_then, body_then}
 use Rattle.bp_reading.proofs.Back.{record_back}
 
 pub next_back : (s : Stage) (r : Record) (rest : List ℕ) → IsRecord r → s.ended ≡ false → s.lines < MOST_RECORDS → can_stand s r ≡ true → length (record_text r) ≤ MOST_LINE_BYTES → next_at s (record_text r ++ 10 ∷ rest) ≡ found r rest
@@ -43,9 +45,15 @@ behind_is : (w x : List ℕ) → behind w (w ++ x) ≡ Some x
 behind_is [] x = refl
 behind_is (c ∷ w) x = elim (eqb_tells c c) [ inl same ↦ rw same.0 (behind_is w x) | inr other ↦ absurd (other.1 refl) ]
 
-version_back : (rest : List ℕ) → version_at (version_line First ++ 10 ∷ rest) ≡ Ok (First, rest)
+version_back : (v : Version) (rest : List ℕ) → version_at (version_line v ++ 10 ∷ rest) ≡ Ok (v, rest)
 unfolding version_at
-version_back rest = refl
+version_back First rest = refl
+version_back Second rest = refl
+
+wait_back : (b : Bool) (rest : List ℕ) → wait_line_at Second (codes "wait " ++ (wait_name b ++ 10 ∷ rest)) ≡ Ok (b, rest)
+unfolding wait_line_at
+wait_back true rest = refl
+wait_back false rest = refl
 
 strategy_back : (s : Strategy) (rest : List ℕ) → strategy_line_at (codes "strategy " ++ (strategy_name s ++ 10 ∷ rest)) ≡ Ok (s, rest)
 unfolding strategy_line_at
@@ -64,11 +72,10 @@ unfolding program_at
 program_back [] rest = refl
 program_back (b ∷ p) rest = ap (λ r. r >>= λ q. Ok (b ∷ q.0, q.1)) (program_back p rest)
 
-options_back : (o : PlainOptions) (rest : List ℕ) → o.seed < 2 ^ 64 → AreOptions o → options_at (version_line First ++ 10 ∷ options_then o (10 ∷ rest)) ≡ Ok (o, rest)
+options_back : (o : PlainOptions) (rest : List ℕ) → o.seed < 2 ^ 64 → AreOptions o → options_at (options_then o (10 ∷ rest)) ≡ Ok (record o { wait = true }, rest)
 unfolding options_at choice_at limits_at options_then
 options_back o rest small k =
     rw (
-      version_back _,
       strategy_back o.strategy _,
       field_back (codes "seed ") 0 most_64 o.seed _ refl (omega arith) (omega arith) (omega arith) (omega (arith, small)),
       field_back (codes "budget ") 1 MOST_BUDGET o.budget _ refl (omega arith) (omega arith) k.some_budget k.budget,
@@ -76,15 +83,27 @@ options_back o rest small k =
       field_back (codes "injectors ") 0 MOST_INJECTORS o.injectors _ refl (omega arith) (omega arith) (omega arith) k.injectors,
     ) refl
 
-pub header_back : (h : PlainHeader) (rest : List ℕ) → IsHeader h → header_at (header_then h rest) ≡ Ok (h, rest)
-unfolding header_at header_then
-header_back h rest k =
+settings_back : (v : Version) (h : PlainHeader) (rest : List ℕ) → IsHeader h → can_say v h.options.wait ≡ true
+    → settings_at v (options_then h.options (wait_then v h.options.wait (10 ∷ rest))) ≡ Ok (h.options, rest)
+unfolding settings_at wait_line_at
+settings_back First h rest k m =
+    rw (options_back h.options rest k.seed k.options) (ap (λ (b : Bool). Ok (record h.options { wait = b }, rest)) (sym m))
+settings_back Second h rest k m =
+    rw (options_back h.options (codes "wait " ++ (wait_name h.options.wait ++ 10 ∷ rest)) k.seed k.options, wait_back h.options.wait rest) refl
+
+body_back : (v : Version) (h : PlainHeader) (rest : List ℕ) → IsHeader h → can_say v h.options.wait ≡ true → body_at v (body_then v h rest) ≡ Ok (h, rest)
+unfolding body_at
+body_back v h rest k m =
     rw (
-      options_back h.options _ k.seed k.options,
+      settings_back v h _ k m,
       field_back (codes "program ") 0 MOST_BYTES (length h.program) _ refl (omega arith) (omega arith) (omega arith) k.program,
       program_back h.program rest,
     ) refl
 
+header_back : (v : Version) (h : PlainHeader) (rest : List ℕ) → IsHeader h → can_say v h.options.wait ≡ true → header_at (header_then v h rest) ≡ Ok ((v, h), rest)
+unfolding header_at header_then
+header_back v h rest k m = rw (version_back v _, body_back v h rest k m) refl
+
 pub logs_are_read : LogsAreRead
 unfolding log_text
-logs_are_read h rs k l m = (ap header_at (header_regrouped h (records_text rs)) ∙ header_back h (records_text rs) k, records_back rs (first_stage h.options.injectors) l m)
+logs_are_read v h rs k l m n = (ap header_at (header_regrouped v h (records_text rs)) ∙ header_back v h (records_text rs) k m, records_back rs (first_stage v h.options.injectors) l n)

@@ -1,13 +1,14 @@
 //! The laws of logs, each as the contract of a function that does nothing.
 ghost use Rattle.bp_reading.specs.Laws.{OneReading, LogsAreRead, ReadLogsAreTexts, LinesAreTexts, ReadOneWay};
 
-/// No two pairs of a header and a list of records have one text.
+/// No two logs, of one version or of two, have one text: a text has one version, one header and one
+/// list of records.
 pub fn one_reading()
     ensures { OneReading }
 {}
 
-/// The text of a header and a complete list of records, none of which breaks a rule of lines, is
-/// read as that header and that list.
+/// The text of a version, a header and a complete list of records, none of which breaks a rule of
+/// lines, is read as that version, that header and that list.
 pub fn logs_are_read()
     ensures { LogsAreRead }
 {}

@@ -16,6 +16,7 @@ use Rattle.js_meaning.specs.Statements.{turns}
 use Rattle.js_meaning.specs.Bodies.{Origin, the_top, function, bare, setting_of, own_constants, start_of, evaluation, constants_left, ground_of}
 use Rattle.bp_log.specs.Options.{PlainOptions, AreOptions}
 use Rattle.bp_log.specs.Records.{is_complete, Complete}
+use Rattle.bp_log.specs.declared.version.Version.{Version}
 use Rattle.bp_log.specs.declared.record.Record.{Record}
 use Rattle.bp_reading.specs.Reading.{first_stage}
 use Rattle.bp_reading.specs.Laws.{AreRecords, Stands}
@@ -137,16 +138,16 @@ module _ (program : PlainProgram) (options : PlainOptions) where
         handled_seen e (fold handler_after None (effects_of outcome)) light (handler_seen None (effects_of outcome) tt (all_effects_short outcome (code_outcome o replies h k)));
   }
 
-told_stands : (program : PlainProgram) (options : PlainOptions) (records : List Record) (o : Option (Configuration Origin)) → AreOptions options → AreRecords records → is_complete records ≡ true →
-    o ≡ story (code_of program options) options records → IsSome o → Stands (first_stage options.injectors) records
+told_stands : (v : Version) (program : PlainProgram) (options : PlainOptions) (records : List Record) (o : Option (Configuration Origin)) → AreOptions options → AreRecords records → is_complete records ≡ true →
+    o ≡ story (code_of program options) options records → IsSome o → Stands (first_stage v options.injectors) records
 unfolding story
-told_stands program options records None fine are whole e h = absurd (false≢true h)
-told_stands program options records (Some d) fine are whole e h =
-    story_stands IsShortOrigin (code_of program options) (code_short program options) options fine records (initial (code_of program options) options.injectors) d (first_stage options.injectors)
-    (begins IsShortOrigin (code_of program options) (code_short program options) options fine) are whole (sym e)
+told_stands v program options records None fine are whole e h = absurd (false≢true h)
+told_stands v program options records (Some d) fine are whole e h =
+    story_stands IsShortOrigin (code_of program options) (code_short program options) options fine records (initial (code_of program options) options.injectors) d (first_stage v options.injectors)
+    (begins v IsShortOrigin (code_of program options) (code_short program options) options fine) are whole (sym e)
 
 complete_is : (records : List Record) → Complete records → is_complete records ≡ true
 complete_is records h = h
 
 pub stories_stand : StoriesStand
-stories_stand program options records fine are whole h = told_stands program options records (story (code_of program options) options records) fine are whole refl h
+stories_stand v program options records fine are whole h = told_stands v program options records (story (code_of program options) options records) fine are whole refl h

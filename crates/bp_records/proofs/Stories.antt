@@ -12,6 +12,7 @@ use Rattle.js_data.proofs.Shared.{OfSome}
 use Rattle.bp_log.specs.Options.{PlainOptions, AreOptions}
 use Rattle.bp_log.specs.Records.{is_complete}
 use Rattle.bp_log.specs.declared.limits.TheConstants.{MOST_WAITING}
+use Rattle.bp_log.specs.declared.version.Version.{Version}
 use Rattle.bp_log.specs.declared.record.Record.{Record}
 use Rattle.bp_log.specs.declared.record.Record.TheVariants.{In, Bad, Eof, Sel, End}
 use Rattle.bp_log.specs.declared.verdict.Verdict.{Verdict}
@@ -228,9 +229,9 @@ module _ {O S : Type 0} (P : O → Type 0) (l : Code O S) (short : ShortCode P l
 
 -- ---- from the beginning
 
-pub begins : {O S : Type 0} (P : O → Type 0) (l : Code O S) (short : ShortCode P l) (o : PlainOptions) → AreOptions o → Holds P o (initial l o.injectors) (first_stage o.injectors)
+pub begins : {O S : Type 0} (v : Version) (P : O → Type 0) (l : Code O S) (short : ShortCode P l) (o : PlainOptions) → AreOptions o → Holds P o (initial l o.injectors) (first_stage v o.injectors)
 unfolding initial
-begins P l short o fine =
+begins v P l short o fine =
     let grown = grown_settle l opening in
     record {
       short = initial_short o.injectors P l short o.injectors;
