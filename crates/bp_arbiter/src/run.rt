@@ -67,7 +67,7 @@ impl Run {
         Ok(Picked::Over)
     }
 
-    /// The verdict with which a run ends where nothing is selectable, if no injector is read.
+    /// The verdict with which a run ends where nothing is selectable, if it waits for no injector.
     fn idle_verdict(&self) -> Option<Verdict>
         ensures { next_idle_in self.now ≡ ends_or_waits result }
     {
@@ -77,7 +77,7 @@ impl Run {
         if self.floor.queue().len() == MOST_WAITING as usize {
             return Some(Verdict::Queue);
         }
-        if self.reading.is_empty() {
+        if self.reading.is_empty() || !self.floor.options().wait() {
             return Some(Verdict::Quiet(self.floor.transitions()));
         }
         None

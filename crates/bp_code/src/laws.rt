@@ -1,5 +1,5 @@
 //! The laws of the runs of programs, each as the contract of a function that does nothing.
-ghost use Rattle.std.specs.Prelude.{◌≡◌, ◌≤◌, ◌<◌, [], ◌∷◌, ◌++◌, ℕ, List, length, Some, None, Ok, true, false, not, nat_eq, is_some, slice_get};
+ghost use Rattle.std.specs.Prelude.{◌≡◌, ◌≤◌, ◌<◌, [], ◌∷◌, ◌++◌, ℕ, List, length, Some, None, Ok, Bool, true, false, not, nat_eq, is_some, slice_get};
 ghost use Rattle.std.specs.List.{list_any};
 ghost use Rattle.js_program.specs.PlainProgram.{PlainProgram};
 ghost use Rattle.js_meaning.specs.Bodies.{Origin};
@@ -50,16 +50,17 @@ pub fn records_tell_who_is_read()
         told (code_of p o) o records ≡ Some c → is_some c.bad ≡ has_bad records }
 {}
 
-/// A run ends quietly only where every injector was heard to its end and no line was bad; what is
-/// merged never ends it so.
+/// A run ends quietly only where no line was bad and, if it waits for its injectors, every one was
+/// heard to its end; what is merged never ends it so.
 pub fn quiet_runs_heard_everyone()
     ensures comes { (p : PlainProgram) (o : PlainOptions) (records : List Record)
         (c : Configuration Origin) (n : ℕ) →
         told (code_of p o) o records ≡ Some c → next (code_of p o) o c ≡ story.Next.Ends (Quiet n) →
-        (c.reading ≡ []) × (c.bad ≡ None) × (n ≡ c.stand.transitions) }
+        (o.wait ≡ true → c.reading ≡ []) × (c.bad ≡ None) × (n ≡ c.stand.transitions) }
     ensures heard { (p : PlainProgram) (o : PlainOptions) (records : List Record)
         (c : Configuration Origin) (n j : ℕ) →
-        told (code_of p o) o records ≡ Some c → verdict_of records ≡ Some (Quiet n) →
+        o.wait ≡ true → told (code_of p o) o records ≡ Some c →
+        verdict_of records ≡ Some (Quiet n) →
         j < o.injectors → has_last_of j records ≡ true }
     ensures good { (p : PlainProgram) (o : PlainOptions) (records : List Record)
         (c : Configuration Origin) (n : ℕ) →
@@ -67,6 +68,24 @@ pub fn quiet_runs_heard_everyone()
         has_bad records ≡ false }
     ensures merged { (p : PlainProgram) (o : PlainOptions) (q : Pair Origin) (n : ℕ) →
         (settle (code_of p o) q).verdict ≡ Some (Quiet n) → q.stand.verdict ≡ Some (Quiet n) }
+{}
+
+/// With no injectors it is nothing whether a run waits for them: the same records are a story of the
+/// program and print the same text, and the run is the same.
+pub fn waiting_is_nothing_alone()
+    ensures story { (p : PlainProgram) (o : PlainOptions) (wait : Bool) (records : List Record) →
+        o.injectors ≡ 0 →
+        told (code_of p o) (record o { wait = wait }) records ≡ told (code_of p o) o records }
+    ensures text { (p : PlainProgram) (o : PlainOptions) (wait : Bool) (records : List Record) →
+        o.injectors ≡ 0 → text_of p (record o { wait = wait }) records ≡ text_of p o records }
+    ensures run { (p : PlainProgram) (o : PlainOptions) (wait : Bool) →
+        o.injectors ≡ 0 → records_alone p (record o { wait = wait }) ≡ records_alone p o }
+{}
+
+/// A run that does not wait for its injectors never waits.
+pub fn only_waiting_runs_wait()
+    ensures { (p : PlainProgram) (o : PlainOptions) (c : Configuration Origin) →
+        next (code_of p o) o c ≡ story.Next.Waits → o.wait ≡ true }
 {}
 
 /// The text of a prefix of the records is a prefix of the text.

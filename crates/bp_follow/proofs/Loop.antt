@@ -4,13 +4,14 @@ use Rattle.std.specs.Prelude.{IfSome, Result}
 use Rattle.js_meaning.specs.Bodies.{Origin}
 use Rattle.bp_log.specs.Records.{is_complete, verdict_of}
 use Rattle.bp_log.specs.Texts.{lines_text}
+use Rattle.bp_log.specs.declared.version.Version.{Version}
 use Rattle.bp_log.specs.declared.record.Record.{Record}
 use Rattle.bp_log.specs.declared.record.Record.TheVariants.{In, Bad, Eof, Sel, End}
 use Rattle.bp_log.specs.declared.trace.Line.{Line}
 use Rattle.bp_log.specs.declared.trace.Line.TheVariants as trace
 use Rattle.bp_log.specs.declared.verdict.Verdict.{Verdict}
 use Rattle.bp_reading.specs.Reading.{Stage, BeginsWith, BreaksOff, found, finished, refused, next_at, first_stage, after}
-use Rattle.bp_reading.proofs.Fronts.{begins_front, none_going, none_over}
+use Rattle.bp_reading.proofs.Fronts.{begins_on, begins_front, none_going, none_over}
 use Rattle.bp_reader.specs.Fed.{Between}
 use Rattle.bp_reader.specs.Reads.{Standing, MeansNext, Tells as ReaderTells}
 use Rattle.bp_reader.specs.declared.fault.LogFault.{LogFault}
@@ -32,20 +33,15 @@ use Rattle.bp_follow.proofs.Tales.{one_more, end_told}
 
 -- ---- what was read
 
--- one more record was read
-pub begins_on : (s : Stage) (bytes : List ℕ) (rs : List Record) (t : Stage) (left : List ℕ) (r : Record) (rest : List ℕ) → BeginsWith s bytes rs t left → next_at t left ≡ found r rest → BeginsWith s bytes (rs ++ r ∷ []) (after t r) rest
-begins_on s bytes [] t left r rest b h = (rest, subst (λ (x : Stage). next_at x bytes ≡ found r rest) b.0 (subst (λ (xs : List ℕ). next_at t xs ≡ found r rest) b.1 h), (ap (λ (x : Stage). after x r) b.0, refl))
-begins_on s bytes (q ∷ rs) t left r rest b h = (b.0, b.1, begins_on (after s q) b.0 rs t left r rest b.2 h)
-
 -- what a source tells of the bytes was read so far
 abbrev pub Reached : Course → Option (List ℕ) → Stage → Option (List ℕ) → Type 0
-Reached c rest s left = IfSome rest (λ bytes. IsSomeAnd left (λ more. BeginsWith (first_stage c.options.injectors) bytes c.records s more))
+Reached c rest s left = IfSome rest (λ bytes. IsSomeAnd left (λ more. BeginsWith (first_stage c.version c.options.injectors) bytes c.records s more))
 
-told_on : (c : Course) (bytes left : List ℕ) (s t : Stage) (after_left : Option (List ℕ)) (r : Record) (d : Configuration Origin) → BeginsWith (first_stage c.options.injectors) bytes c.records s left →
-    IsSomeAnd after_left (λ more. next_at s left ≡ found r more) → t ≡ after s r → IsSomeAnd after_left (λ more. BeginsWith (first_stage c.options.injectors) bytes (c.records ++ r ∷ []) t more)
+told_on : (c : Course) (bytes left : List ℕ) (s t : Stage) (after_left : Option (List ℕ)) (r : Record) (d : Configuration Origin) → BeginsWith (first_stage c.version c.options.injectors) bytes c.records s left →
+    IsSomeAnd after_left (λ more. next_at s left ≡ found r more) → t ≡ after s r → IsSomeAnd after_left (λ more. BeginsWith (first_stage c.version c.options.injectors) bytes (c.records ++ r ∷ []) t more)
 told_on c bytes left s t None r d b h e = absurd h
 told_on c bytes left s t (Some more) r d b h e =
-    subst (λ (x : Stage). BeginsWith (first_stage c.options.injectors) bytes (c.records ++ r ∷ []) x more) (sym e) (begins_on (first_stage c.options.injectors) bytes c.records s left r more b h)
+    subst (λ (x : Stage). BeginsWith (first_stage c.version c.options.injectors) bytes (c.records ++ r ∷ []) x more) (sym e) (begins_on (first_stage c.version c.options.injectors) bytes c.records s left r more b h)
 
 pub reached_on : (c : Course) (rest left after_left : Option (List ℕ)) (s t : Stage) (r : Record) (d : Configuration Origin) → Reached c rest s left →
     IfSome left (λ bytes. ReaderTells (Ok (Some r)) (next_at s bytes) after_left) → t ≡ after s r → Reached (onto c r d) rest t after_left
@@ -82,9 +78,9 @@ shown_log log.Memory before text page after s = front_whole before after text pa
 
 -- ---- how it ends
 
-module _ (first c : Course) (program : c.program ≡ first.program) (options : c.options ≡ first.options) (told : IsTold c) where
+module _ (first c : Course) (program : c.program ≡ first.program) (options : c.options ≡ first.options) (version : c.version ≡ first.version) (told : IsTold c) where
   module _ (rest : List ℕ) (before : Option (List ℕ)) (page : List ℕ) (later : Option (List ℕ)) where
-    ends_by : (s : Stage) (left : Option (List ℕ)) (result : Result Verdict ReplayFault) → IsSomeAnd left (λ more. BeginsWith (first_stage c.options.injectors) rest c.records s more) →
+    ends_by : (s : Stage) (left : Option (List ℕ)) (result : Result Verdict ReplayFault) → IsSomeAnd left (λ more. BeginsWith (first_stage c.version c.options.injectors) rest c.records s more) →
         ((more : List ℕ) → left ≡ Some more → EndsAt c s more result) → Shown result before (text_in c) page later → Tells first rest before page later result
     ends_by s None result w ends shown = absurd w
     ends_by s (Some more) result w ends shown =
@@ -92,6 +88,7 @@ module _ (first c : Course) (program : c.program ≡ first.program) (options : c
           course = c;
           program = program;
           options = options;
+          version = version;
           stage = s;
           left = more;
           follows = record { begins = w; told = told };
@@ -168,7 +165,7 @@ module _ (first c : Course) (program : c.program ≡ first.program) (options : c
     taken_at (Some bytes) None after_left ended at shown ends w b = absurd w
     taken_at (Some bytes) (Some l) None ended at shown ends w b = absurd b
     taken_at (Some bytes) (Some l) (Some more) ended at shown ends w b =
-        let f = begins_front c.records (first_stage c.options.injectors) bytes s l b.0 more w b.1 in
+        let f = begins_front c.records (first_stage c.version c.options.injectors) bytes s l b.0 more w b.1 in
         record {
           taken = f.0;
           is_front = f.1;
@@ -178,6 +175,7 @@ module _ (first c : Course) (program : c.program ≡ first.program) (options : c
             course = c;
             program = program;
             options = options;
+            version = version;
             stage = s;
             left = b.0;
             follows = record { begins = f.2; told = told };
@@ -285,6 +283,7 @@ pub record Along (first : Course) (rest before : Option (List ℕ)) (reader : St
   pub way : IsOnWay course taken a
   pub program : course.program ≡ first.program
   pub options : course.options ≡ first.options
+  pub version : course.version ≡ first.version
   pub fresh : reader.refusal ≡ None
   pub going : reader.stage.ended ≡ false
   pub count : number ≡ reader.stage.lines
@@ -292,24 +291,25 @@ pub record Along (first : Course) (rest before : Option (List ℕ)) (reader : St
   pub reached : Reached course rest reader.stage reader.left
   pub shows : Shows before (lines_text taken) page now
 
-reached_first : (c : Course) (rest : Option (List ℕ)) (s : Stage) → c.records ≡ [] → s ≡ first_stage c.options.injectors → Reached c rest s rest
+reached_first : (c : Course) (rest : Option (List ℕ)) (s : Stage) → c.records ≡ [] → s ≡ first_stage c.version c.options.injectors → Reached c rest s rest
 reached_first c None s e h = tt
-reached_first c (Some bytes) s e h = subst (λ (rs : List Record). BeginsWith (first_stage c.options.injectors) bytes rs s bytes) (sym e) (h, refl)
+reached_first c (Some bytes) s e h = subst (λ (rs : List Record). BeginsWith (first_stage c.version c.options.injectors) bytes rs s bytes) (sym e) (h, refl)
 
-pub along_first : (a : PlainArbiter) (reader : Standing) (page : List ℕ) (before : Option (List ℕ)) → IsOnWay (first_of a) [] a → reader.refusal ≡ None → reader.stage ≡ first_stage (options_in a).injectors → page ≡ [] →
-    Along (first_of a) reader.left before reader a 0 page before
-along_first a reader page before w f s e =
+pub along_first : (v : Version) (a : PlainArbiter) (reader : Standing) (page : List ℕ) (before : Option (List ℕ)) → IsOnWay (first_of v a) [] a → reader.refusal ≡ None → reader.stage ≡ first_stage v (options_in a).injectors → page ≡ [] →
+    Along (first_of v a) reader.left before reader a 0 page before
+along_first v a reader page before w f s e =
     record {
-      course = first_of a;
+      course = first_of v a;
       taken = [];
       way = w;
       program = refl;
       options = refl;
+      version = refl;
       fresh = f;
       going = ap (λ (x : Stage). x.ended) s;
       count = sym (ap (λ (x : Stage). x.lines) s);
       number_is = refl;
-      reached = reached_first (first_of a) reader.left reader.stage refl s;
+      reached = reached_first (first_of v a) reader.left reader.stage refl s;
       shows = subst (λ (t : List ℕ). Shows before t page before) (e ∙ sym lines_none) (shows_page before page);
     }
 
@@ -329,6 +329,7 @@ along_on first rest before old new a b number next page now_page now later r w s
       way = makes_way c r b m none;
       program = w.program;
       options = w.options;
+      version = w.version;
       fresh = fresh;
       going = ap (λ (x : Stage). x.ended) stage ∙ ended_after c r b old.stage m none ∙ w.going;
       count = omega (arith, n, count, lines);

@@ -3,6 +3,7 @@ use Rattle.std.proofs.Common.{◌≡◌, ℕ, false, List, [], ◌++◌, refl, a
 use Rattle.std.specs.Prelude.{IfSome}
 use Rattle.js_program.specs.PlainProgram.{PlainProgram}
 use Rattle.bp_log.specs.Options.{PlainOptions}
+use Rattle.bp_log.specs.declared.version.Version.{Version}
 use Rattle.bp_reading.specs.Reading.{Stage, first_stage}
 use Rattle.bp_run.specs.Settling.{opening}
 use Rattle.bp_run.specs.Story.{story, story_from}
@@ -15,32 +16,33 @@ use Rattle.bp_follow.specs.Following.{first_course, first_of, IsOnWay, Tells}
 use Rattle.bp_follow.proofs.Tales.{reads_first}
 
 -- an arbiter that was opened is on the way of its first course
-pub on_way_first : (a : PlainArbiter) → a.records ≡ [] → is_lent a.phase ≡ false → StandsFor a [] [] opening → IsOnWay (first_of a) [] a
+pub on_way_first : (v : Version) (a : PlainArbiter) → a.records ≡ [] → is_lent a.phase ≡ false → StandsFor a [] [] opening → IsOnWay (first_of v a) [] a
 unfolding story story_from
-on_way_first a r u s =
+on_way_first v a r u s =
     record {
       runs = record { code = refl; options = refl; told = refl; going = refl; reads = reads_first _ _ };
       records = r;
       unlent = u;
       stands = (opening, s);
-      more = (first_of a).told.stand.lines;
+      more = (first_of v a).told.stand.lines;
       lines = refl;
     }
 
-pub on_way_opened : (program : PlainProgram) (options : PlainOptions) (a : PlainArbiter) → a ≡ opened program options → StandsFor a [] [] opening → IsOnWay (first_of a) [] a
-on_way_opened program options a e s = on_way_first a (ap (λ (x : PlainArbiter). x.records) e) (ap (λ (x : PlainArbiter). is_lent x.phase) e) s
+pub on_way_opened : (v : Version) (program : PlainProgram) (options : PlainOptions) (a : PlainArbiter) → a ≡ opened program options → StandsFor a [] [] opening → IsOnWay (first_of v a) [] a
+on_way_opened v program options a e s = on_way_first v a (ap (λ (x : PlainArbiter). x.records) e) (ap (λ (x : PlainArbiter). is_lent x.phase) e) s
 
 -- memory was wanting before anything ran
-pub tells_nothing : (program : PlainProgram) (options : PlainOptions) (rest : Option (List ℕ)) (s : Stage) (before : Option (List ℕ)) (page : List ℕ) → s ≡ first_stage options.injectors → ShowsFront before (text_in (first_course program options)) page before →
-    IfSome rest (λ bytes. Tells (first_course program options) bytes before page before (Err fault.Memory))
+pub tells_nothing : (v : Version) (program : PlainProgram) (options : PlainOptions) (rest : Option (List ℕ)) (s : Stage) (before : Option (List ℕ)) (page : List ℕ) → s ≡ first_stage v options.injectors → ShowsFront before (text_in (first_course v program options)) page before →
+    IfSome rest (λ bytes. Tells (first_course v program options) bytes before page before (Err fault.Memory))
 unfolding story story_from
-tells_nothing program options None s before page e shown = tt
-tells_nothing program options (Some bytes) s before page e shown =
+tells_nothing v program options None s before page e shown = tt
+tells_nothing v program options (Some bytes) s before page e shown =
     record {
-      course = first_course program options;
+      course = first_course v program options;
       program = refl;
       options = refl;
-      stage = first_stage options.injectors;
+      version = refl;
+      stage = first_stage v options.injectors;
       left = bytes;
       follows = record { begins = (refl, refl); told = refl };
       ends = tt;

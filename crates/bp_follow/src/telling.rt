@@ -112,14 +112,17 @@ fn tell<S: Source, K: Sink>(
     out: &mut K,
 ) -> Result<Verdict, ReplayFault>
     requires fresh { reader.old.refusal ≡ None }
-    requires first { IsOnWay (first_of arbiter.old) [] arbiter.old }
-    requires stage { reader.old.stage ≡ first_stage (options_in arbiter.old).injectors }
+    requires first { IsOnWay (first_of reader.old.stage.version arbiter.old) [] arbiter.old }
+    requires stage { reader.old.stage
+        ≡ first_stage reader.old.stage.version (options_in arbiter.old).injectors }
     requires empty { page.old ≡ [] }
-    ensures tells { IfSome reader.old.left (λ rest. Tells (first_of arbiter.old) rest
+    ensures tells { IfSome reader.old.left (λ rest. Tells
+        (first_of reader.old.stage.version arbiter.old) rest
         (K.written out.old) page.new (K.written out.new) result) }
     ensures failed { IsErrOf result (ReplayFault.Log log_fault.Read)
-        → Between reader.old.left reader.new.left (λ bytes rest. TellsTaken (first_of arbiter.old)
-        bytes rest (K.written out.old) page.new (K.written out.new)) }
+        → Between reader.old.left reader.new.left (λ bytes rest. TellsTaken
+        (first_of reader.old.stage.version arbiter.old) bytes rest (K.written out.old) page.new
+        (K.written out.new)) }
     ensures empty { IsErrOf result (ReplayFault.Log log_fault.Read)
         → reader.new.left ≡ reader.new.source }
     ensures read { IsErrOf result (ReplayFault.Log log_fault.Read)
@@ -157,13 +160,16 @@ pub fn replay_onto<S: Source, K: Sink>(
     out: &mut K,
 ) -> Result<Verdict, ReplayFault>
     requires fresh { reader.old.refusal ≡ None }
-    requires stage { reader.old.stage ≡ first_stage options.injectors }
+    requires stage { reader.old.stage
+        ≡ first_stage reader.old.stage.version options.injectors }
     requires empty { page.old ≡ [] }
-    ensures tells { IfSome reader.old.left (λ rest. Tells (first_course program options) rest
+    ensures tells { IfSome reader.old.left (λ rest. Tells
+        (first_course reader.old.stage.version program options) rest
         (K.written out.old) page.new (K.written out.new) result) }
     ensures failed { IsErrOf result (ReplayFault.Log log_fault.Read)
-        → Between reader.old.left reader.new.left (λ bytes rest. TellsTaken (first_course program options)
-        bytes rest (K.written out.old) page.new (K.written out.new)) }
+        → Between reader.old.left reader.new.left (λ bytes rest. TellsTaken
+        (first_course reader.old.stage.version program options) bytes rest
+        (K.written out.old) page.new (K.written out.new)) }
     ensures empty { IsErrOf result (ReplayFault.Log log_fault.Read)
         → reader.new.left ≡ reader.new.source }
     ensures read { IsErrOf result (ReplayFault.Log log_fault.Read)

@@ -8,10 +8,11 @@ use Rattle.bp_base.specs.Pieces.{Appends}
 use Rattle.bp_log.specs.Header.{PlainHeader}
 use Rattle.bp_log.specs.Options.{PlainOptions}
 use Rattle.bp_log.specs.Records.{verdict_of}
+use Rattle.bp_log.specs.declared.version.Version.{Version}
 use Rattle.bp_log.specs.declared.record.Record.{Record}
 use Rattle.bp_log.specs.declared.verdict.Verdict.{Verdict}
 use Rattle.bp_reading.specs.Heads.{Refusal, version, header, record_line, cut, header_at}
-use Rattle.bp_reading.specs.Reading.{Stage, Next as Reads, BeginsWith, found, finished, refused, next_at, first_stage, after}
+use Rattle.bp_reading.specs.Reading.{Stage, BeginsWith, found, finished, refused, next_at, first_stage, after}
 use Rattle.bp_reading.proofs.OneWay.{found_unfinished, found_unrefused, finished_unrefused, one_refusal}
 use Rattle.bp_reader.specs.Gets.{refusal_of, MeansRead}
 use Rattle.bp_reader.specs.Reads.{MeansNext}
@@ -69,11 +70,11 @@ at_refusal f r P h k = subst (λ (o : Option Refusal). IfSome o P) h k
 
 -- ---- one course
 
-same_course : (c d : Course) → c.program ≡ d.program → c.options ≡ d.options → c.records ≡ d.records → IsTold c → IsTold d → c ≡ d
-same_course c d p o r h k =
+same_course : (c d : Course) → c.version ≡ d.version → c.program ≡ d.program → c.options ≡ d.options → c.records ≡ d.records → IsTold c → IsTold d → c ≡ d
+same_course c d v p o r h k =
     let stories : story (code_in c) c.options c.records ≡ story (code_in d) d.options d.records = λ i. story (code_of (p i) (o i)) (o i) (r i) in
     let told : c.told ≡ d.told = one_answer (story (code_in d) d.options d.records) c.told d.told (sym stories ∙ h) k in
-    λ i. record { program = p i; options = o i; records = r i; told = told i }
+    λ i. record { version = v i; program = p i; options = o i; records = r i; told = told i }
 
 -- ---- how far two readings of the same bytes came
 
@@ -220,7 +221,7 @@ module _ (bytes : List ℕ) (before after other later : Option (List ℕ)) (x y 
     ]
   ]
 
-  module _ (h : PlainHeader) (rest : List ℕ) (is : header_at bytes ≡ Ok (h, rest)) where
+  module _ (h : Version × PlainHeader) (rest : List ℕ) (is : header_at bytes ≡ Ok (h, rest)) where
     -- of the bytes of a header
     module _ (r : Replays bytes before after x) (q : Replays bytes other later y) where
       c : Course
@@ -244,17 +245,19 @@ module _ (bytes : List ℕ) (before after other later : Option (List ℕ)) (x y 
       both : Once
       unfolding c d
       both =
-          let mine = one_ok (header_at bytes) ((r.heads).header, r.rest) (h, rest) (r.heads).header_is is in
-          let yours = one_ok (header_at bytes) ((q.heads).header, q.rest) (h, rest) (q.heads).header_is is in
-          let heads : (r.heads).header ≡ (q.heads).header = ap (λ p. p.0) mine ∙ sym (ap (λ p. p.0) yours) in
+          let mine = one_ok (header_at bytes) ((c.version, (r.heads).header), r.rest) (h, rest) (r.heads).header_is is in
+          let yours = one_ok (header_at bytes) ((d.version, (q.heads).header), q.rest) (h, rest) (q.heads).header_is is in
+          let heads : (r.heads).header ≡ (q.heads).header = ap (λ p. p.0.1) mine ∙ sym (ap (λ p. p.0.1) yours) in
+          let versions : c.version ≡ d.version = ap (λ p. p.0.0) mine ∙ sym (ap (λ p. p.0.0) yours) in
           let rests : r.rest ≡ q.rest = ap (λ p. p.1) mine ∙ sym (ap (λ p. p.1) yours) in
           let o : c.options ≡ d.options = (r.heads).options ∙ ap (λ (z : PlainHeader). z.options) heads ∙ sym (q.heads).options in
           let p : c.program ≡ d.program = one_program ((q.heads).header).program c.program d.program (subst (λ (z : PlainHeader). IsProgram z.program c.program) heads (r.heads).program) (q.heads).program in
-          let begins : BeginsWith (first_stage c.options.injectors) r.rest d.records q.stage q.left =
-          subst (λ (z : PlainOptions). BeginsWith (first_stage z.injectors) r.rest d.records q.stage q.left) (sym o)
-          (subst (λ (xs : List ℕ). BeginsWith (first_stage d.options.injectors) xs d.records q.stage q.left) (sym rests) (q.follows).begins) in
-          elim (compared c.records d.records (first_stage c.options.injectors) r.rest r.stage q.stage r.left q.left (r.follows).begins begins) [
-            | inl t ↦ together (same_course c d p o t.records (r.follows).told (q.follows).told) t.stage t.bytes
+          let begins : BeginsWith (first_stage c.version c.options.injectors) r.rest d.records q.stage q.left =
+          subst (λ (v : Version). BeginsWith (first_stage v c.options.injectors) r.rest d.records q.stage q.left) (sym versions)
+          (subst (λ (z : PlainOptions). BeginsWith (first_stage d.version z.injectors) r.rest d.records q.stage q.left) (sym o)
+          (subst (λ (xs : List ℕ). BeginsWith (first_stage d.version d.options.injectors) xs d.records q.stage q.left) (sym rests) (q.follows).begins)) in
+          elim (compared c.records d.records (first_stage c.version c.options.injectors) r.rest r.stage q.stage r.left q.left (r.follows).begins begins) [
+            | inl t ↦ together (same_course c d versions p o t.records (r.follows).told (q.follows).told) t.stage t.bytes
             | inr (inl further) ↦
                 inl (goes_on c r.stage r.left (r.follows).told d.records d.told ((λ i. story (code_of (p i) (o i)) (o i) d.records) ∙ (q.follows).told) further x r.ends)
             | inr (inr further) ↦
@@ -263,19 +266,19 @@ module _ (bytes : List ℕ) (before after other later : Option (List ℕ)) (x y 
 
 -- ---- without a run
 
-run_or_none : (bytes : List ℕ) (h : PlainHeader) (rest : List ℕ) (program : PlainProgram) → header_at bytes ≡ Ok (h, rest) → IsProgram h.program program → (x : Result Verdict ReplayFault) → HasNoRun bytes x → IsTrouble x
-run_or_none bytes h rest program is p (Ok v) n = n
-run_or_none bytes h rest program is p (Err (Log f)) n = elim (refuses f) [
+run_or_none : (bytes : List ℕ) (v : Version) (h : PlainHeader) (rest : List ℕ) (program : PlainProgram) → header_at bytes ≡ Ok ((v, h), rest) → IsProgram h.program program → (x : Result Verdict ReplayFault) → HasNoRun bytes x → IsTrouble x
+run_or_none bytes v h rest program is p (Ok verdict) n = n
+run_or_none bytes v h rest program is p (Err (Log f)) n = elim (refuses f) [
   | inl trouble ↦ trouble
-  | inr r ↦ absurd (read_ok (header_at bytes) (h, rest) r.0 is (at_refusal f r.0 (λ e. header_at bytes ≡ Err e) r.1 n))
+  | inr r ↦ absurd (read_ok (header_at bytes) ((v, h), rest) r.0 is (at_refusal f r.0 (λ e. header_at bytes ≡ Err e) r.1 n))
 ]
-run_or_none bytes h rest program is p (Err (Differs number expected other)) n = n
-run_or_none bytes h rest program is p (Err Program) n =
-    let same : n.0 ≡ h = ap (λ q. q.0) (one_ok (header_at bytes) (n.0, n.1) (h, rest) n.2 is) in
-    let no : IsRefused h.program n.3.0 = subst (λ (z : PlainHeader). IsRefused z.program n.3.0) same n.3.1 in
-    absurd (never h.program p.tree n.3.0 p.accepted no)
-run_or_none bytes h rest program is p (Err Write) n = tt
-run_or_none bytes h rest program is p (Err Memory) n = tt
+run_or_none bytes v h rest program is p (Err (Differs number expected other)) n = n
+run_or_none bytes v h rest program is p (Err Program) n =
+    let same : n.1 ≡ h = ap (λ q. q.0.1) (one_ok (header_at bytes) ((n.0, n.1), n.2) ((v, h), rest) n.3 is) in
+    let no : IsRefused h.program n.4.0 = subst (λ (z : PlainHeader). IsRefused z.program n.4.0) same n.4.1 in
+    absurd (never h.program p.tree n.4.0 p.accepted no)
+run_or_none bytes v h rest program is p (Err Write) n = tt
+run_or_none bytes v h rest program is p (Err Memory) n = tt
 
 one_error : {A E : Type 0} (x : Result A E) (a b : E) → x ≡ Err a → x ≡ Err b → Some a ≡ Some b
 one_error x a b h k = let e : a ≡ b = cc in ap (λ z. Some z) e
@@ -284,7 +287,7 @@ one_error x a b h k = let e : a ≡ b = cc in ap (λ z. Some z) e
 no_header : (bytes : List ℕ) (f : LogFault) → MeansRead f (header_at bytes) → HasRefusedProgram bytes → IsTrouble (Err (Log f))
 no_header bytes f m p = elim (refuses f) [
   | inl trouble ↦ trouble
-  | inr r ↦ absurd (read_ok (header_at bytes) (p.0, p.1) r.0 p.2 (at_refusal f r.0 (λ e. header_at bytes ≡ Err e) r.1 m))
+  | inr r ↦ absurd (read_ok (header_at bytes) ((p.0, p.1), p.2) r.0 p.3 (at_refusal f r.0 (λ e. header_at bytes ≡ Err e) r.1 m))
 ]
 
 none_same : (bytes : List ℕ) (x y : Result Verdict ReplayFault) → HasNoRun bytes x → HasNoRun bytes y → IsTrouble x ⊎ (IsTrouble y ⊎ (x ≡ y))
@@ -319,6 +322,6 @@ one_ending bytes before after other later x y (inl h) (inl k) = elim (none_same 
   | inr (inl trouble) ↦ inr (inl trouble)
   | inr (inr same) ↦ inr (inr (same, ([], nothing_printed before after h.1, nothing_printed other later k.1)))
 ]
-one_ending bytes before after other later x y (inl h) (inr q) = inl (run_or_none bytes (q.heads).header q.rest (q.course).program (q.heads).header_is (q.heads).program x h.0)
-one_ending bytes before after other later x y (inr r) (inl k) = inr (inl (run_or_none bytes (r.heads).header r.rest (r.course).program (r.heads).header_is (r.heads).program y k.0))
-one_ending bytes before after other later x y (inr r) (inr q) = both bytes before after other later x y (r.heads).header r.rest (r.heads).header_is r q
+one_ending bytes before after other later x y (inl h) (inr q) = inl (run_or_none bytes (q.course).version (q.heads).header q.rest (q.course).program (q.heads).header_is (q.heads).program x h.0)
+one_ending bytes before after other later x y (inr r) (inl k) = inr (inl (run_or_none bytes (r.course).version (r.heads).header r.rest (r.course).program (r.heads).header_is (r.heads).program y k.0))
+one_ending bytes before after other later x y (inr r) (inr q) = both bytes before after other later x y ((r.course).version, (r.heads).header) r.rest (r.heads).header_is r q

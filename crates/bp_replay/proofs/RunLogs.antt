@@ -37,11 +37,11 @@ unfolding text
 told program o rs t h = mapped_some (λ c. lines_text c.stand.lines) (story (code_of program o) o rs) t h
 
 pub logs_of_stories_replay : LogsOfStoriesReplay
-logs_of_stories_replay header program records text verdict is is_program are text_is verdict_is before after ended ends =
-    let stands = stories_stand program header.options records is.options are (complete records verdict verdict_is) (told program header.options records text text_is) in
-    let log : IsLogOf (log_text header records) header records program text =
-    record { bytes_are = refl; header_is = is; records_are = are; stands = stands; program_is = is_program; text_is = text_is } in
-    elim (replays_tell_the_run (log_text header records) header records program text before after ended log ends) [
+logs_of_stories_replay version header program records text verdict says is is_program are text_is verdict_is before after ended ends =
+    let stands = stories_stand version program header.options records is.options are (complete records verdict verdict_is) (told program header.options records text text_is) in
+    let log : IsLogOf version (log_text version header records) header records program text =
+    record { bytes_are = refl; says_so = says; header_is = is; records_are = are; stands = stands; program_is = is_program; text_is = text_is } in
+    elim (replays_tell_the_run version (log_text version header records) header records program text before after ended log ends) [
       | inl trouble ↦ inl trouble
       | inr told ↦ inr (told.ended_is ∙ ap (λ (v : Verdict). Ok v) (one_answer (verdict_of records) told.verdict verdict told.verdict_is verdict_is), told.prints)
     ]

@@ -4,6 +4,7 @@ use Rattle.std.specs.Prelude.{IfSome, IsSomeAnd, Result}
 use Rattle.js_program.specs.PlainProgram.{PlainProgram}
 use Rattle.bp_base.specs.Pieces.{Appends, AppendsFront}
 use Rattle.bp_log.specs.Header.{PlainHeader}
+use Rattle.bp_log.specs.declared.version.Version.{Version}
 use Rattle.bp_log.specs.declared.verdict.Verdict.{Verdict}
 use Rattle.bp_reading.specs.Heads.{header_at, CutsOff}
 use Rattle.bp_reading.proofs.Fronts.{header_fronts}
@@ -39,14 +40,15 @@ prints_part (Err fault.Program) before now later text page s w = written_part be
 prints_part (Err fault.Write) before now later text page s w = written_front_part before now later text page s w
 prints_part (Err fault.Memory) before now later text page s w = written_front_part before now later text page s w
 
-module _ (header : PlainHeader) (program : PlainProgram) (is : IsProgram header.program program) where
-  tells_at : (rest : List ℕ) (before now later : Option (List ℕ)) (page : List ℕ) (result ended : Result Verdict ReplayFault) (t : Tells (first_course program header.options) rest before page now ended) →
-      EndsAt t.course t.stage t.left result → Prints result before (text_in t.course) later → EndsBehind header rest before later result
+module _ (version : Version) (header : PlainHeader) (program : PlainProgram) (is : IsProgram header.program program) where
+  tells_at : (rest : List ℕ) (before now later : Option (List ℕ)) (page : List ℕ) (result ended : Result Verdict ReplayFault) (t : Tells (first_course version program header.options) rest before page now ended) →
+      EndsAt t.course t.stage t.left result → Prints result before (text_in t.course) later → EndsBehind version header rest before later result
   tells_at rest before now later page result ended t ends prints =
       inr (record {
         course = t.course;
         program = subst (λ (p : PlainProgram). IsProgram header.program p) (sym t.program) is;
         options = t.options;
+        version_is = t.version;
         stage = t.stage;
         left = t.left;
         follows = t.follows;
@@ -54,18 +56,18 @@ module _ (header : PlainHeader) (program : PlainProgram) (is : IsProgram header.
         prints = prints;
       })
 
-  pub ends_written : (rest before now later : Option (List ℕ)) (page : List ℕ) (ended : Result Verdict ReplayFault) → IfSome rest (λ bytes. Tells (first_course program header.options) bytes before page now ended) → Appends now page later →
-      IfSome rest (λ bytes. EndsBehind header bytes before later ended)
+  pub ends_written : (rest before now later : Option (List ℕ)) (page : List ℕ) (ended : Result Verdict ReplayFault) → IfSome rest (λ bytes. Tells (first_course version program header.options) bytes before page now ended) → Appends now page later →
+      IfSome rest (λ bytes. EndsBehind version header bytes before later ended)
   ends_written None before now later page ended h w = tt
   ends_written (Some bytes) before now later page ended h w = tells_at bytes before now later page ended ended h h.ends (prints_written ended before now later (text_in h.course) page h.shown w)
 
-  pub ends_unwritten : (rest before now later : Option (List ℕ)) (page : List ℕ) (ended : Result Verdict ReplayFault) → IfSome rest (λ bytes. Tells (first_course program header.options) bytes before page now ended) → AppendsFront now page later →
-      IfSome rest (λ bytes. EndsBehind header bytes before later (Err fault.Write))
+  pub ends_unwritten : (rest before now later : Option (List ℕ)) (page : List ℕ) (ended : Result Verdict ReplayFault) → IfSome rest (λ bytes. Tells (first_course version program header.options) bytes before page now ended) → AppendsFront now page later →
+      IfSome rest (λ bytes. EndsBehind version header bytes before later (Err fault.Write))
   ends_unwritten None before now later page ended h w = tt
   ends_unwritten (Some bytes) before now later page ended h w = tells_at bytes before now later page (Err fault.Write) ended h tt (prints_part ended before now later (text_in h.course) page h.shown w)
 
-  pub taken_written : (rest left before now later : Option (List ℕ)) (page : List ℕ) → Between rest left (λ bytes more. TellsTaken (first_course program header.options) bytes more before page now) → Appends now page later →
-      Between rest left (λ bytes more. TakenBehind header bytes more before later)
+  pub taken_written : (rest left before now later : Option (List ℕ)) (page : List ℕ) → Between rest left (λ bytes more. TellsTaken (first_course version program header.options) bytes more before page now) → Appends now page later →
+      Between rest left (λ bytes more. TakenBehind version header bytes more before later)
   taken_written None left before now later page h w = tt
   taken_written (Some bytes) None before now later page h w = absurd h
   taken_written (Some bytes) (Some more) before now later page h w =
@@ -79,22 +81,27 @@ module _ (header : PlainHeader) (program : PlainProgram) (is : IsProgram header.
 
 -- ---- the header
 
-no_run : (bytes rest : List ℕ) (header : PlainHeader) (ended : Result Verdict ReplayFault) → header_at bytes ≡ Ok (header, rest) → HasNoProgram header ended → HasNoRun bytes ended
-no_run bytes rest header (Ok v) h n = n
-no_run bytes rest header (Err (fault.Log f)) h n = absurd n
-no_run bytes rest header (Err (fault.Differs number expected other)) h n = n
-no_run bytes rest header (Err fault.Program) h n = (header, rest, h, n)
-no_run bytes rest header (Err fault.Write) h n = n
-no_run bytes rest header (Err fault.Memory) h n = tt
+no_run : (bytes rest : List ℕ) (version : Version) (header : PlainHeader) (ended : Result Verdict ReplayFault) → header_at bytes ≡ Ok ((version, header), rest) → HasNoProgram header ended → HasNoRun bytes ended
+no_run bytes rest version header (Ok v) h n = n
+no_run bytes rest version header (Err (fault.Log f)) h n = absurd n
+no_run bytes rest version header (Err (fault.Differs number expected other)) h n = n
+no_run bytes rest version header (Err fault.Program) h n = (version, header, rest, h, n)
+no_run bytes rest version header (Err fault.Write) h n = n
+no_run bytes rest version header (Err fault.Memory) h n = tt
 
 -- a replay of what stands behind a header is one of the whole
-behind_header : (bytes rest : List ℕ) (header : PlainHeader) (before after : Option (List ℕ)) (ended : Result Verdict ReplayFault) → header_at bytes ≡ Ok (header, rest) → EndsBehind header rest before after ended → IsReplay bytes before after ended
-behind_header bytes rest header before after ended h (inl n) = inl (no_run bytes rest header ended h n.0, n.1)
-behind_header bytes rest header before after ended h (inr r) =
+behind_header : (bytes rest : List ℕ) (version : Version) (header : PlainHeader) (before after : Option (List ℕ)) (ended : Result Verdict ReplayFault) → header_at bytes ≡ Ok ((version, header), rest) → EndsBehind version header rest before after ended → IsReplay bytes before after ended
+behind_header bytes rest version header before after ended h (inl n) = inl (no_run bytes rest version header ended h n.0, n.1)
+behind_header bytes rest version header before after ended h (inr r) =
     inr (record {
       course = r.course;
       rest = rest;
-      heads = record { header = header; header_is = h; program = r.program; options = r.options };
+      heads = record {
+        header = header;
+        header_is = h ∙ ap (λ (v : Version). Ok ((v, header), rest)) (sym r.version_is);
+        program = r.program;
+        options = r.options;
+      };
       stage = r.stage;
       left = r.left;
       follows = r.follows;
@@ -103,19 +110,19 @@ behind_header bytes rest header before after ended h (inr r) =
     })
 
 -- a read failed behind the header
-pub taken_whole : (left mid after : Option (List ℕ)) (header : PlainHeader) (before later : Option (List ℕ)) → IfSome left (λ bytes. IsSomeAnd mid (λ rest. header_at bytes ≡ Ok (header, rest))) → Between mid after (λ bytes rest. TakenBehind header bytes rest before later) →
+pub taken_whole : (left mid after : Option (List ℕ)) (version : Version) (header : PlainHeader) (before later : Option (List ℕ)) → IfSome left (λ bytes. IsSomeAnd mid (λ rest. header_at bytes ≡ Ok ((version, header), rest))) → Between mid after (λ bytes rest. TakenBehind version header bytes rest before later) →
     Between left after (λ bytes rest. ReplaysTaken bytes rest before later)
-taken_whole None mid after header before later h t = tt
-taken_whole (Some bytes) None after header before later h t = absurd h
-taken_whole (Some bytes) (Some rest) None header before later h t = absurd t
-taken_whole (Some bytes) (Some rest) (Some more) header before later h t =
-    let f = header_fronts bytes (header, rest) h in
+taken_whole None mid after version header before later h t = tt
+taken_whole (Some bytes) None after version header before later h t = absurd h
+taken_whole (Some bytes) (Some rest) None version header before later h t = absurd t
+taken_whole (Some bytes) (Some rest) (Some more) version header before later h t =
+    let f = header_fronts bytes ((version, header), rest) h in
     record {
       taken = f.0 ++ t.taken;
       is_front = f.1 ∙ ap (λ (x : List ℕ). f.0 ++ x) t.is_front ∙ sym (append_assoc f.0 t.taken more);
       ended = t.ended;
       at_end = t.at_end;
-      replays = behind_header (f.0 ++ t.taken) t.taken header before later t.ended (f.2 t.taken) t.ends;
+      replays = behind_header (f.0 ++ t.taken) t.taken version header before later t.ended (f.2 t.taken) t.ends;
     }
 
 -- a read failed within the header

@@ -10,6 +10,7 @@ use Rattle.bp_log.specs.Options.{PlainOptions}
 use Rattle.bp_log.specs.Logs.{records_text}
 use Rattle.bp_log.specs.Records.{verdict_of}
 use Rattle.bp_log.specs.Texts.{lines_text}
+use Rattle.bp_log.specs.declared.version.Version.{Version}
 use Rattle.bp_log.specs.declared.record.Record.{Record}
 use Rattle.bp_log.specs.declared.record.Record.TheVariants.{In, Bad, Eof, Sel, End}
 use Rattle.bp_log.specs.declared.verdict.Verdict.{Verdict}
@@ -146,12 +147,12 @@ one_ok x a b h k = cc
 pub read_ok : {A E : Type 0} (x : Result A E) (a : A) (f : E) → x ≡ Ok a → x ≡ Err f → ⊥
 read_ok x a f h k = cc
 
-module _ (bytes : List ℕ) (header : PlainHeader) (records : List Record) (program : PlainProgram) (text : List ℕ) (before later : Option (List ℕ)) (i : IsLogOf bytes header records program text) where
-  head : header_at bytes ≡ Ok (header, records_text records)
-  head = ap header_at i.bytes_are ∙ (logs_are_read header records i.header_is i.records_are i.stands).0
+module _ (version : Version) (bytes : List ℕ) (header : PlainHeader) (records : List Record) (program : PlainProgram) (text : List ℕ) (before later : Option (List ℕ)) (i : IsLogOf version bytes header records program text) where
+  head : header_at bytes ≡ Ok ((version, header), records_text records)
+  head = ap header_at i.bytes_are ∙ (logs_are_read version header records i.header_is i.records_are i.says_so i.stands).0
 
-  says : Says (first_stage header.options.injectors) (records_text records) records None
-  says = (logs_are_read header records i.header_is i.records_are i.stands).1
+  says : Says (first_stage version header.options.injectors) (records_text records) records None
+  says = (logs_are_read version header records i.header_is i.records_are i.says_so i.stands).1
 
   no_run : (ended : Result Verdict ReplayFault) → HasNoRun bytes ended → IsTrouble ended
   no_run (Ok v) h = h
@@ -163,26 +164,28 @@ module _ (bytes : List ℕ) (header : PlainHeader) (records : List Record) (prog
   no_run (Err (Log log.Memory)) h = tt
   no_run (Err (Differs n expected other)) h = h
   no_run (Err Program) h =
-      let same : h.0 ≡ header = ap (λ p. p.0) (one_ok (header_at bytes) (h.0, h.1) (header, records_text records) h.2 head) in
-      let refused : IsRefused header.program h.3.0 = subst (λ (x : PlainHeader). IsRefused x.program h.3.0) same h.3.1 in
-      absurd (never header.program (i.program_is).tree h.3.0 (i.program_is).accepted refused)
+      let same : h.1 ≡ header = ap (λ p. p.0.1) (one_ok (header_at bytes) ((h.0, h.1), h.2) ((version, header), records_text records) h.3 head) in
+      let refused : IsRefused header.program h.4.0 = subst (λ (x : PlainHeader). IsRefused x.program h.4.0) same h.4.1 in
+      absurd (never header.program (i.program_is).tree h.4.0 (i.program_is).accepted refused)
   no_run (Err Write) h = tt
   no_run (Err Memory) h = tt
 
   the_run : (ended : Result Verdict ReplayFault) → Replays bytes before later ended → IsTrouble ended ⊎ TellsAll records text before later ended
   the_run ended r =
       let c = r.course in
-      let pair = one_ok (header_at bytes) ((r.heads).header, r.rest) (header, records_text records) (r.heads).header_is head in
-      let same : (r.heads).header ≡ header = ap (λ p. p.0) pair in
+      let pair = one_ok (header_at bytes) ((c.version, (r.heads).header), r.rest) ((version, header), records_text records) (r.heads).header_is head in
+      let same : (r.heads).header ≡ header = ap (λ p. p.0.1) pair in
+      let versions : c.version ≡ version = ap (λ p. p.0.0) pair in
       let rest : r.rest ≡ records_text records = ap (λ p. p.1) pair in
       let options : c.options ≡ header.options = (r.heads).options ∙ ap (λ (x : PlainHeader). x.options) same in
       let p : c.program ≡ program = one_program header.program c.program program (subst (λ (x : PlainHeader). IsProgram x.program c.program) same (r.heads).program) i.program_is in
       let t = text_told program header.options records text i.text_is in
       let whole : story (code_in c) c.options records ≡ Some t.0 = (λ j. story (code_of (p j) (options j)) (options j) records) ∙ t.1 in
-      let begins : BeginsWith (first_stage header.options.injectors) (records_text records) c.records r.stage r.left =
-      subst (λ (o : PlainOptions). BeginsWith (first_stage o.injectors) (records_text records) c.records r.stage r.left) options
-      (subst (λ (xs : List ℕ). BeginsWith (first_stage c.options.injectors) xs c.records r.stage r.left) rest (r.follows).begins) in
-      let m = split (first_stage header.options.injectors) (records_text records) c.records records r.stage r.left begins says in
+      let begins : BeginsWith (first_stage version header.options.injectors) (records_text records) c.records r.stage r.left =
+      subst (λ (v : Version). BeginsWith (first_stage v header.options.injectors) (records_text records) c.records r.stage r.left) versions
+      (subst (λ (o : PlainOptions). BeginsWith (first_stage c.version o.injectors) (records_text records) c.records r.stage r.left) options
+      (subst (λ (xs : List ℕ). BeginsWith (first_stage c.version c.options.injectors) xs c.records r.stage r.left) rest (r.follows).begins)) in
+      let m = split (first_stage version header.options.injectors) (records_text records) c.records records r.stage r.left begins says in
       ends_whole c records t.0 text before later r.stage r.left (r.follows).told whole t.2 m.more m.is m.says ended r.ends r.prints
 
   tells : (ended : Result Verdict ReplayFault) → IsReplay bytes before later ended → IsTrouble ended ⊎ TellsAll records text before later ended
@@ -190,4 +193,4 @@ module _ (bytes : List ℕ) (header : PlainHeader) (records : List Record) (prog
   tells ended (inr r) = the_run ended r
 
 pub replays_tell_the_run : ReplaysTellTheRun
-replays_tell_the_run bytes header records program text before later ended i h = tells bytes header records program text before later i ended h
+replays_tell_the_run version bytes header records program text before later ended i h = tells version bytes header records program text before later i ended h

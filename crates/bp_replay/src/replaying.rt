@@ -32,12 +32,13 @@ fn replay_records<S: Source, K: Sink>(
     out: &mut K,
 ) -> Result<Verdict, ReplayFault>
     requires fresh { reader.old.refusal ≡ None }
-    requires stage { reader.old.stage ≡ first_stage header.now.options.injectors }
-    ensures ends { IfSome reader.old.left (λ rest. EndsBehind header.now rest
-        (K.written out.old) (K.written out.new) result) }
+    requires stage { reader.old.stage
+        ≡ first_stage reader.old.stage.version header.now.options.injectors }
+    ensures ends { IfSome reader.old.left (λ rest. EndsBehind reader.old.stage.version header.now
+        rest (K.written out.old) (K.written out.new) result) }
     ensures failed { IsErrOf result (ReplayFault.Log log_fault.Read)
-        → Between reader.old.left reader.new.left (λ bytes rest. TakenBehind header.now bytes rest
-        (K.written out.old) (K.written out.new)) }
+        → Between reader.old.left reader.new.left (λ bytes rest. TakenBehind
+        reader.old.stage.version header.now bytes rest (K.written out.old) (K.written out.new)) }
     ensures empty { IsErrOf result (ReplayFault.Log log_fault.Read)
         → reader.new.left ≡ reader.new.source }
     ensures read { IsErrOf result (ReplayFault.Log log_fault.Read)

@@ -220,8 +220,12 @@ pub full_queue_comes_before_quiet : (o : PlainOptions) (c : Configuration Body) 
 full_queue_comes_before_quiet o c h = rw (full (length c.stand.queue) MOST_WAITING h) refl
 
 -- an injector that is still read is waited for, and one transition was made
-pub reading_is_waited_for : (o : PlainOptions) → next_idle {Origin = Body} o (record { stand = record empty { transitions = 1 }; drawn = 0; reading = 1 ∷ []; bad = None }) None ≡ Waits
-reading_is_waited_for o = refl
+pub reading_is_waited_for : (o : PlainOptions) → o.wait ≡ true → next_idle {Origin = Body} o (record { stand = record empty { transitions = 1 }; drawn = 0; reading = 1 ∷ []; bad = None }) None ≡ Waits
+reading_is_waited_for o w = rw w refl
+
+-- and by a run that doesn't wait it isn't
+pub reading_is_not_waited_for : (o : PlainOptions) → o.wait ≡ false → next_idle {Origin = Body} o (record { stand = record empty { transitions = 1 }; drawn = 0; reading = 1 ∷ []; bad = None }) None ≡ Ends (verdict.Quiet 1)
+reading_is_not_waited_for o w = rw w refl
 
 pub quiet_where_all_have_ended : (o : PlainOptions) → next_idle {Origin = Body} o (record { stand = record empty { transitions = 1 }; drawn = 0; reading = []; bad = None }) None ≡ Ends (verdict.Quiet 1)
 quiet_where_all_have_ended o = refl

@@ -245,7 +245,7 @@ quiet_at_first : {O S : Type 0} (l : Code O S) (o : PlainOptions) (k : ℕ) → 
 unfolding initial
 quiet_at_first l o k = λ n v. absurd (none-some (verdict.Quiet n) ((grown_settle l opening).quiet n v))
 
--- where a story has the verdict `quiet`, every injector was heard to its end
+-- where a story has the verdict `quiet`, no item was waited for
 pub quiet_told : {O S : Type 0} (l : Code O S) (o : PlainOptions) (rs : List Record) (d : Configuration O) → story l o rs ≡ Some d → TellsQuiet o d
 unfolding story
 quiet_told l o rs d h = quiet_from l o rs (initial l o.injectors) d (quiet_at_first l o o.injectors) h
@@ -258,8 +258,13 @@ no_length : (xs : List ℕ) → (length xs == 0) ≡ true → xs ≡ []
 no_length [] h = refl
 no_length (x ∷ xs) h = absurd (let e = eqb-true (length (x ∷ xs)) 0 h in omega (arith, e))
 
-pub nobody_read : {O : Type 0} (o : PlainOptions) (c : Configuration O) (n : ℕ) → IsQuiet o c n → c.reading ≡ []
-nobody_read o c n q = no_length c.reading q.heard
+or_first : (b : Bool) → (b || not true) ≡ true → b ≡ true
+or_first true h = refl
+or_first false h = absurd (false≢true h)
+
+-- where the run waits, nobody is read any more
+pub nobody_read : {O : Type 0} (o : PlainOptions) (c : Configuration O) (n : ℕ) → o.wait ≡ true → IsQuiet o c n → c.reading ≡ []
+nobody_read o c n w q = no_length c.reading (or_first (length c.reading == 0) (sym (ap (λ (b : Bool). (length c.reading == 0) || not b) w) ∙ q.heard))
 
 -- ---- the verdict of a complete list
 
@@ -288,12 +293,13 @@ not_not : (b : Bool) → false ≡ not b → b ≡ true
 not_not true h = refl
 not_not false h = absurd (false≢true h)
 
--- the records of a story that ends quietly have the last of each injector, and no bad line
-pub quiet_heard : {O S : Type 0} (l : Code O S) (o : PlainOptions) (rs : List Record) (n j : ℕ) (d : Configuration O) → story l o rs ≡ Some d → verdict_of rs ≡ Some (verdict.Quiet n) → j < o.injectors → has_last_of j rs ≡ true
-quiet_heard l o rs n j d h k less =
+-- the records of a story that ends quietly have the last of each injector, where the run waits
+pub quiet_heard : {O S : Type 0} (l : Code O S) (o : PlainOptions) (rs : List Record) (n j : ℕ) (d : Configuration O) → o.wait ≡ true → story l o rs ≡ Some d → verdict_of rs ≡ Some (verdict.Quiet n) → j < o.injectors → has_last_of j rs ≡ true
+quiet_heard l o rs n j d w h k less =
     let q = quiet_told l o rs d h n (verdict_told l o rs (verdict.Quiet n) d h k) in
-    not_not (has_last_of j rs) (ap (λ (ks : List ℕ). list_any (nat_eq j) ks) (sym (nobody_read o d n q)) ∙ who_is_read l o rs d j h less)
+    not_not (has_last_of j rs) (ap (λ (ks : List ℕ). list_any (nat_eq j) ks) (sym (nobody_read o d n w q)) ∙ who_is_read l o rs d j h less)
 
+-- and no bad line
 pub quiet_good : {O S : Type 0} (l : Code O S) (o : PlainOptions) (rs : List Record) (n : ℕ) (d : Configuration O) → story l o rs ≡ Some d → verdict_of rs ≡ Some (verdict.Quiet n) → has_bad rs ≡ false
 quiet_good l o rs n d h k =
     let q = quiet_told l o rs d h n (verdict_told l o rs (verdict.Quiet n) d h k) in

@@ -142,6 +142,24 @@ pub waits_for_its_injector : next (code one_overtaken) (with_injectors 1) (initi
 unfolding turn settle_in settle initial selectable choice reach step next
 waits_for_its_injector = refl
 
+-- the same run, which doesn't wait
+abbrev unwaiting : PlainOptions
+unwaiting = record (with_injectors 1) { wait = false }
+
+pub ends_where_it_would_wait : text (code one_overtaken) unwaiting (End (verdict.Quiet 0) ∷ []) ≡ Some (codes "verdict quiet 0\n")
+unfolding turn settle_in settle initial selectable choice reach step next after_record story_from story line_text lines_text text digits
+ends_where_it_would_wait = refl
+
+-- what came before is taken, and what comes too late is in no record
+pub takes_what_came : text (code one_overtaken) unwaiting (In 0 go ∷ Sel go ∷ End (verdict.Quiet 1) ∷ []) ≡ Some (codes "external [\"go\"]\ndone \"B\"\nverdict quiet 1\n")
+unfolding turn settle_in settle initial selectable choice reach step next after_record story_from story line_text lines_text text digits
+takes_what_came = refl
+
+-- a bad line still ends it
+pub bad_line_ends_it : text (code one_overtaken) unwaiting (Bad 0 2 ∷ End (verdict.Bad 0 2) ∷ []) ≡ Some (codes "verdict bad 0 2\n")
+unfolding turn settle_in settle initial selectable choice reach step next after_record story_from story line_text lines_text text digits
+bad_line_ends_it = refl
+
 pub nothing_comes_after_the_end_of_input : story (code one_overtaken) (with_injectors 2) (In 1 x ∷ Eof 1 ∷ In 1 x ∷ []) ≡ None
 unfolding turn settle_in settle initial selectable choice reach step next after_record story_from story
 nothing_comes_after_the_end_of_input = refl

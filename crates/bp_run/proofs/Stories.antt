@@ -1,5 +1,5 @@
 -- What holds of every story.
-use Rattle.std.proofs.Common.{◌≡◌, ℕ, zero, suc, ◌+◌, ◌<◌, ◌≤◌, Bool, true, false, not, ◌&&◌, ◌==◌, nat_eq, nat_lt, List, [], ◌∷◌, ◌++◌, length, refl, sym, ap, subst, ◌∙◌, append_assoc, append-nil, Option, Some, None, Ok, Err, if◌then◌else◌, option_and_then, arith, option_map}
+use Rattle.std.proofs.Common.{◌≡◌, ℕ, zero, suc, ◌+◌, ◌<◌, ◌≤◌, Bool, true, false, not, ◌&&◌, ◌||◌, ◌==◌, nat_eq, nat_lt, List, [], ◌∷◌, ◌++◌, length, refl, sym, ap, subst, ◌∙◌, append_assoc, append-nil, Option, Some, None, Ok, Err, if◌then◌else◌, option_and_then, arith, option_map}
 use Rattle.std.specs.Prelude.{option_to_list}
 use Rattle.std.specs.List.{list_any}
 use Rattle.std.proofs.lemmas.Grind.{flat_map-append}
@@ -224,15 +224,19 @@ only_alone l o rs d i h k =
     let b = begins_alone l o rs d i h in
     sym (append-nil rs) ∙ ap (λ (s : List Record). rs ++ s) (sym (b.none k)) ∙ b.whole
 
--- with no injectors the run never waits
+-- where nobody is read, nothing is waited for
+pub nobody_waited : {O : Type 0} (o : PlainOptions) (c : Configuration O) → c.reading ≡ [] → waits_for_none o c ≡ true
+nobody_waited o c i = ap (λ (r : List ℕ). (length r == 0) || not o.wait) i
+
+-- where nothing is waited for, the run doesn't wait
 idle_waits_not : {O : Type 0} (c : Configuration O) (b e : Bool) → e ≡ true → (if b then Ends verdict.Queue else if e then Ends (verdict.Quiet c.stand.transitions) else Waits) ≡ Waits → ⊥
 idle_waits_not c true e k h = cc
 idle_waits_not c false true k h = cc
 idle_waits_not c false false k h = cc
 
-idle_not_waits : {O : Type 0} (o : PlainOptions) (c : Configuration O) (b : Option (ℕ × ℕ)) → c.reading ≡ [] → next_idle o c b ≡ Waits → ⊥
+idle_not_waits : {O : Type 0} (o : PlainOptions) (c : Configuration O) (b : Option (ℕ × ℕ)) → waits_for_none o c ≡ true → next_idle o c b ≡ Waits → ⊥
 idle_not_waits o c (Some b) i h = cc
-idle_not_waits o c None i h = idle_waits_not c (length c.stand.queue == MOST_WAITING) (waits_for_none o c) (ap (λ (r : List ℕ). length r == 0) i) h
+idle_not_waits o c None i h = idle_waits_not c (length c.stand.queue == MOST_WAITING) (waits_for_none o c) i h
 
 weight_not_waits : (ch : Choice) (r : List Touched) (b : Bool) → (if b then Ends verdict.Weight else Selects ch r) ≡ Waits → ⊥
 weight_not_waits ch r true h = cc
@@ -246,18 +250,18 @@ steps_not_waits : (n : ℕ) (b : Bool) (x : Next) → (x ≡ Waits → ⊥) → 
 steps_not_waits n true x k h = cc
 steps_not_waits n false x k h = k h
 
-choice_not_waits : {O S : Type 0} (l : Code O S) (o : PlainOptions) (c : Configuration O) (x : Asked (Option Choice)) → c.reading ≡ [] → next_choice l o c x ≡ Waits → ⊥
+choice_not_waits : {O S : Type 0} (l : Code O S) (o : PlainOptions) (c : Configuration O) (x : Asked (Option Choice)) → waits_for_none o c ≡ true → next_choice l o c x ≡ Waits → ⊥
 choice_not_waits l o c (Err f) i h = cc
 choice_not_waits l o c (Ok None) i h = idle_not_waits o c c.bad i h
 choice_not_waits l o c (Ok (Some ch)) i h =
     let x = reach l.has ch.event (live l c.stand) in
     steps_not_waits o.steps (nat_eq c.stand.transitions o.steps) (next_chosen c.stand ch x) (chosen_not_waits c.stand ch x) h
 
-unless_not_waits : {O S : Type 0} (l : Code O S) (o : PlainOptions) (c : Configuration O) (v : Option Verdict) → c.reading ≡ [] → next_unless l o c v ≡ Waits → ⊥
+unless_not_waits : {O S : Type 0} (l : Code O S) (o : PlainOptions) (c : Configuration O) (v : Option Verdict) → waits_for_none o c ≡ true → next_unless l o c v ≡ Waits → ⊥
 unless_not_waits l o c (Some v) i h = cc
 unless_not_waits l o c None i h = choice_not_waits l o c (choice l.has l.word o.strategy (live l c.stand) c.stand.queue c.drawn) i h
 
-pub waits_not : {O S : Type 0} (l : Code O S) (o : PlainOptions) (c : Configuration O) → c.reading ≡ [] → next l o c ≡ Waits → ⊥
+pub waits_not : {O S : Type 0} (l : Code O S) (o : PlainOptions) (c : Configuration O) → waits_for_none o c ≡ true → next l o c ≡ Waits → ⊥
 unfolding next
 waits_not l o c i h = unless_not_waits l o c c.stand.verdict i h
 
@@ -277,7 +281,7 @@ completes_on : {O S : Type 0} (l : Code O S) (o : PlainOptions) (n : ℕ) (c : C
     ((ch : Choice) (r : List Touched) → x ≡ Selects ch r → Completes l o (alone_from l o n (move l c ch r)) (move l c ch r)) →
     Completes l o (alone_next l o n c x) c
 completes_on l o n c (Ends v) h i ih = (over_with c v, story_end l o c v h, refl)
-completes_on l o n c Waits h i ih = absurd (waits_not l o c i h)
+completes_on l o n c Waits h i ih = absurd (waits_not l o c (nobody_waited o c i) h)
 completes_on l o n c (Selects ch r) h i ih =
     let q = ih ch r refl in
     (q.0, story_sel l o c ch r (alone_from l o n (move l c ch r)) h ∙ q.1, q.2)

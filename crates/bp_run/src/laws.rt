@@ -1,5 +1,5 @@
 //! The laws of runs, each as the contract of a function that does nothing.
-ghost use Rattle.std.specs.Prelude.{◌≡◌, ◌≤◌, ◌<◌, ◌∷◌, ◌++◌, ℕ, List, [], length, map, nat_eq, Option, Some, None, is_some, Ok, true, false, not, slice_get};
+ghost use Rattle.std.specs.Prelude.{◌≡◌, ◌≤◌, ◌<◌, ◌∷◌, ◌++◌, ℕ, List, [], length, map, nat_eq, Option, Some, None, is_some, Ok, Bool, true, false, not, slice_get};
 ghost use Rattle.std.specs.List.{list_any};
 ghost use Rattle.js_data.specs.Event.{PlainEvent};
 ghost use Rattle.bp_log.specs.Options.{PlainOptions};
@@ -47,16 +47,16 @@ pub fn records_tell_who_is_read()
         told l o records ≡ Some c → is_some c.bad ≡ has_bad records }
 {}
 
-/// A run ends quietly only where every injector was heard to its end and no line was bad; what is
-/// merged never ends it so.
+/// A run ends quietly only where no line was bad and, if it waits for its injectors, every one was
+/// heard to its end; what is merged never ends it so.
 pub fn quiet_runs_heard_everyone()
     ensures comes { (l : Code ℕ (Option PlainEvent)) (o : PlainOptions) (records : List Record)
         (c : Configuration ℕ) (n : ℕ) →
         told l o records ≡ Some c → next l o c ≡ story.Next.Ends (verdict.Quiet n) →
-        (c.reading ≡ []) × (c.bad ≡ None) × (n ≡ c.stand.transitions) }
+        (o.wait ≡ true → c.reading ≡ []) × (c.bad ≡ None) × (n ≡ c.stand.transitions) }
     ensures heard { (l : Code ℕ (Option PlainEvent)) (o : PlainOptions) (records : List Record)
         (c : Configuration ℕ) (n j : ℕ) →
-        told l o records ≡ Some c → verdict_of records ≡ Some (verdict.Quiet n) →
+        o.wait ≡ true → told l o records ≡ Some c → verdict_of records ≡ Some (verdict.Quiet n) →
         j < o.injectors → has_last_of j records ≡ true }
     ensures good { (l : Code ℕ (Option PlainEvent)) (o : PlainOptions) (records : List Record)
         (c : Configuration ℕ) (n : ℕ) →
@@ -64,6 +64,25 @@ pub fn quiet_runs_heard_everyone()
         has_bad records ≡ false }
     ensures merged { (l : Code ℕ (Option PlainEvent)) (p : Pair ℕ) (n : ℕ) →
         (settle l p).verdict ≡ Some (verdict.Quiet n) → p.stand.verdict ≡ Some (verdict.Quiet n) }
+{}
+
+/// With no injectors it is nothing whether a run waits for them: the same records are a story and
+/// print the same text, and the run is the same.
+pub fn waiting_is_nothing_alone()
+    ensures story { (l : Code ℕ (Option PlainEvent)) (o : PlainOptions) (wait : Bool)
+        (records : List Record) →
+        o.injectors ≡ 0 → told l (record o { wait = wait }) records ≡ told l o records }
+    ensures text { (l : Code ℕ (Option PlainEvent)) (o : PlainOptions) (wait : Bool)
+        (records : List Record) →
+        o.injectors ≡ 0 → text l (record o { wait = wait }) records ≡ text l o records }
+    ensures run { (l : Code ℕ (Option PlainEvent)) (o : PlainOptions) (wait : Bool) →
+        o.injectors ≡ 0 → alone l (record o { wait = wait }) ≡ alone l o }
+{}
+
+/// A run that does not wait for its injectors never waits.
+pub fn only_waiting_runs_wait()
+    ensures { (l : Code ℕ (Option PlainEvent)) (o : PlainOptions) (c : Configuration ℕ) →
+        next l o c ≡ story.Next.Waits → o.wait ≡ true }
 {}
 
 /// The text of a prefix of the records is a prefix of the text.

@@ -5,15 +5,16 @@ use Rattle.bp_base.specs.Pieces.{Appends, AppendsFront}
 use Rattle.bp_base.proofs.Appending.{appends-on}
 use Rattle.bp_log.specs.Header.{PlainHeader}
 use Rattle.bp_log.specs.Logs.{header_text, records_text, log_text}
+use Rattle.bp_log.specs.declared.version.Version.{Version}
 use Rattle.bp_log.specs.declared.record.Record.{Record}
 use Rattle.bp_told.specs.Logging.{OfLog, LogGets, LogGetsFront, LogHolds, LogWaits, LogShows, LogShowsFront, LogStays}
 use Rattle.bp_told.specs.Pages.{Shows, ShowsFront}
 use Rattle.bp_told.proofs.Pieces.{appends_nothing, longer_front, let_go, shows_page, shows_on, shows_stop, front_on, shows_put, shows_part, written_all, written_front, written_part, written_front_part}
 
 -- a log is its head and its records
-pub log_is : (h : PlainHeader) (rs : List Record) → log_text h rs ≡ header_text h ++ records_text rs
+pub log_is : (v : Version) (h : PlainHeader) (rs : List Record) → log_text v h rs ≡ header_text v h ++ records_text rs
 unfolding log_text
-log_is h rs = refl
+log_is v h rs = refl
 
 holds_shown : (a b c : Option (List ℕ)) (text page more : List ℕ) → Shows a text page b → Appends b (page ++ more) c → Appends a (text ++ more) c
 holds_shown a b c text page more s h =

@@ -79,7 +79,7 @@ impl Page {
     }
 
     /// Puts a record at the end. After want of memory a part of it, from its front, is there.
-    fn add_record(&mut self, alloc: Global, entry: &Record) -> Result<(), Memory>
+    pub fn add_record(&mut self, alloc: Global, entry: &Record) -> Result<(), Memory>
         ensures added { OnOk result (self.new ≡ self.old ++ whole_record entry.now) }
         ensures front { OnErr result
             (AppendsFront (Some self.old) (whole_record entry.now) (Some self.new)) }
@@ -119,7 +119,7 @@ impl Page {
     }
 
     /// Writes what waits if that is much. After a refusal a front of it was written.
-    pub(crate) fn spill<K: Sink>(&mut self, out: &mut K) -> Result<(), Failed>
+    pub fn spill<K: Sink>(&mut self, out: &mut K) -> Result<(), Failed>
         ensures shows { OnOk result
             (Shows (K.written out.old) self.old self.new (K.written out.new)) }
         ensures front { OnErr result

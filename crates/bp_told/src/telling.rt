@@ -3,6 +3,7 @@ ghost use Rattle.std.specs.Prelude.{◌≡◌, ◌⊎◌, ◌≤◌, ◌++◌, [
 ghost use Rattle.bp_base.specs.Counts.{Rose};
 ghost use Rattle.bp_base.specs.Pieces.{Appends};
 ghost use Rattle.bp_log.specs.Logs.{header_text, records_text};
+ghost use Rattle.bp_log.specs.declared.version.Version.TheVariants.{Second};
 ghost use Rattle.bp_log.specs.Texts.{whole_line, lines_text};
 ghost use Rattle.bp_told.specs.Logging.{LogGets, LogHolds, LogShows, LogShowsFront, LogWaits, LogFails, LogStays};
 ghost use Rattle.bp_told.specs.Pages.{Shows, ShowsFront};
@@ -38,7 +39,7 @@ impl Model for Telling {
 /// The head of a log on a page of its own, where one is kept. Its only error is want of memory.
 fn head_of<L: Sink>(alloc: Global, header: &Header, log: &Option<L>) -> Result<Page, Memory>
     ensures { IfOk result (λ page.
-        LogShows L.written log.now (header_text header.now) page log.now) }
+        LogShows L.written log.now (header_text Second header.now) page log.now) }
 {
     let mut page = Page::new(alloc);
     if log.is_some() && write_header(alloc, header, &mut page).is_err() {
@@ -55,7 +56,8 @@ impl Telling {
         header: &Header,
         log: &Option<L>,
     ) -> Result<Telling, Memory>
-        ensures begins { IfOk result (BeginsTelling L.written (header_text header.now) log.now) }
+        ensures begins { IfOk result
+            (BeginsTelling L.written (header_text Second header.now) log.now) }
         ensures kept { IfOk result (λ t. t.kept ≡ 0) }
     {
         let records = head_of(alloc, header, log)?;

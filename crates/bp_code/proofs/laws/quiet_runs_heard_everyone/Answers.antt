@@ -6,10 +6,10 @@ use Rattle.bp_code.proofs.laws.quiet_runs_heard_everyone.Goals as goal
 pub returns-clause-comes : goal.returns-clause-comes
 returns-clause-comes c = λ p o records d n h k.
     let q = quiet_comes (code_of p o) o records d n h k in
-    (nobody_read o d n q, q.good, q.count)
+    (λ w. nobody_read o d n w q, q.good, q.count)
 
 pub returns-clause-heard : goal.returns-clause-heard
-returns-clause-heard c = λ p o records d n j h k less. quiet_heard (code_of p o) o records n j d h k less
+returns-clause-heard c = λ p o records d n j w h k less. quiet_heard (code_of p o) o records n j d w h k less
 
 pub returns-clause-good : goal.returns-clause-good
 returns-clause-good c = λ p o records d n h k. quiet_good (code_of p o) o records n d h k

@@ -21,7 +21,7 @@ use Rattle.bp_follow.proofs.telling.tell.Goals as goal
 pub loop-reader-init : goal.loop-reader-init
 loop-reader-init g c =
     record {
-      along = along_first c.args.arbiter.now c.args.reader.now c.args.page.now (g.K.Sink.written c.args.out.now) c.requires.first c.requires.fresh c.requires.stage c.requires.empty;
+      along = along_first c.args.reader.now.stage.version c.args.arbiter.now c.args.reader.now c.args.page.now (g.K.Sink.written c.args.out.now) c.requires.first c.requires.fresh c.requires.stage c.requires.empty;
       read_counts = omega arith;
       write_counts = omega arith;
       named = refl;
@@ -34,8 +34,8 @@ returns-in_err-show-clause-tells g c =
     let d = a.course in
     let r = (a.way).runs in
     rw p.1
-    (subst (λ (e : ReplayFault). IfSome c.args.reader.now.left (λ rest. Tells (first_of c.args.arbiter.now) rest (g.K.Sink.written c.args.out.now) c.show.new.page (g.K.Sink.written c.show.new.out) (Err e))) (sym p.2)
-    (tells_unwritten (first_of c.args.arbiter.now) d a.program a.options r.told c.args.reader.now.left (g.K.Sink.written c.args.out.now) c.show.new.page (g.K.Sink.written c.show.new.out) c.loop-reader.reader.stage c.loop-reader.reader.left _ a.reached
+    (subst (λ (e : ReplayFault). IfSome c.args.reader.now.left (λ rest. Tells (first_of c.args.reader.now.stage.version c.args.arbiter.now) rest (g.K.Sink.written c.args.out.now) c.show.new.page (g.K.Sink.written c.show.new.out) (Err e))) (sym p.2)
+    (tells_unwritten (first_of c.args.reader.now.stage.version c.args.arbiter.now) d a.program a.options a.version r.told c.args.reader.now.left (g.K.Sink.written c.args.out.now) c.show.new.page (g.K.Sink.written c.show.new.out) c.loop-reader.reader.stage c.loop-reader.reader.left _ a.reached
     (front_course d a.taken (a.way).more _ _ _ c.loop-reader.page _ (a.way).lines a.shows (c.in_err-show.ensures.front d a.taken a.way))))
 
 pub returns-in_err-found-clause-tells : goal.returns-in_err-found-clause-tells
@@ -45,8 +45,8 @@ returns-in_err-found-clause-tells g c =
     let d = a.course in
     let r = (a.way).runs in
     rw p.1
-    (subst (λ (e : ReplayFault). IfSome c.args.reader.now.left (λ rest. Tells (first_of c.args.arbiter.now) rest (g.K.Sink.written c.args.out.now) c.show.new.page (g.K.Sink.written c.show.new.out) (Err e))) (sym p.2)
-    (tells_refused (first_of c.args.arbiter.now) d a.program a.options r.told c.args.reader.now.left (g.K.Sink.written c.args.out.now) c.show.new.page (g.K.Sink.written c.show.new.out) c.loop-reader.reader.stage c.loop-reader.reader.left _ a.reached
+    (subst (λ (e : ReplayFault). IfSome c.args.reader.now.left (λ rest. Tells (first_of c.args.reader.now.stage.version c.args.arbiter.now) rest (g.K.Sink.written c.args.out.now) c.show.new.page (g.K.Sink.written c.show.new.out) (Err e))) (sym p.2)
+    (tells_refused (first_of c.args.reader.now.stage.version c.args.arbiter.now) d a.program a.options a.version r.told c.args.reader.now.left (g.K.Sink.written c.args.out.now) c.show.new.page (g.K.Sink.written c.show.new.out) c.loop-reader.reader.stage c.loop-reader.reader.left _ a.reached
     (c.in_err-found.ensures.tells a.fresh)
     (shows_course d a.taken (a.way).more _ _ _ c.loop-reader.page _ (a.way).lines a.shows (c.in_ok-show.ensures.shows d a.taken a.way))))
 
@@ -55,7 +55,7 @@ returns-in_err-found-clause-failed g c =
     let a = c.loop-reader.invariant.along in
     let d = a.course in
     λ e.
-    taken_cut (first_of c.args.arbiter.now) d a.program a.options ((a.way).runs).told (g.K.Sink.written c.args.out.now) c.show.new.page (g.K.Sink.written c.show.new.out) c.loop-reader.reader.stage c.args.reader.now.left c.loop-reader.reader.left c.next.new.self.left a.going
+    taken_cut (first_of c.args.reader.now.stage.version c.args.arbiter.now) d a.program a.options a.version ((a.way).runs).told (g.K.Sink.written c.args.out.now) c.show.new.page (g.K.Sink.written c.show.new.out) c.loop-reader.reader.stage c.args.reader.now.left c.loop-reader.reader.left c.next.new.self.left a.going
     (shows_course d a.taken (a.way).more _ _ _ c.loop-reader.page _ (a.way).lines a.shows (c.in_ok-show.ensures.shows d a.taken a.way)) a.reached (c.in_err-found.ensures.failed a.fresh (search rules))
 
 pub follow-requires : goal.follow-requires
@@ -70,8 +70,8 @@ returns-in_err-follow-clause-tells g c =
     let tells : IfSome c.loop-reader.reader.left (λ bytes. ReaderTells (Ok (Some c.in-Some.found)) (next_at c.loop-reader.reader.stage bytes) c.next.new.self.left) =
     subst (λ (x : Option Record). IfSome c.loop-reader.reader.left (λ bytes. ReaderTells (Ok x) (next_at c.loop-reader.reader.stage bytes) c.next.new.self.left)) c.in-Some.is (c.in_ok-found.ensures.tells a.fresh) in
     rw p.1
-    (subst (λ (e : ReplayFault). IfSome c.args.reader.now.left (λ rest. Tells (first_of c.args.arbiter.now) rest (g.K.Sink.written c.args.out.now) c.show.new.page (g.K.Sink.written c.show.new.out) (Err e))) (sym p.2)
-    (tells_parted (first_of c.args.arbiter.now) d a.program a.options r.told c.args.reader.now.left (g.K.Sink.written c.args.out.now) c.show.new.page (g.K.Sink.written c.show.new.out) c.loop-reader.reader.stage c.loop-reader.reader.left
+    (subst (λ (e : ReplayFault). IfSome c.args.reader.now.left (λ rest. Tells (first_of c.args.reader.now.stage.version c.args.arbiter.now) rest (g.K.Sink.written c.args.out.now) c.show.new.page (g.K.Sink.written c.show.new.out) (Err e))) (sym p.2)
+    (tells_parted (first_of c.args.reader.now.stage.version c.args.arbiter.now) d a.program a.options a.version r.told c.args.reader.now.left (g.K.Sink.written c.args.out.now) c.show.new.page (g.K.Sink.written c.show.new.out) c.loop-reader.reader.stage c.loop-reader.reader.left
     c.next.new.self.left c.in-Some.found (c.loop-reader.number + 1) c.follow.new.arbiter _ a.reached tells (ap (λ (n : ℕ). n + 1) a.number_is)
     (c.in_err-follow.ensures d (c.in_ok-show.ensures.there d a.taken a.way))
     (shows_course d a.taken (a.way).more _ _ _ c.loop-reader.page _ (a.way).lines a.shows (c.in_ok-show.ensures.shows d a.taken a.way))))
@@ -97,8 +97,8 @@ returns-in_err-verdict-clause-tells g c =
     let d = a.course in
     let r = (a.way).runs in
     rw p.1
-    (subst (λ (e : ReplayFault). IfSome c.args.reader.now.left (λ rest. Tells (first_of c.args.arbiter.now) rest (g.K.Sink.written c.args.out.now) c.show.new.page (g.K.Sink.written c.show.new.out) (Err e))) (sym p.2)
-    (tells_memory (first_of c.args.arbiter.now) d a.program a.options r.told c.args.reader.now.left (g.K.Sink.written c.args.out.now) c.show.new.page (g.K.Sink.written c.show.new.out) c.loop-reader.reader.stage c.loop-reader.reader.left a.reached
+    (subst (λ (e : ReplayFault). IfSome c.args.reader.now.left (λ rest. Tells (first_of c.args.reader.now.stage.version c.args.arbiter.now) rest (g.K.Sink.written c.args.out.now) c.show.new.page (g.K.Sink.written c.show.new.out) (Err e))) (sym p.2)
+    (tells_memory (first_of c.args.reader.now.stage.version c.args.arbiter.now) d a.program a.options a.version r.told c.args.reader.now.left (g.K.Sink.written c.args.out.now) c.show.new.page (g.K.Sink.written c.show.new.out) c.loop-reader.reader.stage c.loop-reader.reader.left a.reached
     (shows_course d a.taken (a.way).more _ _ _ c.loop-reader.page _ (a.way).lines a.shows (c.in_ok-show.ensures.shows d a.taken a.way))))
 
 pub finish-requires-clause-ended : goal.finish-requires-clause-ended
@@ -128,7 +128,7 @@ returns-in-Some-verdict-clause-tells g c =
     let tells : IfSome c.loop-reader.reader.left (λ bytes. ReaderTells (Ok (Some (End v))) (next_at s bytes) c.next.new.self.left) =
     subst (λ (x : Option Record). IfSome c.loop-reader.reader.left (λ bytes. ReaderTells (Ok x) (next_at s bytes) c.next.new.self.left)) is (c.in_ok-found.ensures.tells a.fresh) in
     let t = told_end d v n.0 r.told r.going n.1 in
-    tells_finished (first_of c.args.arbiter.now) (onto d (End v) n.0) a.program a.options t.0 c.args.reader.now.left (g.K.Sink.written c.args.out.now) c.finish.new.page (g.K.Sink.written c.finish.new.out) c.next.new.self.stage c.next.new.self.left v c.finish.result
+    tells_finished (first_of c.args.reader.now.stage.version c.args.arbiter.now) (onto d (End v) n.0) a.program a.options a.version t.0 c.args.reader.now.left (g.K.Sink.written c.args.out.now) c.finish.new.page (g.K.Sink.written c.finish.new.out) c.next.new.self.stage c.next.new.self.left v c.finish.result
     (reached_on d c.args.reader.now.left c.loop-reader.reader.left c.next.new.self.left s c.next.new.self.stage (End v) n.0 a.reached tells stage)
     (verdict_by_last d.records (End v)) c.finish.ensures.finishes
     (shown_on c.finish.result (g.K.Sink.written c.args.out.now) (g.K.Sink.written c.show.new.out) (g.K.Sink.written c.finish.new.out) (text_in d) c.show.new.page (lines_text (trace.Verdict v ∷ [])) c.finish.new.page (text_in (onto d (End v) n.0)) t.1
@@ -166,7 +166,7 @@ returns-in-Some-verdict-clause-failed g c =
     subst (λ (x : Option Record). IfSome c.loop-reader.reader.left (λ bytes. ReaderTells (Ok x) (next_at s bytes) c.next.new.self.left)) is (c.in_ok-found.ensures.tells a.fresh) in
     let t = told_end d v n.0 r.told r.going n.1 in
     λ h.
-    taken_whole (first_of c.args.arbiter.now) (onto d (End v) n.0) a.program a.options t.0 (g.K.Sink.written c.args.out.now) c.finish.new.page (g.K.Sink.written c.finish.new.out) c.next.new.self.stage c.args.reader.now.left c.next.new.self.left c.finish.new.reader.left v
+    taken_whole (first_of c.args.reader.now.stage.version c.args.arbiter.now) (onto d (End v) n.0) a.program a.options a.version t.0 (g.K.Sink.written c.args.out.now) c.finish.new.page (g.K.Sink.written c.finish.new.out) c.next.new.self.stage c.args.reader.now.left c.next.new.self.left c.finish.new.reader.left v
     (ap (λ (x : Stage). x.ended) stage) (verdict_by_last d.records (End v))
     (shown_on (Err (fault.Log log.Read)) (g.K.Sink.written c.args.out.now) (g.K.Sink.written c.show.new.out) (g.K.Sink.written c.finish.new.out) (text_in d) c.show.new.page (lines_text (trace.Verdict v ∷ [])) c.finish.new.page (text_in (onto d (End v) n.0)) t.1
     (shows_course d a.taken (a.way).more _ _ _ c.loop-reader.page _ (a.way).lines a.shows (c.in_ok-show.ensures.shows d a.taken a.way))
@@ -189,7 +189,7 @@ loop-reader-preserved g c =
     let more_reads = c.next.ensures.counts in
     let more_writes = c.show.ensures.counts in
     record {
-      along = along_on (first_of c.args.arbiter.now) c.args.reader.now.left (g.K.Sink.written c.args.out.now) c.loop-reader.reader c.next.new.self c.loop-reader.arbiter c.follow.new.arbiter c.loop-reader.number (c.loop-reader.number + 1)
+      along = along_on (first_of c.args.reader.now.stage.version c.args.arbiter.now) c.args.reader.now.left (g.K.Sink.written c.args.out.now) c.loop-reader.reader c.next.new.self c.loop-reader.arbiter c.follow.new.arbiter c.loop-reader.number (c.loop-reader.number + 1)
           c.loop-reader.page c.show.new.page (g.K.Sink.written c.loop-reader.out) (g.K.Sink.written c.show.new.out) c.in-Some.found a (c.in_ok-show.ensures.shows d a.taken a.way) c.in_ok-found.ensures.kept tells stage m none refl;
       read_counts = omega (arith, reads, more_reads);
       write_counts = omega (arith, writes, more_writes);

@@ -18,5 +18,5 @@ returns-in-Ok-clause-failed g c =
     λ h.
     subst (λ (t : Option (List ℕ)). Between (g.S.Source.left c.args.log) t (λ bytes rest. ReplaysTaken bytes rest (g.K.Sink.written c.args.out.now) (g.K.Sink.written c.replay_records-ended.new.out)))
     (c.replay_records-ended.ensures.empty h ∙ sym c.back.ensures.source)
-    (taken_whole (g.S.Source.left c.args.log) c.in-Ok.reader.left c.replay_records-ended.new.reader.left c.in-Ok.header (g.K.Sink.written c.args.out.now) (g.K.Sink.written c.replay_records-ended.new.out) c.in-Ok.ensures.header
+    (taken_whole (g.S.Source.left c.args.log) c.in-Ok.reader.left c.replay_records-ended.new.reader.left c.in-Ok.reader.stage.version c.in-Ok.header (g.K.Sink.written c.args.out.now) (g.K.Sink.written c.replay_records-ended.new.out) c.in-Ok.ensures.header
     (c.replay_records-ended.ensures.failed h))

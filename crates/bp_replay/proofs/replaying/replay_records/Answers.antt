@@ -16,11 +16,11 @@ returns-in_err-write-clause-ends g c =
     let header = c.args.header.now in
     let program = c.in-Ok.program in
     let is : IsProgram header.program program = subst (λ (bytes : List ℕ). IsProgram bytes program) c.program.ensures.program c.in-Ok.ensures.program in
-    let tells = subst (λ (o : PlainOptions). IfSome c.args.reader.now.left (λ rest. Tells (first_course program o) rest (g.K.Sink.written c.args.out.now) c.replay_onto-ended.new.page (g.K.Sink.written c.replay_onto-ended.new.out) c.replay_onto-ended.result)) c.options.ensures
+    let tells = subst (λ (o : PlainOptions). IfSome c.args.reader.now.left (λ rest. Tells (first_course c.args.reader.now.stage.version program o) rest (g.K.Sink.written c.args.out.now) c.replay_onto-ended.new.page (g.K.Sink.written c.replay_onto-ended.new.out) c.replay_onto-ended.result)) c.options.ensures
     c.replay_onto-ended.ensures.tells in
     rw p.1
-    (subst (λ (e : ReplayFault). IfSome c.args.reader.now.left (λ rest. EndsBehind header rest (g.K.Sink.written c.args.out.now) (g.K.Sink.written c.write.new.out) (Err e))) (sym p.2)
-    (ends_unwritten header program is c.args.reader.now.left (g.K.Sink.written c.args.out.now) (g.K.Sink.written c.replay_onto-ended.new.out) (g.K.Sink.written c.write.new.out) c.replay_onto-ended.new.page c.replay_onto-ended.result tells
+    (subst (λ (e : ReplayFault). IfSome c.args.reader.now.left (λ rest. EndsBehind c.args.reader.now.stage.version header rest (g.K.Sink.written c.args.out.now) (g.K.Sink.written c.write.new.out) (Err e))) (sym p.2)
+    (ends_unwritten c.args.reader.now.stage.version header program is c.args.reader.now.left (g.K.Sink.written c.args.out.now) (g.K.Sink.written c.replay_onto-ended.new.out) (g.K.Sink.written c.write.new.out) c.replay_onto-ended.new.page c.replay_onto-ended.result tells
     c.in_err-write.ensures.front))
 
 pub returns-clause-ends : goal.returns-clause-ends
@@ -28,9 +28,9 @@ returns-clause-ends g c =
     let header = c.args.header.now in
     let program = c.in-Ok.program in
     let is : IsProgram header.program program = subst (λ (bytes : List ℕ). IsProgram bytes program) c.program.ensures.program c.in-Ok.ensures.program in
-    let tells = subst (λ (o : PlainOptions). IfSome c.args.reader.now.left (λ rest. Tells (first_course program o) rest (g.K.Sink.written c.args.out.now) c.replay_onto-ended.new.page (g.K.Sink.written c.replay_onto-ended.new.out) c.replay_onto-ended.result)) c.options.ensures
+    let tells = subst (λ (o : PlainOptions). IfSome c.args.reader.now.left (λ rest. Tells (first_course c.args.reader.now.stage.version program o) rest (g.K.Sink.written c.args.out.now) c.replay_onto-ended.new.page (g.K.Sink.written c.replay_onto-ended.new.out) c.replay_onto-ended.result)) c.options.ensures
     c.replay_onto-ended.ensures.tells in
-    ends_written header program is c.args.reader.now.left (g.K.Sink.written c.args.out.now) (g.K.Sink.written c.replay_onto-ended.new.out) (g.K.Sink.written c.write.new.out) c.replay_onto-ended.new.page c.replay_onto-ended.result tells
+    ends_written c.args.reader.now.stage.version header program is c.args.reader.now.left (g.K.Sink.written c.args.out.now) (g.K.Sink.written c.replay_onto-ended.new.out) (g.K.Sink.written c.write.new.out) c.replay_onto-ended.new.page c.replay_onto-ended.result tells
     c.in_ok-write.ensures.whole
 
 pub returns-clause-failed : goal.returns-clause-failed
@@ -39,6 +39,6 @@ returns-clause-failed g c =
     let program = c.in-Ok.program in
     let is : IsProgram header.program program = subst (λ (bytes : List ℕ). IsProgram bytes program) c.program.ensures.program c.in-Ok.ensures.program in
     λ h.
-    taken_written header program is c.args.reader.now.left c.replay_onto-ended.new.reader.left (g.K.Sink.written c.args.out.now) (g.K.Sink.written c.replay_onto-ended.new.out) (g.K.Sink.written c.write.new.out) c.replay_onto-ended.new.page
-    (subst (λ (o : PlainOptions). Between c.args.reader.now.left c.replay_onto-ended.new.reader.left (λ bytes rest. TellsTaken (first_course program o) bytes rest (g.K.Sink.written c.args.out.now) c.replay_onto-ended.new.page (g.K.Sink.written c.replay_onto-ended.new.out))) c.options.ensures
+    taken_written c.args.reader.now.stage.version header program is c.args.reader.now.left c.replay_onto-ended.new.reader.left (g.K.Sink.written c.args.out.now) (g.K.Sink.written c.replay_onto-ended.new.out) (g.K.Sink.written c.write.new.out) c.replay_onto-ended.new.page
+    (subst (λ (o : PlainOptions). Between c.args.reader.now.left c.replay_onto-ended.new.reader.left (λ bytes rest. TellsTaken (first_course c.args.reader.now.stage.version program o) bytes rest (g.K.Sink.written c.args.out.now) c.replay_onto-ended.new.page (g.K.Sink.written c.replay_onto-ended.new.out))) c.options.ensures
     (c.replay_onto-ended.ensures.failed h)) c.in_ok-write.ensures.whole
