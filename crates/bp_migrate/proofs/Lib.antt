@@ -1,0 +1,4 @@
+pub mod Copying
+pub mod Whole
+pub mod Ends
+pub mod LogsMigrate

@@ -1,0 +1,142 @@
+//! A log of either version, written in the second.
+ghost use Rattle.std.specs.Prelude.{◌≡◌, ◌≤◌, ◌++◌, None, IfSome, IfOk, OnErr, IsErrOf};
+ghost use Rattle.bp_base.specs.Counts.{Rose};
+ghost use Rattle.bp_log.specs.Logs.{header_text};
+ghost use Rattle.bp_log.specs.declared.version.Version.TheVariants as version;
+ghost use Rattle.bp_reader.specs.Fed.{Between};
+ghost use Rattle.bp_reader.specs.declared.fault.LogFault.TheVariants as log_fault;
+ghost use Rattle.bp_reading.specs.Reading.{first_stage};
+ghost use Rattle.bp_migrate.specs.Copies.{Copies, CopiesTaken};
+ghost use Rattle.bp_migrate.specs.Migrations.{CopiesBehind, TakenBehind, IsMigration, MigratesTaken};
+
+use crate::MigrateFault;
+use bp_base::{Sink, Source};
+use bp_log::{Header, Memory, write_header};
+use bp_reader::Reader;
+use bp_told::Page;
+use std::alloc::{AllocError, Global};
+
+/// What came of a migration.
+#[derive(Drop)]
+pub struct Migrated<S: Source> {
+    /// Nothing, or why the log was not migrated to its end.
+    pub ended: Result<(), MigrateFault>,
+    /// The source, as far as its blocks were taken.
+    pub log: S,
+}
+
+/// The head of a log of the second version on a page of its own. Its only error is want of memory.
+fn head_of(alloc: Global, header: &Header) -> Result<Page, Memory>
+    ensures { IfOk result (λ page. page ≡ header_text version.Second header.now) }
+{
+    let mut page = Page::new(alloc);
+    match write_header(alloc, header, &mut page) {
+        Ok(()) => Ok(page),
+        Err(_) => Err(AllocError),
+    }
+}
+
+/// Puts the records that are still to be read on the page, and writes what waits whenever that is
+/// much.
+fn copy<S: Source, K: Sink>(
+    alloc: Global,
+    reader: &mut Reader<S>,
+    page: &mut Page,
+    out: &mut K,
+) -> Result<(), MigrateFault>
+    requires { reader.old.refusal ≡ None }
+    ensures copies { IfSome reader.old.left (λ bytes. Copies reader.old.stage bytes page.old
+        (K.written out.old) page.new (K.written out.new) result) }
+    ensures failed { IsErrOf result (MigrateFault.Log log_fault.Read)
+        → Between reader.old.left reader.new.left (λ bytes rest. CopiesTaken reader.old.stage
+        bytes rest page.old (K.written out.old) page.new (K.written out.new)) }
+    ensures empty { IsErrOf result (MigrateFault.Log log_fault.Read)
+        → reader.new.left ≡ reader.new.source }
+    ensures read { IsErrOf result (MigrateFault.Log log_fault.Read)
+        → Rose reader.old.faults reader.new.faults }
+    ensures write { IsErrOf result MigrateFault.Write
+        → Rose (K.faults out.old) (K.faults out.new) }
+    ensures read_counts { reader.old.faults ≤ reader.new.faults }
+    ensures write_counts { K.faults out.old ≤ K.faults out.new }
+    ensures named { K.made_as out.new ≡ K.made_as out.old }
+{
+    loop {
+        let Some(entry) = reader.next(alloc)? else {
+            return Ok(());
+        };
+        page.add_record(alloc, &entry)?;
+        page.spill(out)?;
+    }
+}
+
+/// Migrates what stands behind the header, and writes it behind the header.
+fn migrate_records<S: Source, K: Sink>(
+    alloc: Global,
+    header: &Header,
+    reader: &mut Reader<S>,
+    out: &mut K,
+) -> Result<(), MigrateFault>
+    requires fresh { reader.old.refusal ≡ None }
+    requires stage { reader.old.stage
+        ≡ first_stage reader.old.stage.version header.now.options.injectors }
+    ensures ends { IfSome reader.old.left (λ rest. CopiesBehind reader.old.stage.version header.now
+        rest (K.written out.old) (K.written out.new) result) }
+    ensures failed { IsErrOf result (MigrateFault.Log log_fault.Read)
+        → Between reader.old.left reader.new.left (λ bytes rest. TakenBehind
+        reader.old.stage.version header.now bytes rest (K.written out.old) (K.written out.new)) }
+    ensures empty { IsErrOf result (MigrateFault.Log log_fault.Read)
+        → reader.new.left ≡ reader.new.source }
+    ensures read { IsErrOf result (MigrateFault.Log log_fault.Read)
+        → Rose reader.old.faults reader.new.faults }
+    ensures write { IsErrOf result MigrateFault.Write
+        → Rose (K.faults out.old) (K.faults out.new) }
+    ensures read_counts { reader.old.faults ≤ reader.new.faults }
+    ensures write_counts { K.faults out.old ≤ K.faults out.new }
+    ensures named { K.made_as out.new ≡ K.made_as out.old }
+{
+    let mut page = head_of(alloc, header)?;
+    let ended = copy(alloc, reader, &mut page, out);
+    page.write(out)?;
+    ended
+}
+
+/// Writes a log of either version as the log of the second version of the same header and records, in
+/// pieces of 64 KiB or a little more. No record is run.
+///
+/// # Errors
+///
+/// `Log` exactly where the bytes are no log at that place: the header, if it was read, and the records
+/// before were written, also where the log could not be read on. Before `Write` and `Memory` a front of
+/// such a text was written.
+pub fn migrate<S: Source, K: Sink>(alloc: Global, log: S, out: &mut K) -> Migrated<S>
+    // Of a source that tells its bytes: the answer and what was printed are those of these bytes.
+    ensures ends { IfSome (S.left log)
+        (λ bytes. IsMigration bytes (K.written out.old) (K.written out.new) result.ended) }
+
+    // Where reading failed: what was printed is what a log of the bytes that were taken says.
+    ensures failed { IsErrOf result.ended (MigrateFault.Log log_fault.Read)
+        → Between (S.left log) (S.left result.log) (λ bytes rest. MigratesTaken bytes rest
+        (K.written out.old) (K.written out.new)) }
+
+    ensures read { IsErrOf result.ended (MigrateFault.Log log_fault.Read)
+        → Rose (S.faults log) (S.faults result.log) }
+    ensures write { IsErrOf result.ended MigrateFault.Write
+        → Rose (K.faults out.old) (K.faults out.new) }
+    ensures read_counts { S.faults log ≤ S.faults result.log }
+    ensures write_counts { K.faults out.old ≤ K.faults out.new }
+    ensures named { K.made_as out.new ≡ K.made_as out.old }
+{
+    match Reader::open(alloc, log) {
+        Err(refused) => Migrated {
+            ended: Err(MigrateFault::from(refused.fault)),
+            log: refused.source,
+        },
+        Ok((mut reader, header)) => {
+            let ended = migrate_records(alloc, &header, &mut reader, out);
+            Migrated {
+                ended,
+                log: reader.back(),
+            }
+        }
+    }
+}
