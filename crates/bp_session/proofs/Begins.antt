@@ -5,6 +5,7 @@ use Rattle.js_program.specs.PlainProgram.{PlainProgram}
 use Rattle.js_meaning.specs.Bodies.{Origin}
 use Rattle.bp_log.specs.Header.{PlainHeader}
 use Rattle.bp_log.specs.Logs.{header_text}
+use Rattle.bp_log.specs.declared.version.Version.TheVariants.{Second}
 use Rattle.bp_log.specs.Options.{PlainOptions}
 use Rattle.bp_log.specs.declared.record.Record.{Record}
 use Rattle.bp_run.specs.Bodies.{Code}
@@ -28,7 +29,7 @@ unfolding code_of
 opened_code program o = refl
 
 pub begins : {L : Type 0} (written : L → Option (List ℕ)) (program : PlainProgram) (h : PlainHeader) (log : Option L) (c : Core) (w : Waiting) → KeepsProgram (opened program h.options) c.arbiter →
-    IsCoreAt c c.jobs.items [] (steps.opened (bp_code.code_of program h.options) h.options) → BeginsTelling written (header_text h) log w → w.kept ≡ 0 → Begins written program h log c w
+    IsCoreAt c c.jobs.items [] (steps.opened (bp_code.code_of program h.options) h.options) → BeginsTelling written (header_text Second h) log w → w.kept ≡ 0 → Begins written program h log c w
 begins {L} written program h log c w p at t k printed =
     let o = h.options in
     let l : Code Origin PlainSet = bp_code.code_of program o in
@@ -40,5 +41,5 @@ begins {L} written program h log c w p at t k printed =
       taken = [];
       moment = steps.opened l o;
       here = record { at = at; unbegun = ap (λ (m : Code Origin PlainSet). lends m opening) (sym code) };
-      told = subst (λ (rs : List Record). IsTold L written (text l o) (header_text h) first first w rs []) (sym (ap (λ (n : ℕ). take n c.arbiter.records) k)) (t (text l o) printed (text_first l o));
+      told = subst (λ (rs : List Record). IsTold L written (text l o) (header_text Second h) first first w rs []) (sym (ap (λ (n : ℕ). take n c.arbiter.records) k)) (t (text l o) printed (text_first l o));
     }

@@ -1,5 +1,5 @@
 -- How serving ends.
-use Rattle.std.proofs.Common.{◌≡◌, ◌≤◌, ◌⊎◌, inl, inr, ℕ, List, [], ◌++◌, refl, append-nil, Option, Some, None, IsSome, Ok, Err, subst, sym}
+use Rattle.std.proofs.Common.{◌≡◌, ◌≤◌, ◌⊎◌, inl, inr, ℕ, List, [], refl, append-nil, Option, Some, None, IsSome, Ok, Err, subst, sym}
 use Rattle.std.specs.Prelude.{Result, IfOk, OnOk, IfErr, IfSome}
 use Rattle.js_value.specs.Value.{PlainSet}
 use Rattle.js_meaning.specs.Bodies.{Origin}

@@ -1,5 +1,6 @@
 pub mod Served
 pub mod Picked
+pub mod Waits
 pub mod Tells
 pub mod Reports
 pub mod Hears

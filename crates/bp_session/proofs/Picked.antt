@@ -1,5 +1,5 @@
 -- What comes next comes.
-use Rattle.std.proofs.Common.{◌≡◌, ◌⊎◌, inl, inr, ℕ, Bool, true, false, List, [], ◌∷◌, ◌++◌, refl, ap, sym, subst, ◌∙◌, append-nil, Option, Some, None, if◌then◌else◌}
+use Rattle.std.proofs.Common.{◌≡◌, ◌⊎◌, inl, inr, ℕ, Bool, true, false, List, [], ◌∷◌, ◌++◌, refl, ap, sym, subst, ◌∙◌, append-nil, Some, None, if◌then◌else◌}
 use Rattle.std.specs.Prelude.{Result, Ok, Err, OnOk, OnErr}
 use Rattle.std.proofs.lemmas.List.Elements.{filter_map-append}
 use Rattle.js_value.specs.Value.{PlainSet}
@@ -7,7 +7,6 @@ use Rattle.js_meaning.specs.Bodies.{Origin}
 use Rattle.bp_log.specs.declared.item.Item.{Item}
 use Rattle.bp_log.specs.declared.record.Record.{Record}
 use Rattle.bp_log.specs.declared.record.Record.TheVariants.{Sel, End}
-use Rattle.bp_log.specs.declared.trace.Line.{Line}
 use Rattle.bp_run.specs.Bodies.{Code}
 use Rattle.bp_run.specs.Story.{Next, next}
 use Rattle.bp_run.specs.Story.Next.{Ends, Selects, Waits}
@@ -18,15 +17,15 @@ use Rattle.bp_arbiter.specs.Arbiters.{PlainArbiter, code_in, options_in}
 use Rattle.bp_core.specs.declared.stepping.Core.{Core}
 use Rattle.bp_core.specs.Cores.{IsCoreAt, Makes, Cuts, KeepsProgram}
 use Rattle.bp_core.specs.Moments.{step_on}
-use Rattle.bp_turns.specs.Settled.{IsHere, IsSomewhereHere, EndsWith, ClosesCore, SettlesCore, CutsTurns}
+use Rattle.bp_turns.specs.Settled.{IsSomewhereHere, EndsWith, ClosesCore, SettlesCore, CutsTurns}
 use Rattle.bp_turns.proofs.Arbiters.{same_code}
-use Rattle.bp_session.specs.Serving.{IsLedTo, IsCutAt, LeadsOn, CutsAt, KeepsItems}
+use Rattle.bp_session.specs.Serving.{LeadsOn, CutsAt, KeepsItems}
 
 if_some : {A : Type 0} (b : Bool) (x n : A) → (if b then Some x else None) ≡ Some n → n ≡ x
 if_some true x n e = cc
 if_some false x n e = absurd (cc)
 
-pick_next : (a : PlainArbiter) (m n : Moment Origin) → step_on a m Pick ≡ Some n → n ≡ picked (code_in a) m (next (code_in a) (options_in a) m.told)
+pub pick_next : (a : PlainArbiter) (m n : Moment Origin) → step_on a m Pick ≡ Some n → n ≡ picked (code_in a) m (next (code_in a) (options_in a) m.told)
 unfolding after_step
 pick_next a m n e = if_some (is_resting m) (picked (code_in a) m (next (code_in a) (options_in a) m.told)) n e
 

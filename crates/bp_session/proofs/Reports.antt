@@ -1,15 +1,16 @@
 -- What a report says, by what is known of the run at its end.
-use Rattle.std.proofs.Common.{◌≡◌, ◌≤◌, ◌<◌, ℕ, Bool, true, false, ◌||◌, nat_eq, List, [], ◌∷◌, ◌++◌, length, refl, ap, sym, subst, ◌∙◌, append_assoc, append-nil, Option, Some, None, IsSome, IsSomeAnd, slice_index_or, if◌then◌else◌, arith}
-use Rattle.std.specs.List.{list_any, cons_option}
+use Rattle.std.proofs.Common.{◌≡◌, ◌<◌, ℕ, Bool, true, false, ◌||◌, nat_eq, List, [], ◌∷◌, ◌++◌, length, refl, ap, sym, subst, ◌∙◌, append_assoc, Option, Some, None, IsSome, IsSomeAnd, slice_index_or, if◌then◌else◌, arith}
+use Rattle.std.specs.List.{cons_option}
 use Rattle.std.specs.Prelude.{option_map, IfSome}
-use mathlib.Core.List.{IsPrefix}
 use Rattle.std.proofs.lemmas.Bool.{or_right}
 use Rattle.js_data.proofs.Shared.{one_answer}
+use Rattle.js_program.specs.PlainProgram.{PlainProgram}
 use Rattle.js_value.specs.Value.{PlainSet}
 use Rattle.js_meaning.specs.Bodies.{Origin}
-use Rattle.bp_base.specs.Counts.{Rose}
 use Rattle.bp_base.specs.Pieces.{Gives, Appends, AppendsFront}
-use Rattle.bp_log.specs.Logs.{records_text}
+use Rattle.bp_log.specs.Header.{PlainHeader}
+use Rattle.bp_log.specs.Logs.{header_text, records_text}
+use Rattle.bp_log.specs.declared.version.Version.TheVariants.{Second}
 use Rattle.bp_log.specs.Options.{PlainOptions}
 use Rattle.bp_log.specs.Records.{verdict_of}
 use Rattle.bp_log.specs.Texts.{lines_text}
@@ -20,9 +21,10 @@ use Rattle.bp_log.specs.declared.record.Record.TheVariants.{In, Bad, Eof, Sel, E
 use Rattle.bp_log.specs.declared.trace.Line.{Line}
 use Rattle.bp_log.specs.declared.verdict.Verdict as logs
 use Rattle.bp_log.specs.declared.verdict.Verdict.TheVariants as verdict
+use Rattle.bp_code.specs.Code.{code_of}
 use Rattle.bp_run.specs.Bodies.{Code}
 use Rattle.bp_run.specs.Configuration.{Configuration}
-use Rattle.bp_run.specs.Injectors.{is_last_of, has_last_of, is_bad, has_bad}
+use Rattle.bp_run.specs.Injectors.{has_last_of, has_bad}
 use Rattle.bp_run.specs.Story.{story, story_from}
 use Rattle.bp_run.specs.Text.{text}
 use Rattle.bp_run.proofs.Injectors.{quiet_heard, quiet_good}
@@ -35,14 +37,15 @@ use Rattle.bp_hear.proofs.Back.{heard_back, heard_whole, heard_to_fault}
 use Rattle.bp_scope.specs.Readings.{AreBack, HasBroken}
 use Rattle.bp_core.specs.declared.stepping.Core.{Core}
 use Rattle.bp_told.specs.Order.{PrintsBehind}
-use Rattle.bp_told.specs.Told.{Given, ComesOf}
+use Rattle.bp_told.specs.Told.{Given, Waiting, ComesOf, given}
 use Rattle.bp_told.proofs.Logging.{log_front_longer, log_nothing}
 use Rattle.bp_told.proofs.Order.{behind_longer}
 use Rattle.bp_told.proofs.Pieces.{appends_nothing, longer_front, records_text-append}
 use Rattle.bp_session.specs.declared.report.Ending.{Ending}
 use Rattle.bp_session.specs.declared.report.Ending.TheVariants as ending
+use Rattle.bp_session.specs.Lending.{Begins}
 use Rattle.bp_session.specs.Reports.{Wholly, Partly, BrokeAt, ComeBack, IsQuiet, EndsAs}
-use Rattle.bp_session.specs.Serving.{IsAllWritten, IsFrontWritten, IsEnded, EndIsCaused, broke_at}
+use Rattle.bp_session.specs.Serving.{IsAllWritten, IsFrontWritten, IsEnded, EndsServing, EndIsCaused, broke_at}
 
 -- ---- what was written
 
@@ -105,18 +108,18 @@ module _ {S : Type 0} (left : S → Option (List ℕ)) (faults : S → ℕ) (sou
   pub come_back : length back ≡ length sources → ComeBack left faults sources back records
   come_back e = record { many = e; counts = λ k d less. ((came.each k d less).offered).counts }
 
-  -- a quiet run heard everyone
-  pub each_whole : (l : Code Origin PlainSet) (o : PlainOptions) (c : Configuration Origin) (n : ℕ) → length sources ≡ o.injectors → story l o records ≡ Some c → verdict_of records ≡ Some (verdict.Quiet n) →
+  -- a quiet run that waits heard everyone
+  pub each_whole : (l : Code Origin PlainSet) (o : PlainOptions) (c : Configuration Origin) (n : ℕ) → o.wait ≡ true → length sources ≡ o.injectors → story l o records ≡ Some c → verdict_of records ≡ Some (verdict.Quiet n) →
       EachHeardWhole left sources back records
-  each_whole l o c n e h v k d less =
+  each_whole l o c n waits e h v k d less =
       let b = came.each k d less in
       let there : k < o.injectors = subst (λ (m : ℕ). k < m) e less in
       heard_whole k records b.behind (left (slice_index_or sources k d)) (left (slice_index_or back k d)) (b.offered).begins
-      (end_heard k records (quiet_heard l o records n k c h v there) (quiet_good l o records n c h v))
+      (end_heard k records (quiet_heard l o records n k c waits h v there) (quiet_good l o records n c h v))
 
-  pub whole_at : (l : Code Origin PlainSet) (o : PlainOptions) (c : Configuration Origin) (v : logs.Verdict) → length sources ≡ o.injectors → story l o records ≡ Some c → verdict_of records ≡ Some v → IsQuiet v → EachHeardWhole left sources back records
-  whole_at l o c (verdict.Quiet n) e h w q = each_whole l o c n e h w
-  whole_at l o c _ e h w q = absurd q
+  pub whole_at : (l : Code Origin PlainSet) (o : PlainOptions) (c : Configuration Origin) (v : logs.Verdict) → length sources ≡ o.injectors → story l o records ≡ Some c → verdict_of records ≡ Some v → o.wait ≡ true → IsQuiet v → EachHeardWhole left sources back records
+  whole_at l o c (verdict.Quiet n) e h w waits q = each_whole l o c n waits e h w
+  whole_at l o c _ e h w waits q = absurd q
 
   pub broke_at_source : (j : ℕ) → HasBroken left faults sources back records j → BrokeAt left faults sources back records j
   broke_at_source j b =
@@ -156,14 +159,20 @@ module _ {L : Type 0} (written : L → Option (List ℕ)) (l : Code Origin Plain
       (came : AreBack left source_faults sources back c.arbiter.records) (many : length sources ≡ o.injectors) where
     pub ends_as : (e : Ending) → IsEnded written l o head first c now e → EndIsCaused faults log_faults out_old out_new first.log now.log e →
         IfSome (broke_at e) (HasBroken left source_faults sources back c.arbiter.records) →
-        EndsAs written log_faults faults (text l o) head out_old out_new first now left source_faults sources back c.arbiter.records e
+        EndsAs written log_faults faults o.wait (text l o) head out_old out_new first now left source_faults sources back c.arbiter.records e
     ends_as (ending.Verdict v) i k b =
         let t = told_of l o c.arbiter.records (text_whole written l o head first c now i.1) in
-        (i.0, wholly written l o head first c now i.1, λ q. whole_at left source_faults sources back c.arbiter.records came l o t.0 v many t.1 i.0 q)
+        (i.0, wholly written l o head first c now i.1, λ waits q. whole_at left source_faults sources back c.arbiter.records came l o t.0 v many t.1 i.0 waits q)
     ends_as (ending.Read j) i k b = (i.0, wholly written l o head first c now i.1, broke_at_source left source_faults sources back c.arbiter.records came j b)
     ends_as ending.Write i k b = (partly written l o head first c now i, k)
     ends_as ending.LogWrite i k b = (partly written l o head first c now i, k)
     ends_as ending.Memory i k b = partly written l o head first c now i
+
+-- what is known of a run that was served from its beginning
+pub ended_run : {K L : Type 0} {written : L → Option (List ℕ)} {before after : Core} {w : Waiting} {end : Ending} (out : K → Option (List ℕ)) (program : PlainProgram) (h : PlainHeader) (x y : K) (a b : Option L) →
+    Begins written program h a before w → EndsServing written before (given out x a) w after (given out y b) end →
+    IsEnded written (code_of program h.options) h.options (header_text Second h) (given out x a) after (given out y b) end
+ended_run out program h x y a b s e = e.ends (code_of program h.options) h.options (header_text Second h) (given out x a) (s (out x))
 
 -- ---- where nothing began
 

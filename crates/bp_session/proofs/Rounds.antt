@@ -9,13 +9,16 @@ use Rattle.bp_core.specs.declared.stepping.Core.{Core}
 use Rattle.bp_core.specs.Cores.{KeepsProgram}
 use Rattle.bp_told.specs.Told.{Given, Waiting, IsTold}
 use Rattle.bp_told.specs.declared.fault.RunFault.{RunFault}
-use Rattle.bp_turns.specs.Settled.{IsSettled}
+use Rattle.bp_told.specs.declared.fault.RunFault.TheVariants.{Memory}
+use Rattle.bp_turns.specs.Settled.{IsSettled, IsSomewhereHere}
+use Rattle.bp_hear.specs.Hearings.{AreHeard}
 use Rattle.bp_scope.specs.declared.reading.Reading.{Reading}
 use Rattle.bp_session.specs.declared.stop.Stop.{Stop}
 use Rattle.bp_session.specs.declared.stop.Stop.TheVariants as stop
 use Rattle.bp_session.specs.Hearing.{HearsOn, StopsHearing}
-use Rattle.bp_session.specs.Serving.{IsReady, IsUnwritten, TellsAll, ServesOn, BreaksServing, StillTold, PartTold, StopsTurning, StopsServing, LeadsOn, CutsAt}
-use Rattle.bp_session.proofs.Served.{serving_on, cut_off, stop_here, some_text, here_tells}
+use Rattle.bp_session.specs.Serving.{IsReady, IsUnwritten, TellsAll, ServesOn, BreaksServing, StillTold, PartTold, StopsTurning, StopsServing, LeadsOn, CutsAt, KeepsItems}
+use Rattle.bp_session.proofs.Served.{serving_on, cut_off, stop_here, some_text, here_tells, ready_somewhere, ready_on}
+use Rattle.bp_session.proofs.Hears.{heard_kept}
 
 -- what a `?` hands on
 pub from_err : {T E : Type 0} (r : Result T E) (s : E) (P : E → Type 0) → IsErrAnd r (λ e. e ≡ s) → P s → IfErr r P
@@ -43,11 +46,23 @@ pub idle_of : (f : Phase) → IsSettled f → is_idle f ≡ true
 idle_of f (inl e) = ap is_idle e
 idle_of f (inr e) = ap is_idle e
 
-module _ {L : Type 0} (written : L → Option (List ℕ)) where
-  -- memory is not wanting where a run is served
-  pub whole_ready : (c : Core) (now : Given L) (w : Waiting) → IsReady written c now w → c.broken ≡ false
-  whole_ready c now w r = (((r.serving).here).at).whole
+-- ---- one step after the other
 
+module _ {L : Type 0} {written : L → Option (List ℕ)} where
+  -- memory is not wanting where a run is served
+  pub whole_ready : {c : Core} {now : Given L} {w : Waiting} → IsReady written c now w → c.broken ≡ false
+  whole_ready r = (((r.serving).here).at).whole
+
+  pub serves_both : {a b d : Core} {x y z : Given L} {u v w : Waiting} → ServesOn written a x u b y v → ServesOn written b y v d z w → ServesOn written a x u d z w
+  serves_both f g l o head first s = g l o head first (f l o head first s)
+
+  pub tells_then : {a b d : Core} {x y z : Given L} {u v w : Waiting} → ServesOn written a x u b y v → TellsAll written b y v d z w → TellsAll written a x u d z w
+  tells_then f g l o head first s = g l o head first (f l o head first s)
+
+  pub breaks_then : {a b d : Core} {x y z : Given L} {u v w : Waiting} {fault : RunFault} → ServesOn written a x u b y v → BreaksServing written b y v d z w fault → BreaksServing written a x u d z w fault
+  breaks_then f g l o head first s = g l o head first (f l o head first s)
+
+module _ {L : Type 0} (written : L → Option (List ℕ)) where
   -- the core was led on, and nothing was told
   pub lead_serves : (a b : Core) (now : Given L) (w : Waiting) → KeepsProgram a.arbiter b.arbiter → LeadsOn a b → ServesOn written a now w b now w
   lead_serves a b now w p h l o head first s =
@@ -56,6 +71,10 @@ module _ {L : Type 0} (written : L → Option (List ℕ)) where
 
   pub hear_serves : (a b : Core) (now : Given L) (w : Waiting) → HearsOn a b → ServesOn written a now w b now w
   hear_serves a b now w h = lead_serves a b now w h.kept h.leads
+
+  -- injectors were heard, and then what comes next came
+  pub picked_serves : (a b d : Core) (now : Given L) (w : Waiting) → HearsOn a b → KeepsProgram b.arbiter d.arbiter → LeadsOn b d → ServesOn written a now w d now w
+  picked_serves a b d now w h p k = serves_both (hear_serves a b now w h) (lead_serves b d now w p k)
 
   -- what was told is told still
   pub still_serves : (c : Core) (old new : Given L) (w v : Waiting) → StillTold written old w new v → ServesOn written c old w c new v
@@ -72,11 +91,9 @@ module _ {L : Type 0} (written : L → Option (List ℕ)) where
         told = subst (λ (k : ℕ). IsTold L written (text l o) head first new v (take k rs) s.taken) same told;
       }
 
-  pub serves_both : (a b d : Core) (x y z : Given L) (u v w : Waiting) → ServesOn written a x u b y v → ServesOn written b y v d z w → ServesOn written a x u d z w
-  serves_both a b d x y z u v w f g l o head first s = g l o head first (f l o head first s)
-
-  pub tells_then : (a b d : Core) (x y z : Given L) (u v w : Waiting) → ServesOn written a x u b y v → TellsAll written b y v d z w → TellsAll written a x u d z w
-  tells_then a b d x y z u v w f g l o head first s = g l o head first (f l o head first s)
+  -- and it was served before
+  pub serves_still : (a c : Core) (x old new : Given L) (u w v : Waiting) → ServesOn written a x u c old w → StillTold written old w new v → ServesOn written a x u c new v
+  serves_still a c x old new u w v f t = serves_both f (still_serves c old new w v t)
 
   pub still_none : (a : Given L) (w : Waiting) → StillTold written a w a w
   still_none a w text head first records lines t = t
@@ -94,9 +111,6 @@ module _ {L : Type 0} (written : L → Option (List ℕ)) where
   pub serves_none : (a : Core) (x : Given L) (u : Waiting) → ServesOn written a x u a x u
   serves_none a x u l o head first s = s
 
-  pub breaks_then : (a b d : Core) (x y z : Given L) (u v w : Waiting) (fault : RunFault) → ServesOn written a x u b y v → BreaksServing written b y v d z w fault → BreaksServing written a x u d z w fault
-  breaks_then a b d x y z u v w fault f g l o head first s = g l o head first (f l o head first s)
-
   -- memory was wanting as what comes next came
   pub pick_breaks : (a b : Core) (now : Given L) (w : Waiting) (fault : RunFault) → KeepsProgram a.arbiter b.arbiter → CutsAt a b → BreaksServing written a now w b now w fault
   pick_breaks a b now w fault p t l o head first s =
@@ -110,6 +124,10 @@ module _ {L : Type 0} (written : L → Option (List ℕ)) where
     pub stops_then : (a b d : Core) (x y z : Given L) (u v w : Waiting) (s : Stop) → ServesOn written a x u b y v → StopsServing written b y v d z w readings s → StopsServing written a x u d z w readings s
     stops_then a b d x y z u v w s f g l o head first h = g l o head first (f l o head first h)
 
+    -- memory was wanting, and nothing was done
+    pub memory_stops : (c : Core) (now : Given L) (w : Waiting) (s : Stop) → s ≡ stop.Broken Memory → StopsServing written c now w c now w readings s
+    memory_stops c now w s e = subst (λ (t : Stop). StopsServing written c now w c now w readings t) (sym e) (here_breaks c now w Memory)
+
     -- an injector failed, or memory was wanting as it was heard
     pub hear_stops : (a b : Core) (now : Given L) (w : Waiting) (s : Stop) → HearsOn a b → b.arbiter.phase ≡ Rest → StopsHearing readings s → StopsServing written a now w b now w readings s
     hear_stops a b now w (stop.Read j) h r f l o head first s = (hear_serves a b now w h l o head first s, f, r)
@@ -117,7 +135,7 @@ module _ {L : Type 0} (written : L → Option (List ℕ)) where
     hear_stops a b now w (stop.Unwritten e) h r f l o head first s = absurd f
 
     -- an own turn or a wait stopped
-    pub turn_stops : (c : Core) (old new : Given L) (w v : Waiting) (s : Stop) → StopsTurning written old w new v s → StopsServing written c old w c new v readings s
+    turn_stops : (c : Core) (old new : Given L) (w v : Waiting) (s : Stop) → StopsTurning written old w new v s → StopsServing written c old w c new v readings s
     turn_stops c old new w v (stop.Read j) f l o head first s = absurd f
     turn_stops c old new w v (stop.Broken e) f l o head first s = here_breaks c new v e l o head first (still_serves c old new w v f.1 l o head first s)
     turn_stops c old new w v (stop.Unwritten e) f l o head first s =
@@ -130,3 +148,18 @@ module _ {L : Type 0} (written : L → Option (List ℕ)) where
           is_front = take-append-drop w.kept rs;
           part = f (text l o) head first (take w.kept rs) s.taken s.told;
         }
+
+    -- and it was served before
+    pub turn_stops_then : (a c : Core) (x old new : Given L) (u w v : Waiting) (s : Stop) → ServesOn written a x u c old w → StopsTurning written old w new v s → StopsServing written a x u c new v readings s
+    turn_stops_then a c x old new u w v s f t = stops_then a c c x old new u w v s f (turn_stops c old new w v s t)
+
+-- ---- who is heard
+
+-- injectors were heard, and the core is at some moment
+pub heard_somewhere : {L : Type 0} {written : L → Option (List ℕ)} {a b : Core} {now : Given L} {w : Waiting} → IsReady written a now w → HearsOn a b → IsSomewhereHere b
+heard_somewhere {written = written} {a = a} {b = b} {now = now} {w = w} r h = ready_somewhere written b now w (ready_on (hear_serves written a b now w h) r)
+
+-- what comes next records nothing of injectors
+pub picked_heard : {L S : Type 0} {written : L → Option (List ℕ)} {a b : Core} {now : Given L} {w : Waiting} (d : Core) (readings : List (Reading S)) → IsReady written a now w → HearsOn a b →
+    (IsSomewhereHere b → KeepsItems b.arbiter.records d.arbiter.records) → AreHeard (λ (r : Reading S). r.hearing) b.arbiter.records readings → AreHeard (λ (r : Reading S). r.hearing) d.arbiter.records readings
+picked_heard {b = b} d readings r h k = heard_kept b.arbiter.records d.arbiter.records readings (k (heard_somewhere r h))

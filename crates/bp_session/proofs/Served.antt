@@ -1,8 +1,7 @@
 -- A run that is served: from one moment to the next.
-use Rattle.std.proofs.Common.{◌≡◌, ◌⊎◌, inl, inr, ◌≤◌, ℕ, true, false, List, [], ◌∷◌, ◌++◌, length, take, drop, refl, ap, sym, subst, ◌∙◌, append_assoc, append-nil, take-append-drop, Option, Some, None, IsSome, arith}
+use Rattle.std.proofs.Common.{◌≡◌, ◌⊎◌, inl, inr, ◌≤◌, ℕ, List, [], ◌∷◌, ◌++◌, length, take, drop, refl, ap, sym, subst, ◌∙◌, append_assoc, append-nil, take-append-drop, Option, Some, IsSome, arith}
 use Rattle.std.specs.Prelude.{option_map}
 use Rattle.std.proofs.lemmas.List.{take-append-le, length-take}
-use mathlib.Core.List.{IsPrefix}
 use Rattle.js_value.specs.Value.{PlainSet}
 use Rattle.js_meaning.specs.Bodies.{Origin}
 use Rattle.bp_log.specs.Options.{PlainOptions}
@@ -15,15 +14,15 @@ use Rattle.bp_run.specs.Configuration.{Configuration}
 use Rattle.bp_run.specs.Story.{story}
 use Rattle.bp_run.specs.Text.{text}
 use Rattle.bp_steps.specs.Steps.{Moment, pair_at}
-use Rattle.bp_arbiter.specs.Arbiters.{PlainArbiter, Tells, Recounts, code_in, options_in, stand_in}
+use Rattle.bp_arbiter.specs.Arbiters.{PlainArbiter, Tells, code_in, options_in, stand_in}
 use Rattle.bp_arbiter.proofs.Told.{stands_tells}
 use Rattle.bp_core.specs.declared.stepping.Core.{Core}
 use Rattle.bp_core.specs.Cores.{KeepsProgram}
-use Rattle.bp_told.specs.Told.{Given, Waiting, ComesOf, IsTold, IsBroken, IsPartly}
+use Rattle.bp_told.specs.Told.{Given, Waiting, ComesOf, IsTold}
 use Rattle.bp_told.specs.declared.fault.RunFault.{RunFault}
 use Rattle.bp_told.proofs.Pieces.{lines_text-append}
 use Rattle.bp_told.proofs.Told.{told_broken}
-use Rattle.bp_turns.specs.Settled.{IsHere, IsSomewhereHere, EndsWith, ClosesCore, IsTurnedFrom, SettlesCore, IsCutInTurns, CutsTurns}
+use Rattle.bp_turns.specs.Settled.{IsHere, IsSomewhereHere, EndsWith, ClosesCore, SettlesCore, CutsTurns}
 use Rattle.bp_turns.proofs.Arbiters.{same_code, recounts_at}
 use Rattle.bp_session.specs.Serving.{IsServing, IsReady, IsBrokenOff, ServesOn, BreaksServing}
 
@@ -127,15 +126,15 @@ cut_more a b taken m h s =
 
 -- ---- what stands for whoever serves
 
+pub ready_on : {L : Type 0} {written : L → Option (List ℕ)} {a b : Core} {old new : Given L} {w v : Waiting} → ServesOn written a old w b new v → IsReady written a old w → IsReady written b new v
+ready_on s r = record { code = r.code; options = r.options; head = r.head; first = r.first; serving = s r.code r.options r.head r.first r.serving }
+
 module _ {L : Type 0} (written : L → Option (List ℕ)) where
   pub ready_somewhere : (c : Core) (now : Given L) (w : Waiting) → IsReady written c now w → IsSomewhereHere c
   ready_somewhere c now w r = record { taken = (r.serving).taken; moment = (r.serving).moment; here = (r.serving).here }
 
   pub ready_few : (c : Core) (now : Given L) (w : Waiting) → IsReady written c now w → w.kept ≤ length c.arbiter.records
   ready_few c now w r = kept_few written r.code r.options r.head r.first now w c r.serving
-
-  pub ready_on : (a b : Core) (old new : Given L) (w v : Waiting) → ServesOn written a old w b new v → IsReady written a old w → IsReady written b new v
-  ready_on a b old new w v s r = record { code = r.code; options = r.options; head = r.head; first = r.first; serving = s r.code r.options r.head r.first r.serving }
 
   -- turns lead on
   pub settle_serves : (a b : Core) (now : Given L) (w : Waiting) → KeepsProgram a.arbiter b.arbiter → SettlesCore a b → ServesOn written a now w b now w

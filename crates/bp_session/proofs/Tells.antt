@@ -1,5 +1,5 @@
 -- What is told of a run that is served.
-use Rattle.std.proofs.Common.{Vec, Global, ◌≡◌, ◌≤◌, ℕ, Bool, true, false, List, [], ◌∷◌, ◌++◌, length, take, refl, ap, sym, subst, ◌∙◌, append-nil, Option, Some, None, IsSome, if◌then◌else◌}
+use Rattle.std.proofs.Common.{Vec, Global, ◌≡◌, ℕ, Bool, true, false, List, [], ◌∷◌, ◌++◌, length, take, refl, ap, sym, subst, ◌∙◌, append-nil, Option, Some, None, IsSome, if◌then◌else◌}
 use Rattle.js_value.specs.Value.{PlainSet}
 use Rattle.js_meaning.specs.State.{Ground}
 use Rattle.js_meaning.specs.Bodies.{Origin}
@@ -14,21 +14,19 @@ use Rattle.bp_run.specs.Settling.{Body, Entry, Pair, at_rest}
 use Rattle.bp_run.specs.Text.{text}
 use Rattle.bp_steps.specs.Steps.{Moment, pair_at, bodies, lent_bodies, lends}
 use Rattle.bp_thread.specs.declared.job.Job.{Job}
-use Rattle.bp_floor.specs.declared.phase.Phase.{Phase}
-use Rattle.bp_floor.specs.Floors.{phase_at, phase_of, is_idle}
+use Rattle.bp_floor.specs.Floors.{phase_at, is_idle}
 use Rattle.bp_arbiter.specs.Arbiters.{PlainArbiter, StandsFor, Recounts, code_in, options_in, stand_in}
-use Rattle.bp_arbiter.proofs.Told.{stands_tells}
 use Rattle.bp_core.specs.declared.stepping.Core.{Core}
 use Rattle.bp_core.specs.Cores.{IsCoreAt, KeepsProgram}
 use Rattle.bp_core.specs.Moments.{IsAt, AreBegun, lent_at_once}
-use Rattle.bp_told.specs.Told.{Given, Waiting, ComesOf, IsTold, IsBroken, IsPartly, TellsOn, BreaksOff, WritesAll, WritesPart}
+use Rattle.bp_told.specs.Told.{Given, Waiting, ComesOf, IsTold, TellsOn, BreaksOff, WritesAll, WritesPart}
 use Rattle.bp_told.specs.declared.fault.RunFault.{RunFault}
-use Rattle.bp_told.specs.declared.fault.RunFault.TheVariants.{LogWrite, Memory}
+use Rattle.bp_told.specs.declared.fault.RunFault.TheVariants.{Memory}
 use Rattle.bp_told.proofs.Pieces.{take_whole}
 use Rattle.bp_told.proofs.Told.{told_broken}
 use Rattle.bp_turns.specs.Settled.{IsHere}
 use Rattle.bp_turns.proofs.Arbiters.{same_code, recounts_at}
-use Rattle.bp_session.specs.Serving.{IsServing, IsAllTold, IsBrokenOff, ServesOn, TellsAll, BreaksServing, StillTold, PartTold}
+use Rattle.bp_session.specs.Serving.{IsServing, ServesOn, TellsAll, BreaksServing, StillTold, PartTold}
 use Rattle.bp_session.proofs.Served.{text_at, some_text, lines_come, here_tells}
 
 -- ---- where nothing is to be run

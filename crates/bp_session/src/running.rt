@@ -1,6 +1,7 @@
 //! A program, run while injectors bring their events.
 ghost use Rattle.std.specs.Prelude.{◌≡◌, ◌≤◌, ◌<◌, ◌^◌, [], false, length, Some, IsSome, IfOk, IfSome};
 ghost use Rattle.bp_log.specs.Logs.{header_text};
+ghost use Rattle.bp_log.specs.declared.version.Version.TheVariants.{Second};
 ghost use Rattle.bp_log.specs.Options.{AreOptions};
 ghost use Rattle.bp_steps.specs.Schedules.{schedule_of};
 ghost use Rattle.bp_steps.specs.Steps.{made_by};
@@ -110,12 +111,13 @@ pub struct Session;
 
 impl Session {
     /// Runs the program to its end under the options of the header, by so many workers and slices as is
-    /// said: neither shows in what is told. Each input is read on a thread of its own, or by the calling
-    /// one where none can be made, and what is there of it enters between two transitions. Prints the
-    /// text of the run, and writes its log, where one is kept: the header before anything is printed, and
-    /// each record before the lines that come of it. All that was told is written before anything waits.
-    /// It returns once each of the injectors has returned from its source, and gives the inputs back, in
-    /// order.
+    /// said: neither shows in what is told. Each input is read on a thread of its own, and what is there of
+    /// it enters between two transitions; where no thread can be made the calling one reads, but only where
+    /// the run waits. Prints the text of the run, and writes its log, where one is kept: the header before
+    /// anything is printed, and each record before the lines that come of it. All that was told is written
+    /// before anything waits; where nothing is selectable, a run that waits for its injectors waits for one
+    /// that is still read, and another ends. It returns once each of the injectors has returned from its
+    /// source, and gives the inputs back, in order.
     pub fn run<S: Source + Send + Drop, R: Threads + Wait + Sync, K: Sink, L: Sink>(
         rt: &R,
         alloc: Global,
@@ -133,14 +135,15 @@ impl Session {
             ≡ Some result.0.records }
         ensures heard { EachHeard S.left inputs.items result.1.items result.0.records }
         ensures back { ComeBack S.left S.faults inputs.items result.1.items result.0.records }
-        ensures ends { EndsAs L.written L.faults K.faults (text_of program header.now.options)
-            (header_text header.now) out.old out.new (given K.written out.old log.old)
+        ensures ends { EndsAs L.written L.faults K.faults header.now.options.wait
+            (text_of program header.now.options) (header_text Second header.now)
+            out.old out.new (given K.written out.old log.old)
             (given K.written out.new log.new) S.left S.faults inputs.items result.1.items
             result.0.records result.0.end }
 
         // However it ends, what was printed is of the text of records that stand in the log.
         ensures behind { PrintsBehind L.written (text_of program header.now.options)
-            (header_text header.now) result.0.records (K.written out.old) (K.written out.new)
+            (header_text Second header.now) result.0.records (K.written out.old) (K.written out.new)
             log.old log.new }
 
         ensures counts { K.faults out.old ≤ K.faults out.new }

@@ -9,7 +9,7 @@ ghost use Rattle.bp_scope.specs.Readings.{Pairs, GoesOnAs};
 ghost use Rattle.bp_told.specs.Logging.{LogStays};
 ghost use Rattle.bp_told.specs.Told.{given, WritesAll};
 ghost use Rattle.bp_session.specs.Hearing.{AreAsHeard};
-ghost use Rattle.bp_session.specs.Turning.{turns_here, MakeTurns};
+ghost use Rattle.bp_session.specs.Turning.{turns_here, MakeTurns, IsWaiting};
 ghost use Rattle.bp_session.specs.Serving.{IsReady, ServesOn, BreaksServing, StillTold, StopsServing, IsCaused, StopIsCaused, StopsTurning, TellsAll, LeadsOn, CutsAt, KeepsItems};
 ghost use Rattle.bp_turns.specs.Settled.{IsSomewhereHere, IsSettled};
 
@@ -52,8 +52,8 @@ fn write_and_show<R: Threads + Wait + Sync, K: Sink, L: Sink, V: Shows>(
     Ok(())
 }
 
-/// Own turns are made of injectors that have no thread. What waits to be written is written before, as a
-/// turn may wait for its source. True exactly where there was one.
+/// Where the run waits, own turns are made of injectors that have no thread. What waits to be written is
+/// written before, as a turn may wait for its source. True exactly where there was one.
 fn turn_here<S: Source, R: Threads + Wait + Sync, K: Sink, L: Sink, V: Shows>(
     rt: &R,
     alloc: Global,
@@ -64,6 +64,7 @@ fn turn_here<S: Source, R: Threads + Wait + Sync, K: Sink, L: Sink, V: Shows>(
     readings: &mut Vec<Reading<S>>,
     shows: &mut V,
 ) -> Result<bool, Stop>
+    requires waiting { IsWaiting core.now }
     ensures still { OnOk result (StillTold L.written (given K.written out.old log.old) telling.old
         (given K.written out.new log.new) telling.new) }
     ensures all { IfOk result (λ some. IsTrue some → WritesAll L.written
@@ -94,8 +95,8 @@ fn wait_at<R: Threads + Wait + Sync>(rt: &R, calls: &mut Option<Calls<'_>>) {
     }
 }
 
-/// Where all is done that can be, waits until an injector rings. What waits to be written is written
-/// before.
+/// Where the run waits and nobody has own turns, waits until an injector rings. What waits to be written is
+/// written before.
 fn wait_where<R: Threads + Wait + Sync, K: Sink, L: Sink, V: Shows>(
     rt: &R,
     alloc: Global,
@@ -107,6 +108,7 @@ fn wait_where<R: Threads + Wait + Sync, K: Sink, L: Sink, V: Shows>(
     calls: &mut Option<Calls<'_>>,
     shows: &mut V,
 ) -> Result<(), Stop>
+    requires waiting { IsWaiting core.now }
     ensures still { OnOk result (StillTold L.written (given K.written out.old log.old) telling.old
         (given K.written out.new log.new) telling.new) }
     ensures all { OnOk result (IsTrue waits → WritesAll L.written
@@ -181,6 +183,8 @@ fn ring_where<R: Threads + Wait + Sync>(
 fn pick(core: &mut Core) -> Result<Picked, Memory>
     requires rest { core.old.arbiter.phase ≡ phase.Rest }
     ensures picks { OnOk result (LeadsOn core.old core.new) }
+    ensures waits { IfOk result (λ k. IsSomewhereHere core.old → k ≡ Picked.Wait →
+        IsWaiting core.new) }
     ensures cut { OnErr result (CutsAt core.old core.new) }
     ensures items { IsSomewhereHere core.old → KeepsItems core.old.arbiter.records
         core.new.arbiter.records }
@@ -191,7 +195,7 @@ fn pick(core: &mut Core) -> Result<Picked, Memory>
 }
 
 /// What is there of the injectors enters, and then what comes next comes. Only where nothing entered and
-/// nothing comes until something does, own turns are made, or it waits. True exactly where something
+/// the run waits until something does, own turns are made, or it waits. True exactly where something
 /// entered.
 fn round<S: Source, R: Threads + Wait + Sync, K: Sink, L: Sink, V: Shows>(
     rt: &R,

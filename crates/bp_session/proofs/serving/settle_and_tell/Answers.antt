@@ -38,8 +38,7 @@ pub tell-requires : goal.tell-requires
 tell-requires g c =
     let now = given g.K.Sink.written c.args.out.now c.args.log.now in
     record {
-      ready = ready_on g.L.Sink.written c.args.core.now c.settle_core.new.core now now c.args.telling.now c.args.telling.now
-          (settle_serves g.L.Sink.written c.args.core.now c.settle_core.new.core now c.args.telling.now c.settle_core.ensures.kept c.in_ok-settle_core.ensures.settles) c.requires.ready;
+      ready = ready_on (settle_serves g.L.Sink.written c.args.core.now c.settle_core.new.core now c.args.telling.now c.settle_core.ensures.kept c.in_ok-settle_core.ensures.settles) c.requires.ready;
     }
 
 pub returns-clause-serves : goal.returns-clause-serves
@@ -48,8 +47,7 @@ returns-clause-serves g c =
     let then = given g.K.Sink.written c.tell.new.out c.tell.new.log in
     ok_map c.tell.result (ServesOn g.L.Sink.written c.settle_core.new.core now c.args.telling.now c.tell.new.core then c.tell.new.telling)
     (ServesOn g.L.Sink.written c.args.core.now now c.args.telling.now c.tell.new.core then c.tell.new.telling)
-    (λ h. serves_both g.L.Sink.written c.args.core.now c.settle_core.new.core c.tell.new.core now now then c.args.telling.now c.args.telling.now c.tell.new.telling
-    (settle_serves g.L.Sink.written c.args.core.now c.settle_core.new.core now c.args.telling.now c.settle_core.ensures.kept c.in_ok-settle_core.ensures.settles) h) c.tell.ensures.serves
+    (λ h. serves_both (settle_serves g.L.Sink.written c.args.core.now c.settle_core.new.core now c.args.telling.now c.settle_core.ensures.kept c.in_ok-settle_core.ensures.settles) h) c.tell.ensures.serves
 
 pub returns-clause-tells : goal.returns-clause-tells
 returns-clause-tells g c =
@@ -57,8 +55,7 @@ returns-clause-tells g c =
     let then = given g.K.Sink.written c.tell.new.out c.tell.new.log in
     ok_map c.tell.result (is_idle c.settle_core.new.core.arbiter.phase ≡ true → TellsAll g.L.Sink.written c.settle_core.new.core now c.args.telling.now c.tell.new.core then c.tell.new.telling)
     (TellsAll g.L.Sink.written c.args.core.now now c.args.telling.now c.tell.new.core then c.tell.new.telling)
-    (λ h. tells_then g.L.Sink.written c.args.core.now c.settle_core.new.core c.tell.new.core now now then c.args.telling.now c.args.telling.now c.tell.new.telling
-    (settle_serves g.L.Sink.written c.args.core.now c.settle_core.new.core now c.args.telling.now c.settle_core.ensures.kept c.in_ok-settle_core.ensures.settles)
+    (λ h. tells_then (settle_serves g.L.Sink.written c.args.core.now c.settle_core.new.core now c.args.telling.now c.settle_core.ensures.kept c.in_ok-settle_core.ensures.settles)
     (h (idle_of c.settle_core.new.core.arbiter.phase c.in_ok-settle_core.ensures.settled))) c.tell.ensures.all
 
 pub returns-clause-settled : goal.returns-clause-settled
@@ -70,8 +67,7 @@ returns-clause-breaks g c =
     let then = given g.K.Sink.written c.tell.new.out c.tell.new.log in
     on_err c.tell.result (BreaksServing g.L.Sink.written c.settle_core.new.core now c.args.telling.now c.tell.new.core then c.tell.new.telling)
     (BreaksServing g.L.Sink.written c.args.core.now now c.args.telling.now c.tell.new.core then c.tell.new.telling)
-    (λ e h. breaks_then g.L.Sink.written c.args.core.now c.settle_core.new.core c.tell.new.core now now then c.args.telling.now c.args.telling.now c.tell.new.telling e
-    (settle_serves g.L.Sink.written c.args.core.now c.settle_core.new.core now c.args.telling.now c.settle_core.ensures.kept c.in_ok-settle_core.ensures.settles) h) c.tell.ensures.breaks
+    (λ e h. breaks_then (settle_serves g.L.Sink.written c.args.core.now c.settle_core.new.core now c.args.telling.now c.settle_core.ensures.kept c.in_ok-settle_core.ensures.settles) h) c.tell.ensures.breaks
 
 pub returns-clause-items : goal.returns-clause-items
 returns-clause-items g c = λ k.
