@@ -1,17 +1,17 @@
 -- The values that a command says are read as that command.
-use Rattle.std.proofs.Common.{◌≡◌, ℕ, ◌<◌, ◌≤◌, ◌^◌, true, List, [], ◌∷◌, length, Option, Some, None, option_map, option_and_then, refl, sym, ap, ◌∙◌, arith}
+use Rattle.std.proofs.Common.{◌≡◌, ℕ, ◌<◌, ◌≤◌, ◌^◌, Bool, true, false, List, [], ◌∷◌, length, Option, Some, None, option_map, option_and_then, refl, sym, ap, ◌∙◌, arith}
 use Rattle.std.specs.Prelude.{nat_le, if◌then◌else◌, decimal}
 use Rattle.std.proofs.lemmas.Bool.{and_parts, lt-ltb, le-leb, leb-true}
 use Rattle.std.proofs.lemmas.Fmt.{decimal_nonempty, digits_decimal, digits_value-decimal, length-decimal-le}
 use Rattle.std.specs.Cmp.Derive.{both_true}
-use Rattle.bp_log.specs.Logs.{strategy_name, strategy_at}
+use Rattle.bp_log.specs.Logs.{strategy_name, strategy_at, wait_name, wait_at}
 use Rattle.bp_log.specs.declared.options.Strategy.{Strategy}
 use Rattle.bp_log.specs.declared.options.Strategy.TheVariants as strategy
 use Rattle.bp_log.specs.declared.limits.TheConstants.{MOST_BUDGET, MOST_STEPS, MOST_WORKERS, MOST_SLICE}
 use Rattle.bp_reading.specs.Words.{most_32, most_64}
 use Rattle.bp_reading.proofs.Numbers.{own}
 use Rattle.bp_matches.specs.declared.key.Key.{Key}
-use Rattle.bp_matches.specs.declared.key.Key.TheVariants.{Log, Strategy as StrategyKey, Seed, Budget, Steps, Workers, Slice}
+use Rattle.bp_matches.specs.declared.key.Key.TheVariants.{Log, Strategy as StrategyKey, Seed, Budget, Steps, Workers, Slice, Wait}
 use Rattle.bp_matches.specs.Keys.{keys}
 use Rattle.bp_args.specs.declared.command.Command.{Command}
 use Rattle.bp_args.specs.declared.command.Command.TheVariants as command
@@ -37,6 +37,10 @@ strategy_back strategy.Simple = refl
 strategy_back strategy.Ordered = refl
 strategy_back strategy.Priority = refl
 
+wait_back : (b : Bool) → wait_at (wait_name b) ≡ Some b
+wait_back true = refl
+wait_back false = refl
+
 -- what the values of a run say
 abbrev said_by : PlainRun → Said
 said_by r = record nothing_said {
@@ -47,6 +51,7 @@ said_by r = record nothing_said {
   steps = Some r.options.steps;
   workers = Some r.beside.workers;
   slice = Some r.beside.slice;
+  wait = Some r.options.wait;
 }
 
 log_said : (log : Option (List ℕ)) → is_some_text log ≡ true → set_if nothing_said Log log ≡ Some (record nothing_said { log = log })
@@ -71,6 +76,9 @@ workers_said s n e h = rw (e, number_back most_32 n (omega arith) h) refl
 
 slice_said : (s : Said) (n : ℕ) → s.slice ≡ None → nat_le n most_64 ≡ true → set s Slice (decimal n) ≡ Some (record s { waiting = Any; slice = Some n })
 slice_said s n e h = rw (e, number_back most_64 n (omega arith) h) refl
+
+wait_said : (s : Said) (b : Bool) → s.wait ≡ None → set s Wait (wait_name b) ≡ Some (record s { waiting = Any; wait = Some b })
+wait_said s b e = rw (e, wait_back b) refl
 
 -- the numbers of a run are numbers of its words
 record AreNumbers (r : PlainRun) : Type 0 where
@@ -110,13 +118,15 @@ run_said r h =
     let four = record three { budget = Some r.options.budget } in
     let five = record four { steps = Some r.options.steps } in
     let six = record five { workers = Some r.beside.workers } in
-    ap (onward r (StrategyKey ∷ Seed ∷ Budget ∷ Steps ∷ Workers ∷ Slice ∷ [])) (log_said r.log h.log)
-    ∙ (ap (onward r (Seed ∷ Budget ∷ Steps ∷ Workers ∷ Slice ∷ [])) (strategy_said one r.options.strategy refl)
-    ∙ (ap (onward r (Budget ∷ Steps ∷ Workers ∷ Slice ∷ [])) (seed_said two r.options.seed refl h.seed)
-    ∙ (ap (onward r (Steps ∷ Workers ∷ Slice ∷ [])) (budget_said three r.options.budget refl n.budget)
-    ∙ (ap (onward r (Workers ∷ Slice ∷ [])) (steps_said four r.options.steps refl n.steps)
-    ∙ (ap (onward r (Slice ∷ [])) (workers_said five r.beside.workers refl n.workers)
-    ∙ ap (onward r []) (slice_said six r.beside.slice refl n.slice))))))
+    let seven = record six { slice = Some r.beside.slice } in
+    ap (onward r (StrategyKey ∷ Seed ∷ Budget ∷ Steps ∷ Workers ∷ Slice ∷ Wait ∷ [])) (log_said r.log h.log)
+    ∙ (ap (onward r (Seed ∷ Budget ∷ Steps ∷ Workers ∷ Slice ∷ Wait ∷ [])) (strategy_said one r.options.strategy refl)
+    ∙ (ap (onward r (Budget ∷ Steps ∷ Workers ∷ Slice ∷ Wait ∷ [])) (seed_said two r.options.seed refl h.seed)
+    ∙ (ap (onward r (Steps ∷ Workers ∷ Slice ∷ Wait ∷ [])) (budget_said three r.options.budget refl n.budget)
+    ∙ (ap (onward r (Workers ∷ Slice ∷ Wait ∷ [])) (steps_said four r.options.steps refl n.steps)
+    ∙ (ap (onward r (Slice ∷ Wait ∷ [])) (workers_said five r.beside.workers refl n.workers)
+    ∙ (ap (onward r (Wait ∷ [])) (slice_said six r.beside.slice refl n.slice)
+    ∙ ap (onward r []) (wait_said seven r.options.wait refl)))))))
 
 run_back : (r : PlainRun) → IsRun r → run_with (said_by r) r.program r.injectors ≡ Some (command.Run r)
 run_back r h =
@@ -137,4 +147,5 @@ pub back : (c : Command) → IsWithin c → command_from (said_of c) ≡ Some c
 back (command.Run r) h = ap (option_and_then (λ s. command_by s (said_of (command.Run r)).words)) (run_said r h) ∙ (run_taken r h ∙ run_back r h)
 back (command.Replay log) h = refl
 back (command.Accept program) h = refl
+back (command.Migrate log) h = refl
 back (command.Large n) h = ap (option_map command.Large) (large_back n h.0 h.1)

@@ -1,5 +1,5 @@
 -- Options, workers and slice in their ranges.
-use Rattle.std.proofs.Common.{◌≡◌, ◌≤◌, true, Option, Some, None, refl, ap}
+use Rattle.std.proofs.Common.{◌≡◌, ◌∙◌, ◌≤◌, Bool, true, false, Option, option_map, Some, None, refl, ap}
 use Rattle.std.specs.Prelude.{SomeIff, if◌then◌else◌}
 use Rattle.std.proofs.lemmas.Bool.{and_parts, le-leb, leb-true, false_from_ne_true}
 use Rattle.bp_log.specs.Options.{PlainOptions, AreOptions}
@@ -23,9 +23,18 @@ are_options o e h =
       injectors = e;
     }
 
-pub told : (o : PlainOptions) (r : Option PlainOptions) → o.injectors ≤ MOST_INJECTORS → SomeIff r (AreOptions o) o → r ≡ (if in_range o then Some o else None)
+told : (o : PlainOptions) (r : Option PlainOptions) → o.injectors ≤ MOST_INJECTORS → SomeIff r (AreOptions o) o → r ≡ (if in_range o then Some o else None)
 told o (Some p) e h = rw (are_in_range o h.0) (ap (λ (q : PlainOptions). Some q) h.1)
 told o None e h = rw (false_from_ne_true (in_range o) (λ t. h (are_options o e t))) refl
+
+-- the same, whether the run waits or not
+waiting : (o : PlainOptions) (b : Bool) → option_map (λ (q : PlainOptions). record q { wait = o.wait }) (if b then Some (record o { wait = true }) else None) ≡ (if b then Some o else None)
+waiting o true = refl
+waiting o false = refl
+
+pub told_waiting : (o : PlainOptions) (r : Option PlainOptions) → o.injectors ≤ MOST_INJECTORS → SomeIff r (AreOptions (record o { wait = true })) (record o { wait = true }) →
+    option_map (λ (q : PlainOptions). record q { wait = o.wait }) r ≡ (if in_range o then Some o else None)
+told_waiting o r e h = ap (option_map (λ (q : PlainOptions). record q { wait = o.wait })) (told (record o { wait = true }) r e h) ∙ waiting o (in_range o)
 
 beside_are_in_range : (b : PlainBeside) → AreBeside b → beside_in_range b ≡ true
 beside_are_in_range b h = rw (le-leb _ _ h.some_workers, le-leb _ _ h.workers, le-leb _ _ h.some_slice, le-leb _ _ h.slice) refl

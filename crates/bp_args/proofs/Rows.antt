@@ -1,5 +1,5 @@
 -- Commands of words, computed.
-use Rattle.std.proofs.Common.{◌≡◌, ℕ, List, [], ◌∷◌, length, Option, Some, None, refl}
+use Rattle.std.proofs.Common.{◌≡◌, ℕ, false, List, [], ◌∷◌, length, Option, Some, None, refl}
 use Rattle.std.specs.Prelude.{codes}
 use Rattle.std.specs.Fmt.{digits}
 use Rattle.bp_log.specs.Options.{PlainOptions, default_options}
@@ -7,7 +7,7 @@ use Rattle.bp_log.specs.Beside.{PlainBeside, default_beside}
 use Rattle.bp_log.specs.declared.options.Strategy.TheVariants.{Ordered}
 use Rattle.bp_matches.specs.Normal.{normal_words}
 use Rattle.bp_args.specs.declared.command.Command.{Command}
-use Rattle.bp_args.specs.declared.command.Command.TheVariants.{Run, Replay, Accept, Large}
+use Rattle.bp_args.specs.declared.command.Command.TheVariants.{Run, Replay, Accept, Large, Migrate}
 use Rattle.bp_args.specs.Command.{command_of}
 use Rattle.bp_args.specs.Normal.{said_of}
 
@@ -65,6 +65,15 @@ replay = refl
 pub accept : command_of (codes "accept" ∷ codes "--" ∷ p ∷ []) ≡ Some (Accept p)
 accept = refl
 
+pub no_wait : command_of (codes "run" ∷ codes "--wait=no" ∷ p ∷ []) ≡ Some (run_p None (record default_options { wait = false }) default_beside)
+no_wait = refl
+
+pub wait : command_of (codes "run" ∷ p ∷ codes "--wait" ∷ codes "yes" ∷ []) ≡ Some plain_p
+wait = refl
+
+pub migrate : command_of (codes "migrate" ∷ p ∷ []) ≡ Some (Migrate p)
+migrate = refl
+
 pub large : command_of (codes "large" ∷ codes "4000" ∷ []) ≡ Some (Large 4_000)
 large = refl
 
@@ -109,6 +118,18 @@ same_name = refl
 pub same_injector : command_of (codes "run" ∷ p ∷ codes "--log=q" ∷ q ∷ []) ≡ None
 same_injector = refl
 
+pub other_wait : command_of (codes "run" ∷ codes "--wait=Yes" ∷ p ∷ []) ≡ None
+other_wait = refl
+
+pub wait_twice : command_of (codes "run" ∷ codes "--wait=no" ∷ codes "--wait=no" ∷ p ∷ []) ≡ None
+wait_twice = refl
+
+pub wait_of_a_migration : command_of (codes "migrate" ∷ codes "--wait=no" ∷ p ∷ []) ≡ None
+wait_of_a_migration = refl
+
+pub two_to_migrate : command_of (codes "migrate" ∷ p ∷ q ∷ []) ≡ None
+two_to_migrate = refl
+
 pub too_many : command_of (codes "run" ∷ p ∷ q ∷ sixteen) ≡ None
 too_many = refl
 
@@ -120,11 +141,11 @@ too_large = refl
 
 -- ---- the normal form
 
-pub normal_run : normal_words (said_of plain_p) ≡ codes "--strategy=simple" ∷ codes "--seed=0" ∷ codes "--budget=1000000" ∷ codes "--steps=100000" ∷ codes "--workers=4" ∷ codes "--slice=10000" ∷ codes "--" ∷ codes "run" ∷ p ∷ []
+pub normal_run : normal_words (said_of plain_p) ≡ codes "--strategy=simple" ∷ codes "--seed=0" ∷ codes "--budget=1000000" ∷ codes "--steps=100000" ∷ codes "--workers=4" ∷ codes "--slice=10000" ∷ codes "--wait=yes" ∷ codes "--" ∷ codes "run" ∷ p ∷ []
 unfolding digits
 normal_run = refl
 
-pub normal_injectors : normal_words (said_of (run_with_all (q ∷ []) (Some (codes "l")))) ≡ codes "--log=l" ∷ codes "--strategy=simple" ∷ codes "--seed=0" ∷ codes "--budget=1000000" ∷ codes "--steps=100000" ∷ codes "--workers=4" ∷ codes "--slice=10000" ∷ codes "--" ∷ codes "run" ∷ p ∷ q ∷ []
+pub normal_injectors : normal_words (said_of (run_with_all (q ∷ []) (Some (codes "l")))) ≡ codes "--log=l" ∷ codes "--strategy=simple" ∷ codes "--seed=0" ∷ codes "--budget=1000000" ∷ codes "--steps=100000" ∷ codes "--workers=4" ∷ codes "--slice=10000" ∷ codes "--wait=yes" ∷ codes "--" ∷ codes "run" ∷ p ∷ q ∷ []
 unfolding digits
 normal_injectors = refl
 

@@ -3,10 +3,10 @@ use Rattle.std.proofs.Common.{◌≡◌, ℕ, true, false, List, [], ◌∷◌, 
 use Rattle.std.specs.Prelude.{◌&&◌, nat_lt, nat_le, if◌then◌else◌, unwrap_or, codes}
 use Rattle.std.specs.Str.{all_ascii_digits, bytes_eq}
 use Rattle.std.proofs.lemmas.Bool.{and_parts}
-use Rattle.bp_log.specs.Logs.{strategy_at}
+use Rattle.bp_log.specs.Logs.{strategy_at, wait_at}
 use Rattle.bp_reading.specs.Words.{value_on, most_32, most_64}
 use Rattle.bp_matches.specs.declared.key.Key.{Key}
-use Rattle.bp_matches.specs.declared.key.Key.TheVariants.{Log, Strategy, Seed, Budget, Steps, Workers, Slice}
+use Rattle.bp_matches.specs.declared.key.Key.TheVariants.{Log, Strategy, Seed, Budget, Steps, Workers, Slice, Wait}
 use Rattle.bp_args.specs.declared.command.Command.{Command}
 use Rattle.bp_args.specs.declared.command.Command.TheVariants as command
 use Rattle.bp_args.specs.declared.command.Run.{Run as PlainRun}
@@ -87,6 +87,7 @@ set_kept s Budget v h = map_kept _ (once s.budget (number_word most_64 v)) (λ o
 set_kept s Steps v h = map_kept _ (once s.steps (number_word most_32 v)) (λ o. record { log = h.log; seed = h.seed })
 set_kept s Workers v h = map_kept _ (once s.workers (number_word most_32 v)) (λ o. record { log = h.log; seed = h.seed })
 set_kept s Slice v h = map_kept _ (once s.slice (number_word most_64 v)) (λ o. record { log = h.log; seed = h.seed })
+set_kept s Wait v h = map_kept _ (once s.wait (wait_at v)) (λ o. record { log = h.log; seed = h.seed })
 
 name_kept : (s : Said) (word : List ℕ) → Holds s → Holds (name s word)
 name_kept s word h = record { log = h.log; seed = h.seed }
@@ -122,6 +123,7 @@ abbrev pub IsWithin : Command → Type 0
 IsWithin (command.Run r) = IsRun r
 IsWithin (command.Replay log) = Unit {0}
 IsWithin (command.Accept program) = Unit {0}
+IsWithin (command.Migrate log) = Unit {0}
 IsWithin (command.Large n) = (nat_le 1 n ≡ true) × (nat_le n MOST_LARGE ≡ true)
 
 abbrev Within : Option Command → Type 0
@@ -180,6 +182,7 @@ on_within : (v : Verb) (s : Said) (name : List ℕ) (more : List (List ℕ)) →
 on_within verb.Run s program injectors h t = run_within s program injectors h t
 on_within verb.Replay s log more h t = tt
 on_within verb.Accept s program more h t = tt
+on_within verb.Migrate s log more h t = tt
 on_within verb.Large s number more h t = threads_within (number_word MOST_LARGE number) (number_capped MOST_LARGE number)
 
 for_within : (v : Verb) (s : Said) (names : List (List ℕ)) → Holds s → takes v (length names) ≡ true → Within (command_for v s names)

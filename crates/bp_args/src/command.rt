@@ -47,6 +47,8 @@ pub enum Command {
     /// A program that the command makes itself is run, with 1 to 4,000 b-threads, and its text is
     /// measured.
     Large(u32),
+    /// The log of this name is written in the second version.
+    Migrate(Text),
 }
 
 /// Why there is no command.
@@ -83,7 +85,11 @@ fn options_of(said: &Said, injectors: u32) -> Option<Options>
     let seed = said.seed.unwrap_or(defaults.seed());
     let budget = said.budget.unwrap_or(defaults.budget());
     let steps = said.steps.unwrap_or(defaults.steps());
-    Options::new(strategy, seed, budget, steps, injectors)
+    let wait = said.wait.unwrap_or(defaults.wait());
+    match Options::new(strategy, seed, budget, steps, injectors) {
+        None => None,
+        Some(options) => Some(options.with_wait(wait)),
+    }
 }
 
 /// Workers and slice as they are said, or `None` exactly where one is out of its range.
@@ -169,6 +175,7 @@ fn command_for(verb: Verb, said: Said) -> Option<Command>
         Verb::Replay => Some(Command::Replay(name_of(said)?)),
         Verb::Accept => Some(Command::Accept(name_of(said)?)),
         Verb::Large => Some(Command::Large(large_of(&name_of(said)?)?)),
+        Verb::Migrate => Some(Command::Migrate(name_of(said)?)),
     }
 }
 

@@ -9,6 +9,7 @@ use crate::command::{Command, Run};
 use crate::said::text_of;
 use crate::verb::Verb;
 use bp_log::Memory;
+use bp_log::options::wait_word;
 use bp_matches::{Values, Words};
 use js_data::Text;
 use std::alloc::Global;
@@ -44,6 +45,7 @@ fn bare_values(alloc: Global, verb: Verb, name: Text) -> Result<Values, Memory>
         steps: None,
         workers: None,
         slice: None,
+        wait: None,
         words: words_of(alloc, verb, name, Words::new(Vec::new(alloc)))?,
     })
 }
@@ -68,6 +70,7 @@ fn run_values(alloc: Global, run: Run) -> Result<Values, Memory>
         steps: Some(number_text(alloc, u64::from(options.steps()))?),
         workers: Some(number_text(alloc, u64::from(beside.workers()))?),
         slice: Some(number_text(alloc, beside.slice())?),
+        wait: Some(text_of(alloc, wait_word(options.wait()))?),
         words: words_of(alloc, Verb::Run, program, injectors)?,
     })
 }
@@ -83,6 +86,7 @@ fn said_of(alloc: Global, command: Command) -> Result<Values, Memory>
         Command::Large(threads) => {
             bare_values(alloc, Verb::Large, number_text(alloc, u64::from(threads))?)
         }
+        Command::Migrate(log) => bare_values(alloc, Verb::Migrate, log),
     }
 }
 

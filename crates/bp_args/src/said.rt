@@ -7,6 +7,7 @@ ghost use Rattle.bp_reading.specs.Words.{most_32};
 use crate::command::Usage;
 use crate::verb::Verb;
 use bp_lines::behind_word;
+use bp_log::options::wait_of_word;
 use bp_log::{Memory, Strategy};
 use bp_matches::{DASHES, Key, Words};
 use js_data::Text;
@@ -46,6 +47,8 @@ pub struct Said {
     pub workers: Option<u32>,
     /// The nodes of a slice.
     pub slice: Option<u64>,
+    /// Whether the run waits for its injectors.
+    pub wait: Option<bool>,
 }
 
 impl Drop for Said {
@@ -60,6 +63,7 @@ impl Drop for Said {
             steps: _,
             workers: _,
             slice: _,
+            wait: _,
         } = self;
     }
 }
@@ -163,6 +167,7 @@ impl Said {
             steps: None,
             workers: None,
             slice: None,
+            wait: None,
         }
     }
 
@@ -188,6 +193,7 @@ impl Said {
             Key::Steps => self.steps.is_some(),
             Key::Workers => self.workers.is_some(),
             Key::Slice => self.slice.is_some(),
+            Key::Wait => self.wait.is_some(),
         }
     }
 
@@ -217,6 +223,7 @@ impl Said {
             steps: _,
             workers: _,
             slice: _,
+            wait: _,
         } = self;
         (names, log)
     }
@@ -249,6 +256,7 @@ impl Said {
             Key::Steps => once(&mut self.steps, small_number_of(value))?,
             Key::Workers => once(&mut self.workers, small_number_of(value))?,
             Key::Slice => once(&mut self.slice, number_of(value, u64::MAX))?,
+            Key::Wait => once(&mut self.wait, wait_of_word(value.as_bytes()))?,
         }
         self.waiting = Waiting::Any;
         Ok(())

@@ -16,14 +16,22 @@ pub enum Verb {
     Accept,
     /// The large program is run and measured.
     Large,
+    /// A log is written in the second version.
+    Migrate,
 }
 
 impl Verb {
     /// All first words.
-    fn all() -> [Verb; 4]
+    fn all() -> [Verb; 5]
         ensures { result ≡ verbs }
     {
-        [Verb::Run, Verb::Replay, Verb::Accept, Verb::Large]
+        [
+            Verb::Run,
+            Verb::Replay,
+            Verb::Accept,
+            Verb::Large,
+            Verb::Migrate,
+        ]
     }
 
     /// The word.
@@ -35,6 +43,7 @@ impl Verb {
             Verb::Replay => "replay",
             Verb::Accept => "accept",
             Verb::Large => "large",
+            Verb::Migrate => "migrate",
         }
     }
 
@@ -56,7 +65,7 @@ impl Verb {
     {
         match (self, key) {
             (Verb::Run, _) => true,
-            (Verb::Replay | Verb::Accept | Verb::Large, _) => false,
+            (Verb::Replay | Verb::Accept | Verb::Large | Verb::Migrate, _) => false,
         }
     }
 
@@ -66,7 +75,7 @@ impl Verb {
     {
         match self {
             Verb::Run => 1 + MOST_INJECTORS as usize,
-            Verb::Replay | Verb::Accept | Verb::Large => 1,
+            Verb::Replay | Verb::Accept | Verb::Large | Verb::Migrate => 1,
         }
     }
 

@@ -8,6 +8,7 @@ use Rattle.bp_base.specs.Pieces.{Appends, AppendsFront}
 use Rattle.js_program.specs.PlainProgram.{PlainProgram}
 use Rattle.bp_log.specs.Header.{PlainHeader}
 use Rattle.bp_log.specs.Logs.{log_text}
+use Rattle.bp_log.specs.declared.version.Version.TheVariants.{Second}
 use Rattle.bp_log.specs.Options.{PlainOptions}
 use Rattle.bp_log.specs.declared.record.Record.{Record}
 use Rattle.bp_run.specs.Story.{story, story_from}
@@ -19,7 +20,7 @@ use Rattle.bp_args.specs.declared.command.Command.{Command}
 use Rattle.bp_args.specs.declared.command.Command.TheVariants as command
 use Rattle.bp_args.specs.declared.command.Run.{Run}
 use Rattle.bp_cli.specs.declared.conclusion.Conclusion.{Conclusion}
-use Rattle.bp_cli.specs.declared.conclusion.Conclusion.TheVariants.{NoCommand, Refused, Accepted, Ran, NotRead, NotWritten, NoMemory, BadLog}
+use Rattle.bp_cli.specs.declared.conclusion.Conclusion.TheVariants.{NoCommand, Refused, Accepted, Ran, NotRead, NotWritten, NoMemory, BadLog, Migrated}
 use Rattle.bp_cli.specs.Outside.{Outside, WriteFailed, NeverFalls, IsAsBefore, IsUnder}
 use Rattle.bp_cli.specs.Texts.{accepted_line, LineEnds}
 use Rattle.bp_cli.specs.Conclusions.{has_note, IsStatusOf, unmade_of}
@@ -32,6 +33,7 @@ use Rattle.bp_cli.specs.Runs.{Holds, KeepsLog, KeepsLogFront, TellsWhole, TellsP
 use Rattle.bp_cli.proofs.Asking.{asks_some}
 use Rattle.bp_cli.proofs.Injected.{Brought, brought_none, all_of}
 use Rattle.bp_cli.proofs.Replays.{front_of, replay_partly}
+use Rattle.bp_cli.proofs.Migrations.{migration_partly}
 
 -- ---- texts and fronts
 
@@ -73,15 +75,16 @@ caused_on before mid after (Refused refusal) n h = tt
 caused_on before mid after Accepted n h = tt
 caused_on before mid after (Ran v) n h = tt
 caused_on before mid after (BadLog fault) n h = tt
+caused_on before mid after Migrated n h = tt
 
 -- ---- runs
 
 -- all that was told is a front of it
 keeps_partly : (name : Option (List ℕ)) (header : PlainHeader) (program : PlainProgram) (records : List Record) (before after : Outside) → IsSomeAnd (text_of program header.options records) (λ t. AppendsFront before.printed t after.printed) →
-    KeepsLog name before.holds (log_text header records) after.holds → KeepsLogFront name header program records before after
+    KeepsLog name before.holds (log_text Second header records) after.holds → KeepsLogFront name header program records before after
 keeps_partly None header program records before after p k = k
 keeps_partly (Some name) header program records before after p k =
-    let content = log_text header records in
+    let content = log_text Second header records in
     inr (
       (content, [], sym (append-nil content), k),
       inr (record {
@@ -195,6 +198,8 @@ wanting_note (Some (command.Accept program)) records before after k h (e, inl n)
 wanting_note (Some (command.Accept program)) records before after k h (e, inr d) = accept_wanting program records before after k h e d
 wanting_note (Some (command.Replay log)) records before after k h (e, inl n) = (tt, inl (inr refl, n.1))
 wanting_note (Some (command.Replay log)) records before after k h (e, inr d) = (tt, inr (replay_partly log before after k d.0, d.1))
+wanting_note (Some (command.Migrate log)) records before after k h (e, inl n) = (tt, inl (inr refl, n.1))
+wanting_note (Some (command.Migrate log)) records before after k h (e, inr d) = (tt, inr (migration_partly log before after k d.0, d.1))
 wanting_note (Some (command.Large n)) records before after k h (e, inl m) = (tt, inl (refl, m.1))
 wanting_note (Some (command.Large n)) records before after k h (e, inr d) = (tt, inr (large_wanting n records before after k h e d))
 

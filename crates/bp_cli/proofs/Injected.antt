@@ -1,6 +1,7 @@
 -- What injectors brought, by what the world holds under their names.
-use Rattle.std.proofs.Common.{◌≡◌, ℕ, zero, suc, ◌<◌, List, [], ◌∷◌, ◌++◌, length, refl, sym, ap, subst, ◌∙◌, append-nil, arith}
+use Rattle.std.proofs.Common.{◌≡◌, ℕ, zero, suc, ◌<◌, Bool, true, false, List, [], ◌∷◌, ◌++◌, length, refl, sym, ap, subst, ◌∙◌, append-nil, arith}
 use Rattle.std.specs.Prelude.{Option, Some, None, IsSome, IfSome, slice_index_or, slice_get}
+use Rattle.std.proofs.lemmas.Bool.{false≢true}
 use mathlib.Core.List.{IsPrefix}
 use Rattle.bp_base.specs.Pieces.{Gives}
 use Rattle.bp_base.specs.Worlds.{Holdings, Opens}
@@ -58,7 +59,7 @@ module _ {S : Type 0} (left : S → Option (List ℕ)) (faults : S → ℕ) (hol
       Inputs holds names (λ j bytes. items_by j records ≡ items bytes)
   whole names sources back records o e = inputs_of names sources (λ j bytes. items_by j records ≡ items bytes) o (λ k d h. let r = e k d h in (r.took, r.told, r.all))
 
-  -- what was brought, all of it where the verdict is quiet
+  -- what was brought, all of it where this holds
   pub record Brought (names : List (List ℕ)) (records : List Record) (Q : Type 0) : Type 0 where
     pub inputs : List (List ℕ)
     pub under : AreUnder holds names inputs
@@ -68,17 +69,22 @@ module _ {S : Type 0} (left : S → Option (List ℕ)) (faults : S → ℕ) (hol
   pub brought : (names : List (List ℕ)) (sources back : List S) (records : List Record) → AreOpened left faults holds names sources → EachHeard left sources back records → Brought names records ⊥
   brought names sources back records o e = let m = merged names sources back records o e in record { inputs = m.0; under = m.1; merge = m.2; whole = λ q. absurd q }
 
-  pub brought_to : (v : Verdict) (names : List (List ℕ)) (sources back : List S) (records : List Record) → AreOpened left faults holds names sources → EachHeard left sources back records →
-      (IsQuiet v → EachHeardWhole left sources back records) → Brought names records (IsQuiet v)
-  brought_to (Quiet n) names sources back records o e w =
-      let m = whole names sources back records o (w tt) in
+  -- where it is not quiet
+  brought_only : (Q : Type 0) (names : List (List ℕ)) (records : List Record) → (Q → ⊥) → Brought names records ⊥ → Brought names records Q
+  brought_only Q names records none b = record { inputs = b.inputs; under = b.under; merge = b.merge; whole = λ q. absurd (none q) }
+
+  pub brought_to : (v : Verdict) (waits : Bool) (names : List (List ℕ)) (sources back : List S) (records : List Record) → AreOpened left faults holds names sources → EachHeard left sources back records →
+      (waits ≡ true → IsQuiet v → EachHeardWhole left sources back records) → Brought names records ((waits ≡ true) × IsQuiet v)
+  brought_to (Quiet n) false names sources back records o e w = brought_only _ names records (λ q. false≢true q.0) (brought names sources back records o e)
+  brought_to (Quiet n) true names sources back records o e w =
+      let m = whole names sources back records o (w refl tt) in
       record {
         inputs = m.0;
         under = m.1;
         merge = λ j bytes h. ([], append-nil (items_by j records) ∙ m.2 j bytes h);
         whole = λ q. m.2;
       }
-  brought_to _ names sources back records o e w = brought names sources back records o e
+  brought_to _ waits names sources back records o e w = brought_only _ names records (λ q. q.1) (brought names sources back records o e)
 
 -- ---- an input that failed
 

@@ -2,6 +2,7 @@ pub mod Asking
 pub mod Endings
 pub mod Injected
 pub mod Measured
+pub mod Migrations
 pub mod Opens
 pub mod Refused
 pub mod Replays

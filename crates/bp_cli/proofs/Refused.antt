@@ -104,6 +104,7 @@ refuses_in (Some (command.Accept program)) records before after k (e, inl h) = e
 refuses_in (Some (command.Accept program)) records before after k (e, inr d) = accept_refuses program records before after k d
 refuses_in (Some (command.Replay log)) records before after k e = none_refused (Some (command.Replay log)) before.holds (code_of k) refl
 refuses_in (Some (command.Large n)) records before after k e = none_refused (Some (command.Large n)) before.holds (code_of k) refl
+refuses_in (Some (command.Migrate log)) records before after k e = none_refused (Some (command.Migrate log)) before.holds (code_of k) refl
 
 pub refuses_ended : (c : Option Command) (before after : Outside) (code : ℕ) (note : List ℕ) (records : List Record) → Ends c before after code note records → Refuses c before.holds code
 refuses_ended c before after code note records e = subst (λ (n : ℕ). Refuses c before.holds n) (sym e.status.0) (refuses_in c records before after e.conclusion e.ends)

@@ -45,19 +45,19 @@ replays_partly bytes b a ended (inr r) =
       prints = prints_partly ended b (text_in r.course) a r.prints;
     })
 
-some_partly : (o : Option (List ℕ)) (b a : Option (List ℕ)) (ended : Result Verdict ReplayFault) → IsSomeAnd o (λ bytes. replays.IsReplay bytes b a ended) → IsSomeAnd o (λ bytes. replays.IsReplay bytes b a (Err ReplayFault.Memory))
-some_partly None b a ended h = absurd h
-some_partly (Some bytes) b a ended h = replays_partly bytes b a ended h
+some_under : (o : Option (List ℕ)) (P Q : List ℕ → Type 0) → ((bytes : List ℕ) → P bytes → Q bytes) → IsSomeAnd o P → IsSomeAnd o Q
+some_under None P Q f h = absurd h
+some_under (Some bytes) P Q f h = f bytes h
 
-told_partly : (name : List ℕ) (holds : Option Holdings) (b a : Option (List ℕ)) (ended : Result Verdict ReplayFault) → IfSome holds (λ held. IsSomeAnd (held name) (λ bytes. replays.IsReplay bytes b a ended)) →
-    IfSome holds (λ held. IsSomeAnd (held name) (λ bytes. replays.IsReplay bytes b a (Err ReplayFault.Memory)))
-told_partly name None b a ended h = tt
-told_partly name (Some held) b a ended h = some_partly (held name) b a ended h
+-- of what the world holds under the name, where it tells it
+pub told_under : (name : List ℕ) (holds : Option Holdings) (P Q : List ℕ → Type 0) → ((bytes : List ℕ) → P bytes → Q bytes) → IfSome holds (λ held. IsSomeAnd (held name) P) → IfSome holds (λ held. IsSomeAnd (held name) Q)
+told_under name None P Q f h = tt
+told_under name (Some held) P Q f h = some_under (held name) P Q f h
 
 -- however it ended, memory may be wanting for the note
 pub replay_partly : (name : List ℕ) (before after : Outside) (c : Conclusion) → ReplaysTo name before after c → ReplaysTo name before after NoMemory
 replay_partly name before after c r =
-    record { ended = Err ReplayFault.Memory; is_conclusion = refl; ends = told_partly name before.holds before.printed after.printed r.ended r.ends; holds = r.holds }
+    record { ended = Err ReplayFault.Memory; is_conclusion = refl; ends = told_under name before.holds _ _ (λ bytes h. replays_partly bytes before.printed after.printed r.ended h) r.ends; holds = r.holds }
 
 caused_by : (ended : Result Verdict ReplayFault) (before after : Outside) → (IsErrOf ended (ReplayFault.Log log_fault.Read) → ReadFailed before after) → (IsErrOf ended ReplayFault.Write → WriteFailed before after) →
     IsCaused before after (replayed_of ended)
@@ -73,17 +73,14 @@ caused ended c before after e r w = subst (λ (x : Conclusion). IsCaused before 
 nothing : IsSome {T = List ℕ} None → ⊥
 nothing s = cc
 
-there : (o : Option (List ℕ)) (b a : Option (List ℕ)) (ended : Result Verdict ReplayFault) → IsSome o → IfSome o (λ bytes. replays.IsReplay bytes b a ended) → IsSomeAnd o (λ bytes. replays.IsReplay bytes b a ended)
-there None b a ended s h = absurd (nothing s)
-there (Some bytes) b a ended s h = h
+there : (o : Option (List ℕ)) (P : List ℕ → Type 0) → IsSome o → IfSome o P → IsSomeAnd o P
+there None P s h = absurd (nothing s)
+there (Some bytes) P s h = h
 
 -- what is left of an input is what the world holds
-pub replay_told : (holds : Option Holdings) (name : List ℕ) (left b a : Option (List ℕ)) (ended : Result Verdict ReplayFault) → Opens holds name left → IfSome left (λ bytes. replays.IsReplay bytes b a ended) →
-    IfSome holds (λ held. IsSomeAnd (held name) (λ bytes. replays.IsReplay bytes b a ended))
-replay_told None name left b a ended o h = tt
-replay_told (Some held) name left b a ended o h =
-    let told : IfSome (held name) (λ bytes. replays.IsReplay bytes b a ended) = subst (λ (x : Option (List ℕ)). IfSome x (λ bytes. replays.IsReplay bytes b a ended)) o.1 h in
-    there (held name) b a ended o.0 told
+pub held_told : (holds : Option Holdings) (name : List ℕ) (left : Option (List ℕ)) (P : List ℕ → Type 0) → Opens holds name left → IfSome left P → IfSome holds (λ held. IsSomeAnd (held name) P)
+held_told None name left P o h = tt
+held_told (Some held) name left P o h = there (held name) P o.0 (subst (λ (x : Option (List ℕ)). IfSome x P) o.1 h)
 
 -- the log was not opened
 pub unopened : (log : List ℕ) (error : WorldError) (c : Conclusion) (before after : Outside) → c ≡ unopened_of error → (error ≡ WorldError.Failed → ReadFailed before after) → IsAsBefore before after → EndsIn (Some (command.Replay log)) [] before after c

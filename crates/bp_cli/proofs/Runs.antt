@@ -7,7 +7,9 @@ use Rattle.bp_base.specs.Worlds.{Holdings, Sets, Keeps, IsMadeAs}
 use Rattle.bp_base.specs.Pieces.{Appends}
 use Rattle.js_program.specs.PlainProgram.{PlainProgram}
 use Rattle.bp_log.specs.Header.{PlainHeader}
-use Rattle.bp_log.specs.Logs.{header_text, records_text, log_text}
+use Rattle.bp_log.specs.Logs.{header_text, records_text, can_say, log_text}
+use Rattle.bp_log.specs.declared.version.Version.{Version}
+use Rattle.bp_log.specs.declared.version.Version.TheVariants.{Second}
 use Rattle.bp_log.specs.Options.{PlainOptions}
 use Rattle.bp_log.specs.Records.{verdict_of, is_complete}
 use Rattle.bp_log.specs.declared.record.Record.{Record}
@@ -69,9 +71,9 @@ is_run program o records v i h e =
 
 -- each replay of the log of a run tells the run
 run_replays : (P : List ℕ → Type 0) (header : PlainHeader) (program : PlainProgram) (records : List Record) (v : Verdict) → IsHeader header → IsProgram header.program program → AreRecords records →
-    verdict_of records ≡ Some v → (t : Option (List ℕ)) → text_of program header.options records ≡ t → IsSomeAnd t P → IsSomeAnd t (λ x. Retells (log_text header records) x v)
+    verdict_of records ≡ Some v → (t : Option (List ℕ)) → text_of program header.options records ≡ t → IsSomeAnd t P → IsSomeAnd t (λ x. (version : Version) → can_say version header.options.wait ≡ true → Retells (log_text version header records) x v)
 run_replays P header program records v is p are ended None e h = h
-run_replays P header program records v is p are ended (Some t) e h = logs_of_stories_replay header program records t v is p are e ended
+run_replays P header program records v is p are ended (Some t) e h = λ version says. logs_of_stories_replay version header program records t v says is p are e ended
 
 -- ---- the log
 
@@ -95,7 +97,7 @@ module _ {L : Type 0} (written made_as : L → Option (List ℕ)) (faults : L �
 
   module _ (header : PlainHeader) (program : PlainProgram) (records : List Record) (before after : Outside) where
     held_behind : (name : List ℕ) (f l : L) → IfSome before.holds (λ h. written f ≡ Some []) →
-        PrintsBehind written (text_of program header.options) (header_text header) records before.printed after.printed (Some f) (Some l) → Keeps before.holds name (written l) after.holds →
+        PrintsBehind written (text_of program header.options) (header_text Second header) records before.printed after.printed (Some f) (Some l) → Keeps before.holds name (written l) after.holds →
         (after.printed ≡ before.printed) ⊎ HoldsBehind name header program records before after
     held_behind name f l e (inl s) k = inl s
     held_behind name f l e (inr b) k =
@@ -104,13 +106,13 @@ module _ {L : Type 0} (written made_as : L → Option (List ℕ)) (faults : L �
           later = b.later;
           is_front = b.is_front;
           more = b.logged.0;
-          kept = subst (λ (t : List ℕ). Holds before.holds name (t ++ b.logged.0) after.holds) (sym (log_is header b.records))
-              (held before.holds name ((header_text header ++ records_text b.records) ++ b.logged.0) (written f) (written l) after.holds e b.logged.1 k);
+          kept = subst (λ (t : List ℕ). Holds before.holds name (t ++ b.logged.0) after.holds) (sym (log_is Second header b.records))
+              (held before.holds name ((header_text Second header ++ records_text b.records) ++ b.logged.0) (written f) (written l) after.holds e b.logged.1 k);
           printed = b.printed;
         })
 
-    log_partly : (name : Option (List ℕ)) (first last : Option L) → IsLogMade written made_as faults before.holds name first → LogGetsFront written first (header_text header ++ records_text records) last →
-        PrintsBehind written (text_of program header.options) (header_text header) records before.printed after.printed first last → IsLogHeld written before.holds name last after.holds →
+    log_partly : (name : Option (List ℕ)) (first last : Option L) → IsLogMade written made_as faults before.holds name first → LogGetsFront written first (header_text Second header ++ records_text records) last →
+        PrintsBehind written (text_of program header.options) (header_text Second header) records before.printed after.printed first last → IsLogHeld written before.holds name last after.holds →
         KeepsLogFront name header program records before after
     log_partly None None None m g b h = h
     log_partly None None (Some l) m g b h = absurd g
@@ -118,7 +120,7 @@ module _ {L : Type 0} (written made_as : L → Option (List ℕ)) (faults : L �
     log_partly (Some name) None last m g b h = absurd m
     log_partly (Some name) (Some f) None m g b h = absurd g
     log_partly (Some name) (Some f) (Some l) m g b h =
-        inr ((g.0, g.1, log_is header records ∙ g.2, held before.holds name g.0 (written f) (written l) after.holds m.0 g.3 h), held_behind name f l m.0 b h)
+        inr ((g.0, g.1, log_is Second header records ∙ g.2, held before.holds name g.0 (written f) (written l) after.holds m.0 g.3 h), held_behind name f l m.0 b h)
 
   -- no write changes the name of a log
   pub still_named : (holds : Option Holdings) (name : Option (List ℕ)) (first last : Option L) → IsLogMade written made_as faults holds name first → LogStays made_as faults first last → IsLogNamed made_as name last
@@ -149,8 +151,8 @@ module _ {K L S : Type 0} (written made_as : L → Option (List ℕ)) (log_fault
     pub made : IsLogMade written made_as log_faults before.holds asked.log first
     pub story : IsSome (text_of program header.options records)
     pub heard : EachHeard left sources back records
-    pub ends : EndsAs written log_faults print_faults (text_of program header.options) (header_text header) k m (record { printed = before.printed; log = first }) (record { printed = after.printed; log = last }) left faults sources back records end
-    pub behind : PrintsBehind written (text_of program header.options) (header_text header) records before.printed after.printed first last
+    pub ends : EndsAs written log_faults print_faults header.options.wait (text_of program header.options) (header_text Second header) k m (record { printed = before.printed; log = first }) (record { printed = after.printed; log = last }) left faults sources back records end
+    pub behind : PrintsBehind written (text_of program header.options) (header_text Second header) records before.printed after.printed first last
     pub held : IsLogHeld written before.holds asked.log last after.holds
 
   module _ (asked : Run) (bytes : List ℕ) (program : PlainProgram) (records : List Record) (sources back : List S) (k m : K) (first last : Option L) (before after : Outside) where
@@ -158,16 +160,16 @@ module _ {K L S : Type 0} (written made_as : L → Option (List ℕ)) (log_fault
     none end s e = s.counted ∙ ap (λ (xs : List (List ℕ)). length xs) e
 
     wholly : (end : Ending) → Served (header_of asked bytes) asked bytes program records end sources back k m first last before after →
-        Wholly written (text_of program asked.options) (header_text (header_of asked bytes)) records (record { printed = before.printed; log = first }) (record { printed = after.printed; log = last }) →
+        Wholly written (text_of program asked.options) (header_text Second (header_of asked bytes)) records (record { printed = before.printed; log = first }) (record { printed = after.printed; log = last }) →
         TellsWhole asked bytes program records before after
     wholly end s w = record {
       prints = w.prints;
-      keeps = subst (λ (t : List ℕ). KeepsLog asked.log before.holds t after.holds) (sym (log_is (header_of asked bytes) records))
-          (log_whole written made_as log_faults asked.log before.holds after.holds first last (header_text (header_of asked bytes) ++ records_text records) s.made w.logs s.held);
+      keeps = subst (λ (t : List ℕ). KeepsLog asked.log before.holds t after.holds) (sym (log_is Second (header_of asked bytes) records))
+          (log_whole written made_as log_faults asked.log before.holds after.holds first last (header_text Second (header_of asked bytes) ++ records_text records) s.made w.logs s.held);
     }
 
     partly : (end : Ending) → Served (header_of asked bytes) asked bytes program records end sources back k m first last before after →
-        Partly written (text_of program asked.options) (header_text (header_of asked bytes)) records (record { printed = before.printed; log = first }) (record { printed = after.printed; log = last }) →
+        Partly written (text_of program asked.options) (header_text Second (header_of asked bytes)) records (record { printed = before.printed; log = first }) (record { printed = after.printed; log = last }) →
         TellsPartly asked bytes program records before after
     partly end s w = record {
       prints = w.prints;
@@ -189,12 +191,12 @@ module _ {K L S : Type 0} (written made_as : L → Option (List ℕ)) (log_fault
     -- the run that came of it
     ran_under : (end : Ending) → Served (header_of asked bytes) asked bytes program records end sources back k m first last before after → IsRunOf asked bytes records before after (ended_of end)
     ran_under (Ending.Verdict v) s =
-        let b = brought_to left faults before.holds v asked.injectors sources back records s.opened s.heard s.ends.2 in
-        run_of (Ending.Verdict v) (ended_of (Ending.Verdict v)) (IsQuiet v) s b (record {
+        let b = brought_to left faults before.holds v asked.options.wait asked.injectors sources back records s.opened s.heard s.ends.2 in
+        run_of (Ending.Verdict v) (ended_of (Ending.Verdict v)) ((asked.options.wait ≡ true) × IsQuiet v) s b (record {
           verdict = s.ends.0;
           told = wholly (Ending.Verdict v) s s.ends.1;
           one_run = λ n. is_run program asked.options records v (none (Ending.Verdict v) s n) s.story s.ends.0;
-          whole = b.whole;
+          whole = λ waits quiet. b.whole (waits, quiet);
           replays = run_replays (λ t. Appends before.printed t after.printed) (header_of asked bytes) program records v s.is_header s.is_program s.are_records s.ends.0 (text_of program asked.options records) refl s.ends.1.prints;
         })
     ran_under (Ending.Read j) s =
@@ -236,7 +238,7 @@ module _ {S : Type 0} (left : S → Option (List ℕ)) (faults : S → ℕ) wher
 module _ {K L S : Type 0} (written : L → Option (List ℕ)) (log_faults : L → ℕ) (print_faults : K → ℕ) (left : S → Option (List ℕ)) (faults : S → ℕ) where
   -- a failure of a run has its cause
   pub run_caused : (program : PlainProgram) (header : PlainHeader) (records : List Record) (sources back : List S) (k m : K) (printed printed_then : Option (List ℕ)) (first last : Option L) (before after : Outside) (end : Ending) →
-      EndsAs written log_faults print_faults (text_of program header.options) (header_text header) k m (record { printed = printed; log = first }) (record { printed = printed_then; log = last }) left faults sources back records end →
+      EndsAs written log_faults print_faults header.options.wait (text_of program header.options) (header_text Second header) k m (record { printed = printed; log = first }) (record { printed = printed_then; log = last }) left faults sources back records end →
       ((j : ℕ) → BrokeAt left faults sources back records j → ReadFailed before after) → (Rose (print_faults k) (print_faults m) → WriteFailed before after) → (LogFails log_faults first last → WriteFailed before after) →
       IsCaused before after (ended_of end)
   run_caused program header records sources back k m printed printed_then first last before after (Ending.Verdict v) e r w l = tt

@@ -11,6 +11,7 @@ counted_within (command.Run asked) h = h.count
 counted_within (command.Replay log) h = tt
 counted_within (command.Accept program) h = tt
 counted_within (command.Large n) h = tt
+counted_within (command.Migrate log) h = tt
 
 pub counted : (words : List (List ℕ)) (c : Command) → command_of words ≡ Some c → IsCounted c
 counted words c e = counted_within c (within words c e)

@@ -11,6 +11,7 @@ use crate::Status;
 use crate::conclusion::Conclusion;
 use crate::ended::Ended;
 use crate::large::measure_large;
+use crate::migrating::migrate_log;
 use crate::programs::{accept_program, run_program};
 use crate::replaying::replay_log;
 use bp_args::{Command, Usage, read};
@@ -42,6 +43,7 @@ fn carry_out<R: Threads + Wait + Sync, W: World, K: Sink>(
             Ended::without_run(alloc, accept_program(alloc, &name, world, out))
         }
         Command::Replay(name) => Ended::without_run(alloc, replay_log(alloc, &name, world, out)),
+        Command::Migrate(name) => Ended::without_run(alloc, migrate_log(alloc, &name, world, out)),
     }
 }
 
@@ -71,7 +73,7 @@ fn conclude<R: Threads + Wait + Sync, W: World, K: Sink>(
 /// Carries out what the words ask for.
 ///
 /// The words are those after the program's name: `run [OPTIONS] PROGRAM [INJECTOR]...`, `replay
-/// LOG`, `accept PROGRAM` or `large N`.
+/// LOG`, `accept PROGRAM`, `large N` or `migrate LOG`.
 pub fn command<R: Threads + Wait + Sync, W: World, K: Sink>(
     rt: &R,
     alloc: Global,
@@ -83,14 +85,16 @@ pub fn command<R: Threads + Wait + Sync, W: World, K: Sink>(
     // 3 to 7 a run printed the whole text of its records, which are a story of the program and
     // merge what the world holds under the injectors' names, and where a log is kept, it holds the
     // same records; each replay of that log prints the same text and comes to the same verdict,
-    // unless it meets trouble; at 0 all that the injectors brought was recorded. At 8 reading
-    // failed: before the run, and then nothing was printed, or an injector, and then all that was
-    // recorded was told. At 9 and 10 a front of the text was printed and a front of the log is
-    // held, in which the records of that text stand. Without injectors the records are those of the
-    // one run, or the first of them. A replay at 8 and 11 printed the text of the records that were
-    // followed. The world was asked for the names of the words, in order, and for all of them where
-    // a verdict came. So where no count rose and memory was not wanting, the code is 1, 2, 11, that
-    // of the verdict, or 0 for an accepted program.
+    // unless it meets trouble; at 0 of a run that waits for its injectors all that they brought was
+    // recorded. At 8 reading failed: before the run, and then nothing was printed, or an injector,
+    // and then all that was recorded was told. At 9 and 10 a front of the text was printed and a
+    // front of the log is held, in which the records of that text stand. Without injectors the
+    // records are those of the one run, or the first of them. A replay at 8 and 11 printed the text
+    // of the records that were followed. A migration ends at 0 where the bytes are a log, and
+    // printed it in the second version; it ends at 11 where they are none. The world was asked for
+    // the names of the words, in order, and for all of them where a verdict came. So where no count
+    // rose and memory was not wanting, the code is 1, 2, 11, that of the verdict, or 0 for an
+    // accepted program and a migrated log.
     ensures ends { let seen = outside W.holds W.asked W.read_faults W.write_faults
         K.written K.faults in Ends (command_of (map string_bytes words.now))
         (seen world.old out.old) (seen world.new out.new) result.code result.note result.records }

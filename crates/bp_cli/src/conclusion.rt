@@ -1,10 +1,12 @@
 //! How a command ends.
-ghost use Rattle.std.specs.Prelude.{◌≡◌, true, IfOk, OnErr, string_bytes};
+ghost use Rattle.std.specs.Prelude.{◌≡◌, true, IfOk, OnErr, string_bytes, unwrap_or};
 ghost use Rattle.bp_cli.specs.Conclusions.{code_of, note_of, has_note, verdict_code, conclusion_of, ended_of, unopened_of, unmade_of};
 ghost use Rattle.bp_cli.specs.Replaying.{trouble_of as trouble_in, replayed_of, log_detail as log_fault_text, detail_of, bad_log_note as bad_log_text};
+ghost use Rattle.bp_cli.specs.Migrating.{as_replayed, migrated_of};
 
 use bp_base::WorldError;
 use bp_log::{Memory, Verdict, VerdictKind};
+use bp_migrate::MigrateFault;
 use bp_notes::differing;
 use bp_reader::LogFault;
 use bp_replay::ReplayFault;
@@ -15,7 +17,7 @@ use std::alloc::Global;
 
 /// The note of words that are no command.
 const USAGE: &str =
-    "usage: bp run [OPTIONS] PROGRAM [INJECTOR]... | bp replay LOG | bp accept PROGRAM | bp large N";
+    "usage: bp run [OPTIONS] PROGRAM [INJECTOR]... | bp replay LOG | bp accept PROGRAM | bp large N | bp migrate LOG";
 
 /// The note of what was not read.
 const READ_FAULT: &str = "read fault";
@@ -41,6 +43,8 @@ pub enum Conclusion {
     NoMemory,
     /// The log is none, its program is refused, or it differs from its run.
     BadLog(ReplayFault),
+    /// The log was printed in the second version.
+    Migrated,
 }
 
 impl Drop for Conclusion {
@@ -54,6 +58,7 @@ impl Drop for Conclusion {
             Conclusion::NotWritten => {}
             Conclusion::NoMemory => {}
             Conclusion::BadLog(_) => {}
+            Conclusion::Migrated => {}
         }
     }
 }
@@ -101,6 +106,17 @@ fn trouble_of(fault: &ReplayFault) -> Option<Conclusion>
         ReplayFault::Program => None,
         ReplayFault::Write => Some(Conclusion::NotWritten),
         ReplayFault::Memory => Some(Conclusion::NoMemory),
+    }
+}
+
+/// A fault of a migration as one of a replay.
+fn as_replayed(fault: MigrateFault) -> ReplayFault
+    ensures { result ≡ as_replayed fault }
+{
+    match fault {
+        MigrateFault::Log(fault) => ReplayFault::Log(fault),
+        MigrateFault::Write => ReplayFault::Write,
+        MigrateFault::Memory => ReplayFault::Memory,
     }
 }
 
@@ -181,10 +197,26 @@ impl Conclusion {
     pub(crate) fn of_replay(ended: Result<Verdict, ReplayFault>) -> Conclusion
         ensures { result ≡ replayed_of ended }
     {
-        let fault = match ended {
-            Ok(verdict) => return Conclusion::Ran(verdict),
-            Err(fault) => fault,
-        };
+        match ended {
+            Ok(verdict) => Conclusion::Ran(verdict),
+            Err(fault) => Conclusion::of_fault(fault),
+        }
+    }
+
+    /// What comes of a migration.
+    pub(crate) fn of_migration(ended: Result<(), MigrateFault>) -> Conclusion
+        ensures { result ≡ migrated_of ended }
+    {
+        match ended {
+            Ok(_) => Conclusion::Migrated,
+            Err(fault) => Conclusion::of_fault(as_replayed(fault)),
+        }
+    }
+
+    /// What comes of a log that was not replayed to its end.
+    fn of_fault(fault: ReplayFault) -> Conclusion
+        ensures { result ≡ unwrap_or (trouble_in fault) (Conclusion.BadLog fault) }
+    {
         match trouble_of(&fault) {
             Some(conclusion) => conclusion,
             None => Conclusion::BadLog(fault),
@@ -196,7 +228,7 @@ impl Conclusion {
         ensures { result ≡ code_of self.now }
     {
         match self {
-            Conclusion::Accepted => 0,
+            Conclusion::Accepted | Conclusion::Migrated => 0,
             Conclusion::NoCommand => 1,
             Conclusion::Refused(_) => 2,
             Conclusion::Ran(verdict) => verdict_code(verdict.kind()),
@@ -218,9 +250,10 @@ impl Conclusion {
             Conclusion::NoCommand => USAGE,
             Conclusion::NotRead => READ_FAULT,
             Conclusion::NotWritten => WRITE_FAULT,
-            Conclusion::Accepted | Conclusion::Ran(_) | Conclusion::NoMemory => {
-                return Ok(Text::new(String::new(alloc)));
-            }
+            Conclusion::Accepted
+            | Conclusion::Ran(_)
+            | Conclusion::NoMemory
+            | Conclusion::Migrated => return Ok(Text::new(String::new(alloc))),
         };
         Ok(Text::new(words.to_string(alloc)?))
     }

@@ -6,6 +6,7 @@ mod conclusion;
 mod ended;
 mod large;
 mod loading;
+mod migrating;
 mod opening;
 mod programs;
 mod replaying;

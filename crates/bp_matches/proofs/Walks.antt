@@ -15,7 +15,7 @@ use Rattle.std.specs.Cmp.Derive.{both_true}
 use Rattle.clap.specs.declared.parser.matches.ValueSource.TheVariants.{CommandLine}
 use Rattle.clap.proofs.OnLiterals.{clap_on_literals}
 use Rattle.bp_matches.specs.declared.key.Key.{Key}
-use Rattle.bp_matches.specs.declared.key.Key.TheVariants.{Log, Strategy, Seed, Budget, Steps, Workers, Slice}
+use Rattle.bp_matches.specs.declared.key.Key.TheVariants.{Log, Strategy, Seed, Budget, Steps, Workers, Slice, Wait}
 use Rattle.bp_matches.proofs.Rows.{opt, used_fresh, row_if, rows_said, apart, misses, distinct, misses_more, found_past, value_at, first_at, is_foreign, foreign_missing, no_default, no_defaults, at_row_none}
 use Rattle.bp_matches.specs.declared.values.Values.{Values}
 use Rattle.bp_matches.specs.Keys.{key_name, keys}
@@ -45,6 +45,7 @@ option_step rows v Budget = refl
 option_step rows v Steps = refl
 option_step rows v Workers = refl
 option_step rows v Slice = refl
+option_step rows v Wait = refl
 
 set_ok : (rows : List Row) (v : List ℕ) (k : Key) → has_row (key_name k) rows ≡ false → set_passes false (opt k) (v ∷ []) rows ≡ true
 unfolding clap_on_literals program
@@ -60,6 +61,7 @@ option_passes rows v rest Budget h = ap (λ b. (b && true) && walk_passes top []
 option_passes rows v rest Steps h = ap (λ b. (b && true) && walk_passes top [] (between (used (opt Steps) (v ∷ []) rows)) rest) (set_ok rows v Steps h)
 option_passes rows v rest Workers h = ap (λ b. (b && true) && walk_passes top [] (between (used (opt Workers) (v ∷ []) rows)) rest) (set_ok rows v Workers h)
 option_passes rows v rest Slice h = ap (λ b. (b && true) && walk_passes top [] (between (used (opt Slice) (v ∷ []) rows)) rest) (set_ok rows v Slice h)
+option_passes rows v rest Wait h = ap (λ b. (b && true) && walk_passes top [] (between (used (opt Wait) (v ∷ []) rows)) rest) (set_ok rows v Wait h)
 
 pub simple : is_simple program ≡ true
 unfolding clap_on_literals program
@@ -267,6 +269,7 @@ no_name Budget (p ∷ qs) = refl
 no_name Steps (p ∷ qs) = refl
 no_name Workers (p ∷ qs) = refl
 no_name Slice (p ∷ qs) = refl
+no_name Wait (p ∷ qs) = refl
 
 value_alone : (s : Values) (k : Key) → value_at s keys (key_name k) None ≡ value_in s k
 value_alone s Log = no_more s.log
@@ -276,6 +279,7 @@ value_alone s Budget = no_more s.budget
 value_alone s Steps = no_more s.steps
 value_alone s Workers = no_more s.workers
 value_alone s Slice = no_more s.slice
+value_alone s Wait = no_more s.wait
 
 -- the value of an option is what was said
 pub value_found : (s : Values) (k : Key) → first_of (key_name k) (matches_of program (normal_words s)) ≡ value_in s k

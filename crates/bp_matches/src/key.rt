@@ -22,11 +22,13 @@ pub enum Key {
     Workers,
     /// The nodes of a slice.
     Slice,
+    /// Whether the run waits for its injectors.
+    Wait,
 }
 
 impl Key {
     /// All options, in the order in which they are written.
-    pub fn all() -> [Key; 7]
+    pub fn all() -> [Key; 8]
         ensures { result ≡ keys }
     {
         [
@@ -37,6 +39,7 @@ impl Key {
             Key::Steps,
             Key::Workers,
             Key::Slice,
+            Key::Wait,
         ]
     }
 
@@ -52,6 +55,7 @@ impl Key {
             Key::Steps => "steps",
             Key::Workers => "workers",
             Key::Slice => "slice",
+            Key::Wait => "wait",
         }
     }
 

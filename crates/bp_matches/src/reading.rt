@@ -53,6 +53,7 @@ fn command_of<'a>(alloc: Global) -> Result<Command<'a>, AllocError>
         .arg(option(alloc, Key::Steps.name()))?
         .arg(option(alloc, Key::Workers.name()))?
         .arg(option(alloc, Key::Slice.name()))?
+        .arg(option(alloc, Key::Wait.name()))?
         .arg(names(alloc))
 }
 

@@ -62,6 +62,7 @@ pub fn values_of(alloc: Global, words: &[String]) -> Result<Values, AllocError>
         steps: value_of(alloc, &matches, Key::Steps)?,
         workers: value_of(alloc, &matches, Key::Workers)?,
         slice: value_of(alloc, &matches, Key::Slice)?,
+        wait: value_of(alloc, &matches, Key::Wait)?,
         words: words_of(alloc, &matches)?,
     })
 }

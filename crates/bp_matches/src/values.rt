@@ -69,6 +69,8 @@ pub struct Values {
     pub workers: Option<Text>,
     /// The nodes of a slice.
     pub slice: Option<Text>,
+    /// Whether the run waits for its injectors.
+    pub wait: Option<Text>,
     /// The words that are no options, in order.
     pub words: Words,
 }
@@ -83,6 +85,7 @@ impl Drop for Values {
             steps: _,
             workers: _,
             slice: _,
+            wait: _,
             words: _,
         } = self;
     }
@@ -108,6 +111,7 @@ impl Values {
             Key::Steps => self.steps.as_ref(),
             Key::Workers => self.workers.as_ref(),
             Key::Slice => self.slice.as_ref(),
+            Key::Wait => self.wait.as_ref(),
         }
     }
 
@@ -123,6 +127,7 @@ impl Values {
             steps: _,
             workers: _,
             slice: _,
+            wait: _,
             words,
         } = self;
         words

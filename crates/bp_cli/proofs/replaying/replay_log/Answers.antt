@@ -4,7 +4,7 @@ use Rattle.bp_base.specs.Worlds.{Asks, Opens}
 use Rattle.bp_base.specs.declared.outside.WorldError.{WorldError}
 use Rattle.bp_cli.specs.Outside.{outside}
 use Rattle.bp_cli.proofs.Asking.{asks_one, asks_unread}
-use Rattle.bp_cli.proofs.Replays.{caused, replay_told, unopened}
+use Rattle.bp_cli.proofs.Replays.{caused, held_told, unopened}
 use Rattle.bp_feeds.proofs.Going.{rose_from}
 use Rattle.bp_cli.proofs.Runs.{risen}
 use Rattle.bp_cli.proofs.replaying.replay_log.Goals as goal
@@ -30,7 +30,7 @@ returns-clause-ends g c =
         record {
           ended = c.replay-ended.result.ended;
           is_conclusion = c.of_replay.ensures;
-          ends = replay_told (g.W.World.holds c.args.world.now) c.args.name.now _ _ _ c.replay-ended.result.ended
+          ends = held_told (g.W.World.holds c.args.world.now) c.args.name.now _ _
               (subst (λ (n : List ℕ). Opens (g.W.World.holds c.args.world.now) n (g.W.Input.Source.left c.in-Ok.input)) c.as_str.ensures c.in-Ok.ensures.content) c.replay-ended.ensures.ends;
           holds = c.close_input.ensures.keeps ∙ c.open.ensures.keeps;
         },

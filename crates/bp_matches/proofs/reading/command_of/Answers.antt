@@ -14,4 +14,5 @@ returns c =
     let five = c.in_ok-arg-5.ensures.shape c.option-5.ensures.local ∙ ap₂ with_rule four (c.option-5.ensures.rule ∙ ap option_rule c.name-5.ensures) in
     let six = c.in_ok-arg-6.ensures.shape c.option-6.ensures.local ∙ ap₂ with_rule five (c.option-6.ensures.rule ∙ ap option_rule c.name-6.ensures) in
     let seven = c.in_ok-arg-7.ensures.shape c.option-7.ensures.local ∙ ap₂ with_rule six (c.option-7.ensures.rule ∙ ap option_rule c.name-7.ensures) in
-    IfOk-weaker c.arg-8.result _ _ (λ m h. h.shape c.names.ensures.local ∙ ap₂ with_rule seven c.names.ensures.rule) c.arg-8.ensures
+    let eight = c.in_ok-arg-8.ensures.shape c.option-8.ensures.local ∙ ap₂ with_rule seven (c.option-8.ensures.rule ∙ ap option_rule c.name-8.ensures) in
+    IfOk-weaker c.arg-9.result _ _ (λ m h. h.shape c.names.ensures.local ∙ ap₂ with_rule eight c.names.ensures.rule) c.arg-9.ensures

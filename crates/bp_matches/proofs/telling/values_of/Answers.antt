@@ -20,15 +20,16 @@ words_are s f id xs i e h =
     ∙ (ap (λ rows. unwrap_or (all_of id rows) []) e ∙ (ap (λ n. unwrap_or (all_of n (matches_of program (normal_words s))) []) i ∙ names_found s)))
 
 -- values that are equal one by one
-same_values : (v w : Values) → w.log ≡ v.log → w.strategy ≡ v.strategy → w.seed ≡ v.seed → w.budget ≡ v.budget → w.steps ≡ v.steps → w.workers ≡ v.workers → w.slice ≡ v.slice → w.words ≡ v.words → w ≡ v
-same_values v w a b c d e f g h =
+same_values : (v w : Values) → w.log ≡ v.log → w.strategy ≡ v.strategy → w.seed ≡ v.seed → w.budget ≡ v.budget → w.steps ≡ v.steps → w.workers ≡ v.workers → w.slice ≡ v.slice → w.wait ≡ v.wait → w.words ≡ v.words → w ≡ v
+same_values v w a b c d e f g i h =
     ap (λ (x : Option (List ℕ)). record w { log = x }) a
     ∙ (ap (λ (x : Option (List ℕ)). record w { log = v.log; strategy = x }) b
     ∙ (ap (λ (x : Option (List ℕ)). record w { log = v.log; strategy = v.strategy; seed = x }) c
     ∙ (ap (λ (x : Option (List ℕ)). record w { log = v.log; strategy = v.strategy; seed = v.seed; budget = x }) d
-    ∙ (ap (λ (x : Option (List ℕ)). record v { steps = x; workers = w.workers; slice = w.slice; words = w.words }) e
-    ∙ (ap (λ (x : Option (List ℕ)). record v { workers = x; slice = w.slice; words = w.words }) f
-    ∙ (ap (λ (x : Option (List ℕ)). record v { slice = x; words = w.words }) g ∙ ap (λ (x : List (List ℕ)). record v { words = x }) h))))))
+    ∙ (ap (λ (x : Option (List ℕ)). record v { steps = x; workers = w.workers; slice = w.slice; wait = w.wait; words = w.words }) e
+    ∙ (ap (λ (x : Option (List ℕ)). record v { workers = x; slice = w.slice; wait = w.wait; words = w.words }) f
+    ∙ (ap (λ (x : Option (List ℕ)). record v { slice = x; wait = w.wait; words = w.words }) g
+    ∙ (ap (λ (x : Option (List ℕ)). record v { wait = x; words = w.words }) i ∙ ap (λ (x : List (List ℕ)). record v { words = x }) h)))))))
 
 pub returns : goal.returns
 returns c = λ s e.
@@ -41,4 +42,5 @@ returns c = λ s e.
     (value_is s f key.Steps _ rows c.in_ok-value_of-5.ensures)
     (value_is s f key.Workers _ rows c.in_ok-value_of-6.ensures)
     (value_is s f key.Slice _ rows c.in_ok-value_of-7.ensures)
+    (value_is s f key.Wait _ rows c.in_ok-value_of-8.ensures)
     (words_are s f _ _ refl rows c.in_ok-words_of.ensures)
