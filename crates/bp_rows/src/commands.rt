@@ -14,8 +14,9 @@ fn shown_run(alloc: Global, run: &Run) -> Result<String, Fail> {
     for injector in run.injectors.as_slice() {
         write!(names, " {}", injector.as_str())?;
     }
+    let waits = if options.wait() { "" } else { " no" };
     Ok(format!(in alloc;
-        "run {names} log {} {} {} {} {} {} {}",
+        "run {names} log {} {} {} {} {} {} {}{waits}",
         log,
         options.strategy().name(),
         options.seed(),
@@ -35,6 +36,7 @@ fn shown(alloc: Global, words: &[String]) -> Result<String, Fail> {
             Command::Replay(name) => Ok(format!(in alloc; "replay {}", name.as_str())?),
             Command::Accept(name) => Ok(format!(in alloc; "accept {}", name.as_str())?),
             Command::Large(threads) => Ok(format!(in alloc; "large {threads}")?),
+            Command::Migrate(name) => Ok(format!(in alloc; "migrate {}", name.as_str())?),
         },
     }
 }
@@ -98,6 +100,14 @@ run --slice 1000000000 -- p ==> run p log none simple 0 1000000 100000 4 1000000
 run --log=p= p ==> run p log p= simple 0 1000000 100000 4 10000
 run --log l --strategy ordered --seed 1 --budget 2 --steps 3 --workers 5 --slice 6 p ==> run p log l ordered 1 2 3 5 6
 run a=b ==> run a=b log none simple 0 1000000 100000 4 10000
+run --wait yes p ==> run p log none simple 0 1000000 100000 4 10000
+run p --wait=yes i ==> run p i log none simple 0 1000000 100000 4 10000
+run --wait no p ==> run p log none simple 0 1000000 100000 4 10000 no
+run p --seed 1 --wait=no i ==> run p i log none simple 1 1000000 100000 4 10000 no
+run p -- --wait=no ==> run p --wait=no log none simple 0 1000000 100000 4 10000
+migrate l ==> migrate l
+migrate -- -l ==> migrate -l
+migrate - ==> migrate -
 "#;
 
 /// Words that are none.
@@ -242,4 +252,29 @@ large --slice=1 4 ==> wrong
 large 4000 4000 ==> wrong
 large 00000000000000004000x ==> wrong
 large -- -1 ==> wrong
+run p --wait ==> wrong
+run p --wait= ==> wrong
+run p --wait <> ==> wrong
+run p --wait - ==> wrong
+run p --wait Yes ==> wrong
+run p --wait=NO ==> wrong
+run p --wait true ==> wrong
+run p --wait=yes, ==> wrong
+run p --wait no --wait no ==> wrong
+run p --wait=yes --wait no ==> wrong
+run p --wait --seed 1 ==> wrong
+run --wait no ==> wrong
+run p --waits no ==> wrong
+run p --no-wait ==> wrong
+accept --wait=yes p ==> wrong
+replay l --wait no ==> wrong
+large --wait=no 4 ==> wrong
+migrate ==> wrong
+migrate l m ==> wrong
+migrate --wait=no l ==> wrong
+migrate l --log m ==> wrong
+migrate --seed=1 l ==> wrong
+migrate --help ==> wrong
+migrate -h ==> wrong
+Migrate l ==> wrong
 "#;

@@ -61,6 +61,29 @@ fn replayed<R: Threads + Wait + Sync>(rt: &R, alloc: Global, log: &[u8]) -> Resu
     ran_in(rt, alloc, "replay|l", holding(&[("l", text)]))
 }
 
+/// Whether the log of a run replays what the run did, and migrates to itself; where the run waits, its
+/// text in the first version does so too.
+fn is_told_in_each<R: Threads + Wait + Sync>(
+    rt: &R,
+    alloc: Global,
+    ran: &Ran,
+) -> Result<bool, Fail> {
+    let second = str::from_utf8(&ran.log).ok().ok_or("no text")?;
+    let headed = second.replace(alloc, "bp-log 2\n", "bp-log 1\n")?;
+    let first = headed
+        .as_str()
+        .replace(alloc, "\nwait yes\nprogram ", "\nprogram ")?;
+    let waits = first.len() < second.len();
+    for text in [if waits { first.as_str() } else { second }, second] {
+        let again = replayed(rt, alloc, text.as_bytes())?;
+        let migrated = ran_in(rt, alloc, "migrate|l", holding(&[("l", text)]))?;
+        if !again.came_to(ran.code, "", &ran.printed) || !migrated.came_to(0, "", &ran.log) {
+            return Ok(false);
+        }
+    }
+    Ok(waits || second.contains("\nwait no\nprogram "))
+}
+
 /// The words print this with this code, whatever the workers and the slices, and the log replays it.
 fn prints<R: Threads + Wait + Sync + Abort>(
     rt: &R,
@@ -79,10 +102,7 @@ fn prints<R: Threads + Wait + Sync + Abort>(
         let line = format!(in alloc; "{line}|--log=log{more}")?;
         let ran = ran_in(rt, alloc, line.as_str(), holding(files))?;
         assert!(rt; ran.came_to(code, "", text.as_bytes()), "{line}");
-        assert!(rt;
-            replayed(rt, alloc, &ran.log)?.came_to(code, "", text.as_bytes()),
-            "{line}"
-        );
+        assert!(rt; is_told_in_each(rt, alloc, &ran)?, "{line}");
     }
     Ok(())
 }
@@ -209,10 +229,7 @@ fn two_injectors_merge_and_the_log_replays_the_merge(rt: HostRuntime) -> Result<
             ran.code == 0 && merged(&ran.printed) == Some(true),
             "{line}"
         );
-        assert!(rt;
-            replayed(&rt, alloc, &ran.log)?.came_to(0, "", &ran.printed),
-            "{line}"
-        );
+        assert!(rt; is_told_in_each(&rt, alloc, &ran)?, "{line}");
     }
     Ok(())
 }
@@ -438,3 +455,42 @@ fn two_hundred_cars_cross(rt: HostRuntime) -> Result<(), Fail> {
     assert!(rt; replayed(&rt, alloc, &ran.log)?.came_to(0, "", &ran.printed));
     Ok(())
 }
+
+/// A run of the two that does not wait takes what is there in time, in the order of its injectors, and its
+/// log replays to the same bytes.
+#[test]
+fn a_run_that_does_not_wait_takes_what_is_there(rt: HostRuntime) -> Result<(), Fail> {
+    let alloc = rt.alloc();
+    for more in ["", "|--workers=1|--slice=1", "|--workers=8"] {
+        let line = format!(in alloc; "run|--wait=no|p|a|b|--log=log{more}")?;
+        let ran = ran_in(&rt, alloc, line.as_str(), holding(&TWO))?;
+        let text = str::from_utf8(&ran.printed).ok().ok_or("no text")?;
+        let (told, verdict) = text.rsplit_once("verdict ").ok_or("no verdict")?;
+        let quiet = format!(in alloc; "quiet {}\n", told.lines().count())?;
+        let log = str::from_utf8(&ran.log).ok().ok_or("no text")?;
+        assert!(rt;
+            ran.code == 0 && verdict == quiet.as_str() && merged(told.as_bytes()).is_some(),
+            "{line}"
+        );
+        assert!(rt; log.contains("\ninjectors 2\nwait no\nprogram "), "{line}");
+        assert!(rt;
+            replayed(&rt, alloc, &ran.log)?.came_to(0, "", &ran.printed),
+            "{line}"
+        );
+    }
+    Ok(())
+}
+
+/// Without injectors it is nothing whether a run waits.
+#[test]
+fn a_run_without_injectors_does_not_wait(rt: HostRuntime) -> Result<(), Fail> {
+    let files = [("p", ASKS)];
+    let text = "event [\"e\"]\ndone \"A\"\nverdict quiet 1\n";
+    for line in ["run|p", "run|--wait=yes|p", "run|--wait|no|p"] {
+        prints(&rt, rt.alloc(), line, &files, 0, text)?;
+    }
+    Ok(())
+}
+
+/// A b-thread that asks for one event.
+const ASKS: &str = r#"bp.registerBThread("A", () => { bp.sync({request: bp.Event("e")}) })"#;

@@ -1,9 +1,10 @@
 //! Logs and replays.
 
 use crate::world::{Fails, NONE, run_with, tells};
+use std::alloc::Global;
 use std::test::Fail;
 
-/// A blocked event of the queue is overtaken: the log of such a run, with an injector.
+/// A blocked event of the queue is overtaken: the log of such a run, with an injector, in the first version.
 const LOG: &str = r#"bp-log 1
 strategy simple
 seed 0
@@ -44,6 +45,80 @@ fn a_log_is_replayed(rt: HostRuntime) -> Result<(), Fail> {
     tells(&rt, alloc, words, b"x\n", (11, "bad log: version", ""))
 }
 
+/// The log, in the second version.
+fn second(alloc: Global) -> Result<String, Fail> {
+    let headed = LOG.replace(alloc, "bp-log 1\n", "bp-log 2\n")?;
+    Ok(
+        headed
+            .as_str()
+            .replace(alloc, "injectors 1\n", "injectors 1\nwait yes\n")?,
+    )
+}
+
+#[test]
+fn a_log_is_migrated_and_replays_as_before(rt: HostRuntime) -> Result<(), Fail> {
+    let alloc = rt.alloc();
+    let (words, replay) = ("migrate|script.js", "replay|script.js");
+    let second = second(alloc)?;
+    let second = second.as_str();
+    tells(&rt, alloc, words, LOG.as_bytes(), (0, "", second))?;
+    tells(&rt, alloc, words, second.as_bytes(), (0, "", second))?;
+    tells(&rt, alloc, replay, second.as_bytes(), (0, "", REPLAYED))?;
+
+    let (front, _) = second.split_once("sel [\"x\"]").ok_or("no selection")?;
+    tells(
+        &rt,
+        alloc,
+        words,
+        front.as_bytes(),
+        (11, "bad log: cut", front),
+    )?;
+    let told = (11, "bad log: cut", "external [\"go\"]\ndone \"B\"\n");
+    tells(&rt, alloc, replay, front.as_bytes(), told)?;
+
+    // What the run would not do is no matter.
+    let other = second.replace(alloc, "sel [\"go\"]", "sel [\"x\"]")?;
+    tells(&rt, alloc, words, other.as_bytes(), (0, "", other.as_str()))?;
+    let note = "bad log: record 4 expected sel [\"go\"] found sel [\"x\"]";
+    tells(&rt, alloc, replay, other.as_bytes(), (11, note, ""))?;
+
+    tells(
+        &rt,
+        alloc,
+        words,
+        b"bp-log 3\n",
+        (11, "bad log: version", ""),
+    )?;
+    tells(
+        &rt,
+        alloc,
+        words,
+        b"bp-log 2\nstrategy fast\n",
+        (11, "bad log: header", ""),
+    )
+}
+
+#[test]
+fn a_migration_that_fails_says_so(rt: HostRuntime) -> Result<(), Fail> {
+    let alloc = rt.alloc();
+    let words = "migrate|script.js";
+    let unread = Fails {
+        input: &[1],
+        ..NONE
+    };
+    let ran = run_with(&rt, alloc, words, LOG.as_bytes(), unread)?;
+    assert!(rt; ran.came_to(8, "read fault", b""));
+    let unwritten = Fails {
+        output: &[1],
+        ..NONE
+    };
+    let ran = run_with(&rt, alloc, words, LOG.as_bytes(), unwritten)?;
+    assert!(rt; ran.came_to(9, "write fault", b""));
+    let ran = run_with(&rt, alloc, "migrate|other", LOG.as_bytes(), NONE)?;
+    assert!(rt; ran.came_to(8, "read fault", b""));
+    Ok(())
+}
+
 #[test]
 fn a_run_keeps_its_log_and_the_log_replays_it(rt: HostRuntime) -> Result<(), Fail> {
     let alloc = rt.alloc();
@@ -54,7 +129,7 @@ fn a_run_keeps_its_log_and_the_log_replays_it(rt: HostRuntime) -> Result<(), Fai
     assert!(rt; again.printed == ran.printed);
     assert!(rt;
         ran.log
-            .starts_with(b"bp-log 1\nstrategy simple\nseed 7\nbudget 1000000\n")
+            .starts_with(b"bp-log 2\nstrategy simple\nseed 7\nbudget 1000000\n")
     );
     Ok(())
 }

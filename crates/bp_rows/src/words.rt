@@ -4,7 +4,7 @@ use crate::world::{NONE, fails_with, run_words};
 use std::test::Fail;
 
 const USAGE: &str =
-    "usage: bp run [OPTIONS] PROGRAM [INJECTOR]... | bp replay LOG | bp accept PROGRAM | bp large N";
+    "usage: bp run [OPTIONS] PROGRAM [INJECTOR]... | bp replay LOG | bp accept PROGRAM | bp large N | bp migrate LOG";
 
 /// A line has words, with `|` between.
 const WRONG: &str = "
@@ -40,6 +40,12 @@ replay|script.js|script.js
 replay|--seed|1|script.js
 accept
 accept|--script.js
+run|a|--wait|maybe
+run|a|--wait=no|--wait=no
+accept|--wait=no|a
+migrate
+migrate|a|b
+migrate|--wait|no|a
 ";
 
 #[test]

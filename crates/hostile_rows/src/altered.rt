@@ -25,20 +25,35 @@ end quiet 2
 const REPLAYED: &str =
     "external [\"go\"]\ndone \"B\"\nexternal [\"x\"]\nlog \"C\" \"got\"\ndone \"C\"\nverdict quiet 2\n";
 
+/// The text in the second version.
+fn second(alloc: Global, text: &str) -> Result<String, Fail> {
+    let headed = text.replace(alloc, "bp-log 1\n", "bp-log 2\n")?;
+    Ok(
+        headed
+            .as_str()
+            .replace(alloc, "injectors 1\n", "injectors 1\nwait yes\n")?,
+    )
+}
+
+/// A log that was altered is replayed and migrated up to the same place.
 #[test]
 fn altered_logs_are_refused(rt: HostRuntime) -> Result<(), Fail> {
     let alloc = rt.alloc();
+    let (front, _) = LOG.split_once("sel [\"go\"]").ok_or("no selection")?;
+    let (front, whole) = (second(alloc, front)?, second(alloc, LOG)?);
     let twice = LOG.replace(alloc, "eof 0\n", "eof 0\neof 0\n")?;
     let version = LOG.replace(alloc, "bp-log 1\n", "bp-log 9\n")?;
     let behind = format!(in alloc; "{LOG}x")?;
     let rows = [
-        (twice.as_str(), "bad log: line 4", ""),
-        (version.as_str(), "bad log: version", ""),
-        (behind.as_str(), "bad log: line 7", REPLAYED),
+        (twice.as_str(), "bad log: line 4", "", front.as_str()),
+        (version.as_str(), "bad log: version", "", ""),
+        (behind.as_str(), "bad log: line 7", REPLAYED, whole.as_str()),
     ];
-    for (log, note, text) in rows {
+    for (log, note, text, written) in rows {
         let came = run_over(&rt, alloc, "replay|p", (log.as_bytes(), b""), 0)?;
         assert!(rt; came.came_to(11, note, text.as_bytes()), "{note}");
+        let came = run_over(&rt, alloc, "migrate|p", (log.as_bytes(), b""), 0)?;
+        assert!(rt; came.came_to(11, note, written.as_bytes()), "{note}");
     }
     Ok(())
 }

@@ -7,7 +7,7 @@ use std::sync::atomic::{AtomicU64, Ordering};
 use std::thread::yield_now;
 
 /// How often a source looks at most; it lets other threads run after each look.
-const LOOKS: u64 = 20_000_000;
+pub const LOOKS: u64 = 20_000_000;
 
 /// As much as a log holds.
 const ROOM: u64 = 100_000;
@@ -17,6 +17,7 @@ const ROOM: u64 = 100_000;
 pub struct Looking<'a> {
     printed: &'a AtomicU64,
     least: u64,
+    looks: u64,
     first: MemorySource,
     further: MemorySource,
     has_begun: bool,
@@ -26,7 +27,7 @@ pub struct Looking<'a> {
 impl<'a> Looking<'a> {
     /// Looks until so many lines were printed: whether it came to that.
     fn is_printed(&self) -> bool {
-        for _ in 0..LOOKS {
+        for _ in 0..self.looks {
             if self.printed.load(Ordering::SeqCst) >= self.least {
                 return true;
             }
@@ -90,6 +91,8 @@ pub struct LookingWorld<'a> {
     /// What it gives once so many lines were printed.
     pub further: &'a str,
     pub least: u64,
+    /// How often it looks for these lines at most.
+    pub looks: u64,
     /// The reads behind the first that fail, counted from 1.
     pub failing: &'a [u64],
     pub log: Vec<u8>,
@@ -119,6 +122,7 @@ impl<'a> World for LookingWorld<'a> {
         Ok(Looking {
             printed: self.printed,
             least: if is_script { 0 } else { self.least },
+            looks: self.looks,
             first: MemorySource::new(first.as_bytes().to_vec(alloc)?, Vec::new(alloc)),
             further: MemorySource::new(further.as_bytes().to_vec(alloc)?, failing.to_vec(alloc)?),
             has_begun: false,

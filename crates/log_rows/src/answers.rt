@@ -1,4 +1,5 @@
 //! What is answered to the bytes of a log.
+use crate::migrations::in_second;
 use bp_base::{MemorySink, MemorySource};
 use bp_log::{write_header, write_record};
 use bp_reader::Reader;
@@ -8,7 +9,8 @@ use std::test::Fail;
 /// More than the records of any row.
 const MOST_RECORDS: u32 = 20;
 
-/// `read`, where the log is read to its end and written again as it was; else the words of the refusal.
+/// `read`, where the log is read to its end and written again in the second version; else the words of the
+/// refusal.
 pub fn answer(alloc: Global, bytes: &[u8]) -> Result<String, Fail> {
     let source = MemorySource::new(bytes.to_vec(alloc)?, Vec::new(alloc));
     let (mut reader, header) = match Reader::open(alloc, source) {
@@ -18,7 +20,7 @@ pub fn answer(alloc: Global, bytes: &[u8]) -> Result<String, Fail> {
             return Ok(format!(in alloc; "{fault}")?);
         }
     };
-    let mut sink = MemorySink::new(alloc, bytes.len() as u64, Vec::new(alloc))?;
+    let mut sink = MemorySink::new(alloc, bytes.len() as u64 + 9, Vec::new(alloc))?;
     write_header(alloc, &header, &mut sink)?;
     for _ in 0..MOST_RECORDS {
         match reader.next(alloc) {
@@ -30,7 +32,7 @@ pub fn answer(alloc: Global, bytes: &[u8]) -> Result<String, Fail> {
                 write_record(alloc, &copy, &mut sink)?;
             }
             Ok(None) => {
-                let same = sink.written() == bytes;
+                let same = sink.written() == in_second(alloc, bytes)?.as_slice();
                 return Ok(String::from_str(alloc, if same { "read" } else { "other" })?);
             }
             Err(fault) => return Ok(format!(in alloc; "{fault}")?),

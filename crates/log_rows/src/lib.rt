@@ -11,6 +11,8 @@ mod heads;
 #[cfg(test)]
 mod lines;
 #[cfg(test)]
+mod migrations;
+#[cfg(test)]
 mod outside;
 #[cfg(test)]
 mod printed;

@@ -22,7 +22,7 @@ fn two(alloc: Global) -> Result<Vec<u8>, Fail> {
 
 const REFUSED: &str = "
  --> -->cut
-bp-log 2; --> -->version
+bp-log 3; --> -->version
 @;seed 0; --> -->header
 @;strategy simple;seed 0 --> -->cut
 ";

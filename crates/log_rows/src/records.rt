@@ -10,6 +10,9 @@ use std::test::Fail;
 const FRONT: &str =
     "@;strategy simple;seed 0;budget 1000000;steps 100000;injectors 2;program 3;x=1;";
 
+const SECOND_FRONT: &str =
+    "~;strategy simple;seed 0;budget 1000000;steps 100000;injectors 2;wait no;program 3;x=1;";
+
 /// Each form, each as it is written.
 const FORMS: &str = r#"
 end quiet 0; --> read
@@ -120,9 +123,11 @@ end fault "A 1 type; --> line 1
 
 #[test]
 fn records_are_read_exactly(rt: HostRuntime) -> Result<(), Fail> {
-    let front = log_of(rt.alloc(), b"", FRONT)?;
-    for table in [FORMS, ENDS, INJECTORS, NUMBERS, SPELLINGS] {
-        agree(&rt, rt.alloc(), Lines::Read, front.as_slice(), table)?;
+    for cell in [FRONT, SECOND_FRONT] {
+        let front = log_of(rt.alloc(), b"", cell)?;
+        for table in [FORMS, ENDS, INJECTORS, NUMBERS, SPELLINGS] {
+            agree(&rt, rt.alloc(), Lines::Read, front.as_slice(), table)?;
+        }
     }
     Ok(())
 }
@@ -131,16 +136,22 @@ fn records_are_read_exactly(rt: HostRuntime) -> Result<(), Fail> {
 const WHOLE: &str =
     r#"@;strategy simple;seed 0;budget 1000000;steps 100000;injectors 1;program 4;x=1;;in 0 ["x"];eof 0;sel ["x"];end quiet 1;"#;
 
+/// The log of a whole run that does not wait.
+const UNWAITING: &str =
+    r#"~;strategy simple;seed 0;budget 1000000;steps 100000;injectors 1;wait no;program 4;x=1;;in 0 ["x"];sel ["x"];end quiet 1;"#;
+
 /// Cut anywhere, a log is cut.
 #[test]
 fn a_front_of_a_log_is_cut(rt: HostRuntime) -> Result<(), Fail> {
     let alloc = rt.alloc();
-    let whole = log_of(alloc, b"", WHOLE)?;
-    let whole = whole.as_slice();
-    for size in 0..whole.len() {
-        assert!(rt; answer(alloc, &whole[..size])?.as_str() == "cut", "{size}");
+    for cell in [WHOLE, UNWAITING] {
+        let whole = log_of(alloc, b"", cell)?;
+        let whole = whole.as_slice();
+        for size in 0..whole.len() {
+            assert!(rt; answer(alloc, &whole[..size])?.as_str() == "cut", "{size}");
+        }
+        assert!(rt; answer(alloc, whole)?.as_str() == "read");
     }
-    assert!(rt; answer(alloc, whole)?.as_str() == "read");
     Ok(())
 }
 

@@ -107,6 +107,78 @@ fn logs_of_a_run(rt: HostRuntime) -> Result<(), Fail> {
     Ok(())
 }
 
+/// Each says a whole run that does not wait: at its end its injector may have ended, or not.
+const UNWAITING: &str = r#"
+end quiet 0; --> verdict quiet 0;-->verdict quiet 0
+eof 0;end quiet 0; --> verdict quiet 0;-->verdict quiet 0
+in 0 ["x"];end quiet 0; --> verdict quiet 0;-->verdict quiet 0
+in 0 ["go"];sel ["go"];end quiet 1; --> external ["go"];done "B";verdict quiet 1;-->verdict quiet 1
+in 0 ["x"];in 0 ["go"];sel ["go"];sel ["x"];end quiet 2; --> external ["go"];done "B";external ["x"];log "C" "got";done "C";verdict quiet 2;-->verdict quiet 2
+in 0 ["x"];in 0 ["go"];sel ["go"];eof 0;sel ["x"];end quiet 2; --> external ["go"];done "B";external ["x"];log "C" "got";done "C";verdict quiet 2;-->verdict quiet 2
+bad 0 7;end bad 0 7; --> verdict bad 0 7;-->verdict bad 0 7
+"#;
+
+/// Each says something else than the run that does not wait, or does not say its end.
+const UNWAITING_OTHER: &str = r#"
+ --> -->cut
+in 0 ["x"]; --> -->cut
+in 0 ["go"];sel ["go"]; --> external ["go"];done "B";-->cut
+in 0 ["go"];end quiet 0; --> -->record 2 expected sel ["go"] found end quiet 0
+in 0 ["go"];sel ["go"];end quiet 0; --> external ["go"];done "B";-->record 3 expected end quiet 1 found end quiet 0
+in 0 ["x"];sel ["x"]; --> -->record 2 expected end quiet 0 found sel ["x"]
+sel ["x"]; --> -->record 1 expected end quiet 0 found sel ["x"]
+bad 0 7;end quiet 0; --> -->record 2 expected end bad 0 7 found end quiet 0
+end quiet 0;eof 0; --> verdict quiet 0;-->line 2
+"#;
+
+#[test]
+fn logs_of_a_run_that_does_not_wait(rt: HostRuntime) -> Result<(), Fail> {
+    let options = options(1_000_000, 100_000, 1)?.with_wait(false);
+    for table in [UNWAITING, UNWAITING_OTHER] {
+        agree_behind(&rt, rt.alloc(), GO, options, table)?;
+    }
+    Ok(())
+}
+
+/// It waits for all events.
+const WATCHES: &str =
+    r#"bp.registerBThread("W", () => { while (true) bp.sync({waitFor: bp.all}) })"#;
+
+/// Each merge of three events `a` of one injector and three `b` of another.
+const MERGES: &str = "aaabbb aababb aabbab aabbba abaabb ababab ababba abbaab abbaba abbbaa \
+    bbbaaa bbabaa bbaaba bbaaab babbaa bababa babaab baabba baabab baaabb";
+
+/// The line of a table that says the merge, each event with its number.
+fn merge_line(alloc: Global, merge: &str) -> Result<String, Fail> {
+    let mut entered = String::new(alloc);
+    let mut selected = String::new(alloc);
+    let mut told = String::new(alloc);
+    let (mut first, mut second) = (0u32, 0u32);
+    for name in merge.chars() {
+        let is_first = name == 'a';
+        let number = if is_first { &mut first } else { &mut second };
+        *number = number.saturating_add(1);
+        let injector = if is_first { 0 } else { 1 };
+        write!(&mut entered, "in {injector} [\"{name}\",{number}];")?;
+        write!(&mut selected, "sel [\"{name}\",{number}];")?;
+        write!(&mut told, "external [\"{name}\",{number}];")?;
+    }
+    let (entered, selected, told) = (entered.as_str(), selected.as_str(), told.as_str());
+    let end = "verdict quiet 6;-->verdict quiet 6";
+    Ok(format!(in alloc; "\n{entered}eof 0;eof 1;{selected}end quiet 6; --> {told}{end}")?)
+}
+
+#[test]
+fn each_merge_of_two_injectors_replays(rt: HostRuntime) -> Result<(), Fail> {
+    let alloc = rt.alloc();
+    let options = options(1_000_000, 100_000, 2)?;
+    for merge in MERGES.split_whitespace() {
+        let line = merge_line(alloc, merge)?;
+        agree_behind(&rt, alloc, WATCHES, options, line.as_str())?;
+    }
+    Ok(())
+}
+
 /// It ends by itself while its first wave is merged.
 const FAILING: &str =
     r#"bp.registerBThread("A", () => { bp.log.info("l"); bp.ASSERT(false, "no") })"#;

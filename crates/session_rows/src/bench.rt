@@ -21,11 +21,12 @@ pub struct Came {
     pub log: String,
 }
 
-/// The header of a run with so many injectors.
-pub fn header(alloc: Global, script: &str, injectors: u32) -> Result<Header, Fail> {
+/// The header of a run with so many injectors, which waits for them or does not.
+pub fn header(alloc: Global, script: &str, injectors: u32, waits: bool) -> Result<Header, Fail> {
     let options = Options::new(Strategy::Simple, 0, 1_000_000, 100_000, injectors).ok_or(
         "no options",
     )?;
+    let options = options.with_wait(waits);
     Ok(Header::new(options, script.as_bytes().to_vec(alloc)?).ok_or("a long script")?)
 }
 
@@ -61,7 +62,7 @@ pub fn ending(alloc: Global, report: Report) -> Result<String, Fail> {
 }
 
 /// A session of the script with these inputs, by so many workers and slices, over this output and this
-/// log.
+/// log, which waits for its injectors.
 pub fn ends_as<S: Source + Send + Drop, K: Sink, R: Threads + Wait + Sync>(
     rt: &R,
     alloc: Global,
@@ -71,8 +72,22 @@ pub fn ends_as<S: Source + Send + Drop, K: Sink, R: Threads + Wait + Sync>(
     out: &mut K,
     log: &mut Option<MemorySink>,
 ) -> Result<(String, usize), Fail> {
+    ends_waiting(rt, alloc, script, true, beside, inputs, out, log)
+}
+
+/// The same, where it waits for its injectors or does not.
+pub fn ends_waiting<S: Source + Send + Drop, K: Sink, R: Threads + Wait + Sync>(
+    rt: &R,
+    alloc: Global,
+    script: &str,
+    waits: bool,
+    beside: (u32, u64),
+    inputs: Vec<S>,
+    out: &mut K,
+    log: &mut Option<MemorySink>,
+) -> Result<(String, usize), Fail> {
     let program = accept(alloc, script.as_bytes())?;
-    let header = header(alloc, script, inputs.len().min(16) as u32)?;
+    let header = header(alloc, script, inputs.len().min(16) as u32, waits)?;
     if header.options().injectors() as usize != inputs.len() {
         return Err(Fail::new("more inputs than injectors"));
     }
@@ -81,7 +96,7 @@ pub fn ends_as<S: Source + Send + Drop, K: Sink, R: Threads + Wait + Sync>(
     Ok((ending(alloc, report)?, back.len()))
 }
 
-/// The same over memory.
+/// The same over memory, of a run that waits for its injectors.
 pub fn told<R: Threads + Wait + Sync>(
     rt: &R,
     alloc: Global,
@@ -91,9 +106,25 @@ pub fn told<R: Threads + Wait + Sync>(
     out_fails: &[u64],
     log_fails: &[u64],
 ) -> Result<Came, Fail> {
+    told_waiting(
+        rt, alloc, script, true, beside, inputs, out_fails, log_fails,
+    )
+}
+
+/// The same, where it waits for its injectors or does not.
+pub fn told_waiting<R: Threads + Wait + Sync>(
+    rt: &R,
+    alloc: Global,
+    script: &str,
+    waits: bool,
+    beside: (u32, u64),
+    inputs: Vec<MemorySource>,
+    out_fails: &[u64],
+    log_fails: &[u64],
+) -> Result<Came, Fail> {
     let mut out = sink(alloc, out_fails)?;
     let mut log = Some(sink(alloc, log_fails)?);
-    let (end, back) = ends_as(rt, alloc, script, beside, inputs, &mut out, &mut log)?;
+    let (end, back) = ends_waiting(rt, alloc, script, waits, beside, inputs, &mut out, &mut log)?;
     let log = match log {
         Some(log) => written(log)?,
         None => String::new(alloc),

@@ -10,4 +10,6 @@ mod many;
 #[cfg(test)]
 mod rows;
 #[cfg(test)]
+mod unwaited;
+#[cfg(test)]
 mod watched;

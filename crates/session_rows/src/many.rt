@@ -26,7 +26,7 @@ fn lines(alloc: Global, name: &str, many: u32) -> Result<String, AllocError> {
 }
 
 /// What a replay of the log prints.
-fn printed_again(alloc: Global, log: &str) -> Result<String, Fail> {
+pub fn printed_again(alloc: Global, log: &str) -> Result<String, Fail> {
     let source = MemorySource::new(log.as_bytes().to_vec(alloc)?, Vec::new(alloc));
     let mut out = MemorySink::new(alloc, ROOM, Vec::new(alloc))?;
     let _ended = replay(alloc, source, &mut out);

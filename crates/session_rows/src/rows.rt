@@ -13,12 +13,15 @@ const BLOCKED_LINES: &str = "[\"x\"]\n[\"go\"]\n";
 const BLOCKED_TEXT: &str =
     "external [\"go\"]\ndone \"B\"\nexternal [\"x\"]\nlog \"C\" \"got\"\ndone \"C\"\nverdict quiet 2\n";
 
+/// A b-thread that hears every event.
 pub const WATCHES: &str =
     r#"bp.registerBThread("W", () => { while (true) bp.sync({waitFor: bp.all}) })"#;
 
-const ONCE: &str = r#"bp.registerBThread("A", () => { bp.sync({waitFor: bp.all}) })"#;
+/// A b-thread that ends at the first event.
+pub const ONCE: &str = r#"bp.registerBThread("A", () => { bp.sync({waitFor: bp.all}) })"#;
 
-const BESIDES: [(u32, u64); 4] = [(1, 1), (1, 10_000), (2, 7), (8, 10_000)];
+/// Workers and slices of runs whose text is the same by each of them.
+pub const BESIDES: [(u32, u64); 4] = [(1, 1), (1, 10_000), (2, 7), (8, 10_000)];
 
 /// A blocked event keeps its place and is overtaken.
 fn blocked<R: Threads + Wait + Sync>(

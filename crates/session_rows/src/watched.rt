@@ -11,7 +11,7 @@ use std::test::Fail;
 use std::thread::{Threads, yield_now};
 
 /// How often a source looks at most; it lets other threads run after each look.
-const LOOKS: u64 = 20_000_000;
+pub const LOOKS: u64 = 20_000_000;
 
 /// Gives its bytes at the first read that may be made once a number has risen so far, by two pieces.
 #[derive(Drop)]
@@ -20,6 +20,7 @@ pub struct Awaits<'a> {
     adds: u64,
     first: u64,
     later: u64,
+    pub looks: u64,
     piece: MemorySource,
     further: MemorySource,
     reads: u64,
@@ -27,8 +28,8 @@ pub struct Awaits<'a> {
 }
 
 /// Looks until the number is there.
-fn is_there(seen: &AtomicU64, least: u64) -> bool {
-    for _ in 0..LOOKS {
+pub fn is_there(seen: &AtomicU64, least: u64, looks: u64) -> bool {
+    for _ in 0..looks {
         if seen.load(Ordering::SeqCst) >= least {
             return true;
         }
@@ -50,7 +51,7 @@ impl<'a> Source for Awaits<'a> {
         };
         self.seen.fetch_add(self.adds, Ordering::SeqCst);
         self.adds = 0;
-        if !is_there(self.seen, least) {
+        if !is_there(self.seen, least, self.looks) {
             self.faults = self.faults.saturating_add(1);
             return Err(Failed);
         }
@@ -74,8 +75,8 @@ impl<'a> Source for Awaits<'a> {
 /// An output that counts its lines.
 #[derive(Drop)]
 pub struct Counted<'a> {
-    inner: MemorySink,
-    lines: &'a AtomicU64,
+    pub inner: MemorySink,
+    pub lines: &'a AtomicU64,
 }
 
 impl<'a> Sink for Counted<'a> {
@@ -98,7 +99,9 @@ impl<'a> Sink for Counted<'a> {
     }
 }
 
-fn awaiting<'a>(
+/// A source that is read only once the number has risen so far, at its first read and at later ones. It
+/// gives these two texts, and raises the number by so much as it is read first.
+pub fn awaiting<'a>(
     alloc: Global,
     seen: &'a AtomicU64,
     adds: u64,
@@ -112,6 +115,7 @@ fn awaiting<'a>(
         adds,
         first: least.0,
         later: least.1,
+        looks: LOOKS,
         piece,
         further,
         reads: 0,
