@@ -6,8 +6,8 @@ use Rattle.std.proofs.lemmas.List.{drop_all}
 use Rattle.indexmap.specs.IndexMap.{insert_entry}
 use Rattle.js_data.specs.Event.{PlainEvent, same_event}
 use Rattle.js_data.proofs.Shared.{drop_is}
-use Rattle.bp_select.specs.declared.bench.Stated.{Stated}
-use Rattle.bp_select.specs.Lives.{live_of}
+use Rattle.js_value.specs.Value.{PlainSet}
+use Rattle.bp_run.specs.Selecting.{Live}
 use Rattle.bp_select.specs.Tops.{Top, raised, with_request, with_requests, with_live}
 use Rattle.bp_select.proofs.Tops.{request_at}
 
@@ -52,11 +52,11 @@ requests_step p all i e old new whole h k m w =
 pub requests_last : (p : ℤ) (all : List PlainEvent) (i : ℕ) (found whole : List Top) → length all ≤ i → with_requests p found (drop i all) ≡ whole → found ≡ whole
 requests_last p all i found whole h w = sym (ap (λ (es : List PlainEvent). with_requests p found es) (drop_all i all h)) ∙ w
 
-pub live_step : (all : List Stated) (i : ℕ) (x : Stated) (old new whole : List Top) → i < length all → x ≡ get_or all i x → (let t = live_of x in new ≡ with_requests t.statement.priority old t.statement.request) →
-    with_live old (map live_of (drop i all)) ≡ whole → with_live new (map live_of (drop (i + 1) all)) ≡ whole
-live_step all i x old new whole h k m w =
-    ap (λ (xs : List Top). with_live xs (map live_of (drop (i + 1) all))) m
-    ∙ ap (λ (ts : List Stated). with_live old (map live_of ts)) (sym (drop_is all i x h k)) ∙ w
+pub live_step : {A : Type 0} (f : A → Live PlainSet) (all : List A) (i : ℕ) (x : A) (old new whole : List Top) → i < length all → x ≡ get_or all i x → (let t = f x in new ≡ with_requests t.statement.priority old t.statement.request) →
+    with_live old (map f (drop i all)) ≡ whole → with_live new (map f (drop (i + 1) all)) ≡ whole
+live_step {A} f all i x old new whole h k m w =
+    ap (λ (xs : List Top). with_live xs (map f (drop (i + 1) all))) m
+    ∙ ap (λ (ts : List A). with_live old (map f ts)) (sym (drop_is all i x h k)) ∙ w
 
-pub live_last : (all : List Stated) (i : ℕ) (found whole : List Top) → length all ≤ i → with_live found (map live_of (drop i all)) ≡ whole → found ≡ whole
-live_last all i found whole h w = sym (ap (λ (ts : List Stated). with_live found (map live_of ts)) (drop_all i all h)) ∙ w
+pub live_last : {A : Type 0} (f : A → Live PlainSet) (all : List A) (i : ℕ) (found whole : List Top) → length all ≤ i → with_live found (map f (drop i all)) ≡ whole → found ≡ whole
+live_last {A} f all i found whole h w = sym (ap (λ (ts : List A). with_live found (map f ts)) (drop_all i all h)) ∙ w

@@ -11,8 +11,6 @@ use Rattle.js_data.proofs.Shared.{drop_is}
 use Rattle.js_value.specs.Value.{PlainSet}
 use Rattle.bp_run.specs.Selecting.{Live}
 use Rattle.bp_run.specs.Choosing.{is_first_of}
-use Rattle.bp_select.specs.declared.bench.Stated.{Stated}
-use Rattle.bp_select.specs.Lives.{live_of}
 use Rattle.bp_select.specs.Candidates.{is_first}
 use Rattle.bp_select.specs.Keys.{same_sym}
 
@@ -100,27 +98,27 @@ firsts_of inner test ts e h =
 
 -- ---- the firsts of all
 
-abbrev pub any_later : (Live PlainSet → Bool) → ℕ → List Stated → Bool
-any_later q i all = list_any q (map live_of (drop i all))
+abbrev pub any_later : {A : Type 0} → (A → Live PlainSet) → (Live PlainSet → Bool) → ℕ → List A → Bool
+any_later f q i all = list_any q (map f (drop i all))
 
-pub firsts_more : (q : Live PlainSet → Bool) (all : List Stated) (i : ℕ) (x : Stated) (e r : PlainEvent) (old new whole : Bool) → i < length all → x ≡ get_or all i x → q (live_of x) ≡ same_event r e →
-    new ≡ (old || same_event e r) → (old || any_later q i all) ≡ whole → (new || any_later q (i + 1) all) ≡ whole
-firsts_more q all i x e r old new whole h k m n w =
-    let rest = any_later q (i + 1) all in
+pub firsts_more : {A : Type 0} (f : A → Live PlainSet) (q : Live PlainSet → Bool) (all : List A) (i : ℕ) (x : A) (e r : PlainEvent) (old new whole : Bool) → i < length all → x ≡ get_or all i x → q (f x) ≡ same_event r e →
+    new ≡ (old || same_event e r) → (old || any_later f q i all) ≡ whole → (new || any_later f q (i + 1) all) ≡ whole
+firsts_more {A} f q all i x e r old new whole h k m n w =
+    let rest = any_later f q (i + 1) all in
     ap (λ (b : Bool). b || rest) n ∙ or_assoc old (same_event e r) rest
     ∙ ap (λ (b : Bool). old || (b || rest)) (same_sym e r ∙ sym m)
-    ∙ ap (λ (xs : List Stated). old || list_any q (map live_of xs)) (sym (drop_is all i x h k)) ∙ w
+    ∙ ap (λ (xs : List A). old || list_any q (map f xs)) (sym (drop_is all i x h k)) ∙ w
 
-pub firsts_same : (q : Live PlainSet → Bool) (all : List Stated) (i : ℕ) (x : Stated) (old whole : Bool) → i < length all → x ≡ get_or all i x → q (live_of x) ≡ false →
-    (old || any_later q i all) ≡ whole → (old || any_later q (i + 1) all) ≡ whole
-firsts_same q all i x old whole h k m w =
-    let rest = any_later q (i + 1) all in
+pub firsts_same : {A : Type 0} (f : A → Live PlainSet) (q : Live PlainSet → Bool) (all : List A) (i : ℕ) (x : A) (old whole : Bool) → i < length all → x ≡ get_or all i x → q (f x) ≡ false →
+    (old || any_later f q i all) ≡ whole → (old || any_later f q (i + 1) all) ≡ whole
+firsts_same {A} f q all i x old whole h k m w =
+    let rest = any_later f q (i + 1) all in
     ap (λ (b : Bool). old || (b || rest)) (sym m)
-    ∙ ap (λ (xs : List Stated). old || list_any q (map live_of xs)) (sym (drop_is all i x h k)) ∙ w
+    ∙ ap (λ (xs : List A). old || list_any q (map f xs)) (sym (drop_is all i x h k)) ∙ w
 
-pub firsts_last : (q : Live PlainSet → Bool) (all : List Stated) (i : ℕ) (found whole : Bool) → length all ≤ i → (found || any_later q i all) ≡ whole → found ≡ whole
-firsts_last q all i found whole h w =
-    sym (or-false found) ∙ sym (ap (λ (xs : List Stated). found || list_any q (map live_of xs)) (drop_all i all h)) ∙ w
+pub firsts_last : {A : Type 0} (f : A → Live PlainSet) (q : Live PlainSet → Bool) (all : List A) (i : ℕ) (found whole : Bool) → length all ≤ i → (found || any_later f q i all) ≡ whole → found ≡ whole
+firsts_last {A} f q all i found whole h w =
+    sym (or-false found) ∙ sym (ap (λ (xs : List A). found || list_any q (map f xs)) (drop_all i all h)) ∙ w
 
 -- ---- those that are kept
 

@@ -1,5 +1,5 @@
 -- Who is noted at which keys.
-use Rattle.std.proofs.Common.{◌≡◌, ◌⊎◌, inl, inr, ℕ, zero, suc, ◌+◌, ◌<◌, ◌≤◌, arith, Bool, true, false, ◌||◌, nat_eq, nat_lt, List, [], ◌∷◌, ◌++◌, length, map, take, drop, get_or, slice_index, refl, ap, sym, ◌∙◌, subst, Option, Some, None, Result, Ok, Err, OnOk, OnErr, if◌then◌else◌, slice_get}
+use Rattle.std.proofs.Common.{◌≡◌, ◌⊎◌, inl, inr, ℕ, zero, suc, ◌+◌, ◌<◌, ◌≤◌, arith, Bool, true, false, not, ◌||◌, nat_eq, nat_lt, List, [], ◌∷◌, ◌++◌, length, map, take, drop, get_or, slice_index, refl, ap, sym, ◌∙◌, subst, Option, Some, None, Result, Ok, Err, OnOk, OnErr, if◌then◌else◌, slice_get}
 use Rattle.std.specs.List.{cons_option, list_any}
 use Rattle.std.proofs.lemmas.Bool.{eq-eqb, eqb-true, ne_eqb, lt-ltb, le-ltb, ltb-true, or_left, or_right}
 use Rattle.std.proofs.lemmas.List.{drop_all, drop_more, take_all, take_more, take-append-drop, map_push}
@@ -22,8 +22,9 @@ use Rattle.bp_select.specs.declared.heeds.Heeds as heeds
 use Rattle.bp_select.specs.Blocks as blocks
 use Rattle.bp_select.specs.Benches.{live_at, placed}
 use Rattle.bp_select.specs.Feeding.{event_key}
-use Rattle.bp_select.specs.Heeding.{AreKept, AreNoted, Each, HaveKeysOf, HeedsAt, IsNoted, Stays, WhereWhole, any_key}
+use Rattle.bp_select.specs.Heeding.{AreKept, AreNoted, Each, HaveKeysOf, HeedsAt, IsNoted, Stays, TouchedAt, WhereWhole, any_key, asks_key, blocks_key}
 use Rattle.bp_select.specs.Lives.{live_of}
+use Rattle.bp_select.specs.Parts.{asks_nothing, blocks_nothing}
 use Rattle.bp_select.specs.Places.{place_in, is_number, AreAbove, AreInOrder}
 use Rattle.bp_select.proofs.Noting.{noted_placed, noted_more}
 use Rattle.bp_select.proofs.Putting.{above, place_of_one}
@@ -170,8 +171,8 @@ untouched has e t a r w =
     ∙ ap (λ (q : Bool). touch_from t.number (Ok false) q (has t.statement.wait_for e)) r
     ∙ ap (λ (x : Membership). touch_from t.number (Ok false) false x) w
 
-pub heeds_keys : (t : Live PlainSet) (ks : List ℕ) → HaveKeysOf t.statement.wait_for ks → HaveKeysOf t.statement.interrupt ks → ((e : PlainEvent) → requests e t ≡ true → is_in (event_key e) ks ≡ true) → HeedsAt (λ k. is_in k ks) t
-heeds_keys t ks waits interrupts asks = record { each = λ e. inr (by e (is_in (event_key e) ks) refl) }
+pub touched_keys : (t : Live PlainSet) (ks : List ℕ) → HaveKeysOf t.statement.wait_for ks → HaveKeysOf t.statement.interrupt ks → ((e : PlainEvent) → requests e t ≡ true → is_in (event_key e) ks ≡ true) → TouchedAt (λ k. is_in k ks) t
+touched_keys t ks waits interrupts asks = record { each = λ e. inr (by e (is_in (event_key e) ks) refl) }
   where
     none_of : (e : PlainEvent) (s : PlainSet) → HaveKeysOf s ks → is_in (event_key e) ks ≡ false → (base : Ground) (budget : ℕ) → member base budget s e ≡ Ok false
     none_of e s h k base budget = of (h.each base budget e)
@@ -191,16 +192,36 @@ heeds_keys t ks waits interrupts asks = record { each = λ e. inr (by e (is_in (
           untouched (member base budget) e t (none_of e t.statement.interrupt interrupts h base budget) (asked_none e (requests e t) refl h) (none_of e t.statement.wait_for waits h base budget);
     })
 
-pub heeds_any : (t : Live PlainSet) (ks : List ℕ) → is_in any_key ks ≡ true → HeedsAt (λ k. is_in k ks) t
-heeds_any t ks h = record { each = λ e. inl h }
+pub touched_any : (t : Live PlainSet) (ks : List ℕ) → is_in any_key ks ≡ true → TouchedAt (λ k. is_in k ks) t
+touched_any t ks h = record { each = λ e. inl h }
 
-pub heeds_more : (t : Live PlainSet) (at at' : ℕ → Bool) → ((k : ℕ) → at k ≡ true → at' k ≡ true) → HeedsAt at t → HeedsAt at' t
-heeds_more t at at' more h = record { each = λ e. by e (h.each e) }
+pub touched_more : (t : Live PlainSet) (at at' : ℕ → Bool) → ((k : ℕ) → at k ≡ true → at' k ≡ true) → TouchedAt at t → TouchedAt at' t
+touched_more t at at' more h = record { each = λ e. by e (h.each e) }
   where
     by : (e : PlainEvent) → (at any_key ≡ true) ⊎ ((at (event_key e) ≡ true) ⊎ Stays e t) → (at' any_key ≡ true) ⊎ ((at' (event_key e) ≡ true) ⊎ Stays e t)
     by e (inl a) = inl (more any_key a)
     by e (inr (inl a)) = inr (inl (more (event_key e) a))
     by e (inr (inr a)) = inr (inr a)
+
+pub heeds_more : (t : Live PlainSet) (at at' : ℕ → Bool) → ((k : ℕ) → at k ≡ true → at' k ≡ true) → HeedsAt at t → HeedsAt at' t
+heeds_more t at at' more h = record { touched = touched_more t at at' more h.touched; asks = by asks_key (asks_nothing t ≡ true) h.asks; blocks = by blocks_key (blocks_nothing t ≡ true) h.blocks }
+  where
+    by : (k : ℕ) (P : Type 0) → (at k ≡ true) ⊎ P → (at' k ≡ true) ⊎ P
+    by k P (inl a) = inl (more k a)
+    by k P (inr a) = inr a
+
+unless : (a b : Bool) (k : ℕ) (ks : List ℕ) → b ≡ not a → (b ≡ true → is_in k ks ≡ true) → (is_in k ks ≡ true) ⊎ (a ≡ true)
+unless true b k ks e h = inr refl
+unless false b k ks e h = inl (h e)
+
+-- with the keys of what it requests and blocks
+pub heeds_all : (t : Live PlainSet) (ks ls ms : List ℕ) (a b : Bool) → TouchedAt (λ k. is_in k ks) t → ((k : ℕ) → is_in k ks ≡ true → is_in k ls ≡ true) → ((k : ℕ) → is_in k ls ≡ true → is_in k ms ≡ true) →
+    a ≡ not (asks_nothing t) → (a ≡ true → is_in asks_key ls ≡ true) → b ≡ not (blocks_nothing t) → (b ≡ true → is_in blocks_key ms ≡ true) → HeedsAt (λ k. is_in k ms) t
+heeds_all t ks ls ms a b h more last p q r s = record {
+  touched = touched_more t (λ k. is_in k ks) (λ k. is_in k ms) (λ k w. last k (more k w)) h;
+  asks = unless (asks_nothing t) a asks_key ms p (λ e. last asks_key (q e));
+  blocks = unless (blocks_nothing t) b blocks_key ms r s;
+}
 
 pub events_step : (es : List PlainEvent) (i : ℕ) (x : PlainEvent) (ks ls : List ℕ) → i < length es → x ≡ get_or es i x → ls ≡ ks ++ event_key x ∷ [] →
     ((e : PlainEvent) → list_any (same_event e) (take i es) ≡ true → is_in (event_key e) ks ≡ true) → (e : PlainEvent) → list_any (same_event e) (take (i + 1) es) ≡ true → is_in (event_key e) ls ≡ true
@@ -253,7 +274,7 @@ found_one (x ∷ xs) (suc k) d a low =
     let m = above_at x.number xs k d a.0 (omega (arith, low)) in
     ((λ e. absurd (let q : x.number ≡ (get_or xs k d).number = e in omega (arith, m, q))), found_one xs k d a.1 (omega (arith, low)))
 
-number_at : (n k : ℕ) (xs : List Stated) (d : Stated) → is_number n (slice_get (map live_of xs) k) ≡ true → (get_or xs k d).number ≡ n
+pub number_at : (n k : ℕ) (xs : List Stated) (d : Stated) → is_number n (slice_get (map live_of xs) k) ≡ true → (get_or xs k d).number ≡ n
 number_at n k [] d h = absurd (cc)
 number_at n zero (x ∷ xs) d h = eqb-true x.number n h
 number_at n (suc k) (x ∷ xs) d h = number_at n k xs d h

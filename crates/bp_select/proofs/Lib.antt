@@ -13,3 +13,4 @@ pub mod Telling
 pub mod Noting
 pub mod Heeding
 pub mod Finding
+pub mod Parts

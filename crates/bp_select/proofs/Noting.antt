@@ -60,7 +60,7 @@ noted_same ts us sets changed h k = subst (λ (xs : List (Live PlainSet)). IsNot
 
 -- ---- the block set of a number
 
-none_above : (n : ℕ) (ts : List (Live PlainSet)) → AreAbove n ts → block_at ts n ≡ None
+pub none_above : (n : ℕ) (ts : List (Live PlainSet)) → AreAbove n ts → block_at ts n ≡ None
 none_above n ts h = by (block_at ts n) refl
   where
     by : (o : Option PlainSet) → block_at ts n ≡ o → o ≡ None
@@ -88,7 +88,7 @@ number_at n zero (x ∷ xs) d h = eqb-true x.number n h
 number_at n (suc k) (x ∷ xs) d h = number_at n k xs d h
 
 pub found_block : (n k : ℕ) (xs : List Stated) (d : Stated) → AreInOrder (map live_of xs) → k < length xs → is_number n (slice_get (map live_of xs) k) ≡ true → block_at (map live_of xs) n ≡ own_set (live_of (get_or xs k d))
-found_block n k xs d o low is = ap (λ (m : ℕ). block_at (map live_of xs) m) (sym (number_at n k xs d is)) ∙ block_index xs k d o low
+found_block n k xs d o low is = ap (λ (m : ℕ). block_at (map live_of xs) m) (sym (number_at n k xs d is)) ∙ block_index live_of xs k d o low
 
 -- ---- one after another
 

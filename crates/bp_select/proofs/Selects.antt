@@ -16,8 +16,8 @@ use Rattle.bp_select.specs.Answers.{FaultAs, IsFrom, IsWithin}
 use Rattle.bp_select.specs.Tops.{Top, events_of, with_live, HaveTops}
 use Rattle.js_meaning.specs.State.{Ground}
 use Rattle.bp_meaning.specs.Membership.{member}
-use Rattle.bp_select.specs.Blocking.{blocking}
-use Rattle.bp_select.proofs.Blocks.{unblocked_by, first_by}
+use Rattle.bp_select.specs.Parts.{IsPart, blocks_nothing}
+use Rattle.bp_select.proofs.Parts.{unblocked_part, first_part}
 use Rattle.bp_run.proofs.Chosen.{first_is}
 use Rattle.bp_select.proofs.Questions.{fault_on}
 use Rattle.bp_select.proofs.Tops.{events_at, tops_events, tops_have}
@@ -33,13 +33,13 @@ module _ {A : Type 0} (f : A → PlainEvent) (g : A → ℤ) (xs : List A) (ts :
 
 -- ---- what can be selected
 
-pub select_fault : (has : Has PlainSet) (ts : List (Live PlainSet)) (queue es : List PlainEvent) (f : SelectFault) → es ≡ candidates ts → FaultAs (unblocked has ts es) f → FaultAs (selectable has ts queue) f
+select_fault : (has : Has PlainSet) (ts : List (Live PlainSet)) (queue es : List PlainEvent) (f : SelectFault) → es ≡ candidates ts → FaultAs (unblocked has ts es) f → FaultAs (selectable has ts queue) f
 unfolding selectable
 select_fault has ts queue es f h q =
     fault_on (unblocked has ts es) (selectable has ts queue) f
     (λ z k. ap (λ (x : Asked (List PlainEvent)). or_queued has ts queue x) (ap (λ (xs : List PlainEvent). unblocked has ts xs) (sym h) ∙ k)) q
 
-pub select_queued : (has : Has PlainSet) (ts : List (Live PlainSet)) (queue es inner : List PlainEvent) → es ≡ candidates ts → unblocked has ts es ≡ Ok inner → length inner ≡ 0 →
+select_queued : (has : Has PlainSet) (ts : List (Live PlainSet)) (queue es inner : List PlainEvent) → es ≡ candidates ts → unblocked has ts es ≡ Ok inner → length inner ≡ 0 →
     selectable has ts queue ≡ without_fault (λ place. record { inner = []; outer = place }) (first_unblocked has ts 0 queue)
 unfolding selectable
 select_queued has ts queue es [] h k n = ap (λ (x : Asked (List PlainEvent)). or_queued has ts queue x) (ap (λ (xs : List PlainEvent). unblocked has ts xs) (sym h) ∙ k)
@@ -51,20 +51,24 @@ unfolding selectable
 select_inner has ts queue es [] h k n = absurd (n refl)
 select_inner has ts queue es (e ∷ inner) h k n = ap (λ (x : Asked (List PlainEvent)). or_queued has ts queue x) (ap (λ (xs : List PlainEvent). unblocked has ts xs) (sym h) ∙ k)
 
+-- the same under the same b-threads
+pub fault_here : (has : Has PlainSet) (queue : List PlainEvent) (us ts : List (Live PlainSet)) (f : SelectFault) → us ≡ ts → FaultAs (selectable has us queue) f → FaultAs (selectable has ts queue) f
+fault_here has queue us ts f e h = subst (λ (vs : List (Live PlainSet)). FaultAs (selectable has vs queue) f) e h
+
 -- ---- asking those that block alone
 
-module _ (base : Ground) (budget : ℕ) (ts us : List (Live PlainSet)) (queue es : List PlainEvent) (found : es ≡ candidates ts) (those : us ≡ blocking ts) where
+module _ (base : Ground) (budget : ℕ) (ts us : List (Live PlainSet)) (queue es : List PlainEvent) (found : es ≡ candidates ts) (part : IsPart blocks_nothing us ts) where
   asks_all : unblocked (member base budget) us es ≡ unblocked (member base budget) ts es
-  asks_all = unblocked_by base budget ts us es those
+  asks_all = unblocked_part base budget us ts part es
 
   pub selectable_fault : (f : SelectFault) → FaultAs (unblocked (member base budget) us es) f → FaultAs (selectable (member base budget) ts queue) f
   selectable_fault f q = select_fault (member base budget) ts queue es f found (subst (λ (x : Asked (List PlainEvent)). FaultAs x f) asks_all q)
 
-  pub selectable_queued : (inner : List PlainEvent) (vs : List (Live PlainSet)) → vs ≡ blocking ts → unblocked (member base budget) us es ≡ Ok inner → length inner ≡ 0 →
-      selectable (member base budget) ts queue ≡ without_fault (λ place. record { inner = []; outer = place }) (first_unblocked (member base budget) vs 0 queue)
-  selectable_queued inner vs h k n =
+  pub selectable_queued : (inner : List PlainEvent) → unblocked (member base budget) us es ≡ Ok inner → length inner ≡ 0 →
+      selectable (member base budget) ts queue ≡ without_fault (λ place. record { inner = []; outer = place }) (first_unblocked (member base budget) us 0 queue)
+  selectable_queued inner k n =
       select_queued (member base budget) ts queue es inner found (sym asks_all ∙ k) n
-      ∙ ap (λ (x : Asked (Option ℕ)). without_fault (λ place. let none : Enabled = record { inner = []; outer = place } in none) x) (sym (first_by base budget ts vs 0 queue h))
+      ∙ ap (λ (x : Asked (Option ℕ)). without_fault (λ place. let none : Enabled = record { inner = []; outer = place } in none) x) (sym (first_part base budget us ts part 0 queue))
 
   pub selectable_inner : (inner : List PlainEvent) → unblocked (member base budget) us es ≡ Ok inner → (length inner ≡ 0 → ⊥) → selectable (member base budget) ts queue ≡ Ok (record { inner = inner; outer = None })
   selectable_inner inner k n = select_inner (member base budget) ts queue es inner found (sym asks_all ∙ k) n
@@ -113,14 +117,10 @@ pub choice_of : (has : Has PlainSet) (word : ℕ → ℕ) (s : Strategy) (ts : L
 unfolding choice
 choice_of has word s ts queue d x h = rw h refl
 
-choice_fault : (has : Has PlainSet) (word : ℕ → ℕ) (s : Strategy) (ts : List (Live PlainSet)) (queue : List PlainEvent) (d : ℕ) (f : SelectFault) → FaultAs (selectable has ts queue) f →
+pub choice_fault : (has : Has PlainSet) (word : ℕ → ℕ) (s : Strategy) (ts : List (Live PlainSet)) (queue : List PlainEvent) (d : ℕ) (f : SelectFault) → FaultAs (selectable has ts queue) f →
     FaultAs (choice has word s ts queue d) f
 unfolding choice
 choice_fault has word s ts queue d f q = fault_on (selectable has ts queue) (choice has word s ts queue d) f (λ z k. rw k refl) q
-
-pub choice_fault_at : (has : Has PlainSet) (word : ℕ → ℕ) (s : Strategy) (ts us : List (Live PlainSet)) (queue : List PlainEvent) (d : ℕ) (f : SelectFault) → ts ≡ us → FaultAs (selectable has ts queue) f →
-    FaultAs (choice has word s us queue d) f
-choice_fault_at has word s ts us queue d f h q = choice_fault has word s us queue d f (subst (λ (xs : List (Live PlainSet)). FaultAs (selectable has xs queue) f) h q)
 
 -- ---- the drawn one of several
 

@@ -7,8 +7,6 @@ use Rattle.js_value.specs.Value.{PlainSet}
 use Rattle.js_meaning.specs.State.{Ground}
 use Rattle.bp_run.specs.Selecting.{Live, Has, Asked, by_number, both, blocked}
 use Rattle.bp_meaning.specs.Membership.{Membership, member}
-use Rattle.bp_select.specs.declared.bench.Stated.{Stated}
-use Rattle.bp_select.specs.Lives.{live_of}
 use Rattle.bp_select.specs.Blocking.{is_empty}
 use Rattle.bp_select.specs.Blocks.{AreOf, own_set, block_at, first_by, known_of}
 use Rattle.bp_known.specs.Known.{Sets, IsFree, IsBlockedBy, IsKnown}
@@ -64,14 +62,14 @@ have_sets f (t ∷ ts) o h = (
 )
 
 -- the block set at a place
-pub block_index : (xs : List Stated) (i : ℕ) (d : Stated) → AreInOrder (map live_of xs) → i < length xs → block_at (map live_of xs) (get_or xs i d).number ≡ own_set (live_of (get_or xs i d))
-block_index [] i d o h = absurd (omega arith)
-block_index (x ∷ xs) zero d o h = block_here (live_of x) (map live_of xs) x.number refl
-block_index (x ∷ xs) (suc i) d o h =
-    block_apart (live_of x) (map live_of xs) (get_or xs i d).number (λ q. (let m = above_at x.number xs i d o.0 (omega (arith, h)) in omega (arith, m, q)))
-    ∙ block_index xs i d o.1 (omega (arith, h))
+pub block_index : {A : Type 0} (f : A → Live PlainSet) (xs : List A) (i : ℕ) (d : A) → AreInOrder (map f xs) → i < length xs → block_at (map f xs) (f (get_or xs i d)).number ≡ own_set (f (get_or xs i d))
+block_index f [] i d o h = absurd (omega arith)
+block_index f (x ∷ xs) zero d o h = block_here (f x) (map f xs) (f x).number refl
+block_index {A} f (x ∷ xs) (suc i) d o h =
+    block_apart (f x) (map f xs) (f (get_or xs i d)).number (λ q. (let m = above_at (f x).number xs i d o.0 (omega (arith, h)) in omega (arith, m, q)))
+    ∙ block_index f xs i d o.1 (omega (arith, h))
   where
-    above_at : (a : ℕ) (ys : List Stated) (j : ℕ) (d : Stated) → AreAbove a (map live_of ys) → j < length ys → a < (get_or ys j d).number
+    above_at : (a : ℕ) (ys : List A) (j : ℕ) (d : A) → AreAbove a (map f ys) → j < length ys → a < (f (get_or ys j d)).number
     above_at a [] j d u h = absurd (omega arith)
     above_at a (y ∷ ys) zero d u h = u.0
     above_at a (y ∷ ys) (suc j) d u h = above_at a ys j d u.1 (omega (arith, h))
@@ -210,21 +208,21 @@ module _ (base : Ground) (budget : ℕ) (e : PlainEvent) where
   asked_is n (Ok a) b h = (let q : a ≡ b = cc in ap (λ (r : Bool). Ok r) q)
   asked_is n (Err z) b h = absurd (cc)
 
-  pub has_it : (xs : List Stated) (i : ℕ) (x : Stated) → AreInOrder (map live_of xs) → i < length xs → x ≡ get_or xs i x → by_number x.number (has (live_of x).statement.block e) ≡ Ok true → Has_it (map live_of xs) x.number
-  has_it xs i x o low at h = by (is_empty (live_of x).statement.block) refl
+  pub has_it : {A : Type 0} (f : A → Live PlainSet) (xs : List A) (i : ℕ) (x : A) → AreInOrder (map f xs) → i < length xs → x ≡ get_or xs i x → by_number (f x).number (has (f x).statement.block e) ≡ Ok true → Has_it (map f xs) (f x).number
+  has_it {A} f xs i x o low at h = by (is_empty (f x).statement.block) refl
     where
-      yes : has (live_of x).statement.block e ≡ Ok true
-      yes = asked_is x.number (has (live_of x).statement.block e) true h
+      yes : has (f x).statement.block e ≡ Ok true
+      yes = asked_is (f x).number (has (f x).statement.block e) true h
 
-      own : block_at (map live_of xs) x.number ≡ own_set (live_of x)
-      own = subst (λ (y : Stated). block_at (map live_of xs) y.number ≡ own_set (live_of y)) (sym at) (block_index xs i x o low)
+      own : block_at (map f xs) (f x).number ≡ own_set (f x)
+      own = subst (λ (y : A). block_at (map f xs) (f y).number ≡ own_set (f y)) (sym at) (block_index f xs i x o low)
 
-      by : (b : Bool) → is_empty (live_of x).statement.block ≡ b → Has_it (map live_of xs) x.number
-      by true m = absurd (no_yes (sym (nothing_in base budget (live_of x).statement.block e m) ∙ yes))
+      by : (b : Bool) → is_empty (f x).statement.block ≡ b → Has_it (map f xs) (f x).number
+      by true m = absurd (no_yes (sym (nothing_in base budget (f x).statement.block e m) ∙ yes))
         where
           no_yes : (let no : Membership = Ok false in no ≡ Ok true) → ⊥
           no_yes q = cc
-      by false m = ((live_of x).statement.block, own ∙ own_some (live_of x) m, yes)
+      by false m = ((f x).statement.block, own ∙ own_some (f x) m, yes)
 
   -- ---- who has it, in a loop
 

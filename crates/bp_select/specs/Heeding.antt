@@ -11,6 +11,7 @@ use Rattle.bp_select.specs.declared.heeds.Heeds as heeds
 use Rattle.bp_known.specs.Known.{Sets}
 use Rattle.bp_select.specs.Blocks as blocks
 use Rattle.bp_select.specs.Feeding.{event_key}
+use Rattle.bp_select.specs.Parts.{asks_nothing, blocks_nothing}
 
 -- the key of those that any event may touch
 abbrev pub any_key : ℕ
@@ -25,10 +26,24 @@ pub record HaveKeysOf (s : PlainSet) (ks : List ℕ) : Type 0 where
   pub each : (base : Ground) (budget : ℕ) (e : PlainEvent) →
       (is_in (event_key e) ks ≡ true) ⊎ (member base budget s e ≡ Ok false)
 
+-- the key of those that request something
+abbrev pub asks_key : ℕ
+asks_key = 1
+
+-- the key of those that block something
+abbrev pub blocks_key : ℕ
+blocks_key = 2
+
 -- at each event that touches the b-thread this holds of the event's key, or of the one for any event
-pub record HeedsAt (at : ℕ → Bool) (t : Live PlainSet) : Type 0 where
+pub record TouchedAt (at : ℕ → Bool) (t : Live PlainSet) : Type 0 where
   pub each : (e : PlainEvent) →
       (at any_key ≡ true) ⊎ ((at (event_key e) ≡ true) ⊎ Stays e t)
+
+-- this holds of all keys of the b-thread
+pub record HeedsAt (at : ℕ → Bool) (t : Live PlainSet) : Type 0 where
+  pub touched : TouchedAt at t
+  pub asks : (at asks_key ≡ true) ⊎ (asks_nothing t ≡ true)
+  pub blocks : (at blocks_key ≡ true) ⊎ (blocks_nothing t ≡ true)
 
 -- it is noted at the keys of all events that touch it
 abbrev pub IsNoted : PlainRoll → Live PlainSet → Type 0

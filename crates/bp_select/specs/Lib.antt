@@ -11,6 +11,7 @@ pub mod Blocking
 pub mod Blocks
 pub mod Touches
 pub mod Free
+pub mod Parts
 pub mod Heeding
 pub mod Places
 pub mod Lists

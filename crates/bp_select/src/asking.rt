@@ -11,7 +11,7 @@ ghost use Rattle.bp_select.specs.Answers.{AnswersAs};
 ghost use Rattle.bp_select.specs.Blocks.{AreOf, first_by, known_of};
 ghost use Rattle.bp_known.specs.Known.{Sets, IsKnown};
 ghost use Rattle.bp_select.specs.Places.{AreInOrder};
-ghost use Rattle.bp_select.specs.Blocking.{is_empty as is_plainly_empty, blocking as those_that_block};
+ghost use Rattle.bp_select.specs.Blocking.{is_empty as is_plainly_empty};
 ghost use Rattle.bp_select.specs.Tops.{HaveTops};
 ghost use Rattle.bp_select.specs.Candidates.{events_in, tops_of};
 
@@ -59,7 +59,7 @@ pub(crate) fn ask(
 }
 
 /// Whether no event is in the set, without a look at an event.
-fn is_empty(set: &Option<EventSet>) -> bool
+pub(crate) fn is_empty(set: &Option<EventSet>) -> bool
     ensures { result ≡ is_plainly_empty (stated_set set.now) }
 {
     match set {
@@ -77,20 +77,6 @@ pub(crate) fn is_empty_set(set: &EventSet) -> bool
         SetTree::Any(sets) => sets.as_slice().len() == 0,
         _ => false,
     }
-}
-
-/// The b-threads that block something. Its only error is want of memory.
-pub(crate) fn blocking<'a>(alloc: Global, live: &'a [Stated]) -> Result<Vec<&'a Stated>, Memory>
-    ensures { IfOk result (λ l. map lent l.items ≡ those_that_block (map live_of live.now)) }
-{
-    let mut those = Vec::new(alloc);
-    for stated in live {
-        let empty = is_empty(&stated.statement.block);
-        if !empty {
-            those.push(stated)?;
-        }
-    }
-    Ok(those)
 }
 
 /// Whether one of the two holds.
@@ -135,18 +121,18 @@ pub(crate) fn blocked_by(
     alloc: Global,
     ground: &Ground,
     budget: u64,
-    live: &[Stated],
+    blocking: &[&Stated],
     event: &Event,
 ) -> Result<Option<u32>, SelectFault>
-    requires { AreInOrder (map live_of live.now) }
+    requires { AreInOrder (map lent blocking.now) }
     ensures blocked { let has = member (plain_ground ground.now) budget in
-        AnswersAs is_some (blocked has (map live_of live.now) event.now) result }
+        AnswersAs is_some (blocked has (map lent blocking.now) event.now) result }
     ensures known { let base = plain_ground ground.now in (sets : Sets) →
-        AreOf (map live_of live.now) sets →
+        AreOf (map lent blocking.now) sets →
         IfOk result (λ o. IsKnown base budget sets event.now (known_of o)) }
 {
     let mut by = None;
-    for stated in live {
+    for stated in blocking {
         let block = &stated.statement.block;
         let here = ask(alloc, ground, budget, stated.number, block, event)?;
         by = first_by(by, here, stated.number);

@@ -130,7 +130,11 @@ impl Bench {
             &mut self.blocks,
             &mut self.changed,
         )?;
-        let free = selectable(alloc, ground, budget, live, &mut self.blocks, queue)?;
+        let asking = self.heeds.asking(alloc, live)?;
+        let asking = asking.as_slice();
+        let heeds = &self.heeds;
+        let blocks = &mut self.blocks;
+        let free = selectable(alloc, ground, budget, live, heeds, asking, blocks, queue)?;
         Ok(free.into_enabled(alloc)?)
     }
 
@@ -173,8 +177,12 @@ impl Bench {
             &mut self.blocks,
             &mut self.changed,
         )?;
-        let free = selectable(alloc, ground, budget, live, &mut self.blocks, queue)?;
-        Ok(chosen(alloc, strategy, live, free, draw)?)
+        let asking = self.heeds.asking(alloc, live)?;
+        let asking = asking.as_slice();
+        let heeds = &self.heeds;
+        let blocks = &mut self.blocks;
+        let free = selectable(alloc, ground, budget, live, heeds, asking, blocks, queue)?;
+        Ok(chosen(alloc, strategy, asking, free, draw)?)
     }
 
     /// Whom the event reaches: those that it interrupts, and of the others those that request it or

@@ -1,5 +1,5 @@
 //! Block sets, and what is known of events under them.
-ghost use Rattle.std.specs.Prelude.{◌≡◌, ◌<◌, ◌^◌, ℕ, [], List, get_or, length, map, option_map, IfOk, IfSome, OnOk, OnErr};
+ghost use Rattle.std.specs.Prelude.{◌≡◌, ◌<◌, ◌^◌, ℕ, [], List, Ok, get_or, length, map, option_map, IfOk, IfSome, OnOk, OnErr};
 ghost use Rattle.js_value.specs.Value.{PlainSet};
 ghost use Rattle.js_meaning.specs.State.{Ground as Base};
 ghost use Rattle.js_frames.specs.Places.{plain_ground};
@@ -10,7 +10,7 @@ ghost use Rattle.bp_known.specs.declared.known.Told.{Told};
 ghost use Rattle.bp_select.specs.Blocks.{AreOf, known_of};
 ghost use Rattle.bp_select.specs.Candidates.{events_in, tops_of};
 ghost use Rattle.bp_known.specs.Known.{Sets, AreKnown, IsKnown, restated, sets_in};
-ghost use Rattle.bp_select.specs.Lives.{live_of};
+ghost use Rattle.bp_select.specs.Lives.{lent};
 ghost use Rattle.bp_select.specs.Places.{AreInOrder};
 ghost use Rattle.bp_select.specs.Tops.{HaveTops};
 
@@ -209,6 +209,45 @@ impl Blocks {
         }
     }
 
+    /// Whether the event is blocked, if that is known. Takes no memory.
+    fn is_known_blocked(&self, event: &Event) -> Option<bool>
+        ensures { (base : Base) (budget : ℕ) → let sets = sets_in self.now.sets in
+            AreKnown base budget sets self.now.told →
+            (ts : List (Live PlainSet)) → AreInOrder ts → AreOf ts sets →
+            IfSome result (λ b. blocked (member base budget) ts event.now ≡ Ok b) }
+    {
+        match self.known(event) {
+            Known::Unknown => None,
+            Known::Blocked(_) => Some(true),
+            Known::Free => Some(false),
+        }
+    }
+
+    /// Those of the candidates that nobody blocks, in order, if that is known of each. Its only error
+    /// is want of memory.
+    pub fn known_free<'a>(
+        &self,
+        alloc: Global,
+        candidates: &[Candidate<'a>],
+    ) -> Result<Option<Vec<Candidate<'a>>>, Memory>
+        ensures free { (base : Base) (budget : ℕ) → let sets = sets_in self.now.sets in
+            AreKnown base budget sets self.now.told →
+            (ts : List (Live PlainSet)) → AreInOrder ts → AreOf ts sets →
+            IfOk result (λ o. IfSome o (λ l.
+            unblocked (member base budget) ts (events_in candidates.now) ≡ Ok (events_in l.items))) }
+        ensures tops { (ts : List (Live PlainSet)) → HaveTops ts (tops_of candidates.now) →
+            IfOk result (λ o. IfSome o (λ l. HaveTops ts (tops_of l.items))) }
+    {
+        let mut free = Vec::new(alloc);
+        for candidate in candidates {
+            let Some(blocked) = self.is_known_blocked(candidate.event) else {
+                return Ok(None);
+            };
+            keep_if(&mut free, !blocked, candidate)?;
+        }
+        Ok(Some(free))
+    }
+
     /// This is known of the event from now on, unless memory is wanting.
     fn note(&mut self, event: &Event, known: Known)
         ensures sets { self.new.sets ≡ self.old.sets }
@@ -235,15 +274,15 @@ impl Blocks {
         alloc: Global,
         ground: &Ground,
         budget: u64,
-        live: &[Stated],
+        blocking: &[&Stated],
         event: &Event,
     ) -> Result<bool, SelectFault>
-        requires order { AreInOrder (map live_of live.now) }
-        requires sets { AreOf (map live_of live.now) (sets_in self.old.sets) }
+        requires order { AreInOrder (map lent blocking.now) }
+        requires sets { AreOf (map lent blocking.now) (sets_in self.old.sets) }
         requires known { AreKnown (plain_ground ground.now) budget (sets_in self.old.sets)
             self.old.told }
         ensures blocked { let has = member (plain_ground ground.now) budget in
-            AnswersAs (λ b. b) (blocked has (map live_of live.now) event.now) result }
+            AnswersAs (λ b. b) (blocked has (map lent blocking.now) event.now) result }
         ensures sets { self.new.sets ≡ self.old.sets }
         ensures known { AreKnown (plain_ground ground.now) budget (sets_in self.old.sets)
             self.new.told }
@@ -252,7 +291,7 @@ impl Blocks {
             Known::Free => Ok(false),
             Known::Blocked(_) => Ok(true),
             Known::Unknown => {
-                let by = blocked_by(alloc, ground, budget, live, event)?;
+                let by = blocked_by(alloc, ground, budget, blocking, event)?;
                 self.note(event, known_by(by));
                 Ok(by.is_some())
             }
@@ -265,15 +304,15 @@ impl Blocks {
         alloc: Global,
         ground: &Ground,
         budget: u64,
-        live: &[Stated],
+        blocking: &[&Stated],
         candidates: &[Candidate<'a>],
     ) -> Result<Vec<Candidate<'a>>, SelectFault>
-        requires order { AreInOrder (map live_of live.now) }
-        requires sets { AreOf (map live_of live.now) (sets_in self.old.sets) }
+        requires order { AreInOrder (map lent blocking.now) }
+        requires sets { AreOf (map lent blocking.now) (sets_in self.old.sets) }
         requires known { AreKnown (plain_ground ground.now) budget (sets_in self.old.sets)
             self.old.told }
         ensures events { AnswersAs (λ l. events_in l.items)
-            (unblocked (member (plain_ground ground.now) budget) (map live_of live.now)
+            (unblocked (member (plain_ground ground.now) budget) (map lent blocking.now)
             (events_in candidates.now)) result }
         ensures tops { (ts : List (Live PlainSet)) → HaveTops ts (tops_of candidates.now) →
             IfOk result (λ l. HaveTops ts (tops_of l.items)) }
@@ -283,7 +322,7 @@ impl Blocks {
     {
         let mut free = Vec::new(alloc);
         for candidate in candidates {
-            let blocked = self.is_blocked(alloc, ground, budget, live, candidate.event)?;
+            let blocked = self.is_blocked(alloc, ground, budget, blocking, candidate.event)?;
             keep_if(&mut free, !blocked, candidate)?;
         }
         Ok(free)
@@ -295,23 +334,23 @@ impl Blocks {
         alloc: Global,
         ground: &Ground,
         budget: u64,
-        live: &[Stated],
+        blocking: &[&Stated],
         queue: &[Event],
     ) -> Result<Option<u32>, SelectFault>
         requires few { length queue.now < 2 ^ 32 }
-        requires order { AreInOrder (map live_of live.now) }
-        requires sets { AreOf (map live_of live.now) (sets_in self.old.sets) }
+        requires order { AreInOrder (map lent blocking.now) }
+        requires sets { AreOf (map lent blocking.now) (sets_in self.old.sets) }
         requires known { AreKnown (plain_ground ground.now) budget (sets_in self.old.sets)
             self.old.told }
         ensures place { AnswersAs (λ o. o)
-            (first_unblocked (member (plain_ground ground.now) budget) (map live_of live.now) 0
+            (first_unblocked (member (plain_ground ground.now) budget) (map lent blocking.now) 0
             queue.now) result }
         ensures sets { self.new.sets ≡ self.old.sets }
         ensures known { AreKnown (plain_ground ground.now) budget (sets_in self.old.sets)
             self.new.told }
     {
         for (place, event) in queue.iter().enumerate() {
-            let blocked = self.is_blocked(alloc, ground, budget, live, event)?;
+            let blocked = self.is_blocked(alloc, ground, budget, blocking, event)?;
             if !blocked {
                 return Ok(Some(place as u32));
             }

@@ -1,6 +1,6 @@
 //! The requested events, each once, in the order in which they first appear.
 ghost use Rattle.std.specs.Prelude.{◌≡◌, [], IfOk, OnOk, map};
-ghost use Rattle.bp_select.specs.Lives.{live_of};
+ghost use Rattle.bp_select.specs.Lives.{lent, live_of};
 ghost use Rattle.bp_select.specs.Tops.{raised, with_request, with_requests, with_live};
 ghost use Rattle.bp_select.specs.Candidates.{tops_in, tops_of, candidate_of};
 
@@ -63,13 +63,13 @@ fn listed<'a>(alloc: Global, tops: Tops<'a>) -> Result<Vec<Candidate<'a>>, Memor
 /// The events that the b-threads request. Its only error is want of memory.
 pub(crate) fn candidates<'a>(
     alloc: Global,
-    live: &'a [Stated],
+    asking: &[&'a Stated],
 ) -> Result<Vec<Candidate<'a>>, Memory>
-    ensures { IfOk result (λ l. tops_of l.items ≡ with_live [] (map live_of live.now)) }
+    ensures { IfOk result (λ l. tops_of l.items ≡ with_live [] (map lent asking.now)) }
 {
     let mut tops = IndexMap::new(alloc);
-    for stated in live {
-        request_all(&mut tops, stated)?;
+    for stated in asking {
+        request_all(&mut tops, *stated)?;
     }
     listed(alloc, tops)
 }

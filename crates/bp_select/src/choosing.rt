@@ -5,7 +5,7 @@ ghost use Rattle.js_data.specs.Event.{PlainEvent, same_event};
 ghost use Rattle.js_value.specs.Value.{PlainSet};
 ghost use Rattle.bp_run.specs.Selecting.{Live};
 ghost use Rattle.bp_run.specs.Choosing.{is_first_of, priority_of, at_most, remaining};
-ghost use Rattle.bp_select.specs.Lives.{live_of};
+ghost use Rattle.bp_select.specs.Lives.{lent, live_of};
 ghost use Rattle.bp_select.specs.Priorities.{upper, top_of};
 ghost use Rattle.bp_select.specs.Tops.{HaveTops};
 ghost use Rattle.bp_select.specs.Candidates.{events_in, tops_of, is_among, is_first};
@@ -48,15 +48,15 @@ fn first_among<'a>(events: &IndexSet<Key<'a>>, stated: &'a Stated) -> Option<&'a
 /// Each first request of a b-thread that is among these events. Its only error is want of memory.
 fn firsts<'a>(
     alloc: Global,
-    live: &'a [Stated],
+    asking: &[&'a Stated],
     events: &IndexSet<Key<'a>>,
 ) -> Result<IndexSet<Key<'a>>, Memory>
     ensures { (e : PlainEvent) → IfOk result
-        (λ s. is_among s e ≡ list_any (is_first (is_among events.now) e) (map live_of live.now)) }
+        (λ s. is_among s e ≡ list_any (is_first (is_among events.now) e) (map lent asking.now)) }
 {
     let mut firsts = IndexSet::new(alloc);
-    for stated in live {
-        if let Some(event) = first_among(events, stated) {
+    for stated in asking {
+        if let Some(event) = first_among(events, *stated) {
             firsts.insert(Key { event })?;
         }
     }
@@ -66,15 +66,15 @@ fn firsts<'a>(
 /// Those of the candidates that are the first of some b-thread. Its only error is want of memory.
 fn ordered<'a>(
     alloc: Global,
-    live: &'a [Stated],
+    asking: &[&'a Stated],
     inner: &[Candidate<'a>],
 ) -> Result<Vec<Candidate<'a>>, Memory>
     ensures { let events = events_in inner.now in
         IfOk result (λ l. events_in l.items
-        ≡ filter (λ e. list_any (is_first_of events e) (map live_of live.now)) events) }
+        ≡ filter (λ e. list_any (is_first_of events e) (map lent asking.now)) events) }
 {
     let events = keys(alloc, inner)?;
-    let firsts = firsts(alloc, live, &events)?;
+    let firsts = firsts(alloc, asking, &events)?;
     let mut kept = Vec::new(alloc);
     for candidate in inner {
         let first = firsts.contains(&Key {
@@ -143,16 +143,16 @@ fn greatest<'a>(alloc: Global, inner: &[Candidate<'a>]) -> Result<Vec<Candidate<
 pub(crate) fn remaining<'a>(
     alloc: Global,
     strategy: Strategy,
-    live: &'a [Stated],
+    asking: &[&'a Stated],
     inner: Vec<Candidate<'a>>,
 ) -> Result<Vec<Candidate<'a>>, Memory>
-    requires { HaveTops (map live_of live.now) (tops_of inner.items) }
+    requires { HaveTops (map lent asking.now) (tops_of inner.items) }
     ensures { let events = events_in inner.entry.items in
-        IfOk result (λ l. events_in l.items ≡ remaining strategy (map live_of live.now) events) }
+        IfOk result (λ l. events_in l.items ≡ remaining strategy (map lent asking.now) events) }
 {
     match strategy {
         Strategy::Simple => Ok(inner),
-        Strategy::Ordered => ordered(alloc, live, inner.as_slice()),
+        Strategy::Ordered => ordered(alloc, asking, inner.as_slice()),
         Strategy::Priority => greatest(alloc, inner.as_slice()),
     }
 }

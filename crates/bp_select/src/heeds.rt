@@ -10,12 +10,14 @@ ghost use Rattle.bp_run.specs.Choosing.{reach};
 ghost use Rattle.bp_select.specs.declared.bench.Stated.{Stated};
 ghost use Rattle.bp_select.specs.Answers.{AnswersReach};
 ghost use Rattle.bp_select.specs.Heeding.{AreNoted, Each, HeedsAt, IsNoted, Stays, WhereWhole};
-ghost use Rattle.bp_select.specs.Lives.{live_of};
-ghost use Rattle.bp_select.specs.Places.{AreInOrder};
+ghost use Rattle.bp_select.specs.Lives.{live_of, lent};
+ghost use Rattle.bp_select.specs.Parts.{IsPart, asks_nothing, blocks_nothing};
+ghost use Rattle.bp_select.specs.Places.{AreInOrder, place_in};
 
 use crate::bench::Stated;
 use crate::key::hash_of;
-use crate::keys::{ANY, keys_of};
+use crate::keys::{ANY, ASKS, BLOCKS, keys_of};
+use crate::picking::{all_asking, all_blocking, part_at};
 use crate::placing::{is_at, place_of};
 use crate::reaching::{reach, reach_at};
 use crate::{Reach, SelectFault};
@@ -76,6 +78,17 @@ fn numbers_of(alloc: Global, live: &[Stated]) -> Result<Vec<u32>, Memory>
     Ok(numbers)
 }
 
+/// The place of this number, where it may stand at this one.
+fn place_from(live: &[Stated], number: u32, guess: usize) -> usize
+    requires { AreInOrder (map live_of live.now) }
+    ensures { result ≡ place_in number (map live_of live.now) }
+{
+    if is_at(live, guess, number) {
+        return guess;
+    }
+    place_of(live, number)
+}
+
 /// Adds the places of those numbers. Its only error is want of memory.
 fn add_places(places: &mut Vec<usize>, live: &[Stated], numbers: &[u32]) -> Result<(), Memory>
     requires { AreInOrder (map live_of live.now) }
@@ -83,10 +96,25 @@ fn add_places(places: &mut Vec<usize>, live: &[Stated], numbers: &[u32]) -> Resu
         is_in (get_or live.now i d).number numbers.now ≡ true → is_in i places.new.items ≡ true) }
     ensures others { (i : ℕ) → is_in i places.old.items ≡ true → is_in i places.new.items ≡ true }
 {
+    let mut next = 0;
     for number in numbers {
-        places.push(place_of(live, *number))?;
+        let at = place_from(live, *number, next);
+        places.push(at)?;
+        next = at.saturating_add(1);
     }
     Ok(())
+}
+
+/// The places in order. Its only error is want of memory.
+fn in_order(mut places: Vec<usize>) -> Result<Vec<usize>, Memory>
+    ensures order { IfOk result (λ ps. IsNonDecreasing ps.items) }
+    ensures same { (i : ℕ) → IfOk result (λ ps. is_in i ps.items ≡ is_in i places.items) }
+{
+    if places.as_slice().is_sorted() {
+        return Ok(places);
+    }
+    places.sort()?;
+    Ok(places)
 }
 
 /// The places of those that the event may touch, in order. Its only error is want of memory.
@@ -102,11 +130,49 @@ fn places_of(
     ensures others { IfOk result (λ ps. (i : ℕ) (d : Stated) → i < length live.now →
         (is_in i ps.items ≡ true) ⊎ Stays event.now (live_of (get_or live.now i d))) }
 {
-    let mut places = Vec::new(alloc);
-    add_places(&mut places, live, roll.at(hash_of(event)))?;
-    add_places(&mut places, live, roll.at(ANY))?;
-    places.sort()?;
-    Ok(places)
+    let named = roll.at(hash_of(event));
+    let any = roll.at(ANY);
+    let mut places = Vec::with_capacity(alloc, named.len().saturating_add(any.len()))?;
+    add_places(&mut places, live, named)?;
+    add_places(&mut places, live, any)?;
+    in_order(places)
+}
+
+/// The places of those that are noted under this key, in order. Its only error is want of memory.
+fn places_at(alloc: Global, live: &[Stated], roll: &Roll, key: u64) -> Result<Vec<usize>, Memory>
+    requires { AreInOrder (map live_of live.now) }
+    ensures order { IfOk result (λ ps. IsNonDecreasing ps.items) }
+    ensures there { IfOk result (λ ps. (i : ℕ) (d : Stated) → i < length live.now →
+        is_noted roll.now key (get_or live.now i d).number ≡ true → is_in i ps.items ≡ true) }
+{
+    let numbers = roll.at(key);
+    let mut places = Vec::with_capacity(alloc, numbers.len())?;
+    add_places(&mut places, live, numbers)?;
+    in_order(places)
+}
+
+/// Those that request something, as they are noted. Its only error is want of memory.
+fn asking_at<'a>(alloc: Global, live: &'a [Stated], roll: &Roll) -> Result<Vec<&'a Stated>, Memory>
+    requires order { AreInOrder (map live_of live.now) }
+    requires noted { Each (λ t. IsNoted roll.now t) (map live_of live.now) }
+    ensures { IfOk result (λ l. IsPart asks_nothing (map lent l.items) (map live_of live.now)) }
+{
+    let askers = places_at(alloc, live, roll, ASKS)?;
+    part_at(alloc, live, askers.as_slice())
+}
+
+/// Those that block something, as they are noted. Its only error is want of memory.
+fn blocking_at<'a>(
+    alloc: Global,
+    live: &'a [Stated],
+    roll: &Roll,
+) -> Result<Vec<&'a Stated>, Memory>
+    requires order { AreInOrder (map live_of live.now) }
+    requires noted { Each (λ t. IsNoted roll.now t) (map live_of live.now) }
+    ensures { IfOk result (λ l. IsPart blocks_nothing (map lent l.items) (map live_of live.now)) }
+{
+    let blockers = places_at(alloc, live, roll, BLOCKS)?;
+    part_at(alloc, live, blockers.as_slice())
 }
 
 /// The b-threads of these numbers are noted as they are now. Its only error is want of memory.
@@ -198,6 +264,46 @@ impl Heeds {
     {
         self.whole = false;
         self.changed.clear();
+    }
+
+    /// Those that request something. All are noted as they are now, if any count as noted. Its only
+    /// error is want of memory.
+    pub fn asking<'a>(
+        &mut self,
+        alloc: Global,
+        live: &'a [Stated],
+    ) -> Result<Vec<&'a Stated>, Memory>
+        requires order { AreInOrder (map live_of live.now) }
+        requires noted { WhereWhole self.old.whole (map live_of live.now) self.old.roll
+            self.old.changed.items }
+        ensures asking { IfOk result
+            (λ l. IsPart asks_nothing (map lent l.items) (map live_of live.now)) }
+        ensures settled { IfOk result (λ l. self.new.whole ≡ true →
+            Each (λ t. IsNoted self.new.roll t) (map live_of live.now)) }
+        ensures noted { WhereWhole self.new.whole (map live_of live.now) self.new.roll
+            self.new.changed.items }
+    {
+        if !self.is_worth(live.len()) {
+            self.rest();
+            return all_asking(alloc, live);
+        }
+        self.begin(alloc, live)?;
+        self.settle(alloc, live)?;
+        asking_at(alloc, live, &self.roll)
+    }
+
+    /// Those that block something. Its only error is want of memory.
+    pub fn blocking<'a>(&self, alloc: Global, live: &'a [Stated]) -> Result<Vec<&'a Stated>, Memory>
+        requires order { AreInOrder (map live_of live.now) }
+        requires settled { self.now.whole ≡ true →
+            Each (λ t. IsNoted self.now.roll t) (map live_of live.now) }
+        ensures { IfOk result
+            (λ l. IsPart blocks_nothing (map lent l.items) (map live_of live.now)) }
+    {
+        if !self.whole {
+            return all_blocking(alloc, live);
+        }
+        blocking_at(alloc, live, &self.roll)
     }
 
     /// Whom the event reaches. Where b-threads are many, those alone are asked that it may touch.

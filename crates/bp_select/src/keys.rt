@@ -8,11 +8,12 @@ ghost use Rattle.bp_run.specs.Selecting.{Live};
 ghost use Rattle.bp_thread.specs.Views.{stated_set};
 ghost use Rattle.bp_roll.specs.Rolls.{is_in};
 ghost use Rattle.bp_select.specs.Feeding.{event_key};
-ghost use Rattle.bp_select.specs.Heeding.{HaveKeysOf, HeedsAt};
+ghost use Rattle.bp_select.specs.Heeding.{HaveKeysOf, HeedsAt, TouchedAt};
 ghost use Rattle.bp_select.specs.Lives.{live_of};
 
 use crate::bench::Stated;
 use crate::key::hash_of;
+use crate::picking::{asks, blocks};
 use bp_log::Memory;
 use js_data::Event;
 use js_value::{EventSet, SetTree};
@@ -20,6 +21,12 @@ use std::alloc::Global;
 
 /// The key of those that any event may touch.
 pub(crate) const ANY: u64 = 0;
+
+/// The key of those that request something.
+pub(crate) const ASKS: u64 = 1;
+
+/// The key of those that block something.
+pub(crate) const BLOCKS: u64 = 2;
 
 /// Adds the keys of the events of a set, and tells whether it is made of single events alone. Its
 /// only error is want of memory.
@@ -89,7 +96,7 @@ fn add_events(keys: &mut Vec<u64>, events: &[Event]) -> Result<(), Memory>
 
 /// The key of those that any event may touch, alone. Its only error is want of memory.
 fn any_alone(alloc: Global) -> Result<Vec<u64>, Memory>
-    ensures { (t : Live PlainSet) → IfOk result (λ ks. HeedsAt (λ k. is_in k ks.items) t) }
+    ensures { (t : Live PlainSet) → IfOk result (λ ks. TouchedAt (λ k. is_in k ks.items) t) }
 {
     let mut keys = Vec::new(alloc);
     keys.push(ANY)?;
@@ -98,8 +105,8 @@ fn any_alone(alloc: Global) -> Result<Vec<u64>, Memory>
 
 /// The keys under which the b-thread is found by each event that touches it. Its only error is want
 /// of memory.
-pub(crate) fn keys_of(alloc: Global, stated: &Stated) -> Result<Vec<u64>, Memory>
-    ensures { IfOk result (λ ks. HeedsAt (λ k. is_in k ks.items) (live_of stated.now)) }
+fn touch_keys(alloc: Global, stated: &Stated) -> Result<Vec<u64>, Memory>
+    ensures { IfOk result (λ ks. TouchedAt (λ k. is_in k ks.items) (live_of stated.now)) }
 {
     let states = &stated.statement;
     let mut keys = Vec::new(alloc);
@@ -112,5 +119,26 @@ pub(crate) fn keys_of(alloc: Global, stated: &Stated) -> Result<Vec<u64>, Memory
         return any_alone(alloc);
     }
     add_events(&mut keys, states.request.as_slice())?;
+    Ok(keys)
+}
+
+/// Adds the key if this holds. Its only error is want of memory.
+fn add_if(keys: &mut Vec<u64>, adds: bool, key: u64) -> Result<(), Memory>
+    ensures there { OnOk result (adds ≡ true → is_in key keys.new.items ≡ true) }
+    ensures others { (k : ℕ) → is_in k keys.old.items ≡ true → is_in k keys.new.items ≡ true }
+{
+    if adds {
+        keys.push(key)?;
+    }
+    Ok(())
+}
+
+/// The keys under which the b-thread is noted. Its only error is want of memory.
+pub(crate) fn keys_of(alloc: Global, stated: &Stated) -> Result<Vec<u64>, Memory>
+    ensures { IfOk result (λ ks. HeedsAt (λ k. is_in k ks.items) (live_of stated.now)) }
+{
+    let mut keys = touch_keys(alloc, stated)?;
+    add_if(&mut keys, asks(stated), ASKS)?;
+    add_if(&mut keys, blocks(stated), BLOCKS)?;
     Ok(keys)
 }

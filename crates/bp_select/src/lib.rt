@@ -1,8 +1,9 @@
 //! Which event comes next: the statements of the live b-threads on a bench, what can be selected
 //! of them and of the queue, which event is chosen, and whom it reaches.
 //!
-//! What the block sets answered of an event is kept until one of them changes. Whom an event reaches
-//! is asked of those alone whose statements name it, and of those whose sets are no lists of events.
+//! What the block sets answered of an event is kept until one of them changes. Where b-threads are
+//! many, candidates are gathered of those alone that request something, and an event is asked about
+//! of those alone whose statements name it or whose sets are no lists of events.
 #![tactic(auto)]
 
 mod answers;
@@ -17,6 +18,7 @@ mod feeding;
 mod heeds;
 mod key;
 mod keys;
+mod picking;
 mod placing;
 mod reaching;
 mod selecting;

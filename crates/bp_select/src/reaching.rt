@@ -119,7 +119,7 @@ pub(crate) fn reach(
 }
 
 /// Whether a place is one of those from the first on, before the last.
-fn is_between(place: usize, first: usize, last: usize) -> bool
+pub(crate) fn is_between(place: usize, first: usize, last: usize) -> bool
     ensures yes { result ≡ true → (first ≤ place) × (place < last) }
     ensures no { result ≡ false → (place < first) ⊎ (last ≤ place) }
 {

@@ -1,5 +1,5 @@
 //! What can be selected, and which of it is chosen.
-ghost use Rattle.std.specs.Prelude.{◌≡◌, ◌<◌, ◌≤◌, ◌+◌, ◌^◌, [], List, Ok, None, length, map, IfOk, OnErr};
+ghost use Rattle.std.specs.Prelude.{◌≡◌, ◌<◌, ◌≤◌, ◌+◌, ◌^◌, ℕ, [], List, Ok, None, length, map, true, IfOk, IfSome, OnErr};
 ghost use Rattle.js_data.specs.Event.{PlainEvent};
 ghost use Rattle.js_frames.specs.Places.{plain_ground};
 ghost use Rattle.bp_words.specs.Words.{draw_word};
@@ -7,21 +7,25 @@ ghost use Rattle.bp_meaning.specs.Membership.{member};
 ghost use Rattle.js_value.specs.Value.{PlainSet};
 ghost use Rattle.bp_run.specs.Selecting.{Live, without_fault, first_unblocked, selectable};
 ghost use Rattle.bp_run.specs.Choosing.{drawn_of, chosen};
-ghost use Rattle.bp_select.specs.Lives.{live_of, lent};
+ghost use Rattle.bp_select.specs.Lives.{lent, live_of};
+ghost use Rattle.bp_select.specs.Heeding.{Each, IsNoted};
+ghost use Rattle.js_meaning.specs.State.{Ground as Base};
 ghost use Rattle.bp_select.specs.Answers.{AnswersAs, IsFrom, chosen_of, enabled_of};
 ghost use Rattle.bp_select.specs.Blocks.{AreOf};
 ghost use Rattle.bp_select.specs.Candidates.{events_in, tops_of};
 ghost use Rattle.bp_select.specs.Free.{free_of, IsOf};
 ghost use Rattle.bp_known.specs.Known.{AreKnown, sets_in};
+ghost use Rattle.bp_select.specs.Parts.{IsPart, asks_nothing, blocks_nothing};
 ghost use Rattle.bp_select.specs.Places.{AreInOrder};
 ghost use Rattle.bp_select.specs.Tops.{with_live};
 
-use crate::asking::{blocking, first_unblocked, unblocked};
+use crate::asking::{first_unblocked, unblocked};
 use crate::bench::Stated;
 use crate::block_sets::Blocks;
 use crate::candidate::Candidate;
 use crate::candidates::candidates;
 use crate::choosing::remaining;
+use crate::heeds::Heeds;
 use crate::{Choice, Draw, Enabled, SelectFault};
 use bp_log::{Memory, Strategy};
 use js_data::Event;
@@ -98,27 +102,22 @@ fn asked<'a>(
     alloc: Global,
     ground: &Ground,
     budget: u64,
-    live: &'a [Stated],
+    blocking: &[&Stated],
     candidates: Vec<Candidate<'a>>,
     queue: &[Event],
 ) -> Result<Free<'a>, SelectFault>
-    requires few { length queue.now < 2 ^ 32 }
-    requires candidates { tops_of candidates.items ≡ with_live [] (map live_of live.now) }
-    ensures free { let has = member (plain_ground ground.now) budget in
-        AnswersAs free_of (selectable has (map live_of live.now) queue.now) result }
-    ensures tops { IfOk result (λ f. IsOf (map live_of live.now) f) }
+    requires { length queue.now < 2 ^ 32 }
+    ensures free { (ts : List (Live PlainSet)) → tops_of candidates.entry.items ≡ with_live [] ts →
+        IsPart blocks_nothing (map lent blocking.now) ts →
+        let has = member (plain_ground ground.now) budget in
+        AnswersAs free_of (selectable has ts queue.now) result }
+    ensures tops { (ts : List (Live PlainSet)) → tops_of candidates.entry.items ≡ with_live [] ts →
+        IfOk result (λ f. IsOf ts f) }
 {
-    let blocking = blocking(alloc, live)?;
-    let inner = unblocked(
-        alloc,
-        ground,
-        budget,
-        blocking.as_slice(),
-        candidates.as_slice(),
-    )?;
+    let inner = unblocked(alloc, ground, budget, blocking, candidates.as_slice())?;
     let count = inner.as_slice().len();
     if count == 0 {
-        return queued(alloc, ground, budget, blocking.as_slice(), queue);
+        return queued(alloc, ground, budget, blocking, queue);
     }
     Ok(Free::Inner(inner))
 }
@@ -128,25 +127,25 @@ fn queued_told<'a>(
     alloc: Global,
     ground: &Ground,
     budget: u64,
-    live: &[Stated],
+    blocking: &[&Stated],
     blocks: &mut Blocks,
     queue: &[Event],
 ) -> Result<Free<'a>, SelectFault>
     requires few { length queue.now < 2 ^ 32 }
-    requires order { AreInOrder (map live_of live.now) }
-    requires sets { AreOf (map live_of live.now) (sets_in blocks.old.sets) }
+    requires order { AreInOrder (map lent blocking.now) }
+    requires sets { AreOf (map lent blocking.now) (sets_in blocks.old.sets) }
     requires known { AreKnown (plain_ground ground.now) budget (sets_in blocks.old.sets)
         blocks.old.told }
     ensures free { AnswersAs free_of
         (without_fault (λ place. record { inner = []; outer = place })
-        (first_unblocked (member (plain_ground ground.now) budget) (map live_of live.now) 0
+        (first_unblocked (member (plain_ground ground.now) budget) (map lent blocking.now) 0
         queue.now)) result }
     ensures tops { (ts : List (Live PlainSet)) → IfOk result (λ f. IsOf ts f) }
     ensures sets { blocks.new.sets ≡ blocks.old.sets }
     ensures known { AreKnown (plain_ground ground.now) budget (sets_in blocks.old.sets)
         blocks.new.told }
 {
-    match blocks.first_unblocked(alloc, ground, budget, live, queue)? {
+    match blocks.first_unblocked(alloc, ground, budget, blocking, queue)? {
         Some(place) => {
             blocks.note_waiting(place as usize);
             Ok(Free::Outer(place))
@@ -163,59 +162,101 @@ fn told<'a>(
     alloc: Global,
     ground: &Ground,
     budget: u64,
-    live: &'a [Stated],
+    blocking: &[&Stated],
     blocks: &mut Blocks,
     candidates: Vec<Candidate<'a>>,
     queue: &[Event],
 ) -> Result<Free<'a>, SelectFault>
     requires few { length queue.now < 2 ^ 32 }
-    requires candidates { tops_of candidates.items ≡ with_live [] (map live_of live.now) }
-    requires order { AreInOrder (map live_of live.now) }
-    requires sets { AreOf (map live_of live.now) (sets_in blocks.old.sets) }
+    requires order { AreInOrder (map lent blocking.now) }
+    requires sets { AreOf (map lent blocking.now) (sets_in blocks.old.sets) }
     requires known { AreKnown (plain_ground ground.now) budget (sets_in blocks.old.sets)
         blocks.old.told }
-    ensures free { let has = member (plain_ground ground.now) budget in
-        AnswersAs free_of (selectable has (map live_of live.now) queue.now) result }
-    ensures tops { IfOk result (λ f. IsOf (map live_of live.now) f) }
+    ensures free { (ts : List (Live PlainSet)) → tops_of candidates.entry.items ≡ with_live [] ts →
+        IsPart blocks_nothing (map lent blocking.now) ts →
+        let has = member (plain_ground ground.now) budget in
+        AnswersAs free_of (selectable has ts queue.now) result }
+    ensures tops { (ts : List (Live PlainSet)) → tops_of candidates.entry.items ≡ with_live [] ts →
+        IfOk result (λ f. IsOf ts f) }
     ensures sets { blocks.new.sets ≡ blocks.old.sets }
     ensures known { AreKnown (plain_ground ground.now) budget (sets_in blocks.old.sets)
         blocks.new.told }
 {
-    let inner = blocks.unblocked(alloc, ground, budget, live, candidates.as_slice())?;
+    let inner = blocks.unblocked(alloc, ground, budget, blocking, candidates.as_slice())?;
     let count = inner.as_slice().len();
     if count == 0 {
-        return queued_told(alloc, ground, budget, live, blocks, queue);
+        return queued_told(alloc, ground, budget, blocking, blocks, queue);
     }
     Ok(Free::Inner(inner))
 }
 
-/// What can be selected: candidates that nobody blocks, or else of the queue.
+/// The candidates that nobody blocks, if that is known of each and there are some. Its only error is
+/// want of memory.
+fn known<'a>(
+    alloc: Global,
+    blocks: &Blocks,
+    candidates: &[Candidate<'a>],
+) -> Result<Option<Free<'a>>, Memory>
+    ensures free { (base : Base) (budget : ℕ) → let sets = sets_in blocks.now.sets in
+        AreKnown base budget sets blocks.now.told →
+        (ts : List (Live PlainSet)) → AreInOrder ts → AreOf ts sets →
+        tops_of candidates.now ≡ with_live [] ts → (queue : List PlainEvent) →
+        IfOk result (λ o. IfSome o (λ f.
+        selectable (member base budget) ts queue ≡ Ok (free_of f))) }
+    ensures tops { (ts : List (Live PlainSet)) → tops_of candidates.now ≡ with_live [] ts →
+        IfOk result (λ o. IfSome o (λ f. IsOf ts f)) }
+{
+    let Some(inner) = blocks.known_free(alloc, candidates)? else {
+        return Ok(None);
+    };
+    let count = inner.as_slice().len();
+    if count == 0 {
+        return Ok(None);
+    }
+    Ok(Some(Free::Inner(inner)))
+}
+
+/// What can be selected: candidates that nobody blocks, or else of the queue. Those that block
+/// something are gathered only where they must be asked.
 pub(crate) fn selectable<'a>(
     alloc: Global,
     ground: &Ground,
     budget: u64,
-    live: &'a [Stated],
+    live: &[Stated],
+    heeds: &Heeds,
+    asking: &[&'a Stated],
     blocks: &mut Blocks,
     queue: &[Event],
 ) -> Result<Free<'a>, SelectFault>
     requires few { length queue.now < 2 ^ 32 }
     requires order { AreInOrder (map live_of live.now) }
+    requires settled { heeds.now.whole ≡ true →
+        Each (λ t. IsNoted heeds.now.roll t) (map live_of live.now) }
+    requires asking { IsPart asks_nothing (map lent asking.now) (map live_of live.now) }
     requires sets { AreOf (map live_of live.now) (sets_in blocks.old.sets) }
     requires known { AreKnown (plain_ground ground.now) budget (sets_in blocks.old.sets)
         blocks.old.told }
     ensures free { let has = member (plain_ground ground.now) budget in
         AnswersAs free_of (selectable has (map live_of live.now) queue.now) result }
-    ensures tops { IfOk result (λ f. IsOf (map live_of live.now) f) }
+    ensures tops { IfOk result (λ f. IsOf (map lent asking.now) f) }
     ensures sets { blocks.new.sets ≡ blocks.old.sets }
     ensures known { AreKnown (plain_ground ground.now) budget (sets_in blocks.old.sets)
         blocks.new.told }
 {
-    let candidates = candidates(alloc, live)?;
+    let candidates = candidates(alloc, asking)?;
     if blocks.are_cheap() {
-        return asked(alloc, ground, budget, live, candidates, queue);
+        let few = heeds.blocking(alloc, live)?;
+        let few = few.as_slice();
+        return asked(alloc, ground, budget, few, candidates, queue);
     }
     blocks.begin_question(candidates.len());
-    told(alloc, ground, budget, live, blocks, candidates, queue)
+    let requested = candidates.as_slice();
+    if let Some(free) = known(alloc, blocks, requested)? {
+        return Ok(free);
+    }
+    let blocking = heeds.blocking(alloc, live)?;
+    let blocking = blocking.as_slice();
+    told(alloc, ground, budget, blocking, blocks, candidates, queue)
 }
 
 /// The event that is drawn of these: the only one, or the one at the next word modulo their number.
@@ -247,14 +288,14 @@ pub(crate) fn drawn(draw: &mut Draw, remaining: &[Candidate<'_>]) -> Result<Choi
 pub(crate) fn chosen<'a>(
     alloc: Global,
     strategy: Strategy,
-    live: &'a [Stated],
+    asking: &[&'a Stated],
     free: Free<'a>,
     draw: &mut Draw,
 ) -> Result<Choice, Memory>
     requires words { draw.old.drawn + 1 < 2 ^ 64 }
-    requires tops { IsOf (map live_of live.now) free }
+    requires tops { IsOf (map lent asking.now) free }
     ensures chosen { IfOk result (λ c. (queue : List PlainEvent) → chosen_of queue draw.new.drawn c
-        ≡ chosen (draw_word draw.old.seed) strategy (map live_of live.now) queue draw.old.drawn
+        ≡ chosen (draw_word draw.old.seed) strategy (map lent asking.now) queue draw.old.drawn
         (free_of free.entry).inner (free_of free.entry).outer) }
     ensures seed { draw.new.seed ≡ draw.old.seed }
     ensures drawn { (draw.old.drawn ≤ draw.new.drawn) × (draw.new.drawn ≤ draw.old.drawn + 1) }
@@ -264,7 +305,7 @@ pub(crate) fn chosen<'a>(
 {
     match free {
         Free::Inner(inner) => {
-            let remaining = remaining(alloc, strategy, live, inner)?;
+            let remaining = remaining(alloc, strategy, asking, inner)?;
             drawn(draw, remaining.as_slice())
         }
         Free::Outer(place) => Ok(Choice::External(place)),

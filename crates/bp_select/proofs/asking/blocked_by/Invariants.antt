@@ -2,7 +2,7 @@ use Rattle.std.proofs.Common.{◌≡◌, ℕ, Some, map, drop, is_some}
 use Rattle.js_frames.specs.Places.{plain_ground}
 use Rattle.bp_meaning.specs.Membership.{member}
 use Rattle.bp_run.specs.Selecting.{blocked}
-use Rattle.bp_select.specs.Lives.{live_of}
+use Rattle.bp_select.specs.Lives.{lent}
 use Rattle.bp_select.proofs.Questions.{seen}
 use Rattle.bp_select.proofs.Telling.{Has_it}
 use Rattle.bp_select.proofs.asking.blocked_by.Given as goal
@@ -11,6 +11,6 @@ abbrev pub invariant-loop-stated : goal.invariant-loop-stated
 invariant-loop-stated l =
     let has = member (plain_ground l.ground) l.budget in
     record {
-      asked : blocked has (map live_of l.live) l.event ≡ seen (is_some l.by) (blocked has (map live_of (drop l.stated-index l.live)) l.event);
-      witness : (n : ℕ) → l.by ≡ Some n → Has_it (plain_ground l.ground) l.budget l.event (map live_of l.live) n;
+      asked : blocked has (map lent l.blocking) l.event ≡ seen (is_some l.by) (blocked has (map lent (drop l.stated-index l.blocking)) l.event);
+      witness : (n : ℕ) → l.by ≡ Some n → Has_it (plain_ground l.ground) l.budget l.event (map lent l.blocking) n;
     }

@@ -1,11 +1,11 @@
 use Rattle.std.proofs.Common.{◌≡◌, ◌||◌, map}
 use Rattle.std.specs.List.{list_any}
 use Rattle.js_data.specs.Event.{PlainEvent}
-use Rattle.bp_select.specs.Lives.{live_of}
+use Rattle.bp_select.specs.Lives.{lent}
 use Rattle.bp_select.specs.Candidates.{is_among, is_first}
 use Rattle.bp_select.proofs.Firsts.{any_later}
 use Rattle.bp_select.proofs.choosing.firsts.Given as goal
 
 abbrev pub invariant-loop-stated : goal.invariant-loop-stated
 invariant-loop-stated l =
-    (e : PlainEvent) → (is_among l.firsts e || any_later (is_first (is_among l.events) e) l.stated-index l.live) ≡ list_any (is_first (is_among l.events) e) (map live_of l.live)
+    (e : PlainEvent) → (is_among l.firsts e || any_later lent (is_first (is_among l.events) e) l.stated-index l.asking) ≡ list_any (is_first (is_among l.events) e) (map lent l.asking)

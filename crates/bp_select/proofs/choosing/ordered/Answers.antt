@@ -2,7 +2,7 @@ use Rattle.std.proofs.Common.{◌∙◌, filter, map}
 use Rattle.std.specs.List.{list_any}
 use Rattle.js_data.specs.Event.{PlainEvent}
 use Rattle.bp_run.specs.Choosing.{is_first_of}
-use Rattle.bp_select.specs.Lives.{live_of}
+use Rattle.bp_select.specs.Lives.{lent}
 use Rattle.bp_select.specs.Candidates.{event_of, events_in, is_among}
 use Rattle.bp_select.proofs.Firsts.{firsts_of, kept_step, kept_last}
 use Rattle.bp_select.proofs.choosing.ordered.Goals as goal
@@ -10,7 +10,7 @@ use Rattle.bp_select.proofs.choosing.ordered.Goals as goal
 pub loop-candidate-preserved : goal.loop-candidate-preserved
 loop-candidate-preserved c =
     let events = events_in c.args.inner.now in
-    let ts = map live_of c.args.live.now in
+    let ts = map lent c.args.asking.now in
     let x = c.candidate-item.result in
     let p = λ (e : PlainEvent). list_any (is_first_of events e) ts in
     kept_step event_of p c.args.inner.now c.loop-candidate.candidate-index x c.loop-candidate.kept.items c.keep_if.new.kept.items (filter p events) c.contains-first.result c.loop-candidate-test.true c.candidate-item.is
@@ -19,5 +19,5 @@ loop-candidate-preserved c =
 
 pub returns : goal.returns
 returns c =
-    kept_last event_of (λ (e : PlainEvent). list_any (is_first_of (events_in c.args.inner.now) e) (map live_of c.args.live.now)) c.args.inner.now c.loop-candidate.candidate-index c.loop-candidate.kept.items
+    kept_last event_of (λ (e : PlainEvent). list_any (is_first_of (events_in c.args.inner.now) e) (map lent c.args.asking.now)) c.args.inner.now c.loop-candidate.candidate-index c.loop-candidate.kept.items
     c.loop-candidate-test.false c.loop-candidate.invariant

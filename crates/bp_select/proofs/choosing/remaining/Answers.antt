@@ -3,7 +3,7 @@ use Rattle.std.proofs.lemmas.Result.{IfOk-weaker}
 use Rattle.bp_log.specs.declared.options.Strategy.TheVariants.{Priority}
 use Rattle.bp_run.specs.Choosing.{remaining}
 use Rattle.bp_select.specs.declared.candidate.Candidate.{Candidate}
-use Rattle.bp_select.specs.Lives.{live_of}
+use Rattle.bp_select.specs.Lives.{lent}
 use Rattle.bp_select.specs.Tops.{HaveTops}
 use Rattle.bp_select.specs.Candidates.{events_in, tops_of}
 use Rattle.bp_select.proofs.Remains.{priority_is}
@@ -11,7 +11,7 @@ use Rattle.bp_select.proofs.choosing.remaining.Goals as goal
 
 pub returns : goal.returns
 returns c =
-    let ts = map live_of c.args.live.now in
+    let ts = map lent c.args.asking.now in
     let q = c.as_slice-in-Priority.ensures.value in
     rw c.in-Priority.is
     (IfOk-weaker c.greatest.result _ _

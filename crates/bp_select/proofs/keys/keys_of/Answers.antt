@@ -1,15 +1,8 @@
-use Rattle.std.proofs.Common.{◌∙◌, List, ap}
-use Rattle.std.specs.List.{list_any}
-use Rattle.js_data.specs.Event.{PlainEvent, same_event}
 use Rattle.bp_select.specs.Lives.{live_of}
-use Rattle.bp_select.proofs.Heeding.{heeds_keys, keys_more}
+use Rattle.bp_select.proofs.Heeding.{heeds_all}
 use Rattle.bp_select.proofs.keys.keys_of.Goals as goal
 
 pub returns : goal.returns
 returns c =
-    let t = live_of c.args.stated.now in
-    let ks = c.add_events.new.keys.items in
-    heeds_keys t ks
-    (keys_more t.statement.wait_for c.add_stated.new.keys.items ks (λ k h. c.add_events.ensures.others k (c.add_stated-2.ensures.others k h)) (c.in_ok-waits.ensures.set c.if-not-waits.false))
-    (keys_more t.statement.interrupt c.add_stated-2.new.keys.items ks c.add_events.ensures.others (c.in_ok-interrupts.ensures.set c.if-not-interrupts.false))
-    (λ e h. c.in_ok-add_events.ensures.events e (ap (λ (es : List PlainEvent). list_any (same_event e) es) c.as_slice.ensures ∙ h))
+    heeds_all (live_of c.args.stated.now) c.in_ok-keys.keys.items c.add_if.new.keys.items c.add_if-2.new.keys.items c.asks.result c.blocks-2.result c.in_ok-keys.ensures
+    c.add_if.ensures.others c.add_if-2.ensures.others c.asks.ensures c.in_ok-add_if.ensures.there c.blocks-2.ensures c.in_ok-add_if-2.ensures.there

@@ -3,9 +3,8 @@ use Rattle.std.proofs.lemmas.List.{length-map}
 use Rattle.std.proofs.lemmas.Result.{err_from_is_err_and}
 use Rattle.js_frames.specs.Places.{plain_ground}
 use Rattle.bp_run.specs.Selecting.{Asked, Enabled, candidates}
-use Rattle.bp_select.specs.Lives.{live_of, lent}
+use Rattle.bp_select.specs.Lives.{lent}
 use Rattle.bp_select.specs.Answers.{AnswersAs}
-use Rattle.bp_select.specs.Blocking.{blocking}
 use Rattle.bp_select.specs.Tops.{HaveTops}
 use Rattle.bp_select.specs.Candidates.{event_of, events_in, tops_of}
 use Rattle.bp_select.specs.Free.{free_of}
@@ -14,41 +13,28 @@ use Rattle.bp_select.proofs.Selects.{are_candidates, have_tops, selectable_fault
 use Rattle.bp_select.proofs.selecting.asked.Goals as goal
 
 pub returns-in_err-inner-clause-free : goal.returns-in_err-inner-clause-free
-returns-in_err-inner-clause-free c =
-    let p = err_from_is_err_and c.from_residual-in_err-inner.result c.from_residual-in_err-inner.ensures.1 in
-    let ts = map live_of c.args.live.now in
-    let es = events_in c.as_slice-2.result.now in
-    let found : es ≡ candidates ts =
-    ap (λ (cs : List Candidate). events_in cs) c.as_slice-2.ensures.value ∙ are_candidates event_of (λ (x : Candidate). x.top) c.args.candidates.items ts c.requires.candidates in
-    let those : map lent c.as_slice.result.now ≡ blocking ts = ap (λ xs. map lent xs) c.as_slice.ensures.value ∙ c.in_ok-blocking.ensures in
-    rw (p.1, p.2) (selectable_fault (plain_ground c.args.ground.now) c.args.budget ts (map lent c.as_slice.result.now) c.args.queue.now es found those _ c.in_err-inner.ensures.events)
+returns-in_err-inner-clause-free c = λ ts tops part.
+    let p = err_from_is_err_and c.from_residual.result c.from_residual.ensures.1 in
+    let es = events_in c.as_slice.result.now in
+    let found : es ≡ candidates ts = ap (λ (cs : List Candidate). events_in cs) c.as_slice.ensures.value ∙ are_candidates event_of (λ (x : Candidate). x.top) c.args.candidates.items ts tops in
+    rw (p.1, p.2) (selectable_fault (plain_ground c.args.ground.now) c.args.budget ts (map lent c.args.blocking.now) c.args.queue.now es found part _ c.in_err-inner.ensures.events)
 
 pub returns-then-count-eq0-clause-free : goal.returns-then-count-eq0-clause-free
-returns-then-count-eq0-clause-free c =
-    let ts = map live_of c.args.live.now in
-    let es = events_in c.as_slice-2.result.now in
-    let found : es ≡ candidates ts =
-    ap (λ (cs : List Candidate). events_in cs) c.as_slice-2.ensures.value ∙ are_candidates event_of (λ (x : Candidate). x.top) c.args.candidates.items ts c.requires.candidates in
-    let those : map lent c.as_slice.result.now ≡ blocking ts = ap (λ xs. map lent xs) c.as_slice.ensures.value ∙ c.in_ok-blocking.ensures in
-    let again : map lent c.as_slice-then-count-eq0.result.now ≡ blocking ts = ap (λ xs. map lent xs) c.as_slice-then-count-eq0.ensures.value ∙ c.in_ok-blocking.ensures in
+returns-then-count-eq0-clause-free c = λ ts tops part.
+    let es = events_in c.as_slice.result.now in
+    let found : es ≡ candidates ts = ap (λ (cs : List Candidate). events_in cs) c.as_slice.ensures.value ∙ are_candidates event_of (λ (x : Candidate). x.top) c.args.candidates.items ts tops in
     let none = length-map c.in_ok-inner.inner.items event_of ∙ sym (ap (λ (cs : List Candidate). length cs) c.as_slice-count.ensures.value) ∙ c.if-count-eq0.true in
-    let eq =
-    selectable_queued (plain_ground c.args.ground.now) c.args.budget ts (map lent c.as_slice.result.now) c.args.queue.now es found those
-    (events_in c.in_ok-inner.inner.items) (map lent c.as_slice-then-count-eq0.result.now) again c.in_ok-inner.ensures.events none in
+    let eq = selectable_queued (plain_ground c.args.ground.now) c.args.budget ts (map lent c.args.blocking.now) c.args.queue.now es found part (events_in c.in_ok-inner.inner.items) c.in_ok-inner.ensures.events none in
     subst (λ (x : Asked Enabled). AnswersAs free_of x c.queued.result) (sym eq) c.queued.ensures.free
 
 pub returns-clause-free : goal.returns-clause-free
-returns-clause-free c =
-    let ts = map live_of c.args.live.now in
-    let es = events_in c.as_slice-2.result.now in
-    let found : es ≡ candidates ts =
-    ap (λ (cs : List Candidate). events_in cs) c.as_slice-2.ensures.value ∙ are_candidates event_of (λ (x : Candidate). x.top) c.args.candidates.items ts c.requires.candidates in
-    let those : map lent c.as_slice.result.now ≡ blocking ts = ap (λ xs. map lent xs) c.as_slice.ensures.value ∙ c.in_ok-blocking.ensures in
-    selectable_inner (plain_ground c.args.ground.now) c.args.budget ts (map lent c.as_slice.result.now) c.args.queue.now es found those (events_in c.in_ok-inner.inner.items) c.in_ok-inner.ensures.events
+returns-clause-free c = λ ts tops part.
+    let es = events_in c.as_slice.result.now in
+    let found : es ≡ candidates ts = ap (λ (cs : List Candidate). events_in cs) c.as_slice.ensures.value ∙ are_candidates event_of (λ (x : Candidate). x.top) c.args.candidates.items ts tops in
+    selectable_inner (plain_ground c.args.ground.now) c.args.budget ts (map lent c.args.blocking.now) c.args.queue.now es found part (events_in c.in_ok-inner.inner.items) c.in_ok-inner.ensures.events
     (λ z. c.if-count-eq0.false (ap (λ (cs : List Candidate). length cs) c.as_slice-count.ensures.value ∙ sym (length-map c.in_ok-inner.inner.items event_of) ∙ z))
 
 pub returns-clause-tops : goal.returns-clause-tops
-returns-clause-tops c =
-    let ts = map live_of c.args.live.now in
+returns-clause-tops c = λ ts tops.
     c.in_ok-inner.ensures.tops ts
-    (subst (λ (cs : List Candidate). HaveTops ts (tops_of cs)) (sym c.as_slice-2.ensures.value) (have_tops event_of (λ (x : Candidate). x.top) c.args.candidates.items ts c.requires.candidates))
+    (subst (λ (cs : List Candidate). HaveTops ts (tops_of cs)) (sym c.as_slice.ensures.value) (have_tops event_of (λ (x : Candidate). x.top) c.args.candidates.items ts tops))

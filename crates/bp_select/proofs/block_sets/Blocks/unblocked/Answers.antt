@@ -5,7 +5,7 @@ use Rattle.js_frames.specs.Places.{plain_ground}
 use Rattle.bp_meaning.specs.Membership.{member}
 use Rattle.bp_select.specs.Blocks.{AreOf}
 use Rattle.bp_known.specs.Known.{AreKnown, sets_in}
-use Rattle.bp_select.specs.Lives.{live_of}
+use Rattle.bp_select.specs.Lives.{lent}
 use Rattle.bp_select.specs.Candidates.{event_of}
 use Rattle.bp_select.specs.declared.candidate.Candidate.{Candidate}
 use Rattle.bp_select.proofs.Questions.{unblocked_step, unblocked_last, unblocked_fault}
@@ -13,7 +13,7 @@ use Rattle.bp_select.proofs.Tops.{tops_step}
 use Rattle.bp_select.proofs.block_sets.Blocks.unblocked.Goals as goal
 
 pub is_blocked-requires-clause-sets : goal.is_blocked-requires-clause-sets
-is_blocked-requires-clause-sets c = subst (λ (es : List (ℕ × PlainSet)). AreOf (map live_of c.args.live.now) (sets_in es)) (sym c.loop-candidate.invariant.sets) c.requires.sets
+is_blocked-requires-clause-sets c = subst (λ (es : List (ℕ × PlainSet)). AreOf (map lent c.args.blocking.now) (sets_in es)) (sym c.loop-candidate.invariant.sets) c.requires.sets
 
 pub is_blocked-requires-clause-known : goal.is_blocked-requires-clause-known
 is_blocked-requires-clause-known c =
@@ -22,7 +22,7 @@ is_blocked-requires-clause-known c =
 pub loop-candidate-preserved : goal.loop-candidate-preserved
 loop-candidate-preserved c = record {
   events =
-      unblocked_step event_of (member (plain_ground c.args.ground.now) c.args.budget) (map live_of c.args.live.now) c.args.candidates.now c.loop-candidate.candidate-index c.candidate-item.result c.loop-candidate.free.items c.keep_if.new.kept.items
+      unblocked_step event_of (member (plain_ground c.args.ground.now) c.args.budget) (map lent c.args.blocking.now) c.args.candidates.now c.loop-candidate.candidate-index c.candidate-item.result c.loop-candidate.free.items c.keep_if.new.kept.items
       c.in_ok-blocked.blocked c.loop-candidate-test.true c.candidate-item.is c.in_ok-blocked.ensures.blocked c.in_ok-keep_if.ensures c.loop-candidate.invariant.events;
   tops = λ ts h.
       tops_step event_of (λ (x : Candidate). x.top) ts c.args.candidates.now c.loop-candidate.candidate-index c.candidate-item.result c.loop-candidate.free.items c.keep_if.new.kept.items
@@ -33,12 +33,12 @@ loop-candidate-preserved c = record {
 
 pub returns-clause-events : goal.returns-clause-events
 returns-clause-events c =
-    unblocked_last event_of (member (plain_ground c.args.ground.now) c.args.budget) (map live_of c.args.live.now) c.args.candidates.now c.loop-candidate.candidate-index c.loop-candidate.free.items c.loop-candidate-test.false
+    unblocked_last event_of (member (plain_ground c.args.ground.now) c.args.budget) (map lent c.args.blocking.now) c.args.candidates.now c.loop-candidate.candidate-index c.loop-candidate.free.items c.loop-candidate-test.false
     c.loop-candidate.invariant.events
 
 pub returns-in_err-blocked-clause-events : goal.returns-in_err-blocked-clause-events
 returns-in_err-blocked-clause-events c =
     let p = err_from_is_err_and c.from_residual.result c.from_residual.ensures.1 in
     rw (p.1, p.2)
-    (unblocked_fault event_of (member (plain_ground c.args.ground.now) c.args.budget) (map live_of c.args.live.now) c.args.candidates.now c.loop-candidate.candidate-index c.candidate-item.result c.loop-candidate.free.items _
+    (unblocked_fault event_of (member (plain_ground c.args.ground.now) c.args.budget) (map lent c.args.blocking.now) c.args.candidates.now c.loop-candidate.candidate-index c.candidate-item.result c.loop-candidate.free.items _
     c.loop-candidate-test.true c.candidate-item.is c.loop-candidate.invariant.events c.in_err-blocked.ensures.blocked)

@@ -1,0 +1,13 @@
+use Rattle.std.proofs.Common.{map}
+use Rattle.bp_select.specs.Lives.{lent}
+use Rattle.bp_select.specs.Parts.{asks_nothing}
+use Rattle.bp_select.proofs.Finding.{part_all, part_step}
+use Rattle.bp_select.proofs.picking.all_asking.Goals as goal
+
+pub loop-stated-preserved : goal.loop-stated-preserved
+loop-stated-preserved c =
+    part_step asks_nothing c.asks.result (map lent c.loop-stated.asking.items) (map lent c.keep.new.kept.items) c.args.live.now c.loop-stated.stated-index c.stated-item.result c.loop-stated-test.true c.stated-item.is c.asks.ensures c.in_ok-keep.ensures
+    c.loop-stated.invariant
+
+pub returns : goal.returns
+returns c = part_all asks_nothing (map lent c.loop-stated.asking.items) c.args.live.now c.loop-stated.stated-index c.loop-stated-test.false c.loop-stated.invariant
