@@ -15,19 +15,21 @@ ghost use Rattle.bp_select.specs.declared.answers.Choice.TheVariants as choice_m
 ghost use Rattle.bp_select.specs.declared.answers.SelectFault.TheVariants as select_fault;
 ghost use Rattle.bp_select.specs.Answers.{AnswersAs, IsWithin, chosen_of, enabled_of};
 ghost use Rattle.bp_thread.specs.Carried.{HaveDistinctNumbers};
+ghost use Rattle.bp_thread.specs.Views.{plain_statement};
 ghost use Rattle.bp_floor.specs.declared.phase.Phase.TheVariants as phase;
 ghost use Rattle.bp_floor.specs.declared.absorb.Absorb.TheVariants as absorb;
 ghost use Rattle.bp_floor.specs.Boards.{pair_of};
+ghost use Rattle.bp_floor.specs.Stops.{stop_in};
 ghost use Rattle.bp_floor.specs.Lending.{AreLent, filled_pair, standing};
 ghost use Rattle.bp_floor.specs.Floors.{StandsFor, StandsWith, AreBack, IsSealed, HadMemory, IsGivenUp, IsPhased, is_idle, CanGo, GoesAs, GoesFrom, ShowsOf, stop_of, told_verdict, code_on, has_on, live_on};
 ghost use Rattle.bp_floor.specs.Absorbing.{IsRefused};
 
-use crate::{Absorb, Board, Desk, Entry, LineList, Phase, Seats, Wave, Went};
+use crate::{Absorb, Board, Desk, Entry, LineList, Phase, Seats, Wave, Went, stop_of_job};
 use bp_log::limits::MOST_WAITING;
 use bp_log::{Item, Line, Lines, Memory, Options, Verdict};
 use bp_select::{Choice, Draw, Enabled, SelectFault};
 use bp_sets::SetFault;
-use bp_thread::Job;
+use bp_thread::{Job, Statement};
 use js_data::{Event, Text};
 use js_frames::Ground;
 use js_program::Program;
@@ -422,6 +424,25 @@ impl Floor {
         ensures { result.now ≡ name_in (slice_get self.now.pair.stand.threads number) }
     {
         self.board.seats.name_of(number as usize)
+    }
+
+    /// The line and the statement of the stop where a b-thread stands; nothing where it has ended.
+    /// Takes no memory.
+    pub fn stopped(&self, number: u32) -> Option<(u32, &Statement)>
+        requires sound { self.now.broken ≡ false }
+        requires rest { self.now.phase ≡ phase.Rest }
+        requires there { number < length self.now.pair.stand.threads }
+        ensures { option_map (λ p. (p.0, plain_statement p.1.now)) result
+            ≡ stop_in self.now.base.program self.now.options
+            (slice_get self.now.pair.stand.threads number) }
+    {
+        if self.board.seats.has_ended(number as usize) {
+            return None;
+        }
+        match self.board.seats.job(number as usize) {
+            None => None,
+            Some(job) => stop_of_job(job),
+        }
     }
 
     /// The fault of a set, as the verdict in the name of its b-thread. Its only error is want of

@@ -18,7 +18,7 @@ use Rattle.bp_thread.specs.declared.job.Job.{Job}
 use Rattle.bp_thread.specs.declared.outcome.Outcome.{Outcome}
 use Rattle.bp_thread.specs.Views.{plain_origin, plain_outcome}
 use Rattle.bp_thread.specs.Pauses.{outcome_of_pause}
-use Rattle.bp_thread.specs.Jobs.{plain_job, is_ended, IsOf, IsOutcome, StandsAt, IsWhole, IsSame, Sliced}
+use Rattle.bp_thread.specs.Jobs.{plain_job, is_stopped, is_ended, stop_line, IsOf, IsOutcome, StandsAt, IsWhole, IsSame, Sliced}
 use Rattle.bp_thread.specs.Carried.{Carries}
 use Rattle.bp_thread.proofs.Standing.{false_true}
 
@@ -65,6 +65,15 @@ module _ (o : js.Outcome) (begun more nodes budget : ℕ) (effects : List Effect
   constants_kept (pause.Broken fault line) a h = absurd (false_true h)
   constants_kept (pause.Violated text) a h = absurd (false_true h)
   constants_kept pause.Spent a h = absurd (false_true h)
+
+  -- where the body stops, the machine asks on its line
+  pub line_kept : (p : Pause) → Says p o begun more nodes budget effects m → is_stopped (outcome_of_pause p (asked_by m) (line_asked m)) ≡ true → line_asked m ≡ stop_line o
+  line_kept pause.More a h = absurd (false_true h)
+  line_kept pause.AtSync a h = a.at_line ∙ sym (ap stop_line a.is)
+  line_kept pause.Ended a h = absurd (false_true h)
+  line_kept (pause.Broken fault line) a h = absurd (false_true h)
+  line_kept (pause.Violated text) a h = absurd (false_true h)
+  line_kept pause.Spent a h = absurd (false_true h)
 
 pub some_outcome : (o : Option Outcome) → is_some (option_map plain_outcome o) ≡ is_some o
 some_outcome None = refl
@@ -113,6 +122,8 @@ module _ (base : Ground) (budget nodes : ℕ) (old new : Job) (p : Pause) (m n :
           all_taken = t.left;
           handler = paused_at.handler ∙ ap (λ h. fold handler_after h fresh) at.handler ∙ sym (fold-append handler_after None made fresh);
           outcome = rw (paused_at.origin, paused_at.replies, at_pause, t.given) (paused o begun runs.more nodes budget (made ++ untaken m) m p runs.says);
+          line = λ stops. rw (paused_at.origin, paused_at.replies)
+              (t.line ∙ line_kept o begun runs.more nodes budget (made ++ untaken m) m p runs.says (sym (ap is_stopped at_pause) ∙ stops));
           constants = λ ended. rw (paused_at.origin, paused_at.replies)
               (t.constants ∙ constants_kept o begun runs.more nodes budget (made ++ untaken m) m p runs.says (sym (ap is_ended at_pause) ∙ ended));
         };

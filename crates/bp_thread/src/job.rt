@@ -1,5 +1,5 @@
 //! Jobs: bodies that are carried on slice by slice, and stop at `bp.sync`.
-ghost use Rattle.std.specs.Prelude.{◌≡◌, ◌↔◌, ℕ, ◌++◌, ◌∷◌, [], List, map, option_map, IfOk, IfSome, OnOk, OnErr, IsErr, IsSome, IsTrue, None, Some, true};
+ghost use Rattle.std.specs.Prelude.{◌≡◌, ◌↔◌, ℕ, ◌++◌, ◌∷◌, [], List, map, option_map, IfOk, IfSome, OnOk, OnErr, IsErr, IsSome, IsTrue, None, Some, true, false};
 ghost use Rattle.js_value.specs.Views.{plain_value};
 ghost use Rattle.js_program.specs.PlainProgram.{PlainProgram};
 ghost use Rattle.js_meaning.specs.State as js;
@@ -58,7 +58,7 @@ impl Drop for Job {
 }
 
 impl Job {
-    ghost use Rattle.bp_thread.specs.Jobs.{plain_job, IsOf, IsLost, is_stopped, is_ended, StandsAt, StandsFor, IsWhole, IsFresh, IsSame, Sliced};
+    ghost use Rattle.bp_thread.specs.Jobs.{plain_job, IsOf, IsLost, is_stopped, is_ended, stop_line, StandsAt, StandsFor, IsWhole, IsFresh, IsSame, Sliced};
     ghost use Rattle.bp_thread.specs.Carried.{carried, Carries};
 
     /// A job that has this machine, which has not begun.
@@ -172,6 +172,26 @@ impl Job {
             (plain_job self.now).origin (plain_job self.now).replies).outcome) }
     {
         self.outcome.as_ref()
+    }
+
+    /// The line of the `bp.sync` where its body stands, where it stands at one. Takes no memory.
+    pub fn line(&self) -> Option<u32>
+        ensures exact { (base : js.Ground) → (budget : ℕ) → StandsFor base budget self.now →
+            is_stopped (plain_job self.now).outcome ≡ true →
+            result ≡ stop_line (evaluation base budget
+            (plain_job self.now).origin (plain_job self.now).replies) }
+        ensures none { is_stopped (plain_job self.now).outcome ≡ false → result ≡ None }
+    {
+        let Some(machine) = &self.machine else {
+            return None;
+        };
+        match &self.outcome {
+            Some(outcome) => match outcome {
+                Outcome::Stopped(_) => Some(machine.line()),
+                _ => None,
+            },
+            None => None,
+        }
     }
 
     /// The function that its body set last as its handler, if it set one. Takes no memory.

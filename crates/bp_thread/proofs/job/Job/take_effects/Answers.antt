@@ -6,7 +6,7 @@ use Rattle.bp_thread.proofs.job.Job.take_effects.Goals as goal
 
 pub returns-clause-stands : goal.returns-clause-stands
 returns-clause-stands c = λ base budget begun made h.
-    record { machine = h.machine; there = h.there; stands = h.stands; all_taken = h.all_taken; handler = h.handler; outcome = h.outcome; constants = h.constants }
+    record { machine = h.machine; there = h.there; stands = h.stands; all_taken = h.all_taken; handler = h.handler; outcome = h.outcome; line = h.line; constants = h.constants }
 
 pub returns-clause-exact : goal.returns-clause-exact
 returns-clause-exact c = λ base budget w s. ap plain_effects c.replace.ensures.value ∙ ap (λ (p : PlainJob). p.effects) (whole_done base budget c.args.self.now w s)

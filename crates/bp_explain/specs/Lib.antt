@@ -1,0 +1,9 @@
+pub mod Words
+pub mod Listed
+pub mod Sets
+pub mod Blocking
+pub mod Standing
+pub mod States
+pub mod Explained
+pub mod Whys
+pub mod Seeds
