@@ -1,0 +1,156 @@
+-- What of an accepted program will be at fault, or does other than it seems to.
+use Rattle.std.specs.Prelude.{ℕ, ℤ, pos, negsuc, zero, suc, ◌%◌, Bool, true, false, ◌||◌, nat_eq, List, [], ◌∷◌, ◌++◌, length, flat_map, slice_get, Option, Some, None, if◌then◌else◌}
+use Rattle.std.specs.List.{list_any, zip}
+use Rattle.std.specs.Str.{bytes_eq}
+use Rattle.js_tree.specs.declared.tree.Operator.{Operator}
+use Rattle.js_tree.specs.declared.tree.Operator.TheVariants.{Divide, Remainder}
+use Rattle.js_program.specs.declared.builtin.Builtin.{Builtin}
+use Rattle.js_program.specs.declared.builtin.Builtin.TheVariants.{Sync, Assert}
+use Rattle.js_program.specs.PlainProgram.{PlainNodeForm, number, fields, method, builtin, floor_divide, binary, PlainNode, PlainProgram}
+use Rattle.bp_check.specs.Words.{is_method, is_key}
+use Rattle.bp_check.specs.Tops.{is_at_top}
+
+pub data Kind : Type 0 where
+  -- no value has a method of this name, and no field of the program has it
+  no_method : List ℕ → Kind
+  -- `bp.sync` without a statement
+  no_statement : Kind
+  -- a statement has no such key
+  no_key : List ℕ → Kind
+  -- `bp.ASSERT` without a text
+  no_text : Kind
+  -- `bp.sync` at the top level
+  top_sync : Kind
+  -- a division of two numbers that leaves a rest
+  has_rest : Kind
+  by_zero : Kind
+  -- all strategies but one ignore it
+  has_priority : Kind
+
+-- with the line on which it stands
+pub record Finding : Type 0 where
+  pub line : ℕ
+  pub kind : Kind
+
+abbrev pub one : ℕ → Kind → List Finding
+one line kind = record { line = line; kind = kind } ∷ []
+
+-- ---- methods
+
+abbrev pub keys_in : PlainNodeForm → List (List ℕ)
+keys_in (fields keys values) = keys
+keys_in _ = []
+
+abbrev pub has_field : List ℕ → PlainNode → Bool
+has_field word x = list_any (bytes_eq word) (keys_in x.form)
+
+-- some fields of the program have this key: a function under it is called as a method is
+abbrev pub is_field : PlainProgram → List ℕ → Bool
+is_field p word = list_any (has_field word) p.nodes
+
+abbrev pub of_method : PlainProgram → ℕ → List ℕ → List Finding
+of_method p line word =
+    if is_method word then [] else if is_field p word then [] else one line (no_method word)
+
+-- ---- statements
+
+abbrev pub line_in : Option PlainNode → ℕ
+line_in None = 0
+line_in (Some x) = x.line
+
+-- a key is told on the line of its value
+abbrev pub of_key : PlainProgram → List ℕ × ℕ → List Finding
+of_key p k =
+    if is_key k.0 then [] else one (line_in (slice_get p.nodes k.1)) (no_key k.0)
+
+abbrev pub of_statement : PlainProgram → Option PlainNode → List Finding
+of_statement p None = []
+of_statement p (Some x) = elim x.form [
+  | fields keys values ↦ flat_map (of_key p) (zip keys values)
+  | _ ↦ []
+]
+
+abbrev pub of_priority : ℕ → List ℕ → List Finding
+of_priority line [] = []
+of_priority line (n ∷ ns) = one line has_priority
+
+abbrev pub of_stated : PlainProgram → ℕ → List ℕ → List Finding
+of_stated p line [] = one line no_statement
+of_stated p line (n ∷ ns) = of_statement p (slice_get p.nodes n) ++ of_priority line ns
+
+abbrev pub of_top : Bool → ℕ → List Finding
+of_top false line = []
+of_top true line = one line top_sync
+
+-- ---- `bp.ASSERT`
+
+abbrev pub of_assert : ℕ → List ℕ → List Finding
+of_assert line (c ∷ text ∷ dropped) = []
+of_assert line _ = one line no_text
+
+-- ---- divisions
+
+abbrev pub in_digits : ℤ → Option ℕ
+in_digits (pos n) = Some n
+in_digits (negsuc n) = None
+
+abbrev pub literal_of : PlainNodeForm → Option ℕ
+literal_of (number z) = in_digits z
+literal_of _ = None
+
+-- the number that a node is, where it is written in digits
+abbrev pub literal_in : Option PlainNode → Option ℕ
+literal_in None = None
+literal_in (Some x) = literal_of x.form
+
+abbrev pub literal : PlainProgram → ℕ → Option ℕ
+literal p n = literal_in (slice_get p.nodes n)
+
+abbrev pub of_zero : ℕ → Option ℕ → List Finding
+of_zero line (Some zero) = one line by_zero
+of_zero line _ = []
+
+abbrev pub of_rest : ℕ → ℕ → ℕ → List Finding
+of_rest line a b = if nat_eq (a % b) 0 then [] else one line has_rest
+
+abbrev pub of_literals : ℕ → Option ℕ → Option ℕ → List Finding
+of_literals line a (Some zero) = one line by_zero
+of_literals line (Some a) (Some (suc b)) = of_rest line a (suc b)
+of_literals line _ _ = []
+
+-- ---- programs
+
+abbrev pub of_form : PlainProgram → Bool → ℕ → Builtin → List ℕ → List Finding
+of_form p at_top line Sync arguments = of_top at_top line ++ of_stated p line arguments
+of_form p at_top line Assert arguments = of_assert line arguments
+of_form p at_top line _ arguments = []
+
+abbrev pub of_operator : PlainProgram → ℕ → Operator → ℕ → ℕ → List Finding
+of_operator p line Divide a b = of_literals line (literal p a) (literal p b)
+of_operator p line Remainder a b = of_zero line (literal p b)
+of_operator p line _ a b = []
+
+abbrev pub of_node : PlainProgram → Bool → PlainNode → List Finding
+of_node p at_top x = elim x.form [
+  | method on word arguments ↦ of_method p x.line word
+  | builtin form arguments ↦ of_form p at_top x.line form arguments
+  | binary operator a b ↦ of_operator p x.line operator a b
+  | floor_divide a b dropped ↦ of_zero x.line (literal p b)
+  | _ ↦ []
+]
+
+abbrev pub found_in : PlainProgram → Bool → Option PlainNode → List Finding
+found_in p at_top None = []
+found_in p at_top (Some x) = of_node p at_top x
+
+abbrev pub found_at : PlainProgram → ℕ → List Finding
+found_at p n = found_in p (is_at_top p n) (slice_get p.nodes n)
+
+-- of the nodes below this number
+abbrev pub found_below : PlainProgram → ℕ → List Finding
+found_below p zero = []
+found_below p (suc n) = found_below p n ++ found_at p n
+
+-- all of them: a part is looked at before the node whose part it is
+abbrev pub findings : PlainProgram → List Finding
+findings p = found_below p (length p.nodes)

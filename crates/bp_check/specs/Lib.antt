@@ -1,0 +1,4 @@
+pub mod Words
+pub mod Tops
+pub mod Findings
+pub mod Sentences

@@ -1,0 +1,77 @@
+-- Each finding in one sentence.
+use Rattle.std.specs.Prelude.{ℕ, Bool, true, false, ◌||◌, nat_le, nat_lt, List, [], ◌∷◌, ◌++◌, length, flat_map, decimal, codes, if◌then◌else◌, nat_eq, Option, Some, None}
+use Rattle.std.specs.Str.{bytes_eq}
+use Rattle.strsim.specs.Edits.{levenshtein_row}
+use Rattle.js_data.specs.JsonText.{quoted_text}
+use Rattle.js_program.specs.PlainProgram.{PlainProgram}
+use Rattle.bp_check.specs.declared.hint.TheConstants.{MOST_EDITS, ALL_METHODS}
+use Rattle.bp_check.specs.Words.{methods}
+use Rattle.bp_check.specs.Findings as f
+use Rattle.bp_check.specs.Findings.{Kind, Finding, findings}
+
+-- how many letters are to be put in, taken out or changed
+abbrev pub edits : List ℕ → List ℕ → ℕ
+edits a b = levenshtein_row nat_eq a b (length b)
+
+-- the first of the words with the fewest edits, where these are no more than `best` before it
+abbrev pub nearer : List ℕ → Option (List ℕ) → ℕ → List (List ℕ) → Option (List ℕ)
+nearer word found best [] = found
+nearer word found best (w ∷ ws) =
+    if nat_lt (edits word w) best then nearer word (Some w) (edits word w) ws
+    else nearer word found best ws
+
+-- the nearest method, where it is near
+unfoldable pub nearest : List ℕ → Option (List ℕ)
+nearest word = nearer word None MOST_EDITS methods
+
+abbrev pub hint_near : Option (List ℕ) → List ℕ
+hint_near None = ALL_METHODS.now
+hint_near (Some w) = codes "the nearest is " ++ w
+
+abbrev pub over_lists : List ℕ
+over_lists = codes "`for (const x of list)` goes over a list"
+
+-- the methods of JavaScript and of BPjs that stand in many programs, each with what stands here for it
+abbrev pub hints : List (List ℕ × List ℕ)
+hints =
+    (codes "push", codes "concat makes a longer list")
+    ∷ (codes "unshift", codes "concat makes a longer list")
+    ∷ (codes "map", over_lists)
+    ∷ (codes "filter", over_lists)
+    ∷ (codes "includes", over_lists)
+    ∷ (codes "indexOf", codes "startsWith asks how a text begins")
+    ∷ (codes "equals", codes "events and texts are compared by ===")
+    ∷ (codes "contains", codes "a predicate is called as a function")
+    ∷ []
+
+abbrev pub told_in : List ℕ → List (List ℕ × List ℕ) → Option (List ℕ)
+told_in word [] = None
+told_in word (h ∷ hs) = if bytes_eq word h.0 then Some h.1 else told_in word hs
+
+-- what stands here for a method that is well known
+unfoldable pub told : List ℕ → Option (List ℕ)
+told word = told_in word hints
+
+unfoldable pub hint : List ℕ → List ℕ
+hint word = elim (told word) [ None ↦ hint_near (nearest word) | Some h ↦ h ]
+
+abbrev pub sentence : Kind → List ℕ
+sentence (f.no_method word) = codes "nothing has a method " ++ (word ++ (codes ": " ++ hint word))
+sentence f.no_statement = codes "bp.sync has no statement"
+sentence (f.no_key key) =
+    codes "a statement has no key " ++ (quoted_text key ++ codes ": it has request, waitFor, block and interrupt")
+sentence f.no_text = codes "bp.ASSERT has no text, which it needs"
+sentence f.top_sync = codes "bp.sync stops a b-thread, and the top level is none"
+sentence f.has_rest = codes "this division leaves a rest: Math.floor(a / b) rounds down"
+sentence f.by_zero = codes "this divides by zero"
+sentence f.has_priority = codes "a priority counts under --strategy priority alone"
+
+abbrev pub finding_text : Finding → List ℕ
+finding_text x = codes "line " ++ (decimal x.line ++ (codes ": " ++ (sentence x.kind ++ codes "\n")))
+
+abbrev pub findings_text : List Finding → List ℕ
+findings_text xs = flat_map finding_text xs
+
+-- a line for each finding, in the order of the program
+unfoldable pub check_text : PlainProgram → List ℕ
+check_text p = findings_text (findings p)

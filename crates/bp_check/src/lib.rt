@@ -1,0 +1,13 @@
+//! What of an accepted program will be at fault, or does other than it seems to, in words.
+#![tactic(auto)]
+
+mod divisions;
+mod hint;
+mod methods;
+mod nodes;
+mod sentences;
+mod syncs;
+mod tops;
+
+pub use hint::MOST_EDITS;
+pub use nodes::check;

@@ -1,0 +1,106 @@
+-- What `bpx` prints for what is asked, and how it ends.
+use Rattle.std.specs.Prelude.{◌≡◌, ◌⊎◌, ◌<◌, ℕ, List, [], ◌∷◌, Option, Some, None, IfSome, length}
+use Rattle.bp_base.specs.Worlds.{Holdings}
+use Rattle.bp_base.specs.Pieces.{Appends, AppendsFront}
+use Rattle.bp_log.specs.declared.limits.TheConstants.{MOST_BYTES}
+use Rattle.js_program.specs.PlainProgram.{PlainProgram}
+use Rattle.bp_script.specs.declared.refusal.Refusal.{Refusal}
+use Rattle.bp_script.specs.Programs.{IsProgram, IsRefused}
+use Rattle.bp_check.specs.Findings.{Finding, findings}
+use Rattle.bp_check.specs.Sentences.{check_text}
+use Rattle.bpx_words.specs.declared.request.Request.{Request}
+use Rattle.bpx_words.specs.declared.request.Request.TheVariants as request
+use Rattle.bpx_cli.specs.declared.ended.Ended.{Ended}
+use Rattle.bpx_cli.specs.declared.ended.Ended.TheVariants.{Answered, Found, NoCommand, Refused, NotRead, NotWritten, NoMemory}
+use Rattle.bpx_cli.specs.declared.ended.TheConstants.{HELP}
+
+-- these are the bytes under the name, where the world tells what it holds
+abbrev pub IsUnder : Option Holdings → List ℕ → List ℕ → Type 0
+IsUnder holds name bytes = IfSome holds (λ held. held name ≡ Some bytes)
+
+-- the bytes under the name are this program
+pub record IsProgramOf (holds : Option Holdings) (name : List ℕ) (program : PlainProgram) : Type 0 where
+  pub bytes : List ℕ
+  pub under : IsUnder holds name bytes
+  pub accepted : IsProgram bytes program
+
+-- the bytes under the name are refused so
+pub record IsRefusedOf (holds : Option Holdings) (name : List ℕ) (refusal : Refusal) : Type 0 where
+  pub bytes : List ℕ
+  pub under : IsUnder holds name bytes
+  pub refused : IsRefused bytes refusal
+
+-- the program of that name is too long
+abbrev pub IsTooLong : Option Holdings → List ℕ → Type 0
+IsTooLong holds name = (bytes : List ℕ) × IsUnder holds name bytes × (MOST_BYTES < length bytes)
+
+-- why bytes are no accepted program: they are refused, or memory was wanting
+abbrev pub AreUnaccepted : List ℕ → Ended → Type 0
+AreUnaccepted bytes (Refused refusal) = IsRefused bytes refusal
+AreUnaccepted bytes NoMemory = Unit {0}
+AreUnaccepted bytes _ = ⊥
+
+-- why there is no accepted program of that name: it is refused, or was not read
+abbrev pub IsUnloaded : Option Holdings → List ℕ → Ended → Type 0
+IsUnloaded holds name (Refused refusal) = IsRefusedOf holds name refusal
+IsUnloaded holds name NotRead = Unit {0}
+IsUnloaded holds name NoMemory = Unit {0}
+IsUnloaded holds name _ = ⊥
+
+abbrev pub checked : List Finding → Ended
+checked [] = Answered
+checked (x ∷ xs) = Found
+
+-- where nothing is printed, nothing was found
+abbrev pub ended_by : List ℕ → Ended
+ended_by [] = Answered
+ended_by (b ∷ bs) = Found
+
+-- the text that answers a check of a program, and the end
+pub record IsChecked (program : PlainProgram) (text : List ℕ) (end : Ended) : Type 0 where
+  pub says : text ≡ check_text program
+  pub ends : end ≡ checked (findings program)
+
+-- what is found of the program of that name
+pub record IsCheckOf (holds : Option Holdings) (name text : List ℕ) (end : Ended) : Type 0 where
+  pub program : PlainProgram
+  pub is_program : IsProgramOf holds name program
+  pub is_checked : IsChecked program text end
+
+-- this text and this end answer what is asked
+abbrev pub Answers : Option Holdings → Request → List ℕ → Ended → Type 0
+Answers holds request.Help text end = (text ≡ HELP.now) × (end ≡ Answered)
+Answers holds (request.Check name) text end = IsCheckOf holds name text end
+
+-- nothing answers it: its program is refused, or was not read, or memory was wanting
+abbrev pub IsUnanswered : Option Holdings → Request → Ended → Type 0
+IsUnanswered holds request.Help end = end ≡ NoMemory
+IsUnanswered holds (request.Check name) end = IsUnloaded holds name end
+
+-- this was printed behind what was, and answers what is asked
+pub record IsAnswered (holds : Option Holdings) (asked : Request) (before after : Option (List ℕ)) (end : Ended) : Type 0 where
+  pub text : List ℕ
+  pub answers : Answers holds asked text end
+  pub printed : Appends before text after
+
+-- a front of what answers it was printed, and then printing failed
+pub record IsCut (holds : Option Holdings) (asked : Request) (before after : Option (List ℕ)) : Type 0 where
+  pub text : List ℕ
+  pub end : Ended
+  pub answers : Answers holds asked text end
+  pub printed : AppendsFront before text after
+
+-- how a request ends
+abbrev pub EndsAs : Option Holdings → Request → Option (List ℕ) → Option (List ℕ) → Ended → Type 0
+EndsAs holds asked before after Answered = IsAnswered holds asked before after Answered
+EndsAs holds asked before after Found = IsAnswered holds asked before after Found
+EndsAs holds asked before after NotWritten = IsCut holds asked before after
+EndsAs holds asked before after NoCommand = ⊥
+EndsAs holds asked before after (Refused refusal) = (after ≡ before) × IsUnanswered holds asked (Refused refusal)
+EndsAs holds asked before after NotRead = (after ≡ before) × IsUnanswered holds asked NotRead
+EndsAs holds asked before after NoMemory = after ≡ before
+
+-- how a command ends: words that ask for nothing print nothing
+abbrev pub Ends : Option Holdings → Option Request → Option (List ℕ) → Option (List ℕ) → Ended → Type 0
+Ends holds None before after end = (after ≡ before) × ((end ≡ NoCommand) ⊎ (end ≡ NoMemory))
+Ends holds (Some asked) before after end = EndsAs holds asked before after end

@@ -1,0 +1,139 @@
+//! What is asked for, and its answer.
+ghost use Rattle.std.specs.Prelude.{◌≡◌, ◌≤◌, IsErrOf, IfOk, IfErr, map, string_bytes};
+ghost use Rattle.bp_base.specs.Counts.{Rose};
+ghost use Rattle.bpx_words.specs.Requests.{request_of};
+ghost use Rattle.bpx_cli.specs.Answers.{ended_by, Answers, IsUnanswered, IsUnloaded, IsChecked, IsCheckOf, EndsAs, Ends};
+
+use crate::ended::{Ended, HELP};
+use crate::loading::load;
+use bp_base::{Sink, World, write_all};
+use bp_check::check;
+use bp_log::Memory;
+use bpx_words::{Request, Usage, read};
+use js_data::Text;
+use js_program::Program;
+use std::alloc::Global;
+
+/// A text, and how the command ends that prints it.
+#[derive(Drop)]
+struct Reply {
+    text: String,
+    end: Ended,
+}
+
+/// How a check ends that prints this.
+fn end_of(text: &str) -> Ended
+    ensures { result ≡ ended_by text.now }
+{
+    if text.is_empty() {
+        Ended::Answered
+    } else {
+        Ended::Found
+    }
+}
+
+/// What is found of a program. Its only error is want of memory.
+fn checked(alloc: Global, program: &Program) -> Result<Reply, Memory>
+    ensures { IfOk result (λ a. IsChecked program.now (string_bytes a.text) a.end) }
+{
+    let text = check(alloc, program)?;
+    let end = end_of(text.as_str());
+    Ok(Reply { text, end })
+}
+
+/// What is found of the program of that name, or how a command ends that finds nothing out.
+fn check_of<W: World>(alloc: Global, name: &Text, world: &mut W) -> Result<Reply, Ended>
+    ensures answers { IfOk result
+        (λ a. IsCheckOf (W.holds world.old) name.now (string_bytes a.text) a.end) }
+    ensures unanswered { IfErr result (IsUnloaded (W.holds world.old) name.now) }
+    ensures cause { IsErrOf result Ended.NotRead
+        → Rose (W.read_faults world.old) (W.read_faults world.new) }
+    ensures holds { W.holds world.new ≡ W.holds world.old }
+    ensures counts { W.read_faults world.old ≤ W.read_faults world.new }
+{
+    let program = load(alloc, world, name.as_str())?;
+    match checked(alloc, &program) {
+        Ok(answer) => Ok(answer),
+        Err(_) => Err(Ended::NoMemory),
+    }
+}
+
+/// The text that says what can be asked for. Its only error is want of memory.
+fn help(alloc: Global) -> Result<Reply, Memory>
+    ensures { IfOk result (λ a. (string_bytes a.text ≡ HELP.now) × (a.end ≡ Ended.Answered)) }
+{
+    Ok(Reply {
+        text: HELP.to_string(alloc)?,
+        end: Ended::Answered,
+    })
+}
+
+/// The answer, or how a command ends that has none.
+fn answer_to<W: World>(alloc: Global, request: &Request, world: &mut W) -> Result<Reply, Ended>
+    ensures answers { IfOk result
+        (λ a. Answers (W.holds world.old) request.now (string_bytes a.text) a.end) }
+    ensures unanswered { IfErr result (IsUnanswered (W.holds world.old) request.now) }
+    ensures cause { IsErrOf result Ended.NotRead
+        → Rose (W.read_faults world.old) (W.read_faults world.new) }
+    ensures holds { W.holds world.new ≡ W.holds world.old }
+    ensures counts { W.read_faults world.old ≤ W.read_faults world.new }
+{
+    match request {
+        Request::Help => match help(alloc) {
+            Ok(answer) => Ok(answer),
+            Err(_) => Err(Ended::NoMemory),
+        },
+        Request::Check(name) => check_of(alloc, name, world),
+    }
+}
+
+/// Answers a request.
+fn carry_out<W: World, K: Sink>(
+    alloc: Global,
+    request: &Request,
+    world: &mut W,
+    out: &mut K,
+) -> Ended
+    ensures ends { EndsAs (W.holds world.old) request.now (K.written out.old) (K.written out.new)
+        result }
+    ensures read { result ≡ Ended.NotRead
+        → Rose (W.read_faults world.old) (W.read_faults world.new) }
+    ensures written { result ≡ Ended.NotWritten → Rose (K.faults out.old) (K.faults out.new) }
+    ensures holds { W.holds world.new ≡ W.holds world.old }
+    ensures read_counts { W.read_faults world.old ≤ W.read_faults world.new }
+    ensures write_counts { K.faults out.old ≤ K.faults out.new }
+{
+    let answer = match answer_to(alloc, request, world) {
+        Ok(answer) => answer,
+        Err(end) => return end,
+    };
+    match write_all(out, answer.text.as_str().as_bytes()) {
+        Ok(()) => answer.end,
+        Err(_) => Ended::NotWritten,
+    }
+}
+
+/// Answers what the words ask for: they are those after the program's name.
+pub fn answer<W: World, K: Sink>(
+    alloc: Global,
+    words: &[String],
+    world: &mut W,
+    out: &mut K,
+) -> Ended
+    // Words that ask for nothing print nothing. Where the end is `Answered` or `Found`, what was
+    // printed is the text that answers the request of the program that the world holds under the
+    // name; where printing failed, it is a front of this text; and else nothing was printed. It is
+    // `Refused` only where the program that the world holds is refused so.
+    ensures ends { Ends (W.holds world.old) (request_of (map string_bytes words.now))
+        (K.written out.old) (K.written out.new) result }
+    ensures read { result ≡ Ended.NotRead
+        → Rose (W.read_faults world.old) (W.read_faults world.new) }
+    ensures written { result ≡ Ended.NotWritten → Rose (K.faults out.old) (K.faults out.new) }
+    ensures holds { W.holds world.new ≡ W.holds world.old }
+{
+    match read(alloc, words) {
+        Ok(request) => carry_out(alloc, &request, world, out),
+        Err(Usage::Wrong) => Ended::NoCommand,
+        Err(Usage::Memory) => Ended::NoMemory,
+    }
+}

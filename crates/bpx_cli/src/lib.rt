@@ -1,0 +1,9 @@
+//! The command line of `bpx`, over any world and any output.
+#![tactic(auto)]
+
+mod answering;
+mod ended;
+mod loading;
+
+pub use answering::answer;
+pub use ended::Ended;
