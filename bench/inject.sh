@@ -5,7 +5,7 @@
 # processor time of the enqueued ones the others take.
 #
 #     sh bench/inject.sh            100,000 events
-#     sh bench/inject.sh 40000      so many, in tens of thousands
+#     sh bench/inject.sh 40000      this many, in tens of thousands
 #
 # The program is the one that `sh ./bp` builds, or the one at the path in BP.
 top=$(cd "$(dirname "$0")/.." && pwd) || exit 1
@@ -26,7 +26,7 @@ awk -v size="$size" -v to="$work/lines" 'BEGIN {
     }
 }'
 
-# run NAME SCRIPT INJECTOR..: one run, whose times stand behind those of the runs of this name before
+# run NAME SCRIPT INJECTOR..: one run, whose times stand after those of the runs of this name before
 run() {
     name=$1
     script=$2

@@ -33,7 +33,7 @@ END
 passed=0
 failed=0
 
-# measure NAME MOST STATUS WORDS..: a command of these words, which is to end so and hold at most so many megabytes
+# measure NAME MOST STATUS WORDS..: a command of these words, which is to end so and hold at most this many megabytes
 measure() {
     name=$1 most=$2 status=$3
     shift 3
@@ -74,12 +74,12 @@ echo "bp.registerBThread('A', () => { while (true) bp.sync({request: bp.Event('x
 for (let i = 0; i < 4095; i++) bp.registerBThread('w', () => { while (true) bp.sync({waitFor: bp.all}) })" > "$work/all.js"
 measure 'events that 4,096 b-threads receive' 3000 6 run "$work/all.js"
 
-# Both at once: a full queue behind as many events of an injector as one b-thread may receive.
+# Both at once: a full queue after as many events of an injector as one b-thread may receive.
 echo "bp.registerBThread('A', () => {
   while (true) bp.sync({waitFor: bp.EventSet('x', e => e.name === 'x'), block: bp.EventSet('y', e => e.name === 'y')});
 });" > "$work/both.js"
 awk -v numbers="$numbers" 'BEGIN { for (i = 0; i < 24575; i++) print "[\"" (i < 8191 ? "x" : "y") "\"," numbers "]" }' > "$work/heavy"
-measure 'a full queue behind events that were received' 3000 6 run --log "$work/log" "$work/both.js" "$work/heavy"
+measure 'a full queue after events that were received' 3000 6 run --log "$work/log" "$work/both.js" "$work/heavy"
 rm -f "$work/heavy"
 measure 'its replay' 3000 6 replay "$work/log"
 

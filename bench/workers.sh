@@ -39,7 +39,7 @@ if [ -z "$BP" ]; then
     BP=$top/crates/bp/out/bp
 fi
 
-# run PROGRAM WORKERS: one run, whose nanoseconds by the clock stand behind those of the runs before
+# run PROGRAM WORKERS: one run, whose nanoseconds by the clock stand after those of the runs before
 run() {
     begun=$(date +%s%N)
     "$BP" run "$work/$1.js" --workers "$2" --slice 10000 --budget 100000000 > "$work/trace" || {

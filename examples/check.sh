@@ -44,6 +44,24 @@ agrees() {
     return 1
 }
 
+# migrates NAME: whether the log, of either version, is written in the second, and replays as before
+migrates() {
+    awk '
+        NR == 1 && $0 == "bp-log 1" { print "bp-log 2"; first = 1; next }
+        first && /^program / { print "wait yes"; first = 0 }
+        { print }
+    ' "$got/log" > "$got/second"
+    program migrate "$got/log" > "$got/migrated" 2> "$got/note"
+    status=$?
+    if [ "$status" -ne 0 ] || ! cmp -s "$got/second" "$got/migrated"; then
+        echo "bp migrate: status $status"
+        cat "$got/note"
+        diff "$got/second" "$got/migrated"
+        return 1
+    fi
+    agrees "$1" replay "$got/migrated"
+}
+
 # check NAME: whether the runs of this example and the replay of its log are as the files beside it say
 check() {
     if [ -f "$1.injectors" ]; then
@@ -54,7 +72,7 @@ check() {
     # (the options are words)
     # shellcheck disable=SC2046
     agrees "$1" run --log "$got/log" $(options "$1") "$1.js" || return 1
-    agrees "$1" replay "$got/log" || return 1
+    agrees "$1" replay "$got/log" && migrates "$1" || return 1
     for workers in 1 2 3 64; do
         for slice in 1 7 100000; do
             # shellcheck disable=SC2046
@@ -143,7 +161,8 @@ large() {
 passed=0
 failed=0
 for what in registering forty endless large sixteen overtaken bad_line standard_input refused_injectors reader_leaves answered \
-    sleeping killed live answered_without_threads requested_without_threads silent_without_threads; do
+    sleeping unwaited killed live answered_without_threads requested_without_threads silent_without_threads \
+    unwaited_without_threads; do
     if "$what"; then passed=$((passed + 1)); else failed=$((failed + 1)); fi
 done
 for script in "$top"/examples/*.js; do

@@ -78,7 +78,7 @@ check_injected() {
     set --
     while IFS= read -r file; do set -- "$@" "$top/examples/$file"; done < "$name.injectors"
     in_order "$name" "$@"
-    agrees "$name" replay "$got/log" && is_told "$name" "$@" || return 1
+    agrees "$name" replay "$got/log" && migrates "$name" && is_told "$name" "$@" || return 1
     for workers in 1 2 3 64; do
         for slice in 1 7 100000; do
             merges "$name" "$workers" "$slice" "$@" || return 1
@@ -160,7 +160,7 @@ refused_injectors() {
     program run "$got/watching.js" "$got" > "$got/trace" 2> "$got/note"
     status=$?
     comes 8 'read fault' || return 1
-    usage='usage: bp run [OPTIONS] PROGRAM [INJECTOR]... | bp replay LOG | bp accept PROGRAM | bp large N'
+    usage='usage: bp run [OPTIONS] PROGRAM [INJECTOR]... | bp replay LOG | bp accept PROGRAM | bp large N | bp migrate LOG'
     program run --log "$got/lines" "$got/watching.js" "$got/lines" > "$got/trace" 2> "$got/note"
     status=$?
     comes 1 "$usage" || return 1
@@ -182,13 +182,14 @@ reader_leaves() {
     comes 9 'write fault'
 }
 
-# begins SCRIPT FIFO..: begins a run of this script with these injectors, whose text comes on descriptor 4
+# begins SCRIPT FIFO..: begins a run of this script with these injectors, whose text comes on descriptor 4. It waits for them, unless
+# `waits` says otherwise.
 begins() {
     script=$1
     shift
     rm -f "$got/text" "$@"
     mkfifo "$got/text" "$@" || return 1
-    timeout 120 "$BP" run --log "$got/log" "$got/$script.js" "$@" > "$got/text" 2> "$got/note" &
+    timeout 120 "$BP" run --wait "${waits:-yes}" --log "$got/log" "$got/$script.js" "$@" > "$got/text" 2> "$got/note" &
     run=$!
     exec 4< "$got/text"
 }
@@ -232,7 +233,23 @@ sleeping() (
     [ $? -eq 3 ]
 )
 
-# the log of a run that is killed while it waits has all that was printed, and is cut
+# a run that does not wait ends while its injector is silent, and its log says so
+unwaited() (
+    watching
+    waits=no
+    begins watching "$got/fifo" || exit 1
+    exec 5<> "$got/fifo"
+    hears 'verdict quiet 0' || exit 1
+    exec 5>&-
+    wait "$run" || exit 1
+    [ "$(sed -n '/^injectors 1$/{n;p;q;}' "$got/log")" = 'wait no' ] || { echo "$what: the log says nothing of it"; exit 1; }
+    echo 'verdict quiet 0' > "$got/wanted"
+    program replay "$got/log" > "$got/trace" 2> "$got/note"
+    status=$?
+    comes 0 ''
+)
+
+# the log of a run that is killed while it waits has all that was printed, and is cut; it is migrated as far as it goes
 killed() (
     watching
     begins watching "$got/fifo" || exit 1
@@ -245,6 +262,10 @@ killed() (
     wait "$run" 2> /dev/null
     printf '%s\n' 'external ["a",1]' 'external ["a",2]' > "$got/wanted"
     program replay "$got/log" > "$got/trace" 2> "$got/note"
+    status=$?
+    comes 11 'bad log: cut' || exit 1
+    cp "$got/log" "$got/wanted"
+    program migrate "$got/log" > "$got/trace" 2> "$got/note"
     status=$?
     comes 11 'bad log: cut'
 )
@@ -293,6 +314,17 @@ silent_without_threads() (
     hears 'external ["a",1]' 'external ["b",1]' || exit 1
     exec 5>&- 6>&-
     hears 'verdict quiet 2' && wait "$run"
+)
+
+# without a thread nothing is read of an injector before it would be waited for
+unwaited_without_threads() (
+    watching
+    echo '["a"]' > "$got/lines"
+    echo 'verdict quiet 0' > "$got/wanted"
+    refuses_threads || exit 1
+    program run --wait no "$got/watching.js" "$got/lines" > "$got/trace" 2> "$got/note"
+    status=$?
+    comes 0 ''
 )
 
 # the thermostat, fed line by line

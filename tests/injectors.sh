@@ -2,7 +2,7 @@
 # Injectors of many lines, and injectors whose threads are refused:
 #
 #     sh tests/injectors.sh            two injectors of 100,000 lines each, which takes some minutes
-#     sh tests/injectors.sh 1000       two of so many
+#     sh tests/injectors.sh 1000       two of this many
 #
 # Two injectors are heard by 1, 2 and 8 workers with slices of 1, 7 and 10,000 nodes: the log has to be of a merge of their lines, the
 # text that of the log, and the replay of the log has to print the same bytes. Where no thread can be made, the run reads its injectors
@@ -11,7 +11,7 @@ top=$(cd "$(dirname "$0")/.." && pwd) || exit 1
 . "$top/tests/common.sh"
 size=${1:-100000}
 
-# lines NAME SIZE: so many events of this name, each with its number
+# lines NAME SIZE: this many events of this name, each with its number
 lines() {
     awk -v name="$1" -v size="$2" 'BEGIN { for (i = 0; i < size; i++) print "[\"" name "\"," i "]" }'
 }

@@ -7,7 +7,7 @@
 top=$(cd "$(dirname "$0")/.." && pwd) || exit 1
 . "$top/tests/common.sh"
 
-# times_of TEXT NUMBER: the text so many times
+# times_of TEXT NUMBER: the text this many times
 times_of() {
     awk -v text="$1" -v number="$2" 'BEGIN { for (i = 0; i < number; i++) printf "%s", text }'
 }
@@ -26,7 +26,7 @@ replays() {
     ends "$1" '' replay "$got/log"
 }
 
-# inside NUMBER: a statement inside so many blocks
+# inside NUMBER: a statement inside this many blocks
 inside() {
     { times_of '{' "$1"; printf ';'; times_of '}' "$1"; } > "$got/blocks.js"
 }
@@ -40,7 +40,7 @@ nesting() {
     ends 2 'refused line 1: no tree' accept "$got/blocks.js"
 }
 
-# parameters NUMBER: a function of so many
+# parameters NUMBER: a function of this many
 parameters() {
     awk -v number="$1" 'BEGIN {
         printf "(function(v0"
@@ -120,7 +120,7 @@ most_steps() {
     ends 6 '' run --steps 1000000 --log "$got/log" "$got/steps.js" && replays 6
 }
 
-# empty NUMBER: so many empty lines
+# empty NUMBER: this many empty lines
 empty() {
     head -c "$1" /dev/zero | tr '\0' '\n'
 }
@@ -140,7 +140,7 @@ lines_of_an_injector() {
     ends 7 '' run "$got/watching.js" "$got/lines"
 }
 
-# long NUMBER: a line of so many bytes, with blanks inside
+# long NUMBER: a line of this many bytes, with blanks inside
 long() {
     printf '["x"'
     times_of ' ' $(($1 - 5))

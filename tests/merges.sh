@@ -3,7 +3,7 @@
 # are files, or FIFOs whose writers are delayed by the words of a generator of its own.
 #
 #     sh tests/merges.sh               3,000 runs, which take some minutes
-#     sh tests/merges.sh 200 7         so many, with another seed
+#     sh tests/merges.sh 200 7         this many, with another seed
 #
 # What the log of each run says of the injectors has to be a merge of the files, by a small program apart from `bp` (examples/merge.awk);
 # its text has to be the one that the rules of the script make of these records (examples/told.awk), and the log has to replay to the
