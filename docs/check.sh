@@ -1,0 +1,81 @@
+#!/bin/sh
+# Looks whether the pages agree with the crates: the order of crates.txt, the headings and rows of docs/MAP.md, and the files of
+# definitions, laws and clauses that the pages name. Proves nothing and takes some seconds. Ends with a line `N passed, M failed`.
+cd "$(dirname "$0")/.." || exit 1
+passed=0 failed=0
+
+# says WHAT FOUND: passed, if nothing was found
+says() {
+    if [ -z "$2" ]; then passed=$((passed + 1)); else failed=$((failed + 1)); printf '%s:\n%s\n' "$1" "$2"; fi
+}
+
+says "crates.txt: a crate uses one that stands below it" "$(awk -F: '
+    NR == FNR { if (/^[a-z]/) { split($1, head, " "); all[head[1]] = 1 } next }
+    /^[a-z]/ {
+        split($1, head, " "); count = split($2, below, " ")
+        for (each = 1; each <= count; each++) if (below[each] in all && !(below[each] in seen)) print head[1] " uses " below[each]
+        seen[head[1]] = 1
+    }' crates.txt crates.txt)"
+
+says "crates.txt: a folder without a line, or a line without a folder" "$(
+    { sed -n 's/^\([a-z][a-z0-9_]*\).*:.*/\1/p' crates.txt; ls crates; } | sort | uniq -u)"
+
+# The groups and their crates, in order: as crates.txt has them, and as the map has them.
+listed=$(sed -n -e 's/^# ---- /## /p' -e 's/^\([a-z][a-z0-9_]*\).*:.*/\1/p' crates.txt)
+mapped=$(sed -n '/^## Crates/,/^### Facts/{/^### Facts/d;s/^### /## /p;s/^| `\([a-z0-9_]*\)` |.*/\1/p;}' docs/MAP.md)
+says "docs/MAP.md: other groups or crates than crates.txt" "$(
+    [ "$listed" = "$mapped" ] || printf '%s\n%s\n' "$listed" "$mapped" | sort | uniq -u | grep . || [ "$listed" = "$mapped" ] || echo "the order differs")"
+
+# Files of definitions in the rows of the map: specs/NAME, and the names after it in the same cell.
+says "docs/MAP.md: files of definitions that are not there" "$(awk -F'|' '
+    /^\| `(bp|js)/ && NF > 5 {
+        crate = $2; gsub(/[ `]/, "", crate); cell = $5
+        sub(/, over .*/, "", cell); gsub(/`[a-z]+_[a-z]+`/, "", cell); gsub(/\([^)]*\)/, "", cell)
+        while (match(cell, /`(specs\/)?[A-Z][A-Za-z]*`/)) {
+            name = substr(cell, RSTART + 1, RLENGTH - 2); sub(/^specs\//, "", name)
+            print crate "/specs/" name ".antt"
+            cell = substr(cell, RSTART + RLENGTH)
+        }
+    }' docs/MAP.md | while read -r file; do
+        [ -f "crates/$file" ] || ls "crates/${file%/*}/inner/${file##*/}" > /dev/null 2>&1 || echo "$file"
+    done)"
+
+# Every file of a crate that a page names by its path.
+says "pages: files of crates that are not there" "$(
+    grep -oh '`[a-z]*_[a-z]*/\(src\|specs\|proofs\)/[A-Za-z_/.]*`' docs/*.md README.md | tr -d '`' | sort -u | while read -r file; do
+        [ -e "crates/$file" ] || [ -e "crates/$file.antt" ] || echo "$file"
+    done)"
+
+# Every law and definition that a page gives the words of stands somewhere in the crates.
+says "pages: names that no crate has" "$(
+    sed '/^```/,/^```/d' docs/PROVED.md docs/RUNS.md docs/MEANING.md | grep -oh '`[a-z]\+_[a-z_]\+`' | tr -d '`' | sort -u | while read -r name; do
+        grep -rqw --include=*.rt --include=*.antt --include=crates.txt -e "$name" crates crates.txt || echo "$name"
+    done)"
+
+# Every clause that stands beside a call in a table with a column of clauses stands in a crate of its row, or of the row above.
+says "pages: clauses that the crate of the call does not have" "$(
+    awk -F'|' '
+        !/^\|/ { clauses = 0; next }
+        !clauses { clauses = ($(NF - 1) ~ /^ Clause $/) ? 1 : 2; next }
+        clauses == 1 && !/^\|---/ {
+            cell = $2; now = ""
+            while (match(cell, /`(bp|js)_[a-z_]*`/)) { now = now " " substr(cell, RSTART + 1, RLENGTH - 2); cell = substr(cell, RSTART + RLENGTH) }
+            if (now != "") crates = now
+            cell = $(NF - 1)
+            while (match(cell, /`[a-z_]*`/)) { print substr(cell, RSTART + 1, RLENGTH - 2) crates; cell = substr(cell, RSTART + RLENGTH) }
+        }' docs/PROVED.md README.md | sort -u | while read -r name crates; do
+        found=
+        for crate in ${crates:-bp_cli}; do
+            grep -rqE --include=*.rt "(ensures|requires) $name \{|fn $name\b" "crates/$crate/src" && found=1
+        done
+        [ -n "$found" ] || echo "$name of $crates"
+    done)"
+
+# Every line of a definition that a page quotes stands so in some file of definitions.
+says "pages: quoted definitions that no file has" "$(
+    sed -n '/^```antt/,/^```$/{/^```/d;p;}' docs/*.md | sed 's/^ *//' | sort -u | while IFS= read -r line; do
+        [ -z "$line" ] || grep -rqF --include=*.antt -e "$line" crates/*/specs || printf '%s\n' "$line"
+    done)"
+
+echo "$passed passed, $failed failed"
+[ "$failed" -eq 0 ]
