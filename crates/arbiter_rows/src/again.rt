@@ -95,7 +95,7 @@ fn tree(alloc: Global, numbers: &mut Numbers) -> Result<SetTree, Fail> {
     }
 }
 
-/// A set for one of so many, and none for all others.
+/// A set for one of this many, and none for all others.
 fn set(alloc: Global, numbers: &mut Numbers, rate: u32) -> Result<Option<EventSet>, Fail> {
     if numbers.below(rate) > 0 {
         return Ok(None);
@@ -285,7 +285,7 @@ fn is_alike(
     Ok(said.as_str() == want.as_str())
 }
 
-/// So many questions, among so many b-threads.
+/// This many questions, among this many b-threads.
 fn agree(
     rt: &impl Abort,
     alloc: Global,

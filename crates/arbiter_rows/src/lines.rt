@@ -12,7 +12,7 @@ use std::test::Fail;
 pub enum Lines {
     /// What is asked of a bench, and its answer.
     Benches,
-    /// A program, in which `\n` stands for a line end, and behind the mark the first requested event that can be selected,
+    /// A program, in which `\n` stands for a line end, and after the mark the first requested event that can be selected,
     /// the number of the first b-thread that blocks `x`, and the verdict with which that event would stop the run; `-` where
     /// there is none.
     Floors,

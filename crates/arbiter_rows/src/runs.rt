@@ -105,7 +105,7 @@ fn told(alloc: Global, script: &str, steps: &str) -> Result<String, Fail> {
     Ok(out)
 }
 
-/// Whether the run of the program does what is wanted, where behind the steps and the mark stands what is told.
+/// Whether the run of the program does what is wanted, where after the steps and the mark stands what is told.
 pub fn run_holds(alloc: Global, cell: &str, rest: &str) -> Result<bool, Fail> {
     let (steps, want) = rest.split_once(" --> ").ok_or("no answer")?;
     let script = cell.replace(alloc, "\\n", "\n")?;

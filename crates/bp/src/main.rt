@@ -6,7 +6,7 @@ use bp_cli::command;
 use std::process::ExitCode;
 use std::{env, io};
 
-/// The status that says that memory is wanting.
+/// The status that says that memory runs out.
 const NO_MEMORY: u8 = 10;
 
 /// The arguments after the program's name. An argument that is no UTF-8 is no word of a command, so then there are none.

@@ -72,7 +72,7 @@ module _ (a : PlainArbiter) (r : Run) (i : IsAt Lent a r) (jobs : List Job) wher
           | inr e ↦ tells_turned r jobs taken p s i.phased lent_phase e.turns (seen r' f w) b.program b.options u.records e.lines
         ]
 
-    -- after want of memory
+    -- after memory ran out
     pub cut_off : (f : Phase) (w : Bool) → IsCutOff r jobs r' → (lent : List Job) (taken : List Line) (p : Pair Origin) → StandsFor a lent taken p → AreCarriedOut a.floor.base (options_in a).budget lent jobs →
         Tells (seen r' f w) taken
     cut_off f w u lent taken p s c = cut_tells f w u taken p (carried lent taken p s c)

@@ -41,7 +41,7 @@ sound_of seed a jobs taken p h o s u k =
       standing = λ w. record { jobs = jobs; taken = taken; pair = p; stands = s; unlent = u; keeps = k };
     }
 
--- after want of memory
+-- after memory ran out
 pub sound_broken : (seed : ℕ) (a : PlainArbiter) (taken : List Line) → seed ≡ (options_in a).seed → is_complete a.records ≡ is_over a.phase → Tells a taken → a.broken ≡ true → IsSound seed a
 sound_broken seed a taken h o t b =
     record {

@@ -106,7 +106,7 @@ stands_opened program o =
       calls = calls_opening;
     }
 
--- ---- lines are taken, and memory is wanting
+-- ---- lines are taken, and memory runs out
 
 pub same_code : (program program2 : PlainProgram) (o o2 : PlainOptions) → program2 ≡ program → o2 ≡ o → code_of program2 o2 ≡ code_of program o
 same_code program program2 o o2 h k = ap (λ (x : PlainProgram). code_of x o2) h ∙ ap (λ (x : PlainOptions). code_of program x) k
@@ -134,7 +134,7 @@ pub leaves : (a v b : PlainArbiter) → v ≡ a → b.floor.base.program ≡ v.f
     (jobs : List Job) (taken : List Line) (p : Pair Origin) → StandsFor a jobs taken p → Tells b taken
 leaves a v b e h k r l jobs taken p s = tells_same v b taken h k r l (subst (λ (x : PlainArbiter). Tells x taken) (sym e) (stands_tells a jobs taken p s))
 
--- ---- want of memory
+-- ---- out of memory
 
 -- where memory had been wanting, nothing changes
 pub given_up_before : (IsLent : List Job → Type 0) (a : PlainArbiter) → a.broken ≡ true → IsGivenUp IsLent a a

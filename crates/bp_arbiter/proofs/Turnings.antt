@@ -133,7 +133,7 @@ module _ (a : PlainArbiter) (r r' : Run) (i : IsAt Rest a r) (b : IsBeside r r')
   pub pick_counted : HasCome r (next_in r) r' → picked_of (next_in r) ≡ picked.Moved → r'.floor.pair.stand.transitions ≡ (stand_in a).transitions + 1
   pick_counted h e = counted_at (next_in r) h e ∙ ap (λ (x : PlainArbiter). (stand_in x).transitions + 1) (sym i.is)
 
-  -- after want of memory
+  -- after memory ran out
   pub unheard_tells : (f : Phase) (w : Bool) → IsUnheard r r' → (taken : List Line) → Tells (seen r Rest false) taken → Tells (seen r' f w) taken
   unheard_tells f w u taken t = tells_same (seen r Rest false) (seen r' f w) taken b.program b.options u.records u.lines t
 

@@ -26,7 +26,7 @@ pub record PlainArbiter : Type 0 where
   pub bad : Option (ℕ × ℕ)
   pub records : List Record
   pub phase : Phase
-  -- memory was wanting
+  -- memory ran out
   pub broken : Bool
 
 -- before anything has run
@@ -89,7 +89,7 @@ pub record StandsSomewhere (a : PlainArbiter) : Type 0 where
   pub pair : Pair Origin
   pub stands : StandsFor a [] taken pair
 
--- The records are a story, also after want of memory: the lines taken, then those to be taken, then the
+-- The records are a story, also after memory ran out: the lines taken, then those to be taken, then the
 -- rest are its lines.
 pub record Tells (a : PlainArbiter) (taken : List Line) : Type 0 where
   pub told : Configuration Origin
@@ -114,7 +114,7 @@ pub record HadMemory (old new : PlainArbiter) : Type 0 where
   pub before : old.broken ≡ false
   pub after : new.broken ≡ false
 
--- After want of memory nothing was recorded, and what can be done is as before. Of each pair that the
+-- After memory ran out nothing was recorded, and what can be done is as before. Of each pair that the
 -- arbiter stood for with such jobs, the lines taken and to be taken are the first of the story's. Where
 -- memory had been wanting before, nothing has changed.
 pub record IsGivenUp (IsLent : List Job → Type 0) (old new : PlainArbiter) : Type 0 where
@@ -125,7 +125,7 @@ pub record IsGivenUp (IsLent : List Job → Type 0) (old new : PlainArbiter) : T
       → StandsFor old jobs taken p → Tells new taken
   pub stays : old.broken ≡ true → new ≡ old
 
--- what an arbiter keeps unless memory was wanting
+-- what an arbiter keeps unless memory ran out
 pub record Keeps (a : PlainArbiter) : Type 0 where
   pub steps : (stand_in a).transitions ≤ (options_in a).steps
   pub drawn : is_over a.phase ≡ false → a.drawn ≤ (stand_in a).transitions

@@ -65,7 +65,7 @@ pub record IsBeside (old new : Run) : Type 0 where
   pub program : new.floor.base.program ≡ old.floor.base.program
   pub options : new.floor.options ≡ old.floor.options
 
--- want of memory: neither records nor lines have changed
+-- out of memory: neither records nor lines have changed
 pub record IsUnheard (old new : Run) : Type 0 where
   pub records : new.records.records ≡ old.records.records
   pub lines : lines_in new ≡ lines_in old

@@ -52,7 +52,7 @@ pub record HasTurned (old : Run) (jobs : List Job) (new : Run) : Type 0 where
   pub turns : Turns old jobs
   pub lines : lines_in new ≡ (turned_in old jobs).stand.lines
 
--- want of memory: the records are as before, and the lines are those from before or those of the turn
+-- out of memory: the records are as before, and the lines are those from before or those of the turn
 pub record IsCutOff (old : Run) (jobs : List Job) (new : Run) : Type 0 where
   pub records : new.records.records ≡ old.records.records
   pub lines : (lines_in new ≡ lines_in old) ⊎ HasTurned old jobs new

@@ -17,7 +17,7 @@ pub record IsStanding (a : PlainArbiter) : Type 0 where
   pub keeps : Keeps a
 
 -- The words are those of the options' seed. The records end in a verdict at `Over` alone, and are a
--- story, also after want of memory; unless memory was wanting, the arbiter stands for a pair.
+-- story, also after memory ran out; unless memory ran out, the arbiter stands for a pair.
 pub record IsSound (seed : ℕ) (a : PlainArbiter) : Type 0 where
   pub seed_is : seed ≡ (options_in a).seed
   pub over : is_complete a.records ≡ is_over a.phase

@@ -39,12 +39,12 @@ use std::marker::Model;
 /// The arbiter of a run.
 ///
 /// It stands for the story of its records: at `Rest` and `Over` its floor is where the story leads, and
-/// at `Ready` and `Lent` turns are left on the way there. After want of memory from `pick`, `lend` or
+/// at `Ready` and `Lent` turns are left on the way there. After memory ran out from `pick`, `lend` or
 /// `seal` each later one of them answers it too; the records are a story still, and the lines taken and to
 /// be taken are the first of its lines.
 pub struct Arbiter {
     run: Run,
-    /// After want of memory, that before the call.
+    /// After memory ran out, that before the call.
     phase: Phase,
     /// Memory was wanting.
     broken: bool,
@@ -111,7 +111,7 @@ impl Arbiter {
         })
     }
 
-    /// What an arbiter keeps unless memory was wanting, as facts for its callers. Does nothing.
+    /// What an arbiter keeps unless memory ran out, as facts for its callers. Does nothing.
     pub fn keeps(&self)
         ensures stands { self.now.broken ≡ false → is_lent self.now.phase ≡ false →
             StandsSomewhere self.now }
@@ -130,7 +130,7 @@ impl Arbiter {
         self.run.floor.keeps();
     }
 
-    /// What can be done: after want of memory that before the call. Takes no memory.
+    /// What can be done: after memory ran out that before the call.
     pub fn phase(&self) -> Phase
         ensures { result ≡ self.now.phase }
     {
@@ -138,7 +138,7 @@ impl Arbiter {
     }
 
     /// The floor: at `Rest` and `Over` its queue, transitions and live b-threads are those of the
-    /// story, until memory is wanting. Takes no memory.
+    /// story, until memory runs out.
     pub fn floor(&self) -> &Floor
         ensures floor { result.now ≡ self.now.floor }
         ensures shows { self.now.broken ≡ false → is_idle self.now.phase ≡ true →
@@ -149,21 +149,20 @@ impl Arbiter {
     }
 
     /// The program, with its constants once the top level has run: the ground of the jobs that are lent.
-    /// Takes no memory.
     pub fn ground(&self) -> &Ground
         ensures { plain_ground result.now ≡ self.now.floor.base }
     {
         self.run.floor.ground()
     }
 
-    /// What was recorded, in order. Takes no memory.
+    /// What was recorded, in order.
     pub fn records(&self) -> &[Record]
         ensures { result.now ≡ self.now.records }
     {
         self.run.records.as_slice()
     }
 
-    /// The verdict, exactly at `Over`. Takes no memory.
+    /// The verdict, exactly at `Over`.
     pub fn verdict(&self) -> Option<&Verdict>
         ensures recorded { option_map (λ v. v.now) result ≡ verdict_of self.now.records }
         ensures over { IsSome result ↔ (self.now.phase ≡ phase.Over) }
@@ -171,7 +170,7 @@ impl Arbiter {
         self.run.records.verdict()
     }
 
-    /// Whether the injector has ended. Takes no memory.
+    /// Whether the injector has ended.
     pub fn ended(&self, injector: u32) -> bool
         requires { injector < (options_in self.now).injectors }
         ensures { result ≡ not (list_any (nat_eq injector) self.now.reading) }
@@ -179,21 +178,28 @@ impl Arbiter {
         !self.run.reading.contains(injector)
     }
 
-    /// Whether an injector of this number has not ended. Takes no memory.
+    /// Whether an injector of this number has not ended.
     pub fn reads(&self, injector: u32) -> bool
         ensures { result ≡ list_any (nat_eq injector) self.now.reading }
     {
         self.run.reading.contains(injector)
     }
 
-    /// Whether a further event may wait. Takes no memory.
+    /// The injectors that have not ended, in order.
+    pub fn reading(&self) -> &[u32]
+        ensures { result.now ≡ self.now.reading }
+    {
+        self.run.reading.as_slice()
+    }
+
+    /// Whether a further event may wait.
     pub fn room(&self) -> bool
         ensures { result ≡ has_room (stand_in self.now) }
     {
         self.run.floor.queue().len() < MOST_WAITING as usize
     }
 
-    /// The lines since the last taking. Takes no memory.
+    /// The lines since the last taking.
     pub fn take_lines(&mut self) -> Lines
         ensures taken { (stand_in self.old).lines ≡ result }
         ensures none { (stand_in self.new).lines ≡ [] }
@@ -210,7 +216,7 @@ impl Arbiter {
         self.run.floor.take_lines()
     }
 
-    /// The records, moved out. Takes no memory.
+    /// The records, moved out.
     pub fn into_records(self) -> Records
         ensures { result ≡ self.records }
     {
@@ -222,7 +228,7 @@ impl Arbiter {
         run.into_records()
     }
 
-    /// Whether the item needs no place of the queue, or has one. Takes no memory.
+    /// Whether the item needs no place of the queue, or has one.
     pub fn fits(&self, item: &Item) -> bool
         ensures { result ≡ fits (stand_in self.now) item.now }
     {
@@ -261,8 +267,25 @@ impl Arbiter {
         self.run.absorb(injector, item)
     }
 
+    /// What can be selected.
+    ///
+    /// # Errors
+    ///
+    /// The first fault of a set that is asked; after memory ran out `Memory` alone.
+    pub fn enabled(&mut self, alloc: Global) -> Result<Enabled, SelectFault>
+        requires rest { self.old.phase ≡ phase.Rest }
+        ensures enabled { AnswersAs enabled_of (selectable (has_on self.old.floor)
+            (live_on self.old.floor) (stand_in self.old).queue) result }
+        ensures same { self.new ≡ self.old }
+    {
+        if self.broken {
+            return Err(SelectFault::Memory);
+        }
+        self.run.floor.enabled(alloc)
+    }
+
     /// What comes next by the definitions of a run: an event is selected, or the run waits for an injector,
-    /// or there is a verdict. Its only error is want of memory, after which each later call answers it.
+    /// or there is a verdict. Its only error is out of memory, after which each later call answers it.
     pub fn pick(&mut self, alloc: Global) -> Result<Picked, Memory>
         requires rest { self.old.phase ≡ phase.Rest }
         ensures picked { IfOk result (λ k. (c : Configuration Origin) → Recounts self.old c →
@@ -322,7 +345,7 @@ impl Arbiter {
 
     /// Merges what the lent jobs did, one turn: they are the lent ones in the same order, each carried to its
     /// outcome with its effects whole. `Ready` where those that they registered are to be run, `Over` where
-    /// one of them ends the run, and else `Rest`. Its only error is want of memory, after which each later
+    /// one of them ends the run, and else `Rest`. Its only error is out of memory, after which each later
     /// call answers it; the jobs are let go.
     pub fn seal(&mut self, alloc: Global, jobs: Vec<Job>) -> Result<Phase, Memory>
         requires lent { self.old.phase ≡ phase.Lent }

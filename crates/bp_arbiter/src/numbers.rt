@@ -25,7 +25,7 @@ impl Model for Numbers {
 }
 
 impl Numbers {
-    /// The numbers below this one. Its only error is want of memory.
+    /// The numbers below this one.
     pub fn below(alloc: Global, count: u32) -> Result<Numbers, Memory>
         ensures { IfOk result (λ l. l ≡ below count) }
     {
@@ -36,21 +36,28 @@ impl Numbers {
         Ok(Numbers { items })
     }
 
-    /// Whether the number is there. Takes no memory.
+    /// Whether the number is there.
     pub fn contains(&self, number: u32) -> bool
         ensures { result ≡ list_any (nat_eq number) self.now }
     {
         self.items.iter().any(|n| *n == number)
     }
 
-    /// Whether there is none. Takes no memory.
+    /// The numbers, in order.
+    pub fn as_slice(&self) -> &[u32]
+        ensures { result.now ≡ self.now }
+    {
+        self.items.as_slice()
+    }
+
+    /// Whether there is none.
     pub fn is_empty(&self) -> bool
         ensures { result ≡ (length self.now == 0) }
     {
         self.items.is_empty()
     }
 
-    /// The number goes. Takes no memory.
+    /// The number goes.
     pub fn take_away(&mut self, number: u32)
         ensures { self.new ≡ filter (λ k. not (nat_eq number k)) self.old }
     {

@@ -29,7 +29,7 @@ impl Model for RecordList {
 }
 
 impl RecordList {
-    /// No records. Takes no memory.
+    /// No records.
     pub fn new(alloc: Global) -> RecordList
         ensures { result.records ≡ [] }
     {
@@ -38,7 +38,7 @@ impl RecordList {
         }
     }
 
-    /// Makes place for one record more. Its only error is want of memory.
+    /// Makes place for one record more.
     pub fn reserve(&mut self) -> Result<(), Memory>
         ensures same { self.new.records ≡ self.old.records }
         ensures place { OnOk result (self.new.has_place ≡ true) }
@@ -46,7 +46,7 @@ impl RecordList {
         self.items.reserve(1)
     }
 
-    /// Puts a record at its place. Takes no memory.
+    /// Puts a record at its place.
     pub fn put(&mut self, entry: Record)
         requires { self.old.has_place ≡ true }
         ensures { self.new.records ≡ self.old.records ++ entry ∷ [] }
@@ -54,14 +54,14 @@ impl RecordList {
         self.items.push_reserved(entry);
     }
 
-    /// The records, in order. Takes no memory.
+    /// The records, in order.
     pub fn as_slice(&self) -> &[Record]
         ensures { result.now ≡ self.now.records }
     {
         self.items.as_slice()
     }
 
-    /// The verdict with which they end, if they do. Takes no memory.
+    /// The verdict with which they end, if they do.
     pub fn verdict(&self) -> Option<&Verdict>
         ensures { option_map (λ v. v.now) result ≡ verdict_of self.now.records }
     {
@@ -71,7 +71,7 @@ impl RecordList {
         }
     }
 
-    /// The records, given back. Takes no memory.
+    /// The records, given back.
     pub fn into_records(self) -> Records
         ensures { result ≡ self.records }
     {

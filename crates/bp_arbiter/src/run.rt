@@ -50,7 +50,7 @@ impl Drop for Run {
 }
 
 impl Run {
-    /// The run ends in the verdict, which gets its line and its record. Its only error is want of memory.
+    /// The run ends in the verdict, which gets its line and its record.
     fn end(&mut self, verdict: Verdict) -> Result<Picked, Memory>
         requires idle { is_idle self.old.floor.phase ≡ true }
         requires place { self.old.records.has_place ≡ true }
@@ -83,7 +83,7 @@ impl Run {
         None
     }
 
-    /// Nothing is selectable: the run ends, or waits for an injector. Its only error is want of memory.
+    /// Nothing is selectable: the run ends, or waits for an injector.
     fn idle(&mut self) -> Result<Picked, Memory>
         requires rest { self.old.floor.phase ≡ phase.Rest }
         requires place { self.old.records.has_place ≡ true }
@@ -101,7 +101,7 @@ impl Run {
     }
 
     /// Selects an event that was chosen, unless it would pass a limit or its reach is at fault. Its
-    /// only error is want of memory.
+    /// only error is out of memory.
     fn select(&mut self, alloc: Global, event: Event, place: Option<u32>) -> Result<Picked, Memory>
         requires rest { self.old.floor.phase ≡ phase.Rest }
         requires can { CanGo self.old.floor event place }
@@ -149,7 +149,7 @@ impl Run {
         self.select(alloc, event, Some(place))
     }
 
-    /// What comes next: an event is selected, or the run waits or ends. Its only error is want of memory.
+    /// What comes next: an event is selected, or the run waits or ends.
     pub fn pick(&mut self, alloc: Global) -> Result<Picked, Memory>
         requires rest { self.old.floor.phase ≡ phase.Rest }
         requires whole { self.old.floor.broken ≡ false }
@@ -176,7 +176,7 @@ impl Run {
         }
     }
 
-    /// An event of an injector waits at the end of the queue. Its only error is want of memory.
+    /// An event of an injector waits at the end of the queue.
     fn offer(&mut self, injector: u32, event: Event) -> Result<(), Absorb>
         requires rest { self.old.floor.phase ≡ phase.Rest }
         requires room { has_room self.old.floor.pair.stand ≡ true }
@@ -196,7 +196,7 @@ impl Run {
         Ok(())
     }
 
-    /// The item of an injector enters. Its only error is want of memory.
+    /// The item of an injector enters.
     pub fn absorb(&mut self, injector: u32, item: Item) -> Result<(), Absorb>
         requires rest { self.old.floor.phase ≡ phase.Rest }
         requires sound { is_failed item ≡ false }
@@ -246,7 +246,7 @@ impl Run {
         Ok(phase)
     }
 
-    /// The records, moved out. Takes no memory.
+    /// The records, moved out.
     pub fn into_records(self) -> Records
         ensures { result ≡ self.records.records }
     {

@@ -1,4 +1,4 @@
--- The parts of a word before and behind a byte.
+-- The parts of a word before and after a byte.
 use Rattle.std.proofs.Common.{◌≡◌, ℕ, ◌<◌, false, List, length, Option, Some, None, option_map, refl, arith, Bor}
 use Rattle.std.specs.Prelude.{◌==◌, nat_lt, MatchOption, eqb}
 use Rattle.std.specs.List.{position_or_len, before_first, after_first}

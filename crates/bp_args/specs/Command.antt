@@ -14,7 +14,7 @@ use Rattle.bp_args.specs.declared.verb.Verb.TheVariants as verb
 use Rattle.bp_args.specs.Verbs.{verb_at, allows, takes}
 use Rattle.bp_args.specs.Said.{nothing_said, said_on, number_word, is_whole, only}
 
--- the options that are said, each other one as where nothing is said, for so many injectors
+-- the options that are said, each other one as where nothing is said, for this many injectors
 abbrev pub options_of : Said → ℕ → PlainOptions
 options_of s injectors = record {
   strategy = unwrap_or s.strategy default_options.strategy;
@@ -62,11 +62,11 @@ run_with s program injectors =
     }))
     else None
 
--- so many b-threads, from 1 to the most
+-- this many b-threads, from 1 to the most
 abbrev pub large_of : List ℕ → Option ℕ
 large_of word = option_and_then (λ n. if nat_le 1 n then Some n else None) (number_word MOST_LARGE word)
 
--- the command of this first word, with this name and those behind it
+-- the command of this first word, with this name and those after it
 abbrev pub command_on : Verb → Said → List ℕ → List (List ℕ) → Option Command
 command_on verb.Run s program injectors = run_with s program injectors
 command_on verb.Replay s log more = Some (command.Replay log)
@@ -78,15 +78,15 @@ abbrev pub command_for : Verb → Said → List (List ℕ) → Option Command
 command_for v s [] = None
 command_for v s (name ∷ more) = command_on v s name more
 
--- the command of this first word, where this is said behind it: each option is allowed, and the
--- word takes so many names
+-- the command of this first word, where this is said after it: each option is allowed, and the
+-- word takes this many names
 abbrev pub command_with : Verb → Said → Option Command
 command_with v s =
     if is_whole s.waiting && (only (allows v) s && takes v (length s.names))
     then command_for v s s.names
     else None
 
--- the command of these words behind this first one
+-- the command of these words after this first one
 abbrev pub command_behind : List (List ℕ) → Verb → Option Command
 command_behind words v = option_and_then (command_with v) (said_on nothing_said words)
 

@@ -27,7 +27,7 @@ number_word most word =
     then Some (value_on 0 word)
     else None
 
--- an option is its name behind two hyphens
+-- an option is its name after two hyphens
 abbrev pub key_of : List ℕ → Option Key
 key_of word = option_and_then key_at (behind (codes "--") word)
 
@@ -61,18 +61,18 @@ set s Slice v =
 set s Wait v =
     option_map (λ o. record s { waiting = Any; wait = o }) (once s.wait (wait_at v))
 
--- the word is a name behind the others
+-- the word is a name after the others
 abbrev pub name : Said → List ℕ → Said
 name s word = record s { names = s.names ++ word ∷ [] }
 
--- what stands before the first such byte, and behind it
+-- what stands before the first such byte, and after it
 abbrev pub parts_at : ℕ → List ℕ → Option (List ℕ × List ℕ)
 parts_at c word =
     if nat_lt (position_or_len (λ b. b == c) word) (length word)
     then Some (before_first (λ b. b == c) word, after_first (λ b. b == c) word)
     else None
 
--- an option, with its value behind `=` or in the next word
+-- an option, with its value after `=` or in the next word
 abbrev pub option_in : Said → List ℕ → Option (List ℕ × List ℕ) → Option Said
 option_in s word None = option_map (λ k. record s { waiting = Value k }) (key_of word)
 option_in s word (Some p) = option_and_then (λ k. set s k p.1) (key_of p.0)

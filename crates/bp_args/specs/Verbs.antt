@@ -1,4 +1,4 @@
--- The first words of commands, and what each allows behind it.
+-- The first words of commands, and what each allows after it.
 use Rattle.std.specs.Prelude.{ℕ, ◌+◌, Bool, true, false, ◌&&◌, nat_le, List, [], ◌∷◌, Option, find, codes}
 use Rattle.std.specs.Str.{bytes_eq}
 use Rattle.bp_log.specs.declared.limits.TheConstants.{MOST_INJECTORS}
@@ -20,7 +20,7 @@ verbs = Run ∷ Replay ∷ Accept ∷ Large ∷ Migrate ∷ []
 abbrev pub verb_at : List ℕ → Option Verb
 verb_at word = find (λ v. bytes_eq word (verb_name v)) verbs
 
--- the options that may be said behind a first word
+-- the options that may be said after a first word
 abbrev pub allows : Verb → Key → Bool
 allows Run k = true
 allows Replay k = false
@@ -28,7 +28,7 @@ allows Accept k = false
 allows Large k = false
 allows Migrate k = false
 
--- how many names may stand behind a first word: of `run` the program and its injectors
+-- how many names may stand after a first word: of `run` the program and its injectors
 abbrev pub most_names : Verb → ℕ
 most_names Run = 1 + MOST_INJECTORS
 most_names Replay = 1

@@ -51,7 +51,7 @@ pub enum Command {
     Migrate(Text),
 }
 
-/// Why there is no command.
+/// Why there is not a command.
 #[derive(Clone, Copy, Debug, PartialEq, Eq, Error)]
 pub enum Usage {
     /// The words are no command.
@@ -73,7 +73,7 @@ impl From<AllocError> for Usage {
     }
 }
 
-/// The options that are said, for so many injectors, or `None` exactly where one is out of its
+/// The options that are said, for this many injectors, or `None` exactly where one is out of its
 /// range.
 fn options_of(said: &Said, injectors: u32) -> Option<Options>
     requires { injectors ≤ MOST_INJECTORS }
@@ -153,7 +153,7 @@ fn name_of(said: Said) -> Option<Text>
     Some(names.remove(0))
 }
 
-/// The number of b-threads, or `None` exactly where the word is no number from 1 to the most.
+/// The number of b-threads, or `None` exactly where the word is not a number from 1 to the most.
 fn large_of(word: &Text) -> Option<u32>
     ensures { result ≡ large_of word.now }
 {
@@ -164,8 +164,8 @@ fn large_of(word: &Text) -> Option<u32>
     Some(threads as u32)
 }
 
-/// The command of this first word, where this is said behind it, each option is allowed, and the
-/// word takes so many names.
+/// The command of this first word, where this is said after it, each option is allowed, and the
+/// word takes this many names.
 fn command_for(verb: Verb, said: Said) -> Option<Command>
     requires { takes verb (length said.names) ≡ true }
     ensures { result ≡ command_for verb said said.names }
@@ -179,7 +179,7 @@ fn command_for(verb: Verb, said: Said) -> Option<Command>
     }
 }
 
-/// The command of this first word, where this is said behind it.
+/// The command of this first word, where this is said after it.
 fn command_with(verb: Verb, said: Said) -> Option<Command>
     ensures { result ≡ command_with verb said }
 {
@@ -189,7 +189,7 @@ fn command_with(verb: Verb, said: Said) -> Option<Command>
     command_for(verb, said)
 }
 
-/// What the words behind the first say.
+/// What the words after the first say.
 fn said_in(alloc: Global, words: &[String]) -> Result<Said, Usage>
     ensures said { IfOk result (λ s. said_on nothing_said (map string_bytes words.now) ≡ Some s) }
     ensures wrong { IsErrOf result Usage.Wrong

@@ -14,14 +14,14 @@ use bp_matches::{Values, Words};
 use js_data::Text;
 use std::alloc::Global;
 
-/// The text of a number. Its only error is want of memory.
+/// The text of a number.
 fn number_text(alloc: Global, number: u64) -> Result<Text, Memory>
     ensures { IfOk result (λ t. t ≡ decimal number) }
 {
     Ok(Text::new(format!(in alloc; "{number}")?))
 }
 
-/// The first word, a name, and the names behind it. Its only error is want of memory.
+/// The first word, a name, and the names after it.
 fn words_of(alloc: Global, verb: Verb, name: Text, more: Words) -> Result<Words, Memory>
     ensures { IfOk result (λ w. w ≡ verb_name verb ∷ name ∷ more) }
 {
@@ -33,7 +33,7 @@ fn words_of(alloc: Global, verb: Verb, name: Text, more: Words) -> Result<Words,
     Ok(Words::new(words))
 }
 
-/// What a command without options says. Its only error is want of memory.
+/// What a command without options says.
 fn bare_values(alloc: Global, verb: Verb, name: Text) -> Result<Values, Memory>
     ensures { IfOk result (λ v. v ≡ bare_values verb name) }
 {
@@ -75,7 +75,7 @@ fn run_values(alloc: Global, run: Run) -> Result<Values, Memory>
     })
 }
 
-/// What a command says. Its only error is want of memory.
+/// What a command says.
 fn said_of(alloc: Global, command: Command) -> Result<Values, Memory>
     ensures { IfOk result (λ v. v ≡ said_by command) }
 {
@@ -90,7 +90,7 @@ fn said_of(alloc: Global, command: Command) -> Result<Values, Memory>
     }
 }
 
-/// The words of a command in the normal form. Its only error is want of memory.
+/// The words of a command in the normal form.
 pub(crate) fn normal_of(alloc: Global, command: Command) -> Result<Vec<String>, Memory>
     ensures { IfOk result (λ v. map string_bytes v.items ≡ normal_words (said_by command)) }
 {

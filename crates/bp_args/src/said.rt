@@ -31,7 +31,7 @@ pub enum Waiting {
 pub struct Said {
     /// What the next word may be.
     pub waiting: Waiting,
-    /// The names: words that are no options.
+    /// The names: words that are not options.
     pub names: Words,
     /// The name of the log.
     pub log: Option<Text>,
@@ -108,7 +108,7 @@ pub(crate) fn number_of(word: &str, most: u64) -> Option<u64>
     Some(number)
 }
 
-/// The number of so many digits, of 32 bits.
+/// The number of this many digits, of 32 bits.
 fn small_number_of(word: &str) -> Option<u32>
     ensures { result ≡ number_word most_32 word.now }
 {
@@ -116,7 +116,7 @@ fn small_number_of(word: &str) -> Option<u32>
     Some(number as u32)
 }
 
-/// What stands before the first `=`, and behind it.
+/// What stands before the first `=`, and after it.
 fn parts_of(word: &str) -> Option<(&str, &str)>
     ensures { option_map (λ p. (p.0.now, p.1.now)) result ≡ parts_at 61 word.now }
 {
@@ -153,7 +153,7 @@ fn once<T: Drop>(said: &mut Option<T>, value: Option<T>) -> Result<(), Usage>
 }
 
 impl Said {
-    /// Nothing is said. Takes no memory.
+    /// Nothing is said.
     pub fn new(alloc: Global) -> Said
         ensures { result ≡ nothing_said }
     {
@@ -209,7 +209,7 @@ impl Said {
         true
     }
 
-    /// The names and the name of the log. Takes no memory.
+    /// The names and the name of the log.
     pub fn into_names(self) -> (Words, Option<Text>)
         ensures { result ≡ (self.names, self.log) }
     {
@@ -228,7 +228,7 @@ impl Said {
         (names, log)
     }
 
-    /// The same, with these names. Takes no memory.
+    /// The same, with these names.
     pub fn with_names(mut self, names: Words) -> Said
         ensures { result ≡ record self { names = names } }
     {
@@ -236,7 +236,7 @@ impl Said {
         self
     }
 
-    /// The word is a name behind the others.
+    /// The word is a name after the others.
     fn name(&mut self, alloc: Global, word: &str) -> Result<(), Memory>
         ensures { IfOk result (λ _. self.new ≡ with_name self.old word.now) }
     {
@@ -262,7 +262,7 @@ impl Said {
         Ok(())
     }
 
-    /// The word is an option, which waits for its value or has it behind `=`.
+    /// The word is an option, which waits for its value or has it after `=`.
     fn option(&mut self, alloc: Global, word: &str) -> Result<(), Usage>
         ensures said { IfOk result
             (λ _. option_in self.old word.now (parts_at 61 word.now) ≡ Some self.new) }
@@ -282,7 +282,7 @@ impl Said {
         self.set(alloc, key, value)
     }
 
-    /// A word before `--` that is no value.
+    /// A word before `--` that is not a value.
     fn free_word(&mut self, alloc: Global, word: &str) -> Result<(), Usage>
         ensures said { IfOk result (λ _. with_free self.old word.now ≡ Some self.new) }
         ensures wrong { IsErrOf result Usage.Wrong → with_free self.old word.now ≡ None }

@@ -47,7 +47,7 @@ impl Verb {
         }
     }
 
-    /// The first word that this word is, or `None` exactly where it is none. Takes no memory.
+    /// The first word that this word is, or `None` exactly where it is none.
     pub fn of_name(word: &str) -> Option<Verb>
         ensures { result ≡ verb_at word.now }
     {
@@ -59,7 +59,7 @@ impl Verb {
         None
     }
 
-    /// Whether the option may be said behind the word.
+    /// Whether the option may be said after the word.
     pub fn allows(self, key: Key) -> bool
         ensures { result ≡ allowed self key }
     {
@@ -69,7 +69,7 @@ impl Verb {
         }
     }
 
-    /// How many names may stand behind the word.
+    /// How many names may stand after the word.
     fn most_names(self) -> usize
         ensures { result ≡ most_behind self }
     {
@@ -79,7 +79,7 @@ impl Verb {
         }
     }
 
-    /// Whether so many names may stand behind the word.
+    /// Whether this many names may stand after the word.
     pub fn takes(self, names: usize) -> bool
         ensures { result ≡ taken_by self names }
     {

@@ -150,7 +150,7 @@ impl MemorySink {
         self.faults
     }
 
-    /// All that was written, and how often it has failed. Takes no memory.
+    /// All that was written, and how often it has failed.
     pub fn into_parts(self) -> (Vec<u8>, u64)
         ensures written { result.0.items ≡ self.written }
         ensures faults { result.1 ≡ self.faults }

@@ -171,7 +171,7 @@ pub trait World {
         ensures writes { write_faults self.new ≡ write_faults self.old };
 
     /// Closes an output under the name that it was created with: from now on all that was written is held under
-    /// it. Where the output has failed, the world's count rises. Takes no memory.
+    /// it. Where the output has failed, the world's count rises.
     fn close_output(&mut self, name: &str, output: Self::Output)
         requires { IsMadeAs (Self.Output.made_as output) name.now }
         ensures sets { Keeps (holds self.old) name.now (Self.Output.written output) (holds self.new) }

@@ -40,7 +40,7 @@ impl MemoryOutput {
         self.sink.written()
     }
 
-    /// The entry with all that was written, and how often writing failed. Takes no memory.
+    /// The entry with all that was written, and how often writing failed.
     fn into_entry(self) -> (Box<Entry<u8>>, u64)
         ensures name { string_bytes result.0.value.name ≡ self.name }
         ensures list { result.0.value.list.items ≡ self.store.written }

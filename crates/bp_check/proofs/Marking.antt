@@ -35,7 +35,7 @@ with_its_parts numbers n x h = rw h refl
 without_parts : (numbers : List ℕ) (n : ℕ) (x : PlainNode) → has numbers n ≡ false → with_parts numbers n x ≡ numbers
 without_parts numbers n x h = rw h refl
 
--- the numbers that are asked for by what stands behind a node
+-- the numbers that are asked for by what stands after a node
 abbrev behind : List ℕ → ℕ → List PlainNode → List ℕ
 behind begun n nodes = numbers_in begun (suc n) (drop (suc n) nodes)
 
@@ -68,7 +68,7 @@ unmarked begun n nodes x old at within marked marks = λ k inside.
     let here : has later n ≡ false = sym (seen n within) ∙ marked in
     seen k inside ∙ ap (λ (ns : List ℕ). has ns k) (sym (numbers_at begun n nodes x at ∙ without_parts later n x here))
 
--- nothing stands behind the last node
+-- nothing stands after the last node
 pub begun_marks : (begun : List ℕ) (n : ℕ) (nodes : List PlainNode) (old new : List Bool) → n ≡ length nodes → length new ≡ length old → Marks old [] →
     ((k : ℕ) → k < length old → get_or new k false ≡ (get_or old k false || has begun k)) → Marks new (numbers_in begun n (drop n nodes))
 begun_marks begun n nodes old new all same clear more = λ k below.

@@ -31,14 +31,14 @@ fn methods<'a>() -> [&'a str; 8]
     ]
 }
 
-/// How many letters are to be put in, taken out or changed. Its only error is want of memory.
+/// How many letters are to be put in, taken out or changed.
 fn edits(alloc: Global, a: &str, b: &str) -> Result<usize, Memory>
     ensures { IfOk result (λ n. n ≡ edits a.now b.now) }
 {
     generic_levenshtein(alloc, a.as_bytes(), b.as_bytes())
 }
 
-/// The nearest method, where it is near. Its only error is want of memory.
+/// The nearest method, where it is near.
 #[tactic(auto, unfolding(crate::specs::Sentences::nearest))]
 fn nearest<'a>(alloc: Global, word: &str) -> Result<Option<&'a str>, Memory>
     ensures { IfOk result (λ o. option_map (λ w. w.now) o ≡ nearest word.now) }
@@ -105,7 +105,7 @@ fn told(word: &str) -> Option<&'static str>
     None
 }
 
-/// Writes what stands here for a method that is not there. Its only error is want of memory.
+/// Writes what stands here for a method that is not there.
 #[tactic(auto, unfolding(crate::specs::Sentences::hint))]
 pub fn write_hint(alloc: Global, word: &str, text: &mut String) -> Result<(), Memory>
     ensures { OnOk result (string_bytes text.new ≡ string_bytes text.old ++ hint word.now) }

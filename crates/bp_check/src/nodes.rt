@@ -54,7 +54,7 @@ fn write_found(
 }
 
 /// What of an accepted program will be at fault, or does other than it seems to: a line for each
-/// finding, and no text exactly where nothing is found. Its only error is want of memory.
+/// finding, and no text exactly where nothing is found.
 #[tactic(auto, unfolding(crate::specs::Sentences::check_text))]
 pub fn check(alloc: Global, program: &Program) -> Result<String, Memory>
     ensures { IfOk result (λ s. string_bytes s ≡ check_text program.now) }

@@ -18,7 +18,7 @@ fn write_plain(alloc: Global, line: u32, words: &str, text: &mut String) -> Resu
     text.push_str(words.as_str())
 }
 
-/// The sentence that no value has a method of this name. Its only error is want of memory.
+/// The sentence that no value has a method of this name.
 fn no_method_words(alloc: Global, word: &Text) -> Result<String, Memory>
     ensures { IfOk result (λ s. string_bytes s ≡ sentence (f.no_method word.now)) }
 {
@@ -44,7 +44,7 @@ pub fn write_no_method(
     write_plain(alloc, line, words.as_str(), text)
 }
 
-/// The sentence that a statement has no such key. Its only error is want of memory.
+/// The sentence that a statement has no such key.
 fn no_key_words(alloc: Global, key: &Text) -> Result<String, Memory>
     ensures { IfOk result (λ s. string_bytes s ≡ sentence (f.no_key key.now)) }
 {

@@ -113,7 +113,7 @@ fn is_marked(marks: &[bool], number: u32) -> bool
     }
 }
 
-/// Marks the parts of a node that is marked, once what is behind it is marked.
+/// Marks the parts of a node that is marked, once what is after it is marked.
 fn mark_behind(marks: &mut [bool], program: &Program, number: u32)
     requires many { length marks.old ≡ length program.now.nodes }
     requires number { number < length program.now.nodes }
@@ -141,7 +141,7 @@ fn mark_tops(marks: &mut [bool], program: &Program)
     }
 }
 
-/// For each node, whether it is one of the top level. Its only error is want of memory.
+/// For each node, whether it is one of the top level.
 pub fn top_marks(alloc: Global, program: &Program) -> Result<Vec<bool>, Memory>
     ensures many { IfOk result (λ v. length v.items ≡ length program.now.nodes) }
     ensures marks { IfOk result (λ v. Marks v.items (top_numbers program.now)) }

@@ -80,7 +80,7 @@ asks_unloaded c name rest holds before after _ e u h = absurd u
 
 -- ---- others
 
--- where memory was wanting nothing was asked for
+-- where memory ran out nothing was asked for
 pub asks_wanting : (c : Option Command) (before : Option (List (List ℕ))) → AsksIn c before before NoMemory
 asks_wanting None before = refl
 asks_wanting (Some c) before = ([], prefix_nil (names_of c), asks_none before)

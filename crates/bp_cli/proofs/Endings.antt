@@ -209,7 +209,7 @@ concluded_of c records before after k code note a e (inl s) = record { conclusio
 concluded_of c records before after k code note a e (inr s) =
     record { conclusion = NoMemory; status = s.1; asks = asks_some c before.asked after.asked k a; ends = wanting_note c records before after k s.0 e }
 
--- the status is that of the conclusion, or says that memory was wanting
+-- the status is that of the conclusion, or says that memory ran out
 pub concluded : (c : Option Command) (records told : List Record) (before after : Outside) (k : Conclusion) (code : ℕ) (note : List ℕ) → told ≡ records →
     AsksIn c before.asked after.asked k → EndsIn c records before after k → (IsStatusOf code note k ⊎ ((has_note k ≡ true) × IsStatusOf code note NoMemory)) → Ends c before after code note told
 concluded c records told before after k code note r a e s = subst (λ (rs : List Record). Ends c before after code note rs) (sym r) (concluded_of c records before after k code note a e s)

@@ -78,7 +78,7 @@ some_unchanged : (o : Option (List ℕ)) (P : List ℕ → Type 0) → IsSome o 
 some_unchanged None P s f = absurd (cc)
 some_unchanged (Some t) P s f = f t
 
--- memory was wanting before anything was printed
+-- memory ran out before anything was printed
 pub measured_none : (n : ℕ) (program : PlainProgram) (records : List Record) (same : Outside) → IsProgram (large_program n) program → IsPrefix records (records_alone program default_options) → Measures n records same same NoMemory
 measured_none n program records same p b = record {
   program = program;

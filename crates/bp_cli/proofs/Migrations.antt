@@ -63,7 +63,7 @@ caused_by _ before after r w = tt
 pub caused : (ended : Result (Unit {0}) MigrateFault) (c : Conclusion) (before after : Outside) → c ≡ migrated_of ended → (IsErrOf ended (Log log_fault.Read) → ReadFailed before after) → (IsErrOf ended Write → WriteFailed before after) → IsCaused before after c
 caused ended c before after e r w = subst (λ (x : Conclusion). IsCaused before after x) (sym e) (caused_by ended before after r w)
 
--- what was refused is no log
+-- what was refused is not a log
 no_log : (bytes : List ℕ) (b a : Option (List ℕ)) (f : LogFault) → (IsTrouble (Err (Log f)) → ⊥) → IsMigration bytes b a (Err (Log f)) → IsSomeLog bytes → ⊥
 no_log bytes b a f none h l = elim (logs_migrate l.version bytes l.header l.records b a (Err (Log f)) l.log h) [
   | inl trouble ↦ none trouble

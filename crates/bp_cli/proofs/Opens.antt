@@ -10,7 +10,7 @@ use Rattle.bp_feeds.proofs.Going.{rose_on, rose_from}
 use Rattle.bp_cli.specs.Asking.{WasAsked}
 use Rattle.bp_cli.proofs.Asking.{asks_on}
 
--- one more name behind the first of them
+-- one more name after the first of them
 taken_more : (names : List (List ℕ)) (i : ℕ) (name : List ℕ) → i < length names → name ≡ get_or names i name → take (i + 1) names ≡ take i names ++ name ∷ []
 taken_more names i name h e = take_more names i name h ∙ ap (λ (n : List ℕ). take i names ++ n ∷ []) (sym e)
 

@@ -63,7 +63,7 @@ pub unloaded_fault : (holds : Option Holdings) (name bytes : List ℕ) (fault : 
 unloaded_fault holds name bytes (ScriptFault.Refused refusal) c e u f = subst (λ (x : Conclusion). IsUnloaded holds name x) (sym e) (bytes, u, f)
 unloaded_fault holds name bytes ScriptFault.Memory c e u f = subst (λ (x : Conclusion). IsUnloaded holds name x) (sym e) tt
 
--- that is a refusal, a failure or want of memory
+-- that is a refusal, a failure or out of memory
 pub fault_read : (fault : ScriptFault) (c : Conclusion) → c ≡ conclusion_of fault → c ≡ NotRead → ⊥
 fault_read (ScriptFault.Refused refusal) c e n = cc
 fault_read ScriptFault.Memory c e n = cc

@@ -19,7 +19,7 @@ abbrev pub WasAsked : Option (List (List ℕ)) → List (List ℕ) → Option (L
 WasAsked before names after = IfSome before (λ asked. after ≡ Some (asked ++ names))
 
 -- so many of its names, from their front, a command asks for that ends so: the first where that is
--- refused, the first and maybe more where reading failed, some where memory was wanting, and else
+-- refused, the first and maybe more where reading failed, some where memory ran out, and else
 -- all
 abbrev pub AsksFor : Conclusion → List (List ℕ) → List (List ℕ) → Type 0
 AsksFor (Refused refusal) names asked = asked ≡ take 1 names

@@ -25,7 +25,7 @@ IsCaused before after _ = Unit {0}
 abbrev pub DoesNothing : List Record → Outside → Outside → Type 0
 DoesNothing records before after = IsAsBefore before after × (records ≡ [])
 
--- a command may end so before it has done anything: reading failed, or memory was wanting; the
+-- a command may end so before it has done anything: reading failed, or memory ran out; the
 -- large program is not read
 abbrev pub IsEarly : Command → Conclusion → Type 0
 IsEarly (Large n) conclusion = conclusion ≡ NoMemory

@@ -19,7 +19,7 @@ abbrev pub MergeWhole : List Record → List (List ℕ) → Type 0
 MergeWhole records inputs =
     (j : ℕ) (bytes : List ℕ) → slice_get inputs j ≡ Some bytes → items_by j records ≡ items bytes
 
--- Reading one of the inputs failed behind a front of its bytes: what the records say of it are the
+-- Reading one of the inputs failed after a front of its bytes: what the records say of it are the
 -- items of the whole lines of that front.
 abbrev pub BreaksIn : Option Holdings → List Record → List (List ℕ) → Type 0
 BreaksIn holds records inputs =

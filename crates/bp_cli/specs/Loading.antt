@@ -12,7 +12,7 @@ abbrev pub IsRefusedUnder : Option Holdings → List ℕ → Refusal → Type 0
 IsRefusedUnder holds name refusal =
     (bytes : List ℕ) × IsUnder holds name bytes × IsRefused bytes refusal
 
--- why there is no accepted program of that name: it is refused, or was not read
+-- why there is not an accepted program of that name: it is refused, or was not read
 abbrev pub IsUnloaded : Option Holdings → List ℕ → Conclusion → Type 0
 IsUnloaded holds name (Refused refusal) = IsRefusedUnder holds name refusal
 IsUnloaded holds name NotRead = Unit {0}

@@ -11,7 +11,7 @@ use Rattle.bp_cli.specs.declared.conclusion.Conclusion.{Conclusion}
 use Rattle.bp_cli.specs.declared.conclusion.Conclusion.TheVariants.{Ran, NotRead, NotWritten, NoMemory, BadLog}
 use Rattle.bp_cli.specs.Outside.{Outside}
 
--- the conclusion where reading or writing failed or memory was wanting; where it is none of these
+-- the conclusion where reading or writing failed or memory ran out; where it is none of these
 -- the log is bad
 abbrev pub trouble_of : ReplayFault → Option Conclusion
 trouble_of (Log log.Read) = Some NotRead

@@ -41,7 +41,7 @@ abbrev pub KeepsLog : Option (List ℕ) → Option Holdings → List ℕ → Opt
 KeepsLog None before text after = after ≡ before
 KeepsLog (Some name) before text after = Holds before name text after
 
--- the first of these records stand in what is held under the name, behind the header, and what was
+-- the first of these records stand in what is held under the name, after the header, and what was
 -- printed is of their text
 pub record HoldsBehind (name : List ℕ) (header : PlainHeader) (program : PlainProgram)
     (records : List Record) (before after : Outside) : Type 0 where
@@ -98,7 +98,7 @@ module _ (asked : Run) (bytes : List ℕ) (program : PlainProgram) (records : Li
         → Retells (log_text version (header_of asked bytes) records) text v)
 
   -- how a run ends: with a verdict; without one where reading an injector failed, and all that was
-  -- recorded until then was told; or where writing failed or memory was wanting
+  -- recorded until then was told; or where writing failed or memory ran out
   abbrev pub RunEnds : List (List ℕ) → Conclusion → Type 0
   RunEnds inputs (Ran v) = RunsTo inputs v
   RunEnds inputs NotRead =

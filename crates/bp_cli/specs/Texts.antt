@@ -15,7 +15,7 @@ abbrev pub accepted_line : List ℕ
 accepted_line = codes "accepted\n"
 
 -- how printing a line ends: all of it was printed; or writing failed, and a front of it was; or
--- memory was wanting, and nothing was, unless writing failed too
+-- memory ran out, and nothing was, unless writing failed too
 abbrev pub LineEnds : List ℕ → Outside → Outside → Conclusion → Type 0
 LineEnds line before after Accepted = Appends before.printed line after.printed
 LineEnds line before after (Ran v) = Appends before.printed line after.printed

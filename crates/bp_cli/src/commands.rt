@@ -99,7 +99,7 @@ pub fn command<R: Threads + Wait + Sync, W: World, K: Sink>(
         K.written K.faults in Ends (command_of (map string_bytes words.now))
         (seen world.old out.old) (seen world.new out.new) result.code result.note result.records }
 
-    // A refused program comes to no other end, but for a fault of reading or want of memory.
+    // A refused program comes to no other end, but for a fault of reading or out of memory.
     ensures refuses { Refuses (command_of (map string_bytes words.now)) (W.holds world.old)
         result.code }
 

@@ -91,7 +91,7 @@ fn verdict_code(kind: VerdictKind) -> u8
     }
 }
 
-/// The conclusion where reading or writing failed or memory was wanting.
+/// The conclusion where reading or writing failed or memory ran out.
 fn trouble_of(fault: &ReplayFault) -> Option<Conclusion>
     ensures { result ≡ trouble_in fault.now }
 {
@@ -120,7 +120,7 @@ fn as_replayed(fault: MigrateFault) -> ReplayFault
     }
 }
 
-/// Why bytes are no log. Its only error is want of memory.
+/// Why bytes are no log.
 fn log_detail(alloc: Global, fault: LogFault) -> Result<String, Memory>
     ensures { IfOk result (λ s. string_bytes s ≡ log_fault_text fault) }
 {
@@ -134,7 +134,7 @@ fn log_detail(alloc: Global, fault: LogFault) -> Result<String, Memory>
     }
 }
 
-/// Why a log is bad. Its only error is want of memory.
+/// Why a log is bad.
 fn detail(alloc: Global, fault: &ReplayFault) -> Result<String, Memory>
     ensures { IfOk result (λ s. string_bytes s ≡ detail_of fault.now) }
 {
@@ -151,7 +151,7 @@ fn detail(alloc: Global, fault: &ReplayFault) -> Result<String, Memory>
     }
 }
 
-/// The note of a bad log. Its only error is want of memory.
+/// The note of a bad log.
 fn bad_log_note(alloc: Global, fault: &ReplayFault) -> Result<Text, Memory>
     ensures { IfOk result (λ t. t ≡ bad_log_text fault.now) }
 {
@@ -239,7 +239,7 @@ impl Conclusion {
         }
     }
 
-    /// Its note for standard error. Its only error is want of memory; an empty note takes none.
+    /// Its note for standard error. Its only error is out of memory; an empty note takes none.
     pub(crate) fn note(&self, alloc: Global) -> Result<Text, Memory>
         ensures note { IfOk result (λ text. text ≡ note_of self.now) }
         ensures some { OnErr result (has_note self.now ≡ true) }

@@ -50,7 +50,7 @@ fn newlines(text: &[u8]) -> usize
     text.iter().filter(|byte| **byte == b'\n').count()
 }
 
-/// How many lines and how many bytes. Its only error is want of memory.
+/// How many lines and how many bytes.
 fn sizes_of(alloc: Global, lines: usize, bytes: usize) -> Result<String, Memory>
     ensures { IfOk result
         (λ s. string_bytes s ≡ decimal lines ++ (codes " bytes " ++ (decimal bytes ++ codes "\n"))) }
@@ -58,7 +58,7 @@ fn sizes_of(alloc: Global, lines: usize, bytes: usize) -> Result<String, Memory>
     format!(in alloc; "{lines} bytes {bytes}\n")
 }
 
-/// The line of a run of the program of so many b-threads. Its only error is want of memory.
+/// The line of a run of the program of this many b-threads.
 #[tactic(auto, unfolding(crate::specs::Large::large_line))]
 fn line_of(alloc: Global, count: u32, records: &[Record], text: &[u8]) -> Result<String, Memory>
     ensures { IfOk result (λ s. string_bytes s ≡ large_line count records.now text.now) }
@@ -95,7 +95,7 @@ fn run_aside<R: Threads + Wait + Sync>(
     Ok((report, sink))
 }
 
-/// Runs the program of so many b-threads, and prints one line of what its run comes to.
+/// Runs the program of this many b-threads, and prints one line of what its run comes to.
 pub(crate) fn measure_large<R: Threads + Wait + Sync, K: Sink>(
     rt: &R,
     alloc: Global,

@@ -30,7 +30,7 @@ impl Drop for Loaded {
 }
 
 impl Loaded {
-    /// The program and its bytes. Takes no memory.
+    /// The program and its bytes.
     pub(crate) fn into_parts(self) -> (Program, Vec<u8>)
         ensures { result ≡ (self.program, self.bytes) }
     {

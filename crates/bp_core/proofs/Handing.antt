@@ -25,7 +25,7 @@ use Rattle.bp_core.proofs.Merges.{carried_at, stands_back}
 use Rattle.bp_arbiter.proofs.Told.{same_code, same_story}
 
 module _ (base : Ground) (budget : ℕ) where
-  -- a job that was carried on has begun so many nodes, or has its outcome
+  -- a job that was carried on has begun this many nodes, or has its outcome
   begun_now : (x : Job) (o : Option (run.Outcome PlainSet)) → (plain_job x).outcome ≡ o → IsWhole base budget x → (k : Option ℕ) × HasBegun base budget x k
   begun_now x None e w = (Some w.begun, (e, _, w.stands))
   begun_now x (Some y) e w = (None, ap Rattle.std.specs.Prelude.is_some e)

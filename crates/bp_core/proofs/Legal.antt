@@ -121,7 +121,7 @@ seal_needs a jobs s h e =
     let p = and_parts (lent_phase a.phase) (list_all has_outcome jobs) (sym (ap (is_legal a jobs) e) ∙ h) in
     (lent_phase_is a.phase p.0, done_all jobs p.1)
 
--- so many nodes of a job that goes on
+-- this many nodes of a job that goes on
 pub record SliceNeeds (a : PlainArbiter) (jobs : List Job) (i n : ℕ) : Type 0 where
   pub lent : a.phase ≡ Lent
   pub some : nat_lt 0 n ≡ true

@@ -97,7 +97,7 @@ between_same : (a b : PlainArbiter) (m : Moment Origin) (s : CoreStep) (records 
 between_same a b m s records k (inl e) = inl e
 between_same a b m s records k (inr r) = inr (r.0, step_same a b m s k ∙ r.1, r.2)
 
--- memory is wanting in the next step
+-- memory runs out in the next step
 pub playing_cut : (start now new : Core) (all rest next : List CoreStep) (s : CoreStep) (at : ℕ) → Playing start now all rest at → rest ≡ s ∷ next → Cuts now new s → new.broken ≡ true → IsCutOff start new all at
 playing_cut start now new all rest next s at p e q w =
     record {

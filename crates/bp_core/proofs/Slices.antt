@@ -67,7 +67,7 @@ module _ (base : Ground) (o : PlainOptions) (b : Body Origin) (j x : Job) (origi
 -- ---- all of them
 
 module _ (base : Ground) (budget : ℕ) where
-  -- the job at this place, of which so many nodes have begun
+  -- the job at this place, of which this many nodes have begun
   pub record IsOpenAt (bs : List (Body Origin)) (ns : List (Option ℕ)) (i : ℕ) (j : Job) : Type 0 where
     pub body : Body Origin
     pub begun : ℕ

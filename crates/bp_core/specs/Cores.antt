@@ -76,7 +76,7 @@ pub record IsCut (old new : Core) (taken : List Line) (m : Moment Origin) (s : C
   pub records : AreBetween old.arbiter m s new.arbiter.records
   pub tells : Tells new.arbiter taken
 
--- wherever the core was, memory was wanting in this step
+-- wherever the core was, memory ran out in this step
 abbrev pub Cuts : Core → Core → CoreStep → Type 0
 Cuts old new s =
     (taken : List Line) (m : Moment Origin) → IsCoreAt old old.jobs.items taken m
@@ -145,7 +145,7 @@ pub record IsRefused (old new : Core) (steps : List CoreStep) (at : ℕ) (step :
   pub illegal : (taken : List Line) (m : Moment Origin) → IsCoreAt new new.jobs.items taken m
       → step_on new.arbiter m step ≡ None
 
--- the steps were made, and memory was wanting in the one behind them
+-- the steps were made, and memory ran out in the one after them
 pub record IsPlayedTo (old new : Core) (taken : List Line) (m : Moment Origin)
     (front : List CoreStep) (step : CoreStep) : Type 0 where
   pub next : Moment Origin
@@ -153,7 +153,7 @@ pub record IsPlayedTo (old new : Core) (taken : List Line) (m : Moment Origin)
   pub records : AreBetween old.arbiter next step new.arbiter.records
   pub tells : Tells new.arbiter taken
 
--- these steps were made wherever the core was, and memory was wanting in the next one
+-- these steps were made wherever the core was, and memory ran out in the next one
 pub record IsCutOff (old new : Core) (steps : List CoreStep) (at : ℕ) : Type 0 where
   pub front : List CoreStep
   pub step : CoreStep

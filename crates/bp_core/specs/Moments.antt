@@ -18,7 +18,7 @@ use Rattle.bp_floor.specs.Floors.{phase_of}
 use Rattle.bp_arbiter.specs.Arbiters.{PlainArbiter, StandsFor, Recounts, code_in, options_in}
 use Rattle.bp_arbiter.specs.Lending.{AreOut}
 
--- so many nodes have begun since the start or the last reply, or the outcome is there
+-- this many nodes have begun since the start or the last reply, or the outcome is there
 abbrev pub HasBegun : Ground → ℕ → Job → Option ℕ → Type 0
 HasBegun base budget j None = IsSome (plain_job j).outcome
 HasBegun base budget j (Some n) =

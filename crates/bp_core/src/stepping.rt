@@ -70,7 +70,7 @@ fn is_ready(phase: Phase) -> bool
     }
 }
 
-/// The jobs of what is to be run, if something is. Its only error is want of memory.
+/// The jobs of what is to be run, if something is.
 fn lend_on(alloc: Global, arbiter: &mut Arbiter) -> Result<Vec<Job>, Memory>
     requires unlent { is_lent arbiter.old.phase ≡ false }
     ensures at { IfOk result (λ jobs. (taken : List Line) (m : Moment Origin) →
@@ -91,7 +91,7 @@ fn lend_on(alloc: Global, arbiter: &mut Arbiter) -> Result<Vec<Job>, Memory>
 
 /// An arbiter together with its lent jobs.
 ///
-/// It is at an exact moment between two steps, until memory is wanting. Its jobs can be handed out,
+/// It is at an exact moment between two steps, until memory runs out. Its jobs can be handed out,
 /// and come back carried on.
 pub struct Core {
     alloc: Global,
@@ -118,7 +118,7 @@ impl Drop for Core {
 impl Core {
     ghost use Rattle.bp_core.specs.Cores.{IsCoreAt, IsSomewhere, Makes, AreDone, HandsIn, CanRunNow, Cuts, takes, is_open, is_legal, Plays, PlayEnds, StaysBroken};
 
-    /// An opened arbiter whose first job is lent. Its only error is want of memory.
+    /// An opened arbiter whose first job is lent.
     pub fn open(alloc: Global, program: Program, options: Options) -> Result<Core, Memory>
         ensures at { IfOk result (λ c. IsCoreAt c c.jobs.items []
             (steps.opened (code_of program options) options)) }
@@ -136,7 +136,7 @@ impl Core {
         })
     }
 
-    /// What comes next comes, and what is to be run then is lent. Its only error is want of memory,
+    /// What comes next comes, and what is to be run then is lent. Its only error is out of memory,
     /// after which each later call answers it.
     pub fn pick(&mut self) -> Result<Picked, Memory>
         requires rest { self.old.arbiter.phase ≡ phase.Rest }
@@ -188,7 +188,7 @@ impl Core {
     }
 
     /// The turn of the lent jobs, each of which has its outcome, is merged, and what is to be run then
-    /// is lent: then more b-threads are there. Its only error is want of memory, after which each later
+    /// is lent: then more b-threads are there. Its only error is out of memory, after which each later
     /// call answers it.
     pub fn seal(&mut self) -> Result<(), Memory>
         requires lent { self.old.arbiter.phase ≡ phase.Lent }
@@ -236,21 +236,21 @@ impl Core {
         Ok(())
     }
 
-    /// Whether the lent jobs are out. Takes no memory.
+    /// Whether the lent jobs are out.
     pub fn out(&self) -> bool
         ensures { result ≡ self.now.out }
     {
         self.out
     }
 
-    /// The arbiter. Takes no memory.
+    /// The arbiter.
     pub fn arbiter(&self) -> &Arbiter
         ensures { result.now ≡ self.now.arbiter }
     {
         &self.arbiter
     }
 
-    /// The lent jobs, in order; they are out then. Takes no memory.
+    /// The lent jobs, in order; they are out then.
     pub fn hand_out(&mut self) -> Vec<Job>
         requires lent { self.old.arbiter.phase ≡ phase.Lent }
         requires inside { self.old.out ≡ false }
@@ -280,7 +280,7 @@ impl Core {
         self.out = false;
     }
 
-    /// The lines since the last taking. Takes no memory.
+    /// The lines since the last taking.
     pub fn take_lines(&mut self) -> Lines
         ensures taken { (stand_in self.old.arbiter).lines ≡ result }
         ensures records { self.new.arbiter.records ≡ self.old.arbiter.records }
@@ -296,7 +296,7 @@ impl Core {
         self.arbiter.take_lines()
     }
 
-    /// The records, moved out. Takes no memory.
+    /// The records, moved out.
     pub fn into_records(self) -> Records
         ensures { result ≡ self.arbiter.records }
     {
@@ -343,7 +343,7 @@ impl Core {
         }
     }
 
-    /// A legal step is made. Its only error is want of memory, after which each later call answers
+    /// A legal step is made. Its only error is out of memory, after which each later call answers
     /// it.
     fn make(&mut self, step: CoreStep) -> Result<(), Memory>
         requires legal { is_legal self.old.arbiter self.old.jobs.items step ≡ true }
@@ -378,8 +378,8 @@ impl Core {
     /// # Errors
     ///
     /// `Illegal` exactly where the step at that place is the first that is not legal; the steps before
-    /// it were made, and it left nothing. `Memory` where memory was wanting there, and, at the first
-    /// place, after want of memory of an earlier call; the steps before it were made.
+    /// it were made, and it left nothing. `Memory` where memory ran out there, and, at the first
+    /// place, after memory ran out of an earlier call; the steps before it were made.
     pub fn play(&mut self, steps: Vec<CoreStep>) -> Result<(), PlayFault>
         requires inside { self.old.out ≡ false }
         requires few { length steps.items < 2 ^ 32 }

@@ -27,7 +27,7 @@ kind_in c = option_map (kind_text (nat_lt 0 (not_ended c.stand))) c.stand.verdic
 unfoldable pub kind_alone : {Origin Set : Type 0} → Code Origin Set → PlainOptions → Option (List ℕ)
 kind_alone l o = option_and_then kind_in (story l o (alone l o))
 
--- so many seeds from this one on, each with how its run ends
+-- this many seeds from this one on, each with how its run ends
 abbrev pub ends_from : (ℕ → Option (List ℕ)) → ℕ → ℕ → List (ℕ × List ℕ)
 ends_from kind zero seed = []
 ends_from kind (suc n) seed =
@@ -55,7 +55,7 @@ abbrev pub counted_text : Counted → List ℕ
 counted_text x =
     decimal x.count ++ (codes " " ++ (x.kind ++ (codes ", first seed " ++ (decimal x.first ++ codes "\n"))))
 
--- of the seeds from one on, so many
+-- of the seeds from one on, this many
 unfoldable pub seeds_text : (ℕ → Option (List ℕ)) → ℕ → ℕ → List ℕ
 seeds_text kind n seed = flat_map counted_text (count_all (ends_from kind n seed) [])
 

@@ -20,7 +20,7 @@ use Rattle.bp_explain.specs.Blocking.{blockers, requesters}
 use Rattle.bp_explain.specs.Listed.{listed}
 use Rattle.bp_explain.specs.States.{names_text}
 
--- a word and names behind it; nothing where there are no names
+-- a word and names after it; nothing where there are no names
 abbrev pub with_names : {Origin : Type 0} → Stand Origin → List ℕ → List ℕ → List ℕ
 with_names s word [] = []
 with_names s word (n ∷ ns) = word ++ names_text s (n ∷ ns)

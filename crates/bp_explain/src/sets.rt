@@ -33,7 +33,7 @@ fn write_predicate(alloc: Global, name: &Text, line: u32, text: &mut String) -> 
 }
 
 /// Writes the text of an event.
-fn write_event(alloc: Global, event: &Event, text: &mut String) -> Result<(), Memory>
+pub(crate) fn write_event(alloc: Global, event: &Event, text: &mut String) -> Result<(), Memory>
     ensures { OnOk result (string_bytes text.new
         ≡ string_bytes text.old ++ text_of_event event.now) }
 {
@@ -61,8 +61,8 @@ fn write_two(
     text.push_str(")")
 }
 
-/// Writes a set in words behind the text: an event as its text, a list in brackets, a predicate by
-/// its name and the line of its function. Its only error is want of memory.
+/// Writes a set in words after the text: an event as its text, a list in brackets, a predicate by
+/// its name and the line of its function.
 #[cycle(words)]
 pub fn write_set(
     alloc: Global,

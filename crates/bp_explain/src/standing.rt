@@ -99,7 +99,7 @@ fn write_stated(
     text.push_str("\n")
 }
 
-/// Writes a statement, a line a key. Its only error is want of memory.
+/// Writes a statement, a line a key.
 fn write_statement(
     alloc: Global,
     program: &Program,
@@ -116,8 +116,8 @@ fn write_statement(
     write_stated(alloc, program, "interrupt", &statement.interrupt, text)
 }
 
-/// Writes where a b-thread stands behind the text: its name, the line of its stop, and what it states
-/// there. Its only error is want of memory.
+/// Writes where a b-thread stands after the text: its name, the line of its stop, and what it states
+/// there.
 #[tactic(auto, unfolding(crate::specs::Standing::standing_text))]
 pub fn write_standing(
     alloc: Global,

@@ -124,7 +124,7 @@ items_follow passed given w = (
   λ f. (f [] Failed).1 ∙ ap items_before_fault (append-nil passed),
 )
 
--- ---- nothing stands behind an item that is last
+-- ---- nothing stands after an item that is last
 
 some_of : (xs : List Item) (y : Item) (ys : List Item) → xs ++ y ∷ ys ≡ [] → ⊥
 some_of [] y ys e = cc

@@ -20,7 +20,7 @@ stopped_at : (n : ℕ) (block : List ℕ) → (n < length block → (rest : List
 stopped_at n block stops true h = let r = stops (ltb-true n (length block) h) in ap has_break r.1
 stopped_at n block stops false h = ap has_break (drop_all n block (ltb-false n (length block) h))
 
--- behind a line without LF, a block has one exactly where what stands before its first stops short of its end
+-- after a line without LF, a block has one exactly where what stands before its first stops short of its end
 pub breaks_at : (line block : List ℕ) (n : ℕ) → has_break line ≡ false → has_break (take n block) ≡ false → (n < length block → (rest : List ℕ) × (drop n block ≡ 10 ∷ rest)) → nat_lt n (length block) ≡ has_break (line ++ block)
 breaks_at line block n unbroken front stops =
     let behind : has_break block ≡ nat_lt n (length block) =
@@ -164,7 +164,7 @@ unended_more : (i : Option Item) (tail : List Item) → has_end (option_to_list 
 unended_more None tail h k = k
 unended_more (Some item) tail h k = unended_step (is_last item) item tail h k
 
--- where a fault is last there is no end
+-- where a fault is last there is not an end
 pub unended_lines : (lines : List (List ℕ)) (number : ℕ) → has_end (items_from lines number Failed) ≡ false
 unended_lines [] number = refl
 unended_lines (line ∷ lines) number =

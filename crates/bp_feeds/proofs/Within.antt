@@ -71,7 +71,7 @@ passes took given line more number item u is e w =
           ∙ whole_follow took given number (line ++ 10 ∷ more) w lf Failed;
     }
 
--- among the items so far is no end
+-- among the items so far is not an end
 pub within_unended : (took : List ℕ) (given : List Item) (number : ℕ) (held : List ℕ) → IsBetweenLines took given number held → has_end given ≡ false
 within_unended took given number held w =
     let all : has_end (given ++ Failed ∷ []) ≡ false = ap has_end w.good ∙ unended_lines (whole_lines w.passed) 1 in
@@ -229,7 +229,7 @@ same_held a b c s held number reached left = record {
   given = subst (λ o. Gives a.left s.came o) (sym left) s.given;
 }
 
--- a block that came behind a line without LF
+-- a block that came after a line without LF
 pub filled : (a b c : Reading) (line block : List ℕ) → IsSameReading a b → line ++ [] ≡ b.held → c.held ≡ line ++ block → c.number ≡ b.number → c.reached ≡ b.reached
     → Gives b.left block c.left → IsSameReading a c
 filled a b c line block s e held number reached g = record {
@@ -246,7 +246,7 @@ nothing_more None came b g e = tt
 nothing_more (Some x) came None g e = absurd g
 nothing_more (Some x) came (Some y) g e = g ∙ ap (λ l. came ++ l) e ∙ append-nil came
 
--- no block came behind a line without LF
+-- no block came after a line without LF
 pub filled_last : (a b c : Reading) (line block : List ℕ) → IsSameReading a b → line ++ [] ≡ b.held → c.held ≡ line ++ block → c.number ≡ b.number → c.reached ≡ b.reached
     → Gives b.left block c.left → block ≡ [] → IfSome b.left (λ x. x ≡ []) → IsSameToEnd a c
 unfolding filled

@@ -26,7 +26,7 @@ module _ {S : Type 0} where
   abbrev pub is_over : Feed S → Bool
   is_over f = is_read f.lines.reached && is_none f.kept
 
-  -- behind what stood there before, the feed has given the items that it read of a source that had so
+  -- after what stood there before, the feed has given the items that it read of a source that had so
   -- much left at the start
   pub record StandsTo (left : S → Option (List ℕ)) (start : Option (List ℕ)) (before : List Item)
       (f : Feed S) : Type 0 where

@@ -90,12 +90,12 @@ has_end items = list_any is_end items
 abbrev pub has_fault : List Item → Bool
 has_fault items = list_any is_fault items
 
--- the item of a line, where it has one, and then those of the lines behind it
+-- the item of a line, where it has one, and then those of the lines after it
 abbrev pub followed : Option Item → List Item → List Item
 followed None items = items
 followed (Some item) items = if is_last item then item ∷ [] else item ∷ items
 
--- the items of the lines, the first of which has this number, and behind them what is last where no
+-- the items of the lines, the first of which has this number, and after them what is last where no
 -- line is bad
 abbrev pub items_from : List (List ℕ) → ℕ → Item → List Item
 items_from [] number last = last ∷ []
@@ -106,6 +106,6 @@ items_from (line ∷ lines) number last =
 abbrev pub items : List ℕ → List Item
 items bytes = items_from (lines_of bytes) 1 End
 
--- the items of bytes behind which the source failed: those of the whole lines
+-- the items of bytes after which the source failed: those of the whole lines
 abbrev pub items_before_fault : List ℕ → List Item
 items_before_fault bytes = items_from (whole_lines bytes) 1 Failed

@@ -28,7 +28,7 @@ abbrev pub AreWholeLines : List ℕ → Type 0
 AreWholeLines bytes = (bytes ≡ []) ⊎ ((front : List ℕ) × (bytes ≡ front ++ 10 ∷ []))
 
 -- The reading stands between two lines. Of the bytes that were taken, `passed` are the lines that it
--- has behind it, all of them whole, and the others are held. It gave the items of these lines, of which
+-- has after it, all of them whole, and the others are held. It gave the items of these lines, of which
 -- none is bad; so if the source failed now, its fault would follow them at once. The next line has the
 -- next number.
 pub record IsBetweenLines (took : List ℕ) (given : List Item) (number : ℕ) (held : List ℕ)

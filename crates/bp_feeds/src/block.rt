@@ -46,7 +46,7 @@ impl Block {
         &self.bytes[self.at..self.end]
     }
 
-    /// Takes so many bytes.
+    /// Takes this many bytes.
     pub fn skip(&mut self, count: usize)
         requires { count ≤ length self.old }
         ensures { self.new ≡ drop count self.old }

@@ -68,7 +68,7 @@ impl<S: Source> Feed<S> {
         self.lines.is_read() && self.kept.is_none()
     }
 
-    /// Whether a whole line is held: then the next turn asks the source for nothing. Takes no memory.
+    /// Whether a whole line is held: then the next turn asks the source for nothing.
     pub fn holds_line(&self) -> bool
         ensures { result ≡ has_break (held self.now.lines) }
     {
@@ -111,7 +111,7 @@ impl<S: Source> Feed<S> {
     ///
     /// # Errors
     ///
-    /// Want of memory, and then nothing was offered and the feed has the same to give.
+    /// Out of memory, and then nothing was offered and the feed has the same to give.
     pub fn turn(&mut self) -> Result<Fed, Memory>
         requires { feed_is_over self.old ≡ false }
         ensures goes_on { GoesOn S.left S.faults self.old self.new }

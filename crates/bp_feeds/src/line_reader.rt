@@ -66,7 +66,7 @@ impl<S: Source> LineReader<S> {
         }
     }
 
-    /// Whether a whole line is held. Takes no memory.
+    /// Whether a whole line is held.
     pub fn holds_line(&self) -> bool
         ensures { result ≡ has_break (held self.now) }
     {
@@ -192,7 +192,7 @@ impl<S: Source> LineReader<S> {
     ///
     /// # Errors
     ///
-    /// Want of memory, and then the same is still to be read.
+    /// Out of memory, and then the same is still to be read.
     pub fn next(&mut self) -> Result<Option<Item>, Memory>
         requires { is_read self.old.reached ≡ false }
         ensures reads { IfOk result (λ item.

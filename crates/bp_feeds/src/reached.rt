@@ -5,7 +5,7 @@
 pub enum Reached {
     /// A line, or the end, is still to come.
     Within,
-    /// The end, behind the last line. It was not yet told.
+    /// The end, after the last line. It was not yet told.
     Last,
     /// The end, which was told.
     Ended,

@@ -56,7 +56,7 @@ change_map_at v f g (suc i) (x ∷ xs) h = ap (λ ys. v x ∷ ys) (change_map_at
 pub change_map : {A B : Type 0} (v : A → B) (f : A → A) (g : B → B) (i : ℕ) (xs : List A) → ((x : A) → v (f x) ≡ g (v x)) → map v (change f i xs) ≡ change g i (map v xs)
 change_map v f g i xs h = change_map_at v f g i xs (λ x _. h x)
 
--- so many were changed
+-- this many were changed
 abbrev pub changed_first : {A : Type 0} → (A → A) → ℕ → List A → List A
 changed_first f n [] = []
 changed_first f zero (x ∷ xs) = x ∷ xs

@@ -1,4 +1,4 @@
--- Events that were let go, and those behind them.
+-- Events that were let go, and those after them.
 use Rattle.std.proofs.Common.{◌≡◌, ℕ, suc, ◌+◌, ◌<◌, List, ◌++◌, length, take, drop, remove, sym, ap, ◌∙◌, arith}
 use Rattle.std.proofs.lemmas.List.{drop-append-le, drop-take, drop-drop, length-take}
 

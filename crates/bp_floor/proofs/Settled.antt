@@ -88,6 +88,6 @@ rest_is n queue all h =
     let len = length-drop n queue in
     take_all (length queue - n) (drop n queue) (omega (arith, len)) ∙ ap (λ (es : List PlainEvent). drop n es) h
 
--- so many of them are left
+-- this many of them are left
 pub rest_length : (n : ℕ) (rest queue : List PlainEvent) → rest ≡ drop n queue → length rest ≡ length queue - n
 rest_length n rest queue h = ap (λ (es : List PlainEvent). length es) h ∙ length-drop n queue

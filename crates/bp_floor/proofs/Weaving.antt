@@ -45,7 +45,7 @@ as_many [] = refl
 as_many (Moves i ∷ xs) = let r = as_many xs in omega (arith, r)
 as_many (Interrupts i ∷ xs) = let r = as_many xs in omega (arith, r)
 
--- Where weaving stands: so many of both lists are done, and these are left.
+-- Where weaving stands: this many of both lists are done, and these are left.
 pub record Weave (moved interrupted : List ℕ) (m i n : ℕ) (done xs : List Touched) : Type 0 where
   pub rest : List Touched
   pub all : done ++ rest ≡ xs

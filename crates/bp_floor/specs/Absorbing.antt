@@ -5,7 +5,7 @@ use Rattle.bp_log.specs.declared.item.Item.{Item}
 use Rattle.bp_floor.specs.declared.absorb.Absorb.{Absorb}
 use Rattle.bp_floor.specs.declared.absorb.Absorb.TheVariants.{Full, Memory}
 
--- the item comes back: full exactly where so many events wait as may
+-- the item comes back: full exactly where this many events wait as may
 abbrev pub IsRefused : ℕ → Item → Absorb → Type 0
 IsRefused waiting item (Full x) = (x ≡ item) × (MOST_WAITING ≤ waiting)
 IsRefused waiting item (Memory x) = (x ≡ item) × (waiting < MOST_WAITING)

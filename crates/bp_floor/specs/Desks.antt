@@ -96,7 +96,7 @@ abbrev pub block_of_seat : Option PlainSeat → PlainSet
 block_of_seat None = no_block
 block_of_seat (Some s) = block_of s
 
--- a choice from the queue, where so many events at its front were left out
+-- a choice from the queue, where this many events at its front were left out
 abbrev pub shifted : ℕ → Choice → Choice
 shifted n (Internal e) = Internal e
 shifted n (External place) = External (n + place)
@@ -105,7 +105,7 @@ shifted n Nothing = Nothing
 abbrev pub enabled_behind : ℕ → Enabled → Enabled
 enabled_behind n x = record x { outer = option_map (λ place. n + place) x.outer }
 
--- how many events at the front are known to be blocked after a choice among those behind
+-- how many events at the front are known to be blocked after a choice among those after
 abbrev pub learned : PlainDesk → Choice → ℕ
 learned d (Internal e) = d.front.blocked
 learned d (External place) = d.front.blocked + place

@@ -56,7 +56,7 @@ abbrev pub live_on : PlainFloor → List (Live PlainSet)
 live_on f = live (code_on f) f.pair.stand
 
 -- A floor from which these lines were taken stands for a pair: with the bodies of those that have ended
--- forgotten, the pair is the floor's own behind the lines.
+-- forgotten, the pair is the floor's own after the lines.
 abbrev pub StandsFor : PlainFloor → List Line → Pair Origin → Type 0
 StandsFor f taken p = forgotten the_top p ≡ before taken f.pair
 
@@ -138,7 +138,7 @@ pub record HadMemory (old new : PlainFloor) : Type 0 where
   pub before : old.broken ≡ false
   pub after : new.broken ≡ false
 
--- what stays after want of memory
+-- what stays after memory ran out
 pub record IsGivenUp (old new : PlainFloor) : Type 0 where
   pub broken : new.broken ≡ true
   pub phase : new.phase ≡ old.phase
@@ -162,7 +162,7 @@ stop_at_reach s e (Err x) = Some (fault_verdict s x)
 stop_at_reach s e (Ok xs) =
     if nat_lt MOST_WEIGHT (weight_after s e xs) then Some verdict.Weight else None
 
--- the verdict of a fault of a set, in the name of the b-thread of this number; want of memory is no
+-- the verdict of a fault of a set, in the name of the b-thread of this number; out of memory is no
 -- fault of a set
 abbrev pub told_verdict : Stand Origin → ℕ → set.SetFault → Option Verdict
 told_verdict s n (set_fault.Broken f line) = Some (fault_verdict s (n, SetFault.Broken f line))

@@ -31,7 +31,7 @@ abbrev pub Rises : List ℕ → Type 0
 Rises [] = Unit {0}
 Rises (n ∷ ns) = AreFrom (suc n) ns × Rises ns
 
--- the b-thread of an entry is among the first so many
+-- the b-thread of an entry is among the first this many
 abbrev pub IsBelow : {O : Type 0} → ℕ → Entry O → Type 0
 IsBelow most The_top = Unit {0}
 IsBelow most (Runs i) = i < most
@@ -53,7 +53,7 @@ pub record IsOn (r : Running) (base : Ground) (o : PlainOptions) : Type 0 where
   pub options_are : o ≡ r.options
 
 -- The jobs are the b-threads' own; those that have no outcome are to be run, and were registered after
--- the first so many; what is stated stands on the bench.
+-- the first this many; what is stated stands on the bench.
 pub record IsKept (r : Running) (first : ℕ) (b : Board) : Type 0 where
   pub own : AreOwn r.program r.options 0 b.seats
   pub waiting : where_from is_waiting 0 b.seats ≡ runs_in b.wave

@@ -41,7 +41,7 @@ impl Drop for Board {
 
 impl Board {
     /// The b-thread of this number states this from now on; with nothing it is not live. Its only
-    /// error is want of memory.
+    /// error is out of memory.
     pub fn restate(&mut self, number: u32, statement: Option<Statement>) -> Result<(), Memory>
         requires { number < length self.old.seats }
         ensures stated { OnOk result

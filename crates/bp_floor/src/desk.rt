@@ -61,7 +61,7 @@ fn block_of(statement: &Option<Statement>) -> Option<&EventSet>
     }
 }
 
-/// The choice from a queue, where so many events at its front were left out.
+/// The choice from a queue, where this many events at its front were left out.
 fn behind(choice: Choice, left_out: usize) -> Choice
     requires { (most : ℕ) × IsWithin most choice × (left_out + most < 2 ^ 32) }
     ensures { result ≡ shifted left_out choice }
@@ -73,7 +73,7 @@ fn behind(choice: Choice, left_out: usize) -> Choice
     }
 }
 
-/// What can be selected of a queue, where so many events at its front were left out.
+/// What can be selected of a queue, where this many events at its front were left out.
 fn enabled_behind(enabled: Enabled, left_out: usize) -> Enabled
     requires { (most : ℕ) × IfSome enabled.outer (λ place. place < most)
         × (left_out + most < 2 ^ 32) }
@@ -88,7 +88,7 @@ fn enabled_behind(enabled: Enabled, left_out: usize) -> Enabled
 }
 
 impl Desk {
-    /// Nobody is live, and nothing waits. Takes no memory.
+    /// Nobody is live, and nothing waits.
     pub fn new(alloc: Global) -> Desk
         ensures empty { result.bench.live ≡ [] }
         ensures queue { result.queue ≡ [] }
@@ -102,7 +102,7 @@ impl Desk {
     }
 
     /// The b-thread of this number, which blocked this before, states this from now on; with
-    /// nothing it is not live. Its only error is want of memory.
+    /// nothing it is not live.
     pub fn place(
         &mut self,
         number: u32,
@@ -121,14 +121,14 @@ impl Desk {
         self.bench.place(number, statement)
     }
 
-    /// How many events wait. Takes no memory.
+    /// How many events wait.
     pub fn waiting(&self) -> usize
         ensures { result ≡ length self.now.queue }
     {
         self.queue.len()
     }
 
-    /// The events that wait, in order. Takes no memory.
+    /// The events that wait, in order.
     pub fn queue(&self) -> &[Event]
         ensures { result.now ≡ self.now.queue }
     {
@@ -147,7 +147,7 @@ impl Desk {
         self.queue.push(event)
     }
 
-    /// Lets the event at this place of the queue go, if one is named. Takes no memory.
+    /// Lets the event at this place of the queue go, if one is named.
     pub fn without(&mut self, place: Option<u32>)
         requires { IfSome place (λ i. i < length self.old.queue) }
         ensures left { self.new.queue ≡ without self.old.queue place }
@@ -189,7 +189,7 @@ impl Desk {
         Ok(enabled_behind(enabled, left_out))
     }
 
-    /// Learns of a choice among the events behind the front: those before it are blocked.
+    /// Learns of a choice among the events after the front: those before it are blocked.
     fn learn(&mut self, choice: &Choice)
         requires within { IsWithin (length self.old.queue - self.old.front.blocked) choice.now }
         requires few { length self.old.queue < 2 ^ 32 }
@@ -290,7 +290,7 @@ impl Desk {
         self.bench.blocker(alloc, ground, event, budget)
     }
 
-    /// Whether a live b-thread requests the event. Takes no memory.
+    /// Whether a live b-thread requests the event.
     pub fn requested(&self, event: &Event) -> bool
         ensures { result ≡ requested self.now.bench.live event.now }
     {

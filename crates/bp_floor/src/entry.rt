@@ -72,7 +72,7 @@ impl Model for Wave {
 }
 
 impl Wave {
-    /// Nothing is to be run. Takes no memory.
+    /// Nothing is to be run.
     pub fn new(alloc: Global) -> Wave
         ensures { result ≡ [] }
     {
@@ -81,7 +81,7 @@ impl Wave {
         }
     }
 
-    /// Puts an entry at the end. Its only error is want of memory.
+    /// Puts an entry at the end.
     pub fn push(&mut self, entry: Entry) -> Result<(), Memory>
         ensures { OnOk result (self.new ≡ self.old ++ entry_seen entry ∷ []) }
     {
@@ -89,21 +89,21 @@ impl Wave {
         Ok(())
     }
 
-    /// Whether there is nothing. Takes no memory.
+    /// Whether there is nothing.
     pub fn is_empty(&self) -> bool
         ensures { result ≡ (length self.now == 0) }
     {
         self.items.is_empty()
     }
 
-    /// The entries, in order. Takes no memory.
+    /// The entries, in order.
     pub fn as_slice(&self) -> &[Entry]
         ensures { map entry_seen result.now ≡ self.now }
     {
         self.items.as_slice()
     }
 
-    /// The entries, given back. Takes no memory.
+    /// The entries, given back.
     pub fn into_vec(self) -> Vec<Entry>
         ensures { map entry_seen result.items ≡ self }
     {

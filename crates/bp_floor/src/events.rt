@@ -8,7 +8,7 @@ use std::marker::Model;
 
 /// Events, in the order in which they came. Contracts see the list.
 pub struct EventList {
-    /// Those that wait, behind those that were let go and not cleared away yet.
+    /// Those that wait, after those that were let go and not cleared away yet.
     items: Vec<Event>,
     /// How many were let go and not cleared away yet.
     gone: usize,
@@ -36,7 +36,7 @@ impl Model for EventList {
 }
 
 impl EventList {
-    /// No events. Takes no memory.
+    /// No events.
     pub fn new(alloc: Global) -> EventList
         ensures { result ≡ [] }
     {
@@ -46,7 +46,7 @@ impl EventList {
         }
     }
 
-    /// How many there are. Takes no memory.
+    /// How many there are.
     pub fn len(&self) -> usize
         ensures { result ≡ length self.now }
     {
@@ -62,7 +62,7 @@ impl EventList {
         self.items.push(event)
     }
 
-    /// Lets the event at this place go, if one is named. Takes no memory.
+    /// Lets the event at this place go, if one is named.
     pub fn without(&mut self, place: Option<u32>)
         requires { IfSome place (λ i. i < length self.old) }
         ensures { self.new ≡ without self.old place }
@@ -97,7 +97,7 @@ impl EventList {
         self.gone = 0;
     }
 
-    /// The events, in order. Takes no memory.
+    /// The events, in order.
     pub fn as_slice(&self) -> &[Event]
         ensures { result.now ≡ self.now }
     {

@@ -39,7 +39,7 @@ use std::marker::Model;
 /// Where the b-threads of a run stand. Contracts see its pair, with the lines that were not taken
 /// yet.
 ///
-/// After want of memory each later call that lends, seals or goes on answers it too.
+/// After memory ran out each later call that lends, seals or goes on answers it too.
 pub struct Floor {
     ground: Ground,
     options: Options,
@@ -100,7 +100,7 @@ impl Model for Floor {
 
 impl Floor {
     /// The floor of a program before anything has run: its top level is to be run. Its only error
-    /// is want of memory.
+    /// is out of memory.
     pub fn open(alloc: Global, program: Program, options: Options) -> Result<Floor, Memory>
         ensures { IfOk result (λ f. f ≡ record {
           base = bare program;
@@ -148,49 +148,49 @@ impl Floor {
             StandsFor self.now taken p → ShowsOf self.now p }
     {}
 
-    /// What can be done. Takes no memory.
+    /// What can be done.
     pub fn phase(&self) -> Phase
         ensures { result ≡ self.now.phase }
     {
         self.phase
     }
 
-    /// The program, with its constants once the top level has run. Takes no memory.
+    /// The program, with its constants once the top level has run.
     pub fn ground(&self) -> &Ground
         ensures { plain_ground result.now ≡ self.now.base }
     {
         &self.ground
     }
 
-    /// The options. Takes no memory.
+    /// The options.
     pub fn options(&self) -> Options
         ensures { result ≡ self.now.options }
     {
         self.options
     }
 
-    /// The verdict, if there is one. Takes no memory.
+    /// The verdict, if there is one.
     pub fn verdict(&self) -> Option<&Verdict>
         ensures { option_map (λ v. v.now) result ≡ self.now.pair.stand.verdict }
     {
         self.board.verdict.as_ref()
     }
 
-    /// The events that wait, in order. Takes no memory.
+    /// The events that wait, in order.
     pub fn queue(&self) -> &[Event]
         ensures { result.now ≡ self.now.pair.stand.queue }
     {
         self.board.desk.queue()
     }
 
-    /// How many transitions were made. Takes no memory.
+    /// How many transitions were made.
     pub fn transitions(&self) -> u32
         ensures { result ≡ self.now.pair.stand.transitions }
     {
         self.board.transitions
     }
 
-    /// The jobs of what is to be run, in order. Its only error is want of memory.
+    /// The jobs of what is to be run, in order.
     pub fn lend(&mut self, alloc: Global) -> Result<Vec<Job>, Memory>
         requires ready { self.old.phase ≡ phase.Ready }
         ensures filled { IfOk result (λ jobs. filled_pair jobs.items self.new.pair
@@ -220,7 +220,7 @@ impl Floor {
     }
 
     /// Merges what the lent jobs did: they are the lent ones in the same order, each carried to its
-    /// outcome with its effects whole. Its only error is want of memory; the jobs are let go.
+    /// outcome with its effects whole. Its only error is out of memory; the jobs are let go.
     pub fn seal(&mut self, alloc: Global, jobs: Vec<Job>) -> Result<Phase, Memory>
         requires lent { self.old.phase ≡ phase.Lent }
         requires back { self.old.broken ≡ false → AreBack self.old jobs.items }
@@ -246,7 +246,7 @@ impl Floor {
     }
 
     /// Makes the transition of an event that can be selected at this place, unless it would stop
-    /// the run. Its only error is want of memory.
+    /// the run.
     pub fn go(&mut self, alloc: Global, event: &Event, place: Option<u32>) -> Result<Went, Memory>
         requires rest { self.old.phase ≡ phase.Rest }
         requires can { self.old.broken ≡ false → CanGo self.old event.now place }
@@ -272,7 +272,7 @@ impl Floor {
     }
 
     /// The verdict with which `go` would stop at the event, if there is one, wherever the event
-    /// stands. Its only error is want of memory.
+    /// stands.
     pub fn stop(
         &mut self,
         alloc: Global,
@@ -323,7 +323,7 @@ impl Floor {
     ///
     /// # Errors
     ///
-    /// Those of the bench; after want of memory `Memory` alone.
+    /// Those of the bench; after memory ran out `Memory` alone.
     pub fn enabled(&mut self, alloc: Global) -> Result<Enabled, SelectFault>
         requires rest { self.old.phase ≡ phase.Rest }
         ensures enabled { AnswersAs enabled_of
@@ -342,7 +342,7 @@ impl Floor {
     ///
     /// # Errors
     ///
-    /// Those of the bench; after want of memory `Memory` alone.
+    /// Those of the bench; after memory ran out `Memory` alone.
     pub fn blocker(&mut self, alloc: Global, event: &Event) -> Result<Option<u32>, SelectFault>
         requires rest { self.old.phase ≡ phase.Rest }
         ensures blocker { AnswersAs (λ o. o)
@@ -357,7 +357,7 @@ impl Floor {
         self.board.desk.blocker(alloc, &self.ground, event, budget)
     }
 
-    /// The lines since the last taking. Takes no memory.
+    /// The lines since the last taking.
     pub fn take_lines(&mut self) -> Lines
         ensures taken { self.old.pair ≡ before result self.new.pair }
         ensures none { self.new.pair.stand.lines ≡ [] }
@@ -375,7 +375,7 @@ impl Floor {
     ///
     /// # Errors
     ///
-    /// Those of the bench; after want of memory `Memory` alone.
+    /// Those of the bench; after memory ran out `Memory` alone.
     pub fn choose(&mut self, alloc: Global, draw: &mut Draw) -> Result<Choice, SelectFault>
         requires rest { self.old.phase ≡ phase.Rest }
         requires words { draw.old.drawn + 1 < 2 ^ 64 }
@@ -399,7 +399,7 @@ impl Floor {
             .choose(alloc, &self.ground, self.options.strategy(), budget, draw)
     }
 
-    /// Whether a live b-thread requests the event. Takes no memory.
+    /// Whether a live b-thread requests the event.
     pub fn requested(&self, event: &Event) -> bool
         requires rest { self.now.phase ≡ phase.Rest }
         ensures { self.now.broken ≡ false → result ≡ requested (live_on self.now) event.now }
@@ -407,7 +407,7 @@ impl Floor {
         self.board.desk.requested(event)
     }
 
-    /// How many b-threads have not ended; 0 after want of memory. Takes no memory.
+    /// How many b-threads have not ended; 0 after memory ran out.
     pub fn live(&self) -> u32
         ensures live { self.now.broken ≡ false → result ≡ not_ended self.now.pair.stand }
         ensures broken { self.now.broken ≡ true → result ≡ 0 }
@@ -418,7 +418,14 @@ impl Floor {
         self.board.seats.live()
     }
 
-    /// The name of a b-thread. Takes no memory.
+    /// How many b-threads were registered.
+    pub fn count(&self) -> usize
+        ensures { result ≡ length self.now.pair.stand.threads }
+    {
+        self.board.seats.len()
+    }
+
+    /// The name of a b-thread.
     pub fn name_of(&self, number: u32) -> &Text
         requires { number < length self.now.pair.stand.threads }
         ensures { result.now ≡ name_in (slice_get self.now.pair.stand.threads number) }
@@ -427,7 +434,6 @@ impl Floor {
     }
 
     /// The line and the statement of the stop where a b-thread stands; nothing where it has ended.
-    /// Takes no memory.
     pub fn stopped(&self, number: u32) -> Option<(u32, &Statement)>
         requires sound { self.now.broken ≡ false }
         requires rest { self.now.phase ≡ phase.Rest }

@@ -32,7 +32,7 @@ impl Model for Front {
 }
 
 impl Front {
-    /// Nothing is known. Takes no memory.
+    /// Nothing is known.
     pub fn new(alloc: Global) -> Front
         ensures { result ≡ nothing_known }
     {
@@ -42,21 +42,21 @@ impl Front {
         }
     }
 
-    /// How many events at the front are known to be blocked. Takes no memory.
+    /// How many events at the front are known to be blocked.
     pub fn blocked(&self) -> usize
         ensures { result ≡ self.now.blocked }
     {
         self.blocked
     }
 
-    /// So many events at the front are known to be blocked. Takes no memory.
+    /// This many events at the front are known to be blocked.
     pub fn learn(&mut self, blocked: usize)
         ensures { self.new ≡ record self.old { blocked = blocked } }
     {
         self.blocked = blocked;
     }
 
-    /// Nothing is known any more. Takes no memory.
+    /// Nothing is known any more.
     pub fn forget(&mut self)
         ensures { self.new ≡ nothing_known }
     {
@@ -64,7 +64,7 @@ impl Front {
         self.away.clear();
     }
 
-    /// Nothing is known any more if a block set is away. Takes no memory.
+    /// Nothing is known any more if a block set is away.
     pub fn settle(&mut self)
         ensures none { self.new.away ≡ [] }
         ensures same { 0 < self.new.blocked → self.new ≡ self.old }

@@ -90,7 +90,7 @@ impl Board {
         }
     }
 
-    /// The weight of the run after an event that so many receive.
+    /// The weight of the run after an event that this many receive.
     fn weight_after(&self, event: &Event, moved: usize) -> u64
         requires light { self.now.weight ≤ MOST_WEIGHT }
         requires few { moved ≤ MOST_THREADS }
@@ -115,7 +115,7 @@ impl Board {
         Outlook::Reaches(reached, weight)
     }
 
-    /// What an event leads to. Its only error is want of memory.
+    /// What an event leads to.
     fn look(
         &mut self,
         alloc: Global,
@@ -159,7 +159,7 @@ impl Board {
         }
     }
 
-    /// The transition of an event, unless it would stop the run. Its only error is want of memory.
+    /// The transition of an event, unless it would stop the run.
     pub fn go(
         &mut self,
         alloc: Global,
@@ -189,7 +189,7 @@ impl Board {
         }
     }
 
-    /// What can be done now. Takes no memory.
+    /// What can be done now.
     pub fn phase(&self) -> Phase
         ensures { result ≡ phase_of (pair_of self.now) }
     {

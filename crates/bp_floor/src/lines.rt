@@ -31,7 +31,7 @@ impl Model for LineList {
 }
 
 impl LineList {
-    /// No lines. Takes no memory.
+    /// No lines.
     pub fn new(alloc: Global) -> LineList
         ensures { result ≡ [] }
     {
@@ -58,7 +58,7 @@ impl LineList {
         Ok(())
     }
 
-    /// All lines, and none are left. Takes no memory.
+    /// All lines, and none are left.
     pub fn take(&mut self) -> Lines
         ensures taken { result ≡ self.old }
         ensures left { self.new ≡ [] }

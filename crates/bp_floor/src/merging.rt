@@ -112,7 +112,7 @@ impl Board {
             self.stop(Verdict::Threads);
             return Ok(());
         }
-        // Never so many: the limit is far below.
+        // Never this many: the limit is far below.
         if number > u32::MAX as usize {
             return Err(AllocError);
         }

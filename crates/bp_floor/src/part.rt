@@ -70,7 +70,7 @@ impl Model for Rans {
 }
 
 impl Rans {
-    /// Nothing ran. Takes no memory.
+    /// Nothing ran.
     pub fn new(alloc: Global) -> Rans
         ensures { result ≡ [] }
     {
@@ -87,7 +87,7 @@ impl Rans {
         Ok(())
     }
 
-    /// Those that ran, given back. Takes no memory.
+    /// Those that ran, given back.
     pub fn into_vec(self) -> Vec<Ran>
         ensures { map ran_seen result.items ≡ self }
     {

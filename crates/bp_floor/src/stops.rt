@@ -13,7 +13,7 @@ ghost use Rattle.bp_floor.specs.Stops.{stop_with};
 
 use bp_thread::{Job, Outcome, Statement};
 
-/// The line and the statement of the stop where a job stands, if it stands at one. Takes no memory.
+/// The line and the statement of the stop where a job stands, if it stands at one.
 pub(crate) fn stop_of_job(job: &Job) -> Option<(u32, &Statement)>
     ensures { (program : PlainProgram) → (o : PlainOptions) → (n : ℕ) →
         IsOwn program o n job.now → (x : Reached PlainSet) → (plain_job job.now).outcome ≡ Some x →

@@ -96,7 +96,7 @@ module _ (first c : Course) (program : c.program ≡ first.program) (options : c
           shown = shown;
         }
 
-  -- the output failed, or memory was wanting
+  -- the output failed, or memory ran out
   pub tells_unwritten : (rest : Option (List ℕ)) (before : Option (List ℕ)) (page : List ℕ) (later : Option (List ℕ)) (s : Stage) (left : Option (List ℕ)) (f : PrintError) → Reached c rest s left →
       ShowsFront before (text_in c) page later → IfSome rest (λ bytes. Tells first bytes before page later (Err (fault_of_print f)))
   tells_unwritten None before page later s left f w shown = tt
@@ -223,7 +223,7 @@ goes_way c (End v) d a g h = absurd (let k : None ≡ Some v = sym h ∙ ap (λ 
 pub makes_way : (c : Course) (r : Record) (a : PlainArbiter) (m : Makes c r a) → verdict_of a.records ≡ None → IsOnWay (onto c r m.0) c.told.stand.lines a
 makes_way c r a m h = goes_way c r m.0 a m.2 h
 
--- a stage after a record that is no end has not ended
+-- a stage after a record that is not an end has not ended
 pub ended_after : (c : Course) (r : Record) (a : PlainArbiter) (s : Stage) → Makes c r a → verdict_of a.records ≡ None → (after s r).ended ≡ s.ended
 ended_after c (In j e) a s m h = refl
 ended_after c (Bad j n) a s m h = refl

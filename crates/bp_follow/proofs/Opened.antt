@@ -31,7 +31,7 @@ on_way_first v a r u s =
 pub on_way_opened : (v : Version) (program : PlainProgram) (options : PlainOptions) (a : PlainArbiter) → a ≡ opened program options → StandsFor a [] [] opening → IsOnWay (first_of v a) [] a
 on_way_opened v program options a e s = on_way_first v a (ap (λ (x : PlainArbiter). x.records) e) (ap (λ (x : PlainArbiter). is_lent x.phase) e) s
 
--- memory was wanting before anything ran
+-- memory ran out before anything ran
 pub tells_nothing : (v : Version) (program : PlainProgram) (options : PlainOptions) (rest : Option (List ℕ)) (s : Stage) (before : Option (List ℕ)) (page : List ℕ) → s ≡ first_stage v options.injectors → ShowsFront before (text_in (first_course v program options)) page before →
     IfSome rest (λ bytes. Tells (first_course v program options) bytes before page before (Err fault.Memory))
 unfolding story story_from

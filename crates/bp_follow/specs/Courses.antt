@@ -39,7 +39,7 @@ coming c = next (code_in c) c.options c.told
 abbrev pub led : Course → Record → Option (Configuration Origin)
 led c r = after_record (code_in c) c.options c.told r
 
--- the bytes behind a header begin with the records of this course, which are a story
+-- the bytes after a header begin with the records of this course, which are a story
 pub record Follows (rest : List ℕ) (c : Course) (s : Stage) (left : List ℕ) : Type 0 where
   pub begins : BeginsWith (first_stage c.version c.options.injectors) rest c.records s left
   pub told : IsTold c

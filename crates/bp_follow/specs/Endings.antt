@@ -20,7 +20,7 @@ pub record Parts (c : Course) (s : Stage) (left : List ℕ) (number : ℕ)
   pub differs : led c other ≡ None
   pub expected_is : expected ≡ record_of (coming c)
 
--- Why a replay that came so far ends so. Where memory was wanting or writing failed, nothing is said.
+-- Why a replay that came so far ends so. Where memory ran out or writing failed, nothing is said.
 abbrev pub EndsAt : Course → Stage → List ℕ → Result Verdict ReplayFault → Type 0
 EndsAt c s left (Ok v) = (next_at s left ≡ finished) × (verdict_of c.records ≡ Some v)
 EndsAt c s left (Err (Log f)) = MeansNext f (next_at s left)

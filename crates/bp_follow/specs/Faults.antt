@@ -10,7 +10,7 @@ abbrev pub fault_of_print : PrintError → ReplayFault
 fault_of_print print.Write = Write
 fault_of_print print.Memory = Memory
 
--- want of memory is one fault, whoever answers it
+-- out of memory is one fault, whoever answers it
 abbrev pub fault_of_log : LogFault → ReplayFault
 fault_of_log log.Version = Log log.Version
 fault_of_log log.Header = Log log.Header

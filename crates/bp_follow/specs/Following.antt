@@ -119,7 +119,7 @@ enters reading stand (End v) = false
 abbrev pub onto : Course → Record → Configuration Origin → Course
 onto c r d = record c { records = c.records ++ r ∷ []; told = d }
 
--- what stands behind an end is not followed
+-- what stands after an end is not followed
 abbrev pub GoesOn : Course → Record → Configuration Origin → PlainArbiter → Type 0
 GoesOn c (End v) d a = a.records ≡ c.records ++ End v ∷ []
 GoesOn c r d a = IsOnWay (onto c r d) c.told.stand.lines a
@@ -149,7 +149,7 @@ Followed c r n a (Err Write) = ⊥
 Followed c r n a (Err Memory) = Unit {0}
 
 -- the text was put on the page, and what was on it is written or still there; of a front after a failed
--- write or want of memory
+-- write or out of memory
 abbrev pub Shown : Result Verdict ReplayFault →
     Option (List ℕ) → List ℕ → List ℕ → Option (List ℕ) → Type 0
 Shown (Err Write) before text page after = ShowsFront before text page after

@@ -13,7 +13,7 @@ use bp_floor::Absorb;
 use bp_log::{Item, Memory, Record};
 use std::alloc::{AllocError, Global};
 
-/// Whether the injector, of so many, is there and has not ended.
+/// Whether the injector, of this many, is there and has not ended.
 fn is_read(arbiter: &Arbiter, injectors: u32, injector: u32) -> bool
     requires count { injectors ≡ (options_in arbiter.now).injectors }
     requires rest { arbiter.now.phase ≡ phase.Rest }
@@ -48,7 +48,7 @@ fn may_enter(arbiter: &Arbiter, found: &Record) -> bool
     }
 }
 
-/// The injector of the record, and its item. Its only error is want of memory.
+/// The injector of the record, and its item.
 fn item_of(found: &Record) -> Result<(u32, Item), Memory>
     requires { is_item found.now ≡ true }
     ensures { IfOk result (λ p. IsSaidBy found.now p.0 p.1) }
@@ -62,7 +62,7 @@ fn item_of(found: &Record) -> Result<(u32, Item), Memory>
     }
 }
 
-/// The item of the record enters. Its only error is want of memory.
+/// The item of the record enters.
 fn enter(arbiter: &mut Arbiter, found: &Record) -> Result<(), Memory>
     requires rest { arbiter.old.phase ≡ phase.Rest }
     requires may { enters arbiter.old.reading (stand_in arbiter.old) found.now ≡ true }

@@ -71,7 +71,7 @@ fn show<K: Sink>(
     page.print(alloc, said(arbiter, lines.as_slice()), out)
 }
 
-/// The verdict was said by the log: its line is printed, and nothing may stand behind it.
+/// The verdict was said by the log: its line is printed, and nothing may stand after it.
 fn finish<S: Source, K: Sink>(
     alloc: Global,
     reader: &mut Reader<S>,

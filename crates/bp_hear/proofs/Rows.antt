@@ -73,7 +73,7 @@ abbrev first_letter : List Item → ℕ
 first_letter (item.Offered e ∷ more) = slice_index_or e.name 0 0
 first_letter _ = 0
 
--- an item that comes twice, two that are swapped, an end before its time, and an item behind a bad line
+-- an item that comes twice, two that are swapped, an end before its time, and an item after a bad line
 pub no_item_twice : Merge (In 1 y ∷ In 1 y ∷ []) inputs → ⊥
 no_item_twice m = let p = m 1 second refl in cc (p.1 ∙ items_of_second)
 

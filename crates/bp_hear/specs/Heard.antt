@@ -26,7 +26,7 @@ pub record IsHeardWhole (start left : Option (List ℕ)) (heard : List Item) : T
   pub all : heard ≡ items took
   pub none : IfSome start (λ _. left ≡ Some [])
 
--- the source failed behind these items: they are those of the whole lines that it gave before
+-- the source failed after these items: they are those of the whole lines that it gave before
 pub record IsHeardToFault (start left : Option (List ℕ)) (heard : List Item) : Type 0 where
   pub took : List ℕ
   pub taken : Gives start took left

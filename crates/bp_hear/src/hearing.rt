@@ -93,7 +93,7 @@ fn hear_one(core: &mut Core, number: u32, hearing: &mut Hearing) -> Result<bool,
 ///
 /// # Errors
 ///
-/// `Failed` where the source of the injector failed, and `Memory` where memory was wanting for an item
+/// `Failed` where the source of the injector failed, and `Memory` where memory ran out for an item
 /// that has room. What entered before stays.
 pub fn hear(core: &mut Core, number: u32, hearing: &mut Hearing) -> Result<bool, HearFault>
     requires whole { core.old.broken ≡ false }

@@ -10,7 +10,7 @@ ghost use Rattle.bp_hear.specs.declared.hearing.Hearing.{Hearing};
 ghost use Rattle.bp_hear.specs.Hearings.{IsRecorded, AreOthers, AreHeard};
 ghost use Rattle.bp_hear.specs.Heard.{IsHeard, IsHeardWhole, IsHeardToFault};
 
-/// A source came back, and an injector had offered what was recorded of it and some items behind that:
+/// A source came back, and an injector had offered what was recorded of it and some items after that:
 /// what was recorded was heard of the source; where its end is among it, all of it was; and where a fault
 /// is the next item, it is what stood before that.
 pub fn what_was_recorded_was_heard()

@@ -56,7 +56,7 @@ fn ring_and_wait<W: Wake, R: Threads + Wait + Sync>(rt: &R, owed: bool, wake: &m
 ///
 /// # Errors
 ///
-/// Want of memory, after a halt of its own; it orders none otherwise.
+/// Out of memory, after a halt of its own; it orders none otherwise.
 pub fn inject<S: Source, W: Wake, R: Threads + Wait + Sync>(
     rt: &R,
     feed: &mut Feed<S>,

@@ -117,7 +117,7 @@ impl<S: Source + Drop> Beside<S> {
 ///
 /// # Errors
 ///
-/// Its thread met want of memory, and halted the bell. The source comes back all the same.
+/// Its thread ran out of memory, and halted the bell. The source comes back all the same.
 pub fn join<S: Source + Drop, R: Threads>(
     rt: &R,
     started: Started<S>,

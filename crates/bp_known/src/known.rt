@@ -72,7 +72,6 @@ impl Known {
 }
 
 /// What is known once the set of this number is one that answered so; nothing where it is at fault.
-/// Its only error is want of memory.
 fn with_set(known: Known, number: u32, answer: Result<bool, SetFault>) -> Result<Known, Memory>
     ensures { (m : Membership) → TellsAs m answer →
         IfOk result (λ k. k ≡ with_membership number m known) }
@@ -116,7 +115,7 @@ fn again(
 ///
 /// # Errors
 ///
-/// Want of memory alone.
+/// Out of memory alone.
 pub fn renew(
     alloc: Global,
     ground: &Ground,

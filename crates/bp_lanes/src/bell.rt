@@ -19,7 +19,7 @@ pub struct Bell {
 }
 
 impl Bell {
-    /// A bell that was not rung. Takes no memory.
+    /// A bell that was not rung.
     pub fn new() -> Bell {
         Bell {
             rings: Mutex::new(Rings {
@@ -112,7 +112,7 @@ pub struct Rope<'a> {
 impl<'a> Rope<'a> {
     ghost use Rattle.std.specs.Prelude.{◌≡◌};
 
-    /// A rope of this bell, which has seen no ring and no halt. Takes no memory.
+    /// A rope of this bell, which has seen no ring and no halt.
     pub fn new(bell: &'a Bell) -> Rope<'a>
         ensures { (result.halts ≡ 0) × (result.orders ≡ 0) }
     {

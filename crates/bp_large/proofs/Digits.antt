@@ -73,7 +73,7 @@ model = numerals_by_fold AreDigits digits_test (digits_value 10) (record { empty
 pub are_digits : (n : ℕ) → n < 4294967296 → AreDigits (decimal n)
 are_digits n h = digits_decimal model n (omega arith)
 
--- the second byte is no letter, so no base is said
+-- the second byte is not a letter, so no base is said
 middle : (a c : Bool) → (a && false && c) ≡ false
 middle true c = refl
 middle false c = refl

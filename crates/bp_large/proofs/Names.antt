@@ -27,7 +27,7 @@ pub record IsRead (ts : List Token) : Type 0 where
   pub is : stmts.items 20 (readers 20) ts ≡ Some (tree, [])
   pub named : name_fault tree ≡ None
 
--- the tree that is found in the program for a number of so many digits
+-- the tree that is found in the program for a number of this many digits
 abbrev tree_of : ℕ → ℕ → List PlainItem
 tree_of size v = found_tree (stmts.items 20 (readers 20) (tokens size v))
 
@@ -38,7 +38,7 @@ is_read : (size v : ℕ)
     → IsRead (tokens size v)
 is_read size v supported is named = record { tree = tree_of size v; supported = supported; is = is; named = named }
 
--- a number of so many digits
+-- a number of this many digits
 pub reads : (size : ℕ) → 0 < size → size ≤ 10 → (v : ℕ) → IsRead (tokens size v)
 unfolding program_scope function_scope block_scope for_three_scope list_scope for_of_scope expr_sites form_sites exprs_sites fields_sites perhaps_sites declarators_sites start_sites stmt_sites stmt_form_sites stmts_sites item_sites program_sites found found_var functions_of repeated blocked see places assigned_in holdings slots_of slot_count fault_at name_fault tokens_before tokens_behind tokens sort named numbered quoted member_word key operator_at sign step assign_op declares lexical is_of readers turns run
 reads zero h l v = absurd (omega (arith, h))

@@ -19,7 +19,7 @@ pub record Cutting : Type 0 where
 abbrev pub behind_token : Token → Cutting → Cutting
 behind_token t c = record c { tokens = t ∷ c.tokens }
 
--- by what stands in front; `go` goes on behind it
+-- by what stands in front; `go` goes on after it
 abbrev behind_piece : (List ℕ → Bool → ℕ → ℕ → Cutting) → List ℕ → Bool → ℕ → ℕ → Piece → Cutting
 behind_piece go left new_line place line nothing = record { tokens = []; left = left; new_line = new_line; place = place; line = line }
 behind_piece go left new_line place line (gap n) = go (drop n left) (new_line || nat_lt 0 (line_ends n left)) (place + n) (line + line_ends n left)
@@ -27,7 +27,7 @@ behind_piece go left new_line place line (token kind n) =
     behind_token (record { kind = kind; sort = kind_sort kind; from = place; to = place + n; line = line; new_line = new_line; sorted = refl }) (go (drop n left) false (place + n) (line + line_ends n left))
 behind_piece go left new_line place line (refused flaw n) = record { tokens = []; left = left; new_line = new_line; place = place; line = line }
 
--- at most so many pieces
+-- at most this many pieces
 abbrev pub pieces : ℕ → List ℕ → Bool → ℕ → ℕ → Cutting
 pieces zero left new_line place line = record { tokens = []; left = left; new_line = new_line; place = place; line = line }
 pieces (suc k) left new_line place line = behind_piece (pieces k) left new_line place line (front left)

@@ -12,7 +12,7 @@ use Rattle.js_lexer.proofs.Lexing.{line_behind}
 use Rattle.bp_large.specs.Large as large
 use Rattle.bp_large.proofs.Pieces.{Cutting, pieces, Cuts, pieces-cut}
 
--- before the number, and behind it from a place on
+-- before the number, and after it from a place on
 unfoldable pub tokens_before : List Token
 tokens_before = (pieces 78 (large.front ++ 48 ∷ []) true 0 1).tokens
 

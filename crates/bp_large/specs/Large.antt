@@ -7,11 +7,11 @@ use Rattle.bp_script.specs.Programs.{AreAccepted}
 abbrev pub front : List ℕ
 front = codes "const make = i => () => { for (let r = 0; r < 4; r++) bp.sync({request: bp.Event(\"e\", i)}) }\nfor (let i = 0; i < "
 
--- behind it
+-- after it
 abbrev pub rest : List ℕ
 rest = codes "; i++) bp.registerBThread(\"t\" + i, make(i))\n"
 
--- so many b-threads, of which each requests an event of its own four times
+-- this many b-threads, of which each requests an event of its own four times
 unfoldable pub large_program : ℕ → List ℕ
 large_program n = front ++ decimal n ++ rest
 

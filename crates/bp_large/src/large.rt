@@ -12,7 +12,7 @@ use std::alloc::{AllocError, Global};
 const FRONT: &str =
     "const make = i => () => { for (let r = 0; r < 4; r++) bp.sync({request: bp.Event(\"e\", i)}) }\nfor (let i = 0; i < ";
 
-/// The text behind it.
+/// The text after it.
 const REST: &str = "; i++) bp.registerBThread(\"t\" + i, make(i))\n";
 
 /// A law: the text with any number of b-threads is accepted.
@@ -20,7 +20,7 @@ pub fn large_is_accepted(count: u32)
     ensures { HasAcceptedTree (text_of_large count) }
 {}
 
-/// The text of the program of so many b-threads. Its only error is want of memory.
+/// The text of the program of this many b-threads.
 #[tactic(auto, unfolding(crate::specs::Large::large_program))]
 fn text_of(alloc: Global, count: u32) -> Result<String, Memory>
     ensures { IfOk result (λ s. string_bytes s ≡ text_of_large count) }
@@ -28,8 +28,8 @@ fn text_of(alloc: Global, count: u32) -> Result<String, Memory>
     format!(in alloc; "{FRONT}{count}{REST}")
 }
 
-/// The program of so many b-threads, of which each requests an event of its own four times. It is
-/// never refused; its only error is want of memory.
+/// The program of this many b-threads, of which each requests an event of its own four times. It is
+/// never refused; its only error is out of memory.
 pub fn large_program(alloc: Global, count: u32) -> Result<Program, Memory>
     ensures { IfOk result (IsProgram (text_of_large count)) }
 {

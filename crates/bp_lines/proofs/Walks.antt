@@ -35,7 +35,7 @@ around_more c i bytes inv h e =
     ∙ sym (onto_all-append (take i bytes) (get_or bytes i 0 ∷ []) _)
     ∙ ap (λ t. onto_all t (around c (drop (suc i) bytes))) (sym (take-suc bytes i 0 h))
 
--- ---- behind
+-- ---- after
 
 pub behind_differs : (i : ℕ) (word bytes : List ℕ) → i < length word → i < length bytes → get_or bytes i 0 ≢ get_or word i 0 → behind (drop i word) (drop i bytes) ≡ None
 behind_differs i word bytes h k e = rw (drop-cons bytes i 0 k, drop-cons word i 0 h, ne_eqb _ _ e) refl

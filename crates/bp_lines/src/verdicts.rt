@@ -11,7 +11,7 @@ use bp_log::{Memory, Place, Verdict};
 use js_data::{Fault, Text};
 use std::alloc::Global;
 
-/// The text at the front, in its quotation marks, and what stands behind it.
+/// The text at the front, in its quotation marks, and what stands after it.
 fn name_of(alloc: Global, bytes: &[u8]) -> Result<Option<(Text, &[u8])>, Memory>
     ensures { IfOk result (λ p. option_map (λ q. (q.0, q.1.now)) p ≡ name_at bytes.now) }
 {
@@ -24,7 +24,7 @@ fn name_of(alloc: Global, bytes: &[u8]) -> Result<Option<(Text, &[u8])>, Memory>
     }
 }
 
-/// The place at the front, and what stands behind it.
+/// The place at the front, and what stands after it.
 fn place_of(alloc: Global, bytes: &[u8]) -> Result<Option<(Place, &[u8])>, Memory>
     ensures { IfOk result (λ p. option_map (λ q. (q.0, q.1.now)) p ≡ place_at bytes.now) }
 {
@@ -164,7 +164,7 @@ fn kind_of(place: Place, bytes: &[u8]) -> Option<Verdict>
     Some(Verdict::Fault(place, line, fault))
 }
 
-/// A fault at the place, behind a blank.
+/// A fault at the place, after a blank.
 fn blamed_of(place: Place, bytes: &[u8]) -> Option<Verdict>
     ensures { result ≡ blamed_at (place, bytes.now) }
 {
@@ -184,7 +184,7 @@ fn faulty_of(alloc: Global, line: &[u8]) -> Result<Option<Verdict>, Memory>
     }
 }
 
-/// A spent budget of the place, behind which nothing stands.
+/// A spent budget of the place, after which nothing stands.
 fn spent_of_place(place: Place, bytes: &[u8]) -> Option<Verdict>
     ensures { result ≡ spent_by place bytes.now }
 {

@@ -51,7 +51,7 @@ pub(crate) fn small_number_of(bytes: &[u8]) -> Option<u32>
     Some(number as u32)
 }
 
-/// What stands behind the word, or `None` exactly where the bytes don't begin with it.
+/// What stands after the word, or `None` exactly where the bytes don't begin with it.
 pub fn behind_word<'a>(word: &[u8], bytes: &'a [u8]) -> Option<&'a [u8]>
     ensures { option_map (λ rest. rest.now) result ≡ behind word.now bytes.now }
 {
@@ -63,7 +63,7 @@ pub fn behind_word<'a>(word: &[u8], bytes: &'a [u8]) -> Option<&'a [u8]>
     Some(&bytes[word.len()..])
 }
 
-/// What stands before the first such byte, and behind it.
+/// What stands before the first such byte, and after it.
 pub(crate) fn around_byte(byte: u8, bytes: &[u8]) -> Option<(&[u8], &[u8])>
     ensures { option_map (λ p. (p.0.now, p.1.now)) result ≡ around byte bytes.now }
 {
@@ -75,7 +75,7 @@ pub(crate) fn around_byte(byte: u8, bytes: &[u8]) -> Option<(&[u8], &[u8])>
     None
 }
 
-/// The number of 32 bits behind the word.
+/// The number of 32 bits after the word.
 pub(crate) fn number_behind(word: &[u8], bytes: &[u8]) -> Option<u32>
     ensures { result ≡ number_after word.now most_32 bytes.now }
 {
@@ -92,7 +92,7 @@ pub(crate) fn numbers_of(bytes: &[u8]) -> Option<(u32, u32)>
     Some((first, second))
 }
 
-/// The bytes up to the first quotation mark that no backslash escapes, and those behind it.
+/// The bytes up to the first quotation mark that no backslash escapes, and those after it.
 fn up_to_quote(bytes: &[u8]) -> Option<(&[u8], &[u8])>
     ensures { option_map (λ p. (p.0.now, p.1.now)) result ≡ to_quote false bytes.now }
 {
@@ -108,7 +108,7 @@ fn up_to_quote(bytes: &[u8]) -> Option<(&[u8], &[u8])>
     None
 }
 
-/// The bytes from a quotation mark to the one that closes it, and those behind it.
+/// The bytes from a quotation mark to the one that closes it, and those after it.
 pub(crate) fn quoted_at_front(bytes: &[u8]) -> Option<(&[u8], &[u8])>
     ensures { option_map (λ p. (p.0.now, p.1.now)) result ≡ quoted_front bytes.now }
 {

@@ -70,7 +70,7 @@ wait_at name =
     if bytes_eq name (wait_name true) then Some true else
     (if bytes_eq name (wait_name false) then Some false else None)
 
--- the line of waiting, behind the line end of the one before
+-- the line of waiting, after the line end of the one before
 abbrev pub wait_text : Version → Bool → List ℕ
 wait_text First wait = []
 wait_text Second wait = codes "\nwait " ++ wait_name wait

@@ -1,4 +1,4 @@
-//! Quoted texts, events, places and verdicts, put behind a text.
+//! Quoted texts, events, places and verdicts, put after a text.
 ghost use Rattle.std.specs.Prelude.{◌≡◌, ◌++◌, ◌∷◌, [], ◌↔◌, All, IsTrue, OnOk, decimal, codes, string_bytes};
 ghost use Rattle.js_data.specs.JsonText.{quoted_text, event_text};
 ghost use Rattle.bp_log.specs.Texts.{place_text, verdict_text};
@@ -20,7 +20,7 @@ fn is_plain(text: &str) -> bool
         .all(|b| *b >= 32 && *b != b'"' && *b != b'\\')
 }
 
-/// Puts the text behind as it is, in quotation marks.
+/// Appends the text as it is, in quotation marks.
 fn push_between(text: &str, out: &mut String) -> Result<(), Memory>
     ensures { OnOk result (string_bytes out.new ≡ string_bytes out.old ++ 34 ∷ (text.now ++ 34 ∷ [])) }
 {
@@ -29,7 +29,7 @@ fn push_between(text: &str, out: &mut String) -> Result<(), Memory>
     out.push_str("\"")
 }
 
-/// Puts the text behind, in quotation marks and with its escapes.
+/// Appends the text, in quotation marks and with its escapes.
 pub(crate) fn push_quoted(alloc: Global, text: &Text, out: &mut String) -> Result<(), Memory>
     ensures { OnOk result (string_bytes out.new ≡ string_bytes out.old ++ quoted_text text.now) }
 {
@@ -40,7 +40,7 @@ pub(crate) fn push_quoted(alloc: Global, text: &Text, out: &mut String) -> Resul
     push_between(plain, out)
 }
 
-/// Puts the word and the quoted text behind.
+/// Appends the word and the quoted text.
 pub(crate) fn push_named(
     alloc: Global,
     word: &str,
@@ -54,7 +54,7 @@ pub(crate) fn push_named(
     push_quoted(alloc, name, out)
 }
 
-/// Puts the event behind.
+/// Appends the event.
 pub(crate) fn push_event(alloc: Global, event: &Event, out: &mut String) -> Result<(), Memory>
     ensures { OnOk result (string_bytes out.new ≡ string_bytes out.old ++ event_text event.now) }
 {
@@ -67,7 +67,7 @@ pub(crate) fn push_event(alloc: Global, event: &Event, out: &mut String) -> Resu
     out.push_str("]")
 }
 
-/// Puts the place behind.
+/// Appends the place.
 pub(crate) fn push_place(alloc: Global, place: &Place, out: &mut String) -> Result<(), Memory>
     ensures { OnOk result (string_bytes out.new ≡ string_bytes out.old ++ place_text place.now) }
 {
@@ -77,7 +77,7 @@ pub(crate) fn push_place(alloc: Global, place: &Place, out: &mut String) -> Resu
     }
 }
 
-/// Puts a place and a text behind.
+/// Appends a place and a text.
 pub(crate) fn push_said(
     alloc: Global,
     place: &Place,
@@ -92,7 +92,7 @@ pub(crate) fn push_said(
     push_quoted(alloc, said, out)
 }
 
-/// Puts a fault behind: its place, its line and its name.
+/// Appends a fault: its place, its line and its name.
 fn push_fault(
     alloc: Global,
     place: &Place,
@@ -108,7 +108,7 @@ fn push_fault(
     write!(out, " {line} {name}")
 }
 
-/// Puts two numbers behind.
+/// Appends two numbers.
 pub(crate) fn push_numbers(first: u32, second: u32, out: &mut String) -> Result<(), Memory>
     ensures { OnOk result (string_bytes out.new
         ≡ string_bytes out.old ++ (decimal first ++ (codes " " ++ decimal second))) }
@@ -116,7 +116,7 @@ pub(crate) fn push_numbers(first: u32, second: u32, out: &mut String) -> Result<
     write!(out, "{first} {second}")
 }
 
-/// Puts the word and the number behind.
+/// Appends the word and the number.
 pub(crate) fn push_counted(word: &str, number: u64, out: &mut String) -> Result<(), Memory>
     ensures { OnOk result (string_bytes out.new
         ≡ string_bytes out.old ++ (word.now ++ decimal number)) }
@@ -124,7 +124,7 @@ pub(crate) fn push_counted(word: &str, number: u64, out: &mut String) -> Result<
     write!(out, "{word}{number}")
 }
 
-/// Puts the verdict behind.
+/// Appends the verdict.
 pub(crate) fn push_verdict(alloc: Global, verdict: &Verdict, out: &mut String) -> Result<(), Memory>
     ensures { OnOk result (string_bytes out.new ≡ string_bytes out.old ++ verdict_text verdict.now) }
 {

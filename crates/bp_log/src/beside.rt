@@ -41,7 +41,7 @@ impl Clone for Beside {
 impl Copy for Beside {}
 
 impl Beside {
-    /// These numbers, or `None` exactly where one is out of its range. Takes no memory.
+    /// These numbers, or `None` exactly where one is out of its range.
     pub fn new(workers: u32, slice: u64) -> Option<Beside>
         ensures { let plain : PlainBeside = record { workers = workers; slice = slice } in
             SomeIff result (AreBeside plain) plain }

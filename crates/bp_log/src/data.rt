@@ -1,4 +1,4 @@
-//! Data, put behind a text as compact JSON.
+//! Data, put after a text as compact JSON.
 ghost use Rattle.std.specs.Prelude.{◌≡◌, ◌++◌, OnOk, false, string_bytes};
 ghost use Rattle.std.specs.Fmt.{signed_decimal};
 ghost use Rattle.js_data.specs.JsonText.{data_text, data_list_text, data_fields_text, comma};
@@ -9,7 +9,7 @@ use crate::behind::push_quoted;
 use js_data::{Data, Text, Whole};
 use std::alloc::Global;
 
-/// Puts a comma behind, where something stands before.
+/// Appends a comma, where something stands before.
 fn push_comma(later: bool, out: &mut String) -> Result<(), Memory>
     ensures { OnOk result (string_bytes out.new ≡ string_bytes out.old ++ comma later) }
 {
@@ -19,7 +19,7 @@ fn push_comma(later: bool, out: &mut String) -> Result<(), Memory>
     Ok(())
 }
 
-/// Puts the number behind.
+/// Appends the number.
 fn push_whole(number: Whole, out: &mut String) -> Result<(), Memory>
     ensures { OnOk result (string_bytes out.new ≡ string_bytes out.old ++ signed_decimal number) }
 {
@@ -27,7 +27,7 @@ fn push_whole(number: Whole, out: &mut String) -> Result<(), Memory>
     write!(out, "{number}")
 }
 
-/// Puts the data behind.
+/// Appends the data.
 #[cycle(data)]
 pub(crate) fn push_data(alloc: Global, tree: &Data, out: &mut String) -> Result<(), Memory>
     ensures { OnOk result
@@ -50,7 +50,7 @@ pub(crate) fn push_data(alloc: Global, tree: &Data, out: &mut String) -> Result<
     }
 }
 
-/// Puts the items of a list and its closing bracket behind.
+/// Appends the items of a list and its closing bracket.
 #[cycle(data)]
 fn push_items(alloc: Global, items: &Vec<Data>, out: &mut String) -> Result<(), Memory>
     ensures { OnOk result (string_bytes out.new
@@ -65,7 +65,7 @@ fn push_items(alloc: Global, items: &Vec<Data>, out: &mut String) -> Result<(), 
     out.push_str("]")
 }
 
-/// Puts the fields and their closing bracket behind.
+/// Appends the fields and their closing bracket.
 #[cycle(data)]
 fn push_fields(alloc: Global, fields: &Vec<(Text, Data)>, out: &mut String) -> Result<(), Memory>
     ensures { OnOk result (string_bytes out.new

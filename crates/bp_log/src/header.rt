@@ -29,7 +29,7 @@ impl Model for Header {
 
 impl Header {
     /// The header of these options and this program, or `None` exactly where the program has more
-    /// than 1,048,576 bytes. Takes no memory.
+    /// than 1,048,576 bytes.
     pub fn new(options: Options, program: Vec<u8>) -> Option<Header>
         ensures { SomeIff result (length program.items ≤ MOST_BYTES)
             (record { options = options; program = program.items }) }

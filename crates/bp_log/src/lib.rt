@@ -27,5 +27,5 @@ pub use trace::{Line, Lines};
 pub use verdict::{Place, Verdict, VerdictKind};
 pub use version::Version;
 
-/// Want of memory.
+/// Out of memory.
 pub type Memory = AllocError;

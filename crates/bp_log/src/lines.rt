@@ -44,7 +44,7 @@ impl From<Failed> for PrintError {
     }
 }
 
-/// Puts the line behind, without its line end.
+/// Appends the line, without its line end.
 #[tactic(auto, unfolding(crate::specs::Texts::line_text))]
 fn push_line(alloc: Global, line: &Line, out: &mut String) -> Result<(), Memory>
     ensures { OnOk result (string_bytes out.new ≡ string_bytes out.old ++ line_text line.now) }
@@ -71,7 +71,7 @@ fn push_line(alloc: Global, line: &Line, out: &mut String) -> Result<(), Memory>
     }
 }
 
-/// The text of a line of the trace, without its line end. Its only error is want of memory.
+/// The text of a line of the trace, without its line end.
 pub fn line_of(alloc: Global, line: &Line) -> Result<Text, Memory>
     ensures { IfOk result (λ t. t ≡ line_text line.now) }
 {
@@ -80,7 +80,7 @@ pub fn line_of(alloc: Global, line: &Line) -> Result<Text, Memory>
     Ok(Text::new(text))
 }
 
-/// The text of a line of the trace with its line end. Its only error is want of memory.
+/// The text of a line of the trace with its line end.
 pub fn whole_line_of(alloc: Global, line: &Line) -> Result<Text, Memory>
     ensures { IfOk result (λ t. t ≡ whole_line line.now) }
 {

@@ -60,7 +60,7 @@ fn header_of(alloc: Global, header: &Header) -> Result<Vec<u8>, Memory>
     Ok(bytes)
 }
 
-/// Writes the head of a log of the second version, up to the line end behind the program. After `Write` a part of it, from
+/// Writes the head of a log of the second version, up to the line end after the program. After `Write` a part of it, from
 /// its front, was appended, and after `Memory` nothing.
 pub fn write_header<K: Sink>(alloc: Global, header: &Header, sink: &mut K) -> Result<(), PrintError>
     ensures whole { OnOk result (Appends (K.written sink.old)
@@ -77,7 +77,7 @@ pub fn write_header<K: Sink>(alloc: Global, header: &Header, sink: &mut K) -> Re
     Ok(())
 }
 
-/// Puts behind that an injector handed over an event.
+/// Puts after that an injector handed over an event.
 #[tactic(auto, unfolding(crate::specs::Logs::record_text))]
 fn push_handed(alloc: Global, injector: u32, event: &Event, out: &mut String) -> Result<(), Memory>
     ensures { OnOk result (string_bytes out.new
@@ -87,7 +87,7 @@ fn push_handed(alloc: Global, injector: u32, event: &Event, out: &mut String) ->
     push_event(alloc, event, out)
 }
 
-/// Puts the record behind, without its line end.
+/// Appends the record, without its line end.
 #[tactic(auto, unfolding(crate::specs::Logs::record_text))]
 fn push_record(alloc: Global, entry: &Record, out: &mut String) -> Result<(), Memory>
     ensures { OnOk result (string_bytes out.new ≡ string_bytes out.old ++ record_text entry.now) }

@@ -30,7 +30,7 @@ impl Strategy {
         }
     }
 
-    /// The strategy of this name, or `None` exactly where none has it. Takes no memory.
+    /// The strategy of this name, or `None` exactly where none has it.
     pub fn of_name(name: &[u8]) -> Option<Strategy>
         ensures { result ≡ strategy_at name.now }
     {
@@ -54,7 +54,7 @@ pub fn wait_word(wait: bool) -> &'static str
     if wait { "yes" } else { "no" }
 }
 
-/// Whether a run waits, by its word, or `None` exactly where the word says neither. Takes no memory.
+/// Whether a run waits, by its word, or `None` exactly where the word says neither.
 pub fn wait_of_word(word: &[u8]) -> Option<bool>
     ensures { result ≡ wait_at word.now }
 {
@@ -129,7 +129,7 @@ impl Copy for Options {}
 
 impl Options {
     /// These options, of a run that waits for its injectors, or `None` exactly where a number is out
-    /// of its range. Takes no memory.
+    /// of its range.
     pub fn new(
         strategy: Strategy,
         seed: u64,

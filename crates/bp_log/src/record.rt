@@ -48,7 +48,7 @@ fn same_record(left: &Record, right: &Record) -> bool
 }
 
 impl Record {
-    /// An equal record. Its only error is want of memory.
+    /// An equal record.
     pub fn copy(&self) -> Result<Record, Memory>
         ensures { IfOk result (λ r. r ≡ self.now) }
     {
@@ -61,7 +61,7 @@ impl Record {
         }
     }
 
-    /// The verdict of the record of an end. Takes no memory.
+    /// The verdict of the record of an end.
     pub fn verdict(&self) -> Option<&Verdict>
         ensures { option_map (λ v. v.now) result ≡ verdict_in self.now }
     {
@@ -71,7 +71,7 @@ impl Record {
         }
     }
 
-    /// Whether the two are equal. Takes no memory.
+    /// Whether the two are equal.
     pub fn same(&self, other: &Record) -> bool
         ensures same { result ≡ record_is_same self.now other.now }
         ensures equal { IsTrue result ↔ (self.now ≡ other.now) }
@@ -101,7 +101,7 @@ impl Model for Records {
 }
 
 impl Records {
-    /// The list of these records. Takes no memory.
+    /// The list of these records.
     pub fn new(items: Vec<Record>) -> Records
         ensures { result ≡ items.items }
     {
@@ -115,7 +115,7 @@ impl Records {
         self.items.as_slice()
     }
 
-    /// The records, given back. Takes no memory.
+    /// The records, given back.
     pub fn into_vec(self) -> Vec<Record>
         ensures { result.items ≡ self }
     {

@@ -55,7 +55,7 @@ impl Model for Lines {
 }
 
 impl Lines {
-    /// The list of these lines. Takes no memory.
+    /// The list of these lines.
     pub fn new(items: Vec<Line>) -> Lines
         ensures { result ≡ items.items }
     {
@@ -69,7 +69,7 @@ impl Lines {
         self.items.as_slice()
     }
 
-    /// The lines, given back. Takes no memory.
+    /// The lines, given back.
     pub fn into_vec(self) -> Vec<Line>
         ensures { result.items ≡ self }
     {

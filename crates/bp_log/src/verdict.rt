@@ -18,7 +18,7 @@ pub enum Place {
 /// What a run ends in.
 #[derive(Debug)]
 pub enum Verdict {
-    /// Nothing can be selected any more, after so many transitions.
+    /// Nothing can be selected any more, after this many transitions.
     Quiet(u32),
     /// An assertion with this text didn't hold.
     Violated(Place, Text),
@@ -26,7 +26,7 @@ pub enum Verdict {
     Fault(Place, u32, Fault),
     /// A budget was spent.
     Spent(Place),
-    /// Something can be selected after so many transitions, the greatest number.
+    /// Something can be selected after this many transitions, the greatest number.
     Steps(u32),
     /// No further event fits the queue.
     Queue,
@@ -89,7 +89,7 @@ impl Place {
         }
     }
 
-    /// An equal place. Its only error is want of memory.
+    /// An equal place.
     pub fn copy(&self) -> Result<Place, Memory>
         ensures { IfOk result (λ p. p ≡ self.now) }
     {
@@ -99,7 +99,7 @@ impl Place {
         }
     }
 
-    /// Whether the two are the same place. Takes no memory.
+    /// Whether the two are the same place.
     fn same(&self, other: &Place) -> bool
         ensures { result ≡ place_is_same self.now other.now }
     {
@@ -167,7 +167,7 @@ impl Verdict {
         }
     }
 
-    /// The kind of the verdict. Takes no memory.
+    /// The kind of the verdict.
     pub fn kind(&self) -> VerdictKind
         ensures { result ≡ kind_of self.now }
     {
@@ -184,7 +184,7 @@ impl Verdict {
         }
     }
 
-    /// An equal verdict. Its only error is want of memory.
+    /// An equal verdict.
     pub fn copy(&self) -> Result<Verdict, Memory>
         ensures { IfOk result (λ v. v ≡ self.now) }
     {
@@ -201,7 +201,7 @@ impl Verdict {
         }
     }
 
-    /// Whether the two are equal. Takes no memory.
+    /// Whether the two are equal.
     pub fn same(&self, other: &Verdict) -> bool
         ensures same { result ≡ verdict_is_same self.now other.now }
         ensures equal { IsTrue result ↔ (self.now ≡ other.now) }

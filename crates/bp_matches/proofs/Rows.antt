@@ -77,13 +77,13 @@ found_past id (x ∷ xs) ys h =
     let p = or_parts (bytes_eq x.id id) (has_row id xs) h in
     ap (λ b. if b then Some x else find (λ (r : Row). bytes_eq r.id id) (xs ++ ys)) p.0 ∙ found_past id xs ys p.1
 
--- the value of the id among the options that are said, or what is found behind them
+-- the value of the id among the options that are said, or what is found after them
 abbrev pub value_at : Values → List Key → List ℕ → Option (List ℕ) → Option (List ℕ)
 value_at s [] id d = d
 value_at s (k ∷ ks) id d =
     if bytes_eq (key_name k) id then option_or (value_in s k) (value_at s ks id d) else value_at s ks id d
 
--- one option, and what is found behind it
+-- one option, and what is found after it
 first_one : (id : List ℕ) (k : Key) (o : Option (List ℕ)) (rest : List Row) (x : Option (List ℕ)) → first_of id rest ≡ x
     → first_of id (row_if k o ++ rest) ≡ (if bytes_eq (key_name k) id then option_or o x else x)
 first_one id k None rest x h = h ∙ same (bytes_eq (key_name k) id)

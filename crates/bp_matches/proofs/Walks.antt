@@ -115,7 +115,7 @@ pass_all (k ∷ ks) s rows rest m d =
 abbrev trailing : List Row → Walk
 trailing rows = record (between rows) { is_trailing = true }
 
--- behind `--`, with these names
+-- after `--`, with these names
 abbrev at : List Row → List ℕ → List (List ℕ) → Walk
 at rows p taken = record {
   held = record { rows = rows; pending = Some (names_id, p ∷ taken); skip = 0 };
@@ -164,7 +164,7 @@ abbrev pub names_if : List (List ℕ) → List Row
 names_if [] = []
 names_if (p ∷ qs) = names_row (p ∷ qs) ∷ []
 
--- behind all words
+-- after all words
 abbrev behind : List Row → List (List ℕ) → Walk
 behind rows [] = trailing rows
 behind rows (p ∷ qs) = at rows p qs

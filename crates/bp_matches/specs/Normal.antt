@@ -27,7 +27,7 @@ abbrev pub all_options : Values → List Key → List (List ℕ)
 all_options v [] = []
 all_options v (k ∷ ks) = option_words k (value_in v k) ++ all_options v ks
 
--- each option that is said, with its value behind `=`; then `--`, and the other words
+-- each option that is said, with its value after `=`; then `--`, and the other words
 abbrev pub normal_words : Values → List (List ℕ)
 normal_words v = all_options v keys ++ (codes "--" ∷ v.words)
 

@@ -1,4 +1,4 @@
--- The command as `clap` sees it: each option has one value, and any words stand behind them.
+-- The command as `clap` sees it: each option has one value, and any words stand after them.
 use Rattle.std.specs.Prelude.{ℕ, true, List, [], ◌∷◌, Some, codes}
 use Rattle.clap.specs.Words.{App, Rule, new_app, new_rule, with_rule}
 use Rattle.clap.specs.declared.builder.action.ArgAction.TheVariants.{Set, Append}
@@ -8,7 +8,7 @@ use Rattle.bp_matches.specs.Keys.{key_name, keys}
 abbrev pub option_rule : List ℕ → Rule
 option_rule name = record (new_rule name) { long = Some name; action = Some Set }
 
--- the id of the words that are no options
+-- the id of the words that are not options
 abbrev pub names_id : List ℕ
 names_id = codes "names"
 

@@ -59,7 +59,7 @@ impl Key {
         }
     }
 
-    /// The option of this name, or `None` exactly where none has it. Takes no memory.
+    /// The option of this name, or `None` exactly where none has it.
     pub fn of_name(name: &[u8]) -> Option<Key>
         ensures { result ≡ key_at name.now }
     {

@@ -11,7 +11,7 @@ use clap::error::ErrorKind;
 use clap::{Arg, ArgAction, ArgMatches, Command, Error};
 use std::alloc::{AllocError, Global};
 
-/// The id of the words that are no options.
+/// The id of the words that are not options.
 pub(crate) const NAMES: &str = "names";
 
 /// An option with one value.
@@ -22,7 +22,7 @@ fn option<'a>(alloc: Global, name: &'a str) -> Arg<'a>
     Arg::new(alloc, name).long(name).action(ArgAction::Set)
 }
 
-/// The words that are no options, any number of them.
+/// The words that are not options, any number of them.
 fn names<'a>(alloc: Global) -> Arg<'a>
     ensures rule { rule_of result ≡ names_rule }
     ensures local { result.global ≡ false }
@@ -41,7 +41,7 @@ fn bare<'a>(alloc: Global) -> Command<'a>
         .disable_help_flag(true)
 }
 
-/// The command as `clap` is told it: options with one value each, and any words behind them.
+/// The command as `clap` is told it: options with one value each, and any words after them.
 fn command_of<'a>(alloc: Global) -> Result<Command<'a>, AllocError>
     ensures { IfOk result (λ c. app_of c ≡ program) }
 {
@@ -57,7 +57,7 @@ fn command_of<'a>(alloc: Global) -> Result<Command<'a>, AllocError>
         .arg(names(alloc))
 }
 
-/// The matches of a list in the normal form. Only want of memory refuses it.
+/// The matches of a list in the normal form. Only out of memory refuses it.
 pub(crate) fn matches_of<'a>(alloc: Global, words: &'a [String]) -> Result<ArgMatches<'a>, Error>
     ensures ok { (v : Values) → map string_bytes words.entry.now ≡ normal_words v
         → IfOk result (λ m. rows_of (found_of m) ≡ matches_of program (normal_words v)) }

@@ -12,14 +12,14 @@ use clap::error::ErrorKind;
 use js_data::Text;
 use std::alloc::{AllocError, Global};
 
-/// The text of a word. Its only error is want of memory.
+/// The text of a word.
 fn text_of(alloc: Global, word: &str) -> Result<Text, AllocError>
     ensures { IfOk result (λ t. t ≡ word.now) }
 {
     Ok(Text::new(String::from_str(alloc, word)?))
 }
 
-/// The value of the option, where it is said. Its only error is want of memory.
+/// The value of the option, where it is said.
 fn value_of(alloc: Global, matches: &ArgMatches, key: Key) -> Result<Option<Text>, AllocError>
     ensures { IfOk result (λ o. o ≡ first_value (found_of matches.now) (key_name key)) }
 {
@@ -29,7 +29,7 @@ fn value_of(alloc: Global, matches: &ArgMatches, key: Key) -> Result<Option<Text
     }
 }
 
-/// The words that are no options. Its only error is want of memory.
+/// The words that are not options.
 fn words_of(alloc: Global, matches: &ArgMatches) -> Result<Words, AllocError>
     ensures { IfOk result (λ w. w
         ≡ unwrap_or (option_map raw_values (matched_of (found_of matches.now) NAMES.now)) []) }
@@ -44,7 +44,7 @@ fn words_of(alloc: Global, matches: &ArgMatches) -> Result<Words, AllocError>
     Ok(Words::new(words))
 }
 
-/// The values that a list in the normal form was written from. Its only error is want of memory.
+/// The values that a list in the normal form was written from.
 pub fn values_of(alloc: Global, words: &[String]) -> Result<Values, AllocError>
     requires { IsNormal (map string_bytes words.now) }
     ensures { (v : Values) → map string_bytes words.now ≡ normal_words v → IfOk result (λ w. w ≡ v) }

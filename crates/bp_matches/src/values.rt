@@ -23,7 +23,7 @@ impl Model for Words {
 }
 
 impl Words {
-    /// These words. Takes no memory.
+    /// These words.
     pub fn new(items: Vec<Text>) -> Words
         ensures { result ≡ items.items }
     {
@@ -37,14 +37,14 @@ impl Words {
         self.items.as_slice()
     }
 
-    /// The words, given back. Takes no memory.
+    /// The words, given back.
     pub fn into_vec(self) -> Vec<Text>
         ensures { result.items ≡ self }
     {
         self.items
     }
 
-    /// One more word behind them.
+    /// One more word after them.
     pub fn push(&mut self, word: Text) -> Result<(), AllocError>
         ensures { IfOk result (λ _. self.new ≡ self.old ++ word ∷ []) }
     {
@@ -53,7 +53,7 @@ impl Words {
     }
 }
 
-/// The value of each option, where it is said, and the words that are no options.
+/// The value of each option, where it is said, and the words that are not options.
 pub struct Values {
     /// The name of the log.
     pub log: Option<Text>,
@@ -71,7 +71,7 @@ pub struct Values {
     pub slice: Option<Text>,
     /// Whether the run waits for its injectors.
     pub wait: Option<Text>,
-    /// The words that are no options, in order.
+    /// The words that are not options, in order.
     pub words: Words,
 }
 
@@ -91,7 +91,7 @@ impl Drop for Values {
     }
 }
 
-/// The word of an option with its value. Its only error is want of memory.
+/// The word of an option with its value.
 fn option_word(alloc: Global, key: Key, value: &Text) -> Result<String, AllocError>
     ensures { IfOk result (λ s. string_bytes s ≡ option_word key value.now) }
 {
@@ -115,7 +115,7 @@ impl Values {
         }
     }
 
-    /// The words that are no options. Takes no memory.
+    /// The words that are not options.
     pub fn into_words(self) -> Words
         ensures { result ≡ self.words }
     {
@@ -133,7 +133,7 @@ impl Values {
         words
     }
 
-    /// The word of each option that is said. Its only error is want of memory.
+    /// The word of each option that is said.
     fn option_words(&self, alloc: Global) -> Result<Vec<String>, AllocError>
         ensures { IfOk result (λ v. map string_bytes v.items ≡ all_options self.now keys) }
     {
@@ -147,7 +147,7 @@ impl Values {
     }
 
     /// The words in the normal form: each option that is said as `--x=v`, then `--`, then the
-    /// words that are no options. Its only error is want of memory.
+    /// words that are not options.
     pub fn normal_words(&self, alloc: Global) -> Result<Vec<String>, AllocError>
         ensures { IfOk result (λ v. map string_bytes v.items ≡ normal_words self.now) }
     {

@@ -120,7 +120,7 @@ pub after_one_reply : after base 9 body (a ∷ []) ≡ record { effects = run.Ef
 unfolding evaluation eval within
 after_one_reply = refl
 
--- the third statement has a word that is no key
+-- the third statement has a word that is not a key
 pub after_two_replies : after base 20 body (a ∷ b ∷ []) ≡ record { effects = run.Effect.Handler ∷ []; outcome = run.Outcome.Broken fault.Statement 7 }
 unfolding evaluation eval within
 after_two_replies = refl

@@ -39,7 +39,7 @@ one_record : (r : Record) → records_text (r ∷ []) ≡ whole_record r
 unfolding records_text
 one_record r = append-nil (whole_record r)
 
--- one more record stands behind the others
+-- one more record stands after the others
 text_on : (page : List ℕ) (records : List Record) (r : Record) → page ++ records_text (records ++ r ∷ []) ≡ (page ++ records_text records) ++ whole_record r
 text_on page records r =
     ap (λ (x : List ℕ). page ++ x) (records_text-append records (r ∷ []) ∙ ap (λ (x : List ℕ). records_text records ++ x) (one_record r))
@@ -107,7 +107,7 @@ module _ (old : Standing) (start : List ℕ) (before : Option (List ℕ)) (reade
         at (Some bytes) None w = absurd w
         at (Some bytes) (Some left) w = record { records = a.records ++ r ∷ []; stage = next.stage; left = left; begins = w; ends = ends left; shown = shown }
 
-    -- memory was wanting for it
+    -- memory ran out for it
     pub copies_part : (put : List ℕ) → AppendsFront (Some page) (whole_record r) (Some put) → IfSome old.left (λ bytes. Copies old.stage bytes start before put now (Err fault.Memory))
     copies_part put h = stops (Err fault.Memory) put now (λ left. tt) (shows_part before now (start ++ records_text a.records) page (whole_record r) [] put (start ++ records_text (a.records ++ r ∷ [])) (text_part start a.records r) a.shows h)
 

@@ -33,11 +33,11 @@ one_error x a b h k = cc
 read_ok : {A E : Type 0} (x : Result A E) (a : A) (f : E) → x ≡ Ok a → x ≡ Err f → ⊥
 read_ok x a f h k = cc
 
--- a version, a header and the bytes behind it
+-- a version, a header and the bytes after it
 abbrev Head : Type 0
 Head = (Version × PlainHeader) × List ℕ
 
--- what stands behind a header says these records, and so it ends
+-- what stands after a header says these records, and so it ends
 abbrev SaysBehind : Head → List Record → Option Refusal → Type 0
 SaysBehind p rs e = Says (first_stage p.0.0 p.0.1.options.injectors) p.1 rs e
 

@@ -36,7 +36,7 @@ prints_part (Err fault.Write) before now later text page s w = written_front_par
 prints_part (Err fault.Memory) before now later text page s w = written_front_part before now later text page s w
 
 module _ (v : Version) (h : PlainHeader) (s : Stage) (first : s ≡ first_stage v h.options.injectors) (head : List ℕ) (is : head ≡ header_text Second h) where
-  -- the text of the records behind the head is that of the log
+  -- the text of the records after the head is that of the log
   whole : (records : List Record) → head ++ records_text records ≡ log_text Second h records
   whole records = ap (λ (x : List ℕ). x ++ records_text records) is ∙ sym (log_is Second h records)
 
@@ -77,7 +77,7 @@ module _ (v : Version) (h : PlainHeader) (s : Stage) (first : s ≡ first_stage 
 
 -- ---- the header
 
--- a read failed behind the header
+-- a read failed after the header
 pub taken_whole : (left mid then : Option (List ℕ)) (v : Version) (h : PlainHeader) (before later : Option (List ℕ)) → IfSome left (λ bytes. IsSomeAnd mid (λ rest. header_at bytes ≡ Ok ((v, h), rest))) →
     Between mid then (λ bytes rest. TakenBehind v h bytes rest before later) → Between left then (λ bytes rest. MigratesTaken bytes rest before later)
 taken_whole None mid then v h before later e t = tt

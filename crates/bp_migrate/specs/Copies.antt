@@ -9,7 +9,7 @@ use Rattle.bp_told.specs.Pages.{Shows, ShowsFront}
 use Rattle.bp_migrate.specs.declared.fault.MigrateFault.{MigrateFault}
 use Rattle.bp_migrate.specs.declared.fault.MigrateFault.TheVariants.{Log, Write, Memory}
 
--- Why it ends so at this stage, where these bytes are left. Where memory was wanting or writing failed,
+-- Why it ends so at this stage, where these bytes are left. Where memory ran out or writing failed,
 -- nothing is said.
 abbrev pub EndsAt : Stage → List ℕ → Result (Unit {0}) MigrateFault → Type 0
 EndsAt s left (Ok x) = next_at s left ≡ finished
@@ -18,14 +18,14 @@ EndsAt s left (Err Write) = Unit {0}
 EndsAt s left (Err Memory) = Unit {0}
 
 -- the text was put on the page, and what was on it is written or still there; of a front after a failed
--- write or want of memory
+-- write or out of memory
 abbrev pub Shown : Result (Unit {0}) MigrateFault →
     Option (List ℕ) → List ℕ → List ℕ → Option (List ℕ) → Type 0
 Shown (Err Write) before text page after = ShowsFront before text page after
 Shown (Err Memory) before text page after = ShowsFront before text page after
 Shown _ before text page after = Shows before text page after
 
--- from the first stage on the bytes were read so far, the text of these records was put behind what
+-- from the first stage on the bytes were read so far, the text of these records was put after what
 -- was on the page, and so it ended
 pub record Copies (first : Stage) (bytes page : List ℕ) (before : Option (List ℕ)) (next : List ℕ)
     (after : Option (List ℕ)) (ended : Result (Unit {0}) MigrateFault) : Type 0 where

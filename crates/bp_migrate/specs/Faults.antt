@@ -4,7 +4,7 @@ use Rattle.bp_reader.specs.declared.fault.LogFault.TheVariants as log
 use Rattle.bp_migrate.specs.declared.fault.MigrateFault.{MigrateFault}
 use Rattle.bp_migrate.specs.declared.fault.MigrateFault.TheVariants.{Log, Memory}
 
--- want of memory is one fault, whoever answers it
+-- out of memory is one fault, whoever answers it
 abbrev pub fault_of_log : LogFault → MigrateFault
 fault_of_log log.Version = Log log.Version
 fault_of_log log.Header = Log log.Header

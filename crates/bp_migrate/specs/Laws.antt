@@ -12,7 +12,7 @@ use Rattle.bp_migrate.specs.declared.fault.MigrateFault.{MigrateFault}
 use Rattle.bp_migrate.specs.declared.fault.MigrateFault.TheVariants.{Log, Write, Memory}
 use Rattle.bp_migrate.specs.Migrations.{IsMigration}
 
--- reading or writing failed, or memory was wanting
+-- reading or writing failed, or memory ran out
 abbrev pub IsTrouble : Result (Unit {0}) MigrateFault → Type 0
 IsTrouble (Err (Log log.Read)) = Unit {0}
 IsTrouble (Err (Log log.Memory)) = Unit {0}
@@ -55,7 +55,7 @@ WriteOne before after other later =
     (text : List ℕ) × Appends before text after × Appends other text later
 
 -- Two migrations of the same bytes end in the same way and write the same text, unless reading or
--- writing failed or memory was wanting.
+-- writing failed or memory ran out.
 abbrev pub OneEnding : Type 0
 OneEnding =
     (bytes : List ℕ) (before after other later : Option (List ℕ))

@@ -13,14 +13,14 @@ use Rattle.bp_migrate.specs.declared.fault.MigrateFault.{MigrateFault}
 use Rattle.bp_migrate.specs.declared.fault.MigrateFault.TheVariants.{Log, Write, Memory}
 use Rattle.bp_migrate.specs.Copies.{EndsAt, IsAtItsEnd}
 
--- the text was written; where memory was wanting or writing failed, a front of it
+-- the text was written; where memory ran out or writing failed, a front of it
 abbrev pub Prints : Result (Unit {0}) MigrateFault →
     Option (List ℕ) → List ℕ → Option (List ℕ) → Type 0
 Prints (Err Write) before text after = AppendsFront before text after
 Prints (Err Memory) before text after = AppendsFront before text after
 Prints _ before text after = Appends before text after
 
--- behind a header of that version these records were read, the text of the second version of both was
+-- after a header of that version these records were read, the text of the second version of both was
 -- written, and so it ended
 pub record CopiesBehind (version : Version) (header : PlainHeader) (rest : List ℕ)
     (before after : Option (List ℕ)) (ended : Result (Unit {0}) MigrateFault) : Type 0 where
@@ -41,7 +41,7 @@ pub record TakenBehind (version : Version) (header : PlainHeader) (bytes rest : 
   pub at_end : IsAtItsEnd ended
   pub behind : CopiesBehind version header taken before after ended
 
--- the bytes have a header, and behind it it came so far
+-- the bytes have a header, and after it it came so far
 pub record Migrates (bytes : List ℕ) (before after : Option (List ℕ))
     (ended : Result (Unit {0}) MigrateFault) : Type 0 where
   pub version : Version

@@ -2,7 +2,7 @@
 ghost use Rattle.bp_migrate.specs.Laws.{LogsMigrate, OnlyLogsMigrate, MigratedAreLogs, OneEnding};
 
 /// What ends as a migration of a log of either version, and neither reading nor writing failed nor
-/// memory was wanting, has written the log of the second version of its header and records.
+/// memory ran out, has written the log of the second version of its header and records.
 pub fn logs_migrate()
     ensures { LogsMigrate }
 {}

@@ -25,7 +25,7 @@ pub struct Migrated<S: Source> {
     pub log: S,
 }
 
-/// The head of a log of the second version on a page of its own. Its only error is want of memory.
+/// The head of a log of the second version on a page of its own.
 fn head_of(alloc: Global, header: &Header) -> Result<Page, Memory>
     ensures { IfOk result (λ page. page ≡ header_text version.Second header.now) }
 {
@@ -69,7 +69,7 @@ fn copy<S: Source, K: Sink>(
     }
 }
 
-/// Migrates what stands behind the header, and writes it behind the header.
+/// Migrates what stands after the header, and writes it after the header.
 fn migrate_records<S: Source, K: Sink>(
     alloc: Global,
     header: &Header,

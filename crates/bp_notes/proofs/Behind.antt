@@ -1,4 +1,4 @@
--- What stands behind the first word of a line.
+-- What stands after the first word of a line.
 use Rattle.std.proofs.Common.{◌≡◌, ℕ, List, ◌++◌, None, refl, sym, ◌∙◌}
 use Rattle.std.specs.Prelude.{codes}
 use Rattle.std.proofs.lemmas.List.{append_cancel_left}
@@ -16,7 +16,7 @@ said v = refl
 pub begins : (v : Verdict) (bytes : List ℕ) → bytes ≡ line_text (line.Verdict v) → FindsTextPrefix (codes "verdict ") bytes None → ⊥
 begins v bytes e h = h (verdict_text v) (e ∙ said v)
 
--- and what stands behind it is the verdict
+-- and what stands after it is the verdict
 pub behind : (v : Verdict) (bytes rest : List ℕ) → bytes ≡ line_text (line.Verdict v) → StripsPrefix (FindsTextPrefix (codes "verdict ")) bytes rest → rest ≡ verdict_text v
 behind v bytes rest e h =
     h.2 ∙ append_cancel_left (codes "verdict ") _ _ (sym h.1.1 ∙ e ∙ said v)

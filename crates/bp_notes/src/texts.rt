@@ -12,7 +12,7 @@ use std::alloc::Global;
 /// What stands before a verdict in the line that tells it.
 const VERDICT: &str = "verdict ";
 
-/// The text of a verdict, which is that of its line behind the first word.
+/// The text of a verdict, which is that of its line after the first word.
 fn verdict_text_of(alloc: Global, verdict: &Verdict) -> Result<Text, Memory>
     ensures { IfOk result (λ t. t ≡ verdict_text verdict.now) }
 {
@@ -23,7 +23,7 @@ fn verdict_text_of(alloc: Global, verdict: &Verdict) -> Result<Text, Memory>
     }
 }
 
-/// The text of a record, without its line end. Its only error is want of memory.
+/// The text of a record, without its line end.
 #[tactic(auto, unfolding(bp_log::specs::Logs::record_text))]
 fn record_text_of(alloc: Global, entry: &Record) -> Result<Text, Memory>
     ensures { IfOk result (λ t. t ≡ record_text entry.now) }
@@ -60,7 +60,7 @@ fn expected_text_of(alloc: Global, expected: &Option<Record>) -> Result<Text, Me
     }
 }
 
-/// That the record of this number is not the one that is expected. Its only error is want of memory.
+/// That the record of this number is not the one that is expected.
 pub fn differing(
     alloc: Global,
     number: u32,

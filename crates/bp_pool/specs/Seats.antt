@@ -8,7 +8,7 @@ use Rattle.bp_thread.specs.Carried.{CarriedOut}
 use Rattle.bp_pool.specs.declared.seat.Seat.{Seat}
 use Rattle.bp_pool.specs.Carrying.{IsCarriedOn}
 
--- slices were made of the seat's job; unless memory was wanting, they carried the job on
+-- slices were made of the seat's job; unless memory ran out, they carried the job on
 pub record Turned (base : Ground) (old new : Seat) : Type 0 where
   pub place : new.place ≡ old.place
   pub of_program : IsOf base.program new.job
@@ -24,7 +24,7 @@ pub record IsOpen (base : Ground) (s : Seat) : Type 0 where
 pub record IsOut (s : Seat) : Type 0 where
   pub out : s.lost ≡ false → IsSome (plain_job s.job).outcome
 
--- unless memory was wanting, the seat has the list's job of its place, carried on
+-- unless memory ran out, the seat has the list's job of its place, carried on
 pub record IsSeat (base : Ground) (jobs : List Job) (s : Seat) : Type 0 where
   pub within : s.place < length jobs
   pub of_program : IsOf base.program s.job
@@ -38,7 +38,7 @@ seats_of k seats = count_by (λ s. eqb s.place k) seats
 abbrev pub HaveOwnPlaces : List Seat → Type 0
 HaveOwnPlaces seats = (place : ℕ) → seats_of place seats ≤ 1
 
--- at its place is the job e, carried out under whatever budget, or it has one of so many seats
+-- at its place is the job e, carried out under whatever budget, or it has one of this many seats
 abbrev pub IsOutOrSeated : Ground → Job → Option Job → ℕ → Type 0
 IsOutOrSeated base e (Some x) seats = (budget : ℕ) → CarriedOut base budget e x
 IsOutOrSeated base e None seats = 0 < seats

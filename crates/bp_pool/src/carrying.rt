@@ -18,7 +18,7 @@ pub(crate) fn has_outcome(job: &Job) -> bool
     job.outcome().is_some()
 }
 
-/// Carries each job on by one slice. Its only error is want of memory.
+/// Carries each job on by one slice.
 pub(crate) fn look(ground: &Ground, jobs: &mut [Job], slice: u64) -> Result<(), Memory>
     requires program { AreOf (plain_ground ground.now) jobs.old }
     requires open { AreOpen jobs.old }
@@ -30,7 +30,7 @@ pub(crate) fn look(ground: &Ground, jobs: &mut [Job], slice: u64) -> Result<(), 
     Ok(())
 }
 
-/// One slice of the job, of which the gate is told. Its only error is want of memory.
+/// One slice of the job, of which the gate is told.
 fn gated_slice<G: Gate>(
     ground: &Ground,
     job: &mut Job,
@@ -54,7 +54,7 @@ fn gated_slice<G: Gate>(
 const HOLD: u64 = 1_000;
 
 /// A hold of the job: one slice, or as many smaller ones as begin the nodes of a hold, or fewer to
-/// its outcome. Whether it has its outcome. Its only error is want of memory.
+/// its outcome. Whether it has its outcome.
 pub(crate) fn hold<G: Gate>(
     ground: &Ground,
     job: &mut Job,
@@ -76,7 +76,7 @@ pub(crate) fn hold<G: Gate>(
     Ok(false)
 }
 
-/// Carries the job to its outcome, unless it has one. Its only error is want of memory.
+/// Carries the job to its outcome, unless it has one.
 fn finish<G: Gate, R: Wait>(
     rt: &R,
     ground: &Ground,
@@ -99,7 +99,7 @@ fn finish<G: Gate, R: Wait>(
     unreachable!()
 }
 
-/// Carries each job to its outcome, one after the other. Its only error is want of memory.
+/// Carries each job to its outcome, one after the other.
 pub(crate) fn finish_all<G: Gate, R: Wait>(
     rt: &R,
     ground: &Ground,

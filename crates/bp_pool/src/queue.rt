@@ -72,7 +72,7 @@ fn fill<L: Lending, R: Wait>(
 }
 
 /// Joins the workers' passes, and puts together the seats that stayed in their hands. Its only error
-/// is want of memory, here or in one of the workers.
+/// is out of memory, here or in one of the workers.
 fn gather<L: Lending>(
     alloc: Global,
     queue: &Queue<L>,
@@ -104,7 +104,7 @@ fn gather<L: Lending>(
 }
 
 /// Takes what is left in the queue, and carries the job of each seat to its outcome. Its only error
-/// is want of memory for the list.
+/// is out of memory for the list.
 fn drain<L: Lending, G: Gate, R: Wait>(
     rt: &R,
     ground: &Ground,
@@ -173,7 +173,7 @@ fn lend<L: Lending + Send + Sync, G: Gate + Sync, R: Threads + Wait + Sync>(
 }
 
 /// Carries the seats to their outcomes, by workers over one shared queue: the same seats in some
-/// order, each with its outcome or lost for want of memory. Its only error is want of memory for the
+/// order, each with its outcome or lost for lack of memory. Its only error is out of memory for the
 /// queue and the lists.
 pub(crate) fn by_queue<G: Gate + Sync, R: Threads + Wait + Sync>(
     rt: &R,

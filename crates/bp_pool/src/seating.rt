@@ -12,7 +12,7 @@ use js_frames::Ground;
 use std::alloc::{AllocError, Global};
 
 /// Takes the jobs without outcome out of their list: what is left of it, and their seats. Its only
-/// error is want of memory.
+/// error is out of memory.
 pub(crate) fn take_out(
     alloc: Global,
     ground: &Ground,
@@ -39,7 +39,7 @@ pub(crate) fn take_out(
 }
 
 /// Puts the jobs, each of which has its outcome now, back at their places, in any order. Its only
-/// error is want of memory in one of the jobs.
+/// error is out of memory in one of the jobs.
 pub(crate) fn put_back(
     ground: &Ground,
     seats: Vec<Seat>,
@@ -60,7 +60,7 @@ pub(crate) fn put_back(
     Ok(())
 }
 
-/// The jobs, each of which is back at its place. Its only error is want of memory.
+/// The jobs, each of which is back at its place.
 pub(crate) fn all_of(alloc: Global, done: Vec<Option<Job>>) -> Result<Vec<Job>, Memory>
     requires { All (λ o. IsSome o) done.items }
     ensures { IfOk result (λ jobs. map (λ j. Some j) jobs.items ≡ done.items) }

@@ -23,7 +23,7 @@ use std::sync::Wait;
 pub struct Worked {
     /// The pass.
     pub pass: Pass<Seat, Hand>,
-    /// The seats, each with its outcome or lost for want of memory.
+    /// The seats, each with its outcome or lost for lack of memory.
     pub seats: Vec<Seat>,
 }
 
@@ -45,7 +45,7 @@ fn hold_seat<G: Gate>(ground: &Ground, seat: &mut Seat, slice: u64, gate: &G) ->
     }
 }
 
-/// Carries the seat's job to its outcome, unless memory is wanting.
+/// Carries the seat's job to its outcome, unless memory runs out.
 pub(crate) fn finish_seat<G: Gate, R: Wait>(
     rt: &R,
     ground: &Ground,
@@ -68,7 +68,7 @@ pub(crate) fn finish_seat<G: Gate, R: Wait>(
 
 /// Holds of the seat's job, one after the other as long as at least as many seats wait as there are
 /// workers: whether the job is to be carried on then. So a long job that is begun early is not put
-/// behind all others again and again, and the last few jobs are shared out evenly.
+/// after all others again and again, and the last few jobs are shared out evenly.
 fn turn<L: Lending, G: Gate, R: Wait>(
     rt: &R,
     ground: &Ground,
@@ -99,7 +99,7 @@ fn turn<L: Lending, G: Gate, R: Wait>(
 }
 
 /// Pops seats until none is there, and carries on the job of each. One that is to be carried on
-/// further is pushed again, and each other one stays in hand. Its only error is want of memory for
+/// further is pushed again, and each other one stays in hand. Its only error is out of memory for
 /// the list of these.
 pub(crate) fn work<L: Lending, G: Gate, R: Wait>(
     rt: &R,

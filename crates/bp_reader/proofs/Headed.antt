@@ -1,4 +1,4 @@
--- Options, and a header behind its first line, each from its three parts.
+-- Options, and a header after its first line, each from its three parts.
 use Rattle.std.proofs.Common.{◌≡◌, ℕ, List, Option, Some, None, Result, Ok, Err, true, refl}
 use Rattle.std.specs.Prelude.{IfSome, IsSomeAnd, codes}
 use Rattle.bp_log.specs.Options.{PlainOptions}

@@ -9,7 +9,7 @@ use Rattle.bp_reader.specs.Fed.{Between, Comes}
 abbrev pub onto_program : List ℕ → Result (List ℕ × List ℕ) Refusal → Result (List ℕ × List ℕ) Refusal
 onto_program front read = read >>= λ p. Ok (front ++ p.0, p.1)
 
--- these bytes were taken, and so many are to come
+-- these bytes were taken, and this many are to come
 pub record Along (size : ℕ) (before after : Option (List ℕ)) (taken : List ℕ) (more : ℕ) : Type 0 where
   pub given : Gives before taken after
   pub front : (other : List ℕ) → program_at size (taken ++ other) ≡ onto_program taken (program_at more other)

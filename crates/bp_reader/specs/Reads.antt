@@ -20,7 +20,7 @@ pub record Standing : Type 0 where
 abbrev pub MeansNext : LogFault → Next → Type 0
 MeansNext f next = IfSome (refusal_of f) (λ r. next ≡ refused r)
 
--- the answer is what stands next in the bytes; behind the end nothing is left
+-- the answer is what stands next in the bytes; after the end nothing is left
 abbrev pub Tells : Result (Option Record) LogFault → Next → Option (List ℕ) → Type 0
 Tells (Ok (Some r)) next after = IsSomeAnd after (λ rest. next ≡ found r rest)
 Tells (Ok None) next after = (next ≡ finished) × (after ≡ Some [])
@@ -36,7 +36,7 @@ IsStageAfter before (Ok (Some r)) s = s ≡ stage_after before r
 IsStageAfter before (Ok None) s = s ≡ before
 IsStageAfter before (Err f) s = s ≡ before
 
--- A record comes where none before was the end, and fewer than the most came; behind the end no record
+-- A record comes where none before was the end, and fewer than the most came; after the end no record
 -- comes.
 abbrev pub ComesInTime : Stage → Result (Option Record) LogFault → Type 0
 ComesInTime s (Ok (Some r)) = (s.ended ≡ false) × (s.lines < MOST_RECORDS)

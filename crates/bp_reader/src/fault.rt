@@ -11,10 +11,10 @@ pub enum LogFault {
     /// A first line of no version.
     #[error("version")]
     Version,
-    /// A line of the header, or the byte behind the program.
+    /// A line of the header, or the byte after the program.
     #[error("header")]
     Header,
-    /// The line of a record, by its number from 1; or bytes behind the last.
+    /// The line of a record, by its number from 1; or bytes after the last.
     #[error("line {0}")]
     Line(u32),
     /// The log ended too early.

@@ -38,7 +38,7 @@ fn version_of<S: Source>(alloc: Global, input: &mut Input<S>) -> Result<Version,
     }
 }
 
-/// The strategy behind its word.
+/// The strategy after its word.
 fn named(line: &[u8]) -> Option<Strategy>
     ensures { result ≡ strategy_behind line.now }
 {
@@ -67,7 +67,7 @@ fn strategy_of<S: Source>(alloc: Global, input: &mut Input<S>) -> Result<Strateg
     }
 }
 
-/// The number behind a word, from `least` to `most`.
+/// The number after a word, from `least` to `most`.
 fn number_behind(word: &[u8], least: u64, most: u64, line: &[u8]) -> Option<u64>
     ensures number { result ≡ field word.now least most line.now }
     ensures from { IfSome result (λ n. least ≤ n) }
@@ -110,7 +110,7 @@ fn field_of<S: Source>(
     }
 }
 
-/// So many bytes, and an LF.
+/// This many bytes, and an LF.
 fn program_of<S: Source>(
     alloc: Global,
     input: &mut Input<S>,
@@ -195,7 +195,7 @@ fn options_of<S: Source>(alloc: Global, input: &mut Input<S>) -> Result<Options,
     }
 }
 
-/// What is said of waiting, behind its word.
+/// What is said of waiting, after its word.
 fn waiting(line: &[u8]) -> Option<bool>
     ensures { result ≡ wait_behind line.now }
 {
@@ -265,7 +265,7 @@ fn settings_of<S: Source>(
     Ok(options.with_wait(wait))
 }
 
-/// The header behind its first line.
+/// The header after its first line.
 #[tactic(auto, unfolding(bp_reading::specs::Heads::body_at))]
 fn body_of<S: Source>(
     alloc: Global,

@@ -14,7 +14,7 @@ use std::marker::Model;
 pub enum Fault {
     /// The source failed.
     Read,
-    /// Want of memory.
+    /// Out of memory.
     Memory,
 }
 

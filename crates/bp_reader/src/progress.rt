@@ -39,7 +39,7 @@ impl Model for Progress {
 }
 
 impl Progress {
-    /// Nothing is read yet of a log of this version with so many injectors. Takes no memory.
+    /// Nothing is read yet of a log of this version with this many injectors.
     pub fn new(alloc: Global, version: Version, injectors: u32) -> Progress
         ensures { result ≡ first_stage version injectors }
     {

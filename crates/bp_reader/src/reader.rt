@@ -49,7 +49,7 @@ pub struct Refused<S: Source> {
     pub source: S,
 }
 
-/// What stands behind the end.
+/// What stands after the end.
 fn behind_end<S: Source>(
     input: &mut Input<S>,
     progress: &Progress,
@@ -70,7 +70,7 @@ fn behind_end<S: Source>(
     }
 }
 
-/// What stands behind the last line that may come.
+/// What stands after the last line that may come.
 fn behind_last<S: Source>(input: &mut Input<S>, progress: &Progress) -> LogFault
     ensures tells { IfSome input.old.left
         (λ bytes. MeansNext result (next_of progress.now (too_many bytes))) }
@@ -193,7 +193,7 @@ impl<S: Source> Reader<S> {
         self.input.back()
     }
 
-    /// The next record, or `None` behind the end. After a refusal it answers the same one. Where the
+    /// The next record, or `None` after the end. After a refusal it answers the same one. Where the
     /// source failed, what was taken says no more than nothing would, and all that is still to come
     /// is the source's.
     pub fn next(&mut self, alloc: Global) -> Result<Option<Record>, LogFault>

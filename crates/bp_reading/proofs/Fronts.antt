@@ -121,7 +121,7 @@ header_fronts =
 pub cut_first : {A B : Type 0} (p : Reads A) (f : A × List ℕ → Result (B × List ℕ) Refusal) (bytes rest : List ℕ) → CutsOff p bytes rest → CutsOff (λ b. p b >>= f) bytes rest
 cut_first p f bytes rest c = (c.0, c.1, ap (λ (q : Result _ Refusal). q >>= f) c.2)
 
--- ends behind what a first part of it says
+-- ends after what a first part of it says
 pub cut_later : {A B : Type 0} (p : Reads A) (f : A × List ℕ → Result (B × List ℕ) Refusal) (bytes mid rest : List ℕ) (x : A) → ReadsFronts p → p bytes ≡ Ok (x, mid) → CutsOff (λ b. f (x, b)) mid rest → CutsOff (λ b. p b >>= f) bytes rest
 cut_later p f bytes mid rest x fronts h c =
     let a = fronts bytes (x, mid) h in (

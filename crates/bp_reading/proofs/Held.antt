@@ -18,7 +18,7 @@ use Rattle.js_json.specs.Json.{if_whole, data_from, list_from, fields_from, even
 use Rattle.js_data.proofs.Shared.{mapped}
 use Rattle.bp_reading.proofs.Unquoted.{past_ascii, utf8_unquoted}
 
--- where its text begins what is UTF-8, the data is held, and UTF-8 stands behind it
+-- where its text begins what is UTF-8, the data is held, and UTF-8 stands after it
 abbrev Held : PlainData → Type 0
 Held d = (rest : List ℕ) → IsUtf8 (data_text d ++ rest) → IsHeld d × IsUtf8 rest
 

@@ -90,7 +90,7 @@ wait_then Second wait more = 10 ∷ (codes "wait " ++ (wait_name wait ++ more))
 abbrev pub program_then : List ℕ → List ℕ → List ℕ
 program_then program more = codes "program " ++ (decimal (length program) ++ 10 ∷ (program ++ 10 ∷ more))
 
--- a header's text behind its first line, and what follows
+-- a header's text after its first line, and what follows
 abbrev pub body_then : Version → PlainHeader → List ℕ → List ℕ
 body_then v h more = options_then h.options (wait_then v h.options.wait (10 ∷ program_then h.program more))
 

@@ -69,7 +69,7 @@ body (x ∷ s) r =
     ∙ ap (onto_all (escaped_byte x)) (body s r)
     ∙ sym (onto_all-append (escaped_byte x) (flat_map escaped_byte s) (to_quote false r))
 
--- what stands behind the opening mark: the rest of the quoted text, and what follows it
+-- what stands after the opening mark: the rest of the quoted text, and what follows it
 pub to_quote_is : (s r : List ℕ) → to_quote false ((flat_map escaped_byte s ++ 34 ∷ []) ++ r) ≡ Some (flat_map escaped_byte s ++ 34 ∷ [], r)
 to_quote_is s r =
     ap (to_quote false) (append_assoc (flat_map escaped_byte s) (34 ∷ []) r)

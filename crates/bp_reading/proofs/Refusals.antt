@@ -105,7 +105,7 @@ waiting_in_the_first = refl
 
 -- ---- records
 
--- behind two records, of two injectors the second of which has ended
+-- after two records, of two injectors the second of which has ended
 abbrev third : Stage
 third = record { version = First; injectors = 2; over = 1 âˆ· []; lines = 2; ended = false }
 
@@ -151,7 +151,7 @@ pub more_behind_the_end : next_at (record third { ended = true }) (codes "e") â‰
 unfolding next_at
 more_behind_the_end = refl
 
--- ---- who can stand, and what is known behind a record
+-- ---- who can stand, and what is known after a record
 
 abbrev e : PlainEvent
 e = named (codes "e")

@@ -115,7 +115,7 @@ unquoted (suc n) (x ∷ s) rest h u = elim (cases_lt x 128) [
       (subst IsUtf8 (sym c.text) (IsUtf8-append (encode f.char) c.more f.is_char tail.0), tail.1)
 ]
 
--- a text and what stands behind it
+-- a text and what stands after it
 pub utf8_unquoted : (s rest : List ℕ) → IsUtf8 (quoted_text s ++ rest) → IsUtf8 s × IsUtf8 rest
 utf8_unquoted s rest u =
     let body = past_ascii (34 ∷ []) ((flat_map escaped_byte s ++ (34 ∷ [])) ++ rest) refl u in

@@ -18,7 +18,7 @@ pub data Front : Type 0 where
   partial : Front
   -- what no line can begin with
   excess : Front
-  -- a line without its LF, and the bytes behind the LF
+  -- a line without its LF, and the bytes after the LF
   whole : List ℕ → List ℕ → Front
 
 abbrev pub onto : ℕ → Front → Front
@@ -49,14 +49,14 @@ line_room Second = MOST_LINE_BYTES
 pub data Refusal : Type 0 where
   -- the first line
   version : Refusal
-  -- another line of the header, or the byte behind the program
+  -- another line of the header, or the byte after the program
   header : Refusal
   -- the line of a record, by its number from 1
   record_line : ℕ → Refusal
   -- the input ends too early
   cut : Refusal
 
--- ---- the header: what each part says, and the bytes behind it
+-- ---- the header: what each part says, and the bytes after it
 
 -- what was taken of the bytes, before the rest, ends too early
 abbrev pub CutsOff : {A : Type 0} →
@@ -92,14 +92,14 @@ strategy_line_at bytes = said header strategy_behind (line_at MOST_LINE_BYTES by
 abbrev pub from_least : ℕ → ℕ → Option ℕ
 from_least least n = if nat_le least n then Some n else None
 
--- a number behind a word, from `least` to `most`
+-- a number after a word, from `least` to `most`
 abbrev pub field : List ℕ → ℕ → ℕ → List ℕ → Option ℕ
 field word least most line = option_and_then (from_least least) (number_behind word most line)
 
 unfoldable pub field_at : List ℕ → ℕ → ℕ → List ℕ → Result (ℕ × List ℕ) Refusal
 field_at word least most bytes = said header (field word least most) (line_at MOST_LINE_BYTES bytes)
 
--- so many bytes, and an LF
+-- this many bytes, and an LF
 unfoldable pub program_at : ℕ → List ℕ → Result (List ℕ × List ℕ) Refusal
 program_at zero [] = Err cut
 program_at zero (b ∷ bytes) = if b == 10 then Ok ([], bytes) else Err header
@@ -153,7 +153,7 @@ settings_at v bytes = do
   wait ← wait_line_at v options.1
   Ok (record options.0 { wait = wait.0 }, wait.1)
 
--- the header behind its first line
+-- the header after its first line
 unfoldable pub body_at : Version → List ℕ → Result (PlainHeader × List ℕ) Refusal
 body_at v bytes = do
   options ← settings_at v bytes

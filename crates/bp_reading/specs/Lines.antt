@@ -18,7 +18,7 @@ use Rattle.bp_reading.specs.Words.{number_at, most_32, behind, around, number_be
 abbrev pub top_at : List ℕ → Option (Place × List ℕ)
 top_at bytes = option_map (λ rest. (Top, rest)) (behind (codes "top") bytes)
 
--- the text at the front, in its quotation marks, and what stands behind it
+-- the text at the front, in its quotation marks, and what stands after it
 abbrev pub name_at : List ℕ → Option (List ℕ × List ℕ)
 name_at bytes =
     option_and_then (λ p. option_map (λ name. (name, p.1)) (text_at p.0)) (quoted_front bytes)
@@ -26,7 +26,7 @@ name_at bytes =
 abbrev pub thread_at : List ℕ → Option (Place × List ℕ)
 thread_at bytes = option_map (λ p. (Thread p.0, p.1)) (name_at bytes)
 
--- the place at the front, and what stands behind it
+-- the place at the front, and what stands after it
 abbrev pub place_at : List ℕ → Option (Place × List ℕ)
 place_at bytes = option_or (top_at bytes) (thread_at bytes)
 
@@ -102,7 +102,7 @@ abbrev pub faulty_at : List ℕ → Option Verdict
 faulty_at line =
     option_and_then (λ rest. option_and_then blamed_at (place_at rest)) (behind (codes "fault ") line)
 
--- nothing stands behind the place
+-- nothing stands after the place
 abbrev pub spent_by : Place → List ℕ → Option Verdict
 spent_by place [] = Some (verdict.Spent place)
 spent_by place (b ∷ bytes) = None

@@ -74,7 +74,7 @@ front_at s bytes =
     if s.ended then behind_end bytes else
     (if nat_le MOST_RECORDS s.lines then too_many bytes else line_at (line_room s.version) bytes)
 
--- a record and the bytes behind its line, the good end, or a refusal
+-- a record and the bytes after its line, the good end, or a refusal
 pub data Next : Type 0 where
   found : Record → List ℕ → Next
   finished : Next
@@ -101,7 +101,7 @@ Says s bytes [] (Some f) = next_at s bytes ≡ refused f
 Says s bytes (r ∷ rs) f =
     (rest : List ℕ) × (next_at s bytes ≡ found r rest) × Says (after s r) rest rs f
 
--- at this stage the bytes begin with these records; behind them that stage and those bytes are left
+-- at this stage the bytes begin with these records; after them that stage and those bytes are left
 abbrev pub BeginsWith : Stage → List ℕ → List Record → Stage → List ℕ → Type 0
 BeginsWith s bytes [] t left = (t ≡ s) × (left ≡ bytes)
 BeginsWith s bytes (r ∷ rs) t left =

@@ -36,19 +36,19 @@ most_64 = 18_446_744_073_709_551_615
 
 -- ---- words
 
--- what stands behind a word
+-- what stands after a word
 abbrev pub behind : List ℕ → List ℕ → Option (List ℕ)
 behind [] bytes = Some bytes
 behind (w ∷ word) [] = None
 behind (w ∷ word) (b ∷ bytes) = if b == w then behind word bytes else None
 
--- what stands before the first such byte, and behind it
+-- what stands before the first such byte, and after it
 abbrev pub around : ℕ → List ℕ → Option (List ℕ × List ℕ)
 around c [] = None
 around c (b ∷ bytes) =
     if b == c then Some ([], bytes) else option_map (λ p. (b ∷ p.0, p.1)) (around c bytes)
 
--- the number, at most `most`, behind a word
+-- the number, at most `most`, after a word
 abbrev pub number_behind : List ℕ → ℕ → List ℕ → Option ℕ
 number_behind word most bytes = option_and_then (number_at most) (behind word bytes)
 
@@ -82,14 +82,14 @@ text_at bytes =
 abbrev pub onto_front : ℕ → Option (List ℕ × List ℕ) → Option (List ℕ × List ℕ)
 onto_front b = option_map (λ p. (b ∷ p.0, p.1))
 
--- the bytes up to the first quotation mark that no backslash escapes, and those behind it
+-- the bytes up to the first quotation mark that no backslash escapes, and those after it
 abbrev pub to_quote : Bool → List ℕ → Option (List ℕ × List ℕ)
 to_quote escaped [] = None
 to_quote escaped (b ∷ bytes) =
     if not escaped && (b == 34) then Some (b ∷ [], bytes) else
     onto_front b (to_quote (not escaped && (b == 92)) bytes)
 
--- the bytes from a quotation mark to the one that closes it, and those behind it
+-- the bytes from a quotation mark to the one that closes it, and those after it
 abbrev pub quoted_front : List ℕ → Option (List ℕ × List ℕ)
 quoted_front bytes =
     option_and_then (λ rest. onto_front 34 (to_quote false rest)) (behind (34 ∷ []) bytes)

@@ -26,7 +26,7 @@ pub fn lines_are_texts()
     ensures { LinesAreTexts }
 {}
 
-/// Whatever the bytes behind a header, they say one list of records and how these end, and no other:
+/// Whatever the bytes after a header, they say one list of records and how these end, and no other:
 /// well, or in the first refusal.
 pub fn read_one_way()
     ensures { ReadOneWay }

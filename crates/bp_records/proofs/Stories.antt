@@ -146,7 +146,7 @@ module _ {O S : Type 0} (P : O → Type 0) (l : Code O S) (short : ShortCode P l
   first_known None j n s h k = k
   first_known (Some x) j n s h k = h
 
-  -- the record can stand next, and behind it the same is known
+  -- the record can stand next, and after it the same is known
   record Steps (c m : Configuration O) (s : Stage) (r : Record) : Type 0 where
     can : can_stand s r ≡ true
     fits : length (record_text r) ≤ MOST_LINE_BYTES

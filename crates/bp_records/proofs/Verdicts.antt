@@ -12,7 +12,7 @@ abbrev pub IsShortPlace : Place → Type 0
 IsShortPlace Top = Unit {0}
 IsShortPlace (Thread name) = IsShortText name
 
--- of a run with so many injectors
+-- of a run with this many injectors
 abbrev pub IsShortVerdict : ℕ → Verdict → Type 0
 IsShortVerdict most (verdict.Violated place t) = IsShortPlace place × IsShortText t
 IsShortVerdict most (verdict.Fault place line f) = IsShortPlace place

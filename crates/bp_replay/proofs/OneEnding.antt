@@ -34,7 +34,7 @@ use Rattle.bp_replay.proofs.WholeLogs.{same_record, same_rest, next_leads, one_o
 
 -- ---- a refusal is told by one fault
 
--- reading or writing failed or memory was wanting, or this is refused
+-- reading or writing failed or memory ran out, or this is refused
 abbrev Refuses : LogFault → Type 0
 Refuses f = IsTrouble (Err (Log f)) ⊎ ((r : Refusal) × (refusal_of f ≡ Some r))
 

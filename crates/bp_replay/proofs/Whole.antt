@@ -89,7 +89,7 @@ no_run bytes rest version header (Err fault.Program) h n = (version, header, res
 no_run bytes rest version header (Err fault.Write) h n = n
 no_run bytes rest version header (Err fault.Memory) h n = tt
 
--- a replay of what stands behind a header is one of the whole
+-- a replay of what stands after a header is one of the whole
 behind_header : (bytes rest : List ℕ) (version : Version) (header : PlainHeader) (before after : Option (List ℕ)) (ended : Result Verdict ReplayFault) → header_at bytes ≡ Ok ((version, header), rest) → EndsBehind version header rest before after ended → IsReplay bytes before after ended
 behind_header bytes rest version header before after ended h (inl n) = inl (no_run bytes rest version header ended h n.0, n.1)
 behind_header bytes rest version header before after ended h (inr r) =
@@ -109,7 +109,7 @@ behind_header bytes rest version header before after ended h (inr r) =
       prints = r.prints;
     })
 
--- a read failed behind the header
+-- a read failed after the header
 pub taken_whole : (left mid after : Option (List ℕ)) (version : Version) (header : PlainHeader) (before later : Option (List ℕ)) → IfSome left (λ bytes. IsSomeAnd mid (λ rest. header_at bytes ≡ Ok ((version, header), rest))) → Between mid after (λ bytes rest. TakenBehind version header bytes rest before later) →
     Between left after (λ bytes rest. ReplaysTaken bytes rest before later)
 taken_whole None mid after version header before later h t = tt

@@ -81,7 +81,7 @@ split s bytes (r ∷ rs) (q ∷ ss) t left b h =
 goes_at : {O S : Type 0} (l : Code O S) (o : PlainOptions) (rs : List Record) (x : Option (Configuration O)) (m c : Configuration O) → x ≡ Some m → option_and_then (story_from l o rs) x ≡ Some c → story_from l o rs m ≡ Some c
 goes_at l o rs x m c h k = sym (ap (λ (y : Option (Configuration _)). option_and_then (story_from l o rs) y) h) ∙ k
 
--- where a story goes on behind c, the next record leads on from c
+-- where a story goes on after c, the next record leads on from c
 pub next_leads : {O S : Type 0} (l : Code O S) (o : PlainOptions) (rs qs : List Record) (q : Record) (b c d : Configuration O) → story_from l o rs b ≡ Some c → story_from l o (rs ++ q ∷ qs) b ≡ Some d →
     (m : Configuration O) × (after_record l o c q ≡ Some m)
 unfolding story_from

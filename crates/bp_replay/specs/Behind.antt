@@ -1,4 +1,4 @@
--- What a replay does with what stands behind the header.
+-- What a replay does with what stands after the header.
 use Rattle.std.specs.Prelude.{◌≡◌, ◌⊎◌, ℕ, List, ◌++◌, Option, Result, Ok, Err}
 use Rattle.bp_log.specs.Header.{PlainHeader}
 use Rattle.bp_log.specs.declared.version.Version.{Version}

@@ -17,7 +17,7 @@ use Rattle.bp_follow.specs.declared.fault.ReplayFault.{ReplayFault}
 use Rattle.bp_follow.specs.declared.fault.ReplayFault.TheVariants.{Log, Differs, Program, Write, Memory}
 use Rattle.bp_replay.specs.Replays.{IsReplay}
 
--- reading or writing failed, or memory was wanting
+-- reading or writing failed, or memory ran out
 abbrev pub IsTrouble : Result Verdict ReplayFault → Type 0
 IsTrouble (Ok v) = ⊥
 IsTrouble (Err (Log log.Version)) = ⊥
@@ -60,7 +60,7 @@ ReplaysTellTheRun =
     IsTrouble ended ⊎ TellsAll records text before after ended
 
 -- each replay of these bytes prints this text and answers this verdict, unless reading or writing
--- failed or memory was wanting
+-- failed or memory ran out
 abbrev pub Retells : List ℕ → List ℕ → Verdict → Type 0
 Retells bytes text verdict =
     (before after : Option (List ℕ)) (ended : Result Verdict ReplayFault) →
@@ -86,7 +86,7 @@ PrintOne before after other later =
     (text : List ℕ) × Appends before text after × Appends other text later
 
 -- Two replays of the same bytes end in the same way and print the same text, unless reading or writing
--- failed or memory was wanting.
+-- failed or memory ran out.
 abbrev pub OneEnding : Type 0
 OneEnding =
     (bytes : List ℕ) (before after other later : Option (List ℕ))

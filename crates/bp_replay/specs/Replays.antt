@@ -22,7 +22,7 @@ pub record Heads (bytes : List ℕ) (c : Course) (rest : List ℕ) : Type 0 wher
   pub program : IsProgram header.program c.program
   pub options : c.options ≡ header.options
 
--- the text was written; where memory was wanting or writing failed, a front of it
+-- the text was written; where memory ran out or writing failed, a front of it
 abbrev pub Prints : Result Verdict ReplayFault → Option (List ℕ) → List ℕ → Option (List ℕ) → Type 0
 Prints (Err Write) before text after = AppendsFront before text after
 Prints (Err Memory) before text after = AppendsFront before text after

@@ -8,7 +8,7 @@ pub fn replays_tell_the_run()
 {}
 
 /// What ends as a replay of the log of a complete story of an accepted program, and neither reading
-/// nor writing failed nor memory was wanting, has printed the whole text of that story, and answers
+/// nor writing failed nor memory ran out, has printed the whole text of that story, and answers
 /// its verdict, whatever the injectors: each record of such a story can be read back.
 pub fn logs_of_stories_replay()
     ensures { LogsOfStoriesReplay }

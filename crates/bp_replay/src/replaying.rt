@@ -24,7 +24,7 @@ pub struct Replayed<S: Source> {
     pub log: S,
 }
 
-/// Replays what stands behind the header.
+/// Replays what stands after the header.
 fn replay_records<S: Source, K: Sink>(
     alloc: Global,
     header: &Header,

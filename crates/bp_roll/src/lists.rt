@@ -28,7 +28,7 @@ fn is_at(list: &[u32], at: usize, number: u32) -> bool
     }
 }
 
-/// The number is in the list from now on. Its only error is want of memory.
+/// The number is in the list from now on.
 fn put(list: &mut Vec<u32>, number: u32) -> Result<(), Memory>
     ensures there { OnOk result (is_in number list.new.items ≡ true) }
     ensures others { (n : ℕ) → is_in n list.old.items ≡ true → is_in n list.new.items ≡ true }
@@ -52,7 +52,7 @@ fn take(list: &mut Vec<u32>, number: u32)
     }
 }
 
-/// The number is listed at the key from now on. Its only error is want of memory.
+/// The number is listed at the key from now on.
 pub(crate) fn enter(alloc: Global, lists: &mut Lists, key: u64, number: u32) -> Result<(), Memory>
     ensures there { OnOk result (is_listed lists.new.entries key number ≡ true) }
     ensures others { (k n : ℕ) → is_listed lists.old.entries k n ≡ true →

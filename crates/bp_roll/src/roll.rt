@@ -14,7 +14,7 @@ type Kept = IndexMap<u32, Vec<u64>>;
 
 /// Which numbers are noted at which keys. Contracts see the numbers of each key.
 ///
-/// More may be noted than was asked for, once memory was wanting; never less.
+/// More may be noted than was asked for, once memory ran out; never less.
 #[derive(Drop)]
 pub struct Roll {
     lists: Lists,
@@ -40,7 +40,7 @@ fn are_same(left: &[u64], right: &[u64]) -> bool
     left == right
 }
 
-/// The number is listed at these keys from now on. Its only error is want of memory.
+/// The number is listed at these keys from now on.
 fn enter_all(alloc: Global, lists: &mut Lists, keys: &[u64], number: u32) -> Result<(), Memory>
     ensures there { OnOk result ((k : ℕ) → is_in k keys.now ≡ true →
         is_listed lists.new.entries k number ≡ true) }
@@ -84,7 +84,7 @@ fn give_up(lists: &mut Lists, kept: &mut Kept, number: u32)
     leave_before(lists, before, number);
 }
 
-/// The number is listed at these keys, and they are kept of it. Its only error is want of memory.
+/// The number is listed at these keys, and they are kept of it.
 fn take_up(
     alloc: Global,
     lists: &mut Lists,
@@ -105,7 +105,7 @@ fn take_up(
 }
 
 impl Roll {
-    /// Nobody is noted. Takes no memory.
+    /// Nobody is noted.
     pub fn new(alloc: Global) -> Roll
         ensures { result ≡ [] }
     {
@@ -131,7 +131,7 @@ impl Roll {
     ///
     /// # Errors
     ///
-    /// Want of memory alone, and then the number may be noted at some of the keys.
+    /// Out of memory alone, and then the number may be noted at some of the keys.
     pub fn restate(&mut self, alloc: Global, number: u32, keys: Vec<u64>) -> Result<(), Memory>
         ensures noted { OnOk result ((k : ℕ) → is_in k keys.items ≡ true →
             is_noted self.new k number ≡ true) }
@@ -145,7 +145,7 @@ impl Roll {
         take_up(alloc, &mut self.lists, &mut self.kept, number, keys)
     }
 
-    /// The numbers that are noted at the key. Takes no memory.
+    /// The numbers that are noted at the key.
     pub fn at(&self, key: u64) -> &[u32]
         ensures { result.now ≡ numbers_at self.now key }
     {

@@ -14,7 +14,7 @@ use std::thread::Threads;
 enum Rows {
     /// A line has words, of which `<>` stands for the empty one, the mark `==>`, and the command that they are, or `wrong`.
     Words,
-    /// A line has the words of a command, the mark `-->`, a status and a script, and behind the mark `==>` what is printed, with
+    /// A line has the words of a command, the mark `-->`, a status and a script, and after the mark `==>` what is printed, with
     /// `;` for each line end, or `! ` and the note. Commands that come to the same stand with ` & ` between. In the script `\n`
     /// stands for a line end and `%` with two digits for a byte; there and behind the mark `«N TEXT»` stands for so many texts.
     Runs,

@@ -63,7 +63,7 @@ pub first_fault_counts : selectable has (states 0 (x ∷ []) Nothing (Fails 7 x)
 unfolding selectable
 first_fault_counts = refl
 
--- y, behind x, is not asked for
+-- y, after x, is not asked for
 pub queue_is_asked_up_to_the_first : selectable has (blocks 0 (Fails 7 y) ∷ []) (x ∷ y ∷ []) ≡ Ok (queued 0)
 unfolding selectable
 queue_is_asked_up_to_the_first = refl

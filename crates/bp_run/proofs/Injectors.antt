@@ -142,7 +142,7 @@ bad_is_known l o rs d h = bad_from l o rs (initial l o.injectors) d h ∙ ap (λ
 
 -- ---- what `quiet` means
 
--- no item is waited for, no line was bad, and so many transitions were made
+-- no item is waited for, no line was bad, and this many transitions were made
 pub record IsQuiet {O : Type 0} (o : PlainOptions) (c : Configuration O) (n : ℕ) : Type 0 where
   pub heard : waits_for_none o c ≡ true
   pub good : c.bad ≡ None

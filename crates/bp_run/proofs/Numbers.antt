@@ -24,7 +24,7 @@ use Rattle.bp_run.proofs.Turns.{length-change}
 
 -- ---- the entries of a turn
 
--- the entries are those that were registered since there were so many b-threads
+-- the entries are those that were registered since there were this many b-threads
 record Waved {O : Type 0} (first : ℕ) (p : Pair O) : Type 0 where
   pub count : ℕ
   pub entries : p.entries ≡ map Runs (numbers_from first count)

@@ -69,7 +69,7 @@ no_handler o replies e = None
 abbrev pub code : (Body → List PlainEvent → Part Body Small) → Code Body Small
 code after = record { top = Main; after = after; handling = no_handler; has = has; word = λ n. n + 5 }
 
--- with so many injectors
+-- with this many injectors
 abbrev pub with_injectors : ℕ → PlainOptions
 with_injectors n = record default_options { injectors = n }
 

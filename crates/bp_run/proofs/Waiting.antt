@@ -69,7 +69,7 @@ then_same : {A B : Type 0} (f g : A → Option B) (x : Option A) → ((y : A) �
 then_same f g None h = refl
 then_same f g (Some y) h = h y refl
 
--- behind one record, where the rest is the same
+-- after one record, where the rest is the same
 on_same : {O S : Type 0} (l : Code O S) (o : PlainOptions) (b : Bool) (c : Configuration O) (r : Record) (rs : List Record) → c.reading ≡ [] →
     ((m : Configuration O) → m.reading ≡ [] → story_from l (waiting o b) rs m ≡ story_from l o rs m) →
     option_and_then (story_from l (waiting o b) rs) (after_record l (waiting o b) c r) ≡ option_and_then (story_from l o rs) (after_record l o c r)

@@ -63,7 +63,7 @@ abbrev pub chosen : {Set : Type 0} → (ℕ → ℕ) → Strategy → List (Live
 chosen word s ts queue drawn [] outer = queued_at drawn queue outer
 chosen word s ts queue drawn (e ∷ es) outer = drawn_of word drawn (remaining s ts (e ∷ es))
 
--- the choice where so many words were drawn; nothing, where nothing is selectable
+-- the choice where this many words were drawn; nothing, where nothing is selectable
 unfoldable pub choice : {Set : Type 0} → Has Set → (ℕ → ℕ) → Strategy → List (Live Set) →
     List PlainEvent → ℕ → Asked (Option Choice)
 choice has word s ts queue drawn =

@@ -4,7 +4,7 @@ use Rattle.std.specs.List.{list_any}
 use Rattle.bp_log.specs.declared.record.Record.{Record}
 use Rattle.bp_log.specs.declared.record.Record.TheVariants.{In, Bad, Eof, Sel, End}
 
--- nothing of the injector comes behind it: that it ended, or its bad line
+-- nothing of the injector comes after it: that it ended, or its bad line
 abbrev pub is_last_of : ℕ → Record → Bool
 is_last_of j (In k e) = false
 is_last_of j (Bad k n) = nat_eq j k

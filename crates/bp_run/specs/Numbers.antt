@@ -18,7 +18,7 @@ abbrev pub number_in : Touched → ℕ
 number_in (Moves i) = i
 number_in (Interrupts i) = i
 
--- so many numbers, from the first one on
+-- this many numbers, from the first one on
 abbrev pub numbers_from : ℕ → ℕ → List ℕ
 numbers_from first zero = []
 numbers_from first (suc n) = numbers_from first n ++ (first + n) ∷ []

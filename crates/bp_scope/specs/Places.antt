@@ -3,7 +3,7 @@ use Rattle.std.specs.Prelude.{◌≡◌, ◌≤◌, ℕ, [], vec_len, vec_capaci
 use Rattle.bp_scope.specs.declared.places.Places.{Places}
 
 module _ {S : Type 0} where
-  -- there is room for so many injectors, and none was started
+  -- there is room for this many injectors, and none was started
   pub record HasRoom (p : Places S) (count : ℕ) : Type 0 where
     pub berths : vec_len p.berths ≡ count
     pub unread : p.readings.items ≡ []

@@ -59,7 +59,7 @@ module _ {S : Type 0} where
     pub behind : List Item
     pub offered : HasOffered left faults source back (heard ++ behind)
 
-  -- a source came back that failed behind the items that were heard
+  -- a source came back that failed after the items that were heard
   pub record IsBroken (left : S → Option (List ℕ)) (faults : S → ℕ) (source back : S)
       (heard : List Item) : Type 0 where
     pub behind : List Item
@@ -73,7 +73,7 @@ module _ {S : Type 0} where
         → IsBack left faults (slice_index_or sources k d) (slice_index_or backs k d)
         (items_by k records)
 
-  -- the source of this number is there, and failed behind what was recorded of it
+  -- the source of this number is there, and failed after what was recorded of it
   pub record HasBroken (left : S → Option (List ℕ)) (faults : S → ℕ) (sources back : List S)
       (records : List Record) (j : ℕ) : Type 0 where
     pub there : j < length sources

@@ -107,7 +107,7 @@ is_line : (ts : List Token) → IsLineIn ts (line_in ts)
 is_line [] = refl
 is_line (t ∷ ts) = (0, omega arith, refl)
 
--- no fault of names is want of memory
+-- no fault of names is out of memory
 abbrev IsNamed : Option NameFault → Type 0
 IsNamed o = o ≡ Some NameFault.Memory → ⊥
 

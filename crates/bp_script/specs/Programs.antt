@@ -45,7 +45,7 @@ pub record IsProgram (bytes : List ℕ) (program : PlainProgram) : Type 0 where
   pub accepted : AreAccepted bytes tree
   pub is_resolved : resolved tree ≡ Some program
 
--- the first place that is no token has this flaw, on this line
+-- the first place that is not a token has this flaw, on this line
 abbrev pub HasFlaw : List ℕ → Flaw → ℕ → Type 0
 HasFlaw bytes what line =
     (length bytes ≤ MOST_BYTES)

@@ -8,7 +8,7 @@ use std::alloc::Global;
 /// What is wrong on a line of a program.
 #[derive(Clone, Copy, Debug, PartialEq, Eq)]
 pub enum Kind {
-    /// A character that is no token.
+    /// A character that is not a token.
     Character,
     /// A text literal or a comment that is not closed.
     OpenText,
@@ -31,7 +31,7 @@ pub enum Kind {
 }
 
 impl Kind {
-    /// Its words. Takes no memory.
+    /// Its words.
     pub fn name(self) -> &'static str
         ensures { result.now ≡ kind_name self }
     {
@@ -64,7 +64,7 @@ pub enum Rule {
 }
 
 impl Rule {
-    /// Its word. Takes no memory.
+    /// Its word.
     pub fn name(self) -> &'static str
         ensures { result.now ≡ rule_name self }
     {
@@ -89,7 +89,7 @@ pub enum Refusal {
 }
 
 impl Refusal {
-    /// The words for it. Its only error is want of memory.
+    /// The words for it.
     pub fn note(&self, alloc: Global) -> Result<Text, Memory>
         ensures { IfOk result (λ text. text ≡ note_of self.now) }
     {

@@ -103,7 +103,7 @@ in_index i (x ∷ xs) h = by (or_cases (nat_eq i x) (is_in i xs) h) (λ e. in_in
     by (inl e) rest = (0, omega arith, sym (eqb-true i x e))
     by (inr e) rest = let r = rest e in let low = r.1 in (suc r.0, omega (arith, low), r.2)
 
--- the first so many places are before `done`, or of nobody
+-- the first this many places are before `done`, or of nobody
 abbrev pub ArePassed : List ℕ → ℕ → ℕ → ℕ → Type 0
 ArePassed places j done len = (k : ℕ) → k < j → (slice_index places k < done) ⊎ (len ≤ slice_index places k)
 

@@ -124,7 +124,7 @@ keys_in s ss ks h k = record { each = λ base budget e. by base budget e (h.each
     by base budget e (inr a) (inl b) = inl b
     by base budget e (inr a) (inr b) = inr (ap (λ (m : Membership). or_then (member_of_any base budget ss e) m) a ∙ b)
 
--- so many of the sets have their keys
+-- this many of the sets have their keys
 abbrev pub HaveKeys : List PlainSet → ℕ → List ℕ → Type 0
 HaveKeys ss n ks = (i : ℕ) (s : PlainSet) → i < n → i < length ss → s ≡ get_or ss i s → HaveKeysOf s ks
 
@@ -371,7 +371,7 @@ kept_more n ts us sets changed numbers old new e q others k = record {
   heeding = others us (subst (λ (xs : List (Live PlainSet)). WhereWhole old.whole xs old.roll old.changed.items) (sym e) k.heeding);
 }
 
--- whether or not memory was wanting
+-- whether or not memory ran out
 pub kept_placed : {E : Type 0} (n : ℕ) (o : Option (Statement PlainSet)) (ts us : List (Live PlainSet)) (sets : Sets) (changed numbers : List ℕ) (old new : heeds.Heeds) (r : Result (Unit {0}) E) → OnOk r (us ≡ placed n o ts) → OnErr r (us ≡ ts) →
     numbers ≡ changed ++ n ∷ [] → (new.whole ≡ true → is_in n new.changed.items ≡ true) →
     ((vs : List (Live PlainSet)) → WhereWhole old.whole vs old.roll old.changed.items → WhereWhole new.whole vs new.roll new.changed.items) → AreKept ts sets changed old → AreKept us sets numbers new

@@ -49,7 +49,7 @@ noted_more n ts us sets changed h k = record { each = λ m. by m (k.each m) }
     by m (inl c) = inl (Contains-append_left changed (n ∷ []) m c)
     by m (inr e) = inr (e ∙ ap (λ (xs : List (Live PlainSet)). block_at xs m) (sym h))
 
--- whether or not memory was wanting
+-- whether or not memory ran out
 pub noted_placed : {E : Type 0} (n : ℕ) (o : Option (Statement PlainSet)) (ts us : List (Live PlainSet)) (sets : Sets) (changed numbers : List ℕ) (r : Result (Unit {0}) E) → OnOk r (us ≡ placed n o ts) → OnErr r (us ≡ ts) →
     numbers ≡ changed ++ n ∷ [] → IsNoted ts sets changed → IsNoted us sets numbers
 noted_placed n o ts us sets changed numbers (Ok x) h k e w = subst (λ (ns : List ℕ). IsNoted us sets ns) (sym e) (noted_put n o ts us sets changed h w)
@@ -96,7 +96,7 @@ rest_of : (n i : ℕ) (ns : List ℕ) → Contains (n ∷ ns) i → (n ≢ i) �
 rest_of n i ns (zero, low, e) h = absurd (h e)
 rest_of n i ns (suc k, low, e) h = (k, omega (arith, low), e)
 
--- the sets of so many numbers are those of the b-threads
+-- the sets of this many numbers are those of the b-threads
 pub record AreSettled (ts : List (Live PlainSet)) (sets : Sets) (changed : List ℕ) (at : ℕ) : Type 0 where
   pub each : (n : ℕ) → Contains (drop at changed) n ⊎ (sets n ≡ block_at ts n)
 

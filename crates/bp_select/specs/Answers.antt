@@ -15,7 +15,7 @@ use Rattle.bp_select.specs.declared.answers.Choice.TheVariants.{Internal, Extern
 use Rattle.bp_select.specs.declared.answers.Enabled.{Enabled}
 use Rattle.bp_select.specs.declared.answers.Reach.{Reach}
 
--- this is the first fault, unless memory was wanting
+-- this is the first fault, unless memory ran out
 abbrev pub FaultAs : {A : Type 0} → Asked A → SelectFault → Type 0
 FaultAs asked (Set n (set_fault.Broken f line)) = asked ≡ Err (n, run.SetFault.Broken f line)
 FaultAs asked (Set n set_fault.Spent) = asked ≡ Err (n, run.SetFault.Spent)
@@ -23,7 +23,7 @@ FaultAs asked (Set n (set_fault.NotTruth line)) = asked ≡ Err (n, run.SetFault
 FaultAs asked (Set n set_fault.Memory) = ⊥
 FaultAs asked Memory = Unit {0}
 
--- the answer, or the first fault, unless memory was wanting
+-- the answer, or the first fault, unless memory ran out
 abbrev pub AnswersAs : {A B : Type 0} → (B → A) → Asked A → Result B SelectFault → Type 0
 AnswersAs view asked (Ok b) = asked ≡ Ok (view b)
 AnswersAs view asked (Err f) = FaultAs asked f
@@ -31,7 +31,7 @@ AnswersAs view asked (Err f) = FaultAs asked f
 abbrev pub enabled_of : Enabled → selecting.Enabled
 enabled_of x = record { inner = x.inner.items; outer = x.outer }
 
--- the chosen event, where so many words were drawn afterwards
+-- the chosen event, where this many words were drawn afterwards
 abbrev pub chosen_of : List PlainEvent → ℕ → Choice → Option choosing.Choice
 chosen_of queue drawn (Internal e) = Some (record { event = e; place = None; drawn = drawn })
 chosen_of queue drawn (External place) =
@@ -44,7 +44,7 @@ IsFrom place (Internal e) = Unit {0}
 IsFrom place (External i) = place ≡ Some i
 IsFrom place Nothing = Unit {0}
 
--- an event of the queue is one of so many
+-- an event of the queue is one of this many
 abbrev pub IsWithin : ℕ → Choice → Type 0
 IsWithin n (Internal e) = Unit {0}
 IsWithin n (External i) = i < n

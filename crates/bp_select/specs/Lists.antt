@@ -22,7 +22,7 @@ abbrev pub gone_in : List Stated → ℕ
 gone_in [] = 0
 gone_in (x ∷ xs) = gap x + gone_in xs
 
--- their numbers rise, and so many are not live
+-- their numbers rise, and this many are not live
 pub record AreCounted (xs : List Stated) (count : ℕ) : Type 0 where
   pub order : AreInOrder (map live_of xs)
   pub gone : count ≡ gone_in xs

@@ -69,7 +69,7 @@ impl Model for Bench {
 }
 
 impl Bench {
-    /// Nobody is live. Takes no memory.
+    /// Nobody is live.
     pub fn new(alloc: Global) -> Bench
         ensures empty { result ≡ empty_bench }
         ensures fits { (base : Base) (budget : ℕ) → Fits result base budget }
@@ -86,7 +86,7 @@ impl Bench {
     ///
     /// # Errors
     ///
-    /// Want of memory alone, and then all state what they stated.
+    /// Out of memory alone, and then all state what they stated.
     pub fn place(&mut self, number: u32, statement: Option<Statement>) -> Result<(), Memory>
         ensures placed { OnOk result
             (self.new.live ≡ placed number (option_map plain_statement statement) self.old.live) }
@@ -231,7 +231,7 @@ impl Bench {
         blocker(alloc, ground, budget, self.live.as_slice(), event)
     }
 
-    /// Whether a live b-thread requests the event. Takes no memory.
+    /// Whether a live b-thread requests the event.
     pub fn requested(&self, event: &Event) -> bool
         ensures { result ≡ requested self.now.live event.now }
     {

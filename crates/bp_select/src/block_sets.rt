@@ -43,10 +43,10 @@ pub(crate) struct Blocks {
     asked: usize,
 }
 
-/// So many plain sets are asked faster than it is found what is known.
+/// This many plain sets are asked faster than it is found what is known.
 const FEW: usize = 8;
 
-/// So many events may be told of beside those that are asked about.
+/// This many events may be told of beside those that are asked about.
 const FEW_EVENTS: usize = 64;
 
 impl Model for Blocks {
@@ -72,7 +72,7 @@ fn dearness(set: &EventSet) -> usize {
 }
 
 impl Blocks {
-    /// No block sets. Takes no memory.
+    /// No block sets.
     pub fn new(alloc: Global) -> Blocks
         ensures { result ≡ record { sets = []; told = [] } }
     {
@@ -90,7 +90,7 @@ impl Blocks {
         self.dear == 0 && self.sets.len() <= FEW
     }
 
-    /// All is forgotten where more events are told of than so many. Takes no memory.
+    /// All is forgotten where more events are told of than this many.
     fn forget_beyond(&mut self, most: usize)
         ensures sets { self.new.sets ≡ self.old.sets }
         ensures known { (base : Base) (budget : ℕ) (sets : Sets) →
@@ -115,7 +115,7 @@ impl Blocks {
         self.asked = candidates;
     }
 
-    /// The question was about so many events of the queue, too. Takes no memory.
+    /// The question was about this many events of the queue, too.
     pub fn note_waiting(&mut self, events: usize)
         ensures { self.new ≡ self.old }
     {
@@ -123,7 +123,7 @@ impl Blocks {
     }
 
     /// All is forgotten where it is of more than twice the events of the last question: to ask a
-    /// new set about each would cost more than that question. Takes no memory.
+    /// new set about each would cost more than that question.
     pub fn forget_idle(&mut self)
         ensures sets { self.new.sets ≡ self.old.sets }
         ensures known { (base : Base) (budget : ℕ) (sets : Sets) →
@@ -132,7 +132,7 @@ impl Blocks {
         self.forget_beyond(self.asked.saturating_mul(2));
     }
 
-    /// The block set of this number. Takes no memory.
+    /// The block set of this number.
     pub fn set_of(&self, number: u32) -> Option<&EventSet>
         ensures { option_map (λ s. s.now) result ≡ sets_in self.now.sets number }
     {
@@ -162,7 +162,7 @@ impl Blocks {
     }
 
     /// This is the block set of this number from now on, or there is none. What was known is known
-    /// of the new sets. Its only error is want of memory: then nothing is known, and the sets stay.
+    /// of the new sets. Its only error is out of memory: then nothing is known, and the sets stay.
     pub fn restate(
         &mut self,
         alloc: Global,
@@ -198,7 +198,7 @@ impl Blocks {
         None
     }
 
-    /// What is known of the event. Takes no memory.
+    /// What is known of the event.
     fn known(&self, event: &Event) -> Known
         ensures { (base : Base) (budget : ℕ) (sets : Sets) →
             AreKnown base budget sets self.now.told → IsKnown base budget sets event.now result }
@@ -209,7 +209,7 @@ impl Blocks {
         }
     }
 
-    /// Whether the event is blocked, if that is known. Takes no memory.
+    /// Whether the event is blocked, if that is known.
     fn is_known_blocked(&self, event: &Event) -> Option<bool>
         ensures { (base : Base) (budget : ℕ) → let sets = sets_in self.now.sets in
             AreKnown base budget sets self.now.told →
@@ -224,7 +224,7 @@ impl Blocks {
     }
 
     /// Those of the candidates that nobody blocks, in order, if that is known of each. Its only error
-    /// is want of memory.
+    /// is out of memory.
     pub fn known_free<'a>(
         &self,
         alloc: Global,
@@ -248,7 +248,7 @@ impl Blocks {
         Ok(Some(free))
     }
 
-    /// This is known of the event from now on, unless memory is wanting.
+    /// This is known of the event from now on, unless memory runs out.
     fn note(&mut self, event: &Event, known: Known)
         ensures sets { self.new.sets ≡ self.old.sets }
         ensures known { (base : Base) (budget : ℕ) (sets : Sets) →

@@ -13,7 +13,7 @@ pub(crate) struct Candidate<'a> {
     pub top: i64,
 }
 
-/// Keeps the candidate if this holds. Its only error is want of memory.
+/// Keeps the candidate if this holds.
 pub(crate) fn keep_if<'a>(
     kept: &mut Vec<Candidate<'a>>,
     keeps: bool,

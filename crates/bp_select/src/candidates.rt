@@ -25,7 +25,7 @@ fn raised(top: Option<i64>, priority: i64) -> i64
     }
 }
 
-/// One more request of the event. Its only error is want of memory.
+/// One more request of the event.
 fn request<'a>(tops: &mut Tops<'a>, event: &'a Event, priority: i64) -> Result<(), Memory>
     ensures { OnOk result (tops_in tops.new ≡ with_request priority (tops_in tops.old) event.now) }
 {
@@ -35,7 +35,7 @@ fn request<'a>(tops: &mut Tops<'a>, event: &'a Event, priority: i64) -> Result<(
     Ok(())
 }
 
-/// What one b-thread requests. Its only error is want of memory.
+/// What one b-thread requests.
 fn request_all<'a>(tops: &mut Tops<'a>, stated: &'a Stated) -> Result<(), Memory>
     ensures { let t = live_of stated.now in
         OnOk result (tops_in tops.new ≡ with_requests t.statement.priority (tops_in tops.old)
@@ -48,7 +48,7 @@ fn request_all<'a>(tops: &mut Tops<'a>, stated: &'a Stated) -> Result<(), Memory
     Ok(())
 }
 
-/// The entries of the map, in order. Its only error is want of memory.
+/// The entries of the map, in order.
 fn listed<'a>(alloc: Global, tops: Tops<'a>) -> Result<Vec<Candidate<'a>>, Memory>
     ensures { IfOk result (λ l. l.items ≡ map candidate_of tops.entry.entries) }
 {
@@ -60,7 +60,7 @@ fn listed<'a>(alloc: Global, tops: Tops<'a>) -> Result<Vec<Candidate<'a>>, Memor
         .collect(alloc)
 }
 
-/// The events that the b-threads request. Its only error is want of memory.
+/// The events that the b-threads request.
 pub(crate) fn candidates<'a>(
     alloc: Global,
     asking: &[&'a Stated],

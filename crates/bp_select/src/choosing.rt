@@ -18,7 +18,7 @@ use indexmap::IndexSet;
 use js_data::Event;
 use std::alloc::Global;
 
-/// The events of the candidates. Its only error is want of memory.
+/// The events of the candidates.
 fn keys<'a>(alloc: Global, candidates: &[Candidate<'a>]) -> Result<IndexSet<Key<'a>>, Memory>
     ensures { (e : PlainEvent) → IfOk result
         (λ s. is_among s e ≡ list_any (same_event e) (events_in candidates.now)) }
@@ -45,7 +45,7 @@ fn first_among<'a>(events: &IndexSet<Key<'a>>, stated: &'a Stated) -> Option<&'a
     None
 }
 
-/// Each first request of a b-thread that is among these events. Its only error is want of memory.
+/// Each first request of a b-thread that is among these events.
 fn firsts<'a>(
     alloc: Global,
     asking: &[&'a Stated],
@@ -63,7 +63,7 @@ fn firsts<'a>(
     Ok(firsts)
 }
 
-/// Those of the candidates that are the first of some b-thread. Its only error is want of memory.
+/// Those of the candidates that are the first of some b-thread.
 fn ordered<'a>(
     alloc: Global,
     asking: &[&'a Stated],
@@ -123,7 +123,7 @@ fn at_most(left: Option<i64>, right: Option<i64>) -> bool
     }
 }
 
-/// Those of the candidates whose priority is the greatest. Its only error is want of memory.
+/// Those of the candidates whose priority is the greatest.
 fn greatest<'a>(alloc: Global, inner: &[Candidate<'a>]) -> Result<Vec<Candidate<'a>>, Memory>
     ensures { let events = events_in inner.now in
         (ts : List (Live PlainSet)) → HaveTops ts (tops_of inner.now) →
@@ -139,7 +139,7 @@ fn greatest<'a>(alloc: Global, inner: &[Candidate<'a>]) -> Result<Vec<Candidate<
     Ok(kept)
 }
 
-/// The candidates that remain under the strategy. Its only error is want of memory.
+/// The candidates that remain under the strategy.
 pub(crate) fn remaining<'a>(
     alloc: Global,
     strategy: Strategy,

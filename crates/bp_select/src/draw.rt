@@ -21,28 +21,28 @@ impl Model for Draw {
 }
 
 impl Draw {
-    /// The words of this seed; none is drawn yet. Takes no memory.
+    /// The words of this seed; none is drawn yet.
     pub fn new(seed: u64) -> Draw
         ensures { result ≡ record { seed = seed; drawn = 0 } }
     {
         Draw { seed, drawn: 0 }
     }
 
-    /// How many words were drawn. Takes no memory.
+    /// How many words were drawn.
     pub fn drawn(&self) -> u64
         ensures { result ≡ self.now.drawn }
     {
         self.drawn
     }
 
-    /// The next word. Takes no memory.
+    /// The next word.
     pub(crate) fn word(&self) -> u32
         ensures { result ≡ draw_word self.now.seed self.now.drawn }
     {
         word_of(self.seed, self.drawn)
     }
 
-    /// One word more is drawn. Takes no memory.
+    /// One word more is drawn.
     pub(crate) fn advance(&mut self)
         requires { self.old.drawn + 1 < 2 ^ 64 }
         ensures { self.new ≡ record { seed = self.old.seed; drawn = self.old.drawn + 1 } }

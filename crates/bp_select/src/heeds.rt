@@ -27,7 +27,7 @@ use js_data::Event;
 use js_frames::Ground;
 use std::alloc::Global;
 
-/// So many b-threads are asked faster than it is found whom an event may touch.
+/// This many b-threads are asked faster than it is found whom an event may touch.
 const FEW: usize = 32;
 
 /// Under which keys the live b-threads are noted.
@@ -55,7 +55,7 @@ fn keys_at(alloc: Global, live: &[Stated], number: u32) -> Result<Vec<u64>, Memo
     keys_of(alloc, &live[at])
 }
 
-/// The b-thread of this number is noted under its keys. Its only error is want of memory.
+/// The b-thread of this number is noted under its keys.
 fn settle_one(alloc: Global, live: &[Stated], roll: &mut Roll, number: u32) -> Result<(), Memory>
     requires { AreInOrder (map live_of live.now) }
     ensures noted { OnOk result
@@ -67,7 +67,7 @@ fn settle_one(alloc: Global, live: &[Stated], roll: &mut Roll, number: u32) -> R
     roll.restate(alloc, number, keys)
 }
 
-/// The numbers of the b-threads. Its only error is want of memory.
+/// The numbers of the b-threads.
 fn numbers_of(alloc: Global, live: &[Stated]) -> Result<Vec<u32>, Memory>
     ensures { IfOk result (λ ns. Each (λ t. is_in t.number ns.items ≡ true) (map live_of live.now)) }
 {
@@ -89,7 +89,7 @@ fn place_from(live: &[Stated], number: u32, guess: usize) -> usize
     place_of(live, number)
 }
 
-/// Adds the places of those numbers. Its only error is want of memory.
+/// Adds the places of those numbers.
 fn add_places(places: &mut Vec<usize>, live: &[Stated], numbers: &[u32]) -> Result<(), Memory>
     requires { AreInOrder (map live_of live.now) }
     ensures there { OnOk result ((i : ℕ) (d : Stated) → i < length live.now →
@@ -105,7 +105,7 @@ fn add_places(places: &mut Vec<usize>, live: &[Stated], numbers: &[u32]) -> Resu
     Ok(())
 }
 
-/// The places in order. Its only error is want of memory.
+/// The places in order.
 fn in_order(mut places: Vec<usize>) -> Result<Vec<usize>, Memory>
     ensures order { IfOk result (λ ps. IsNonDecreasing ps.items) }
     ensures same { (i : ℕ) → IfOk result (λ ps. is_in i ps.items ≡ is_in i places.items) }
@@ -117,7 +117,7 @@ fn in_order(mut places: Vec<usize>) -> Result<Vec<usize>, Memory>
     Ok(places)
 }
 
-/// The places of those that the event may touch, in order. Its only error is want of memory.
+/// The places of those that the event may touch, in order.
 fn places_of(
     alloc: Global,
     live: &[Stated],
@@ -138,7 +138,7 @@ fn places_of(
     in_order(places)
 }
 
-/// The places of those that are noted under this key, in order. Its only error is want of memory.
+/// The places of those that are noted under this key, in order.
 fn places_at(alloc: Global, live: &[Stated], roll: &Roll, key: u64) -> Result<Vec<usize>, Memory>
     requires { AreInOrder (map live_of live.now) }
     ensures order { IfOk result (λ ps. IsNonDecreasing ps.items) }
@@ -151,7 +151,7 @@ fn places_at(alloc: Global, live: &[Stated], roll: &Roll, key: u64) -> Result<Ve
     in_order(places)
 }
 
-/// Those that request something, as they are noted. Its only error is want of memory.
+/// Those that request something, as they are noted.
 fn asking_at<'a>(alloc: Global, live: &'a [Stated], roll: &Roll) -> Result<Vec<&'a Stated>, Memory>
     requires order { AreInOrder (map live_of live.now) }
     requires noted { Each (λ t. IsNoted roll.now t) (map live_of live.now) }
@@ -161,7 +161,7 @@ fn asking_at<'a>(alloc: Global, live: &'a [Stated], roll: &Roll) -> Result<Vec<&
     part_at(alloc, live, askers.as_slice())
 }
 
-/// Those that block something, as they are noted. Its only error is want of memory.
+/// Those that block something, as they are noted.
 fn blocking_at<'a>(
     alloc: Global,
     live: &'a [Stated],
@@ -175,7 +175,7 @@ fn blocking_at<'a>(
     part_at(alloc, live, blockers.as_slice())
 }
 
-/// The b-threads of these numbers are noted as they are now. Its only error is want of memory.
+/// The b-threads of these numbers are noted as they are now.
 fn settle_all(
     alloc: Global,
     live: &[Stated],
@@ -194,7 +194,7 @@ fn settle_all(
 }
 
 impl Heeds {
-    /// Nobody is noted. Takes no memory.
+    /// Nobody is noted.
     pub fn new(alloc: Global) -> Heeds
         ensures { result.whole ≡ false }
     {
@@ -205,7 +205,7 @@ impl Heeds {
         }
     }
 
-    /// The statement of the b-thread of this number may change. Its only error is want of memory.
+    /// The statement of the b-thread of this number may change.
     pub fn note(&mut self, number: u32) -> Result<(), Memory>
         ensures noted { OnOk result
             (self.new.whole ≡ true → is_in number self.new.changed.items ≡ true) }
@@ -219,7 +219,7 @@ impl Heeds {
         Ok(())
     }
 
-    /// Whether it costs less to find whom an event may touch than to ask all of so many.
+    /// Whether it costs less to find whom an event may touch than to ask all of this many.
     fn is_worth(&self, count: usize) -> bool {
         let most = if self.whole { FEW / 2 } else { FEW };
         count > most
@@ -245,7 +245,7 @@ impl Heeds {
         Ok(())
     }
 
-    /// The changed are noted as they are now. Its only error is want of memory.
+    /// The changed are noted as they are now.
     fn settle(&mut self, alloc: Global, live: &[Stated]) -> Result<(), Memory>
         requires order { AreInOrder (map live_of live.now) }
         requires noted { AreNoted (map live_of live.now) self.old.roll self.old.changed.items }
@@ -258,7 +258,7 @@ impl Heeds {
         Ok(())
     }
 
-    /// Nobody counts as noted any more. Takes no memory.
+    /// Nobody counts as noted any more.
     fn rest(&mut self)
         ensures { self.new.whole ≡ false }
     {
@@ -267,7 +267,7 @@ impl Heeds {
     }
 
     /// Those that request something. All are noted as they are now, if any count as noted. Its only
-    /// error is want of memory.
+    /// error is out of memory.
     pub fn asking<'a>(
         &mut self,
         alloc: Global,
@@ -292,7 +292,7 @@ impl Heeds {
         asking_at(alloc, live, &self.roll)
     }
 
-    /// Those that block something. Its only error is want of memory.
+    /// Those that block something.
     pub fn blocking<'a>(&self, alloc: Global, live: &'a [Stated]) -> Result<Vec<&'a Stated>, Memory>
         requires order { AreInOrder (map live_of live.now) }
         requires settled { self.now.whole ≡ true →

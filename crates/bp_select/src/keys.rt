@@ -29,7 +29,7 @@ pub(crate) const ASKS: u64 = 1;
 pub(crate) const BLOCKS: u64 = 2;
 
 /// Adds the keys of the events of a set, and tells whether it is made of single events alone. Its
-/// only error is want of memory.
+/// only error is out of memory.
 #[cycle(add)]
 fn add_set(keys: &mut Vec<u64>, set: &EventSet) -> Result<bool, Memory>
     ensures set { IfOk result (λ b. b ≡ true → HaveKeysOf set.now keys.new.items) }
@@ -54,7 +54,6 @@ fn add_set(keys: &mut Vec<u64>, set: &EventSet) -> Result<bool, Memory>
 }
 
 /// Adds the keys of the events of some sets, and tells whether all are made of single events alone.
-/// Its only error is want of memory.
 #[cycle(add)]
 fn add_sets(keys: &mut Vec<u64>, sets: &[EventSet]) -> Result<bool, Memory>
     ensures set { IfOk result (λ b. b ≡ true →
@@ -71,7 +70,7 @@ fn add_sets(keys: &mut Vec<u64>, sets: &[EventSet]) -> Result<bool, Memory>
 }
 
 /// Adds the keys of the events of a set that a b-thread may state, and tells whether it is made of
-/// single events alone. Its only error is want of memory.
+/// single events alone.
 fn add_stated(keys: &mut Vec<u64>, set: &Option<EventSet>) -> Result<bool, Memory>
     ensures set { IfOk result (λ b. b ≡ true → HaveKeysOf (stated_set set.now) keys.new.items) }
     ensures others { (k : ℕ) → is_in k keys.old.items ≡ true → is_in k keys.new.items ≡ true }
@@ -82,7 +81,7 @@ fn add_stated(keys: &mut Vec<u64>, set: &Option<EventSet>) -> Result<bool, Memor
     }
 }
 
-/// Adds the keys of these events. Its only error is want of memory.
+/// Adds the keys of these events.
 fn add_events(keys: &mut Vec<u64>, events: &[Event]) -> Result<(), Memory>
     ensures events { OnOk result ((e : PlainEvent) → list_any (same_event e) events.now ≡ true →
         is_in (event_key e) keys.new.items ≡ true) }
@@ -94,7 +93,7 @@ fn add_events(keys: &mut Vec<u64>, events: &[Event]) -> Result<(), Memory>
     Ok(())
 }
 
-/// The key of those that any event may touch, alone. Its only error is want of memory.
+/// The key of those that any event may touch, alone.
 fn any_alone(alloc: Global) -> Result<Vec<u64>, Memory>
     ensures { (t : Live PlainSet) → IfOk result (λ ks. TouchedAt (λ k. is_in k ks.items) t) }
 {
@@ -122,7 +121,7 @@ fn touch_keys(alloc: Global, stated: &Stated) -> Result<Vec<u64>, Memory>
     Ok(keys)
 }
 
-/// Adds the key if this holds. Its only error is want of memory.
+/// Adds the key if this holds.
 fn add_if(keys: &mut Vec<u64>, adds: bool, key: u64) -> Result<(), Memory>
     ensures there { OnOk result (adds ≡ true → is_in key keys.new.items ≡ true) }
     ensures others { (k : ℕ) → is_in k keys.old.items ≡ true → is_in k keys.new.items ≡ true }
@@ -133,7 +132,7 @@ fn add_if(keys: &mut Vec<u64>, adds: bool, key: u64) -> Result<(), Memory>
     Ok(())
 }
 
-/// The keys under which the b-thread is noted. Its only error is want of memory.
+/// The keys under which the b-thread is noted.
 pub(crate) fn keys_of(alloc: Global, stated: &Stated) -> Result<Vec<u64>, Memory>
     ensures { IfOk result (λ ks. HeedsAt (λ k. is_in k ks.items) (live_of stated.now)) }
 {

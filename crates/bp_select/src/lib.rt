@@ -3,7 +3,7 @@
 //!
 //! What the block sets answered of an event is kept until one of them changes. Where b-threads are
 //! many, candidates are gathered of those alone that request something, and an event is asked about
-//! of those alone whose statements name it or whose sets are no lists of events.
+//! of those alone whose statements name it or whose sets are not lists of events.
 #![tactic(auto)]
 
 mod answers;

@@ -28,7 +28,7 @@ pub(crate) fn blocks(stated: &Stated) -> bool
     !is_empty(&stated.statement.block)
 }
 
-/// Keeps the b-thread if this holds. Its only error is want of memory.
+/// Keeps the b-thread if this holds.
 fn keep<'a>(kept: &mut Vec<&'a Stated>, keeps: bool, stated: &'a Stated) -> Result<(), Memory>
     ensures { let more = map lent kept.old.items ++ live_of stated.now ∷ [] in OnOk result
         (map lent kept.new.items ≡ (if keeps then more else map lent kept.old.items)) }
@@ -40,7 +40,7 @@ fn keep<'a>(kept: &mut Vec<&'a Stated>, keeps: bool, stated: &'a Stated) -> Resu
     Ok(())
 }
 
-/// Those that request something, where each is looked at. Its only error is want of memory.
+/// Those that request something, where each is looked at.
 pub(crate) fn all_asking<'a>(alloc: Global, live: &'a [Stated]) -> Result<Vec<&'a Stated>, Memory>
     ensures { IfOk result (λ l. IsPart asks_nothing (map lent l.items) (map live_of live.now)) }
 {
@@ -51,7 +51,7 @@ pub(crate) fn all_asking<'a>(alloc: Global, live: &'a [Stated]) -> Result<Vec<&'
     Ok(asking)
 }
 
-/// Those that block something, where each is looked at. Its only error is want of memory.
+/// Those that block something, where each is looked at.
 pub(crate) fn all_blocking<'a>(alloc: Global, live: &'a [Stated]) -> Result<Vec<&'a Stated>, Memory>
     ensures { IfOk result (λ l. IsPart blocks_nothing (map lent l.items) (map live_of live.now)) }
 {
@@ -62,7 +62,7 @@ pub(crate) fn all_blocking<'a>(alloc: Global, live: &'a [Stated]) -> Result<Vec<
     Ok(blocking)
 }
 
-/// Those at these places. Its only error is want of memory.
+/// Those at these places.
 pub(crate) fn part_at<'a>(
     alloc: Global,
     live: &'a [Stated],

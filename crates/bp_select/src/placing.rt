@@ -106,7 +106,7 @@ fn is_requested(items: &[Stated], event: &Event) -> bool
 }
 
 impl StatedList {
-    /// Nobody states anything. Takes no memory.
+    /// Nobody states anything.
     pub fn new(alloc: Global) -> StatedList
         ensures live { result.live ≡ [] }
     {
@@ -117,7 +117,7 @@ impl StatedList {
     }
 
     /// The b-thread of this number states this from now on; with nothing it is not live. Its only
-    /// error is want of memory, and then all state what they stated.
+    /// error is out of memory, and then all state what they stated.
     pub fn place(&mut self, number: u32, statement: Option<Statement>) -> Result<(), Memory>
         ensures placed { OnOk result
             (self.new.live ≡ placed number (option_map plain_statement statement) self.old.live) }
@@ -140,7 +140,7 @@ impl StatedList {
         }
     }
 
-    /// Those that are not live give up their places. Takes no memory.
+    /// Those that are not live give up their places.
     pub fn tidy(&mut self)
         ensures same { self.new.live ≡ self.old.live }
         ensures none { self.new.gone ≡ 0 }
@@ -151,7 +151,7 @@ impl StatedList {
         }
     }
 
-    /// Those that are live, where all give what they state. Takes no memory.
+    /// Those that are live, where all give what they state.
     pub fn as_slice(&self) -> &[Stated]
         requires { self.now.gone ≡ 0 }
         ensures live { map live_of result.now ≡ self.now.live }
@@ -160,7 +160,7 @@ impl StatedList {
         self.items.as_slice()
     }
 
-    /// Whether one that is live requests the event. Takes no memory.
+    /// Whether one that is live requests the event.
     pub fn requested(&self, event: &Event) -> bool
         ensures { result ≡ requested self.now.live event.now }
     {

@@ -43,7 +43,7 @@ pub(crate) enum Free<'a> {
     Nothing,
 }
 
-/// Equal events, in order. Its only error is want of memory.
+/// Equal events, in order.
 fn copies(alloc: Global, candidates: &[Candidate<'_>]) -> Result<Vec<Event>, Memory>
     ensures { IfOk result (λ l. l.items ≡ events_in candidates.now) }
 {
@@ -55,7 +55,7 @@ fn copies(alloc: Global, candidates: &[Candidate<'_>]) -> Result<Vec<Event>, Mem
 }
 
 impl<'a> Free<'a> {
-    /// As a bench answers it. Its only error is want of memory.
+    /// As a bench answers it.
     pub(crate) fn into_enabled(self, alloc: Global) -> Result<Enabled, Memory>
         ensures { IfOk result (λ x. enabled_of x ≡ free_of self.entry) }
     {
@@ -191,7 +191,7 @@ fn told<'a>(
 }
 
 /// The candidates that nobody blocks, if that is known of each and there are some. Its only error is
-/// want of memory.
+/// out of memory.
 fn known<'a>(
     alloc: Global,
     blocks: &Blocks,
@@ -260,7 +260,7 @@ pub(crate) fn selectable<'a>(
 }
 
 /// The event that is drawn of these: the only one, or the one at the next word modulo their number.
-/// Its only error is want of memory, and then nothing was drawn.
+/// Its only error is out of memory, and then nothing was drawn.
 pub(crate) fn drawn(draw: &mut Draw, remaining: &[Candidate<'_>]) -> Result<Choice, Memory>
     requires { draw.old.drawn + 1 < 2 ^ 64 }
     ensures chosen { IfOk result (λ c. (queue : List PlainEvent) → chosen_of queue draw.new.drawn c
@@ -283,7 +283,7 @@ pub(crate) fn drawn(draw: &mut Draw, remaining: &[Candidate<'_>]) -> Result<Choi
     }
 }
 
-/// The event that is chosen of what can be selected. Its only error is want of memory, and then
+/// The event that is chosen of what can be selected. Its only error is out of memory, and then
 /// nothing was drawn.
 pub(crate) fn chosen<'a>(
     alloc: Global,

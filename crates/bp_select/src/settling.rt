@@ -40,7 +40,7 @@ fn block_of(live: &[Stated], number: u32) -> Option<&EventSet>
 }
 
 /// The block set of this number becomes that of its b-thread. Where it is made alike, nothing is
-/// done. Its only error is want of memory.
+/// done.
 fn settle_one(
     alloc: Global,
     ground: &Ground,
@@ -68,7 +68,7 @@ fn settle_one(
 }
 
 /// The block sets become those of the b-threads, where these numbers may differ. Its only error is
-/// want of memory; then these numbers may still differ.
+/// out of memory; then these numbers may still differ.
 pub(crate) fn settle(
     alloc: Global,
     ground: &Ground,

@@ -26,7 +26,7 @@ module _ {K L : Type 0} (faults : K → ℕ) (log_faults : L → ℕ) where
   caused_at r LogWrite x y a b e g h = h e
   caused_at r Memory x y a b e g h = tt
 
-  -- want of memory comes of nothing
+  -- lack of memory needs no cause
   pub memory_caused : (s : Stop) (x y : K) (a b : Option L) → s ≡ stop.Broken Memory → StopIsCaused faults log_faults x y a b s
   memory_caused s x y a b e = subst (λ (t : Stop). StopIsCaused faults log_faults x y a b t) (sym e) tt
 

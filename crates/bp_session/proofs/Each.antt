@@ -9,7 +9,7 @@ module _ {X : Type 0} (R : ℕ → X → X → Type 0) where
   abbrev pub Each : List X → List X → Type 0
   Each old new = (k : ℕ) (d e : X) → k < length old → R k (slice_index_or old k d) (slice_index_or new k e)
 
-  -- R holds of the first so many, and the rest is as before
+  -- R holds of the first this many, and the rest is as before
   pub record EachTo (i : ℕ) (old new : List X) : Type 0 where
     pub many : length new ≡ length old
     pub each : (k : ℕ) (d e : X) → k < i → k < length old → R k (slice_index_or old k d) (slice_index_or new k e)

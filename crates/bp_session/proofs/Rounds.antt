@@ -111,7 +111,7 @@ module _ {L : Type 0} (written : L → Option (List ℕ)) where
   pub serves_none : (a : Core) (x : Given L) (u : Waiting) → ServesOn written a x u a x u
   serves_none a x u l o head first s = s
 
-  -- memory was wanting as what comes next came
+  -- memory ran out as what comes next came
   pub pick_breaks : (a b : Core) (now : Given L) (w : Waiting) (fault : RunFault) → KeepsProgram a.arbiter b.arbiter → CutsAt a b → BreaksServing written a now w b now w fault
   pick_breaks a b now w fault p t l o head first s =
       let y = t s.taken s.moment s.here in
@@ -124,11 +124,11 @@ module _ {L : Type 0} (written : L → Option (List ℕ)) where
     pub stops_then : (a b d : Core) (x y z : Given L) (u v w : Waiting) (s : Stop) → ServesOn written a x u b y v → StopsServing written b y v d z w readings s → StopsServing written a x u d z w readings s
     stops_then a b d x y z u v w s f g l o head first h = g l o head first (f l o head first h)
 
-    -- memory was wanting, and nothing was done
+    -- memory ran out, and nothing was done
     pub memory_stops : (c : Core) (now : Given L) (w : Waiting) (s : Stop) → s ≡ stop.Broken Memory → StopsServing written c now w c now w readings s
     memory_stops c now w s e = subst (λ (t : Stop). StopsServing written c now w c now w readings t) (sym e) (here_breaks c now w Memory)
 
-    -- an injector failed, or memory was wanting as it was heard
+    -- an injector failed, or memory ran out as it was heard
     pub hear_stops : (a b : Core) (now : Given L) (w : Waiting) (s : Stop) → HearsOn a b → b.arbiter.phase ≡ Rest → StopsHearing readings s → StopsServing written a now w b now w readings s
     hear_stops a b now w (stop.Read j) h r f l o head first s = (hear_serves a b now w h l o head first s, f, r)
     hear_stops a b now w (stop.Broken e) h r f l o head first s = here_breaks b now w e l o head first (hear_serves a b now w h l o head first s)

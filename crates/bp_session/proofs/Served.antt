@@ -76,7 +76,7 @@ module _ {L : Type 0} (written : L → Option (List ℕ)) (l : Code Origin Plain
         told = subst (λ (rs : List Record). IsTold L written (text l o) head first now w rs s.taken) (sym (told_longer a.arbiter.records b.arbiter.records more w.kept (kept_few a s) e)) s.told;
       }
 
-  -- memory was wanting, and nothing was told
+  -- memory ran out, and nothing was told
   pub cut_off : (a b : Core) (more : List Record) (fault : RunFault) → KeepsProgram a.arbiter b.arbiter → b.arbiter.records ≡ a.arbiter.records ++ more →
       ((taken : List Line) (m : Moment Origin) → IsHere a taken m → Tells b.arbiter taken) → IsServing written l o head first a now w → IsBrokenOff written l o head first b now w fault
   cut_off a b more fault p e t s =
@@ -142,7 +142,7 @@ module _ {L : Type 0} (written : L → Option (List ℕ)) where
       let m = settled_more a b s.taken s.moment s.here t in
       serving_on written l o head first now w a b m.more p m.records (λ taken n h. let x = t taken n h in (x.next, x.here)) s
 
-  -- memory was wanting in a turn
+  -- memory ran out in a turn
   pub settle_breaks : (a b : Core) (now : Given L) (w : Waiting) (fault : RunFault) → KeepsProgram a.arbiter b.arbiter → CutsTurns a b → BreaksServing written a now w b now w fault
   settle_breaks a b now w fault p t l o head first s =
       let m = cut_more a b s.taken s.moment s.here t in

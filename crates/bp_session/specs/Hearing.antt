@@ -46,13 +46,13 @@ module _ {S : Type 0} where
       (k : ℕ) (d e : Reading S) → k < length old
       → WasHeard start end k (slice_index_or old k d) (slice_index_or new k e)
 
-  -- its fault is kept, or memory was wanting
+  -- its fault is kept, or memory ran out
   abbrev pub IsStoppedAt : ℕ → Reading S → Stop → Type 0
   IsStoppedAt j r (Read k) = (k ≡ j) × (r.hearing.kept ≡ Some item.Failed)
   IsStoppedAt j r (Broken f) = f ≡ Memory
   IsStoppedAt j r (Unwritten f) = ⊥
 
-  -- one of them failed, or memory was wanting
+  -- one of them failed, or memory ran out
   abbrev pub StopsHearing : List (Reading S) → Stop → Type 0
   StopsHearing readings (Read j) = HasFailed readings j
   StopsHearing readings (Broken f) = f ≡ Memory

@@ -160,7 +160,7 @@ module _ {L : Type 0} (written : L → Option (List ℕ)) where
       → IsTold L written text head first old a records lines
       → IsPartly L written text head first new records lines
 
-  -- a turn or a wait stopped: what was told is told still where memory was wanting, and a front of
+  -- a turn or a wait stopped: what was told is told still where memory ran out, and a front of
   -- it was written where writing failed
   abbrev pub StopsTurning : Given L → Waiting → Given L → Waiting → Stop → Type 0
   StopsTurning old a new b (stop.Read j) = ⊥
@@ -220,7 +220,7 @@ pub record IsLedTo (old new : Core) (taken : List Line) : Type 0 where
   pub more : List Record
   pub records : new.arbiter.records ≡ old.arbiter.records ++ more
 
--- memory was wanting, and more records are there or none
+-- memory ran out, and more records are there or none
 pub record IsCutAt (old new : Core) (taken : List Line) : Type 0 where
   pub tells : Tells new.arbiter taken
   pub more : List Record
@@ -231,7 +231,7 @@ abbrev pub LeadsOn : Core → Core → Type 0
 LeadsOn old new =
     (taken : List Line) (m : Moment Origin) → IsHere old taken m → IsLedTo old new taken
 
--- wherever the core was, memory was wanting then
+-- wherever the core was, memory ran out then
 abbrev pub CutsAt : Core → Core → Type 0
 CutsAt old new =
     (taken : List Line) (m : Moment Origin) → IsHere old taken m → IsCutAt old new taken

@@ -152,7 +152,7 @@ fn write_where<K: Sink, L: Sink>(
     write(telling, out, log)
 }
 
-/// An injector that met want of memory has halted the bell: the session ends so then. Where there are no
+/// An injector that ran out of memory has halted the bell: the session ends so then. Where there are no
 /// injectors nothing is asked.
 fn ask_halt<R: Threads + Wait + Sync>(rt: &R, calls: &mut Option<Calls<'_>>) -> Result<(), Stop>
     ensures { IfErr result (λ s. s ≡ Stop.Broken RunFault.Memory) }
@@ -238,7 +238,7 @@ fn round<S: Source, R: Threads + Wait + Sync, K: Sink, L: Sink, V: Shows>(
     Ok(false)
 }
 
-/// The verdict that was recorded. Its only error is want of memory.
+/// The verdict that was recorded.
 fn verdict_in(core: &Core) -> Result<Verdict, Memory>
     requires { core.now.arbiter.phase ≡ phase.Over }
     ensures { IfOk result (λ v. verdict_of core.now.arbiter.records ≡ Some v) }
@@ -249,7 +249,7 @@ fn verdict_in(core: &Core) -> Result<Verdict, Memory>
     }
 }
 
-/// The run is over: it is shown, and its verdict is answered. Its only error is want of memory.
+/// The run is over: it is shown, and its verdict is answered.
 fn verdict_shown<R: Threads + Wait + Sync, V: Shows>(
     rt: &R,
     alloc: Global,

@@ -9,7 +9,7 @@ use std::thread::Threads;
 pub(crate) trait Shows {
     ghost use denote.Param.Send.{IsSync};
 
-    /// The run stands so. Its only error is want of memory.
+    /// The run stands so.
     fn show<R: Threads + Wait + Sync>(
         &mut self,
         rt: &R,

@@ -5,7 +5,7 @@ use Rattle.bp_meaning.specs.Membership.{Membership}
 use Rattle.bp_sets.specs.declared.fault.SetFault.{SetFault}
 use Rattle.bp_sets.specs.declared.fault.SetFault.TheVariants as set_fault
 
--- yes, no, or the fault, unless memory was wanting
+-- yes, no, or the fault, unless memory ran out
 abbrev pub TellsAs : Membership → Result Bool SetFault → Type 0
 TellsAs m (Ok b) = m ≡ Ok b
 TellsAs m (Err (set_fault.Broken f line)) = m ≡ Err (run.SetFault.Broken f line)

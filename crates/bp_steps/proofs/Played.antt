@@ -40,7 +40,7 @@ all_done (x ∷ xs) = all_done xs
 
 -- ---- pairs
 
--- where so many turns lead, or fewer that come to rest
+-- where this many turns lead, or fewer that come to rest
 unfoldable pub rest_in : {O S : Type 0} → Code O S → ℕ → Pair O → Pair O
 rest_in l zero p = p
 rest_in l (suc n) p = elim (at_rest p) [ true ↦ p | false ↦ rest_in l n (turn l p) ]

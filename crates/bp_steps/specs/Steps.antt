@@ -88,7 +88,7 @@ absorbed l o m r =
     option_map (λ c. record m { told = c; records = m.records ++ r ∷ [] })
     (after_record l o m.told r)
 
--- so many nodes more of a body that begins so many in all
+-- this many nodes more of a body that begins this many in all
 abbrev pub sliced : ℕ → ℕ → ℕ → Option ℕ
 sliced needs nodes begun = if nat_lt (begun + nodes) needs then Some (begun + nodes) else None
 

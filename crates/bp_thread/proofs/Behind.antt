@@ -32,7 +32,7 @@ use Rattle.bp_thread.specs.declared.job.Job.{Job}
 use Rattle.bp_thread.specs.Views.{plain_origin}
 use Rattle.bp_thread.specs.Jobs.{StandsAt, IsWhole}
 
--- effects come behind these
+-- effects come after these
 abbrev Behind : List Effect → Outcome → Type 0
 Behind es o = (more : List Effect) × (effects_of o ≡ es ++ more)
 

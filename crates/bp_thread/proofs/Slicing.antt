@@ -35,7 +35,7 @@ module _ (o : js.Outcome) (begun more nodes budget : ℕ) (effects : List Effect
   paused (pause.Violated text) a = (sym (ap outcome_of a.1), ap effects_of a.1 ∙ a.2)
   paused pause.Spent a = (sym (ap outcome_of a.is), ap effects_of a.is ∙ a.made)
 
-  -- where there is no outcome, the machine waits for the next slice
+  -- where there is not an outcome, the machine waits for the next slice
   pub waits : (p : Pause) → Says p o begun more nodes budget effects m → is_some (outcome_of_pause p (asked_by m) (line_asked m)) ≡ false → Waits o begun more nodes budget
   waits pause.More a h = a
   waits pause.AtSync a h = absurd (true_false (rw (a.asked, a.at_line) at h))

@@ -38,7 +38,7 @@ abbrev pub plain_origin : Origin → body.Origin
 plain_origin Top = body.the_top
 plain_origin (Call mode f args) = body.function mode (plain_value f) (values_in args)
 
--- what was read, or nothing, unless memory was wanting
+-- what was read, or nothing, unless memory ran out
 abbrev pub Reads : {A B : Type 0} → (B → A) → Option A → Result B StatementFault → Type 0
 Reads view o (Ok b) = o ≡ Some (view b)
 Reads view o (Err fault.Shape) = o ≡ None

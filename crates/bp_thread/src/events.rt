@@ -25,7 +25,7 @@ impl Model for Events {
 }
 
 impl Events {
-    /// No events. Takes no memory.
+    /// No events.
     pub fn new(alloc: Global) -> Events
         ensures { result ≡ [] }
     {
@@ -34,21 +34,21 @@ impl Events {
         }
     }
 
-    /// The events, in order. Takes no memory.
+    /// The events, in order.
     pub fn as_slice(&self) -> &[Event]
         ensures { result.now ≡ self.now }
     {
         self.items.as_slice()
     }
 
-    /// The events, given back. Takes no memory.
+    /// The events, given back.
     pub fn into_vec(self) -> Vec<Event>
         ensures { result.items ≡ self }
     {
         self.items
     }
 
-    /// One more event at the end. Its only error is want of memory, and then nothing has changed.
+    /// One more event at the end. Its only error is out of memory, and then nothing has changed.
     pub fn push(&mut self, event: Event) -> Result<(), Memory>
         ensures ok { OnOk result (self.new ≡ self.old ++ event ∷ []) }
         ensures err { OnErr result (self.new ≡ self.old) }

@@ -32,7 +32,7 @@ pub struct Job {
     name: Text,
     origin: Origin,
     replies: Events,
-    /// Nothing after want of memory.
+    /// Nothing after memory ran out.
     machine: Option<Machine>,
     effects: Effects,
     handler: Option<Value>,
@@ -93,7 +93,7 @@ impl Job {
     /// A job that stands at the start of a call of a function.
     ///
     /// Its number and name are those of its b-thread, and its mode is that of a b-thread or of a
-    /// handler. Its only error is want of memory.
+    /// handler.
     pub fn start(
         alloc: Global,
         ground: &Ground,
@@ -123,7 +123,7 @@ impl Job {
     }
 
     /// A job that stands at the start of the top level. Its number is 0, and its name is empty. Its
-    /// only error is want of memory.
+    /// only error is out of memory.
     pub fn top(alloc: Global, ground: &Ground, budget: u64) -> Result<Job, Memory>
         ensures program { IfOk result (λ j. IsOf (plain_ground ground.now).program j) }
         ensures made { IfOk result (λ j. plain_job j ≡ record {
@@ -142,21 +142,21 @@ impl Job {
         Ok(Job::on(alloc, 0, name, Origin::Top, machine))
     }
 
-    /// Its number. Takes no memory.
+    /// Its number.
     pub fn number(&self) -> u32
         ensures { result ≡ (plain_job self.now).number }
     {
         self.number
     }
 
-    /// Its name. Takes no memory.
+    /// Its name.
     pub fn name(&self) -> &Text
         ensures { result.now ≡ (plain_job self.now).name }
     {
         &self.name
     }
 
-    /// The events that it was given, in order. Takes no memory.
+    /// The events that it was given, in order.
     pub fn replies(&self) -> &[Event]
         ensures { result.now ≡ (plain_job self.now).replies }
     {
@@ -164,7 +164,6 @@ impl Job {
     }
 
     /// Where its body stands; nothing from the start or a `give` on until a `slice` answers true.
-    /// Takes no memory.
     pub fn outcome(&self) -> Option<&Outcome>
         ensures held { option_map (λ o. plain_outcome o.now) result ≡ (plain_job self.now).outcome }
         ensures exact { (base : js.Ground) → (budget : ℕ) → StandsFor base budget self.now →
@@ -174,7 +173,7 @@ impl Job {
         self.outcome.as_ref()
     }
 
-    /// The line of the `bp.sync` where its body stands, where it stands at one. Takes no memory.
+    /// The line of the `bp.sync` where its body stands, where it stands at one.
     pub fn line(&self) -> Option<u32>
         ensures exact { (base : js.Ground) → (budget : ℕ) → StandsFor base budget self.now →
             is_stopped (plain_job self.now).outcome ≡ true →
@@ -194,7 +193,7 @@ impl Job {
         }
     }
 
-    /// The function that its body set last as its handler, if it set one. Takes no memory.
+    /// The function that its body set last as its handler, if it set one.
     pub fn handler(&self) -> Option<&Value>
         ensures held { option_map (λ v. plain_value v.now) result ≡ (plain_job self.now).handler }
         ensures exact { (base : js.Ground) → (budget : ℕ) → StandsFor base budget self.now →
@@ -212,7 +211,7 @@ impl Job {
             plain_job self.now ≡ carried base budget (plain_job self.now) }
     {}
 
-    /// The constants, as the top level left them. Takes no memory.
+    /// The constants, as the top level left them.
     pub fn constants(self) -> Constants
         requires { is_ended (plain_job self).outcome ≡ true }
         ensures { (base : js.Ground) → (budget : ℕ) → StandsFor base budget self →
@@ -237,7 +236,7 @@ impl Job {
     }
 
     /// The event stands at the end of the replies, and the body goes on with it. Takes memory for
-    /// the event alone; its only error is want of memory, and then nothing has changed.
+    /// the event alone; its only error is out of memory, and then nothing has changed.
     pub fn give(&mut self, event: &Event) -> Result<(), Memory>
         requires stopped { is_stopped (plain_job self.old).outcome ≡ true }
         requires taken { (plain_job self.old).effects ≡ [] }
@@ -260,7 +259,7 @@ impl Job {
         Ok(())
     }
 
-    /// Carries the body on by at most so many nodes. After want of memory the machine may stand
+    /// Carries the body on by at most this many nodes. After memory ran out the machine may stand
     /// anywhere.
     fn step(&mut self, ground: &Ground, nodes: u64) -> Result<bool, Memory>
         requires program { IsOf (plain_ground ground.now).program self.old }
@@ -289,7 +288,7 @@ impl Job {
     }
 
     /// Carries the body on by at most so many nodes: true where the outcome is there now, and false
-    /// where so many nodes began, another must begin and budget is left. After want of memory it
+    /// where this many nodes began, another must begin and budget is left. After memory ran out it
     /// answers nothing else.
     pub fn slice(&mut self, ground: &Ground, nodes: u64) -> Result<bool, Memory>
         requires program { IsOf (plain_ground ground.now).program self.old }

@@ -9,7 +9,7 @@ use js_frames::{Effect, Effects};
 use js_value::{Value, copy};
 
 /// The handler becomes the one that was set last among these effects, if one was. Its only error is
-/// want of memory.
+/// out of memory.
 pub fn set_handler(handler: &mut Option<Value>, effects: &[Effect]) -> Result<(), Memory>
     ensures { OnOk result (option_map plain_value handler.new
         ≡ fold handler_after (option_map plain_value handler.old) (map plain_effect effects.now)) }
@@ -22,7 +22,7 @@ pub fn set_handler(handler: &mut Option<Value>, effects: &[Effect]) -> Result<()
     Ok(())
 }
 
-/// Moves effects behind those that are there. Its only error is want of memory.
+/// Moves effects after those that are there.
 pub fn append(effects: &mut Effects, fresh: Effects) -> Result<(), Memory>
     ensures { OnOk result
         (plain_effects effects.new ≡ plain_effects effects.old ++ plain_effects fresh) }

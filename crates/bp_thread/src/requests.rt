@@ -29,14 +29,14 @@ impl Model for Requests {
 }
 
 impl Requests {
-    /// No events. Takes no memory.
+    /// No events.
     pub fn none() -> Requests
         ensures { result ≡ [] }
     {
         Requests { shared: None }
     }
 
-    /// These events. Its only error is want of memory.
+    /// These events.
     pub fn new(alloc: Global, events: Events) -> Result<Requests, Memory>
         ensures { IfOk result (λ r. r ≡ events) }
     {
@@ -44,7 +44,7 @@ impl Requests {
         Ok(Requests { shared })
     }
 
-    /// The events, in order. Takes no memory.
+    /// The events, in order.
     pub fn as_slice(&self) -> &[Event]
         ensures { result.now ≡ self.now }
     {
@@ -54,7 +54,7 @@ impl Requests {
         }
     }
 
-    /// The same events, which are shared. Its only error is want of memory.
+    /// The same events, which are shared.
     pub fn copy(&self) -> Result<Requests, Memory>
         ensures { IfOk result (λ r. r ≡ self.now) }
     {

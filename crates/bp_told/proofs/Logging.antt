@@ -155,7 +155,7 @@ module _ {L : Type 0} (written : L → Option (List ℕ)) where
       of_log_on (λ l m. Shows (written l) text page (written m)) (λ l m. Appends (written l) page (written m)) (λ l m. Appends (written l) text (written m))
       (λ x y z r q. written_all (written x) (written y) (written z) text page r q) a b c s h
 
-  -- what was printed so far is behind the log, and so is what was printed now
+  -- what was printed so far is after the log, and so is what was printed now
   pub behind_on : (x y z : Option L) (text page next : List ℕ) (p q r : Option (List ℕ)) → ((q ≡ p) ⊎ LogHolds written x text y) → LogShows written x text page y →
       ((r ≡ q) ⊎ LogGets written y page z) → LogShowsFront written y page next z → (r ≡ p) ⊎ LogHolds written x text z
   behind_on x y z text page next p q r (inl e) s (inl f) t = inl (f ∙ e)

@@ -136,7 +136,7 @@ pub lines_more : (xs : List Line) (i : ℕ) (x : Line) → i < length xs → x �
 unfolding lines_text
 lines_more xs i x h e = flat_map_take whole_line xs i x x h e
 
--- and those behind it
+-- and those after it
 pub lines_split : (xs : List Line) (i : ℕ) (x : Line) → i < length xs → x ≡ get_or xs i x →
     lines_text xs ≡ lines_text (take i xs) ++ (whole_line x ++ lines_text (drop (i + 1) xs))
 unfolding lines_text
@@ -169,7 +169,7 @@ pub records_more : (xs : List Record) (i : ℕ) (x : Record) → i < length xs �
 unfolding records_text
 records_more xs i x h e = flat_map_take whole_record xs i x x h e
 
--- and those behind it
+-- and those after it
 pub records_split : (xs : List Record) (i : ℕ) (x : Record) → i < length xs → x ≡ get_or xs i x →
     records_text xs ≡ records_text (take i xs) ++ (whole_record x ++ records_text (drop (i + 1) xs))
 unfolding records_text
@@ -181,7 +181,7 @@ take_front xs later all k e h = ap (λ (r : List Record). take k r) (sym e) ∙ 
 pub take_whole : (xs later all : List Record) → xs ++ later ≡ all → take (length xs) all ≡ xs
 take_whole xs later all e = take_front xs later all (length xs) e (omega arith) ∙ take_all (length xs) xs (omega arith)
 
--- of a list that goes on, those up to a place, and those behind it that are there
+-- of a list that goes on, those up to a place, and those after it that are there
 pub records_kept : (base : List ℕ) (xs later all : List Record) (k : ℕ) → xs ++ later ≡ all → k ≤ length xs →
     base ++ records_text (take (length xs) all) ≡ (base ++ records_text (take k all)) ++ records_text (drop k xs)
 records_kept base xs later all k e h =
@@ -198,7 +198,7 @@ records_later base xs later all k e h =
     ∙ ap (λ (r : List ℕ). r ++ records_text later) (ap (λ (rs : List Record). base ++ records_text rs) (sym (take_whole xs later all e)) ∙ records_kept base xs later all k e h)
     ∙ append_assoc (base ++ records_text (take k all)) (records_text (drop k xs)) (records_text later)
 
--- those up to a place, and those behind it
+-- those up to a place, and those after it
 pub records_rest : (base : List ℕ) (all : List Record) (k : ℕ) → base ++ records_text all ≡ (base ++ records_text (take k all)) ++ records_text (drop k all)
 records_rest base all k =
     ap (λ (rs : List Record). base ++ records_text rs) (sym (take-append-drop k all)) ∙ ap (λ (r : List ℕ). base ++ r) (records_text-append (take k all) (drop k all))

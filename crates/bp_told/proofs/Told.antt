@@ -16,7 +16,7 @@ use Rattle.bp_told.proofs.Logging.{log_on, log_more_on, log_more_front, log_fron
 use Rattle.bp_told.proofs.Pieces.{lines_text-append, lines_none, records_text-append, records_none, shows_page, shows_on, shows_stop, shows_written, front_on, longer_front, let_go, written_all, written_front_part}
 use Rattle.bp_told.proofs.Order.{behind_longer, behind_still, behind_written}
 
--- the records up to a place, and those behind it
+-- the records up to a place, and those after it
 pub records_up : (head : List ℕ) (rs : List Record) (k : ℕ) → head ++ records_text rs ≡ (head ++ records_text (take k rs)) ++ records_text (drop k rs)
 records_up head rs k =
     ap (λ (es : List Record). head ++ records_text es) (sym (take-append-drop k rs)) ∙ ap (λ (t : List ℕ). head ++ t) (records_text-append (take k rs) (drop k rs))
@@ -96,7 +96,7 @@ module _ {L : Type 0} (written : L → Option (List ℕ)) (text : Texts) (head :
         behind = b.behind;
       }
 
-  -- lines were written behind their records, or none was
+  -- lines were written after their records, or none was
   told_behind : (old new : Given L) (rs : List Record) (lines : List Line) (page next : List ℕ) → ComesOf text rs lines → PrintsBehind written text head rs first.printed old.printed first.log old.log →
       LogShows written first.log (head ++ records_text rs) page old.log → ((new.printed ≡ old.printed) ⊎ LogHolds written old.log page new.log) → LogShowsFront written old.log page next new.log →
       AppendsFront first.printed (lines_text lines) new.printed → PrintsBehind written text head rs first.printed new.printed first.log new.log

@@ -20,7 +20,7 @@ abbrev pub LogGetsFront : {L : Type 0} → (L → Option (List ℕ)) → Option 
 LogGetsFront written before text after =
     OfLog (λ l m. AppendsFront (written l) text (written m)) before after
 
--- the log got the text, and maybe more behind it
+-- the log got the text, and maybe more after it
 abbrev pub LogHolds : {L : Type 0} → (L → Option (List ℕ)) → Option L → List ℕ → Option L → Type 0
 LogHolds written before text after =
     OfLog (λ l m. (more : List ℕ) × Appends (written l) (text ++ more) (written m)) before after
@@ -31,7 +31,7 @@ abbrev pub LogShows : {L : Type 0} → (L → Option (List ℕ)) → Option L �
 LogShows written before text page after =
     OfLog (λ l m. Shows (written l) text page (written m)) before after
 
--- the log got the text, or it waits on the page, and maybe more behind it
+-- the log got the text, or it waits on the page, and maybe more after it
 abbrev pub LogWaits : {L : Type 0} → (L → Option (List ℕ)) → Option L → List ℕ → List ℕ → Option L
     → Type 0
 LogWaits written before text page after =

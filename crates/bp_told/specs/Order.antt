@@ -11,7 +11,7 @@ use Rattle.bp_told.specs.Pages.{ShowsFront}
 abbrev pub Texts : Type 0
 Texts = List Record → Option (List ℕ)
 
--- the first of all these records stand in the log, behind its head, and what was printed is of their
+-- the first of all these records stand in the log, after its head, and what was printed is of their
 -- text
 pub record IsBehind (L : Type 0) (written : L → Option (List ℕ)) (text : Texts) (head : List ℕ)
     (all : List Record) (before after : Option (List ℕ)) (old new : Option L) : Type 0 where
@@ -21,7 +21,7 @@ pub record IsBehind (L : Type 0) (written : L → Option (List ℕ)) (text : Tex
   pub logged : LogHolds written old (head ++ records_text records) new
   pub printed : IsSomeAnd (text records) (λ t. AppendsFront before t after)
 
--- nothing was printed, or it is behind the log
+-- nothing was printed, or it is after the log
 abbrev pub PrintsBehind : {L : Type 0} → (L → Option (List ℕ)) → Texts → List ℕ → List Record →
     Option (List ℕ) → Option (List ℕ) → Option L → Option L → Type 0
 PrintsBehind written text head all before after old new =

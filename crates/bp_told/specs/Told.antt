@@ -59,7 +59,7 @@ pub record IsWritten (L : Type 0) (written : L → Option (List ℕ)) (head : Li
   pub logs : LogGets written first.log (head ++ records_text records) now.log
   pub prints : Appends first.printed (lines_text lines) now.printed
 
--- A front of these records and a front of these lines were written, each line behind its record.
+-- A front of these records and a front of these lines were written, each line after its record.
 pub record IsPartly (L : Type 0) (written : L → Option (List ℕ)) (text : Texts) (head : List ℕ)
     (first now : Given L) (records : List Record) (lines : List Line) : Type 0 where
   pub comes : ComesOf text records lines

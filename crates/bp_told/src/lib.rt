@@ -1,4 +1,4 @@
-//! What is told of a run: its records to a log, and its lines to an output, each behind its record.
+//! What is told of a run: its records to a log, and its lines to an output, each after its record.
 #![tactic(auto)]
 
 mod fault;

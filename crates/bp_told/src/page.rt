@@ -16,7 +16,7 @@ const FULL: usize = 65_536;
 
 /// Text that was not written yet. Contracts see its bytes.
 ///
-/// A page takes what is written to it unless memory is wanting. It keeps no count of faults, which
+/// A page takes what is written to it unless memory runs out. It keeps no count of faults, which
 /// so stands at its greatest.
 #[derive(Drop)]
 pub struct Page {
@@ -52,7 +52,7 @@ impl Sink for Page {
 }
 
 impl Page {
-    /// An empty page. Takes no memory.
+    /// An empty page.
     pub fn new(alloc: Global) -> Page
         ensures { result ≡ [] }
     {
@@ -66,7 +66,7 @@ impl Page {
         self.bytes.len() >= FULL
     }
 
-    /// Puts a line at the end. After want of memory a part of it, from its front, is there.
+    /// Puts a line at the end. After memory ran out a part of it, from its front, is there.
     pub(crate) fn add_line(&mut self, alloc: Global, line: &Line) -> Result<(), Memory>
         ensures added { OnOk result (self.new ≡ self.old ++ whole_line line.now) }
         ensures front { OnErr result
@@ -78,7 +78,7 @@ impl Page {
         }
     }
 
-    /// Puts a record at the end. After want of memory a part of it, from its front, is there.
+    /// Puts a record at the end. After memory ran out a part of it, from its front, is there.
     pub fn add_record(&mut self, alloc: Global, entry: &Record) -> Result<(), Memory>
         ensures added { OnOk result (self.new ≡ self.old ++ whole_record entry.now) }
         ensures front { OnErr result
@@ -90,7 +90,7 @@ impl Page {
         }
     }
 
-    /// Puts the records at the end. After want of memory a part of their text, from its front, is
+    /// Puts the records at the end. After memory ran out a part of their text, from its front, is
     /// there.
     pub(crate) fn add_records(&mut self, alloc: Global, records: &[Record]) -> Result<(), Memory>
         ensures added { OnOk result (self.new ≡ self.old ++ records_text records.now) }

@@ -36,7 +36,7 @@ impl Model for Telling {
     ghost view = { λ t. record { lines = t.lines; records = t.records; kept = t.kept } };
 }
 
-/// The head of a log on a page of its own, where one is kept. Its only error is want of memory.
+/// The head of a log on a page of its own, where one is kept.
 fn head_of<L: Sink>(alloc: Global, header: &Header, log: &Option<L>) -> Result<Page, Memory>
     ensures { IfOk result (λ page.
         LogShows L.written log.now (header_text Second header.now) page log.now) }
@@ -89,7 +89,7 @@ impl Telling {
         }
     }
 
-    /// Puts the records behind those that are kept on the page of the log, where there is one, and
+    /// Puts the records after those that are kept on the page of the log, where there is one, and
     /// writes what waits for it if that is much. After a refusal a front of that was written or
     /// waits.
     fn record<L: Sink>(

@@ -4,7 +4,7 @@ use Rattle.bp_log.specs.declared.limits.TheConstants.{MOST_THREADS}
 use Rattle.bp_floor.specs.declared.phase.Phase.{Phase}
 use Rattle.bp_floor.specs.declared.phase.Phase.TheVariants.{Ready, Lent, Rest, Over}
 
--- at most so many turns are left with so many b-threads
+-- at most this many turns are left with this many b-threads
 abbrev pub turns_left : Phase → ℕ → ℕ
 turns_left Ready threads = MOST_THREADS + 1 - threads
 turns_left Lent threads = 0

@@ -116,7 +116,7 @@ module _ (old back new : Core) (b : CameBack old back) (p : KeepsProgram back.ar
       length (stand_in old.arbiter).threads < length (stand_in new.arbiter).threads
   turn_grows g f = subst (λ (a : PlainArbiter). length (stand_in a).threads < length (stand_in new.arbiter).threads) b.arbiter (g f)
 
--- memory was wanting while the jobs were out
+-- memory ran out while the jobs were out
 pub out_cut : (old new : Core) → new.arbiter ≡ old.arbiter → CutsTurns old new
 out_cut old new e taken m h =
     subst (λ (a : PlainArbiter). IsCutInTurns a taken m) (sym e)

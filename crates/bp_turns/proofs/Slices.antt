@@ -5,7 +5,7 @@ use Rattle.js_meaning.specs.State.{Ground, Effect}
 use Rattle.bp_thread.specs.declared.job.Job.{Job}
 use Rattle.bp_thread.specs.Jobs.{StandsAt, Sliced}
 
--- so many slices were made of the job, and each began a node of the budget
+-- this many slices were made of the job, and each began a node of the budget
 pub record Begun (base : Ground) (budget slices : ℕ) (j : Job) : Type 0 where
   pub begun : ℕ
   pub made : List Effect

@@ -51,7 +51,7 @@ pub record IsCutInTurns (a : PlainArbiter) (taken : List Line) (m : Moment Origi
   pub records : (a.records ≡ m.records) ⊎ EndsWith m.records a.records
   pub tells : Tells a taken
 
--- wherever the core was, memory was wanting in a turn
+-- wherever the core was, memory ran out in a turn
 abbrev pub CutsTurns : Core → Core → Type 0
 CutsTurns old new =
     (taken : List Line) (m : Moment Origin) → IsHere old taken m

@@ -9,7 +9,7 @@ use bp_log::Memory;
 use bp_thread::Job;
 use js_frames::Ground;
 
-/// Carries the job to its outcome. Its only error is want of memory.
+/// Carries the job to its outcome.
 fn carry(ground: &Ground, budget: u64, slice: u64, job: &mut Job) -> Result<(), Memory>
     requires some_budget { 0 < budget }
     requires some_slice { 0 < slice }
@@ -27,7 +27,7 @@ fn carry(ground: &Ground, budget: u64, slice: u64, job: &mut Job) -> Result<(), 
     unreachable!()
 }
 
-/// Carries each of the jobs to its outcome, one after the other. Its only error is want of memory.
+/// Carries each of the jobs to its outcome, one after the other.
 pub fn carry_all(
     ground: &Ground,
     budget: u64,

@@ -11,7 +11,7 @@ use bp_log::Memory;
 use std::alloc::Global;
 
 /// One turn: the lent jobs are carried to their outcomes, and what they did is merged in order. Its only
-/// error is want of memory.
+/// error is out of memory.
 fn turn_core<C: Carrier>(alloc: Global, core: &mut Core, carrier: &C) -> Result<(), Memory>
     requires can_carry { C.can_carry carrier.now }
     requires lent { core.old.arbiter.phase ≡ phase.Lent }
@@ -33,7 +33,7 @@ fn turn_core<C: Carrier>(alloc: Global, core: &mut Core, carrier: &C) -> Result<
 
 /// Turn after turn, until nothing is to be run. Wherever the core was, nothing of its lent jobs having
 /// begun, it is then at a moment that rests or is over, after the same lines, with the same records or
-/// with one of a verdict more. Its only error is want of memory.
+/// with one of a verdict more.
 pub fn settle_core<C: Carrier>(alloc: Global, core: &mut Core, carrier: &C) -> Result<(), Memory>
     requires can_carry { C.can_carry carrier.now }
     requires inside { core.old.out ≡ false }

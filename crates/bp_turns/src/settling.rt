@@ -10,7 +10,7 @@ use bp_log::Memory;
 use std::alloc::Global;
 
 /// One turn: the jobs of what is to be run are carried to their outcomes, and what they did is
-/// merged in order. Its only error is want of memory.
+/// merged in order.
 fn turn<C: Carrier>(alloc: Global, arbiter: &mut Arbiter, carrier: &C) -> Result<Phase, Memory>
     requires can_carry { C.can_carry carrier.now }
     requires ready { arbiter.old.phase ≡ phase.Ready }
@@ -27,7 +27,7 @@ fn turn<C: Carrier>(alloc: Global, arbiter: &mut Arbiter, carrier: &C) -> Result
     arbiter.seal(alloc, done)
 }
 
-/// Turn after turn, until nobody is to be run. Its only error is want of memory.
+/// Turn after turn, until nobody is to be run.
 pub fn settle<C: Carrier>(alloc: Global, arbiter: &mut Arbiter, carrier: &C) -> Result<(), Memory>
     requires can_carry { C.can_carry carrier.now }
     requires stands { StandsSomewhere arbiter.old }

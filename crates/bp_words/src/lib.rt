@@ -8,7 +8,7 @@ use rand_chacha::ChaCha8Rng;
 use rand_core::SeedableRng;
 use rand_core::utils::NextWord;
 
-/// The word at this place of the stream of this seed. Takes no memory.
+/// The word at this place of the stream of this seed.
 ///
 /// The key is the 8 bytes of the seed, least first, and 24 zero bytes; the stream is 0.
 pub fn word_of(seed: u64, place: u64) -> u32

@@ -34,13 +34,13 @@ pub record IsRefusedOf (holds : Option Holdings) (name : List ℕ) (refusal : Re
 abbrev pub IsTooLong : Option Holdings → List ℕ → Type 0
 IsTooLong holds name = (bytes : List ℕ) × IsUnder holds name bytes × (MOST_BYTES < length bytes)
 
--- why bytes are no accepted program: they are refused, or memory was wanting
+-- why bytes are no accepted program: they are refused, or memory ran out
 abbrev pub AreUnaccepted : List ℕ → Ended → Type 0
 AreUnaccepted bytes (Refused refusal) = IsRefused bytes refusal
 AreUnaccepted bytes NoMemory = Unit {0}
 AreUnaccepted bytes _ = ⊥
 
--- why there is no accepted program of that name: it is refused, or was not read
+-- why there is not an accepted program of that name: it is refused, or was not read
 abbrev pub IsUnloaded : Option Holdings → List ℕ → Ended → Type 0
 IsUnloaded holds name (Refused refusal) = IsRefusedOf holds name refusal
 IsUnloaded holds name NotRead = Unit {0}
@@ -72,12 +72,12 @@ abbrev pub Answers : Option Holdings → Request → List ℕ → Ended → Type
 Answers holds request.Help text end = (text ≡ HELP.now) × (end ≡ Answered)
 Answers holds (request.Check name) text end = IsCheckOf holds name text end
 
--- nothing answers it: its program is refused, or was not read, or memory was wanting
+-- nothing answers it: its program is refused, or was not read, or memory ran out
 abbrev pub IsUnanswered : Option Holdings → Request → Ended → Type 0
 IsUnanswered holds request.Help end = end ≡ NoMemory
 IsUnanswered holds (request.Check name) end = IsUnloaded holds name end
 
--- this was printed behind what was, and answers what is asked
+-- this was printed after what was, and answers what is asked
 pub record IsAnswered (holds : Option Holdings) (asked : Request) (before after : Option (List ℕ)) (end : Ended) : Type 0 where
   pub text : List ℕ
   pub answers : Answers holds asked text end

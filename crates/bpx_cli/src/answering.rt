@@ -32,7 +32,7 @@ fn end_of(text: &str) -> Ended
     }
 }
 
-/// What is found of a program. Its only error is want of memory.
+/// What is found of a program.
 fn checked(alloc: Global, program: &Program) -> Result<Reply, Memory>
     ensures { IfOk result (λ a. IsChecked program.now (string_bytes a.text) a.end) }
 {
@@ -58,7 +58,7 @@ fn check_of<W: World>(alloc: Global, name: &Text, world: &mut W) -> Result<Reply
     }
 }
 
-/// The text that says what can be asked for. Its only error is want of memory.
+/// The text that says what can be asked for.
 fn help(alloc: Global) -> Result<Reply, Memory>
     ensures { IfOk result (λ a. (string_bytes a.text ≡ HELP.now) × (a.end ≡ Ended.Answered)) }
 {

@@ -52,7 +52,7 @@ impl Ended {
         }
     }
 
-    /// Its note for standard error, which may be empty. Its only error is want of memory.
+    /// Its note for standard error, which may be empty.
     pub fn note(&self, alloc: Global) -> Result<Text, Memory>
         ensures { IfOk result (λ text. text ≡ note_of self.now) }
     {

@@ -1,6 +1,6 @@
 //! Programs with mistakes that a run may meet late or never, and programs without.
 
-/// A line has a script, in which `\n` stands for a line end, and behind the mark `==>` what `bpx check` prints, with ` | ` for
+/// A line has a script, in which `\n` stands for a line end, and after the mark `==>` what `bpx check` prints, with ` | ` for
 /// each line end but the last.
 pub const MISTAKES: &str = r#"
 const l = [1]; bp.registerBThread("A", () => { l.push(2) }) ==> line 1: nothing has a method push: concat makes a longer list

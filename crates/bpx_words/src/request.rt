@@ -16,7 +16,7 @@ pub enum Request {
     Check(Text),
 }
 
-/// The words with another one before them. Its only error is want of memory.
+/// The words with another one before them.
 fn words_behind(alloc: Global, first: &str, words: &[String]) -> Result<Vec<String>, Memory>
     ensures { IfOk result (λ v. map string_bytes v.items
         ≡ first.now ∷ map string_bytes words.now) }
@@ -29,7 +29,7 @@ fn words_behind(alloc: Global, first: &str, words: &[String]) -> Result<Vec<Stri
     Ok(all)
 }
 
-/// The command of `bp` that the words are behind this first one.
+/// The command of `bp` that the words are after this first one.
 fn command_behind(alloc: Global, first: &str, words: &[String]) -> Result<Command, Usage>
     ensures command { IfOk result
         (λ c. command_of (first.now ∷ map string_bytes words.now) ≡ Some c) }
@@ -62,7 +62,7 @@ fn help_in(words: &[String]) -> Result<Request, Usage>
     Err(Usage::Wrong)
 }
 
-/// What the words behind the first one ask for.
+/// What the words after the first one ask for.
 fn read_behind(alloc: Global, first: &str, words: &[String]) -> Result<Request, Usage>
     ensures request { IfOk result
         (λ r. request_behind first.now (map string_bytes words.now) ≡ Some r) }

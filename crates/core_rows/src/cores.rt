@@ -26,7 +26,7 @@ const MOST_KINDS: usize = 20;
 /// How many nodes a job runs while it is out: few, so that it goes on.
 const SLICE: u64 = 2;
 
-/// The core of the program, with so many injectors.
+/// The core of the program, with this many injectors.
 fn open(alloc: Global, script: &str, injectors: u32) -> Result<Core, Fail>
     ensures inside { IfOk result (λ c. c.out ≡ false) }
     ensures somewhere { IfOk result (λ c. IsSomewhere c c.jobs.items) }
@@ -67,7 +67,7 @@ fn step(alloc: Global, word: &str) -> Result<CoreStep, Fail> {
     Ok(CoreStep::Absorb(injector.parse::<u32>()?, item(alloc, what)?))
 }
 
-/// The steps of the words, each as often as behind its `*`.
+/// The steps of the words, each as often as after its `*`.
 fn steps(alloc: Global, words: &str) -> Result<Vec<CoreStep>, Fail> {
     let mut steps = Vec::new(alloc);
     for word in words.split_whitespace() {

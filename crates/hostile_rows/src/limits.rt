@@ -6,8 +6,8 @@ use std::sync::Wait;
 use std::test::Fail;
 use std::thread::Threads;
 
-/// A line has a script, the mark `<--`, the lines of an injector, the mark `-->`, a status, and behind the mark `==>` what is
-/// printed. `;;` is a line end, and `«N TEXT»` stands for so many texts.
+/// A line has a script, the mark `<--`, the lines of an injector, the mark `-->`, a status, and after the mark `==>` what is
+/// printed. `;;` is a line end, and `«N TEXT»` stands for this many texts.
 ///
 /// A line of an injector has at most 32,768 bytes, with its blanks. An event weighs at most 1,024: one more than its name, which
 /// weighs one more than its bytes.

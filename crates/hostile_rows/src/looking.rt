@@ -25,7 +25,7 @@ pub struct Looking<'a> {
 }
 
 impl<'a> Looking<'a> {
-    /// Looks until so many lines were printed: whether it came to that.
+    /// Looks until this many lines were printed: whether it came to that.
     fn is_printed(&self) -> bool {
         for _ in 0..self.looks {
             if self.printed.load(Ordering::SeqCst) >= self.least {
@@ -88,12 +88,12 @@ pub struct LookingWorld<'a> {
     pub script: &'a str,
     /// What the injector gives at its first read.
     pub first: &'a str,
-    /// What it gives once so many lines were printed.
+    /// What it gives once this many lines were printed.
     pub further: &'a str,
     pub least: u64,
     /// How often it looks for these lines at most.
     pub looks: u64,
-    /// The reads behind the first that fail, counted from 1.
+    /// The reads after the first that fail, counted from 1.
     pub failing: &'a [u64],
     pub log: Vec<u8>,
     pub read_faults: u64,

@@ -46,7 +46,7 @@ pub struct Counting {
 }
 
 impl Counting {
-    /// A gate for so many jobs, numbered from 0, that was told nothing.
+    /// A gate for this many jobs, numbered from 0, that was told nothing.
     pub fn new(alloc: Global, jobs: u32) -> Result<Counting, AllocError> {
         let mut counts = Vec::new(alloc);
         for _ in 0..jobs {
@@ -84,7 +84,7 @@ impl Counting {
     }
 
     /// Whether each slice that began was told to have ended, each job of which anything was told had one last slice, and
-    /// nothing was told of a job behind that or of no job.
+    /// nothing was told of a job after that or of no job.
     pub fn is_right(&self) -> bool {
         self.late.load(Ordering::SeqCst) == 0 && self.jobs.iter().all(|told| told.is_right())
     }

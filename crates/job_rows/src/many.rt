@@ -18,7 +18,7 @@ fn script_of_many(alloc: Global, jobs: u32, rounds: u32) -> Result<String, Alloc
     Ok(script)
 }
 
-/// What is to be told of so many.
+/// What is to be told of this many.
 fn told_of_many(alloc: Global, jobs: u32) -> Result<String, AllocError> {
     let mut told = String::new(alloc);
     for number in 0..jobs {

@@ -68,7 +68,7 @@ fn is_ended(job: &Job) -> bool
     }
 }
 
-/// Slices of so many nodes, at most so many, up to the outcome.
+/// Slices of this many nodes, at most this many, up to the outcome.
 pub fn carry_on(job: &mut Job, ground: &Ground, nodes: u64, slices: u64) -> Result<(), Fail>
     requires program { IsOf (plain_ground ground.now).program job.old }
     requires open { (plain_job job.old).outcome ≡ None }

@@ -111,7 +111,7 @@ fn run_slices(
     Ok(Pause::More)
 }
 
-/// The run of a program's top level, in slices of so many nodes.
+/// The run of a program's top level, in slices of this many nodes.
 fn top_run(alloc: Global, script: &str, nodes: u64) -> Result<String, Fail> {
     let ground = Ground::bare(alloc, program_of(alloc, script)?);
     let mut machine = Machine::top(alloc, &ground, BUDGET)?;
@@ -149,7 +149,7 @@ fn body_of(alloc: Global, script: &str, budget: u64) -> Result<(Ground, Machine)
     Ok((ground, machine))
 }
 
-/// The pauses of a machine, in slices of so many nodes, of which it begins at most so many.
+/// The pauses of a machine, in slices of this many nodes, of which it begins at most this many.
 fn pauses_of(
     alloc: Global,
     ground: &Ground,

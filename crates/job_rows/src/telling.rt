@@ -136,7 +136,7 @@ pub fn push_done(
     push_outcome(out, alloc, ground, lines, job)
 }
 
-/// What the job does up to its outcome, in slices of so many nodes.
+/// What the job does up to its outcome, in slices of this many nodes.
 fn push_slices(
     out: &mut String,
     alloc: Global,

@@ -56,7 +56,7 @@ drop_at xs i d x h e = rw add-one (drop-cons xs i d h ∙ ap (λ y. y ∷ drop (
 pub drop_is : {A : Type 0} (xs : List A) (i : ℕ) (x : A) → i < length xs → x ≡ get_or xs i x → drop i xs ≡ x ∷ drop (i + 1) xs
 drop_is xs i x h e = drop_at xs i x x h e
 
--- an element that what is left begins with stands there, and the rest is what is left behind it
+-- an element that what is left begins with stands there, and the rest is what is left after it
 pub drop_next : {A : Type 0} (xs : List A) (i : ℕ) (x : A) (rest : List A) → drop i xs ≡ x ∷ rest → (i < length xs) × ((d : A) → get_or xs i d ≡ x) × (drop (i + 1) xs ≡ rest)
 drop_next [] zero x rest e = cc
 drop_next [] (suc i) x rest e = cc
@@ -69,7 +69,7 @@ flat_map_take f xs i d x h e =
     ap (flat_map f) (take_more xs i d h) ∙ flat_map-append f (take i xs) (get_or xs i d ∷ [])
     ∙ ap (λ ys. flat_map f (take i xs) ++ ys) (append-nil (f (get_or xs i d))) ∙ ap (λ y. flat_map f (take i xs) ++ f y) (sym e)
 
--- and with the next and those behind it
+-- and with the next and those after it
 pub flat_map_split : {X A : Type 0} (f : X → List A) (xs : List X) (i : ℕ) (x : X) → i < length xs → x ≡ get_or xs i x →
     flat_map f xs ≡ flat_map f (take i xs) ++ (f x ++ flat_map f (drop (i + 1) xs))
 flat_map_split f xs i x h e =

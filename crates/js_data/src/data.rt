@@ -41,7 +41,7 @@ impl Drop for Data {
     }
 }
 
-/// The weight of a text: one more than its bytes. Takes no memory.
+/// The weight of a text: one more than its bytes.
 pub fn text_weight(text: &Text) -> u64
     ensures utf8 { is_utf8 text.now ≡ true }
     ensures weight { result ≡ capped (weight_of_text text.now) }
@@ -49,7 +49,7 @@ pub fn text_weight(text: &Text) -> u64
     (text.as_str().len() as u64).saturating_add(1)
 }
 
-/// The weight of the data, or the greatest u64 where it is more. Takes no memory.
+/// The weight of the data, or the greatest u64 where it is more.
 #[cycle(weight)]
 pub fn data_weight(tree: &Data) -> u64
     ensures held { IsHeld (plain_data tree.now) }
@@ -93,7 +93,7 @@ fn fields_weight(fields: &Vec<(Text, Data)>) -> u64
     sum
 }
 
-/// The nesting of the data, or the greatest u64 where it is more. Takes no memory.
+/// The nesting of the data, or the greatest u64 where it is more.
 #[cycle(nesting)]
 pub fn data_nesting(tree: &Data) -> u64
     ensures { result ≡ capped (nesting_of (plain_data tree.now)) }
@@ -127,7 +127,7 @@ fn fields_nesting(fields: &Vec<(Text, Data)>) -> u64
     most
 }
 
-/// Equal data. Its only error is want of memory.
+/// Equal data.
 #[cycle(copy)]
 pub fn copy_data(tree: &Data) -> Result<Data, Memory>
     ensures { IfOk result (λ d. plain_data d ≡ plain_data tree.now) }
@@ -165,7 +165,7 @@ fn copy_fields(fields: &Vec<(Text, Data)>) -> Result<Vec<(Text, Data)>, Memory>
     Ok(copies)
 }
 
-/// Whether the two are equal. Takes no memory.
+/// Whether the two are equal.
 pub fn are_equal(left: &Data, right: &Data) -> bool
     ensures same { result ≡ data_is_same (plain_data left.now) (plain_data right.now) }
     ensures equal { IsTrue result ↔ (plain_data left.now ≡ plain_data right.now) }

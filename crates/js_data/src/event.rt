@@ -97,7 +97,7 @@ impl Event {
     /// The greatest nesting of an event.
     pub const MOST_NESTING: u64 = 64;
 
-    /// The event of this name and data. Takes no memory.
+    /// The event of this name and data.
     ///
     /// # Errors
     ///
@@ -121,14 +121,14 @@ impl Event {
         Ok(Event { name, extra })
     }
 
-    /// The weight of the event. Takes no memory.
+    /// The weight of the event.
     pub fn weight(&self) -> u64
         ensures { result ≡ capped (event_weight self.now) }
     {
         weight_of(&self.name, &self.extra)
     }
 
-    /// The nesting of the event. Takes no memory.
+    /// The nesting of the event.
     pub fn nesting(&self) -> u64
         ensures { result ≡ capped (event_nesting self.now) }
     {
@@ -143,21 +143,21 @@ impl Event {
         let _name = &self.name;
     }
 
-    /// The name. Takes no memory.
+    /// The name.
     pub fn name(&self) -> &Text
         ensures { result.now ≡ self.now.name }
     {
         &self.name
     }
 
-    /// The data, if the event has any. Takes no memory.
+    /// The data, if the event has any.
     pub fn data(&self) -> Option<&Data>
         ensures { option_map (λ d. plain_data d.now) result ≡ self.now.extra }
     {
         self.extra.as_ref()
     }
 
-    /// The name and the data, if the event has any, given back. Takes no memory.
+    /// The name and the data, if the event has any, given back.
     pub fn into_parts(self) -> (Text, Option<Data>)
         ensures kept { IsEvent self }
         ensures name { result.0 ≡ self.name }
@@ -167,7 +167,7 @@ impl Event {
         (name, extra)
     }
 
-    /// Whether the names are equal, and both are without data or have equal data. Takes no memory.
+    /// Whether the names are equal, and both are without data or have equal data.
     pub fn same(&self, other: &Event) -> bool
         ensures same { result ≡ event_is_same self.now other.now }
         ensures equal { IsTrue result ↔ (self.now ≡ other.now) }
@@ -175,7 +175,7 @@ impl Event {
         self.name.same(&other.name) && same_extra(&self.extra, &other.extra)
     }
 
-    /// An equal event. Its only error is want of memory.
+    /// An equal event.
     pub fn copy(&self) -> Result<Event, Memory>
         ensures { IfOk result (λ e. e ≡ self.now) }
     {

@@ -7,7 +7,7 @@ ghost use Rattle.js_data.specs.Faults.{fault_name};
 pub enum Fault {
     /// A whole number outside of -(2^53-1) to 2^53-1.
     Whole,
-    /// A quotient that is no whole number.
+    /// A quotient that is not a whole number.
     Fraction,
     /// A divisor 0.
     Zero,
@@ -27,7 +27,7 @@ pub enum Fault {
     Mode,
     /// A synchronization statement that is none.
     Statement,
-    /// A predicate's answer that is no truth value.
+    /// A predicate's answer that is not a truth value.
     Truth,
 }
 

@@ -14,5 +14,5 @@ use std::alloc::AllocError;
 pub use text::Text;
 pub use whole::Whole;
 
-/// Want of memory.
+/// Out of memory.
 pub type Memory = AllocError;

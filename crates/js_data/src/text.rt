@@ -20,28 +20,28 @@ impl Model for Text {
 }
 
 impl Text {
-    /// The text of this string. Takes no memory.
+    /// The text of this string.
     pub fn new(text: String) -> Text
         ensures { result ≡ string_bytes text }
     {
         Text { text }
     }
 
-    /// The text as a slice. Takes no memory.
+    /// The text as a slice.
     pub fn as_str(&self) -> &str
         ensures { result.now ≡ self.now }
     {
         self.text.as_str()
     }
 
-    /// The string, given back. Takes no memory.
+    /// The string, given back.
     pub fn into_string(self) -> String
         ensures { string_bytes result ≡ self }
     {
         self.text
     }
 
-    /// An equal text. Its only error is want of memory.
+    /// An equal text.
     pub fn copy(&self) -> Result<Text, Memory>
         ensures { IfOk result (λ t. t ≡ self.now) }
     {
@@ -50,7 +50,7 @@ impl Text {
         })
     }
 
-    /// Whether the two have the same bytes. Takes no memory.
+    /// Whether the two have the same bytes.
     pub fn same(&self, other: &Text) -> bool
         ensures { result ≡ bytes_eq self.now other.now }
     {

@@ -41,7 +41,7 @@ impl Clone for Whole {
 impl Copy for Whole {}
 
 impl Whole {
-    /// The whole number n; `None` exactly where n is outside the range. Takes no memory.
+    /// The whole number n; `None` exactly where n is outside the range.
     pub fn new(n: i64) -> Option<Whole>
         ensures { MatchOption result (is_whole n ≡ false) (λ w. IsWhole n × (w ≡ n)) }
     {
@@ -51,7 +51,7 @@ impl Whole {
         Some(Whole { n })
     }
 
-    /// The number. Takes no memory.
+    /// The number.
     pub fn get(self) -> i64
         ensures number { result ≡ self }
         ensures within { IsWhole result }

@@ -59,7 +59,7 @@ started n t ts r k ds h d room e =
     let inner : (readers n).declarators k ts ≡ Some (ds, r) = declarators_in n k ts room ∙ e in
     rw (h, d, inner) refl
 
--- behind a mark that stood there
+-- after a mark that stood there
 passed : {B : Type 0} (k : Sort) (before behind : List Token) (f : List Token → Option B) → (t : Token) × (before ≡ t ∷ behind) × (sort t ≡ k) → after k before f ≡ f behind
 passed k before behind f h = ap (λ (z : List Token). after k z f) h.1 ∙ rw (is-same k h.0 h.2) refl
 

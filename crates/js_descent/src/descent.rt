@@ -139,7 +139,7 @@ fn operators(cursor: &mut Cursor<'_>, level: u8, inner: u32) -> Answer<Expr>
     Ok(left)
 }
 
-/// So many operators of the level with their operands, behind the first, to the left.
+/// This many operators of the level with their operands, after the first, to the left.
 #[cycle(descent)]
 #[tactic(auto, using(js_steps::proofs::Loops::operated_turn, crate::proofs::Chains::chain_deep, crate::proofs::Chains::chain_more, crate::proofs::Chains::chain_broken))]
 fn chain(
@@ -202,7 +202,7 @@ fn signed(cursor: &mut Cursor<'_>, inner: u32) -> Answer<Expr>
     called(cursor, inner)
 }
 
-/// A primary, and so many of `.word`, `[ expression ]` and `( arguments )`.
+/// A primary, and this many of `.word`, `[ expression ]` and `( arguments )`.
 #[cycle(descent)]
 #[tactic(auto, using(js_steps::proofs::Loops::called_turn))]
 fn called(cursor: &mut Cursor<'_>, inner: u32) -> Answer<Expr>
@@ -233,7 +233,7 @@ fn called(cursor: &mut Cursor<'_>, inner: u32) -> Answer<Expr>
     }
 }
 
-/// An element, behind its bracket.
+/// An element, after its bracket.
 #[cycle(descent)]
 #[tactic(auto, using(js_steps::proofs::Using::after_none))]
 fn index(cursor: &mut Cursor<'_>, line: u32, list: Found<Expr>, inner: u32) -> Answer<Expr>
@@ -255,7 +255,7 @@ fn index(cursor: &mut Cursor<'_>, line: u32, list: Found<Expr>, inner: u32) -> A
     Ok(expr_at(line, form, depth))
 }
 
-/// A call, behind its parenthesis.
+/// A call, after its parenthesis.
 #[cycle(descent)]
 fn call(cursor: &mut Cursor<'_>, line: u32, callee: Found<Expr>, inner: u32) -> Answer<Expr>
     requires room { inner < u32.MAX }
@@ -318,7 +318,7 @@ fn primary(cursor: &mut Cursor<'_>, inner: u32) -> Answer<Expr>
     }
 }
 
-/// An expression in parentheses, behind the first.
+/// An expression in parentheses, after the first.
 #[cycle(descent)]
 #[tactic(auto, using(js_steps::proofs::Using::after_none))]
 fn round(cursor: &mut Cursor<'_>, inner: u32) -> Answer<Expr>
@@ -399,7 +399,7 @@ fn field(cursor: &mut Cursor<'_>, inner: u32) -> Answer<Field>
     Ok(Found { tree, depth })
 }
 
-/// Fields and `}`, behind the `{`.
+/// Fields and `}`, after the `{`.
 #[cycle(descent)]
 #[tactic(auto, using(js_steps::proofs::Loops::fields_turn, js_tree::proofs::Rows::map_push_field, js_tree::proofs::Rows::deepest_push_field, crate::proofs::Using::next_field_none, crate::proofs::Using::fields_begin))]
 fn fields(cursor: &mut Cursor<'_>, inner: u32) -> Answer<Vec<Field>>
@@ -618,7 +618,7 @@ fn perhaps(cursor: &mut Cursor<'_>, close: Sort, inner: u32) -> Answer<Option<Ex
     Ok(Found { tree, depth })
 }
 
-/// A loop with three parts, behind its parenthesis.
+/// A loop with three parts, after its parenthesis.
 #[cycle(descent)]
 #[tactic(auto, using(js_steps::proofs::Using::after_none))]
 fn for_three(cursor: &mut Cursor<'_>, line: u32, inner: u32) -> Answer<Stmt>
@@ -639,7 +639,7 @@ fn for_three(cursor: &mut Cursor<'_>, line: u32, inner: u32) -> Answer<Stmt>
     Ok(stmt_at(line, form, depth))
 }
 
-/// A loop over a list, behind its parenthesis.
+/// A loop over a list, after its parenthesis.
 #[cycle(descent)]
 #[tactic(auto, using(js_steps::proofs::Using::after_none, js_steps::proofs::Using::held_none))]
 fn for_of(cursor: &mut Cursor<'_>, line: u32, inner: u32) -> Answer<Stmt>

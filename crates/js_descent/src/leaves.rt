@@ -38,7 +38,7 @@ pub fn used(cursor: &mut Cursor<'_>) -> Answer<Expr>
     Ok(expr_at(line, Form::Use(name), 1))
 }
 
-/// `++` or `--` behind a name.
+/// `++` or `--` after a name.
 #[tactic(auto, using(js_steps::proofs::Using::held_none))]
 pub fn postfix(cursor: &mut Cursor<'_>) -> Answer<Expr>
     ensures { IsExpr (at_first postfix_at) 1 cursor.old cursor.new result }
@@ -67,7 +67,7 @@ pub fn continue_of(cursor: &mut Cursor<'_>) -> Answer<Stmt>
     Ok(stmt_at(spot.line, StmtForm::Continue(spot), 1))
 }
 
-/// A member, behind its dot.
+/// A member, after its dot.
 #[tactic(auto, using(js_steps::proofs::Using::held_none))]
 pub fn member(cursor: &mut Cursor<'_>, line: u32, object: Found<Expr>, inner: u32) -> Answer<Expr>
     requires room { inner < u32.MAX }

@@ -175,7 +175,7 @@ operand_other operator.Or right n h i = absurd (h refl)
 operand_other operator.And right n h i = absurd (i refl)
 operand_other _ right n h i = refl
 
--- what is no block has no statements
+-- what is not a block has no statements
 pub no_block : (x : NodeForm) → ((slots : _) (ns : _) → x ≡ f.Block slots ns → ⊥) → [] ≡ block_in (plain_node_form x)
 no_block (f.Block slots ns) h = absurd (h slots ns refl)
 no_block _ h = refl

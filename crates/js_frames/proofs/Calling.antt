@@ -160,7 +160,7 @@ value_fits program held m which is = subst (λ q. FrameFits program (body_frame 
 pub value_waits : (mid new : Place) (n : ℕ) (held : Content) (m : ℕ) (which : Sequence) (r : Result Step AllocError) → held ≡ content.OneValue m → IfOk r (λ step. (step ≡ Begin n) × (new ≡ pushed mid (Waiting Returned))) → IfOk r (λ step. (step ≡ Begin n) × (new ≡ pushed mid (body_frame (plain_content held) which)))
 value_waits mid new n held m which r is w = subst (λ q. IfOk r (λ step. (step ≡ Begin n) × (new ≡ pushed mid (body_frame (plain_content q) which)))) (sym is) w
 
--- the call for an element, and then the walk over those behind it
+-- the call for an element, and then the walk over those after it
 module _ (base : js.Ground) (old new : Place) (w further : Walk) (body : PlainBody) (args : List PlainValue) where
   abbrev calls_it : State → Outcome
   calls_it = enters (eval (setting_at base old)) (old.calls + 1) body (values_in w.captured) args
@@ -255,7 +255,7 @@ walk_begins g ev line items (y ∷ ys) code captured x s is e =
     let k : v.function code captured ≡ y = subst (λ q. plain_value q ≡ y) is e in
     ap (λ q. for_each_call g ev line items (q ∷ ys) s) k
 
--- what is no function is none to walk with
+-- what is not a function is none to walk with
 pub no_walk : (g : Setting) (ev : ℕ → State → Outcome) (line : ℕ) (items : ValueList) (args : List PlainValue) (x : Value) (s : State) → plain_value x ≡ argument 0 args → ((code : ℕ) (cs : ValueList) → x ≡ value.Function code cs → ⊥) → breaks fault.Mistyped line s ≡ for_each_call g ev line items args s
 no_walk g ev line items [] x s e h = refl
 no_walk g ev line items (y ∷ ys) x s e h = by_value x e h

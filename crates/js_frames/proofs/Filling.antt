@@ -13,7 +13,7 @@ fill_more x xs ys start counter le e =
     let n : counter - start + 1 ≡ counter + 1 - start = omega arith in
     e ∙ append_assoc xs (replicate (counter - start) x) (x ∷ []) ∙ ap (λ r. xs ++ r) (replicate_more (counter - start) x) ∙ ap (λ k. xs ++ replicate k x) n
 
--- a value that was moved behind those that are there
+-- a value that was moved after those that are there
 pub push_next : {X : Type 0} (ys zs : List (Option X)) (xs us : List X) (k : ℕ) (x u : X) → zs ≡ ys ++ Some x ∷ [] → Some x ≡ slice_get xs k → us ≡ slice_set xs k u → zs ++ map Some (drop (k + 1) us) ≡ ys ++ map Some (drop k xs)
 push_next ys zs xs us k x u e get put =
     ap (λ l. l ++ map Some (drop (k + 1) us)) e

@@ -26,7 +26,7 @@ pub undeclared_slots : (ks : List ℕ) (s : State) → undeclare ks s ≡ record
 undeclared_slots [] s = refl
 undeclared_slots (k ∷ ks) s = undeclared_slots ks (set_slot k None s)
 
--- arguments that were cut behind a place
+-- arguments that were cut after a place
 pub argument_taken : (vs : List PlainValue) → argument 0 (take 1 vs) ≡ argument 0 vs
 argument_taken [] = refl
 argument_taken (v ∷ vs) = refl

@@ -334,7 +334,7 @@ gives_on base first at mid new before step f c e k0 l =
       step_fits = l.step_fits;
     }
 
--- what is no completion asks nothing of the stack
+-- what is not a completion asks nothing of the stack
 pub settled_unless : (step : Step) (st : List Frame) → ((c : Completion) → step ≡ Give c → ⊥) → IsSettled step st
 settled_unless (Begin n) st h = tt
 settled_unless (Give c) st h = absurd (h c refl)

@@ -1,4 +1,4 @@
--- Parts that only give a value, one behind the other.
+-- Parts that only give a value, one after the other.
 use Rattle.std.proofs.Common.{◌≡◌, ℕ, ◌-◌, List, [], ◌∷◌, ◌++◌, length, Some, Result, refl, sym, ap, ◌∙◌, subst}
 use Rattle.std.specs.Prelude.{IfOk, slice_get}
 use Rattle.std.specs.declared.alloc.AllocError.{AllocError}
@@ -15,7 +15,7 @@ use Rattle.js_frames.specs.Leads.{Rests, Within, Leads, Gave}
 use Rattle.js_frames.proofs.Steps.{limits, within_like, within_trans, within_begun, on_ok}
 use Rattle.js_frames.proofs.InOrder.{parts_wait}
 
--- From a place and so many values on, what a node does is what it did from the first ones.
+-- From a place and this many values on, what a node does is what it did from the first ones.
 pub record Onto (base : js.Ground) (old : Place) (n : ℕ) (first : List PlainValue) (mid : Place) (done : List PlainValue) : Type 0 where
   pub place : mid ≡ record old { fuel = mid.fuel }
   pub within : Within old mid

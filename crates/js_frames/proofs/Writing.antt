@@ -56,7 +56,7 @@ failed_goes base old o a op_fault.Memory line r fits h w same = on_ok r (λ step
 pub value_answered : (x : PlainValue) (r : Result Value OpFault) (value : Value) → AnswersAs (Ok x) r → r ≡ Ok value → plain_value value ≡ x
 value_answered x r value h e = let k : AnswersAs (Ok x) (Ok value) = subst (AnswersAs (Ok x)) e h in cc
 
--- what answers a value fails for want of memory alone
+-- what answers a value fails for lack of memory alone
 pub failed_never : (x : PlainValue) (r : Result Value OpFault) (fault : OpFault) (line : ℕ) (q : Result Step AllocError) (P : Step → Type 0) → AnswersAs (Ok x) r → r ≡ Err fault → FailsAs fault line q → IfOk q P
 failed_never x r fault line q P h e w = by_fault fault (subst (AnswersAs (Ok x)) e h) w
   where

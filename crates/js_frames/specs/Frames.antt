@@ -59,7 +59,7 @@ statements_of program (Function code) = statements_in (body_of program code).con
 statements_of program Top = statements_in program.top.content
 
 module _ (g : Setting) where
-  -- the parts behind those that are done, and then what the node makes of all
+  -- the parts after those that are done, and then what the node makes of all
   abbrev pub parts_from : Option PlainNode → List PlainValue → State → Outcome
   parts_from None done s = spends s
   parts_from (Some node) done s =

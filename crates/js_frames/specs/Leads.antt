@@ -51,7 +51,7 @@ pub record Leads (base : js.Ground) (old : Place) (o : State → Outcome) (new :
   pub step_fits : StepFits base.program step
   pub rests : Rests step old.stack new.stack
 
--- unless memory was wanting
+-- unless memory ran out
 abbrev pub Goes : Ground → Engine → (State → Outcome) → Engine → Result Step AllocError → Type 0
 Goes base old o new r = IfOk r (λ step. Leads (plain_ground base) (place_of old) o (place_of new) step)
 
@@ -74,7 +74,7 @@ abbrev pub IsSettled : Step → List Frame → Type 0
 IsSettled (Give c) stack = stack ≡ []
 IsSettled step stack = Unit {0}
 
--- The same, where so many nodes began.
+-- The same, where this many nodes began.
 pub record Ran (base : js.Ground) (old : Place) (before : Step) (new : Place) (after : Step) (begun : ℕ)
     : Type 0 where
   pub same : (beside : Beside) → future base new after beside ≡ future base old before beside
@@ -89,7 +89,7 @@ abbrev pub IsHeld : Step → ℕ → ℕ → ℕ → Type 0
 IsHeld (Begin n) fuel begun nodes = (fuel ≡ 0) ⊎ (begun ≡ nodes)
 IsHeld step fuel begun nodes = Unit {0}
 
--- at most so many nodes began
+-- at most this many nodes began
 pub record Advanced (base : js.Ground) (old : Place) (before : Step) (new : Place) (after : Step)
     (nodes begun : ℕ) : Type 0 where
   pub few : begun ≤ nodes
@@ -112,7 +112,7 @@ abbrev pub Gives : PlainValue → Step → Type 0
 Gives x (Give (Normal y)) = plain_value y ≡ x
 Gives x step = ⊥
 
--- the machine in one more call with these slots, while so many are active
+-- the machine in one more call with these slots, while this many are active
 abbrev pub entered : Place → List (Option PlainValue) → ℕ → Place
 entered m slots active =
     record m { stack = m.stack ++ Called m.slots m.calls ∷ []; slots = slots; calls = active }
@@ -158,13 +158,13 @@ abbrev pub IsBegin : Step → Type 0
 IsBegin (Begin n) = Unit {0}
 IsBegin step = ⊥
 
--- the arguments for the element of a walk: those that a function with so many parameters takes
+-- the arguments for the element of a walk: those that a function with this many parameters takes
 abbrev pub AreElementArgs : Walk → ℕ → List PlainValue → Type 0
 AreElementArgs w wanted args =
     (x : PlainValue) × (slice_get (values_in w.items) w.index ≡ Some x)
     × (padded wanted args ≡ padded wanted (x ∷ v.whole (pos w.index) ∷ v.list w.items ∷ []))
 
--- a fault of an operator is one of the line, unless memory was wanting
+-- a fault of an operator is one of the line, unless memory ran out
 abbrev pub FailsAs : OpFault → ℕ → Result Step AllocError → Type 0
 FailsAs (op_fault.Fault f) line r = IfOk r (λ step. step ≡ Fail f line)
 FailsAs op_fault.Memory line r = IfOk r (λ step. ⊥)

@@ -19,7 +19,7 @@ use Rattle.js_frames.specs.Places.{Place, Beside, plain_effects, place_of, setti
 use Rattle.js_frames.specs.Frames.{plug, step_outcome}
 use Rattle.js_frames.specs.Fits.{StackFits, StepFits}
 
--- a machine of the program, or one that is lost for want of memory
+-- a machine of the program, or one that is lost for lack of memory
 abbrev pub PendingFits : PlainProgram → Pending → Type 0
 PendingFits program (Next step) = StepFits program step
 PendingFits program (Resumed event) = Unit {0}
@@ -29,7 +29,7 @@ IsOfProgram program m =
     (next : Pending) → m.pending ≡ Some next →
     StackFits program m.engine.stack.items × PendingFits program next
 
--- lost for want of memory
+-- lost for lack of memory
 unfoldable pub IsLost : Machine → Type 0
 IsLost m = m.pending ≡ None
 
@@ -58,7 +58,7 @@ pub record Coming (base : Ground) (budget : ℕ) (o : Origin) (replies : List Pl
   pub mode_is : m.engine.mode ≡ mode_of o
   pub fuel : m.engine.fuel + begun ≡ budget
 
--- The machine stands for this body, with these replies, where so many nodes have begun since the
+-- The machine stands for this body, with these replies, where this many nodes have begun since the
 -- last of them, and these effects were taken.
 unfoldable pub Stands : Ground → ℕ → Origin → List PlainEvent → ℕ → List Effect → Machine → Type 0
 Stands base budget o replies begun taken m = Coming base budget o replies begun taken m

@@ -40,7 +40,7 @@ fn made_function(alloc: Global, code: u32, values: Vec<Value>, line: u32) -> Res
 }
 
 impl Engine {
-    /// The value of a variable, if it is declared. Takes no memory.
+    /// The value of a variable, if it is declared.
     #[inline(always)]
     pub fn held<'a>(&'a self, base: &'a Ground, variable: Variable) -> Option<&'a Value>
         ensures { option_map (λ v. plain_value v.now) result
@@ -52,7 +52,7 @@ impl Engine {
         }
     }
 
-    /// The constants: at the top level those so far. Takes no memory.
+    /// The constants: at the top level those so far.
     #[inline(always)]
     fn constants<'a>(&'a self, base: &'a Ground) -> &'a Slots
         ensures { result.now ≡ unwrap_or self.now.constants base.now.constants }

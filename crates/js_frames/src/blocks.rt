@@ -19,7 +19,7 @@ use js_program::{Content, Declared, NodeForm, Variable};
 use js_tree::DeclareKind;
 use js_value::Value;
 
-/// The statements of a body; of one value there are none. Takes no memory.
+/// The statements of a body; of one value there are none.
 #[inline(always)]
 fn statements_in(content: &Content) -> &[u32]
     ensures { result.now ≡ statements_in (plain_content content.now) }
@@ -30,7 +30,7 @@ fn statements_in(content: &Content) -> &[u32]
     }
 }
 
-/// The statements of a block. Takes no memory.
+/// The statements of a block.
 #[inline(always)]
 fn block_in(form: &NodeForm) -> &[u32]
     ensures { result.now ≡ block_in (plain_node_form form.now) }
@@ -41,7 +41,7 @@ fn block_in(form: &NodeForm) -> &[u32]
     }
 }
 
-/// The statements that are done in order. Takes no memory.
+/// The statements that are done in order.
 #[inline(always)]
 fn statements_of(base: &Ground, sequence: Sequence) -> &[u32]
     requires { SequenceFits base.now.program sequence }
@@ -56,7 +56,7 @@ fn statements_of(base: &Ground, sequence: Sequence) -> &[u32]
     }
 }
 
-/// The declarator at a place. Takes no memory.
+/// The declarator at a place.
 fn declarator_at(declared: &[Declared], place: usize) -> Option<Declared>
     ensures value { option_map plain_declared result
         ≡ slice_get (map plain_declared declared.now) place }
@@ -131,7 +131,7 @@ impl Engine {
         Ok(leave())
     }
 
-    /// Without a value a `let` is undefined, and a `var` stays what it is. Takes no memory.
+    /// Without a value a `let` is undefined, and a `var` stays what it is.
     fn declare_without(&mut self, kind: DeclareKind, variable: Variable)
         ensures { place_of self.new ≡ undefined_at kind variable (place_of self.old) }
     {
@@ -142,7 +142,7 @@ impl Engine {
         }
     }
 
-    /// The variable has this value. Takes no memory.
+    /// The variable has this value.
     fn put(&mut self, variable: Variable, value: Value)
         ensures { place_of self.new ≡ put_at variable (plain_value value) (place_of self.old) }
     {
@@ -152,7 +152,7 @@ impl Engine {
         }
     }
 
-    /// The constant has this value, at the top level. Takes no memory.
+    /// The constant has this value, at the top level.
     fn put_constant(&mut self, number: u32, value: Value)
         ensures { place_of self.new
             ≡ put_at (Variable.Constant number) (plain_value value) (place_of self.old) }

@@ -11,7 +11,7 @@ ghost use Rattle.js_frames.specs.Leads.{Picks};
 use crate::step::{Step, give, leave};
 use js_value::{Value, truthy};
 
-/// The right side, where the left one is not true. Takes no memory.
+/// The right side, where the left one is not true.
 #[inline(always)]
 pub fn or(right: u32, left: Value) -> Step
     ensures { (program : PlainProgram) → IsNode program right →
@@ -25,7 +25,7 @@ pub fn or(right: u32, left: Value) -> Step
     }
 }
 
-/// The right side, where the left one is true. Takes no memory.
+/// The right side, where the left one is true.
 #[inline(always)]
 pub fn and(right: u32, left: Value) -> Step
     ensures { (program : PlainProgram) → IsNode program right →
@@ -39,7 +39,7 @@ pub fn and(right: u32, left: Value) -> Step
     }
 }
 
-/// One of two. Takes no memory.
+/// One of two.
 #[inline(always)]
 pub fn choose(yes: u32, no: u32, test: &Value) -> Step
     ensures { (program : PlainProgram) → IsNode program yes → IsNode program no →
@@ -53,7 +53,7 @@ pub fn choose(yes: u32, no: u32, test: &Value) -> Step
     }
 }
 
-/// The body, where the test is true. Takes no memory.
+/// The body, where the test is true.
 #[inline(always)]
 pub fn when(body: u32, test: &Value) -> Step
     ensures { (program : PlainProgram) → IsNode program body →

@@ -24,7 +24,7 @@ use js_program::{Body, Content};
 use js_value::{Items, Value};
 use std::mem;
 
-/// What a call answers whose body completes so. Takes no memory.
+/// What a call answers whose body completes so.
 fn answer(completion: Completion) -> Value
     ensures { plain_value result ≡ answer_of (plain_completion completion) }
 {
@@ -34,7 +34,7 @@ fn answer(completion: Completion) -> Value
     }
 }
 
-/// The function of this number, if there is one. Takes no memory.
+/// The function of this number, if there is one.
 pub fn function_of(base: &Ground, code: u32) -> Option<&Body>
     ensures { option_map (λ b. plain_body b.now) result
         ≡ slice_get base.now.program.functions code }
@@ -46,7 +46,7 @@ pub fn function_of(base: &Ground, code: u32) -> Option<&Body>
     }
 }
 
-/// The node that a body begins with, if it has one. Takes no memory.
+/// The node that a body begins with, if it has one.
 pub fn first_in(content: &Content) -> Option<u32>
     ensures { result ≡ first_of (plain_content content.now) }
 {
@@ -104,7 +104,7 @@ impl Engine {
         }
     }
 
-    /// A body begins with its own slots, while so many calls are active.
+    /// A body begins with its own slots, while this many calls are active.
     pub fn enter(
         &mut self,
         base: &Ground,
@@ -153,7 +153,7 @@ impl Engine {
         Ok(())
     }
 
-    /// The caller's slots again, and what the call answers. Takes no memory.
+    /// The caller's slots again, and what the call answers.
     #[inline(never)]
     pub fn return_to(&mut self, slots: Slots, calls: u32, completion: Completion) -> Step
         ensures step { Gives (answer_of (plain_completion completion)) result }

@@ -26,7 +26,7 @@ pub struct Effects {
 }
 
 impl Effects {
-    /// No effects. Takes no memory.
+    /// No effects.
     pub fn new(alloc: Global) -> Effects
         ensures { plain_effects result ≡ [] }
     {

@@ -69,7 +69,7 @@ impl Engine {
         }
     }
 
-    /// No values, in a room that is spare where there is one. Takes no memory.
+    /// No values, in a room that is spare where there is one.
     pub fn no_values(&mut self) -> Values
         ensures none { result ≡ [] }
         ensures same { place_of self.new ≡ place_of self.old }
@@ -92,14 +92,14 @@ impl Engine {
         let _kept = self.spare.push(emptied);
     }
 
-    /// The budget is whole again. Takes no memory.
+    /// The budget is whole again.
     pub fn refill(&mut self)
         ensures { place_of self.new ≡ record (place_of self.old) { fuel = self.old.budget } }
     {
         self.fuel = self.budget;
     }
 
-    /// The effects since the last taking. Takes no memory.
+    /// The effects since the last taking.
     pub fn take_effects(&mut self) -> Effects
         ensures effects { result ≡ self.old.effects }
         ensures place { place_of self.new ≡ record (place_of self.old) { effects = [] } }
@@ -107,7 +107,7 @@ impl Engine {
         mem::replace(&mut self.effects, Effects::new(self.alloc))
     }
 
-    /// The constants so far; none where it has none. Takes no memory.
+    /// The constants so far; none where it has none.
     pub fn into_constants(self) -> Constants
         ensures { result ≡ unwrap_or self.constants [] }
     {

@@ -122,7 +122,7 @@ impl Engine {
         self.walk_on(base, body, walk, args)
     }
 
-    /// The call for an element, and a frame for those behind it.
+    /// The call for an element, and a frame for those after it.
     fn walk_on(
         &mut self,
         base: &Ground,

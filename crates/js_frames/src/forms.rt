@@ -30,7 +30,7 @@ fn set(alloc: Global, tree: SetTree) -> Result<Step, Memory>
     Ok(give(Value::Set(made)))
 }
 
-/// A statement asks. Takes no memory.
+/// A statement asks.
 fn ask(line: u32, args: &mut Values) -> Step
     ensures { Becomes (λ g s.
         asks g.budget line (argument 0 args.old) (argument 1 args.old) s.replies s) result }
@@ -63,7 +63,7 @@ fn assert_with(line: u32, condition: &Value, text: &Value) -> Result<Step, Memor
     }
 }
 
-/// `Math.floor` of anything but a division. Takes no memory.
+/// `Math.floor` of anything but a division.
 fn floored(line: u32, args: &mut Values) -> Step
     ensures { Becomes (λ g. floors line (argument 0 args.old)) result }
 {

@@ -40,7 +40,7 @@ pub enum Part {
     First(u32),
     /// A node with two parts, for the second.
     Second(u32, Value),
-    /// A node that takes the values of all its parts, for the part behind those that are done.
+    /// A node that takes the values of all its parts, for the part after those that are done.
     Further(u32, Values),
     /// `||`, for its left side.
     Or(u32),

@@ -27,7 +27,7 @@ impl Drop for Ground {
 }
 
 impl Ground {
-    /// The program before its top level has run: without constants. Takes no memory.
+    /// The program before its top level has run: without constants.
     pub fn bare(alloc: Global, program: Program) -> Ground
         ensures { plain_ground result ≡ bare program }
     {
@@ -38,14 +38,14 @@ impl Ground {
         }
     }
 
-    /// The constants are these. Takes no memory.
+    /// The constants are these.
     pub fn fill(&mut self, constants: Constants)
         ensures { plain_ground self.new ≡ record (plain_ground self.old) { constants = constants } }
     {
         self.constants = constants;
     }
 
-    /// The program. Takes no memory.
+    /// The program.
     pub fn program(&self) -> &Program
         ensures { result.now ≡ self.now.program }
     {
@@ -59,14 +59,14 @@ impl Ground {
         self.program.keeps();
     }
 
-    /// The constants. Takes no memory.
+    /// The constants.
     pub fn constants(&self) -> &Constants
         ensures { result.now ≡ self.now.constants }
     {
         &self.constants
     }
 
-    /// The table of the rules, which each operator is lent. Takes no memory.
+    /// The table of the rules, which each operator is lent.
     pub fn rules(&self) -> &Rules
         ensures { result.now ≡ self.now.rules }
     {

@@ -24,7 +24,7 @@ use std::alloc::{AllocError, Global};
 /// Why a machine stops.
 #[derive(Drop)]
 pub enum Pause {
-    /// So many nodes began as were asked for, another must, and there is budget.
+    /// This many nodes began as were asked for, another must, and there is budget.
     More,
     /// At `bp.sync`.
     AtSync,
@@ -165,7 +165,7 @@ impl Machine {
         Ok(pause)
     }
 
-    /// What is asked at `bp.sync`: the statement and the priority. Takes no memory.
+    /// What is asked at `bp.sync`: the statement and the priority.
     pub fn asked(&self) -> (&Value, &Value)
         requires { IsSome (asked_by self.now) }
         ensures { asked_by self.now ≡ Some (plain_value result.0.now, plain_value result.1.now) }
@@ -182,7 +182,7 @@ impl Machine {
         }
     }
 
-    /// The line of the `bp.sync` that asks. Takes no memory.
+    /// The line of the `bp.sync` that asks.
     pub fn line(&self) -> u32
         requires { IsSome (asked_by self.now) }
         ensures { line_asked self.now ≡ Some result }
@@ -199,7 +199,7 @@ impl Machine {
         }
     }
 
-    /// What the body answers, at its end. Takes no memory.
+    /// What the body answers, at its end.
     pub fn answer(&self) -> &Value
         requires { IsSome (answer_by self.now) }
         ensures { answer_by self.now ≡ Some (plain_value result.now) }
@@ -219,7 +219,7 @@ impl Machine {
         }
     }
 
-    /// The event is the value of the `bp.sync`, and the budget is whole again. Takes no memory.
+    /// The event is the value of the `bp.sync`, and the budget is whole again.
     pub fn resume(&mut self, event: Event)
         requires { IsSome (asked_by self.old) }
         ensures program { (program : PlainProgram) →
@@ -234,7 +234,7 @@ impl Machine {
         self.pending = Some(Pending::Resumed(event));
     }
 
-    /// The effects since the last taking, in order. Takes no memory.
+    /// The effects since the last taking, in order.
     pub fn take_effects(&mut self) -> Effects
         ensures program { (program : PlainProgram) →
             IsOfProgram program self.old → IsOfProgram program self.new }
@@ -252,7 +252,7 @@ impl Machine {
         self.engine.take_effects()
     }
 
-    /// The constants, as the top level left them. Takes no memory.
+    /// The constants, as the top level left them.
     pub fn constants(self) -> Constants
         ensures { result ≡ constants_by self }
     {

@@ -7,7 +7,7 @@ ghost use Rattle.js_frames.specs.Fits.{IsNode, AreNodes};
 use crate::ground::Ground;
 use js_program::Node;
 
-/// The node of this number. Takes no memory.
+/// The node of this number.
 #[inline(always)]
 pub fn node_of(base: &Ground, number: u32) -> &Node
     requires { IsNode base.now.program number }

@@ -34,7 +34,7 @@ use js_value::{Items, Make, Op, Value};
 use std::alloc::Global;
 use std::sync::Arc;
 
-/// The part at a place of a node with any number of parts. Takes no memory.
+/// The part at a place of a node with any number of parts.
 fn part_at(form: &NodeForm, place: usize) -> Option<u32>
     requires { IsLong (plain_node_form form.now) }
     ensures { result ≡ slice_get (parts_of (plain_node_form form.now)) place }
@@ -88,7 +88,7 @@ fn by_rule(
     }
 }
 
-/// Whether a method's word is that of `forEach`. Takes no memory.
+/// Whether a method's word is that of `forEach`.
 fn is_for_each(word: &Text) -> bool
     ensures { result ≡ bytes_eq word.now (codes "forEach") }
 {
@@ -143,7 +143,7 @@ impl Engine {
         self.go_on_parts(base, number, none)
     }
 
-    /// The same, of a node whose value holds those of its parts: so many have room in it.
+    /// The same, of a node whose value holds those of its parts: this many have room in it.
     pub fn begin_making(&mut self, base: &Ground, number: u32, count: usize) -> Result<Step, Memory>
         requires number { IsNode base.now.program number }
         requires form { HasForm IsLong base.now.program number }

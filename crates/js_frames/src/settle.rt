@@ -55,7 +55,7 @@ impl Engine {
         Ok(Step::Give(current))
     }
 
-    /// Goes on until so many nodes have begun and another must, or until something else stops it.
+    /// Goes on until this many nodes have begun and another must, or until something else stops it.
     pub fn advance(&mut self, base: &Ground, step: Step, nodes: u64) -> Result<Step, Memory>
         requires step { StepFits base.now.program step }
         requires fits { StackFits base.now.program self.old.stack.items }

@@ -44,7 +44,7 @@ impl Model for Slots {
 }
 
 impl Slots {
-    /// No variables. Takes no memory.
+    /// No variables.
     pub fn new(alloc: Global) -> Slots
         ensures { result ≡ [] }
     {
@@ -53,7 +53,7 @@ impl Slots {
         }
     }
 
-    /// No variables, with room for so many.
+    /// No variables, with room for this many.
     fn with_capacity(alloc: Global, count: usize) -> Result<Slots, Memory>
         ensures { IfOk result (λ slots. slots ≡ []) }
     {
@@ -61,14 +61,14 @@ impl Slots {
         Ok(Slots { items })
     }
 
-    /// How many there are. Takes no memory.
+    /// How many there are.
     pub fn len(&self) -> usize
         ensures { result ≡ length self.now }
     {
         self.items.len()
     }
 
-    /// The value of a variable, if it is declared. Takes no memory.
+    /// The value of a variable, if it is declared.
     #[inline(always)]
     pub fn get(&self, number: u32) -> Option<&Value>
         ensures { option_map (λ v. plain_value v.now) result ≡ in_slot number self.now }
@@ -90,7 +90,7 @@ impl Slots {
         }
     }
 
-    /// Sets a variable, if there is one of this number. Takes no memory.
+    /// Sets a variable, if there is one of this number.
     #[inline(always)]
     pub fn set(&mut self, number: u32, value: Option<Value>)
         ensures { self.new ≡ slice_set self.old number (option_map plain_value value) }
@@ -101,7 +101,7 @@ impl Slots {
         }
     }
 
-    /// Sets a variable, and gives what it was. Takes no memory.
+    /// Sets a variable, and gives what it was.
     #[inline(always)]
     fn put_in(&mut self, place: usize, value: Option<Value>) -> Option<Value>
         requires { place < length self.old }
@@ -118,7 +118,7 @@ impl Slots {
         Ok(())
     }
 
-    /// The variables with these numbers are not declared. Takes no memory.
+    /// The variables with these numbers are not declared.
     pub fn undeclare(&mut self, numbers: &[u32])
         ensures { self.new ≡ fold (λ slots k. slice_set slots k None) self.old numbers.now }
     {
@@ -127,7 +127,7 @@ impl Slots {
         }
     }
 
-    /// The variables with these numbers are undefined. Takes no memory.
+    /// The variables with these numbers are undefined.
     fn unset(&mut self, numbers: &[u32])
         ensures { self.new
             ≡ fold (λ slots k. slice_set slots k (Some undefined)) self.old numbers.now }
@@ -137,7 +137,7 @@ impl Slots {
         }
     }
 
-    /// Moves values behind those that are there.
+    /// Moves values after those that are there.
     fn push_all(&mut self, values: &mut Values) -> Result<(), Memory>
         ensures { OnOk result (self.new ≡ self.old ++ map Some values.old) }
     {
@@ -148,7 +148,7 @@ impl Slots {
         Ok(())
     }
 
-    /// Copies values behind those that are there.
+    /// Copies values after those that are there.
     fn push_copies(&mut self, values: &[Value]) -> Result<(), Memory>
         ensures { OnOk result (self.new ≡ self.old ++ map Some (map plain_value values.now)) }
     {
@@ -159,7 +159,7 @@ impl Slots {
         Ok(())
     }
 
-    /// Variables that are not declared, up to so many.
+    /// Variables that are not declared, up to this many.
     fn fill(&mut self, count: usize) -> Result<(), Memory>
         ensures { OnOk result (self.new ≡ self.old ++ replicate (count - length self.old) None) }
     {

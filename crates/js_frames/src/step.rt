@@ -35,7 +35,7 @@ pub enum Step {
     Violate(Text),
 }
 
-/// A value is given. Takes no memory.
+/// A value is given.
 #[inline(always)]
 pub fn give(value: Value) -> Step
     ensures { result ≡ Step.Give (Completion.Normal value) }
@@ -43,7 +43,7 @@ pub fn give(value: Value) -> Step
     Step::Give(Completion::Normal(value))
 }
 
-/// A statement completes. Takes no memory.
+/// A statement completes.
 #[inline(always)]
 pub fn leave() -> Step
     ensures { result ≡ Step.Give (Completion.Normal Value.Undefined) }
@@ -51,7 +51,7 @@ pub fn leave() -> Step
     give(Value::Undefined)
 }
 
-/// A value of the wrong kind. Takes no memory.
+/// A value of the wrong kind.
 #[inline(never)]
 pub fn mistyped(line: u32) -> Step
     ensures { result ≡ Step.Fail fault.Mistyped line }

@@ -38,7 +38,7 @@ impl Model for Values {
 }
 
 impl Values {
-    /// No values. Takes no memory.
+    /// No values.
     pub fn new(alloc: Global) -> Values
         ensures { result ≡ [] }
     {
@@ -47,7 +47,7 @@ impl Values {
         }
     }
 
-    /// No values, with room for so many.
+    /// No values, with room for this many.
     pub fn with_capacity(alloc: Global, count: usize) -> Result<Values, Memory>
         ensures { IfOk result (λ values. values ≡ []) }
     {
@@ -55,21 +55,21 @@ impl Values {
         Ok(Values { items })
     }
 
-    /// How many there are. Takes no memory.
+    /// How many there are.
     pub fn len(&self) -> usize
         ensures { result ≡ length self.now }
     {
         self.items.len()
     }
 
-    /// The values, in order. Takes no memory.
+    /// The values, in order.
     pub fn as_slice(&self) -> &[Value]
         ensures { map plain_value result.now ≡ self.now }
     {
         self.items.as_slice()
     }
 
-    /// The values, given back. Takes no memory.
+    /// The values, given back.
     pub fn into_vec(self) -> Vec<Value>
         ensures { map plain_value result.items ≡ self }
     {
@@ -85,7 +85,7 @@ impl Values {
         Ok(())
     }
 
-    /// The value at a place, with undefined left in its place. Takes no memory.
+    /// The value at a place, with undefined left in its place.
     pub fn put_out(&mut self, place: usize) -> Value
         requires { place < length self.old }
         ensures value { Some (plain_value result) ≡ slice_get self.old place }
@@ -94,7 +94,7 @@ impl Values {
         mem::replace(&mut self.items[place], Value::Undefined)
     }
 
-    /// The value at a place, or undefined; it and those behind it are dropped. Takes no memory.
+    /// The value at a place, or undefined; it and those after it are dropped.
     pub fn take(&mut self, place: usize) -> Value
         ensures value { plain_value result ≡ argument place self.old }
         ensures rest { self.new ≡ take place self.old }
@@ -107,7 +107,7 @@ impl Values {
         value
     }
 
-    /// The first value, or undefined; the others stay. Takes no memory.
+    /// The first value, or undefined; the others stay.
     pub fn take_first(&mut self) -> Value
         ensures value { plain_value result ≡ argument 0 self.old }
         ensures rest { self.new ≡ drop 1 self.old }
@@ -118,7 +118,7 @@ impl Values {
         self.items.remove(0)
     }
 
-    /// At most so many values: further ones are dropped. Takes no memory.
+    /// At most this many values: further ones are dropped.
     pub fn cut(&mut self, count: usize)
         ensures { self.new ≡ take count self.old }
     {
@@ -137,7 +137,7 @@ impl Values {
     }
 }
 
-/// The number at a place of a list. Takes no memory.
+/// The number at a place of a list.
 #[inline(always)]
 pub fn number_at(numbers: &[u32], place: usize) -> Option<u32>
     ensures value { result ≡ slice_get numbers.now place }
@@ -146,7 +146,7 @@ pub fn number_at(numbers: &[u32], place: usize) -> Option<u32>
     numbers.get(place).copied()
 }
 
-/// The value at a place of a list. Takes no memory.
+/// The value at a place of a list.
 pub fn item_at(items: &Items, place: usize) -> Option<&Value>
     ensures value { option_map (λ v. plain_value v.now) result
         ≡ slice_get (values_in items.now) place }

@@ -33,7 +33,7 @@ abbrev pub ends_return : List Token → Bool
 ends_return [] = true
 ends_return (t ∷ ts) = t.new_line || is Sort.Semicolon t || is Sort.RightBrace t
 
--- a statement that is no expression begins with this, or no statement at all
+-- a statement that is not an expression begins with this, or no statement at all
 abbrev pub begins_other : Sort → Bool
 begins_other Sort.Semicolon = true
 begins_other Sort.LeftBrace = true

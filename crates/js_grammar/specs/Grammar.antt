@@ -51,7 +51,7 @@ pub data Opening : List Token → List Name → List Token → Type 0 where
   opening : {t u : Token} {ts rest : List Token} {xs : List Name} →
       sort t ≡ LeftParen → Params ts xs (u ∷ rest) → sort u ≡ LeftBrace → Opening (t ∷ ts) xs rest
 
--- `;`, or its absence behind what ends so
+-- `;`, or its absence after what ends so
 pub data End : Ending → List Token → List Token → Type 0 where
   end_mark : {ends : Ending} {t : Token} {rest : List Token} → sort t ≡ Semicolon →
       End ends (t ∷ rest) rest
@@ -126,7 +126,7 @@ mutual
         Statements ms ss (v ∷ rest) → sort v ≡ RightBrace →
         Spells Assignment (t ∷ ts) (at 0 t.line (p.arrow_block (spot t) xs (stmts_of ss))) rest
 
-  -- a primary, and so many of `.word`, `[ expression ]` and `( arguments )`
+  -- a primary, and this many of `.word`, `[ expression ]` and `( arguments )`
   pub data Called : List Token → PlainExpr → List Token → Type 0 where
     called_first : {ts rest : List Token} {e : PlainExpr} → Spells Primary ts e rest → Called ts e rest
     called_member : {t u : Token} {ts rest : List Token} {e : PlainExpr} {x : List ℕ} →

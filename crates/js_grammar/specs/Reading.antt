@@ -30,12 +30,12 @@ abbrev pub tail : List Token → List Token
 tail [] = []
 tail (t ∷ ts) = ts
 
--- goes on behind a token of the sort
+-- goes on after a token of the sort
 abbrev pub after : {B : Type 0} → Sort → List Token → (List Token → Option B) → Option B
 after k [] f = None
 after k (t ∷ ts) f = if is k t then f ts else None
 
--- goes on behind a token that holds something, as a name
+-- goes on after a token that holds something, as a name
 abbrev pub after_some : {A B : Type 0} → (Token → Option A) → List Token →
     (A → List Token → Option B) → Option B
 after_some g [] f = None
@@ -54,7 +54,7 @@ next_turn go None = None
 next_turn go (Some (again s ts)) = go s ts
 next_turn go (Some (done s ts)) = Some (s, ts)
 
--- at most so many turns
+-- at most this many turns
 unfoldable pub turns : {S : Type 0} → (S → List Token → Option (Turn S)) → ℕ → S → List Token → Found S
 turns step zero s ts = None
 turns step (suc n) s ts = next_turn (turns step n) (step s ts)
@@ -113,7 +113,7 @@ words_at t ts = if_some (quoted t) (λ x. Some (at 0 t.line (p.words x), ts))
 abbrev pub use_at : Token → List Token → Found PlainExpr
 use_at t ts = if_some (named t) (λ x. Some (at 0 t.line (p.use_of x), ts))
 
--- `++` or `--` behind a name
+-- `++` or `--` after a name
 abbrev pub postfix_at : Token → List Token → Found PlainExpr
 postfix_at t ts =
     if_some (named t) (λ x. after_some step ts (λ s r. Some (at 0 t.line (p.update s After x), r)))

@@ -16,7 +16,7 @@ sort t = kind_sort t.kind
 abbrev pub spot : Token → Spot
 spot t = record { at = t.from; line = t.line }
 
--- what a token holds: a name, a number, the content of a text literal; a word of any kind behind a dot; a
+-- what a token holds: a name, a number, the content of a text literal; a word of any kind after a dot; a
 -- key before a colon
 
 abbrev pub kind_name : Kind → Option (List ℕ)

@@ -67,7 +67,7 @@ module _ (room : ℕ) (inner : Readers) where
       (λ next m. after RightParen m (λ ls. and_then (body_at ls) (λ s z.
       Some (on line (p.for_three first e next s), z))))))))
 
-  -- behind `of`
+  -- after `of`
   abbrev pub of_at : ℕ → DeclareKind → Name → List Token → Found PlainStmt
   of_at line k x ts = and_then (inner.expr Assignment ts)
       (λ e r. after RightParen r
@@ -109,7 +109,7 @@ module _ (room : ℕ) (inner : Readers) where
   statement [] = None
   statement (t ∷ ts) = statement_at (sort t) t ts
 
-  -- a function declaration, behind its word; its statements are the parts
+  -- a function declaration, after its word; its statements are the parts
   abbrev pub item_function_at : Token → List Token → Found PlainItem
   item_function_at t ts =
       after_some named ts (λ x r. and_then (opening r)

@@ -23,7 +23,7 @@ abbrev pub end_or_none : Option Token → ℕ
 end_or_none None = 0
 end_or_none (Some t) = t.to
 
--- the place behind the last token before the rest
+-- the place after the last token before the rest
 abbrev pub end_before : List Token → List Token → ℕ
 end_before ts rest = end_or_none (slice_get ts (length ts - length rest - 1))
 

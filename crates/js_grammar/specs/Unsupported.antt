@@ -11,7 +11,7 @@ use Rattle.js_grammar.specs.Tokens.{starts}
 abbrev pub is_prototype : List ℕ → Bool → Bool
 is_prototype text colon = colon && bytes_eq text (codes "__proto__")
 
--- by whether the sort is refused, and whether a colon stands directly behind: a refused word may be a key
+-- by whether the sort is refused, and whether a colon stands directly after: a refused word may be a key
 -- there, a mark may not
 abbrev pub is_refused : Kind → Bool → Bool → Bool
 is_refused (Kind.Name text) unsupported colon = is_prototype text colon
@@ -20,7 +20,7 @@ is_refused (Kind.Word text) unsupported colon = unsupported && not colon
 is_refused (Kind.Mark text) unsupported colon = unsupported
 is_refused (Kind.Number n) unsupported colon = false
 
--- the line of the first refused token; directly behind a dot none is refused
+-- the line of the first refused token; directly after a dot none is refused
 abbrev pub first_unsupported : Bool → List Token → Option ℕ
 first_unsupported dot [] = None
 first_unsupported dot (t ∷ ts) =

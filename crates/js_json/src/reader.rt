@@ -16,7 +16,7 @@ pub enum EventError {
     /// The bytes are not the text of an event within the limits.
     #[error("not the text of an event")]
     NotEvent,
-    /// Want of memory.
+    /// Out of memory.
     #[error("out of memory")]
     Memory,
 }
@@ -38,7 +38,7 @@ impl From<AllocError> for EventError {
 /// # Errors
 ///
 /// `NotEvent` exactly where the bytes are not the text of an event within the limits of weight and
-/// nesting, apart from want of memory.
+/// nesting, apart from lack of memory.
 pub fn event_of(alloc: Global, bytes: &[u8]) -> Result<Event, EventError>
     ensures event { IfOk result (λ e. event_at bytes.now ≡ Some e) }
     ensures not_event { result ≡ Err EventError.NotEvent → event_at bytes.now ≡ None }

@@ -50,7 +50,7 @@ fn json_of_fields(alloc: Global, fields: &Vec<(Text, Data)>) -> Result<Map<Strin
     Ok(made)
 }
 
-/// The text of the data as compact JSON (RFC 8259), keys sorted. Its only error is want of memory.
+/// The text of the data as compact JSON (RFC 8259), keys sorted.
 pub fn data_text(alloc: Global, tree: &Data) -> Result<Text, Memory>
     requires { IsSortedData (plain_data tree.now) }
     ensures { IfOk result (λ t. t ≡ text_of_data (plain_data tree.now)) }
@@ -72,7 +72,7 @@ fn json_of_event(alloc: Global, event: &Event) -> Result<Json, Memory>
 
 /// The text of the event: `["name"]` or `["name",data]` as compact JSON (RFC 8259), keys sorted.
 ///
-/// The event at this text is the event again. Its only error is want of memory.
+/// The event at this text is the event again.
 pub fn event_text(alloc: Global, event: &Event) -> Result<Text, Memory>
     ensures text { IfOk result (λ t. t ≡ text_of_event event.now) }
     ensures reads_back { IfOk result (λ t. event_at t ≡ Some event.now) }
@@ -83,8 +83,6 @@ pub fn event_text(alloc: Global, event: &Event) -> Result<Text, Memory>
 }
 
 /// The text as a JSON text (RFC 8259, section 7), in quotation marks and with its escapes.
-///
-/// Its only error is want of memory.
 pub fn quoted(alloc: Global, text: &Text) -> Result<Text, Memory>
     ensures { IfOk result (λ t. t ≡ quoted_text text.now) }
 {

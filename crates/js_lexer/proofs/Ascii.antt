@@ -1,4 +1,4 @@
--- Names and marks are ASCII; a character begins behind a quote.
+-- Names and marks are ASCII; a character begins after a quote.
 use Rattle.std.proofs.Common.{◌≡◌, ℕ, zero, suc, ◌+◌, ◌<◌, nat_lt, Bool, true, false, ◌&&◌, List, [], ◌∷◌, Some, if◌then◌else◌, length, get_or, take, drop, refl, arith}
 use Rattle.std.specs.Str.{IsUtf8, IsCharBoundary}
 use Rattle.std.proofs.lemmas.Str.{IsUtf8-from_ascii, IsCharBoundary-after_ascii}

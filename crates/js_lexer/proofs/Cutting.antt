@@ -120,7 +120,7 @@ decided (suc k) bytes first place l =
 pub cut_or_refused : (bytes : List ℕ) → CutOrRefused bytes
 cut_or_refused bytes = decided (suc (length bytes)) bytes true 0 (omega arith)
 
--- tokens of what is left make, behind those of before, tokens of the whole; and its refusal is the refusal of the whole
+-- tokens of what is left make, after those of before, tokens of the whole; and its refusal is the refusal of the whole
 pub record SoFar (bytes : List ℕ) (first : Bool) (place : ℕ) (before : List Token) : Type 0 where
   pub cuts : (ts : List Token) → CutFrom bytes first place ts → Cut bytes (before ++ ts)
   pub refuses : (f : Flaw) (at : ℕ) → RefusedFrom bytes place f at → Refused bytes f at

@@ -9,7 +9,7 @@ use Rattle.js_lexer.specs.Bytes.{begins}
 use Rattle.js_lexer.specs.Numbers.{digit_value, is_digit_of, digits_size, digits_value}
 use Rattle.js_lexer.specs.Literals.{Escape, two_digits, four_digits, joined, is_high, is_low, paired, character, byte_escape, low_escape, second_half, unit_escape, braced_escape, unicode_escape, zero_escape, plain_escape, letter, letter_or, escape}
 
--- so many bytes stand there, and the last of them is ASCII
+-- this many bytes stand there, and the last of them is ASCII
 pub record Ends (n : ℕ) (bs : List ℕ) : Type 0 where
   pub fits : n ≤ length bs
   pub ascii : 0 < n → get_or bs (n - 1) 0 < 128
@@ -72,7 +72,7 @@ byte-ends x (a ∷ (b ∷ bs)) (Some n) h =
     let t = two-digits (a ∷ (b ∷ bs)) n h in
     character-ends (x ∷ (a ∷ (b ∷ bs))) 3 n (record { fits = omega arith; ascii = λ _. t.second })
 
--- behind four bytes of five, a backslash and a letter
+-- after four bytes of five, a backslash and a letter
 second_ends : (u a b c d : ℕ) (bs : List ℕ) (high : ℕ) → EscapeEnds (u ∷ (a ∷ (b ∷ (c ∷ (d ∷ bs))))) (second_half high bs)
 second_ends u a b c d [] high = tt
 second_ends u a b c d (x ∷ []) high = if-ends _ (begins (x ∷ []) (92 ∷ (117 ∷ []))) _ None (λ _. tt) (λ _. tt)
@@ -97,7 +97,7 @@ unit-ends u (a ∷ (b ∷ (c ∷ (d ∷ bs)))) (Some n) h =
     if-ends _ (is_high n) (second_half n bs) (character 5 n) (λ _. second_ends u a b c d bs n)
     (λ _. character-ends _ 5 n (record { fits = omega (arith, f.room); ascii = λ _. f.last }))
 
--- a byte that stands behind so many
+-- a byte that stands after this many
 begins_at : (b n : ℕ) (bs : List ℕ) → begins (drop n bs) (b ∷ []) ≡ true → (n < length bs) × (get_or bs n 0 ≡ b)
 begins_at b zero [] h = cc
 begins_at b zero (x ∷ bs) h = (omega arith, grind (arith, nat_tests))
@@ -160,7 +160,7 @@ last_small : (n : ℕ) (bs : List ℕ) → Ends n bs → get_or (92 ∷ bs) n 0 
 last_small zero bs h = omega arith
 last_small (suc n) bs h = let e : suc n - 1 ≡ n = omega arith in rw e at (h.ascii (omega arith))
 
--- where a character begins behind a backslash and an escape
+-- where a character begins after a backslash and an escape
 pub escape_boundary : (rest bs : List ℕ) (e : Escape) → IsUtf8 rest → rest ≡ 92 ∷ bs → escape bs ≡ Some e → IsCharBoundary rest (1 + e.0)
 escape_boundary rest bs e u r h =
     let ends = escape-ends bs e h in

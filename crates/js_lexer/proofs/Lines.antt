@@ -14,7 +14,7 @@ line_ends_none zero rest h = refl
 line_ends_none (suc n) [] h = refl
 line_ends_none (suc n) (b ∷ rest) h = absurd (omega arith)
 
--- the lines of a front and of what is behind it
+-- the lines of a front and of what is after it
 pub line_ends_add : (m n : ℕ) (bs : List ℕ) → line_ends (m + n) bs ≡ line_ends m bs + line_ends n (drop m bs)
 line_ends_add zero n bs = grind arith
 line_ends_add (suc m) n [] = grind (arith, line_ends_none (suc m + n) [] refl, line_ends_none n [] refl)
@@ -25,7 +25,7 @@ line_ends_add (suc m) n (b ∷ bs) =
 pub size_of_line_step : (b : ℕ) (rest bs : List ℕ) → rest ≡ b ∷ bs → line_end_size rest ≡ 0 → size_of_line rest ≡ suc (size_of_line bs)
 size_of_line_step b rest bs e h = ap size_of_line e ∙ if_true _ _ _ (ap (λ n. nat_eq n 0) (ap line_end_size (sym e) ∙ h))
 
--- so many bytes further on
+-- this many bytes further on
 abbrev pub further : ℕ → Option ℕ → Option ℕ
 further n o = option_map (λ m. n + m) o
 

@@ -19,7 +19,7 @@ behind-behind a b m n (closed content k) = rw (append_assoc, add_assoc) refl
 behind-behind a b m n unclosed = refl
 behind-behind a b m n (wrong k) = rw add_assoc refl
 
--- behind so many bytes that were read
+-- after this many bytes that were read
 pub literal-skip : (quote n : ℕ) (bs : List ℕ) → n ≤ length bs → literal quote n bs ≡ behind [] n (literal quote 0 (drop n bs))
 literal-skip quote zero bs h = sym (behind-none (literal quote 0 bs))
 literal-skip quote (suc n) [] h = absurd (omega arith)
@@ -27,7 +27,7 @@ literal-skip quote (suc n) (b ∷ bs) h =
     let k : 1 + n ≡ suc n = omega arith in
     ap (behind [] 1) (literal-skip quote n bs (omega arith)) ∙ (behind-behind [] [] 1 n _ ∙ rw k refl)
 
--- behind a run of bytes that stand for themselves
+-- after a run of bytes that stand for themselves
 stop : (quote n : ℕ) (bs : List ℕ) → n ≡ 0 → literal quote 0 bs ≡ behind (take n bs) n (literal quote 0 (drop n bs))
 stop quote n bs h = rw h (sym (behind-none (literal quote 0 bs)))
 

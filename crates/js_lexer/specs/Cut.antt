@@ -32,7 +32,7 @@ pub data CutFrom (bytes : List ℕ) : Bool → ℕ → List Token → Type 0 whe
 abbrev pub Cut : List ℕ → List Token → Type 0
 Cut bytes tokens = CutFrom bytes true 0 tokens
 
--- from a place on, the first place that is no token, with what is wrong there
+-- from a place on, the first place that is not a token, with what is wrong there
 pub data RefusedFrom (bytes : List ℕ) : ℕ → Flaw → ℕ → Type 0 where
   refused_here : {place n : ℕ} {flaw : Flaw} → front (drop place bytes) ≡ refused flaw n →
       RefusedFrom bytes place flaw (place + n)

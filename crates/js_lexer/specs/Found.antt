@@ -10,7 +10,7 @@ use Rattle.js_lexer.specs.Sorts.{kind_sort}
 use Rattle.js_lexer.specs.Literals.{behind, literal}
 use Rattle.js_lexer.specs.Front.{Piece, gap, token, refused, quoted}
 
--- what stands there, a token with its sort, or its refusal, or want of memory
+-- what stands there, a token with its sort, or its refusal, or out of memory
 abbrev pub IsFound : Piece → Result Found Stop → Type 0
 IsFound piece (Ok (Gap n)) = piece ≡ gap n
 IsFound piece (Ok (Token kind sort n)) = record {
@@ -33,7 +33,7 @@ abbrev pub stuck : ℕ → List ℕ → Piece
 stuck size [] = refused OpenText 0
 stuck size (b ∷ bs) = refused Escape (1 + size)
 
--- the content behind so many bytes, after a step
+-- the content after this many bytes, after a step
 abbrev pub IsRead : ℕ → List ℕ → List ℕ → List ℕ → ℕ → Result ℕ Stop → Type 0
 IsRead quote rest before after size (Ok n) = Read quote rest before after n
 IsRead quote rest before after size (Err (Refused flaw n)) =

@@ -14,7 +14,7 @@ use Rattle.js_lexer.specs.Numbers.{base_of, number_size, number_value, is_unsupp
 use Rattle.js_lexer.specs.Literals.{Literal, closed, unclosed, wrong, literal}
 
 -- nothing; white space, a line end or a comment of so many bytes; a token of so many bytes; or a refusal
--- so many bytes on
+-- this many bytes on
 pub data Piece : Type 0 where
   nothing : Piece
   gap : ℕ → Piece
@@ -62,7 +62,7 @@ abbrev pub is_dot_digit : ℕ → List ℕ → Bool
 is_dot_digit b [] = false
 is_dot_digit b (d ∷ bs) = nat_eq b dot && is_digit d
 
--- a gap of so many bytes, where there are any
+-- a gap of this many bytes, where there are any
 abbrev pub gap_or : ℕ → Piece → Piece
 gap_or zero other = other
 gap_or (suc n) other = gap (suc n)

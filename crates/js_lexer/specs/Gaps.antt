@@ -30,7 +30,7 @@ ends_line bs =
     || (begins bs (carriage_return ∷ []) && not (begins bs (carriage_return ∷ (line_feed ∷ []))))
     || begins_separator bs
 
--- how many lines end in so many bytes
+-- how many lines end in this many bytes
 abbrev pub line_ends : ℕ → List ℕ → ℕ
 line_ends zero bs = 0
 line_ends (suc n) [] = 0

@@ -38,7 +38,7 @@ IsSpelled (Mark text) bytes = text ≡ bytes
 IsSpelled (Number number) bytes = ⊤
 IsSpelled (Words text) bytes = ⊤
 
--- a token stands behind a place, with at least one byte, in the text, at its line
+-- a token stands after a place, with at least one byte, in the text, at its line
 pub record IsPlaced (bytes : List ℕ) (behind : ℕ) (t : Token) : Type 0 where
   pub order : behind ≤ t.from
   pub some : t.from < t.to
@@ -46,7 +46,7 @@ pub record IsPlaced (bytes : List ℕ) (behind : ℕ) (t : Token) : Type 0 where
   pub line : t.line ≡ line_of bytes t.from
   pub spelled : IsSpelled t.kind (take (t.to - t.from) (drop t.from bytes))
 
--- each token stands behind the one before it
+-- each token stands after the one before it
 abbrev pub ArePlaced : List ℕ → ℕ → List Token → Type 0
 ArePlaced bytes behind [] = ⊤
 ArePlaced bytes behind (t ∷ tokens) = IsPlaced bytes behind t × ArePlaced bytes t.to tokens
@@ -54,7 +54,7 @@ ArePlaced bytes behind (t ∷ tokens) = IsPlaced bytes behind t × ArePlaced byt
 abbrev pub TokensInOrder : List ℕ → Type 0
 TokensInOrder bytes = (tokens : List Token) → Cut bytes tokens → ArePlaced bytes 0 tokens
 
--- the entries with which the text begins have at most so many bytes
+-- the entries with which the text begins have at most this many bytes
 abbrev pub none_longer : ℕ → List (List ℕ × ℕ) → List ℕ → Bool
 none_longer n [] bytes = true
 none_longer n (e ∷ es) bytes = (not (begins bytes e.0) || nat_le (length e.0) n) &&

@@ -16,7 +16,7 @@ fault_of flaw.NumberRange place = NumberRange place
 fault_of flaw.Unsupported place = Unsupported place
 
 -- bytes that are no UTF-8 are refused at the first byte that is no part of it; a text is refused at the
--- first place that is no token
+-- first place that is not a token
 abbrev pub IsRefusal : List ℕ → LexFault → Type 0
 IsRefusal bytes (Character place) = IsUtf8 bytes × Refused bytes flaw.Character place
 IsRefusal bytes (OpenText place) = IsUtf8 bytes × Refused bytes flaw.OpenText place

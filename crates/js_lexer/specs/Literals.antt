@@ -32,21 +32,21 @@ is_low n = nat_le 0xDC00 n && nat_lt n 0xE000
 abbrev pub paired : ℕ → ℕ → ℕ
 paired high low = 0x1_0000 + 0x400 * (high - 0xD800) + (low - 0xDC00)
 
--- what an escape is: how many bytes of it stand behind the backslash, and its character;
+-- what an escape is: how many bytes of it stand after the backslash, and its character;
 -- without a character it is nothing but the backslash, and what follows is read as it stands
 abbrev pub Escape : Type 0
 Escape = ℕ × Option ℕ
 
--- a character of so many bytes; no surrogate, and none above 10FFFF
+-- a character of this many bytes; no surrogate, and none above 10FFFF
 abbrev pub character : ℕ → ℕ → Option Escape
 character size n = if is_high n || is_low n || nat_lt 0x10_FFFF n then None else Some (size, Some n)
 
--- behind x: two digits
+-- after x: two digits
 abbrev pub byte_escape : Option ℕ → Option Escape
 byte_escape None = None
 byte_escape (Some n) = character 3 n
 
--- behind the digits of a high surrogate: \u and the digits of a low one
+-- after the digits of a high surrogate: \u and the digits of a low one
 abbrev pub low_escape : ℕ → Option ℕ → Option Escape
 low_escape high None = None
 low_escape high (Some low) = if is_low low then character 11 (paired high low) else None
@@ -55,24 +55,24 @@ abbrev pub second_half : ℕ → List ℕ → Option Escape
 second_half high bs = if begins bs (backslash ∷ (small_u ∷ []))
     then low_escape high (four_digits (drop 2 bs)) else None
 
--- behind u: four digits
+-- after u: four digits
 abbrev pub unit_escape : List ℕ → Option ℕ → Option Escape
 unit_escape bs None = None
 unit_escape bs (Some n) = if is_high n then second_half n (drop 4 bs) else character 5 n
 
--- behind u{ : at least one digit, and }
+-- after u{ : at least one digit, and }
 abbrev pub braced_escape : List ℕ → Option Escape
 braced_escape bs =
     if nat_lt 0 (digits_size 16 bs) && begins (drop (digits_size 16 bs) bs) (close_brace ∷ [])
     then character (3 + digits_size 16 bs) (digits_value 16 0 bs)
     else None
 
--- behind u
+-- after u
 abbrev pub unicode_escape : List ℕ → Option Escape
 unicode_escape bs = if begins bs (open_brace ∷ []) then braced_escape (drop 1 bs)
     else unit_escape bs (four_digits bs)
 
--- behind 0: no digit
+-- after 0: no digit
 abbrev pub zero_escape : List ℕ → Option Escape
 zero_escape [] = Some (1, Some 0)
 zero_escape (b ∷ bs) = if is_digit b then None else Some (1, Some 0)
@@ -97,7 +97,7 @@ abbrev pub letter_or : Option ℕ → Option Escape → Option Escape
 letter_or None other = other
 letter_or (Some c) other = Some (1, Some c)
 
--- behind a backslash
+-- after a backslash
 abbrev pub escape : List ℕ → Option Escape
 escape [] = None
 escape (b ∷ bs) =
@@ -112,7 +112,7 @@ plain_size quote [] = 0
 plain_size quote (b ∷ bs) = if nat_eq b quote then 0
     else (if is_break b then 0 else (if nat_eq b backslash then 0 else suc (plain_size quote bs)))
 
--- a literal from behind its quote on: its content, and how many bytes it has with the other quote; without
+-- a literal from after its quote on: its content, and how many bytes it has with the other quote; without
 -- that quote; or how many bytes
 -- stand before the backslash of a wrong escape
 pub data Literal : Type 0 where
@@ -120,7 +120,7 @@ pub data Literal : Type 0 where
   unclosed : Literal
   wrong : ℕ → Literal
 
--- the literal behind so many bytes that stand for this content
+-- the literal after this many bytes that stand for this content
 abbrev pub behind : List ℕ → ℕ → Literal → Literal
 behind before size (closed content n) = closed (before ++ content) (size + n)
 behind before size unclosed = unclosed
@@ -131,7 +131,7 @@ abbrev pub spelled : Option ℕ → List ℕ
 spelled None = []
 spelled (Some c) = encode_utf8 c
 
--- behind a backslash: what follows decides
+-- after a backslash: what follows decides
 abbrev pub if_escape : List ℕ → Option Escape → (Escape → Literal) → Literal
 if_escape [] e f = unclosed
 if_escape (b ∷ bs) None f = wrong 0

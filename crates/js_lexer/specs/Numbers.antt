@@ -19,7 +19,7 @@ abbrev pub digits_size : ℕ → List ℕ → ℕ
 digits_size base [] = 0
 digits_size base (b ∷ bs) = if is_digit_of base b then suc (digits_size base bs) else 0
 
--- the number that they are, behind digits that are `value`
+-- the number that they are, after digits that are `value`
 abbrev pub digits_value : ℕ → ℕ → List ℕ → ℕ
 digits_value base value [] = value
 digits_value base value (b ∷ bs) =
@@ -55,7 +55,7 @@ abbrev pub number_value : List ℕ → ℕ
 number_value bs = if nat_eq (base_of bs) 10 then decimal_value bs
     else digits_value (base_of bs) 0 (drop 2 bs)
 
--- what makes a number directly before it unsupported: . _ n, and behind a decimal one e E and digits
+-- what makes a number directly before it unsupported: . _ n, and after a decimal one e E and digits
 abbrev pub is_unsupported_end : ℕ → ℕ → Bool
 is_unsupported_end base b =
     nat_eq b dot || nat_eq b underscore || nat_eq b small_n

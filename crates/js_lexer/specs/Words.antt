@@ -52,7 +52,7 @@ unsupported_marks =
 abbrev pub all_words : List (List ℕ × ℕ)
 all_words = words ++ unsupported_words
 
--- those of so many bytes
+-- those of this many bytes
 abbrev pub of_size : ℕ → List (List ℕ × ℕ) → List (List ℕ × ℕ)
 of_size n entries = filter (λ e. nat_eq (length e.0) n) entries
 

@@ -33,8 +33,8 @@ pub fn fault_at(flaw: Flaw, place: usize) -> LexFault
 ///
 /// # Errors
 ///
-/// `Utf8` exactly where the bytes are no UTF-8. Each other refusal, apart from want of memory, exactly
-/// where the first place that is no token is refused so.
+/// `Utf8` exactly where the bytes are not UTF-8. Each other refusal, apart from lack of memory, exactly
+/// where the first place that is not a token is refused so.
 pub fn lex(alloc: Global, bytes: &[u8]) -> Result<Vec<Token>, LexFault>
     requires { length bytes.now ≤ MOST_BYTES }
     ensures utf8 { IfOk result (λ _. IsUtf8 bytes.now) }

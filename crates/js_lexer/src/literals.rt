@@ -176,7 +176,7 @@ fn letter_of(b: u8) -> Option<char>
     }
 }
 
-/// The escape behind a backslash: how many bytes it has, and its character.
+/// The escape after a backslash: how many bytes it has, and its character.
 pub fn escape_front(bytes: &[u8]) -> Option<Escape>
     ensures { result ≡ escape bytes.now }
 {
@@ -256,7 +256,7 @@ fn escape_into(content: &mut String, quote: u8, rest: &str, size: usize) -> Resu
     Ok(1 + skipped)
 }
 
-/// The text literal from behind its quote: its content, and how many bytes it has with both quotes.
+/// The text literal from after its quote: its content, and how many bytes it has with both quotes.
 pub fn literal_front(alloc: Global, quote: u8, text: &str) -> Result<Found, Stop>
     requires quote { IsTrue (is_quote quote) }
     requires size { length text.now ≤ MOST_BYTES }

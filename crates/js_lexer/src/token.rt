@@ -44,7 +44,7 @@ pub struct Token {
     pub sort: Sort,
     /// The place of its first byte.
     pub from: u32,
-    /// The place behind its last byte.
+    /// The place after its last byte.
     pub to: u32,
     /// The line of its first byte, from 1.
     pub line: u32,
@@ -71,10 +71,10 @@ pub enum LexFault {
     /// A token that the language leaves out; its first byte.
     #[error("an unsupported token, at byte {0}")]
     Unsupported(u32),
-    /// The bytes are no UTF-8; the first byte that is no part of it.
+    /// The bytes are not UTF-8; the first byte that is no part of it.
     #[error("no UTF-8, at byte {0}")]
     Utf8(u32),
-    /// Want of memory.
+    /// Out of memory.
     #[error("out of memory")]
     Memory,
 }
@@ -97,18 +97,18 @@ pub enum Flaw {
 /// What stands in front, before the text's end.
 #[derive(Drop)]
 pub enum Found {
-    /// White space, a line end or a comment, of so many bytes.
+    /// White space, a line end or a comment, of this many bytes.
     Gap(usize),
-    /// A token with its sort, of so many bytes.
+    /// A token with its sort, of this many bytes.
     Token(Kind, Sort, usize),
 }
 
-/// Why no token is answered: what is wrong and how many bytes on, or want of memory.
+/// Why no token is answered: what is wrong and how many bytes on, or out of memory.
 #[derive(Clone, Copy)]
 pub enum Stop {
-    /// A flaw so many bytes on.
+    /// A flaw this many bytes on.
     Refused(Flaw, usize),
-    /// Want of memory.
+    /// Out of memory.
     Memory,
 }
 

@@ -129,7 +129,7 @@ dry_turns way (suc k) (Some test) body next s dry =
     ap (λ o. o >>= λ x. cond (is_truthy x) (λ now. after_turn (way body now) (λ later. perhaps way next later >>= λ _. turns way k (Some test) body next)) leaves) (dry test)
 
 module _ (g : Setting) (m : ℕ) (ev ev' : ℕ → State → Outcome) (h : Evs g.budget m ev ev') where
-  -- a body begins a node, so behind it one less is allowed
+  -- a body begins a node, so after it one less is allowed
   turn_agrees : (k : ℕ) → suc k ≤ m → (test : Option ℕ) (body : ℕ) (next : Option ℕ) (again again' : State → Outcome) → Agreeing g.budget k again again' → Agreeing g.budget (suc k) (one_turn ev test body next again) (one_turn ev' test body next again')
   turn_agrees k le test body next again again' a =
       bind g (Agreeing g.budget (suc k)) (agreeing_ways g (suc k)) _ _ (tests_walk g (Agreeing g.budget (suc k)) (agreeing_ways g (suc k)) ev ev' (parts h (suc k) le) test)

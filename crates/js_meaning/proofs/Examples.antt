@@ -150,7 +150,7 @@ pub let_without_value : comes_to Thread 100 (one (p.declaration Let (record { va
 unfolding evaluation eval within
 let_without_value = refl
 
--- 1() with 200 calls active: that it is no function comes before the depth
+-- 1() with 200 calls active: that it is not a function comes before the depth
 pub no_function_at_the_deepest :
     eval (record { base = bare (program (whole 1 ∷ on 5 (p.call 0 []) ∷ []) [] [] (statements 0 [])); mode = Thread; budget = 100 }) 1
     (record { slots = []; constants = None; calls = 200; fuel = 100; replies = []; effects = []; delivered = 0 })

@@ -137,7 +137,7 @@ pub methods_of_sets : comes_to Thread 100
 unfolding evaluation eval within
 methods_of_sets = refl
 
--- [7].push(7): a word that is no method
+-- [7].push(7): a word that is not a method
 pub no_method : comes_to Thread 100 (whole 7 ∷ one (p.list (0 ∷ [])) ∷ on 2 (p.method 1 (codes "push") (0 ∷ [])) ∷ one (p.expression 2) ∷ []) (statements 0 (3 ∷ []) ∷ [])
     ≡ broken fault.Mistyped 2 (left 95 [])
 unfolding evaluation eval within
@@ -155,7 +155,7 @@ pub logged_values : comes_to Thread 100
 unfolding evaluation eval within digits
 logged_values = refl
 
--- bp.log.info([undefined]): undefined is no data; and Math.floor("a")
+-- bp.log.info([undefined]): undefined is not a data; and Math.floor("a")
 pub logged_no_data : comes_to Thread 100 (one p.undefined ∷ one (p.list (0 ∷ [])) ∷ on 3 (p.builtin form.LogInfo (1 ∷ [])) ∷ one (p.expression 2) ∷ []) (statements 0 (3 ∷ []) ∷ [])
     ≡ broken fault.Mistyped 3 (left 96 [])
 unfolding evaluation eval within

@@ -162,7 +162,7 @@ body_goes_on base budget o replies more =
     let g : Setting = setting_of base budget o in
     (body_walk g (Way g more) (ways g more) (eval g) (eval g) (λ n. record { goes = eval_goes g more n; sure = eval_sure g n }) o).goes (start_of base budget o replies)
 
--- what comes behind the front
+-- what comes after the front
 since : (es : List Effect) (e : PlainEvent) (o : Outcome) → Behind (e ∷ []) es o → effects_of o ≡ es ++ effects_since o
 since es e o b =
     b.effects_are ∙ ap (λ x. es ++ x) (sym (ap (λ n. drop n (effects_of o)) (b.delivered refl) ∙ ap (drop (length es)) b.effects_are ∙ drop-append_seam es b.added))

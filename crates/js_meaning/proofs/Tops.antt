@@ -85,7 +85,7 @@ descent =
 abbrev descends : PlainBody
 descends = body 1 1 (p.one_value 6)
 
--- the top level is no call, so f(199) stays within 200
+-- the top level is not a call, so f(199) stays within 200
 pub two_hundred_calls : top_comes_to 2000 (program descent (descends ∷ []) (p.of_function 0 ∷ []) (statements 0 (10 ∷ []))) ≡ top_ends 601 (Some (v.function 0 v.no_values) ∷ []) []
 unfolding evaluation eval within
 two_hundred_calls = refl

@@ -52,7 +52,7 @@ module _ (ev : ℕ → State → Outcome) where
   runs (statements ns) s = sequence ns s
   runs (one_value n) s = ev n s >>= λ v. went (returned v)
 
-  -- a body with these captured values and arguments, while so many calls are active
+  -- a body with these captured values and arguments, while this many calls are active
   abbrev pub enters : ℕ → PlainBody → List PlainValue → List PlainValue → State → Outcome
   enters active body captured args s =
       after_call s.slots s.calls

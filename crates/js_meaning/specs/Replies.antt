@@ -3,7 +3,7 @@ use Rattle.std.specs.Prelude.{◌≡◌, List, [], ◌++◌, length}
 use Rattle.js_data.specs.Event.{PlainEvent}
 use Rattle.js_meaning.specs.State.{Effect, State, Outcome, went, broken, violated, spent, stopped, left_by, effects_of}
 
--- with more replies behind those that are left
+-- with more replies after those that are left
 abbrev pub with_more : List PlainEvent → State → State
 with_more more s = record s { replies = s.replies ++ more }
 
@@ -11,7 +11,7 @@ abbrev pub TookAll : Outcome → Type 0
 TookAll (went c s) = s.replies ≡ []
 TookAll _ = Unit {0}
 
--- Effects come behind these; and if one more reply came, these are the ones delivered, and no reply is left.
+-- Effects come after these; and if one more reply came, these are the ones delivered, and no reply is left.
 pub record Behind (more : List PlainEvent) (effects : List Effect) (o : Outcome) : Type 0 where
   pub added : List Effect
   pub effects_are : effects_of o ≡ effects ++ added

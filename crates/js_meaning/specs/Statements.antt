@@ -70,7 +70,7 @@ module _ (ev : ℕ → State → Outcome) where
       tests test s >>= λ v. cond (is_truthy v)
       (λ now. after_turn (ev body now) (λ later. perhaps next later >>= λ _. again)) leaves
 
-  -- at most so many turns
+  -- at most this many turns
   abbrev pub turns : ℕ → Option ℕ → ℕ → Option ℕ → State → Outcome
   turns zero test body next s = spends s
   turns (suc n) test body next s = one_turn test body next (turns n test body next) s

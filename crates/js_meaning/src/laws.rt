@@ -56,7 +56,7 @@ pub fn only_the_top_level_declares_constants()
         StandsOnGround (evaluation base budget (function mode f args) replies) }
 {}
 
-/// With more replies an evaluation that stopped goes on behind the effects that it made, and every
+/// With more replies an evaluation that stopped goes on after the effects that it made, and every
 /// other one is the same.
 pub fn more_replies_go_on()
     ensures node { (g : Setting) (n : ℕ) (s : State) (more : List PlainEvent) →

@@ -154,7 +154,7 @@ abbrev lets : ℕ → ℕ → List PlainStmt
 lets zero p = []
 lets (suc n) p = declares Let (n ∷ []) p one (p + 4) ∷ lets n (p + 10)
 
--- the first uses of so many of them
+-- the first uses of this many of them
 abbrev use_all : ℕ → ℕ → List PlainStmt
 use_all zero p = []
 use_all (suc n) p = does (uses (n ∷ []) p) ∷ use_all n (p + 4)

@@ -22,7 +22,7 @@ abbrev pub is_return : What → Bool
 is_return What.Returns = true
 is_return _ = false
 
--- a name that nothing declares, or a use of `bp` or `Math` that is no form
+-- a name that nothing declares, or a use of `bp` or `Math` that is not a form
 abbrev pub fails_unknown : Place → Bool
 fails_unknown p = is_misuse p.what || (is_mention p.what && not (is_some p.declared))
 

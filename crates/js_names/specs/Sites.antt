@@ -31,7 +31,7 @@ site scopes around what name =
 abbrev pub word_at : List ℕ → Spot → Name
 word_at text spot = record { text = text; spot = spot }
 
--- a name that is read: `bp` or `Math` alone is no form, and `undefined` is a value
+-- a name that is read: `bp` or `Math` alone is not a form, and `undefined` is a value
 abbrev pub read_site : List Scope → Around → Name → List Site
 read_site scopes a name =
     if is_object name.text then site scopes a What.Misuses name
@@ -42,7 +42,7 @@ abbrev pub assign_site : List Scope → Around → Name → List Site
 assign_site scopes a name =
     if is_reserved name.text then site scopes a What.Misuses name else site scopes a What.Assigns name
 
--- a member; one of `bp` or `Math` that is no form is misused, and named by both words
+-- a member; one of `bp` or `Math` that is not a form is misused, and named by both words
 abbrev pub member_sites : List Scope → Around → Option Name → List ℕ → Bool → List Site → List Site
 member_sites scopes a None word is_value sites = sites
 member_sites scopes a (Some object) word is_value sites =

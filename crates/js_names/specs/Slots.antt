@@ -51,7 +51,7 @@ abbrev pub can_copy : List ℕ → Declared → ℕ → Bool
 can_copy assigned d begins =
     (not (is_var d.role) || d.direct) && (not (is_among d.place assigned) && nat_le d.end begins)
 
--- it belongs to an outer function or to the top level, and is no constant
+-- it belongs to an outer function or to the top level, and is not a constant
 abbrev pub is_outer : List ℕ → Place → Declared → Bool
 is_outer assigned p d = not (nat_eq d.owner p.around.owner) && not (is_constant assigned d)
 
@@ -132,7 +132,7 @@ var_of assigned (Some d) = if is_var d.role then variable_of assigned (Some d) e
 abbrev pub var_in : List ℕ → Place → List Holding
 var_in assigned p = var_of assigned (variable_at p.what p.declared)
 
--- the `var`s of a function that are no constants, in the order of their first declarations
+-- the `var`s of a function that are not constants, in the order of their first declarations
 unfoldable pub vars_of : List ℕ → ℕ → List Place → List ℕ
 vars_of assigned f ps = first_uses (held_by f (flat_map (var_in assigned) ps))
 

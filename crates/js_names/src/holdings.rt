@@ -163,7 +163,7 @@ fn note_captures(
     Ok(())
 }
 
-/// A variable that is no parameter and no constant.
+/// A variable that is not a parameter and no constant.
 fn hold_variable(
     alloc: Global,
     held: &mut IndexMap<u32, IndexSet<u32>>,
@@ -279,7 +279,7 @@ pub fn captured(
     Ok(held)
 }
 
-/// A `var` that is no parameter and no constant.
+/// A `var` that is not a parameter and no constant.
 fn hold_var(
     alloc: Global,
     held: &mut IndexMap<u32, IndexSet<u32>>,
@@ -313,7 +313,7 @@ fn hold_vars(
     Ok(())
 }
 
-/// The `var`s of each function that are no constants, in the order of their first declarations.
+/// The `var`s of each function that are not constants, in the order of their first declarations.
 pub fn vars(
     alloc: Global,
     assigned: &IndexSet<u32>,

@@ -60,7 +60,7 @@ fn found_var(scopes: &[Scope], name: &str) -> Option<Declared>
     None
 }
 
-/// Whether an own name of the scope stands before the place, and is no parameter.
+/// Whether an own name of the scope stands before the place, and is not a parameter.
 fn clashes_here(scope: &Scope, name: &str, place: u32) -> bool
     ensures { result ≡ test_of ((scope_of scope.now).own name.now)
         (λ d. nat_lt d.place place && not (is_parameter d.role)) }

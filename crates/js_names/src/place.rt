@@ -89,10 +89,10 @@ impl Drop for Seen {
     }
 }
 
-/// A rule of names that is broken, with the name and the place; or want of memory.
+/// A rule of names that is broken, with the name and the place; or out of memory.
 #[derive(Debug, Drop, Error)]
 pub enum NameFault {
-    /// Nothing declares the name, or it is a use of `bp` or `Math` that is no form.
+    /// Nothing declares the name, or it is a use of `bp` or `Math` that is not a form.
     #[error("nothing declares the name")]
     Unknown(Name),
     /// The name is declared twice, or can't be declared.
@@ -113,7 +113,7 @@ pub enum NameFault {
     /// A function needs more slots than it may have; the name is empty.
     #[error("a function needs more slots than it may have")]
     Slots(Name),
-    /// Want of memory.
+    /// Out of memory.
     #[error("want of memory")]
     Memory,
 }

@@ -12,7 +12,7 @@ use crate::scope::TOP;
 use indexmap::{IndexMap, IndexSet};
 use std::alloc::{AllocError, Global};
 
-/// A name that nothing declares, or a use of `bp` or `Math` that is no form.
+/// A name that nothing declares, or a use of `bp` or `Math` that is not a form.
 pub fn fails_unknown(place: &Seen) -> bool
     ensures { result ≡ fails_unknown (place_of place.now) }
 {
@@ -52,7 +52,7 @@ pub fn can_copy(assigned: &IndexSet<u32>, declared: Declared, begins: u32) -> bo
         && declared.end <= begins
 }
 
-/// Whether a variable belongs to an outer function or to the top level, and is no constant.
+/// Whether a variable belongs to an outer function or to the top level, and is not a constant.
 pub fn is_outer(assigned: &IndexSet<u32>, place: &Seen, declared: Declared) -> bool
     ensures { result ≡ is_outer assigned.now.keys (place_of place.now) declared }
 {

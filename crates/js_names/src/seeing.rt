@@ -55,7 +55,7 @@ fn shared(
     Ok(Arc::new(alloc, functions)?)
 }
 
-/// What the rules ask of a place, which stands behind another one.
+/// What the rules ask of a place, which stands after another one.
 #[tactic(auto, unfolding(crate::specs::Places::see))]
 fn see(
     alloc: Global,

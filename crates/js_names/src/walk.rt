@@ -27,7 +27,7 @@ use js_tree::{
 };
 use std::alloc::{AllocError, Global};
 
-/// A use of `bp` or `Math` that is no form, named by both words.
+/// A use of `bp` or `Math` that is not a form, named by both words.
 fn put_misuse(walk: &mut Walk, around: Around, object: &Name, word: &str) -> Result<(), AllocError>
     ensures { OnOk result (Adds walk.old walk.new
         (site (scopes_in walk.old) around What.Misuses
@@ -352,7 +352,7 @@ fn put_stmts(walk: &mut Walk, around: Around, body: &[Stmt]) -> Result<(), Alloc
     Ok(())
 }
 
-/// The parameters of a function, behind its first token.
+/// The parameters of a function, after its first token.
 fn put_head(walk: &mut Walk, spot: Spot, names: &[Name]) -> Result<(), AllocError>
     ensures { OnOk result (Adds walk.old walk.new
         (begin_site (scopes_in walk.old) spot.at spot ++ parameter_sites (scopes_in walk.old)

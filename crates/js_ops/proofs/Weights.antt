@@ -34,6 +34,6 @@ list_weighs : (xs : List PlainValue) → length xs ≤ value_list_weight (value_
 list_weighs [] = omega arith
 list_weighs (x ∷ xs) = omega (arith, value_weighs x, list_weighs xs)
 
--- a list of so many values passes the limit
+-- a list of this many values passes the limit
 pub too_many : (xs : List PlainValue) → 65_536 ≤ length xs → made (v.list (value_list_of xs)) ≡ Err fault.Weight
 too_many xs h = rw (lt-ltb 65_536 (value_weight (v.list (value_list_of xs))) (omega (arith, h, list_weighs xs))) refl

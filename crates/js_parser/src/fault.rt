@@ -11,7 +11,7 @@ pub enum ParseFault {
     /// The tokens spell no tree of nesting at most `MOST_NESTING`; a line of the text.
     #[error("no tree, on line {0}")]
     NoTree(u32),
-    /// Want of memory.
+    /// Out of memory.
     #[error("out of memory")]
     Memory,
 }

@@ -67,7 +67,7 @@ fn last_line(tokens: &[Token]) -> u32
     }
 }
 
-/// The line of the token where so many are left, or that of the last.
+/// The line of the token where this many are left, or that of the last.
 fn line_where(tokens: &[Token], left: usize) -> u32
     ensures { IsLineIn tokens.now result }
 {

@@ -1,4 +1,4 @@
--- A node that fits a body with so many slots, which declares constants below a number, is there.
+-- A node that fits a body with this many slots, which declares constants below a number, is there.
 use Rattle.std.proofs.Common.{◌≡◌, ℕ, ◌<◌, refl, length, Option, Some, None, Bool, true}
 use Rattle.std.proofs.lemmas.Bool.{false≢true}
 use Rattle.std.proofs.lemmas.Option.{slice_get_within}

@@ -39,7 +39,7 @@ keys_fit _ = true
 abbrev pub all_below : ℕ → List ℕ → Bool
 all_below n xs = list_all (λ x. nat_lt x n) xs
 
--- one of so many slots, or of so many constants
+-- one of this many slots, or of this many constants
 abbrev pub variable_fits : ℕ → ℕ → Variable → Bool
 variable_fits slots constants (Slot n) = nat_lt n slots
 variable_fits slots constants (Constant n) = nat_lt n constants

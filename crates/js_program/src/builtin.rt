@@ -97,7 +97,7 @@ static ROWS: [FormRow; 11] = rows![
     Floor, "Math", "floor", true, Everywhere;
 ];
 
-/// The table of forms, a row for each in the order of the enum, of which no two have one word. Takes no memory.
+/// The table of forms, a row for each in the order of the enum, of which no two have one word.
 pub fn form_rows() -> &'static [FormRow; 11]
     ensures rows { map form_row result.now ≡ builtins }
     ensures distinct { IsTrue (have_distinct_words builtins) }
@@ -150,7 +150,7 @@ fn met(row: Option<&FormRow>, object: &str, called: bool) -> Option<Builtin>
     }
 }
 
-/// The form with this object before the dot and this word after it, called or not. Takes no memory.
+/// The form with this object before the dot and this word after it, called or not.
 pub fn builtin_of(object: &str, word: &str, called: bool) -> Option<Builtin>
     ensures { result ≡ builtin_of object.now word.now called }
 {
@@ -190,7 +190,7 @@ impl Modes {
     }
 }
 
-/// Whether a form has its effect in this mode, by its row. Takes no memory.
+/// Whether a form has its effect in this mode, by its row.
 #[tactic(auto, using(crate::proofs::Forms::modes_at))]
 pub fn has_effect_in(mode: Mode, form: Builtin) -> bool
     ensures { result ≡ has_effect_in mode form }

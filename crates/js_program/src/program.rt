@@ -36,7 +36,7 @@ impl Model for Program {
 }
 
 impl Program {
-    /// The program of these parts. Takes no memory.
+    /// The program of these parts.
     pub fn new(
         nodes: Vec<Node>,
         functions: Vec<Body>,
@@ -65,28 +65,28 @@ impl Program {
         let _top = &self.top;
     }
 
-    /// The number of its nodes. Takes no memory.
+    /// The number of its nodes.
     pub fn nodes(&self) -> u32
         ensures { result ≡ length self.now.nodes }
     {
         self.nodes.len() as u32
     }
 
-    /// The number of its functions. Takes no memory.
+    /// The number of its functions.
     pub fn functions(&self) -> u32
         ensures { result ≡ length self.now.functions }
     {
         self.functions.len() as u32
     }
 
-    /// The number of its constants. Takes no memory.
+    /// The number of its constants.
     pub fn constants(&self) -> u32
         ensures { result ≡ length self.now.constants }
     {
         self.constants.len() as u32
     }
 
-    /// The node of this number. Takes no memory.
+    /// The node of this number.
     pub fn node(&self, number: u32) -> &Node
         requires { number < length self.now.nodes }
         ensures { slice_get self.now.nodes number ≡ Some (plain_node result.now) }
@@ -94,7 +94,7 @@ impl Program {
         &self.nodes[number as usize]
     }
 
-    /// The function of this number. Takes no memory.
+    /// The function of this number.
     pub fn function(&self, code: u32) -> &Body
         requires { code < length self.now.functions }
         ensures { slice_get self.now.functions code ≡ Some (plain_body result.now) }
@@ -102,7 +102,7 @@ impl Program {
         &self.functions[code as usize]
     }
 
-    /// The line of the first token of a function. Takes no memory.
+    /// The line of the first token of a function.
     pub fn line(&self, code: u32) -> u32
         requires { code < length self.now.functions }
         ensures { option_map (λ (b : PlainBody). b.line) (slice_get self.now.functions code)
@@ -111,7 +111,7 @@ impl Program {
         self.functions[code as usize].line
     }
 
-    /// The start of the constant of this number. Takes no memory.
+    /// The start of the constant of this number.
     pub fn constant(&self, number: u32) -> ConstantStart
         requires { number < length self.now.constants }
         ensures { slice_get self.now.constants number ≡ Some (plain_constant result) }
@@ -119,7 +119,7 @@ impl Program {
         self.constants[number as usize]
     }
 
-    /// The top level. Takes no memory.
+    /// The top level.
     pub fn top(&self) -> &Body
         ensures { plain_body result.now ≡ self.now.top }
     {

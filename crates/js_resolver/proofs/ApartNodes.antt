@@ -14,7 +14,7 @@ use Rattle.js_resolver.specs.Pieces.{Piece, none, after}
 use Rattle.js_resolver.specs.NodeForms.{method_of, floors_division}
 use Rattle.js_resolver.specs.Nodes.{expr_piece, expr_parts, form_parts, exprs_piece, arguments_piece, fields_piece, perhaps_piece, declarators_piece, start_piece, stmt_piece, stmt_parts, stmts_piece, item_piece, items_piece}
 
--- so many nodes more would be at most two for each token up to the rest
+-- this many nodes more would be at most two for each token up to the rest
 abbrev Few : ℕ → List Token → List Token → Piece → Type 0
 Few n ts rest x = length x.nodes + n + 2 * length rest ≤ 2 * length ts
 

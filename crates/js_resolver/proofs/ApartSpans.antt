@@ -59,7 +59,7 @@ after {t = t} {ts = ts} {rest = rest} {ss = ss} p =
       found = p.found;
     }
 
--- and one behind
+-- and one after
 pub up_to : {t : Token} {ts rest : List Token} {ss : List Site} → Spans ts (t ∷ rest) ss → Spans ts rest ss
 up_to {t = t} {ts = ts} {rest = rest} {ss = ss} p =
     record {

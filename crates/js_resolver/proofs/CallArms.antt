@@ -111,7 +111,7 @@ pub no_value : (o r : Option Builtin) → o ≡ r → is_some o ≡ false → r 
 no_value None r e h = sym e
 no_value (Some f) r e h = cc
 
--- a member that is a form of the language is no method
+-- a member that is a form of the language is not a method
 pub no_method : (e x : PlainExpr) (parens line : ℕ) (t : List ℕ) → e ≡ p.at parens line (p.member x t) → is_some (value_builtin x t) ≡ true → method_of e ≡ None
 no_method e x parens line t q v = ap method_of q ∙ ap (λ z. if z then None else Some t) v
 

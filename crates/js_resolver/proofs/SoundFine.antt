@@ -71,7 +71,7 @@ pub items_have : (items : List PlainItem) → AllHave (places items) (flat_map (
 unfolding places program_sites
 items_have items = all_have (see _ ∷ []) (flat_map (item_sites (program_scopes items)) items)
 
--- variables that are no constants
+-- variables that are not constants
 
 is_variable : (assigned : List ℕ) (d : Declared) (rest : Bool) → is_function d.role ≡ false → (nat_eq d.owner top && rest) ≡ false → (is_function d.role || (nat_eq d.owner top && rest)) ≡ false
 is_variable assigned d rest f r = ap (λ (b : Bool). b || (nat_eq d.owner top && rest)) f ∙ r

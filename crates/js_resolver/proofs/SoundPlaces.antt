@@ -89,12 +89,12 @@ with_fits assigned constants slots d f g =
     in
     cases (is_constant assigned d) f g
 
--- a variable that is no constant
+-- a variable that is not a constant
 slot_fits : (assigned constants slots : List ℕ) (d : Declared) → is_constant assigned d ≡ false → In d.place slots → variable_fits (length slots) 0 (variable_with assigned constants slots d) ≡ true
 slot_fits assigned constants slots d e h =
     subst (λ b. variable_fits (length slots) 0 (if b then Constant (index_in constants d.place) else Slot (index_in slots d.place)) ≡ true) (sym e) (lt-ltb _ _ (index-below d.place slots h))
 
--- what fits where there are no constants has a slot
+-- what fits where there are not constants has a slot
 pub has_slot : (slots : ℕ) (v : Variable) → variable_fits slots 0 v ≡ true → nat_lt (slot_of v) slots ≡ true
 has_slot slots (Slot n) h = h
 has_slot slots (Constant n) h = absurd (omega (arith, ltb-true n 0 h))

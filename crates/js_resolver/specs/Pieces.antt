@@ -39,7 +39,7 @@ closed b line form x = record {
 abbrev pub part : ℕ → List ℕ → ℕ
 part k parts = get_or parts k 0
 
--- a function, whose statements are no parts of it
+-- a function, whose statements are not parts of it
 abbrev pub function_piece : List Place → Spot → List Name → (List ℕ → PlainContent) → Piece → Piece
 function_piece ps spot names content x = record {
   nodes = x.nodes;

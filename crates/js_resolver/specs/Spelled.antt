@@ -11,7 +11,7 @@ abbrev pub next : ℕ → List Token → ℕ
 next end [] = end
 next end (t ∷ ts) = t.from
 
--- each token stands before the one behind it, and the last before the end
+-- each token stands before the one after it, and the last before the end
 abbrev pub InOrder : ℕ → List Token → Type 0
 InOrder end [] = Unit {0}
 InOrder end (t ∷ ts) = (t.from < next end ts) × InOrder end ts

@@ -14,7 +14,7 @@ pub struct Emitter {
     pub functions: Vec<Body>,
 }
 
-/// One more node, and its number. No program has so many that it would pass 32 bits.
+/// One more node, and its number. No program has this many that it would pass 32 bits.
 pub fn put_node(emitter: &mut Emitter, line: u32, form: NodeForm) -> Result<u32, AllocError>
     ensures { IfOk result (λ n. Puts emitter.old emitter.new line form n) }
 {

@@ -185,7 +185,7 @@ impl NameTables {
         })
     }
 
-    /// What the name at a place of the text stands for. Takes no memory.
+    /// What the name at a place of the text stands for.
     pub fn variable(&self, at: u32) -> Variable
         ensures { result ≡ named_at self.now at }
     {
@@ -195,7 +195,7 @@ impl NameTables {
         }
     }
 
-    /// The slot that the name at a place of the text stands for. Takes no memory.
+    /// The slot that the name at a place of the text stands for.
     pub fn slot(&self, at: u32) -> u32
         ensures { result ≡ slot_at self.now at }
     {
@@ -213,21 +213,21 @@ impl NameTables {
         index_in(&self.functions.codes, at)
     }
 
-    /// The constants, in the order of their declarations. Takes no memory.
+    /// The constants, in the order of their declarations.
     pub fn constants(&self) -> &[u32]
         ensures { result.now ≡ constants_of (assigned_in self.now) self.now }
     {
         self.meanings.constants.as_slice()
     }
 
-    /// The places, in text order. Takes no memory.
+    /// The places, in text order.
     pub fn places(&self) -> &[Seen]
         ensures { map place_of result.now ≡ self.now }
     {
         &self.names.places
     }
 
-    /// The line of the first token of the program. Takes no memory.
+    /// The line of the first token of the program.
     pub fn line(&self) -> u32
         ensures { result ≡ first_line self.now }
     {

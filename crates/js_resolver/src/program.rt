@@ -73,7 +73,7 @@ fn parts_of(alloc: Global, tables: &NameTables, items: &[Item]) -> Result<Parts,
     })
 }
 
-/// The program of these parts. Takes no memory.
+/// The program of these parts.
 fn program_of(parts: Parts) -> Program
     requires { IsSound (plain_parts parts) }
     ensures { result ≡ plain_parts parts }

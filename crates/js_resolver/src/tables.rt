@@ -13,7 +13,7 @@ use js_names::{Declared, Seen, TOP, What, is_constant, variable_at};
 use js_program::Variable;
 use std::alloc::{AllocError, Global};
 
-/// Where a number stands in a set. No program has so many that it would pass 32 bits.
+/// Where a number stands in a set. No program has this many that it would pass 32 bits.
 pub fn index_in(set: &IndexSet<u32>, number: u32) -> Result<u32, AllocError>
     ensures { IfOk result (λ n. n ≡ index_in set.now.keys number) }
 {

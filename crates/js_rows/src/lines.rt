@@ -13,7 +13,7 @@ pub enum Lines {
     Trees,
     /// How many times, a shape and its tree.
     Nestings,
-    /// A program, in which `\n` stands for a line end, and its answer: `accepted`, or the words behind `refused line`.
+    /// A program, in which `\n` stands for a line end, and its answer: `accepted`, or the words after `refused line`.
     Names,
     /// A number of names, the shape of a program, and its answer.
     Slots,

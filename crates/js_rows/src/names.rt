@@ -27,7 +27,7 @@ pub fn program_of(alloc: Global, cell: &str) -> Result<String, Fail> {
     Ok(program)
 }
 
-/// Whether this is answered to the program of the cell, or stands behind `refused line`.
+/// Whether this is answered to the program of the cell, or stands after `refused line`.
 pub fn agrees(alloc: Global, cell: &str, want: &str) -> Result<bool, Fail> {
     let program = program_of(alloc, cell)?;
     let found = answer(alloc, program.as_str())?;

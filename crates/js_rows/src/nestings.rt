@@ -59,13 +59,13 @@ const NESTINGS: &str = "
 196 «[|Math.floor(a/b)|]» --> «(list |(call (. Math floor) (/ a b))|)»
 ";
 
-/// Whether the shape with its nest so many times has this tree or refusal.
+/// Whether the shape with its nest this many times has this tree or refusal.
 fn is_shown(alloc: Global, shape: &str, count: usize, want: &str) -> Result<bool, Fail> {
     let text = nested(alloc, shape, count)?;
     Ok(shown(alloc, text.as_bytes())?.as_str() == want)
 }
 
-/// Whether so many nest with this tree, and with one more there is none.
+/// Whether this many nest with this tree, and with one more there is none.
 pub fn agrees(alloc: Global, cell: &str, tree: &str) -> Result<bool, Fail> {
     let (count, shape) = cell.split_once(" ").ok_or("no number")?;
     let count = count.parse::<usize>()?;

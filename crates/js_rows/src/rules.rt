@@ -31,7 +31,7 @@ undefined++ --> 1: unknown undefined
 --undefined --> 1: unknown undefined
 "#;
 
-/// The forms are the only uses of `bp` and `Math`; any other is unknown by the word behind the dot, or by the name.
+/// The forms are the only uses of `bp` and `Math`; any other is unknown by the word after the dot, or by the name.
 const FORMS: &str = r#"
 bp.registerBThread("a", () => { bp.sync({}); bp.sync({}, 1) }) --> accepted
 bp.Event("e"); bp.Event("e", 1); bp.EventSet("s", e => true); bp.all; bp.none --> accepted
@@ -273,7 +273,7 @@ for (let i = 0; i < 3; i++) { const k = i; (() => k) } --> accepted
 (() => { let a = 1; { let a = 2; a = 3 } (() => a) }) --> accepted
 "#;
 
-/// And the inner function begins behind the end of the declarator: that of a name of `for of` is the name and the list.
+/// And the inner function begins after the end of the declarator: that of a name of `for of` is the name and the list.
 const BEHIND: &str = r#"
 (() => { (() => a); let a = 1 }) --> 1: capture a
 (() => { const a = () => a }) --> 1: capture a

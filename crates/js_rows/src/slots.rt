@@ -4,7 +4,7 @@ use crate::names::{answer, program_of};
 use std::alloc::Global;
 use std::test::Fail;
 
-/// The part so many times, each time with another name in place of its `#`.
+/// The part this many times, each time with another name in place of its `#`.
 fn repeat(text: &mut String, part: &str, count: u32) -> Result<(), Fail> {
     let (before, behind) = part.split_once("#").ok_or("no name")?;
     for number in 0..count {
@@ -15,7 +15,7 @@ fn repeat(text: &mut String, part: &str, count: u32) -> Result<(), Fail> {
     Ok(())
 }
 
-/// The text with each part between `«` and `»` so many times.
+/// The text with each part between `«` and `»` this many times.
 fn widened(alloc: Global, shape: &str, count: u32) -> Result<String, Fail> {
     let mut text = String::new(alloc);
     for piece in shape.split("«") {
@@ -30,7 +30,7 @@ fn widened(alloc: Global, shape: &str, count: u32) -> Result<String, Fail> {
     Ok(text)
 }
 
-/// Whether this is answered to the program of this shape with so many names.
+/// Whether this is answered to the program of this shape with this many names.
 pub fn agrees(alloc: Global, cell: &str, want: &str) -> Result<bool, Fail> {
     let (count, shape) = cell.split_once(" ").ok_or("no number")?;
     let shape = program_of(alloc, shape)?;
@@ -39,7 +39,7 @@ pub fn agrees(alloc: Global, cell: &str, want: &str) -> Result<bool, Fail> {
 }
 
 /// A function has at most 256 parameters and variables. Each line has a number of names, a program in which what stands
-/// between `«` and `»` comes so many times, and its answer.
+/// between `«` and `»` comes this many times, and its answer.
 const VARIABLES: &str = r#"
 256 (function(«#,») { }) --> accepted
 257 (function(«#,») { }) --> refused line 1: slots

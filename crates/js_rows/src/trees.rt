@@ -111,7 +111,7 @@ fn names(out: &mut String, names: &[Name]) -> Result<(), AllocError> {
     out.push(')')
 }
 
-/// The part behind a blank.
+/// The part after a blank.
 #[cycle(shown)]
 fn push(out: &mut String, part: &Part<'_>, room: u32) -> Result<(), AllocError> {
     match part {
@@ -145,7 +145,7 @@ fn list(out: &mut String, head: &str, parts: &[Part<'_>], room: u32) -> Result<(
     rest(out, parts, room)
 }
 
-/// An expression behind a text; past the room only dots.
+/// An expression after a text; past the room only dots.
 #[cycle(shown)]
 fn expr(out: &mut String, before: &str, tree: &Expr, room: u32) -> Result<(), AllocError> {
     out.push_str(before)?;
@@ -258,7 +258,7 @@ fn start(out: &mut String, tree: &Start, room: u32) -> Result<(), AllocError> {
     }
 }
 
-/// A statement behind a text; past the room only dots.
+/// A statement after a text; past the room only dots.
 #[cycle(shown)]
 fn stmt(out: &mut String, before: &str, tree: &Stmt, room: u32) -> Result<(), AllocError> {
     out.push_str(before)?;
@@ -268,7 +268,7 @@ fn stmt(out: &mut String, before: &str, tree: &Stmt, room: u32) -> Result<(), Al
     stmt_form(out, &tree.form, room - 1)
 }
 
-/// Statements behind a brace, and the brace that closes them.
+/// Statements after a brace, and the brace that closes them.
 #[cycle(shown)]
 fn block(out: &mut String, before: &str, trees: &[Stmt], room: u32) -> Result<(), AllocError> {
     out.push_str(before)?;

@@ -1,4 +1,4 @@
--- Where a cursor stands behind a mark, a word, or a token that holds something.
+-- Where a cursor stands after a mark, a word, or a token that holds something.
 use Rattle.std.specs.Prelude.{◌≡◌, Bool, true, false, List, [], ◌∷◌, Option, Some, None, Result, Ok, Err}
 use Rattle.js_lexer.specs.declared.token.Token.{Token}
 use Rattle.js_tree.specs.declared.ending.Ending.{Ending}
@@ -10,18 +10,18 @@ use Rattle.js_grammar.specs.Reading.{Found, ended_rest}
 use Rattle.js_steps.specs.declared.stop.Stop.{Stop}
 use Rattle.js_steps.specs.declared.stop.Stop.TheVariants.{NoTree, Memory}
 
--- behind it, if it stood there, and else where it was
+-- after it, if it stood there, and else where it was
 abbrev pub Skips : Sort → List Token → List Token → Bool → Type 0
 Skips k before behind true = (t : Token) × (before ≡ t ∷ behind) × (sort t ≡ k)
 Skips k before behind false = (before ≡ behind) × (starts k before ≡ false)
 
--- behind it; else there is no tree
+-- after it; else there is no tree
 abbrev pub IsPassed : Sort → List Token → List Token → Result (Unit {0}) Stop → Type 0
 IsPassed k before behind (Ok u) = (t : Token) × (before ≡ t ∷ behind) × (sort t ≡ k)
 IsPassed k before behind (Err (NoTree left)) = starts k before ≡ false
 IsPassed k before behind (Err Memory) = ⊥
 
--- behind the first token, which stands there; else there is none
+-- after the first token, which stands there; else there is none
 abbrev pub IsBumped : List Token → List Token → Result Spot Stop → Type 0
 IsBumped before behind (Ok s) = (t : Token) × (before ≡ t ∷ behind) × (s ≡ spot t)
 IsBumped before behind (Err (NoTree left)) = before ≡ []
@@ -32,19 +32,19 @@ abbrev pub first : {A : Type 0} → (Token → Option A) → List Token → Opti
 first g [] = None
 first g (t ∷ ts) = g t
 
--- what is read at the first token and those behind it
+-- what is read at the first token and those after it
 abbrev pub at_first : {A : Type 0} → (Token → List Token → Found A) → List Token → Found A
 at_first reads [] = None
 at_first reads (t ∷ ts) = reads t ts
 
--- behind the first token, which holds this; else there is no tree
+-- after the first token, which holds this; else there is no tree
 abbrev pub IsTaken : {A : Type 0} → (Token → Option A) → List Token → List Token →
     Result A Stop → Type 0
 IsTaken g before behind (Ok a) = (t : Token) × (before ≡ t ∷ behind) × (g t ≡ Some a)
 IsTaken g before behind (Err (NoTree left)) = first g before ≡ None
 IsTaken g before behind (Err Memory) = Unit {0}
 
--- behind the end of a statement; else there is no tree
+-- after the end of a statement; else there is no tree
 abbrev pub IsOver : Ending → List Token → List Token → Result (Unit {0}) Stop → Type 0
 IsOver ends before behind (Ok u) = ended_rest ends before ≡ Some behind
 IsOver ends before behind (Err (NoTree left)) = ended_rest ends before ≡ None

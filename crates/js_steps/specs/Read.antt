@@ -1,4 +1,4 @@
--- What a reader answers: the reading gives what is found and the tokens behind it; or nothing where there
+-- What a reader answers: the reading gives what is found and the tokens after it; or nothing where there
 -- is no tree.
 use Rattle.std.specs.Prelude.{◌≡◌, ℕ, ◌+◌, ◌≤◌, List, length, Option, Some, None, Result, Ok, Err}
 use Rattle.js_lexer.specs.declared.token.Token.{Token}

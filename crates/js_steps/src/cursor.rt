@@ -22,7 +22,7 @@ pub struct Cursor<'a> {
     pub rest: &'a [Token],
 }
 
-/// The first token and those behind it.
+/// The first token and those after it.
 pub fn next<'a>(tokens: &'a [Token]) -> Option<(&'a Token, &'a [Token])>
     ensures { MatchOption result (tokens.now ≡ []) (λ p. tokens.now ≡ p.0.now ∷ p.1.now) }
 {
@@ -85,7 +85,7 @@ impl<'a> Cursor<'a> {
         }
     }
 
-    /// Goes behind the mark or word, if it stands here.
+    /// Moves past the mark or word, if it stands here.
     pub fn skips(&mut self, sort: Sort) -> bool
         ensures { Skips sort self.old.rest.now self.new.rest.now result }
     {
@@ -98,7 +98,7 @@ impl<'a> Cursor<'a> {
         }
     }
 
-    /// Goes behind the mark or word.
+    /// Moves past the mark or word.
     pub fn pass(&mut self, sort: Sort) -> Result<(), Stop>
         ensures { IsPassed sort self.old.rest.now self.new.rest.now result }
     {
@@ -109,7 +109,7 @@ impl<'a> Cursor<'a> {
         }
     }
 
-    /// Goes behind the next token, for its place.
+    /// Moves past the next token, for its place.
     pub fn bump(&mut self) -> Result<Spot, Stop>
         ensures { IsBumped self.old.rest.now self.new.rest.now result }
     {
@@ -120,7 +120,7 @@ impl<'a> Cursor<'a> {
         Ok(spot_of(token))
     }
 
-    /// Goes behind the next token, if there is one.
+    /// Moves past the next token, if there is one.
     pub fn advance(&mut self)
         ensures tail { left self.new ≡ tail (left self.old) }
         ensures shorter { length self.new.rest.now ≤ length self.old.rest.now }
@@ -130,7 +130,7 @@ impl<'a> Cursor<'a> {
         }
     }
 
-    /// Goes behind a name.
+    /// Moves past a name.
     #[tactic(auto, using(crate::proofs::Using::named_is))]
     pub fn name(&mut self) -> Result<Name, Stop>
         ensures { IsTaken named self.old.rest.now self.new.rest.now result }
@@ -150,7 +150,7 @@ impl<'a> Cursor<'a> {
         }
     }
 
-    /// Goes behind a number.
+    /// Moves past a number.
     #[tactic(auto, using(crate::proofs::Using::numbered_is))]
     pub fn number(&mut self) -> Result<Whole, Stop>
         ensures { IsTaken numbered self.old.rest.now self.new.rest.now result }
@@ -167,7 +167,7 @@ impl<'a> Cursor<'a> {
         }
     }
 
-    /// Goes behind a text literal, for its content.
+    /// Moves past a text literal, for its content.
     #[tactic(auto, using(crate::proofs::Using::quoted_is))]
     pub fn words(&mut self) -> Result<Text, Stop>
         ensures { IsTaken quoted self.old.rest.now self.new.rest.now result }
@@ -184,7 +184,7 @@ impl<'a> Cursor<'a> {
         }
     }
 
-    /// Goes behind a word of any kind.
+    /// Moves past a word of any kind.
     #[tactic(auto, using(crate::proofs::Using::member_word_is))]
     pub fn member(&mut self) -> Result<Text, Stop>
         ensures { IsTaken member_word self.old.rest.now self.new.rest.now result }
@@ -201,7 +201,7 @@ impl<'a> Cursor<'a> {
         }
     }
 
-    /// Goes behind the key of a field.
+    /// Moves past the key of a field.
     #[tactic(auto, using(crate::proofs::Using::key_is))]
     pub fn key(&mut self) -> Result<Text, Stop>
         ensures { IsTaken key self.old.rest.now self.new.rest.now result }
@@ -218,7 +218,7 @@ impl<'a> Cursor<'a> {
         }
     }
 
-    /// Goes behind `++` or `--`.
+    /// Moves past `++` or `--`.
     pub fn step(&mut self) -> Result<Step, Stop>
         ensures { IsTaken step self.old.rest.now self.new.rest.now result }
     {
@@ -232,7 +232,7 @@ impl<'a> Cursor<'a> {
         Ok(step)
     }
 
-    /// Goes behind the operator of an assignment.
+    /// Moves past the operator of an assignment.
     pub fn assign_op(&mut self) -> Result<AssignOp, Stop>
         ensures { IsTaken assign_op self.old.rest.now self.new.rest.now result }
     {
@@ -246,7 +246,7 @@ impl<'a> Cursor<'a> {
         Ok(operator)
     }
 
-    /// Goes behind `const` or `let`.
+    /// Moves past `const` or `let`.
     pub fn lexical(&mut self) -> Result<DeclareKind, Stop>
         ensures { IsTaken lexical self.old.rest.now self.new.rest.now result }
     {

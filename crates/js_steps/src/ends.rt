@@ -9,7 +9,7 @@ use crate::{Cursor, Stop};
 use js_lexer::{Sort, Token};
 use js_tree::Ending;
 
-/// The place behind the last token before the rest.
+/// The place after the last token before the rest.
 pub fn end_of(tokens: &[Token], rest: &[Token]) -> u32
     ensures { result ≡ end_before tokens.now rest.now }
 {
@@ -48,7 +48,7 @@ pub fn is_return_end(tokens: &[Token]) -> bool
 }
 
 impl<'a> Cursor<'a> {
-    /// Goes behind the end of a statement that ends so.
+    /// Moves past the end of a statement that ends so.
     pub fn end(&mut self, ends: Ending) -> Result<(), Stop>
         ensures over { IsOver ends self.old.rest.now self.new.rest.now result }
         ensures shorter { IfOk result (λ _. length self.new.rest.now ≤ length self.old.rest.now) }

@@ -26,7 +26,7 @@ impl<'a> Cursor<'a> {
         }
     }
 
-    /// `=>` behind the parameters.
+    /// `=>` after the parameters.
     #[tactic(auto, using(crate::proofs::Loops::no_arrow))]
     fn arrow_after(&mut self, names: Vec<Name>) -> Result<Vec<Name>, Stop>
         ensures { IsGiven (λ xs. xs.items) (then_arrow names.items) self.old self.new result }

@@ -6,7 +6,7 @@ use std::alloc::{AllocError, AllocFailed};
 pub enum Stop {
     /// No tree is spelled; how many tokens were left where none was found.
     NoTree(usize),
-    /// Want of memory.
+    /// Out of memory.
     Memory,
 }
 

@@ -18,7 +18,7 @@ is_object_name (at p line (use_of name)) = is_object name.text
 is_object_name (at p line (member e word)) = is_log_of e word
 is_object_name _ = false
 
--- a member; called, it is no level of its own
+-- a member; called, it is not a level of its own
 abbrev pub is_member : PlainExpr → Bool
 is_member (at p line (member e word)) = true
 is_member _ = false

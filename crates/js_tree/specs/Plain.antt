@@ -49,7 +49,7 @@ mutual
     absent : PlainPerhaps
     present : PlainExpr → PlainPerhaps
 
-  -- declared names with their values, and the places behind them
+  -- declared names with their values, and the places after them
   pub data PlainDeclarators : Type 0 where
     no_declarators : PlainDeclarators
     declarator_in : Name → PlainPerhaps → ℕ → PlainDeclarators → PlainDeclarators

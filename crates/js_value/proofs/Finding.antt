@@ -24,14 +24,14 @@ Fields = List (Arc (List ℕ) Global × Value)
 abbrev against : List ℕ → Arc (List ℕ) Global × Value → Ordering
 against key f = slice_cmp nat_cmp f.0.value key
 
--- a key that is before or behind is another key
+-- a key that is before or after is another key
 other_key : (k key : List ℕ) (o : Ordering) → slice_cmp nat_cmp k key ≡ o → is_eq o ≡ false → bytes_eq k key ≡ false
 other_key k key o e h = sym (is_eq-slice_cmp k key) ∙ ap is_eq e ∙ h
 
 same_key : (k key : List ℕ) → slice_cmp nat_cmp k key ≡ Equal → bytes_eq k key ≡ true
 same_key k key e = sym (is_eq-slice_cmp k key) ∙ ap is_eq e
 
--- the first key is before the key at each place behind it
+-- the first key is before the key at each place after it
 before_at : (k : List ℕ) (fs : Fields) (i : ℕ) (d : Arc (List ℕ) Global × Value) → IsBefore k (value_fields_view fs) → i < length fs → slice_cmp nat_cmp k (get_or fs i d).0.value ≡ Less
 before_at k [] i d h lt = absurd (omega arith)
 before_at k (f ∷ fs) zero d h lt = h.0

@@ -13,7 +13,7 @@ use js_data::{Data, Memory, Text};
 use std::alloc::Global;
 use std::sync::Arc;
 
-/// The data as a value, which shares nothing with the data. Its only error is want of memory: each part that
+/// The data as a value, which shares nothing with the data. Its only error is out of memory: each part that
 /// is made has its first owner, so no count can be full.
 #[cycle(value_of)]
 pub fn value_of_data(alloc: Global, tree: &Data) -> Result<Value, Memory>
@@ -64,7 +64,7 @@ fn fields_of_data(
     Ok(values)
 }
 
-/// The data that the value is; `None` exactly where it is none. Its only error is want of memory.
+/// The data that the value is; `None` exactly where it is none.
 pub fn data_of_value(alloc: Global, v: &Value) -> Result<Option<Data>, Memory>
     ensures data { IfOk result (λ o. option_map plain_data o ≡ value_data (plain_value v.now)) }
     ensures sorted { IfOk result (λ o. IsSortedExtra (option_map plain_data o)) }

@@ -10,7 +10,6 @@ use std::alloc::Global;
 use std::sync::Arc;
 
 /// Whether a condition takes the value for true: all but undefined, null, false, 0 and the empty text.
-/// Takes no memory.
 pub fn truthy(v: &Value) -> bool
     ensures { result ≡ is_truthy (plain_value v.now) }
 {
@@ -27,7 +26,7 @@ pub fn truthy(v: &Value) -> bool
     }
 }
 
-/// An equal value, which shares what it holds. Takes no memory. A count of owners that is full is answered
+/// An equal value, which shares what it holds. A count of owners that is full is answered
 /// `Memory`, and nothing changes; there is no other error.
 pub fn copy(v: &Value) -> Result<Value, Memory>
     ensures { IfOk result (λ w. plain_value w ≡ plain_value v.now) }
@@ -49,7 +48,7 @@ pub fn copy(v: &Value) -> Result<Value, Memory>
     }
 }
 
-/// The value of this text. Its only error is want of memory: the value is the first owner of the text, so no
+/// The value of this text. Its only error is out of memory: the value is the first owner of the text, so no
 /// count can be full.
 pub fn words(alloc: Global, text: Text) -> Result<Value, Memory>
     ensures { IfOk result (λ v. plain_value v ≡ words_of text) }
@@ -57,7 +56,7 @@ pub fn words(alloc: Global, text: Text) -> Result<Value, Memory>
     Ok(Value::Words(Arc::new(alloc, text)?))
 }
 
-/// The value of this event. Its only error is want of memory: the value is the first owner of the event, so
+/// The value of this event. Its only error is out of memory: the value is the first owner of the event, so
 /// no count can be full.
 pub fn event_value(alloc: Global, event: Event) -> Result<Value, Memory>
     ensures { IfOk result (λ v. plain_value v ≡ event_that_is event) }
@@ -66,7 +65,7 @@ pub fn event_value(alloc: Global, event: Event) -> Result<Value, Memory>
 }
 
 /// The text that `+` joins, lent by the value or written into the buffer; `None` exactly where the kind of the
-/// value has none. Takes no memory.
+/// value has none.
 pub fn text_in<'a>(v: &'a Value, buffer: &'a mut Buffer) -> Option<&'a str>
     ensures { option_map (λ s. s.now) result ≡ value_text (plain_value v.now) }
 {

@@ -107,7 +107,7 @@ fn a_halted_bell_ends_an_injector(rt: HostRuntime) -> Result<(), Fail> {
     Ok(())
 }
 
-/// An injector that meets want of memory has halted the bell before it answers, and one that reads all
+/// An injector that runs out of memory has halted the bell before it answers, and one that reads all
 /// of its lines leaves it as it was.
 #[test]
 fn an_injector_that_wants_memory_halts_the_bell(rt: HostRuntime) -> Result<(), Fail> {

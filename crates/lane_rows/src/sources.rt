@@ -10,7 +10,7 @@ use std::thread::yield_now;
 /// How often a source looks at most; it lets other threads run after each look.
 const LOOKS: u64 = 20_000_000;
 
-/// Gives at most so many bytes at each read.
+/// Gives at most this many bytes at each read.
 #[derive(Drop)]
 pub struct Drip {
     inner: MemorySource,
@@ -72,7 +72,7 @@ impl<'a> Source for Meeting<'a> {
     }
 }
 
-/// Waits until so many have begun: whether it came to that.
+/// Waits until this many have begun: whether it came to that.
 fn all_came(begun: &AtomicU64, meets: u64) -> bool {
     for _ in 0..LOOKS {
         if begun.load(Ordering::SeqCst) >= meets {

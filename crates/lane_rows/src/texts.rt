@@ -12,13 +12,13 @@ use std::test::Fail;
 enum Lines {
     /// Bytes, which are read at once, byte by byte, and by sevens.
     Bytes,
-    /// A number of blanks and the bytes behind them, which are read at once and by thousands.
+    /// A number of blanks and the bytes after them, which are read at once and by thousands.
     Padded,
     /// The number of the read that fails, of three lines of which the last has no LF, six bytes a read.
     Failing,
 }
 
-/// Whether these are the items of the bytes, by at most so many a read, where one read fails.
+/// Whether these are the items of the bytes, by at most this many a read, where one read fails.
 fn are(alloc: Global, bytes: &[u8], step: usize, fails: u64, want: &str) -> Result<bool, Fail> {
     Ok(told(alloc, Drip::new(alloc, bytes, step, fails)?)?.as_str() == want)
 }
@@ -172,7 +172,7 @@ fn bytes_have_their_items(rt: HostRuntime) -> Result<(), Fail> {
     agree(&rt, alloc, Lines::Failing, FAILING)
 }
 
-/// Whether a line of a name of so many letters is bad.
+/// Whether a line of a name of this many letters is bad.
 fn name_is_bad(alloc: Global, letters: usize) -> Result<bool, Fail> {
     let mut line = b"[\"".to_vec(alloc)?;
     line.extend_from_slice(Vec::from_elem(alloc, b'a', letters)?.as_slice())?;

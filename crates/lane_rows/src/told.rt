@@ -9,7 +9,7 @@ use js_json::event_text;
 use std::alloc::{AllocError, Global};
 use std::test::Fail;
 
-/// The texts of the items that a feed over this source offers, each behind a bar.
+/// The texts of the items that a feed over this source offers, each after a bar.
 pub fn told<S: Source + Drop>(alloc: Global, source: S) -> Result<String, Fail> {
     let (mouth, mut ear) = lane(alloc)?;
     let mut feed = Feed::new(alloc, source, mouth);

@@ -41,7 +41,7 @@ pub fn answer(alloc: Global, bytes: &[u8]) -> Result<String, Fail> {
     Ok(String::from_str(alloc, "too many")?)
 }
 
-/// What is answered where so many letters stand between these two.
+/// What is answered where this many letters stand between these two.
 pub fn answer_of_long(
     alloc: Global,
     before: &str,

@@ -1,4 +1,4 @@
-//! Tables, as texts of lines with ` --> ` between a log, or what stands in it behind a front, and what is made of it.
+//! Tables, as texts of lines with ` --> ` between a log, or what stands in it after a front, and what is made of it.
 use crate::answers::answer;
 use crate::migrations::{copied, copied_as, told_in_each};
 use percent_encoding::percent_decode;
@@ -47,7 +47,7 @@ fn holds(alloc: Global, lines: Lines, front: &[u8], line: &str) -> Result<bool, 
     }
 }
 
-/// Each line of the table holds, behind this front.
+/// Each line of the table holds, after this front.
 pub fn agree(
     rt: &impl Abort,
     alloc: Global,

@@ -1,4 +1,4 @@
-//! Lines of records behind a good header.
+//! Lines of records after a good header.
 use crate::answers::{answer, answer_of_long};
 use crate::lines::{Lines, agree, log_of};
 use bp_base::MemorySource;
@@ -32,7 +32,7 @@ end limit bthreads 4096; --> read
 end limit weight 16777216; --> read
 "#;
 
-/// The log ends too early, or goes on behind its end.
+/// The log ends too early, or goes on after its end.
 const ENDS: &str = r#"
  --> cut
 end quiet 0 --> cut

@@ -25,7 +25,7 @@ in 0 ["x"];in 0 ["go"];bad 0 3;sel ["go"];sel ["x"];end bad 0 3; --> external ["
 in 0 ["x",1];in 0 ["go"];eof 0;sel ["x",1];sel ["go"];end quiet 2; --> external ["x",1];external ["go"];done "B";verdict quiet 2;-->verdict quiet 2
 "#;
 
-/// Each ends too early, or goes on behind its end.
+/// Each ends too early, or goes on after its end.
 const CUT: &str = r#"
  --> -->cut
 i --> -->cut
@@ -87,7 +87,7 @@ fn options(budget: u64, steps: u32, injectors: u32) -> Result<Options, Fail> {
     Ok(Options::new(Strategy::Ordered, 0, budget, steps, injectors).ok_or("no options")?)
 }
 
-/// Each line of the table holds behind the header of this program under these options.
+/// Each line of the table holds after the header of this program under these options.
 fn agree_behind(
     rt: &impl Abort,
     alloc: Global,

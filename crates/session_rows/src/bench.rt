@@ -21,7 +21,7 @@ pub struct Came {
     pub log: String,
 }
 
-/// The header of a run with so many injectors, which waits for them or does not.
+/// The header of a run with this many injectors, which waits for them or does not.
 pub fn header(alloc: Global, script: &str, injectors: u32, waits: bool) -> Result<Header, Fail> {
     let options = Options::new(Strategy::Simple, 0, 1_000_000, 100_000, injectors).ok_or(
         "no options",

@@ -123,7 +123,7 @@ pub fn awaiting<'a>(
     })
 }
 
-/// So many injectors whose first reads wait for one another.
+/// This many injectors whose first reads wait for one another.
 fn meeting<R: Threads + Wait + Sync>(rt: &R, alloc: Global, many: u32) -> Result<String, Fail> {
     let seen = AtomicU64::new(0);
     let mut inputs = Vec::new(alloc);
@@ -148,7 +148,7 @@ fn sixteen_injectors_are_read_at_once(rt: HostRuntime) -> Result<(), Fail> {
     Ok(())
 }
 
-/// A session whose injector gives a second piece once so many lines were printed.
+/// A session whose injector gives a second piece once this many lines were printed.
 fn printed_first<R: Threads + Wait + Sync>(
     rt: &R,
     alloc: Global,

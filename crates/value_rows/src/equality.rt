@@ -68,7 +68,7 @@ function | undefined --> false | false
 event ["a"] | all --> false | type
 "#;
 
-/// What is no number, and what `!` makes of it.
+/// What is not a number, and what `!` makes of it.
 pub const NO_NUMBERS: &str = r#"
 undefined --> true
 null --> true

@@ -169,7 +169,7 @@ fn copies_are_the_same(rt: HostRuntime) -> Result<(), Fail> {
     Ok(())
 }
 
-/// The name and the text of the data, one behind the other.
+/// The name and the text of the data, one after the other.
 fn parts_shown(alloc: Global, event: Event) -> Result<String, Fail> {
     let (name, extra) = event.into_parts();
     let mut shown = name.into_string();

@@ -23,7 +23,7 @@ enum Lines {
     Outcomes,
     /// Two values, and whether they are the same and whether they are equal.
     Pairs,
-    /// What is no number, and what `!` makes of it.
+    /// What is not a number, and what `!` makes of it.
     NoNumbers,
     /// Operators, a value, and the marks of what each of them answers for it and each kind.
     Marks,

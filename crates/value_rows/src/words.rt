@@ -71,7 +71,7 @@ fn joined_to_all(alloc: Global, item: Value) -> Result<Value, Fail> {
     Ok(method(alloc, Method::Or, &all, &[item])?)
 }
 
-/// So many brackets that open, and as many that close.
+/// This many brackets that open, and as many that close.
 pub fn brackets(alloc: Global, count: usize) -> Result<String, Fail> {
     let mut line = "[".repeat(alloc, count)?;
     line.push_str("]".repeat(alloc, count)?.as_str())?;
@@ -129,7 +129,7 @@ fn data_in(alloc: Global, held: &Event) -> Result<String, Fail> {
     Ok(String::from_str(alloc, front.strip_prefix("[\"\",").ok_or("no data")?)?)
 }
 
-/// The JSON of data, as what stands in the text of an event behind its name; `too large` where no event can hold it.
+/// The JSON of data, as what stands in the text of an event after its name; `too large` where no event can hold it.
 fn shown_data(alloc: Global, v: Value) -> Result<String, Fail> {
     let name = words(alloc, text(alloc, "")?)?;
     match &make(alloc, Make::Event, &[name, v], &[]) {
@@ -198,7 +198,7 @@ fn shown_set(alloc: Global, set: &EventSet, room: u8) -> Result<String, Fail> {
     }
 }
 
-/// The word of what is no data.
+/// The word of what is not a data.
 fn shown_as_no_data(alloc: Global, v: &Value) -> Result<Option<String>, Fail> {
     match v {
         Value::Undefined => Ok(Some(String::from_str(alloc, "undefined")?)),

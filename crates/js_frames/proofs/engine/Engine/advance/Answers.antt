@@ -9,7 +9,7 @@ use Rattle.js_frames.specs.Leads.{Within, Keeps, Ran, IsHeld, IsSettled, Advance
 use Rattle.js_frames.proofs.Steps.{begun_one}
 use Rattle.js_frames.proofs.engine.Engine.advance.Goals as goal
 
--- the machine in a slice of so many nodes
+-- the machine in a slice of this many nodes
 abbrev slice : Place → ℕ → Place
 slice m nodes = record m { floor = m.fuel - nodes }
 
