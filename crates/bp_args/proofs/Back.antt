@@ -22,7 +22,7 @@ use Rattle.bp_args.specs.declared.said.Waiting.TheVariants.{Any}
 use Rattle.bp_args.specs.declared.verb.Verb.TheVariants as verb
 use Rattle.bp_args.specs.Said.{nothing_said, number_word, set}
 use Rattle.bp_args.specs.Command.{in_range, run_with, large_of, command_with}
-use Rattle.bp_args.specs.Normal.{said_of, set_if, said_from, command_by, command_from}
+use Rattle.bp_args.specs.inner.Normal.{said_of, set_if, said_from, command_by, command_from}
 use Rattle.bp_args.proofs.Within.{IsRun, IsWithin, is_some_text}
 
 -- a number is read from its text

@@ -9,7 +9,7 @@ use Rattle.bp_matches.specs.Normal.{normal_words}
 use Rattle.bp_args.specs.declared.command.Command.{Command}
 use Rattle.bp_args.specs.declared.command.Command.TheVariants.{Run, Replay, Accept, Large, Migrate}
 use Rattle.bp_args.specs.Command.{command_of}
-use Rattle.bp_args.specs.Normal.{said_of}
+use Rattle.bp_args.specs.inner.Normal.{said_of}
 
 abbrev p : List ℕ
 p = codes "p"

@@ -4,4 +4,4 @@ pub use Rattle.bp_matches.specs.Keys
 pub mod Verbs
 pub mod Said
 pub mod Command
-pub mod Normal
+pub mod inner

@@ -5,7 +5,7 @@ ghost use Rattle.bp_args.specs.declared.verb.Verb.TheVariants as verb;
 ghost use Rattle.bp_args.specs.Verbs.{takes};
 ghost use Rattle.bp_args.specs.Said.{nothing_said, said_on};
 ghost use Rattle.bp_args.specs.Command.{options_of, in_range, beside_of, beside_in_range, is_apart as apart, large_of, command_for, command_with, command_of};
-ghost use Rattle.bp_args.specs.Normal.{said_from, command_from};
+ghost use Rattle.bp_args.specs.inner.Normal.{said_from, command_from};
 
 use crate::normal::normal_of;
 use crate::said::{Said, number_of};

@@ -3,7 +3,7 @@ ghost use Rattle.std.specs.Prelude.{◌≡◌, ◌∷◌, IfOk, map, decimal, st
 ghost use Rattle.bp_matches.specs.Normal.{normal_words};
 ghost use Rattle.bp_args.specs.declared.command.Command.TheVariants as command;
 ghost use Rattle.bp_args.specs.Verbs.{verb_name};
-ghost use Rattle.bp_args.specs.Normal.{said_of as said_by, bare_values};
+ghost use Rattle.bp_args.specs.inner.Normal.{said_of as said_by, bare_values};
 
 use crate::command::{Command, Run};
 use crate::said::text_of;

@@ -1,7 +1,7 @@
 -- The outside in memory: what a source, a sink and a world of files are, and when their calls fail.
 use Rattle.std.specs.Prelude.{ℕ, ◌+◌, Bool, not, ◌&&◌, ◌||◌, nat_lt, List, [], ◌∷◌, ◌++◌, length, Option, Some, None, is_some, unwrap_or, if◌then◌else◌}
 use Rattle.std.specs.Str.{bytes_eq}
-use Rattle.bp_base.specs.Calls.{Plan, planned, is_to_fail, called}
+use Rattle.bp_base.specs.inner.Calls.{Plan, planned, is_to_fail, called}
 
 -- a source: its bytes that are still to come, its calls, and how often it failed
 pub record Supply : Type 0 where

@@ -1,6 +1,6 @@
 //! Calls that are made to fail.
 ghost use Rattle.std.specs.Prelude.{◌≡◌};
-ghost use Rattle.bp_base.specs.Calls.{planned, is_to_fail, called};
+ghost use Rattle.bp_base.specs.inner.Calls.{planned, is_to_fail, called};
 
 use std::marker::Model;
 
@@ -12,7 +12,7 @@ pub struct Calls {
 }
 
 impl Model for Calls {
-    ghost use Rattle.bp_base.specs.Calls.{Plan};
+    ghost use Rattle.bp_base.specs.inner.Calls.{Plan};
 
     ghost Value = { Plan };
 

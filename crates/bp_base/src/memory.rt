@@ -2,7 +2,7 @@
 ghost use Rattle.std.specs.Prelude.{◌≡◌, ◌≤◌, ◌+◌, ◌<◌, [], length, take, drop, min, IfOk, OnErr, is_err, if◌then◌else◌};
 ghost use Rattle.bp_base.specs.Counts.{Rose, raised};
 ghost use Rattle.bp_base.specs.Pieces.{Gives, Appends};
-ghost use Rattle.bp_base.specs.Calls.{is_to_fail, called, planned};
+ghost use Rattle.bp_base.specs.inner.Calls.{is_to_fail, called, planned};
 ghost use Rattle.bp_base.specs.Memory.{supply, refuses, offered};
 
 use crate::calls::Calls;

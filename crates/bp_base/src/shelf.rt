@@ -1,7 +1,7 @@
 //! Lists of numbers under names.
 ghost use Rattle.std.specs.Prelude.{◌≡◌, ◌∷◌, IfOk, option_copied, string_bytes};
 ghost use Rattle.bp_base.specs.Memory.{under};
-ghost use Rattle.bp_base.specs.Shelf.{entries_of};
+ghost use Rattle.bp_base.specs.inner.Shelf.{entries_of};
 
 use std::alloc::{AllocError, Global};
 use std::mem;

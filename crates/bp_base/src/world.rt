@@ -3,7 +3,7 @@ ghost use Rattle.std.specs.Prelude.{◌≡◌, ◌<◌, ◌≤◌, true, false, 
 ghost use Rattle.bp_base.specs.Counts.{Rose, raised};
 ghost use Rattle.bp_base.specs.Worlds.{Opens, Asks, Sets, Keeps};
 ghost use Rattle.bp_base.specs.Memory.{supply, under, empty_files, can_open, failing_under, asked_for, output};
-ghost use Rattle.bp_base.specs.Calls.{is_to_fail};
+ghost use Rattle.bp_base.specs.inner.Calls.{is_to_fail};
 
 use crate::calls::Calls;
 use crate::shelf::{Entry, Shelf, find, put};
@@ -100,7 +100,7 @@ impl Model for MemoryWorld {
 
     ghost Value = { Files };
 
-    ghost use Rattle.bp_base.specs.Shelf.{entries_of};
+    ghost use Rattle.bp_base.specs.inner.Shelf.{entries_of};
 
     ghost view = { λ w. record {
       room = w.room;

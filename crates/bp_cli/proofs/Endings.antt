@@ -28,7 +28,7 @@ use Rattle.bp_cli.specs.Asking.{AsksIn}
 use Rattle.bp_cli.specs.Endings.{IsCaused, Does, EndsIn, Ends}
 use Rattle.bp_cli.specs.Large.{Measures}
 use Rattle.bp_cli.specs.Loading.{IsUnloaded}
-use Rattle.bp_cli.specs.Opening.{AreOpened}
+use Rattle.bp_cli.specs.inner.Opening.{AreOpened}
 use Rattle.bp_cli.specs.Runs.{Holds, KeepsLog, KeepsLogFront, TellsWhole, TellsPartly, RunEnds, IsRunOf, header_of}
 use Rattle.bp_cli.proofs.Asking.{asks_some}
 use Rattle.bp_cli.proofs.Injected.{Brought, brought_none, all_of}

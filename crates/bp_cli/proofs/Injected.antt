@@ -15,7 +15,7 @@ use Rattle.bp_hear.specs.Heard.{EachHeard, EachHeardWhole}
 use Rattle.bp_hear.specs.Merges.{Merge}
 use Rattle.bp_session.specs.Reports.{IsQuiet, BrokeAt}
 use Rattle.bp_cli.specs.Injected.{AreUnder, MergeWhole, BreaksIn}
-use Rattle.bp_cli.specs.Opening.{AreOpened}
+use Rattle.bp_cli.specs.inner.Opening.{AreOpened}
 use Rattle.bp_cli.specs.Outside.{IsUnder}
 
 -- what an input had at the start is what the world holds

@@ -33,7 +33,7 @@ use Rattle.bp_args.specs.declared.command.Run.{Run}
 use Rattle.bp_cli.specs.declared.conclusion.Conclusion.{Conclusion}
 use Rattle.bp_cli.specs.Conclusions.{ended_of}
 use Rattle.bp_cli.specs.Endings.{IsCaused}
-use Rattle.bp_cli.specs.Opening.{AreOpened, IsLogMade, IsLogNamed, IsLogHeld}
+use Rattle.bp_cli.specs.inner.Opening.{AreOpened, IsLogMade, IsLogNamed, IsLogHeld}
 use Rattle.bp_cli.specs.Outside.{Outside, ReadFailed, WriteFailed}
 use Rattle.bp_cli.specs.Runs.{Holds, HoldsBehind, KeepsLog, KeepsLogFront, TellsWhole, TellsPartly, RunEnds, IsRunOf, header_of}
 use Rattle.bp_cli.proofs.Injected.{Brought, brought, brought_to, breaks}

@@ -4,7 +4,7 @@ use Rattle.bp_args.specs.Command.{command_of}
 use Rattle.bp_args.specs.declared.command.Command.{Command}
 use Rattle.bp_args.specs.declared.command.Command.TheVariants as command
 use Rattle.bp_args.proofs.Within.{IsWithin, within}
-use Rattle.bp_cli.specs.Opening.{IsCounted}
+use Rattle.bp_cli.specs.inner.Opening.{IsCounted}
 
 counted_within : (c : Command) → IsWithin c → IsCounted c
 counted_within (command.Run asked) h = h.count

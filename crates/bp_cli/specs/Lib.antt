@@ -10,4 +10,4 @@ pub mod Replaying
 pub mod Migrating
 pub mod Endings
 pub mod Refusing
-pub mod Opening
+pub mod inner

@@ -3,7 +3,7 @@ ghost use Rattle.std.specs.Prelude.{map, Some, string_bytes};
 ghost use Rattle.bp_args.specs.Command.{command_of};
 ghost use Rattle.bp_cli.specs.Asking.{AsksIn};
 ghost use Rattle.bp_cli.specs.Endings.{EndsIn, Ends};
-ghost use Rattle.bp_cli.specs.Opening.{IsCounted};
+ghost use Rattle.bp_cli.specs.inner.Opening.{IsCounted};
 ghost use Rattle.bp_cli.specs.Outside.{outside, NeverFalls};
 ghost use Rattle.bp_cli.specs.Refusing.{Refuses};
 

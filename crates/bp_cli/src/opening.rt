@@ -2,7 +2,7 @@
 ghost use Rattle.std.specs.Prelude.{◌≡◌, ◌≤◌, ◌<◌, ℕ, length, take, Option, Some, IfOk, IfSome, OnOk, OnErr, IsErrOf, option_to_list, slice_index_or};
 ghost use Rattle.bp_base.specs.Counts.{Rose};
 ghost use Rattle.bp_cli.specs.Asking.{WasAsked};
-ghost use Rattle.bp_cli.specs.Opening.{AreOpened, IsLogMade, IsLogNamed, IsLogHeld};
+ghost use Rattle.bp_cli.specs.inner.Opening.{AreOpened, IsLogMade, IsLogNamed, IsLogHeld};
 
 use bp_base::{World, WorldError};
 use js_data::Text;

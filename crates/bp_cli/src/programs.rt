@@ -3,7 +3,7 @@ ghost use Rattle.std.specs.Prelude.{[], Some};
 ghost use Rattle.bp_args.specs.declared.command.Command.TheVariants as command;
 ghost use Rattle.bp_cli.specs.Asking.{AsksIn};
 ghost use Rattle.bp_cli.specs.Endings.{EndsIn};
-ghost use Rattle.bp_cli.specs.Opening.{IsCounted};
+ghost use Rattle.bp_cli.specs.inner.Opening.{IsCounted};
 ghost use Rattle.bp_cli.specs.Outside.{outside, NeverFalls};
 
 use crate::conclusion::Conclusion;

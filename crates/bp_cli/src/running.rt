@@ -4,7 +4,7 @@ ghost use Rattle.bp_log.specs.declared.limits.TheConstants.{MOST_BYTES};
 ghost use Rattle.bp_script.specs.Programs.{IsProgram};
 ghost use Rattle.bp_args.specs.declared.command.Command.TheVariants as command;
 ghost use Rattle.bp_cli.specs.Endings.{IsCaused};
-ghost use Rattle.bp_cli.specs.Opening.{IsCounted, AreOpened, IsLogMade};
+ghost use Rattle.bp_cli.specs.inner.Opening.{IsCounted, AreOpened, IsLogMade};
 ghost use Rattle.bp_cli.specs.Outside.{Outside, outside, IsAsBefore, NeverFalls};
 ghost use Rattle.bp_cli.specs.Runs.{IsRunOf};
 

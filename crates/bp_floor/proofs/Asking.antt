@@ -10,9 +10,9 @@ use Rattle.bp_select.specs.declared.answers.SelectFault.{SelectFault}
 use Rattle.bp_select.specs.Answers.{AnswersAs}
 use Rattle.bp_floor.specs.declared.board.Board.{Board}
 use Rattle.bp_floor.specs.Programs.{code_of}
-use Rattle.bp_floor.specs.Boards.{stand_of}
-use Rattle.bp_floor.specs.Kept.{Running}
-use Rattle.bp_floor.specs.Going.{IsResting}
+use Rattle.bp_floor.specs.inner.Boards.{stand_of}
+use Rattle.bp_floor.specs.inner.Kept.{Running}
+use Rattle.bp_floor.specs.inner.Going.{IsResting}
 use Rattle.bp_floor.proofs.Sound.{has_is, bench_live, rest_ground}
 
 -- the sets are asked on the ground of its program

@@ -18,7 +18,7 @@ use Rattle.bp_select.specs.declared.answers.SelectFault.TheVariants.{Set, Memory
 use Rattle.bp_select.specs.declared.answers.Choice.{Choice}
 use Rattle.bp_select.specs.declared.answers.Choice.TheVariants.{Internal, External, Nothing}
 use Rattle.bp_select.specs.Answers.{FaultAs, IsWithin, chosen_of}
-use Rattle.bp_floor.specs.Desks.{IsBlocked, block_sets, shifted, enabled_behind}
+use Rattle.bp_floor.specs.inner.Desks.{IsBlocked, block_sets, shifted, enabled_behind}
 use Rattle.bp_floor.proofs.Fronts.{blocked_front}
 
 -- a choice whose place is so much further on

@@ -26,13 +26,13 @@ use Rattle.bp_select.specs.Answers.{AnswersReach, FaultAs, IsReach}
 use Rattle.bp_floor.specs.declared.board.Board.{Board}
 use Rattle.bp_floor.specs.declared.touching.Touch.{Touch}
 use Rattle.bp_floor.specs.Programs.{code_of}
-use Rattle.bp_floor.specs.Seating.{seated, AreOwn}
-use Rattle.bp_floor.specs.Boards.{stand_of, pair_of}
+use Rattle.bp_floor.specs.inner.Seating.{seated, AreOwn}
+use Rattle.bp_floor.specs.inner.Boards.{stand_of, pair_of}
 use Rattle.bp_floor.specs.Forgetting.{forgotten}
-use Rattle.bp_floor.specs.Kept.{Running, IsKept, Rises, runs_in}
-use Rattle.bp_floor.specs.Touching.{CanTouch, moves_in, moved_pair, touch_seen}
+use Rattle.bp_floor.specs.inner.Kept.{Running, IsKept, Rises, runs_in}
+use Rattle.bp_floor.specs.inner.Touching.{CanTouch, moves_in, moved_pair, touch_seen}
 use Rattle.bp_floor.specs.Floors.{PlainFloor, IsMoved, phase_of, stop_at_reach, told_verdict}
-use Rattle.bp_floor.specs.Going.{IsSoundOn, IsResting, IsReached, floor_on, first_touch}
+use Rattle.bp_floor.specs.inner.Going.{IsSoundOn, IsResting, IsReached, floor_on, first_touch}
 use Rattle.bp_floor.proofs.Asking.{has_at_rest, live_at_rest}
 use Rattle.bp_floor.proofs.Gone.{can_touch, moves_run, gone}
 use Rattle.bp_floor.proofs.Looking.{reached_few, faulty_below}

@@ -20,14 +20,14 @@ use Rattle.bp_run.proofs.Numbers.{reach_rising, live_rising, length-touch_all, e
 use Rattle.bp_select.specs.declared.answers.Reach.{Reach}
 use Rattle.bp_floor.specs.declared.board.Board.{Board}
 use Rattle.bp_floor.specs.Programs.{code_of}
-use Rattle.bp_floor.specs.Seating.{seated}
-use Rattle.bp_floor.specs.Boards.{stand_of, pair_of}
+use Rattle.bp_floor.specs.inner.Seating.{seated}
+use Rattle.bp_floor.specs.inner.Boards.{stand_of, pair_of}
 use Rattle.bp_floor.specs.Forgetting.{forgotten, forget}
-use Rattle.bp_floor.specs.Kept.{Running, IsKept, AreBelow, Rises, runs_in}
+use Rattle.bp_floor.specs.inner.Kept.{Running, IsKept, AreBelow, Rises, runs_in}
 use Rattle.bp_floor.specs.Returning.{AreLater, ground_at}
-use Rattle.bp_floor.specs.Touching.{CanTouch, moves_in, moved_pair}
+use Rattle.bp_floor.specs.inner.Touching.{CanTouch, moves_in, moved_pair}
 use Rattle.bp_floor.specs.Floors.{PlainFloor, IsMoved, CanGo, phase_at, phase_of, not_lent, ready_in}
-use Rattle.bp_floor.specs.Going.{IsSoundOn, IsResting, IsReached, floor_on}
+use Rattle.bp_floor.specs.inner.Going.{IsSoundOn, IsResting, IsReached, floor_on}
 use Rattle.bp_floor.proofs.Rests.{reached_stand, rising_rises}
 use Rattle.bp_floor.proofs.Returns.{later_alone, later_ground}
 use Rattle.bp_floor.proofs.Sound.{rest_nobody}

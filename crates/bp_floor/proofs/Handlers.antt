@@ -17,11 +17,11 @@ use Rattle.bp_thread.specs.declared.job.Job.{Job}
 use Rattle.bp_thread.specs.Jobs.{plain_job, is_stopped}
 use Rattle.bp_floor.specs.declared.entry.Handler.{Handler}
 use Rattle.bp_floor.specs.Programs.{code_of}
-use Rattle.bp_floor.specs.Entries.{handler_seen}
-use Rattle.bp_floor.specs.Seating.{PlainSeat, seated, origin_in, replies_in, IsOwn, IsOwnIn, AreOwn}
-use Rattle.bp_floor.specs.Seated.{job_at}
-use Rattle.bp_floor.specs.Kept.{Running}
-use Rattle.bp_floor.specs.Touching.{IsStanding, AreStanding, HasHandler, handler_at}
+use Rattle.bp_floor.specs.inner.Entries.{handler_seen}
+use Rattle.bp_floor.specs.inner.Seating.{PlainSeat, seated, origin_in, replies_in, IsOwn, IsOwnIn, AreOwn}
+use Rattle.bp_floor.specs.inner.Seated.{job_at}
+use Rattle.bp_floor.specs.inner.Kept.{Running}
+use Rattle.bp_floor.specs.inner.Touching.{IsStanding, AreStanding, HasHandler, handler_at}
 use Rattle.bp_floor.proofs.Lists.{get_map}
 use Rattle.bp_floor.proofs.Places.{own_at0}
 use Rattle.bp_floor.proofs.Touches.{stopped_some}

@@ -24,13 +24,13 @@ use Rattle.bp_run.specs.Settling.Entry.{Runs}
 use Rattle.bp_run.specs.Selecting.{Live}
 use Rattle.bp_run.proofs.Turns.{length-change}
 use Rattle.bp_select.specs.Benches.{PlainBench, placed}
-use Rattle.bp_floor.specs.Desks.{PlainDesk, Fits}
+use Rattle.bp_floor.specs.inner.Desks.{PlainDesk, Fits}
 use Rattle.bp_thread.specs.declared.job.Job.{Job}
 use Rattle.bp_thread.specs.Jobs.{PlainJob, plain_job, IsOf, IsFresh}
 use Rattle.bp_floor.specs.declared.board.Board.{Board}
-use Rattle.bp_floor.specs.Seating.{PlainSeat, seated, is_waiting, is_ready, where_from, stated_from, IsOwn, AreOwn}
-use Rattle.bp_floor.specs.Boards.{stand_of, pair_of, retired}
-use Rattle.bp_floor.specs.Kept.{Running, IsOn, IsKept, IsBelow, AreBelow, AreFrom, runs_in}
+use Rattle.bp_floor.specs.inner.Seating.{PlainSeat, seated, is_waiting, is_ready, where_from, stated_from, IsOwn, AreOwn}
+use Rattle.bp_floor.specs.inner.Boards.{stand_of, pair_of, retired}
+use Rattle.bp_floor.specs.inner.Kept.{Running, IsOn, IsKept, IsBelow, AreBelow, AreFrom, runs_in}
 use Rattle.bp_floor.specs.Returning.{entry_in, IsMirrored, IsSameBut}
 use Rattle.bp_floor.proofs.Lists.{change_map}
 use Rattle.bp_floor.proofs.Places.{where_last0, stated_last, own_last0, from_last, runs_last, where_ended0, own_changed0, stated_changed0}

@@ -17,9 +17,9 @@ use Rattle.bp_run.proofs.Numbers.{reach_each, reach_rising, live_rising}
 use Rattle.bp_thread.specs.declared.job.Job.{Job}
 use Rattle.bp_thread.specs.Jobs.{plain_job, is_stopped}
 use Rattle.bp_floor.specs.Programs.{code_of}
-use Rattle.bp_floor.specs.Seating.{PlainSeat, seated, origin_in, replies_in, outcome_in, is_waiting, where_from, stop_at, statement_at, stated_from, IsOwn, IsOwnIn, AreOwn}
-use Rattle.bp_floor.specs.Kept.{Running, AreFrom, Rises}
-use Rattle.bp_floor.specs.Touching.{IsStanding, AreStanding}
+use Rattle.bp_floor.specs.inner.Seating.{PlainSeat, seated, origin_in, replies_in, outcome_in, is_waiting, where_from, stop_at, statement_at, stated_from, IsOwn, IsOwnIn, AreOwn}
+use Rattle.bp_floor.specs.inner.Kept.{Running, AreFrom, Rises}
+use Rattle.bp_floor.specs.inner.Touching.{IsStanding, AreStanding}
 use Rattle.bp_floor.proofs.Places.{own_at0, none_step, from_lower}
 use Rattle.bp_floor.proofs.Lists.{found, get_map}
 

@@ -24,9 +24,9 @@ use Rattle.bp_thread.specs.Jobs.{PlainJob, plain_job, is_ended, IsOf, StandsAt, 
 use Rattle.bp_floor.specs.declared.board.Board.{Board}
 use Rattle.bp_code.specs.Code.{ground_for}
 use Rattle.bp_floor.specs.Programs.{code_of}
-use Rattle.bp_floor.specs.Seating.{PlainSeat, seated, is_waiting, is_ready, where_from, stop_at, statement_at, stated_from, IsOwn, AreOwn}
-use Rattle.bp_floor.specs.Parts.{unstated, unstated_part}
-use Rattle.bp_floor.specs.Kept.{Running, runs_in, AreBelow}
+use Rattle.bp_floor.specs.inner.Seating.{PlainSeat, seated, is_waiting, is_ready, where_from, stop_at, statement_at, stated_from, IsOwn, AreOwn}
+use Rattle.bp_floor.specs.inner.Parts.{unstated, unstated_part}
+use Rattle.bp_floor.specs.inner.Kept.{Running, runs_in, AreBelow}
 use Rattle.bp_floor.specs.Lending.{JobFor, IsCarried, IsDone, AreDone, fill, filled, has_body, standing}
 use Rattle.bp_floor.specs.Returning.{ground_at, AreLater, RunsAlone, IsBack, IsSameBut, part_in, Puts, IsTaken, IsKeptBy, IsFilled, ran_in, AreAllBack}
 use Rattle.bp_floor.proofs.Lists.{change_map, found}

@@ -16,7 +16,7 @@ use Rattle.bp_select.specs.Benches.{PlainBench, placed}
 use Rattle.bp_select.specs.declared.answers.Choice.{Choice}
 use Rattle.bp_select.specs.declared.answers.Choice.TheVariants.{Internal, External, Nothing}
 use Rattle.bp_select.specs.Answers.{IsWithin, chosen_of}
-use Rattle.bp_floor.specs.Desks.{PlainDesk, PlainFront, IsRestated, IsBlocked, Fits, block_sets, block_at, block_stated, learned}
+use Rattle.bp_floor.specs.inner.Desks.{PlainDesk, PlainFront, IsRestated, IsBlocked, Fits, block_sets, block_at, block_stated, learned}
 use Rattle.bp_floor.proofs.Fronts.{known_where, known_restated, front_blocked}
 use Rattle.bp_floor.proofs.Behind.{more_learned, learns_more}
 

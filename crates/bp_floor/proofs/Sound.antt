@@ -14,14 +14,14 @@ use Rattle.bp_run.specs.Selecting.{live}
 use Rattle.bp_run.specs.Numbers.{number_of}
 use Rattle.bp_meaning.specs.Membership.{member}
 use Rattle.bp_select.specs.Benches.{PlainBench}
-use Rattle.bp_floor.specs.Desks.{PlainDesk, Fits}
+use Rattle.bp_floor.specs.inner.Desks.{PlainDesk, Fits}
 use Rattle.bp_floor.specs.declared.board.Board.{Board}
 use Rattle.bp_floor.specs.declared.phase.Phase.{Phase}
 use Rattle.bp_floor.specs.declared.phase.Phase.TheVariants.{Ready, Rest}
 use Rattle.bp_floor.specs.Programs.{code_of}
-use Rattle.bp_floor.specs.Seating.{PlainSeat, seated, stated_from, AreOwn}
-use Rattle.bp_floor.specs.Boards.{stand_of, pair_of}
-use Rattle.bp_floor.specs.Kept.{Running, AreBelow, Rises, runs_in}
+use Rattle.bp_floor.specs.inner.Seating.{PlainSeat, seated, stated_from, AreOwn}
+use Rattle.bp_floor.specs.inner.Boards.{stand_of, pair_of}
+use Rattle.bp_floor.specs.inner.Kept.{Running, AreBelow, Rises, runs_in}
 use Rattle.bp_floor.specs.Returning.{RunsAlone, ground_at}
 use Rattle.bp_floor.specs.Floors.{PlainFloor, IsSound, IsPhased, phase_at}
 use Rattle.bp_floor.proofs.Unended.{seats_going}

@@ -8,10 +8,10 @@ use Rattle.bp_thread.specs.declared.job.Job.{Job}
 use Rattle.bp_thread.specs.Jobs.{plain_job, stop_line}
 use Rattle.bp_code.specs.Code.{ground_for}
 use Rattle.bp_floor.specs.Programs.{code_of}
-use Rattle.bp_floor.specs.Seating.{PlainSeat, seated, origin_in, replies_in, is_waiting, where_from, IsOwn, AreOwn}
-use Rattle.bp_floor.specs.Seated.{job_at}
-use Rattle.bp_floor.specs.Stops.{Stop, stop_with, stop_in}
-use Rattle.bp_floor.specs.Kept.{Running}
+use Rattle.bp_floor.specs.inner.Seating.{PlainSeat, seated, origin_in, replies_in, is_waiting, where_from, IsOwn, AreOwn}
+use Rattle.bp_floor.specs.inner.Seated.{job_at}
+use Rattle.bp_floor.specs.inner.Stops.{Stop, stop_with, stop_in}
+use Rattle.bp_floor.specs.inner.Kept.{Running}
 use Rattle.bp_floor.proofs.Lists.{found, get_map}
 use Rattle.bp_floor.proofs.Places.{own_at0}
 use Rattle.bp_floor.proofs.Rests.{Settled, not_waiting, none_waits}

@@ -23,16 +23,16 @@ use Rattle.bp_run.specs.Numbers.{number_in}
 use Rattle.bp_run.proofs.Turns.{length-change}
 use Rattle.bp_run.proofs.Numbers.{changed_elsewhere}
 use Rattle.bp_select.specs.Benches.{placed}
-use Rattle.bp_floor.specs.Desks.{Fits}
+use Rattle.bp_floor.specs.inner.Desks.{Fits}
 use Rattle.bp_thread.specs.declared.job.Job.{Job}
 use Rattle.bp_thread.specs.Jobs.{PlainJob, plain_job, IsOf, StandsFor, IsFresh, is_stopped}
 use Rattle.bp_floor.specs.declared.board.Board.{Board}
-use Rattle.bp_floor.specs.Seating.{PlainSeat, seated, origin_in, replies_in, outcome_in, is_waiting, is_ready, where_from, statement_at, stated_from, IsOwn, IsOwnIn, AreOwn, swept}
-use Rattle.bp_floor.specs.Boards.{stand_of, pair_of}
+use Rattle.bp_floor.specs.inner.Seating.{PlainSeat, seated, origin_in, replies_in, outcome_in, is_waiting, is_ready, where_from, statement_at, stated_from, IsOwn, IsOwnIn, AreOwn, swept}
+use Rattle.bp_floor.specs.inner.Boards.{stand_of, pair_of}
 use Rattle.bp_floor.specs.Forgetting.{forget, forgotten}
-use Rattle.bp_floor.specs.Kept.{Running, IsKept, AreFrom, Rises, runs_in}
+use Rattle.bp_floor.specs.inner.Kept.{Running, IsKept, AreFrom, Rises, runs_in}
 use Rattle.bp_floor.specs.Returning.{IsSameBut}
-use Rattle.bp_floor.specs.Touching.{IsStanding, IsTouch, AreStanding, moves_in, moved_pair, CanTouch, IsTouchedBy}
+use Rattle.bp_floor.specs.inner.Touching.{IsStanding, IsTouch, AreStanding, moves_in, moved_pair, CanTouch, IsTouchedBy}
 use Rattle.bp_floor.proofs.Lists.{change_map, change_map_at}
 use Rattle.bp_floor.proofs.Places.{where_like, where_more0, rises_below, stated_changed0, own_changed0, waits_swept, ready_swept, stated_swept, own_swept, forgets_swept}
 use Rattle.bp_floor.proofs.Turns.{from_zero}

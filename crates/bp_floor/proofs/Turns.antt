@@ -11,11 +11,11 @@ use Rattle.bp_run.specs.Settling.Entry.{The_top, Runs, Stops}
 use Rattle.bp_run.proofs.Before.{turn_apart}
 use Rattle.bp_floor.specs.declared.board.Board.{Board}
 use Rattle.bp_floor.specs.Programs.{code_of}
-use Rattle.bp_floor.specs.Seating.{seated, swept}
-use Rattle.bp_floor.specs.Parts.{unstated_ran}
-use Rattle.bp_floor.specs.Boards.{stand_of, pair_of}
+use Rattle.bp_floor.specs.inner.Seating.{seated, swept}
+use Rattle.bp_floor.specs.inner.Parts.{unstated_ran}
+use Rattle.bp_floor.specs.inner.Boards.{stand_of, pair_of}
 use Rattle.bp_floor.specs.Forgetting.{forgotten}
-use Rattle.bp_floor.specs.Kept.{Running, IsOn, IsKept, AreBelow, AreFrom, runs_in}
+use Rattle.bp_floor.specs.inner.Kept.{Running, IsOn, IsKept, AreBelow, AreFrom, runs_in}
 use Rattle.bp_floor.specs.Lending.{filled, filled_pair}
 use Rattle.bp_thread.specs.declared.job.Job.{Job}
 use Rattle.bp_floor.specs.Returning.{IsBack, IsSameBut, AreAllBack, ran_in, entry_in, turned_apart}

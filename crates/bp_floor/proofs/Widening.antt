@@ -10,8 +10,8 @@ use Rattle.bp_run.specs.Bodies.Outcome.{Stopped, Ended, Broken, Violated, Spent}
 use Rattle.bp_run.specs.Settling.{Entry, Pair, Ran, unless_at, unless_over, stopped, queued, registered, with_effect, with_effects, with_end, with_outcome, with_part, merged, place_of}
 use Rattle.bp_run.specs.Settling.Entry.{The_top, Runs, Stops}
 use Rattle.bp_run.proofs.Turns.{length-change}
-use Rattle.bp_floor.specs.Parts.{unstated, unstated_part, unstated_ran}
-use Rattle.bp_floor.specs.Kept.{IsBelow}
+use Rattle.bp_floor.specs.inner.Parts.{unstated, unstated_part, unstated_ran}
+use Rattle.bp_floor.specs.inner.Kept.{IsBelow}
 
 pub record Wider {O : Type 0} (p q : Pair O) : Type 0 where
   pub threads : length p.stand.threads ≤ length q.stand.threads

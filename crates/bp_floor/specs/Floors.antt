@@ -26,11 +26,11 @@ use Rattle.bp_floor.specs.declared.phase.Phase.TheVariants.{Ready, Lent, Rest, O
 use Rattle.bp_floor.specs.declared.went.Went.{Went}
 use Rattle.bp_floor.specs.declared.went.Went.TheVariants.{Moved, Stopped}
 use Rattle.bp_floor.specs.Programs.{code_of}
-use Rattle.bp_floor.specs.Desks.{Fits}
-use Rattle.bp_floor.specs.Seating.{is_waiting, is_ready, where_from, stated_from, AreOwn}
-use Rattle.bp_floor.specs.Boards.{pair_of}
+use Rattle.bp_floor.specs.inner.Desks.{Fits}
+use Rattle.bp_floor.specs.inner.Seating.{is_waiting, is_ready, where_from, stated_from, AreOwn}
+use Rattle.bp_floor.specs.inner.Boards.{pair_of}
 use Rattle.bp_floor.specs.Forgetting.{forget, forgotten, AreGoing}
-use Rattle.bp_floor.specs.Kept.{Running, AreBelow, Rises, runs_in}
+use Rattle.bp_floor.specs.inner.Kept.{Running, AreBelow, Rises, runs_in}
 use Rattle.bp_floor.specs.Lending.{AreDone, filled_pair, standing}
 use Rattle.bp_floor.specs.Returning.{RunsAlone, ground_at}
 

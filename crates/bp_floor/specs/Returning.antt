@@ -14,11 +14,11 @@ use Rattle.bp_thread.specs.declared.job.Job.{Job}
 use Rattle.bp_thread.specs.Jobs.{plain_job, IsOf, StandsFor}
 use Rattle.bp_floor.specs.declared.board.Board.{Board}
 use Rattle.bp_floor.specs.Programs.{code_of}
-use Rattle.bp_floor.specs.Desks.{Fits}
+use Rattle.bp_floor.specs.inner.Desks.{Fits}
 use Rattle.bp_floor.specs.Forgetting.{forgotten}
-use Rattle.bp_floor.specs.Seating.{seated, is_waiting, is_ready, where_from, stated_from, stop_at, AreOwn}
-use Rattle.bp_floor.specs.Parts.{unstated_part}
-use Rattle.bp_floor.specs.Kept.{runs_in, AreBelow, Running}
+use Rattle.bp_floor.specs.inner.Seating.{seated, is_waiting, is_ready, where_from, stated_from, stop_at, AreOwn}
+use Rattle.bp_floor.specs.inner.Parts.{unstated_part}
+use Rattle.bp_floor.specs.inner.Kept.{runs_in, AreBelow, Running}
 use Rattle.bp_floor.specs.Lending.{IsCarried, AreDone, filled, standing}
 
 -- the ground on which these entries run

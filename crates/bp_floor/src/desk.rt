@@ -11,7 +11,7 @@ ghost use Rattle.bp_thread.specs.Views.{plain_statement, stated_set};
 ghost use Rattle.bp_select.specs.declared.answers.Choice.TheVariants as choice_made;
 ghost use Rattle.bp_select.specs.Benches.{placed};
 ghost use Rattle.bp_select.specs.Answers.{AnswersAs, AnswersReach, IsWithin, chosen_of, enabled_of};
-ghost use Rattle.bp_floor.specs.Desks.{Fits, block_at, block_stated, shifted, enabled_behind, learned};
+ghost use Rattle.bp_floor.specs.inner.Desks.{Fits, block_at, block_stated, shifted, enabled_behind, learned};
 
 use crate::{EventList, Front};
 use bp_log::{Memory, Strategy};
@@ -39,7 +39,7 @@ impl Model for Desk {
     ghost use Rattle.std.specs.Coded.{codes};
     ghost use Rattle.js_data.specs.Codes.{event_code};
     ghost use Rattle.js_value.specs.Codes.{set_code};
-    ghost use Rattle.bp_floor.specs.Desks.{PlainDesk};
+    ghost use Rattle.bp_floor.specs.inner.Desks.{PlainDesk};
 
     ghost Value = { PlainDesk };
 

@@ -1,6 +1,6 @@
 //! What is to be run.
 ghost use Rattle.std.specs.Prelude.{◌≡◌, ◌∷◌, ◌++◌, [], OnOk, length, ◌==◌, map};
-ghost use Rattle.bp_floor.specs.Entries.{entry_seen};
+ghost use Rattle.bp_floor.specs.inner.Entries.{entry_seen};
 
 use bp_log::Memory;
 use js_value::Value;
@@ -62,7 +62,7 @@ impl Model for Wave {
     ghost use Rattle.js_value.specs.Codes.{value_code};
     ghost use Rattle.js_meaning.specs.Bodies.{Origin};
     ghost use Rattle.bp_run.specs.Settling as run;
-    ghost use Rattle.bp_floor.specs.Entries.{entry_seen};
+    ghost use Rattle.bp_floor.specs.inner.Entries.{entry_seen};
 
     ghost Value = { List (run.Entry Origin) };
 

@@ -18,11 +18,11 @@ ghost use Rattle.bp_thread.specs.Carried.{HaveDistinctNumbers};
 ghost use Rattle.bp_thread.specs.Views.{plain_statement};
 ghost use Rattle.bp_floor.specs.declared.phase.Phase.TheVariants as phase;
 ghost use Rattle.bp_floor.specs.declared.absorb.Absorb.TheVariants as absorb;
-ghost use Rattle.bp_floor.specs.Boards.{pair_of};
-ghost use Rattle.bp_floor.specs.Stops.{stop_in};
+ghost use Rattle.bp_floor.specs.inner.Boards.{pair_of};
+ghost use Rattle.bp_floor.specs.inner.Stops.{stop_in};
 ghost use Rattle.bp_floor.specs.Lending.{AreLent, filled_pair, standing};
 ghost use Rattle.bp_floor.specs.Floors.{StandsFor, StandsWith, AreBack, IsSealed, HadMemory, IsGivenUp, IsPhased, is_idle, CanGo, GoesAs, GoesFrom, ShowsOf, stop_of, told_verdict, code_on, has_on, live_on};
-ghost use Rattle.bp_floor.specs.Absorbing.{IsRefused};
+ghost use Rattle.bp_floor.specs.inner.Absorbing.{IsRefused};
 
 use crate::{Absorb, Board, Desk, Entry, LineList, Phase, Seats, Wave, Went, stop_of_job};
 use bp_log::limits::MOST_WAITING;
@@ -70,7 +70,7 @@ impl Model for Floor {
     ghost use Rattle.bp_log.specs.contracts.verdict.Verdict as v;
     ghost use Rattle.bp_log.specs.contracts.options.Strategy as s;
     ghost use Rattle.bp_floor.specs.contracts.phase.Phase as ph;
-    ghost use Rattle.bp_floor.specs.Boards.{pair_of};
+    ghost use Rattle.bp_floor.specs.inner.Boards.{pair_of};
     ghost use Rattle.bp_floor.specs.Floors.{PlainFloor, IsSound};
 
     ghost Value = { PlainFloor };

@@ -1,7 +1,7 @@
 //! What is known of the front of the queue.
 ghost use Rattle.std.specs.Prelude.{◌≡◌, ◌<◌, ◌∷◌, ◌++◌, [], option_map, OnOk, true, List};
 ghost use Rattle.js_value.specs.Value.{PlainSet};
-ghost use Rattle.bp_floor.specs.Desks.{nothing_known, IsRestated, HasGone, HasCome};
+ghost use Rattle.bp_floor.specs.inner.Desks.{nothing_known, IsRestated, HasGone, HasCome};
 
 use bp_known::is_same;
 use bp_log::Memory;
@@ -22,7 +22,7 @@ pub struct Front {
 impl Model for Front {
     ghost use Rattle.std.specs.Coded.{codes};
     ghost use Rattle.js_value.specs.Codes.{set_code};
-    ghost use Rattle.bp_floor.specs.Desks.{PlainFront};
+    ghost use Rattle.bp_floor.specs.inner.Desks.{PlainFront};
 
     ghost Value = { PlainFront };
 

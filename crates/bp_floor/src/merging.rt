@@ -8,10 +8,10 @@ ghost use Rattle.bp_log.specs.declared.limits.TheConstants.{MOST_THREADS};
 ghost use Rattle.bp_run.specs.Bodies as run;
 ghost use Rattle.bp_run.specs.Settling.{said, stopped, registered, unless_over, with_effect, with_effects, with_end, with_outcome, with_part, place_of};
 ghost use Rattle.bp_meaning.specs.After.{effect_of};
-ghost use Rattle.bp_floor.specs.Entries.{entry_seen};
-ghost use Rattle.bp_floor.specs.Parts.{ending_seen, part_seen};
-ghost use Rattle.bp_floor.specs.Boards.{stand_of, pair_of, retired};
-ghost use Rattle.bp_floor.specs.Kept.{IsBelow, IsKept, IsOn, Running};
+ghost use Rattle.bp_floor.specs.inner.Entries.{entry_seen};
+ghost use Rattle.bp_floor.specs.inner.Parts.{ending_seen, part_seen};
+ghost use Rattle.bp_floor.specs.inner.Boards.{stand_of, pair_of, retired};
+ghost use Rattle.bp_floor.specs.inner.Kept.{IsBelow, IsKept, IsOn, Running};
 
 use crate::{Board, Ending, Entry, Part, Seat};
 use bp_log::limits::{MOST_THREADS, MOST_WAITING};

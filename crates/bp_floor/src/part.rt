@@ -1,6 +1,6 @@
 //! What bodies did.
 ghost use Rattle.std.specs.Prelude.{◌≡◌, ◌∷◌, ◌++◌, [], OnOk, map};
-ghost use Rattle.bp_floor.specs.Parts.{ran_seen};
+ghost use Rattle.bp_floor.specs.inner.Parts.{ran_seen};
 
 use crate::Entry;
 use bp_log::Memory;
@@ -60,7 +60,7 @@ impl Model for Rans {
     ghost use Rattle.js_value.specs.Codes.{value_code};
     ghost use Rattle.js_meaning.specs.Bodies.{Origin};
     ghost use Rattle.bp_run.specs.Settling as run;
-    ghost use Rattle.bp_floor.specs.Parts.{ran_seen};
+    ghost use Rattle.bp_floor.specs.inner.Parts.{ran_seen};
 
     ghost Value = { List (run.Ran Origin (Unit {0})) };
 

@@ -11,13 +11,13 @@ ghost use Rattle.bp_run.specs.Settling.{merged, turn, before};
 ghost use Rattle.bp_select.specs.Benches.{live_at};
 ghost use Rattle.bp_thread.specs.Views.{plain_statement};
 ghost use Rattle.bp_thread.specs.Jobs.{plain_job, is_ended};
-ghost use Rattle.bp_floor.specs.Seating.{seated, stop_at};
-ghost use Rattle.bp_floor.specs.Entries.{entry_seen};
-ghost use Rattle.bp_floor.specs.Parts.{part_seen, ending_seen, unstated};
+ghost use Rattle.bp_floor.specs.inner.Seating.{seated, stop_at};
+ghost use Rattle.bp_floor.specs.inner.Entries.{entry_seen};
+ghost use Rattle.bp_floor.specs.inner.Parts.{part_seen, ending_seen, unstated};
 ghost use Rattle.bp_floor.specs.Programs.{code_of};
-ghost use Rattle.bp_floor.specs.Boards.{stand_of, pair_of};
+ghost use Rattle.bp_floor.specs.inner.Boards.{stand_of, pair_of};
 ghost use Rattle.bp_floor.specs.Forgetting.{forgotten};
-ghost use Rattle.bp_floor.specs.Kept.{Running, AreBelow, IsKept, IsOn};
+ghost use Rattle.bp_floor.specs.inner.Kept.{Running, AreBelow, IsKept, IsOn};
 ghost use Rattle.bp_floor.specs.Lending.{filled, filled_pair, has_body};
 ghost use Rattle.bp_floor.specs.Returning.{IsBack, IsPut, IsSameBut, IsFilled, IsKeptBy, RunsBelow, Puts, AreAllBack, entry_in, turned_apart};
 

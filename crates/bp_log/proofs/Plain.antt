@@ -4,7 +4,7 @@ use Rattle.std.specs.Prelude.{flat_map, All}
 use Rattle.std.proofs.lemmas.Bool.{ne_eqb, le-ltb}
 use Rattle.std.proofs.lemmas.List.Elements.{All-head, All-tail}
 use Rattle.js_data.specs.JsonText.{escaped_byte, quoted_text}
-use Rattle.bp_log.specs.Plain.{StandsAsItIs}
+use Rattle.bp_log.specs.inner.Plain.{StandsAsItIs}
 
 not_small : (x n : ℕ) → 32 ≤ x → n < 32 → (x == n) ≡ false
 not_small x n h k = ne_eqb x n (λ e. absurd (omega arith))

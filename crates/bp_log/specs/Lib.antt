@@ -1,8 +1,8 @@
 pub mod Options
-pub mod Plain
 pub mod Beside
 pub mod Header
 pub mod Verdicts
 pub mod Records
 pub mod Texts
 pub mod Logs
+pub mod inner

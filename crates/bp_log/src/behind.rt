@@ -2,7 +2,7 @@
 ghost use Rattle.std.specs.Prelude.{◌≡◌, ◌++◌, ◌∷◌, [], ◌↔◌, All, IsTrue, OnOk, decimal, codes, string_bytes};
 ghost use Rattle.js_data.specs.JsonText.{quoted_text, event_text};
 ghost use Rattle.bp_log.specs.Texts.{place_text, verdict_text};
-ghost use Rattle.bp_log.specs.Plain.{StandsAsItIs};
+ghost use Rattle.bp_log.specs.inner.Plain.{StandsAsItIs};
 
 use crate::data::push_data;
 use crate::limits::{MOST_THREADS, MOST_WAITING, MOST_WEIGHT};

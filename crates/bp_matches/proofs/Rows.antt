@@ -14,7 +14,7 @@ use Rattle.bp_matches.specs.declared.key.Key.{Key}
 use Rattle.bp_matches.specs.declared.values.Values.{Values}
 use Rattle.bp_matches.specs.Keys.{key_name}
 use Rattle.bp_matches.specs.Normal.{value_in}
-use Rattle.bp_matches.specs.Reading.{option_rule}
+use Rattle.bp_matches.specs.inner.Reading.{option_rule}
 
 abbrev pub opt : Key → Rule
 opt k = filled (option_rule (key_name k))

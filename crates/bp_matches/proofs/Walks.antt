@@ -20,7 +20,7 @@ use Rattle.bp_matches.proofs.Rows.{opt, used_fresh, row_if, rows_said, apart, mi
 use Rattle.bp_matches.specs.declared.values.Values.{Values}
 use Rattle.bp_matches.specs.Keys.{key_name, keys}
 use Rattle.bp_matches.specs.Normal.{value_in, option_word, option_words, all_options, normal_words}
-use Rattle.bp_matches.specs.Reading.{names_id, names_rule, program}
+use Rattle.bp_matches.specs.inner.Reading.{names_id, names_rule, program}
 
 -- the command as a parse builds it
 abbrev top : Shape

@@ -1,3 +1,3 @@
 pub mod Keys
 pub mod Normal
-pub mod Reading
+pub mod inner

@@ -4,7 +4,7 @@ ghost use Rattle.clap.specs.Words.{kind_of, found_of, rule_of, app_of, matches_o
 ghost use Rattle.clap.specs.Walk.{rows_of};
 ghost use Rattle.bp_matches.specs.declared.values.Values.{Values};
 ghost use Rattle.bp_matches.specs.Normal.{normal_words};
-ghost use Rattle.bp_matches.specs.Reading.{option_rule, names_rule, bare, program};
+ghost use Rattle.bp_matches.specs.inner.Reading.{option_rule, names_rule, bare, program};
 
 use crate::key::Key;
 use clap::error::ErrorKind;

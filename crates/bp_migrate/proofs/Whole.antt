@@ -17,7 +17,7 @@ use Rattle.bp_told.proofs.Pieces.{written_all, written_front, written_part, writ
 use Rattle.bp_told.proofs.Logging.{log_is}
 use Rattle.bp_migrate.specs.declared.fault.MigrateFault.{MigrateFault}
 use Rattle.bp_migrate.specs.declared.fault.MigrateFault.TheVariants as fault
-use Rattle.bp_migrate.specs.Faults.{fault_of_log}
+use Rattle.bp_migrate.specs.inner.Faults.{fault_of_log}
 use Rattle.bp_migrate.specs.Copies.{EndsAt, Shown, Copies, CopiesTaken}
 use Rattle.bp_migrate.specs.Migrations.{Prints, CopiesBehind, TakenBehind, MigratesTaken}
 

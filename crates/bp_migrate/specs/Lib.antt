@@ -1,6 +1,6 @@
 pub use Rattle.bp_reading.specs.Reading
 pub use Rattle.bp_base.specs.Pieces
-pub mod Faults
 pub mod Copies
 pub mod Migrations
 pub mod Laws
+pub mod inner

@@ -44,7 +44,7 @@ impl From<Failed> for MigrateFault {
 
 impl From<LogFault> for MigrateFault {
     ghost use Rattle.std.specs.Prelude.{◌≡◌};
-    ghost use Rattle.bp_migrate.specs.Faults.{fault_of_log};
+    ghost use Rattle.bp_migrate.specs.inner.Faults.{fault_of_log};
 
     ghost from_gives = { λ f e. e ≡ fault_of_log f };
 

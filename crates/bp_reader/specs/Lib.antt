@@ -1,6 +1,6 @@
 pub use Rattle.bp_reading.specs.Reading
 pub use Rattle.bp_base.specs.Pieces
 pub mod Fed
-pub mod Faults
 pub mod Gets
 pub mod Reads
+pub mod inner

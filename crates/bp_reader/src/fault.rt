@@ -53,7 +53,7 @@ impl<T: Drop> From<AllocFailed<T>> for LogFault {
 impl From<Fault> for LogFault {
     ghost use Rattle.std.specs.Prelude.{◌≡◌};
     ghost use Rattle.bp_reader.specs.declared.input.Fault.{Fault};
-    ghost use Rattle.bp_reader.specs.Faults.{fault_of};
+    ghost use Rattle.bp_reader.specs.inner.Faults.{fault_of};
 
     ghost from_gives = { λ f e. e ≡ fault_of f };
 

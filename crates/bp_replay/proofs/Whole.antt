@@ -20,7 +20,7 @@ use Rattle.bp_follow.specs.Endings.{EndsAt}
 use Rattle.bp_follow.specs.Faults.{fault_of_log}
 use Rattle.bp_replay.specs.Replays.{Prints, HasNoRun, IsReplay, ReplaysTaken}
 use Rattle.bp_follow.specs.Following.{first_course, Shown, Tells, TellsTaken}
-use Rattle.bp_replay.specs.Behind.{HasNoProgram, EndsBehind, TakenBehind}
+use Rattle.bp_replay.specs.inner.Behind.{HasNoProgram, EndsBehind, TakenBehind}
 
 -- ---- the page is written
 

@@ -1,3 +1,3 @@
 pub mod Replays
-pub mod Behind
 pub mod Laws
+pub mod inner

@@ -5,7 +5,7 @@ ghost use Rattle.bp_reading.specs.Reading.{first_stage};
 ghost use Rattle.bp_reader.specs.declared.fault.LogFault.TheVariants as log_fault;
 ghost use Rattle.bp_reader.specs.Fed.{Between};
 ghost use Rattle.bp_replay.specs.Replays.{IsReplay, ReplaysTaken};
-ghost use Rattle.bp_replay.specs.Behind.{EndsBehind, TakenBehind};
+ghost use Rattle.bp_replay.specs.inner.Behind.{EndsBehind, TakenBehind};
 
 use bp_base::{Sink, Source};
 use bp_follow::{ReplayFault, replay_onto};

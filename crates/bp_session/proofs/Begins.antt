@@ -20,7 +20,7 @@ use Rattle.bp_core.specs.declared.stepping.Core.{Core}
 use Rattle.bp_core.specs.Cores.{KeepsProgram, IsCoreAt}
 use Rattle.bp_told.specs.Told.{Given, Waiting, IsTold, BeginsTelling}
 use Rattle.bp_turns.proofs.Arbiters.{same_code}
-use Rattle.bp_session.specs.Lending.{Begins}
+use Rattle.bp_session.specs.inner.Lending.{Begins}
 use Rattle.bp_session.proofs.Reports.{text_first}
 
 -- the code of a program's arbiter

@@ -7,8 +7,8 @@ use Rattle.bp_told.specs.Logging.{LogFails, LogStays}
 use Rattle.bp_told.specs.declared.fault.RunFault.{RunFault}
 use Rattle.bp_told.specs.declared.fault.RunFault.TheVariants.{Write, LogWrite, Memory}
 use Rattle.bp_scope.specs.declared.reading.Reading.{Reading}
-use Rattle.bp_session.specs.Hearing.{StopsHearing}
-use Rattle.bp_session.specs.Serving.{IsCaused, StopIsCaused}
+use Rattle.bp_session.specs.inner.Hearing.{StopsHearing}
+use Rattle.bp_session.specs.inner.Serving.{IsCaused, StopIsCaused}
 use Rattle.bp_session.specs.declared.stop.Stop.{Stop}
 use Rattle.bp_session.specs.declared.stop.Stop.TheVariants as stop
 

@@ -21,7 +21,7 @@ use Rattle.bp_session.specs.declared.report.Ending.{Ending}
 use Rattle.bp_session.specs.declared.report.Ending.TheVariants as ending
 use Rattle.bp_session.specs.declared.stop.Stop.{Stop}
 use Rattle.bp_session.specs.declared.stop.Stop.TheVariants as stop
-use Rattle.bp_session.specs.Serving.{IsReady, IsServing, IsAllTold, IsBrokenOff, IsAllWritten, IsFrontWritten, IsServedTo, IsEnded, TellsAll, StopsServing, CanTellRest, IsCaused, EndIsCaused, ending_of, broke_at}
+use Rattle.bp_session.specs.inner.Serving.{IsReady, IsServing, IsAllTold, IsBrokenOff, IsAllWritten, IsFrontWritten, IsServedTo, IsEnded, TellsAll, StopsServing, CanTellRest, IsCaused, EndIsCaused, ending_of, broke_at}
 use Rattle.bp_session.proofs.Causes.{caused_on}
 
 -- no fault is a failed source

@@ -17,8 +17,8 @@ use Rattle.bp_hear.specs.declared.hearing.TheConstants.{MOST_HEARD}
 use Rattle.bp_hear.specs.Hearings.{AreHeard, IsRecorded, Hears, IsHeardOut, records_by}
 use Rattle.bp_scope.specs.Readings.{Pairs, GoesOnAs}
 use Rattle.bp_scope.specs.declared.reading.Reading.{Reading}
-use Rattle.bp_session.specs.Hearing.{HearsOn, WasHeard, AreAsHeard}
-use Rattle.bp_session.specs.Serving.{LeadsOn, KeepsItems}
+use Rattle.bp_session.specs.inner.Hearing.{HearsOn, WasHeard, AreAsHeard}
+use Rattle.bp_session.specs.inner.Serving.{LeadsOn, KeepsItems}
 use Rattle.bp_session.proofs.Tells.{here_idle}
 use Rattle.bp_session.proofs.Each.{EachTo, each_map, each_next}
 

@@ -19,7 +19,7 @@ use Rattle.bp_core.specs.Cores.{IsCoreAt, Makes, Cuts, KeepsProgram}
 use Rattle.bp_core.specs.Moments.{step_on}
 use Rattle.bp_turns.specs.Settled.{IsSomewhereHere, EndsWith, ClosesCore, SettlesCore, CutsTurns}
 use Rattle.bp_turns.proofs.Arbiters.{same_code}
-use Rattle.bp_session.specs.Serving.{LeadsOn, CutsAt, KeepsItems}
+use Rattle.bp_session.specs.inner.Serving.{LeadsOn, CutsAt, KeepsItems}
 
 if_some : {A : Type 0} (b : Bool) (x n : A) → (if b then Some x else None) ≡ Some n → n ≡ x
 if_some true x n e = cc

@@ -43,9 +43,9 @@ use Rattle.bp_told.proofs.Order.{behind_longer}
 use Rattle.bp_told.proofs.Pieces.{appends_nothing, longer_front, records_text-append}
 use Rattle.bp_session.specs.declared.report.Ending.{Ending}
 use Rattle.bp_session.specs.declared.report.Ending.TheVariants as ending
-use Rattle.bp_session.specs.Lending.{Begins}
+use Rattle.bp_session.specs.inner.Lending.{Begins}
 use Rattle.bp_session.specs.Reports.{Wholly, Partly, BrokeAt, ComeBack, IsQuiet, EndsAs}
-use Rattle.bp_session.specs.Serving.{IsAllWritten, IsFrontWritten, IsEnded, EndsServing, EndIsCaused, broke_at}
+use Rattle.bp_session.specs.inner.Serving.{IsAllWritten, IsFrontWritten, IsEnded, EndsServing, EndIsCaused, broke_at}
 
 -- ---- what was written
 

@@ -15,8 +15,8 @@ use Rattle.bp_hear.specs.Hearings.{AreHeard}
 use Rattle.bp_scope.specs.declared.reading.Reading.{Reading}
 use Rattle.bp_session.specs.declared.stop.Stop.{Stop}
 use Rattle.bp_session.specs.declared.stop.Stop.TheVariants as stop
-use Rattle.bp_session.specs.Hearing.{HearsOn, StopsHearing}
-use Rattle.bp_session.specs.Serving.{IsReady, IsUnwritten, TellsAll, ServesOn, BreaksServing, StillTold, PartTold, StopsTurning, StopsServing, LeadsOn, CutsAt, KeepsItems}
+use Rattle.bp_session.specs.inner.Hearing.{HearsOn, StopsHearing}
+use Rattle.bp_session.specs.inner.Serving.{IsReady, IsUnwritten, TellsAll, ServesOn, BreaksServing, StillTold, PartTold, StopsTurning, StopsServing, LeadsOn, CutsAt, KeepsItems}
 use Rattle.bp_session.proofs.Served.{serving_on, cut_off, stop_here, some_text, here_tells, ready_somewhere, ready_on}
 use Rattle.bp_session.proofs.Hears.{heard_kept}
 

@@ -24,7 +24,7 @@ use Rattle.bp_told.proofs.Pieces.{lines_text-append}
 use Rattle.bp_told.proofs.Told.{told_broken}
 use Rattle.bp_turns.specs.Settled.{IsHere, IsSomewhereHere, EndsWith, ClosesCore, SettlesCore, CutsTurns}
 use Rattle.bp_turns.proofs.Arbiters.{same_code, recounts_at}
-use Rattle.bp_session.specs.Serving.{IsServing, IsReady, IsBrokenOff, ServesOn, BreaksServing}
+use Rattle.bp_session.specs.inner.Serving.{IsServing, IsReady, IsBrokenOff, ServesOn, BreaksServing}
 
 -- ---- the text
 

@@ -26,7 +26,7 @@ use Rattle.bp_told.proofs.Pieces.{take_whole}
 use Rattle.bp_told.proofs.Told.{told_broken}
 use Rattle.bp_turns.specs.Settled.{IsHere}
 use Rattle.bp_turns.proofs.Arbiters.{same_code, recounts_at}
-use Rattle.bp_session.specs.Serving.{IsServing, ServesOn, TellsAll, BreaksServing, StillTold, PartTold}
+use Rattle.bp_session.specs.inner.Serving.{IsServing, ServesOn, TellsAll, BreaksServing, StillTold, PartTold}
 use Rattle.bp_session.proofs.Served.{text_at, some_text, lines_come, here_tells}
 
 -- ---- where nothing is to be run

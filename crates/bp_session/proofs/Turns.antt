@@ -19,8 +19,8 @@ use Rattle.bp_inject.proofs.Joined.{from_on}
 use Rattle.bp_hear.specs.declared.hearing.Hearing.{Hearing}
 use Rattle.bp_scope.specs.declared.reading.Reading.{Reading}
 use Rattle.bp_scope.specs.Readings.{GoesOnAs}
-use Rattle.bp_session.specs.Hearing.{AreAsHeard}
-use Rattle.bp_session.specs.Turning.{turns_here, IsTurn, MakesTurn, MakeTurns}
+use Rattle.bp_session.specs.inner.Hearing.{AreAsHeard}
+use Rattle.bp_session.specs.inner.Turning.{turns_here, IsTurn, MakesTurn, MakeTurns}
 use Rattle.bp_session.proofs.Hears.{goes_none}
 
 mouth_on : (m n : Mouth) (e : Ear) → IsLane m e → IsSameMouth m n → IsLane n e

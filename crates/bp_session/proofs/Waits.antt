@@ -24,7 +24,7 @@ use Rattle.bp_core.specs.Cores.{IsCoreAt, Makes, KeepsProgram}
 use Rattle.bp_core.specs.Moments.{step_on}
 use Rattle.bp_turns.specs.Settled.{IsSomewhereHere}
 use Rattle.bp_turns.proofs.Arbiters.{same_code, coming_at}
-use Rattle.bp_session.specs.Turning.{IsWaiting}
+use Rattle.bp_session.specs.inner.Turning.{IsWaiting}
 use Rattle.bp_session.proofs.Picked.{pick_next}
 
 -- only where a run waits a pick answers so

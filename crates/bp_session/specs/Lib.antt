@@ -1,5 +1,2 @@
-pub mod Serving
-pub mod Hearing
 pub mod Reports
-pub mod Lending
-pub mod Turning
+pub mod inner

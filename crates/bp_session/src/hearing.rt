@@ -3,7 +3,7 @@ ghost use Rattle.std.specs.Prelude.{◌≡◌, ◌<◌, ◌^◌, length, nat_lt,
 ghost use Rattle.bp_floor.specs.declared.phase.Phase.TheVariants as phase;
 ghost use Rattle.bp_hear.specs.Hearings.{AreHeard};
 ghost use Rattle.bp_scope.specs.Readings.{Pairs, GoesOnAs};
-ghost use Rattle.bp_session.specs.Hearing.{HearsOn, IsHeardOn, WasHeard, WereHeard, IsStoppedAt, StopsHearing};
+ghost use Rattle.bp_session.specs.inner.Hearing.{HearsOn, IsHeardOn, WasHeard, WereHeard, IsStoppedAt, StopsHearing};
 
 use crate::stop::Stop;
 use bp_base::Source;

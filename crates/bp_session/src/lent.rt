@@ -9,8 +9,8 @@ ghost use Rattle.bp_hear.specs.Hearings.{AreHeard};
 ghost use Rattle.bp_scope.specs.Readings.{Pairs, IsHeld, GoesOnAs, HasFailed, AreBack};
 ghost use Rattle.bp_told.specs.Logging.{LogStays};
 ghost use Rattle.bp_told.specs.Told.{Given, given};
-ghost use Rattle.bp_session.specs.Lending.{WritesTo};
-ghost use Rattle.bp_session.specs.Serving.{IsReady, IsServing, IsBrokenOff, IsServedTo, CanTellRest, IsEnded, EndsServing, EndIsCaused, ending_of, broke_at};
+ghost use Rattle.bp_session.specs.inner.Lending.{WritesTo};
+ghost use Rattle.bp_session.specs.inner.Serving.{IsReady, IsServing, IsBrokenOff, IsServedTo, CanTellRest, IsEnded, EndsServing, EndIsCaused, ending_of, broke_at};
 
 use crate::calling::Calls;
 use crate::report::Ending;
@@ -214,7 +214,7 @@ pub(crate) fn serve_alone<S: Source + Drop, R: Threads + Wait + Sync, K: Sink, L
 impl<K: Sink, L: Sink, S: Source + Drop, R: Threads + Wait + Sync, V: Shows> Serves<S, R>
     for Lent<'_, '_, '_, K, L, S, V> {
     ghost use denote.Param.Send.{IsSync};
-    ghost use Rattle.bp_session.specs.Lending.{IsServed};
+    ghost use Rattle.bp_session.specs.inner.Lending.{IsServed};
 
     ghost served = { λ o n. IsServed K.written K.faults L.written L.made_as L.faults o n };
 

@@ -13,9 +13,9 @@ ghost use Rattle.bp_told.specs.Told.{given};
 ghost use Rattle.bp_hear.specs.Heard.{EachHeard};
 ghost use Rattle.bp_scope.specs.Places.{HasRoom};
 ghost use Rattle.bp_scope.specs.Readings.{AreBack, HasBroken};
-ghost use Rattle.bp_session.specs.Lending.{Begins};
+ghost use Rattle.bp_session.specs.inner.Lending.{Begins};
 ghost use Rattle.bp_session.specs.Reports.{ComeBack, EndsAs};
-ghost use Rattle.bp_session.specs.Serving.{IsReady, EndsServing, EndIsCaused, broke_at};
+ghost use Rattle.bp_session.specs.inner.Serving.{IsReady, EndsServing, EndIsCaused, broke_at};
 
 use crate::lent::{Lent, Parts, serve_alone};
 use crate::report::{Ending, Report};

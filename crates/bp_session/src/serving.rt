@@ -8,9 +8,9 @@ ghost use Rattle.bp_hear.specs.Hearings.{AreHeard};
 ghost use Rattle.bp_scope.specs.Readings.{Pairs, GoesOnAs};
 ghost use Rattle.bp_told.specs.Logging.{LogStays};
 ghost use Rattle.bp_told.specs.Told.{given, WritesAll};
-ghost use Rattle.bp_session.specs.Hearing.{AreAsHeard};
-ghost use Rattle.bp_session.specs.Turning.{turns_here, MakeTurns, IsWaiting};
-ghost use Rattle.bp_session.specs.Serving.{IsReady, ServesOn, BreaksServing, StillTold, StopsServing, IsCaused, StopIsCaused, StopsTurning, TellsAll, LeadsOn, CutsAt, KeepsItems};
+ghost use Rattle.bp_session.specs.inner.Hearing.{AreAsHeard};
+ghost use Rattle.bp_session.specs.inner.Turning.{turns_here, MakeTurns, IsWaiting};
+ghost use Rattle.bp_session.specs.inner.Serving.{IsReady, ServesOn, BreaksServing, StillTold, StopsServing, IsCaused, StopIsCaused, StopsTurning, TellsAll, LeadsOn, CutsAt, KeepsItems};
 ghost use Rattle.bp_turns.specs.Settled.{IsSomewhereHere, IsSettled};
 
 use crate::calling::Calls;

@@ -4,7 +4,7 @@ ghost use Rattle.bp_told.specs.Logging.{LogStays};
 ghost use Rattle.bp_told.specs.Told.{given, WritesAll};
 ghost use Rattle.bp_floor.specs.Floors.{is_idle};
 ghost use Rattle.bp_core.specs.Cores.{KeepsProgram};
-ghost use Rattle.bp_session.specs.Serving.{IsReady, ServesOn, BreaksServing, TellsAll, PartTold, IsUnwritten, IsCaused, StopIsCaused};
+ghost use Rattle.bp_session.specs.inner.Serving.{IsReady, ServesOn, BreaksServing, TellsAll, PartTold, IsUnwritten, IsCaused, StopIsCaused};
 
 use crate::stop::Stop;
 use bp_base::Sink;

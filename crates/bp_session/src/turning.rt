@@ -2,8 +2,8 @@
 ghost use Rattle.std.specs.Prelude.{◌≡◌, OnOk};
 ghost use Rattle.std.specs.List.{list_any};
 ghost use Rattle.bp_scope.specs.Readings.{Pairs, GoesOnAs};
-ghost use Rattle.bp_session.specs.Hearing.{AreAsHeard};
-ghost use Rattle.bp_session.specs.Turning.{turns_here, MakesTurn, MakeTurns};
+ghost use Rattle.bp_session.specs.inner.Hearing.{AreAsHeard};
+ghost use Rattle.bp_session.specs.inner.Turning.{turns_here, MakesTurn, MakeTurns};
 
 use bp_base::{Memory, Source};
 use bp_inject::Started;

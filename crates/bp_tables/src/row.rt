@@ -1,7 +1,7 @@
 //! A row of a table.
 
 ghost use Rattle.std.specs.Prelude.{◌≡◌, ◌≤◌, length, IsTrue};
-ghost use Rattle.bp_tables.specs.Keys.{key_of, is_within};
+ghost use Rattle.bp_tables.specs.inner.Keys.{key_of, is_within};
 
 /// A key of few bytes, and its value. The key is the first `size` bytes of `key`.
 #[derive(Clone, Copy)]

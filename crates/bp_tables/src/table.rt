@@ -1,7 +1,7 @@
 //! A table of rows.
 
 ghost use Rattle.std.specs.Prelude.{◌≡◌, ◌≤◌, IsTrue, None, Some, IfSome, MatchOption, length, take};
-ghost use Rattle.bp_tables.specs.Keys.{entries, are_within};
+ghost use Rattle.bp_tables.specs.inner.Keys.{entries, are_within};
 ghost use Rattle.bp_tables.specs.Found.{find_in, front_in};
 
 use crate::Row;
@@ -22,7 +22,7 @@ pub struct Table<const N: usize> {
 
 impl<const N: usize> Model for Table<N> {
     ghost use Rattle.std.specs.Prelude.{List, ℕ, IsTrue};
-    ghost use Rattle.bp_tables.specs.Keys.{entries, are_within};
+    ghost use Rattle.bp_tables.specs.inner.Keys.{entries, are_within};
 
     ghost Value = { List (List ℕ × ℕ) };
 

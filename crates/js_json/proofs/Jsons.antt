@@ -5,7 +5,7 @@ use Rattle.serde_json.specs.Data as json
 use Rattle.serde_json.specs.View.{items_of, items_view, members_view, view}
 use Rattle.serde_json.proofs.Views.{Entry}
 use Rattle.serde_json.specs.declared.value.Value.{Value}
-use Rattle.js_json.specs.Built.{data_json, list_json}
+use Rattle.js_json.specs.inner.Built.{data_json, list_json}
 use Rattle.js_json.specs.Json.{data_from, list_from, fields_from, event_of_parts, event_of_items}
 use Rattle.serde_json.specs.Find.{as_str}
 use Rattle.js_data.specs.Data.{DataList, DataFields}

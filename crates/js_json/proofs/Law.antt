@@ -22,7 +22,7 @@ use Rattle.js_data.specs.Whole.{IsWhole}
 use Rattle.js_data.specs.Data.{PlainData, null, truth, whole, words, list, fields, DataList, no_data, item, DataFields, no_fields, field, IsSortedData, AreSortedData, AreSortedDataFields, IsHeld, AreHeld, AreHeldFields}
 use Rattle.js_data.specs.Event.{PlainEvent, IsEvent, IsSortedExtra, IsHeldExtra}
 use Rattle.js_data.specs.JsonText.{event_text, data_text, data_list_text, data_fields_text, extra_text, quoted_text, comma}
-use Rattle.js_json.specs.Built.{data_json, list_json, put_all, event_json}
+use Rattle.js_json.specs.inner.Built.{data_json, list_json, put_all, event_json}
 use Rattle.js_json.specs.Json.{event_at, data_from, list_from, fields_from, event_from, if_whole}
 use Rattle.json.proofs.Printed.Utf8.{are_ascii, IsUtf8-are_ascii, IsUtf8-quoted}
 use Rattle.js_json.proofs.Escapes.{quoted_is}

@@ -12,7 +12,7 @@ use Rattle.js_data.specs.Data.{PlainData, null, truth, whole, words, list, field
 use Rattle.js_data.specs.Event.{PlainEvent, IsEvent, IsSortedExtra, extra_nesting}
 use Rattle.serde_json.specs.Read.{max_depth}
 use Rattle.js_data.specs.JsonText.{data_text, data_list_text, data_fields_text, event_text}
-use Rattle.js_json.specs.Built.{data_json, list_json, put_all, event_json}
+use Rattle.js_json.specs.inner.Built.{data_json, list_json, put_all, event_json}
 use Rattle.js_json.proofs.Escapes.{quoted_is, escape_is}
 
 -- ---- the members of sorted fields stand in order

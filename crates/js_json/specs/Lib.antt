@@ -4,4 +4,4 @@ pub use Rattle.js_data.specs.Event
 pub use Rattle.js_data.specs.JsonText
 pub use Rattle.js_data.specs.Views
 pub mod Json
-pub mod Built
+pub mod inner

@@ -5,7 +5,7 @@ ghost use Rattle.serde_json.specs.Data.{no_members};
 ghost use Rattle.js_data.specs.Data.{IsSortedData};
 ghost use Rattle.js_data.specs.JsonText.{data_text as text_of_data, event_text as text_of_event, quoted_text};
 ghost use Rattle.js_data.specs.Views.{plain_data, data_list_view, data_fields_view};
-ghost use Rattle.js_json.specs.Built.{data_json, list_json, put_all, event_json};
+ghost use Rattle.js_json.specs.inner.Built.{data_json, list_json, put_all, event_json};
 ghost use Rattle.js_json.specs.Json.{event_at};
 
 use js_data::{Data, Event, Memory, Text};

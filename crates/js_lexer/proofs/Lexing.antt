@@ -8,12 +8,12 @@ use Rattle.js_lexer.specs.declared.token.Stop.{Stop}
 use Rattle.js_lexer.specs.declared.token.Stop.TheVariants.{Refused as Refused', Memory}
 use Rattle.js_lexer.specs.declared.token.Flaw.{Flaw}
 use Rattle.js_lexer.specs.declared.token.Flaw.TheVariants.{Character, OpenText, Escape, NumberRange, Unsupported}
-use Rattle.js_lexer.specs.Found.{IsFound}
+use Rattle.js_lexer.specs.inner.Found.{IsFound}
 use Rattle.js_lexer.specs.Front.{Piece, gap, token, refused, front}
 use Rattle.js_lexer.specs.Gaps.{line_ends, line_of}
 use Rattle.js_lexer.specs.Cut.{Refused}
 use Rattle.js_lexer.specs.Lexed.{IsRefusal, fault_of}
-use Rattle.js_lexer.specs.Steps.{IsStep, StopFits, fault_of_stop}
+use Rattle.js_lexer.specs.inner.Steps.{IsStep, StopFits, fault_of_stop}
 use Rattle.js_lexer.specs.declared.token.Token.{Token as Token'}
 use Rattle.js_lexer.proofs.Cutting.{SoFar, so_far_refused}
 use Rattle.js_lexer.proofs.Lines.{line_ends_add}

@@ -5,7 +5,7 @@ use Rattle.std.specs.List.{slice_index}
 use Rattle.std.proofs.lemmas.Bool.Decides.{nat_tests}
 use Rattle.js_lexer.specs.declared.token.Flaw.TheVariants.{Escape as Escape'}
 use Rattle.js_lexer.specs.Front.{quoted, refused}
-use Rattle.js_lexer.specs.Found.{Read, stuck}
+use Rattle.js_lexer.specs.inner.Found.{Read, stuck}
 use Rattle.js_lexer.proofs.Ends.{escape_boundary, escape_fits}
 use Rattle.js_lexer.specs.Literals.{Escape, is_break, escape, spelled, Literal, closed, unclosed, wrong, behind, literal, plain_size}
 

@@ -9,5 +9,4 @@ pub mod Front
 pub mod Cut
 pub mod Lexed
 pub mod Laws
-pub mod Found
-pub mod Steps
+pub mod inner

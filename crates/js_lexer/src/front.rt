@@ -3,7 +3,7 @@ ghost use Rattle.std.specs.Prelude.{◌≡◌, ◌≤◌, ◌<◌, ◌+◌, ◌�
 ghost use Rattle.std.specs.Str.{IsUtf8};
 ghost use Rattle.js_lexer.specs.declared.limits.TheConstants.{MOST_BYTES};
 ghost use Rattle.js_lexer.specs.Bytes.{is_quote};
-ghost use Rattle.js_lexer.specs.Found.{IsFound};
+ghost use Rattle.js_lexer.specs.inner.Found.{IsFound};
 ghost use Rattle.js_lexer.specs.Front.{token, name_size, name_kind, block, mark, quoted, is_dot_digit, front, comment_or_mark, gap_or_mark};
 ghost use Rattle.js_lexer.specs.Gaps.{size_to_close};
 ghost use Rattle.js_lexer.specs.Literals.{literal};

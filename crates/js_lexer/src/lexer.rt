@@ -5,7 +5,7 @@ ghost use Rattle.js_lexer.specs.declared.limits.TheConstants.{MOST_BYTES};
 ghost use Rattle.js_lexer.specs.Cut.{Cut};
 ghost use Rattle.js_lexer.specs.Words.{all_words, all_marks};
 ghost use Rattle.js_lexer.specs.Lexed.{IsRefusal, fault_of};
-ghost use Rattle.js_lexer.specs.Steps.{IsStep, StopFits, fault_of_stop};
+ghost use Rattle.js_lexer.specs.inner.Steps.{IsStep, StopFits, fault_of_stop};
 ghost use Rattle.js_lexer.specs.Laws.{OneCutting, OneRefusal, NeverBoth, CutOrRefused, TokensInOrder, LongestMark};
 
 use crate::front::front_at;

@@ -1,7 +1,7 @@
 //! Text literals and their escapes.
 ghost use Rattle.std.specs.Prelude.{◌≡◌, ◌≤◌, ◌<◌, ◌+◌, ◌*◌, ◌++◌, IsTrue, OnOk, nat_eq, false, List, ℕ, ◌∷◌, drop, length, IfSome, string_bytes};
 ghost use Rattle.js_lexer.specs.declared.limits.TheConstants.{MOST_BYTES};
-ghost use Rattle.js_lexer.specs.Found.{IsFound, IsRead, stuck};
+ghost use Rattle.js_lexer.specs.inner.Found.{IsFound, IsRead, stuck};
 ghost use Rattle.js_lexer.specs.Bytes.{is_quote};
 ghost use Rattle.js_lexer.specs.Front.{quoted, refused};
 ghost use Rattle.js_lexer.specs.Literals.{is_break, two_digits, four_digits, is_high, is_low, character, byte_escape, second_half, unit_escape, braced_escape, unicode_escape, zero_escape, plain_escape, letter, escape, spelled, literal, plain_size};

@@ -1,7 +1,7 @@
 //! Numbers.
 ghost use Rattle.std.specs.Prelude.{◌≡◌, ◌≤◌, ◌<◌, ◌+◌, ◌≢◌, IsTrue, length, pos, MatchOption};
 ghost use Rattle.js_lexer.specs.Front.{number};
-ghost use Rattle.js_lexer.specs.Found.{IsFound};
+ghost use Rattle.js_lexer.specs.inner.Found.{IsFound};
 ghost use Rattle.js_lexer.specs.Numbers.{digit_value, is_digit_of, digits_size, digits_value, has_base, base_of, number_size, number_value, is_unsupported_end};
 
 use crate::bytes::{is_digit_byte, stands_in_name};

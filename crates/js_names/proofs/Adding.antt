@@ -23,8 +23,8 @@ use Rattle.js_names.specs.Spots.{program_spot}
 use Rattle.js_names.specs.Sites.{Site, site, begin_site, item_sites, program_sites}
 use Rattle.js_names.specs.Places.{Place, see, places}
 use Rattle.js_names.specs.Views.{place_of, scope_of, scopes_of, scopes_onto}
-use Rattle.js_names.specs.Walks.{Adds, Enters, EntersForOf, Entered, Left, scopes_in}
-use Rattle.js_names.specs.TreeSites.{tree_item_sites}
+use Rattle.js_names.specs.inner.Walks.{Adds, Enters, EntersForOf, Entered, Left, scopes_in}
+use Rattle.js_names.specs.inner.TreeSites.{tree_item_sites}
 use Rattle.js_names.proofs.Stacks.{scopes_push}
 
 -- two lists of places, one after the other

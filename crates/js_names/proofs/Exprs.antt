@@ -23,7 +23,7 @@ use Rattle.js_names.specs.declared.place.Around.{Around}
 use Rattle.js_names.specs.Scopes.{Scope, function_scope}
 use Rattle.js_names.specs.Forms.{object_of, value_builtin, called_builtin}
 use Rattle.js_names.specs.Sites.{Site, expr_sites, form_sites, exprs_sites, fields_sites, stmts_sites, read_site, assign_site, member_sites, begin_site, parameter_sites, in_function}
-use Rattle.js_names.specs.TreeSites.{tree_sites, field_sites, tree_stmt_sites, arrow_sites, body_sites}
+use Rattle.js_names.specs.inner.TreeSites.{tree_sites, field_sites, tree_stmt_sites, arrow_sites, body_sites}
 
 -- the places of an expression are those of its form
 form_at : (s : List Scope) (a : Around) (e : Expr) (f : Form) (g : PlainForm) → e.form ≡ f → plain_form f ≡ g → form_sites s a g ≡ tree_sites s a e

@@ -10,7 +10,7 @@ use Rattle.js_tree.specs.Plain.{PlainItem}
 use Rattle.js_names.specs.Places.{Place, places}
 use Rattle.js_names.specs.Slots.{assigned_in, slots_of, slot_count}
 use Rattle.js_names.specs.Rules.{fault_at, spot_of, sooner, soonest, name_fault}
-use Rattle.js_names.specs.Breaches.{fault_of}
+use Rattle.js_names.specs.inner.Breaches.{fault_of}
 use Rattle.js_names.specs.Views.{place_of}
 use Rattle.js_names.specs.Held.{Sets, held_in}
 

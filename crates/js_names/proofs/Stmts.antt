@@ -23,7 +23,7 @@ use Rattle.js_names.specs.declared.place.Role.{Role}
 use Rattle.js_names.specs.Entries.{top}
 use Rattle.js_names.specs.Scopes.{Scope, for_three_scope}
 use Rattle.js_names.specs.Sites.{site, word_at, perhaps_sites, declarators_sites, start_sites, stmt_sites, stmt_form_sites, item_sites, declared_role, in_loop, in_function}
-use Rattle.js_names.specs.TreeSites.{tree_sites, declarator_sites, perhaps_tree_sites, start_tree_sites, tree_stmt_sites, block_sites, for_sites, listed_sites, turn_sites, declared_sites, tree_item_sites}
+use Rattle.js_names.specs.inner.TreeSites.{tree_sites, declarator_sites, perhaps_tree_sites, start_tree_sites, tree_stmt_sites, block_sites, for_sites, listed_sites, turn_sites, declared_sites, tree_item_sites}
 use Rattle.js_names.proofs.Exprs.{stmts_flat, body_is}
 
 -- the places of a statement are those of its form

@@ -8,9 +8,7 @@ pub mod Scoped
 pub mod Kept
 pub mod Slots
 pub mod Rules
-pub mod Breaches
 pub mod Views
 pub mod Taken
 pub mod Held
-pub mod Walks
-pub mod TreeSites
+pub mod inner

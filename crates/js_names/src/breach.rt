@@ -2,7 +2,7 @@
 ghost use Rattle.std.specs.Prelude.{◌≡◌, IfOk};
 ghost use Rattle.js_tree.specs.declared.tree.Name.{Name};
 ghost use Rattle.js_names.specs.Rules.{number_of, comes_before, sooner};
-ghost use Rattle.js_names.specs.Breaches.{fault_of, fault_in};
+ghost use Rattle.js_names.specs.inner.Breaches.{fault_of, fault_in};
 
 use crate::place::{NameFault, Seen, copy_of};
 use std::alloc::AllocError;

@@ -4,7 +4,7 @@ ghost use Rattle.js_tree.specs.Views.{plain_tree};
 ghost use Rattle.js_names.specs.Places.{places};
 ghost use Rattle.js_names.specs.Slots.{assigned_in, slots_of};
 ghost use Rattle.js_names.specs.Rules.{fault_at, soonest, name_fault};
-ghost use Rattle.js_names.specs.Breaches.{told, fault_in};
+ghost use Rattle.js_names.specs.inner.Breaches.{told, fault_in};
 ghost use Rattle.js_names.specs.Views.{place_of};
 ghost use Rattle.js_names.specs.Held.{held_in};
 

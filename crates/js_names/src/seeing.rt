@@ -5,7 +5,7 @@ ghost use Rattle.js_names.specs.Sites.{site, read_site, assign_site, begin_site,
 ghost use Rattle.js_names.specs.Scopes.{for_of_role};
 ghost use Rattle.js_names.specs.Places.{see, functions_of, owner_in};
 ghost use Rattle.js_names.specs.Views.{place_of, scope_of, scopes_of};
-ghost use Rattle.js_names.specs.Walks.{Adds, Entered, Left, scopes_in};
+ghost use Rattle.js_names.specs.inner.Walks.{Adds, Entered, Left, scopes_in};
 
 use crate::forms::{is_reserved, is_undefined};
 use crate::lookup::{clashes, declared_at};

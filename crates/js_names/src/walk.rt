@@ -7,8 +7,8 @@ ghost use Rattle.js_names.specs.Forms.{object_of, value_builtin, called_builtin}
 ghost use Rattle.js_names.specs.Sites.{site, begin_site, parameter_sites, member_sites, in_function, in_loop, word_at};
 ghost use Rattle.js_names.specs.Places.{places};
 ghost use Rattle.js_names.specs.Views.{place_of};
-ghost use Rattle.js_names.specs.Walks.{Adds, Enters, EntersForOf, scopes_in};
-ghost use Rattle.js_names.specs.TreeSites.{tree_sites, field_sites, declarator_sites, tree_stmt_sites, tree_item_sites, block_sites, arrow_sites, body_sites, declared_sites, listed_sites, turn_sites, perhaps_tree_sites, start_tree_sites};
+ghost use Rattle.js_names.specs.inner.Walks.{Adds, Enters, EntersForOf, scopes_in};
+ghost use Rattle.js_names.specs.inner.TreeSites.{tree_sites, field_sites, declarator_sites, tree_stmt_sites, tree_item_sites, block_sites, arrow_sites, body_sites, declared_sites, listed_sites, turn_sites, perhaps_tree_sites, start_tree_sites};
 
 use crate::first::program_spot;
 use crate::forms::{called_builtin, object_of, value_builtin};

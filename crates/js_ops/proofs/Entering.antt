@@ -13,7 +13,7 @@ use Rattle.js_value.specs.Kept.{HaveSortedKeys}
 use Rattle.js_value.specs.Views.{plain_value}
 use Rattle.js_value.specs.declared.value.Value.{Value}
 use Rattle.js_ops.specs.Making.{put}
-use Rattle.js_ops.specs.Entered.{Entry, entries_view, AreUnderTheirKeys}
+use Rattle.js_ops.specs.inner.Entered.{Entry, entries_view, AreUnderTheirKeys}
 
 abbrev Key : Type 0
 Key = Bor (List ℕ)

@@ -22,7 +22,7 @@ use Rattle.js_resolver.specs.declared.emitter.Emitter.{Emitter}
 use Rattle.js_resolver.specs.Pieces.{none, after, beside}
 use Rattle.js_resolver.specs.NodeForms.{begins_with_division, call_node, floors_division, is_division, member_node, method_of}
 use Rattle.js_resolver.specs.Nodes.{arguments_piece, expr_parts, expr_piece, exprs_piece, form_parts}
-use Rattle.js_resolver.specs.Emits.{count, is_divide, Emits, EmitsCallee, EmitsCalled, Forms, FormsCall, FormsExpr, FormsBuiltin, builtin_in, word_in, parts_in, called_piece, callee_piece}
+use Rattle.js_resolver.specs.inner.Emits.{count, is_divide, Emits, EmitsCallee, EmitsCalled, Forms, FormsCall, FormsExpr, FormsBuiltin, builtin_in, word_in, parts_in, called_piece, callee_piece}
 use Rattle.js_resolver.proofs.Emitting.{adds_both, adds_none, counts, emits_both, emits_none}
 
 pub member_builtin : (ps : List Place) (a : Emitter) (x : PlainExpr) (t : List ℕ) (f : Builtin) (w : Vec ℕ Global) → value_builtin x t ≡ Some f → w.items ≡ [] → FormsExpr ps a a (N.Builtin f w) (p.member x t)

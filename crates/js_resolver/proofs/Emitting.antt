@@ -11,7 +11,7 @@ use Rattle.js_resolver.specs.declared.emitter.Emitter.{Emitter}
 use Rattle.js_resolver.specs.Pieces.{Piece, none, beside, after, closed}
 use Rattle.js_resolver.specs.NodeForms.{expr_node, stmt_node}
 use Rattle.js_resolver.specs.Nodes.{form_parts, stmt_parts}
-use Rattle.js_resolver.specs.Emits.{nodes_of, functions_of, count, Puts, Adds, Emits, Forms, FormsExpr, FormsStmt, Leaves}
+use Rattle.js_resolver.specs.inner.Emits.{nodes_of, functions_of, count, Puts, Adds, Emits, Forms, FormsExpr, FormsStmt, Leaves}
 
 -- how many nodes there are now
 pub counts : (a b : Emitter) (x : Piece) → Adds a b x → count b ≡ after (count a) x

@@ -30,7 +30,7 @@ use Rattle.js_resolver.specs.Variables.{slot_at}
 use Rattle.js_resolver.specs.Pieces.{beside}
 use Rattle.js_resolver.specs.NodeForms.{expr_node, keys_of}
 use Rattle.js_resolver.specs.Nodes.{expr_piece, form_parts, exprs_piece, fields_piece}
-use Rattle.js_resolver.specs.Emits.{count, Puts, Emits, EmitsCallee, FormsCall, FormsExpr}
+use Rattle.js_resolver.specs.inner.Emits.{count, Puts, Emits, EmitsCallee, FormsCall, FormsExpr}
 use Rattle.js_resolver.proofs.Emitting.{emits_none, emits_both, forms_expr, if_forms_expr, if_closes}
 use Rattle.js_resolver.proofs.CallArms.{call_whole}
 use Rattle.js_tree.proofs.Forms.{expr_is, number_is, words_is, truth_is, null_is, use_is, list_is, fields_is, member_is, index_is, call_is, unary_is, update_is, binary_is, conditional_is, assign_is, arrow_value_is, arrow_block_is, function_is}

@@ -25,7 +25,7 @@ use Rattle.js_resolver.specs.declared.emitter.Emitter.{Emitter}
 use Rattle.js_resolver.specs.Variables.{body_of, code_at}
 use Rattle.js_resolver.specs.Pieces.{Piece, function_piece, one_value}
 use Rattle.js_resolver.specs.Nodes.{expr_piece, form_parts, item_piece, stmt_piece, stmts_piece}
-use Rattle.js_resolver.specs.Emits.{functions_of, count, Adds, Emits, EmitsMore, FormsExpr, PutsBody}
+use Rattle.js_resolver.specs.inner.Emits.{functions_of, count, Adds, Emits, EmitsMore, FormsExpr, PutsBody}
 
 inserted : {A : Type 0} (xs ys : List A) (y : A) → insert (xs ++ ys) (length xs) y ≡ xs ++ y ∷ ys
 inserted xs ys y = ap (λ z. z ++ y ∷ drop (length xs) (xs ++ ys)) (take-append_seam xs ys) ∙ ap (λ z. xs ++ y ∷ z) (drop-append_seam xs ys)

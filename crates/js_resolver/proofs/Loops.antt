@@ -21,7 +21,7 @@ use Rattle.js_resolver.specs.Variables.{named_at}
 use Rattle.js_resolver.specs.Pieces.{Piece, none, beside, after}
 use Rattle.js_resolver.specs.NodeForms.{keys_of, perhaps_part, parts_after, declared_of}
 use Rattle.js_resolver.specs.Nodes.{expr_piece, exprs_piece, fields_piece, perhaps_piece, declarators_piece, stmt_piece, stmts_piece, item_piece, items_piece}
-use Rattle.js_resolver.specs.Emits.{count, Adds, Emits, EmitsMore, EmitsDeclarators, EmitsPerhaps, Leaves, tree_perhaps}
+use Rattle.js_resolver.specs.inner.Emits.{count, Adds, Emits, EmitsMore, EmitsDeclarators, EmitsPerhaps, Leaves, tree_perhaps}
 use Rattle.js_resolver.proofs.Emitting.{counts, leaves_all, leaves_none, leaves_more, numbers_more}
 use Rattle.js_tree.proofs.Forms.{field_is}
 use Rattle.js_tree.proofs.Statements.{declarator_is}

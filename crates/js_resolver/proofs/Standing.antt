@@ -10,7 +10,7 @@ use Rattle.js_names.specs.Slots.{assigned_in, slots_of, captures, vars_of, const
 use Rattle.js_names.specs.Held.{Sets, held_in}
 use Rattle.js_resolver.specs.Tables.{Known}
 use Rattle.js_resolver.specs.Variables.{named_there, around_there, name_key, owner_key, known_in, named_at, code_at, around_of, index_in}
-use Rattle.js_resolver.specs.TablesOf.{AreTablesOf}
+use Rattle.js_resolver.specs.inner.TablesOf.{AreTablesOf}
 
 pub stands : (variables : Known Variable) (declared functions assigned : List ℕ) (outer : Known ℕ) (held copied unset : Sets) (ps : List Place)
     → assigned ≡ assigned_in ps

@@ -17,7 +17,7 @@ use Rattle.js_names.proofs.Taking.{or_else_assoc, or_else_none}
 use Rattle.js_resolver.specs.Tables.{Known}
 use Rattle.js_resolver.specs.Variables.{first_some}
 use Rattle.js_resolver.specs.Resolved.{constant_of, constant_there, function_named}
-use Rattle.js_resolver.specs.Starts.{NotesStart, first_of, start_in}
+use Rattle.js_resolver.specs.inner.Starts.{NotesStart, first_of, start_in}
 
 first_of-last : {A : Type 0} (os : List (Option A)) (o : Option A) → first_of (os ++ o ∷ []) ≡ or_else (first_of os) o
 first_of-last [] o = or_else_none o

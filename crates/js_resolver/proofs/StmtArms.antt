@@ -25,7 +25,7 @@ use Rattle.js_resolver.specs.Variables.{slot_at}
 use Rattle.js_resolver.specs.Pieces.{Piece, beside, after}
 use Rattle.js_resolver.specs.NodeForms.{declared_of, for_node, fresh, has_start, stmt_node}
 use Rattle.js_resolver.specs.Nodes.{expr_piece, perhaps_piece, declarators_piece, start_piece, stmt_piece, stmt_parts, stmts_piece}
-use Rattle.js_resolver.specs.Emits.{count, Puts, Emits, EmitsDeclarators, EmitsPerhaps, FormsStmt, tree_perhaps}
+use Rattle.js_resolver.specs.inner.Emits.{count, Puts, Emits, EmitsDeclarators, EmitsPerhaps, FormsStmt, tree_perhaps}
 use Rattle.js_resolver.proofs.Emitting.{adds_none, closes, emits_none, emits_both, forms_stmt, if_closes}
 use Rattle.js_tree.proofs.Statements.{nothing_is, start_is, evaluates_is, stmt_is, empty_is, expression_is, declaration_is, block_is, if_is, if_else_is, while_is, for_is, for_of_is, break_is, continue_is, return_nothing_is, return_is}
 

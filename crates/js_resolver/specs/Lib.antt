@@ -1,12 +1,9 @@
 pub mod Tables
 pub mod Variables
-pub mod TablesOf
 pub mod Pieces
 pub mod NodeForms
 pub mod Nodes
-pub mod Emits
 pub mod Resolved
-pub mod Starts
-pub mod Parts
 pub mod Spelled
 pub mod Laws
+pub mod inner

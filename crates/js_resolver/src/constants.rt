@@ -7,7 +7,7 @@ ghost use Rattle.js_names.specs.Places.{is_var};
 ghost use Rattle.js_names.specs.Slots.{assigned_in, constants_of};
 ghost use Rattle.js_names.specs.Views.{place_of};
 ghost use Rattle.js_resolver.specs.Resolved.{constant_of, constant_there, function_named};
-ghost use Rattle.js_resolver.specs.Starts.{NotesStart, first_of, start_in};
+ghost use Rattle.js_resolver.specs.inner.Starts.{NotesStart, first_of, start_in};
 
 use crate::name_tables::NameTables;
 use indexmap::IndexMap;

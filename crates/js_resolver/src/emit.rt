@@ -14,7 +14,7 @@ ghost use Rattle.js_resolver.specs.Variables.{body_of};
 ghost use Rattle.js_resolver.specs.Pieces.{function_piece};
 ghost use Rattle.js_resolver.specs.NodeForms.{expr_node, has_start, keys_of};
 ghost use Rattle.js_resolver.specs.Nodes.{expr_piece, exprs_piece, fields_piece, item_piece, items_piece, perhaps_piece, start_piece, stmt_piece, stmts_piece};
-ghost use Rattle.js_resolver.specs.Emits.{Adds, Emits, EmitsMore, EmitsDeclarators, EmitsPerhaps, EmitsCallee, EmitsCalled, FormsExpr, FormsStmt, FormsBuiltin, FormsCall, PutsBody, count, is_divide, tree_perhaps};
+ghost use Rattle.js_resolver.specs.inner.Emits.{Adds, Emits, EmitsMore, EmitsDeclarators, EmitsPerhaps, EmitsCallee, EmitsCalled, FormsExpr, FormsStmt, FormsBuiltin, FormsCall, PutsBody, count, is_divide, tree_perhaps};
 
 use crate::emitter::{Emitter, put_function, put_node};
 use crate::fresh::{block_slots, start_slots};

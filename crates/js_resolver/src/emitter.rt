@@ -1,7 +1,7 @@
 //! Nodes and functions, as the walk over a tree emits them.
 ghost use Rattle.std.specs.Prelude.{◌≡◌, ◌≤◌, IfOk, OnOk, length};
 ghost use Rattle.std.specs.List.{insert};
-ghost use Rattle.js_resolver.specs.Emits.{Puts};
+ghost use Rattle.js_resolver.specs.inner.Emits.{Puts};
 
 use js_program::{Body, Node, NodeForm};
 use std::alloc::{AllocError, Global};

@@ -87,7 +87,7 @@ impl Model for NameTables {
     ghost use Rattle.std.specs.Prelude.{List, map};
     ghost use Rattle.js_names.specs.Places.{Place};
     ghost use Rattle.js_names.specs.Views.{place_of};
-    ghost use Rattle.js_resolver.specs.TablesOf.{AreTablesOf};
+    ghost use Rattle.js_resolver.specs.inner.TablesOf.{AreTablesOf};
 
     ghost Value = { List Place };
 

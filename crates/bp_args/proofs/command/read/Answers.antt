@@ -1,7 +1,7 @@
 use Rattle.std.proofs.Common.{◌≡◌, ◌∙◌, ap, sym, Some, map}
 use Rattle.std.proofs.lemmas.Result.{IfOk-weaker}
 use Rattle.std.specs.Prelude.{string_bytes}
-use Rattle.bp_args.specs.Normal.{said_of, command_from}
+use Rattle.bp_args.specs.inner.Normal.{said_of, command_from}
 use Rattle.bp_args.proofs.Within.{within}
 use Rattle.bp_args.proofs.Back.{back}
 use Rattle.bp_args.proofs.Bounds as bounds

@@ -1,7 +1,7 @@
 use Rattle.std.proofs.Common.{◌≡◌, drop}
 use Rattle.bp_matches.specs.Keys.{keys}
 use Rattle.bp_args.specs.Said.{nothing_said}
-use Rattle.bp_args.specs.Normal.{said_from}
+use Rattle.bp_args.specs.inner.Normal.{said_from}
 use Rattle.bp_args.proofs.command.said_from.Given as goal
 
 abbrev pub invariant-loop-key : goal.invariant-loop-key

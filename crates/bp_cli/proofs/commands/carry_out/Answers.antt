@@ -2,7 +2,7 @@ use Rattle.std.proofs.Common.{Some, sym, subst}
 use Rattle.bp_args.specs.declared.command.Command.{Command}
 use Rattle.bp_cli.specs.Asking.{AsksIn}
 use Rattle.bp_cli.specs.Endings.{EndsIn}
-use Rattle.bp_cli.specs.Opening.{IsCounted}
+use Rattle.bp_cli.specs.inner.Opening.{IsCounted}
 use Rattle.bp_cli.specs.Outside.{outside}
 use Rattle.bp_cli.proofs.Asking.{asks_measured}
 use Rattle.bp_cli.proofs.commands.carry_out.Goals as goal

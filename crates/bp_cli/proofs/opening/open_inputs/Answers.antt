@@ -2,7 +2,7 @@ use Rattle.std.proofs.Common.{◌≡◌, ◌∙◌, ◌+◌, List, Option, ℕ, 
 use Rattle.bp_base.specs.Worlds.{Holdings, Opens, Asks}
 use Rattle.bp_base.specs.declared.outside.WorldError.{WorldError}
 use Rattle.bp_cli.specs.Asking.{WasAsked}
-use Rattle.bp_cli.specs.Opening.{AreOpened}
+use Rattle.bp_cli.specs.inner.Opening.{AreOpened}
 use Rattle.bp_cli.proofs.Opens.{opened_more, asked_more, asked_until}
 use Rattle.bp_cli.proofs.opening.open_inputs.Goals as goal
 

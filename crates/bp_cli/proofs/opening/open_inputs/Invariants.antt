@@ -1,6 +1,6 @@
 use Rattle.std.proofs.Common.{◌≡◌, ◌≤◌, take, length, vec_len, vec_capacity}
 use Rattle.bp_cli.specs.Asking.{WasAsked}
-use Rattle.bp_cli.specs.Opening.{AreOpened}
+use Rattle.bp_cli.specs.inner.Opening.{AreOpened}
 use Rattle.bp_cli.proofs.opening.open_inputs.Given as goal
 
 -- those that are opened, and what became of the world

@@ -6,7 +6,7 @@ use Rattle.bp_base.specs.Worlds.{Holdings}
 use Rattle.bp_base.specs.declared.outside.WorldError.{WorldError}
 use Rattle.bp_cli.specs.declared.conclusion.Conclusion.{Conclusion}
 use Rattle.bp_cli.specs.Asking.{WasAsked, AsksIn, names_of}
-use Rattle.bp_cli.specs.Opening.{AreOpened}
+use Rattle.bp_cli.specs.inner.Opening.{AreOpened}
 use Rattle.bp_cli.specs.Outside.{outside, IsUnder}
 use Rattle.bp_cli.proofs.Asking.{asks_unloaded, asked_err, asked_ok, asks_unopened, asks_unmade, asks_all, asks_run}
 use Rattle.bp_cli.proofs.Endings.{caused_on, does_run, unmade_ends}

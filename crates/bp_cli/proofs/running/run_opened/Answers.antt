@@ -11,7 +11,7 @@ use Rattle.bp_told.specs.Order.{PrintsBehind}
 use Rattle.bp_session.specs.Reports.{EndsAs}
 use Rattle.bp_cli.specs.declared.conclusion.Conclusion.{Conclusion}
 use Rattle.bp_cli.specs.Endings.{IsCaused}
-use Rattle.bp_cli.specs.Opening.{AreOpened, IsLogMade, IsLogHeld}
+use Rattle.bp_cli.specs.inner.Opening.{AreOpened, IsLogMade, IsLogHeld}
 use Rattle.bp_cli.specs.Outside.{outside}
 use Rattle.bp_cli.specs.Runs.{header_of}
 use Rattle.bp_cli.proofs.Runs.{ran, run_caused, input_failed, log_failed, opened_many}

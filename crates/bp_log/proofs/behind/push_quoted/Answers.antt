@@ -1,6 +1,6 @@
 use Rattle.std.proofs.Common.{rules}
 use Rattle.std.specs.Prelude.{All}
-use Rattle.bp_log.specs.Plain.{StandsAsItIs}
+use Rattle.bp_log.specs.inner.Plain.{StandsAsItIs}
 use Rattle.bp_log.proofs.Plain.{quoted_plain}
 use Rattle.bp_log.proofs.behind.push_quoted.Goals as goal
 

@@ -1,11 +1,11 @@
 use Rattle.std.proofs.Common.{ap, ap₂, ◌∙◌}
 use Rattle.std.proofs.lemmas.Result.{IfOk-weaker}
 use Rattle.clap.specs.Words.{with_rule}
-use Rattle.bp_matches.specs.Reading.{option_rule}
+use Rattle.bp_matches.specs.inner.Reading.{option_rule}
 use Rattle.bp_matches.proofs.reading.command_of.Goals as goal
 
 pub returns : goal.returns
-unfolding Rattle.bp_matches.specs.Reading.program
+unfolding Rattle.bp_matches.specs.inner.Reading.program
 returns c =
     let one = c.in_ok-arg.ensures.shape c.option.ensures.local ∙ ap₂ with_rule c.bare.ensures (c.option.ensures.rule ∙ ap option_rule c.name.ensures) in
     let two = c.in_ok-arg-2.ensures.shape c.option-2.ensures.local ∙ ap₂ with_rule one (c.option-2.ensures.rule ∙ ap option_rule c.name-2.ensures) in

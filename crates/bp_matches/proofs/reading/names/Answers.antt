@@ -4,7 +4,7 @@ use Rattle.clap.specs.Words.{Rule, new_rule, rule_of}
 use Rattle.clap.specs.declared.builder.arg.Arg.{Arg}
 use Rattle.clap.specs.declared.builder.range.ValueRange.{ValueRange}
 use Rattle.clap.specs.declared.builder.action.ArgAction.TheVariants.{Append}
-use Rattle.bp_matches.specs.Reading.{names_id, names_rule}
+use Rattle.bp_matches.specs.inner.Reading.{names_id, names_rule}
 use Rattle.bp_matches.proofs.reading.names.Goals as goal
 
 abbrev wide_range : ValueRange

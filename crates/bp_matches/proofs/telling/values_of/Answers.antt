@@ -7,7 +7,7 @@ use Rattle.bp_matches.specs.declared.key.Key.TheVariants as key
 use Rattle.bp_matches.specs.declared.values.Values.{Values}
 use Rattle.bp_matches.specs.Keys.{key_name}
 use Rattle.bp_matches.specs.Normal.{value_in, normal_words}
-use Rattle.bp_matches.specs.Reading.{names_id, program}
+use Rattle.bp_matches.specs.inner.Reading.{names_id, program}
 use Rattle.bp_matches.proofs.Walks.{value_found, names_found}
 use Rattle.bp_matches.proofs.telling.values_of.Goals as goal
 

@@ -2,7 +2,7 @@ use Rattle.std.proofs.Common.{◌≡◌, ◌∙◌, sym, subst, rules, Option, L
 use Rattle.bp_reader.specs.Fed.{Between}
 use Rattle.bp_reader.specs.declared.fault.LogFault.TheVariants as log
 use Rattle.bp_migrate.specs.declared.fault.MigrateFault.TheVariants as fault
-use Rattle.bp_migrate.specs.Faults.{fault_of_log}
+use Rattle.bp_migrate.specs.inner.Faults.{fault_of_log}
 use Rattle.bp_migrate.specs.Migrations.{MigratesTaken}
 use Rattle.bp_migrate.proofs.Whole.{taken_whole, taken_headless, is_read}
 use Rattle.bp_migrate.proofs.migrating.migrate.Goals as goal

@@ -1,7 +1,7 @@
 use Rattle.std.proofs.Common.{sym, subst}
 use Rattle.bp_told.specs.Told.{given}
 use Rattle.bp_session.specs.declared.report.Ending.{Ending}
-use Rattle.bp_session.specs.Serving.{IsEnded}
+use Rattle.bp_session.specs.inner.Serving.{IsEnded}
 use Rattle.bp_session.proofs.Ends.{all_written, front_of_all, fault_ended}
 use Rattle.bp_session.proofs.lent.ended.Goals as goal
 

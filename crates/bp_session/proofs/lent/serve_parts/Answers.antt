@@ -1,5 +1,5 @@
 use Rattle.bp_told.specs.Told.{given}
-use Rattle.bp_session.specs.Serving.{broke_at}
+use Rattle.bp_session.specs.inner.Serving.{broke_at}
 use Rattle.bp_session.proofs.Ends.{can_tell, served_to, failed_of}
 use Rattle.bp_session.proofs.lent.serve_parts.Goals as goal
 

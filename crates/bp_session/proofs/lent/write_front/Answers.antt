@@ -2,7 +2,7 @@ use Rattle.std.proofs.Common.{◌≡◌, rules, sym, subst}
 use Rattle.bp_told.specs.Told.{given}
 use Rattle.bp_told.specs.declared.fault.RunFault.TheVariants.{LogWrite}
 use Rattle.bp_session.specs.declared.report.Ending.{Ending}
-use Rattle.bp_session.specs.Serving.{IsEnded}
+use Rattle.bp_session.specs.inner.Serving.{IsEnded}
 use Rattle.bp_session.proofs.Ends.{front_of_part, front_let_go, fault_ended}
 use Rattle.bp_session.proofs.lent.write_front.Goals as goal
 

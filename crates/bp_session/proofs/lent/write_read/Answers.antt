@@ -4,7 +4,7 @@ use Rattle.bp_floor.specs.Floors.{is_idle}
 use Rattle.bp_arbiter.specs.Arbiters.{PlainArbiter, is_over}
 use Rattle.bp_told.specs.Told.{given}
 use Rattle.bp_session.specs.declared.report.Ending.{Ending}
-use Rattle.bp_session.specs.Serving.{IsEnded}
+use Rattle.bp_session.specs.inner.Serving.{IsEnded}
 use Rattle.bp_session.proofs.Ends.{all_written, front_of_all, fault_ended}
 use Rattle.bp_session.proofs.lent.write_read.Goals as goal
 

@@ -2,7 +2,7 @@ use Rattle.std.proofs.Common.{rules}
 use Rattle.bp_told.specs.Told.{given}
 use Rattle.bp_told.specs.declared.fault.RunFault.TheVariants.{Memory}
 use Rattle.bp_told.proofs.Logging.{log_same, stays_on}
-use Rattle.bp_session.specs.Serving.{StopsServing}
+use Rattle.bp_session.specs.inner.Serving.{StopsServing}
 use Rattle.bp_session.proofs.Hears.{heard_still, go_none, go_both}
 use Rattle.bp_session.proofs.Causes.{memory_caused, hearing_caused, stop_caused_on}
 use Rattle.bp_session.proofs.Rounds.{from_err, hear_serves, picked_serves, serves_still, breaks_then, pick_breaks, memory_stops, hear_stops, turn_stops_then, heard_somewhere, picked_heard}

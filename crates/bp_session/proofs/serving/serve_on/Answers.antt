@@ -5,7 +5,7 @@ use Rattle.bp_told.specs.declared.fault.RunFault.TheVariants.{Memory}
 use Rattle.bp_told.proofs.Logging.{log_same, stays_on}
 use Rattle.bp_scope.specs.Readings.{GoesOnAs}
 use Rattle.bp_scope.proofs.Readings.{pairs_many}
-use Rattle.bp_session.specs.Serving.{StopsServing}
+use Rattle.bp_session.specs.inner.Serving.{StopsServing}
 use Rattle.bp_session.proofs.Served.{ready_on}
 use Rattle.bp_session.proofs.Hears.{heard_kept, go_none, go_both}
 use Rattle.bp_session.proofs.Causes.{caused_on, stop_caused_on}

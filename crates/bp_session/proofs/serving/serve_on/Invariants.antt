@@ -3,7 +3,7 @@ use Rattle.bp_hear.specs.Hearings.{AreHeard}
 use Rattle.bp_scope.specs.Readings.{Pairs, GoesOnAs}
 use Rattle.bp_told.specs.Logging.{LogStays}
 use Rattle.bp_told.specs.Told.{given}
-use Rattle.bp_session.specs.Serving.{ServesOn}
+use Rattle.bp_session.specs.inner.Serving.{ServesOn}
 use Rattle.bp_session.proofs.serving.serve_on.Given as goal
 
 abbrev pub invariant-loop : goal.invariant-loop

@@ -8,7 +8,7 @@ use Rattle.bp_told.specs.declared.fault.RunFault.TheVariants.{Memory}
 use Rattle.bp_told.proofs.Logging.{log_same}
 use Rattle.bp_turns.specs.Settled.{IsSettled}
 use Rattle.bp_turns.proofs.Settled.{ok_map}
-use Rattle.bp_session.specs.Serving.{ServesOn, TellsAll, BreaksServing, IsCaused}
+use Rattle.bp_session.specs.inner.Serving.{ServesOn, TellsAll, BreaksServing, IsCaused}
 use Rattle.bp_session.proofs.Served.{ready_somewhere, ready_on, settle_serves, settle_breaks}
 use Rattle.bp_session.proofs.Picked.{settle_items, cut_items}
 use Rattle.bp_session.proofs.Rounds.{from_err, on_ok, on_err, idle_of, serves_both, breaks_then, tells_then}

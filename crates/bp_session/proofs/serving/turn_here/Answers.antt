@@ -4,8 +4,8 @@ use Rattle.bp_told.specs.Told.{given}
 use Rattle.bp_told.specs.declared.fault.RunFault.TheVariants.{Memory}
 use Rattle.bp_told.proofs.Logging.{log_same}
 use Rattle.bp_session.specs.declared.stop.Stop.TheVariants as stop
-use Rattle.bp_session.specs.Serving.{StopsTurning, StopIsCaused}
-use Rattle.bp_session.specs.Turning.{turns_here}
+use Rattle.bp_session.specs.inner.Serving.{StopsTurning, StopIsCaused}
+use Rattle.bp_session.specs.inner.Turning.{turns_here}
 use Rattle.bp_session.proofs.Hears.{go_none}
 use Rattle.bp_session.proofs.Turns.{none_turn, as_heard_none}
 use Rattle.bp_session.proofs.Tells.{write_still}

@@ -1,6 +1,6 @@
 use Rattle.bp_told.specs.Told.{given}
 use Rattle.bp_told.proofs.Logging.{log_same}
-use Rattle.bp_session.specs.Serving.{StopsTurning, StopIsCaused}
+use Rattle.bp_session.specs.inner.Serving.{StopsTurning, StopIsCaused}
 use Rattle.bp_session.proofs.Tells.{write_still}
 use Rattle.bp_session.proofs.Rounds.{from_err, still_none}
 use Rattle.bp_session.proofs.serving.wait_where.Goals as goal

@@ -2,7 +2,7 @@ use Rattle.std.proofs.Common.{refl}
 use Rattle.bp_told.specs.Told.{given}
 use Rattle.bp_told.specs.declared.fault.RunFault.TheVariants.{Memory}
 use Rattle.bp_session.specs.declared.stop.Stop.TheVariants as stop
-use Rattle.bp_session.specs.Serving.{StopsTurning, StopIsCaused}
+use Rattle.bp_session.specs.inner.Serving.{StopsTurning, StopIsCaused}
 use Rattle.bp_session.proofs.Tells.{write_still}
 use Rattle.bp_session.proofs.Rounds.{from_err, unwritten_stops}
 use Rattle.bp_session.proofs.serving.write_and_show.Goals as goal

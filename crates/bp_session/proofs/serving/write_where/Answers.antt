@@ -1,7 +1,7 @@
 use Rattle.bp_told.specs.Told.{given, WritesAll}
 use Rattle.bp_told.proofs.Logging.{log_same}
 use Rattle.bp_turns.proofs.Settled.{ok_map}
-use Rattle.bp_session.specs.Serving.{StillTold}
+use Rattle.bp_session.specs.inner.Serving.{StillTold}
 use Rattle.bp_session.proofs.Tells.{write_still}
 use Rattle.bp_session.proofs.Rounds.{still_none, unwritten_all}
 use Rattle.bp_session.proofs.serving.write_where.Goals as goal

@@ -6,7 +6,7 @@ use Rattle.bp_floor.specs.Floors.{is_idle}
 use Rattle.bp_arbiter.specs.Arbiters.{PlainArbiter, stand_in}
 use Rattle.bp_told.specs.Told.{given, TellsOn, BreaksOff}
 use Rattle.bp_told.specs.declared.fault.RunFault.{RunFault}
-use Rattle.bp_session.specs.Serving.{ServesOn, TellsAll, BreaksServing}
+use Rattle.bp_session.specs.inner.Serving.{ServesOn, TellsAll, BreaksServing}
 use Rattle.bp_session.proofs.Causes.{caused_by}
 use Rattle.bp_session.proofs.Served.{ready_few}
 use Rattle.bp_session.proofs.Tells.{taken_of, these_serve, these_all, these_break}

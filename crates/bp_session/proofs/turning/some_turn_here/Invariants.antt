@@ -1,6 +1,6 @@
 use Rattle.std.proofs.Common.{◌≡◌, drop}
 use Rattle.std.specs.List.{list_any}
-use Rattle.bp_session.specs.Turning.{turns_here}
+use Rattle.bp_session.specs.inner.Turning.{turns_here}
 use Rattle.bp_session.proofs.turning.some_turn_here.Given as goal
 
 abbrev pub invariant-loop-reading : goal.invariant-loop-reading

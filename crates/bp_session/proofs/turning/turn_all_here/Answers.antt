@@ -1,8 +1,8 @@
 use Rattle.std.proofs.Common.{◌<◌, ◌∙◌, List, length, set, length-set, subst, sym, ap, arith}
 use Rattle.bp_scope.specs.declared.reading.Reading.{Reading}
 use Rattle.bp_scope.specs.Readings.{Pairs, GoesOnAs}
-use Rattle.bp_session.specs.Hearing.{AreAsHeard}
-use Rattle.bp_session.specs.Turning.{MakesTurn, MakeTurns}
+use Rattle.bp_session.specs.inner.Hearing.{AreAsHeard}
+use Rattle.bp_session.specs.inner.Turning.{MakesTurn, MakeTurns}
 use Rattle.bp_session.proofs.Each.{EachTo, each_none, each_next, each_all, written_back}
 use Rattle.bp_session.proofs.Hears.{go_none, go_one}
 use Rattle.bp_session.proofs.Turns.{as_heard_none, as_heard_one}

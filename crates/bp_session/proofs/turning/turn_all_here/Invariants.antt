@@ -1,6 +1,6 @@
 use Rattle.bp_scope.specs.Readings.{Pairs, GoesOnAs}
-use Rattle.bp_session.specs.Hearing.{AreAsHeard}
-use Rattle.bp_session.specs.Turning.{MakesTurn}
+use Rattle.bp_session.specs.inner.Hearing.{AreAsHeard}
+use Rattle.bp_session.specs.inner.Turning.{MakesTurn}
 use Rattle.bp_session.proofs.Each.{EachTo}
 use Rattle.bp_session.proofs.turning.turn_all_here.Given as goal
 

@@ -1,7 +1,7 @@
 use Rattle.std.proofs.Common.{◌≡◌, map, take, drop}
 use Rattle.serde_json.specs.Data.{no_members}
 use Rattle.serde_json.specs.View.{view, members_view}
-use Rattle.js_json.specs.Built.{data_json, put_all}
+use Rattle.js_json.specs.inner.Built.{data_json, put_all}
 use Rattle.js_data.specs.Views.{plain_data, data_fields_view}
 use Rattle.js_json.proofs.writer.+json.Given as goal
 

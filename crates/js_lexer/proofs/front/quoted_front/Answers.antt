@@ -1,5 +1,5 @@
 use Rattle.std.proofs.Common.{subst, ◌∙◌, List, ℕ}
-use Rattle.js_lexer.specs.Found.{IsFound}
+use Rattle.js_lexer.specs.inner.Found.{IsFound}
 use Rattle.js_lexer.specs.Front.{quoted}
 use Rattle.js_lexer.specs.Literals.{literal}
 use Rattle.js_lexer.proofs.Ascii.{behind_quote}

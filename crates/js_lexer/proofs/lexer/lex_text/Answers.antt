@@ -1,7 +1,7 @@
 use Rattle.std.proofs.Common.{◌||◌, nat_lt, arith, sym, ap, subst, ◌∙◌, ℕ, List}
 use Rattle.js_lexer.specs.Gaps.{line_ends}
 use Rattle.js_lexer.specs.Lexed.{IsRefusal}
-use Rattle.js_lexer.specs.Steps.{GapAt, TokenAt}
+use Rattle.js_lexer.specs.inner.Steps.{GapAt, TokenAt}
 use Rattle.js_lexer.specs.declared.token.LexFault.{LexFault}
 use Rattle.js_lexer.proofs.Cutting.{so_far_gap, so_far_token}
 use Rattle.js_lexer.proofs.Lexing.{line_behind, step_fits, stop_refusal}

@@ -1,5 +1,5 @@
 use Rattle.std.proofs.Common.{subst, List, ℕ}
-use Rattle.js_lexer.specs.Found.{IsFound}
+use Rattle.js_lexer.specs.inner.Found.{IsFound}
 use Rattle.js_lexer.specs.Front.{front}
 use Rattle.js_lexer.proofs.Lexing.{step_found}
 use Rattle.js_lexer.proofs.lexer.step_at.Goals as goal

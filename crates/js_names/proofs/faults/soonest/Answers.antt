@@ -1,6 +1,6 @@
 use Rattle.std.proofs.Common.{arith, length}
 use Rattle.js_names.specs.Rules.{fault_at}
-use Rattle.js_names.specs.Breaches.{fault_in}
+use Rattle.js_names.specs.inner.Breaches.{fault_in}
 use Rattle.js_names.specs.Held.{held_in}
 use Rattle.js_names.proofs.Firsts.{soonest_more}
 use Rattle.js_names.proofs.faults.soonest.Goals as goal

@@ -1,7 +1,7 @@
 use Rattle.std.proofs.Common.{◌≡◌, drop, fold, map, length}
 use Rattle.js_names.specs.Places.{Place}
 use Rattle.js_names.specs.Rules.{fault_at, sooner, soonest}
-use Rattle.js_names.specs.Breaches.{fault_in}
+use Rattle.js_names.specs.inner.Breaches.{fault_in}
 use Rattle.js_names.specs.Views.{place_of}
 use Rattle.js_names.specs.Held.{held_in}
 use Rattle.js_names.proofs.faults.soonest.Given as goal

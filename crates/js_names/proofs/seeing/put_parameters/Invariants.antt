@@ -1,6 +1,6 @@
 use Rattle.std.proofs.Common.{take}
 use Rattle.js_names.specs.Sites.{parameter_sites}
-use Rattle.js_names.specs.Walks.{Adds, scopes_in}
+use Rattle.js_names.specs.inner.Walks.{Adds, scopes_in}
 use Rattle.js_names.proofs.seeing.put_parameters.Given as goal
 
 abbrev pub invariant-loop-name : goal.invariant-loop-name

@@ -8,8 +8,8 @@ use Rattle.js_names.specs.declared.place.What.{What}
 use Rattle.js_names.specs.Scopes.{block_scope, for_three_scope, list_scope, for_of_scope, function_scope}
 use Rattle.js_names.specs.Forms.{called_builtin}
 use Rattle.js_names.specs.Sites.{site, word_at, assign_site, begin_site, parameter_sites, in_function, in_loop, declared_role}
-use Rattle.js_names.specs.Walks.{Adds, Enters, scopes_in}
-use Rattle.js_names.specs.TreeSites.{tree_sites, field_sites, declarator_sites, perhaps_tree_sites, start_tree_sites, tree_stmt_sites, listed_sites, turn_sites}
+use Rattle.js_names.specs.inner.Walks.{Adds, Enters, scopes_in}
+use Rattle.js_names.specs.inner.TreeSites.{tree_sites, field_sites, declarator_sites, perhaps_tree_sites, start_tree_sites, tree_stmt_sites, listed_sites, turn_sites}
 use Rattle.js_names.proofs.Adding.{adds_as, adds_none, adds_then, adds_both, adds_more, adds_under, enters_under, each_under}
 use Rattle.js_names.proofs.Exprs.{number_sites, words_sites, truth_sites, null_sites, use_sites, list_sites, in_fields_sites, in_member_sites, index_sites, call_sites, unary_sites, update_sites, binary_sites, conditional_sites, assign_sites, arrow_value_sites, arrow_block_sites, function_sites}
 use Rattle.js_names.proofs.Stmts.{declarator_parts, present_sites, absent_sites, nothing_sites, declares_sites, evaluates_sites, empty_sites, in_block_sites, declaration_sites, expression_sites, if_sites, if_else_sites, while_sites, in_for_sites, in_each_sites, break_sites, continue_sites, return_nothing_sites, return_sites}

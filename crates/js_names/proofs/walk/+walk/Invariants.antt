@@ -1,7 +1,7 @@
 use Rattle.std.proofs.Common.{take}
 use Rattle.std.specs.List.{flat_map}
-use Rattle.js_names.specs.Walks.{Adds, scopes_in}
-use Rattle.js_names.specs.TreeSites.{tree_sites, field_sites, declarator_sites, tree_stmt_sites}
+use Rattle.js_names.specs.inner.Walks.{Adds, scopes_in}
+use Rattle.js_names.specs.inner.TreeSites.{tree_sites, field_sites, declarator_sites, tree_stmt_sites}
 use Rattle.js_names.proofs.walk.+walk.Given as goal
 
 abbrev pub invariant-put_exprs-loop-e : goal.invariant-put_exprs-loop-e

@@ -3,8 +3,8 @@ use Rattle.js_names.specs.declared.place.What.{What}
 use Rattle.js_names.specs.declared.place.Role.{Role}
 use Rattle.js_names.specs.Entries.{top}
 use Rattle.js_names.specs.Sites.{site, in_function}
-use Rattle.js_names.specs.Walks.{Adds, scopes_in}
-use Rattle.js_names.specs.TreeSites.{body_sites}
+use Rattle.js_names.specs.inner.Walks.{Adds, scopes_in}
+use Rattle.js_names.specs.inner.TreeSites.{body_sites}
 use Rattle.js_names.proofs.Adding.{adds_then}
 use Rattle.js_names.proofs.walk.put_declared.Goals as goal
 

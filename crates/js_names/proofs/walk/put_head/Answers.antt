@@ -1,6 +1,6 @@
 use Rattle.std.proofs.Common.{subst}
 use Rattle.js_names.specs.Sites.{begin_site, parameter_sites, in_function}
-use Rattle.js_names.specs.Walks.{Adds, scopes_in}
+use Rattle.js_names.specs.inner.Walks.{Adds, scopes_in}
 use Rattle.std.specs.Prelude.{OnOk}
 use Rattle.js_names.proofs.Adding.{adds_then}
 use Rattle.js_names.proofs.walk.put_head.Goals as goal

@@ -1,4 +1,4 @@
-use Rattle.js_names.specs.Walks.{scopes_in}
+use Rattle.js_names.specs.inner.Walks.{scopes_in}
 use Rattle.js_names.proofs.Adding.{adds_as}
 use Rattle.js_names.proofs.Stmts.{statement_sites, function_item_sites}
 use Rattle.js_names.proofs.walk.put_item.Goals as goal

@@ -1,5 +1,5 @@
 use Rattle.std.proofs.Common.{arith}
-use Rattle.js_names.specs.TreeSites.{tree_item_sites}
+use Rattle.js_names.specs.inner.TreeSites.{tree_item_sites}
 use Rattle.js_names.proofs.Adding.{adds_more}
 use Rattle.js_names.proofs.walk.put_items.Goals as goal
 

@@ -1,7 +1,7 @@
 use Rattle.std.proofs.Common.{◌≡◌, rules, sym, subst}
 use Rattle.js_value.specs.Kept.{HaveSortedKeys}
 use Rattle.js_value.specs.Views.{value_fields_view}
-use Rattle.js_ops.specs.Entered.{entries_view}
+use Rattle.js_ops.specs.inner.Entered.{entries_view}
 use Rattle.js_ops.proofs.Entering.{sorted_entries}
 use Rattle.js_ops.proofs.fields.entries_of.Goals as goal
 

@@ -1,5 +1,5 @@
 use Rattle.std.proofs.Common.{◌≡◌, ◌++◌, map}
-use Rattle.js_ops.specs.Entered.{Entry}
+use Rattle.js_ops.specs.inner.Entered.{Entry}
 use Rattle.js_ops.proofs.fields.entries_of.Given as goal
 
 abbrev pub invariant-loop-field : goal.invariant-loop-field

@@ -1,7 +1,7 @@
 use Rattle.std.proofs.Common.{map, take}
 use Rattle.js_tree.specs.Views.{plain_item}
 use Rattle.js_resolver.specs.Resolved.{function_named}
-use Rattle.js_resolver.specs.Starts.{NotesStart, first_of}
+use Rattle.js_resolver.specs.inner.Starts.{NotesStart, first_of}
 use Rattle.js_resolver.proofs.constants.note_items.Given as goal
 
 abbrev pub invariant-loop-item : goal.invariant-loop-item

@@ -2,7 +2,7 @@ use Rattle.std.proofs.Common.{◌∙◌, ap, arith, map}
 use Rattle.std.proofs.lemmas.List.{take_all}
 use Rattle.std.specs.Prelude.{unwrap_or}
 use Rattle.js_program.specs.PlainProgram.{undeclared}
-use Rattle.js_resolver.specs.Starts.{start_in}
+use Rattle.js_resolver.specs.inner.Starts.{start_in}
 use Rattle.js_resolver.proofs.Starting.{starts_more}
 use Rattle.js_resolver.proofs.constants.starts_of.Goals as goal
 

@@ -2,7 +2,7 @@ use Rattle.std.proofs.Common.{◌≡◌, map, take}
 use Rattle.std.specs.Prelude.{unwrap_or}
 use Rattle.js_program.specs.PlainProgram.{undeclared}
 use Rattle.js_program.specs.Views.{plain_constant}
-use Rattle.js_resolver.specs.Starts.{start_in}
+use Rattle.js_resolver.specs.inner.Starts.{start_in}
 use Rattle.js_resolver.proofs.constants.starts_of.Given as goal
 
 abbrev pub invariant-loop-constant : goal.invariant-loop-constant

@@ -11,7 +11,7 @@ use Rattle.js_program.specs.declared.node.NodeForm.TheVariants as N
 use Rattle.js_resolver.specs.declared.emit.Called.TheVariants as C
 use Rattle.js_resolver.specs.NodeForms.{is_division, method_of}
 use Rattle.js_resolver.specs.Nodes.{exprs_piece, expr_piece, fields_piece, stmts_piece}
-use Rattle.js_resolver.specs.Emits.{count, EmitsCalled, FormsExpr, FormsBuiltin, FormsCall}
+use Rattle.js_resolver.specs.inner.Emits.{count, EmitsCalled, FormsExpr, FormsBuiltin, FormsCall}
 use Rattle.js_resolver.proofs.FormArms as f
 use Rattle.js_resolver.proofs.StmtArms as s
 use Rattle.js_resolver.proofs.FunctionArms as k

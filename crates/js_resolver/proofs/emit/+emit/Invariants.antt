@@ -2,7 +2,7 @@ use Rattle.std.proofs.Common.{map, drop}
 use Rattle.js_tree.specs.Plain.{exprs_of, fields_of, stmts_of}
 use Rattle.js_tree.specs.Views.{plain_expr, plain_field, plain_stmt}
 use Rattle.js_resolver.specs.Nodes.{exprs_piece, fields_piece, stmts_piece}
-use Rattle.js_resolver.specs.Emits.{count}
+use Rattle.js_resolver.specs.inner.Emits.{count}
 use Rattle.js_resolver.proofs.Loops.{Remains, RemainsDeclarators}
 use Rattle.js_resolver.proofs.emit.+emit.Given as goal
 

@@ -2,7 +2,7 @@ use Rattle.std.proofs.Common.{arith, map, drop}
 use Rattle.std.proofs.lemmas.List.{drop_all}
 use Rattle.js_tree.specs.Views.{plain_item}
 use Rattle.js_resolver.specs.Nodes.{items_piece}
-use Rattle.js_resolver.specs.Emits.{count}
+use Rattle.js_resolver.specs.inner.Emits.{count}
 use Rattle.js_resolver.proofs.Loops.{items_done, items_more, remains_all}
 use Rattle.js_resolver.proofs.emit.emit_items.Goals as goal
 

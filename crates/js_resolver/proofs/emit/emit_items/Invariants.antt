@@ -1,7 +1,7 @@
 use Rattle.std.proofs.Common.{map, drop}
 use Rattle.js_tree.specs.Views.{plain_item}
 use Rattle.js_resolver.specs.Nodes.{items_piece}
-use Rattle.js_resolver.specs.Emits.{count}
+use Rattle.js_resolver.specs.inner.Emits.{count}
 use Rattle.js_resolver.proofs.Loops.{Remains}
 use Rattle.js_resolver.proofs.emit.emit_items.Given as goal
 

@@ -2,7 +2,7 @@ use Rattle.std.proofs.Common.{List, sym, ap, map}
 use Rattle.js_frames.specs.Places.{plain_ground}
 use Rattle.js_meaning.specs.State.{Effect}
 use Rattle.bp_meaning.specs.After.{effect_of}
-use Rattle.bp_floor.specs.Entries.{entry_seen}
+use Rattle.bp_floor.specs.inner.Entries.{entry_seen}
 use Rattle.bp_floor.proofs.Returns.{puts_kept, taken}
 use Rattle.bp_floor.proofs.board.Board.back.Goals as goal
 

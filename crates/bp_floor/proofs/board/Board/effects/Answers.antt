@@ -5,7 +5,7 @@ use Rattle.js_frames.specs.Places.{plain_effect}
 use Rattle.js_meaning.specs.Bodies.{Origin}
 use Rattle.bp_run.specs.Settling.{Pair, with_effects}
 use Rattle.bp_meaning.specs.After.{effect_of}
-use Rattle.bp_floor.specs.Boards.{pair_of}
+use Rattle.bp_floor.specs.inner.Boards.{pair_of}
 use Rattle.bp_floor.proofs.Lists.{nothing_to_come}
 use Rattle.bp_floor.proofs.Onward.{onward_same, onward_then}
 use Rattle.bp_floor.proofs.board.Board.effects.Goals as goal

@@ -3,7 +3,7 @@ use Rattle.std.specs.Vec.Iter.{into_iter_items}
 use Rattle.js_frames.specs.Places.{plain_effect, plain_effects, plain_ground}
 use Rattle.bp_run.specs.Settling.{with_effects}
 use Rattle.bp_meaning.specs.After.{effect_of}
-use Rattle.bp_floor.specs.Boards.{pair_of}
+use Rattle.bp_floor.specs.inner.Boards.{pair_of}
 use Rattle.bp_floor.proofs.Onward.{Onward}
 use Rattle.bp_floor.proofs.board.Board.effects.Given as goal
 

@@ -1,8 +1,8 @@
 use Rattle.std.proofs.Common.{subst}
 use Rattle.std.proofs.lemmas.Result.{on_ok_weaker}
 use Rattle.bp_floor.specs.declared.entry.Entry as entry
-use Rattle.bp_floor.specs.Entries.{entry_seen}
-use Rattle.bp_floor.specs.Kept.{IsBelow}
+use Rattle.bp_floor.specs.inner.Entries.{entry_seen}
+use Rattle.bp_floor.specs.inner.Kept.{IsBelow}
 use Rattle.bp_floor.proofs.board.Board.finish.Goals as goal
 
 pub returns-in_ok-say-in-Runs-clause-keeps : goal.returns-in_ok-say-in-Runs-clause-keeps

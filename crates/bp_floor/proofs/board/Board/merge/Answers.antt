@@ -1,7 +1,7 @@
 use Rattle.std.proofs.Common.{◌∙◌, List, ap, map}
 use Rattle.std.specs.Vec.Iter.{into_iter_items}
 use Rattle.bp_floor.specs.declared.part.Ran as made
-use Rattle.bp_floor.specs.Parts.{ran_seen}
+use Rattle.bp_floor.specs.inner.Parts.{ran_seen}
 use Rattle.bp_floor.proofs.Lists.{nothing_to_come}
 use Rattle.bp_floor.proofs.Onward.{merging_begin, merging_left, merging_within, merging_next, merging_end}
 use Rattle.bp_floor.proofs.board.Board.merge.Goals as goal

@@ -1,7 +1,7 @@
 use Rattle.std.proofs.Common.{map}
 use Rattle.std.specs.Vec.Iter.{into_iter_items}
 use Rattle.js_frames.specs.Places.{plain_ground}
-use Rattle.bp_floor.specs.Parts.{ran_seen}
+use Rattle.bp_floor.specs.inner.Parts.{ran_seen}
 use Rattle.bp_floor.proofs.Onward.{Merging}
 use Rattle.bp_floor.proofs.board.Board.merge.Given as goal
 

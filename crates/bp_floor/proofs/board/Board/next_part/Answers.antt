@@ -7,8 +7,8 @@ use Rattle.js_meaning.specs.Bodies.{Origin}
 use Rattle.bp_meaning.specs.After.{effect_of}
 use Rattle.bp_run.specs.Bodies as run
 use Rattle.bp_thread.specs.declared.job.Job.{Job}
-use Rattle.bp_floor.specs.Entries.{entry_seen}
-use Rattle.bp_floor.specs.Parts.{part_seen}
+use Rattle.bp_floor.specs.inner.Entries.{entry_seen}
+use Rattle.bp_floor.specs.inner.Parts.{part_seen}
 use Rattle.bp_floor.specs.Returning.{Puts}
 use Rattle.bp_floor.proofs.Lists.{nothing_to_come}
 use Rattle.bp_floor.proofs.Returns.{puts_nothing, puts_none_left}

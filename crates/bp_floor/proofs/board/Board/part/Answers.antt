@@ -3,8 +3,8 @@ use Rattle.std.proofs.lemmas.Result.{on_ok_weaker}
 use Rattle.js_frames.specs.Places.{plain_effects}
 use Rattle.bp_meaning.specs.After.{effect_of}
 use Rattle.bp_run.specs.Settling.{place_of}
-use Rattle.bp_floor.specs.Boards.{stand_of}
-use Rattle.bp_floor.specs.Entries.{entry_seen}
+use Rattle.bp_floor.specs.inner.Boards.{stand_of}
+use Rattle.bp_floor.specs.inner.Entries.{entry_seen}
 use Rattle.bp_floor.proofs.Onward.{part_within}
 use Rattle.bp_floor.proofs.board.Board.part.Goals as goal
 

@@ -1,5 +1,5 @@
 use Rattle.std.proofs.Common.{◌≡◌, map, drop}
-use Rattle.bp_floor.specs.Touching.{touch_seen}
+use Rattle.bp_floor.specs.inner.Touching.{touch_seen}
 use Rattle.bp_floor.proofs.Touches.{Reaches}
 use Rattle.bp_floor.proofs.board.Board.touch_all.Given as goal
 

@@ -9,7 +9,7 @@ use Rattle.bp_run.specs.Selecting.{blocked}
 use Rattle.bp_run.specs.Choosing.{choice}
 use Rattle.bp_select.specs.declared.answers.Choice.{Choice}
 use Rattle.bp_select.specs.Answers.{FaultAs, IsWithin, chosen_of}
-use Rattle.bp_floor.specs.Desks.{PlainDesk, Fits}
+use Rattle.bp_floor.specs.inner.Desks.{PlainDesk, Fits}
 use Rattle.bp_floor.proofs.Behind.{chosen_answers, chosen_fault}
 use Rattle.bp_floor.proofs.Settled.{settled_blocked, settled_low, rest_is, rest_length, fits_learned}
 use Rattle.bp_floor.proofs.desk.Desk.choose.Goals as goal

@@ -6,7 +6,7 @@ use Rattle.js_frames.specs.Places.{plain_ground}
 use Rattle.bp_meaning.specs.Membership.{member}
 use Rattle.bp_run.specs.Selecting.{Enabled, blocked, selectable}
 use Rattle.bp_select.specs.Answers.{FaultAs, enabled_of}
-use Rattle.bp_floor.specs.Desks.{PlainDesk, Fits}
+use Rattle.bp_floor.specs.inner.Desks.{PlainDesk, Fits}
 use Rattle.bp_floor.proofs.Behind.{enabled_answers, enabled_fault, enabled_within}
 use Rattle.bp_floor.proofs.Settled.{settled_blocked, settled_low, rest_is, rest_length}
 use Rattle.bp_floor.proofs.desk.Desk.enabled.Goals as goal

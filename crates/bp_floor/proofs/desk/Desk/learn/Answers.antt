@@ -1,7 +1,7 @@
 use Rattle.std.proofs.Common.{◌≡◌, ◌-◌, ◌<◌, ap, length, subst, arith}
 use Rattle.bp_select.specs.declared.answers.Choice.{Choice}
 use Rattle.bp_select.specs.Answers.{IsWithin}
-use Rattle.bp_floor.specs.Desks.{PlainDesk}
+use Rattle.bp_floor.specs.inner.Desks.{PlainDesk}
 use Rattle.bp_floor.proofs.desk.Desk.learn.Goals as goal
 
 pub overflow_add-blocked : goal.overflow_add-blocked

@@ -1,7 +1,7 @@
 use Rattle.std.proofs.Common.{◌≡◌, sym, subst, option_map}
 use Rattle.std.proofs.lemmas.Result.{on_ok_weaker}
 use Rattle.bp_thread.specs.Views.{plain_statement, stated_set}
-use Rattle.bp_floor.specs.Desks.{PlainDesk, Fits, block_at}
+use Rattle.bp_floor.specs.inner.Desks.{PlainDesk, Fits, block_at}
 use Rattle.bp_floor.proofs.Settled.{fits_placed}
 use Rattle.bp_floor.proofs.desk.Desk.place.Goals as goal
 

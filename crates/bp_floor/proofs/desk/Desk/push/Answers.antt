@@ -1,5 +1,5 @@
 use Rattle.std.proofs.Common.{sym, subst}
-use Rattle.bp_floor.specs.Desks.{PlainDesk, Fits}
+use Rattle.bp_floor.specs.inner.Desks.{PlainDesk, Fits}
 use Rattle.bp_floor.proofs.Settled.{fits_pushed}
 use Rattle.bp_floor.proofs.desk.Desk.push.Goals as goal
 

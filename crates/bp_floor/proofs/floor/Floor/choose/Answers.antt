@@ -5,7 +5,7 @@ use Rattle.bp_words.specs.Words.{draw_word}
 use Rattle.bp_log.specs.declared.options.Strategy as log
 use Rattle.bp_run.specs.Choosing.{choice}
 use Rattle.bp_select.specs.Answers.{AnswersAs, IsWithin, chosen_of}
-use Rattle.bp_floor.specs.Boards.{stand_of}
+use Rattle.bp_floor.specs.inner.Boards.{stand_of}
 use Rattle.bp_floor.specs.Floors.{PlainFloor, code_on}
 use Rattle.bp_floor.specs.Programs.{code_of}
 use Rattle.bp_floor.proofs.Asking.{asked_at_rest}

@@ -1,6 +1,6 @@
 use Rattle.std.proofs.Common.{◌∙◌, sym, ap, arith}
 use Rattle.bp_run.specs.Settling.{before}
-use Rattle.bp_floor.specs.Boards.{pair_of}
+use Rattle.bp_floor.specs.inner.Boards.{pair_of}
 use Rattle.bp_floor.specs.Floors.{PlainFloor}
 use Rattle.bp_floor.proofs.Shown.{queued_stands}
 use Rattle.bp_floor.proofs.Sound.{sound_pushed}

@@ -1,7 +1,7 @@
 use Rattle.std.proofs.Common.{◌∙◌, ap, sym}
 use Rattle.js_meaning.specs.Bodies.{Origin}
 use Rattle.bp_run.specs.Settling.{Pair}
-use Rattle.bp_floor.specs.Boards.{stand_of, pair_of}
+use Rattle.bp_floor.specs.inner.Boards.{stand_of, pair_of}
 use Rattle.bp_floor.specs.Floors.{PlainFloor}
 use Rattle.bp_floor.proofs.Standing.{taken_all, stands_taken}
 use Rattle.bp_floor.proofs.floor.Floor.take_lines.Goals as goal

@@ -1,6 +1,6 @@
 use Rattle.std.proofs.Common.{◌≡◌, ◌<◌, ◌∙◌, ◌∷◌, [], List, length, get_or, sym, ap, arith}
 use Rattle.std.proofs.lemmas.Option.{same_Some}
-use Rattle.bp_floor.specs.Desks.{PlainFront}
+use Rattle.bp_floor.specs.inner.Desks.{PlainFront}
 use Rattle.bp_floor.proofs.front.Front.is_first.Goals as goal
 
 begins_with : {A : Type 0} (xs : List A) (x y : A) → 0 < length xs → x ≡ get_or xs 0 x → x ≡ y → (rest : List A) × (xs ≡ y ∷ rest)

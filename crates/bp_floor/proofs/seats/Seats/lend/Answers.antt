@@ -3,7 +3,7 @@ use Rattle.std.proofs.lemmas.List.{at_drop_more, at_drop_all}
 use Rattle.js_frames.specs.Places.{plain_ground}
 use Rattle.bp_thread.specs.declared.job.Job.{Job}
 use Rattle.bp_floor.specs.declared.entry.Entry.{Entry}
-use Rattle.bp_floor.specs.Entries.{entry_seen}
+use Rattle.bp_floor.specs.inner.Entries.{entry_seen}
 use Rattle.bp_floor.proofs.Lent.{Outgoing, outgoing_start, outgoing_below, outgoing_next, outgoing_end}
 use Rattle.bp_floor.proofs.seats.Seats.lend.Goals as goal
 

@@ -1,5 +1,5 @@
 use Rattle.std.proofs.Common.{◌≡◌, IsTrue, drop}
-use Rattle.bp_tables.specs.Keys.{entries, are_within}
+use Rattle.bp_tables.specs.inner.Keys.{entries, are_within}
 use Rattle.bp_tables.specs.Found.{find_in}
 use Rattle.bp_tables.proofs.table.Table.find.Given as goal
 

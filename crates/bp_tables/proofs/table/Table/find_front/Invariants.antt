@@ -1,5 +1,5 @@
 use Rattle.std.proofs.Common.{◌≡◌, ℕ, IsTrue, take, drop}
-use Rattle.bp_tables.specs.Keys.{entries, are_within}
+use Rattle.bp_tables.specs.inner.Keys.{entries, are_within}
 use Rattle.bp_tables.specs.Found.{find_in, front_in}
 use Rattle.bp_tables.proofs.table.Table.find_front.Given as goal
 

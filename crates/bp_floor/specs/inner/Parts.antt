@@ -10,7 +10,7 @@ use Rattle.bp_floor.specs.declared.part.Ending.{Ending}
 use Rattle.bp_floor.specs.declared.part.Ending.TheVariants.{Stopped, Ended, Broken, Violated, Spent}
 use Rattle.bp_floor.specs.declared.part.Part as declared
 use Rattle.bp_floor.specs.declared.part.Ran as declared_ran
-use Rattle.bp_floor.specs.Entries.{entry_seen}
+use Rattle.bp_floor.specs.inner.Entries.{entry_seen}
 
 -- a statement of nothing
 abbrev pub nothing_stated : run.Statement (Unit {0})

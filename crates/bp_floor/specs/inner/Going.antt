@@ -14,7 +14,7 @@ use Rattle.bp_floor.specs.declared.phase.Phase.{Phase}
 use Rattle.bp_floor.specs.declared.phase.Phase.TheVariants.{Rest}
 use Rattle.bp_floor.specs.declared.going.Outlook.{Outlook}
 use Rattle.bp_floor.specs.declared.going.Outlook.TheVariants.{Reaches, Stops}
-use Rattle.bp_floor.specs.Boards.{pair_of}
+use Rattle.bp_floor.specs.inner.Boards.{pair_of}
 use Rattle.bp_floor.specs.Floors.{PlainFloor, IsSound, phase_of, stop_of, has_on, live_on}
 
 -- the board keeps all that its floor does, in this phase

@@ -10,7 +10,7 @@ use Rattle.bp_told.specs.Logging.{LogStays}
 use Rattle.bp_told.specs.Told.{Waiting, given}
 use Rattle.bp_session.specs.declared.lent.Lent.{Lent}
 use Rattle.bp_session.specs.declared.stop.Stop.{Stop}
-use Rattle.bp_session.specs.Serving.{IsServing, EndsServing, EndIsCaused, StopIsCaused}
+use Rattle.bp_session.specs.inner.Serving.{IsServing, EndsServing, EndIsCaused, StopIsCaused}
 
 module _ {K L : Type 0} (faults : K → ℕ) (made_as : L → Option (List ℕ)) (log_faults : L → ℕ) where
   -- It was written, and no count fell; the log keeps its name. Where this stopped, there is a

@@ -9,7 +9,7 @@ use Rattle.bp_hear.specs.declared.hearing.TheConstants.{MOST_HEARD}
 use Rattle.bp_hear.specs.Hearings.{IsRecorded, Hears, IsHeardOut}
 use Rattle.bp_scope.specs.declared.reading.Reading.{Reading}
 use Rattle.bp_scope.specs.Readings.{HasFailed}
-use Rattle.bp_session.specs.Serving.{LeadsOn}
+use Rattle.bp_session.specs.inner.Serving.{LeadsOn}
 use Rattle.bp_session.specs.declared.stop.Stop.{Stop}
 use Rattle.bp_session.specs.declared.stop.Stop.TheVariants.{Read, Broken, Unwritten}
 use Rattle.bp_told.specs.declared.fault.RunFault.TheVariants.{Memory}

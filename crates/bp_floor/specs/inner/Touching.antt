@@ -20,11 +20,11 @@ use Rattle.bp_select.specs.Answers.{move_of}
 use Rattle.bp_thread.specs.declared.job.Job.{Job}
 use Rattle.bp_thread.specs.Jobs.{plain_job, IsOf, StandsFor, IsFresh, is_stopped}
 use Rattle.bp_floor.specs.declared.board.Board.{Board}
-use Rattle.bp_floor.specs.Desks.{Fits}
+use Rattle.bp_floor.specs.inner.Desks.{Fits}
 use Rattle.bp_floor.specs.declared.touching.Touch.{Touch}
 use Rattle.bp_floor.specs.declared.touching.Touch.TheVariants.{Moves, Interrupts}
-use Rattle.bp_floor.specs.Seating.{PlainSeat, seated, is_waiting, is_ready, where_from, stated_from, AreOwn}
-use Rattle.bp_floor.specs.Kept.{Running, Rises}
+use Rattle.bp_floor.specs.inner.Seating.{PlainSeat, seated, is_waiting, is_ready, where_from, stated_from, AreOwn}
+use Rattle.bp_floor.specs.inner.Kept.{Running, Rises}
 use Rattle.bp_floor.specs.Returning.{IsSameBut, IsStated}
 
 abbrev pub touch_seen : Touch → Touched
