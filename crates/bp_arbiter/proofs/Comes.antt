@@ -21,7 +21,7 @@ use Rattle.bp_sets.specs.declared.fault.SetFault as set_fault
 use Rattle.bp_sets.specs.declared.fault.SetFault.TheVariants as fault_kind
 use Rattle.bp_select.specs.declared.answers.SelectFault.TheVariants.{Set}
 use Rattle.bp_select.specs.Answers.{FaultAs}
-use Rattle.bp_floor.specs.Programs.{code_of}
+use Rattle.bp_code.specs.Code.{sealed_code_of as code_of}
 use Rattle.bp_floor.specs.Forgetting.{forgotten}
 use Rattle.bp_floor.specs.Floors.{PlainFloor, CanGo, code_on}
 use Rattle.bp_arbiter.specs.declared.run.Run.{Run}

@@ -18,7 +18,7 @@ use Rattle.bp_thread.specs.Jobs.{PlainJob, plain_job, IsFresh, StandsFor as JobS
 use Rattle.bp_thread.specs.Carried.{CarriedOut, AreCarriedOut}
 use Rattle.bp_thread.proofs.Carrying.{carried_out, whole_stands, fresh_whole}
 use Rattle.bp_code.specs.Code.{ground_for}
-use Rattle.bp_floor.specs.Programs.{code_of}
+use Rattle.bp_code.specs.Code.{sealed_code_of as code_of}
 use Rattle.bp_floor.specs.Forgetting.{forget, AreGoing}
 use Rattle.bp_floor.specs.Lending.{IsLent, IsDone, JobFor, AreLent, AreDone, fill, filled, filled_pair, standing}
 use Rattle.bp_floor.specs.Returning.{ground_at, AreLater, RunsAlone}

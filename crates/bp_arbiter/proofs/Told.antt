@@ -16,7 +16,7 @@ use Rattle.bp_run.proofs.Turns.{settle-rest}
 use Rattle.bp_thread.specs.declared.job.Job.{Job}
 use Rattle.bp_floor.specs.declared.phase.Phase.{Phase}
 use Rattle.bp_floor.specs.declared.phase.Phase.TheVariants.{Ready, Lent, Rest, Over}
-use Rattle.bp_floor.specs.Programs.{code_of}
+use Rattle.bp_code.specs.Code.{sealed_code_of as code_of}
 use Rattle.bp_floor.specs.Floors.{PlainFloor, IsPhased, StandsWith, is_idle, not_lent, phase_at}
 use Rattle.bp_arbiter.specs.Arbiters.{PlainArbiter, StandsFor, Tells, IsGivenUp, Recounts, code_in, options_in, stand_in, opened}
 use Rattle.bp_arbiter.proofs.Calls.{calls_opening}

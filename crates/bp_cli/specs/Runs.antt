@@ -15,7 +15,7 @@ use Rattle.bp_log.specs.declared.verdict.Verdict.{Verdict}
 use Rattle.bp_code.specs.Code.{text_of, records_alone}
 use Rattle.bp_script.specs.Programs.{IsProgram}
 use Rattle.bp_hear.specs.Merges.{Merge}
-use Rattle.bp_session.specs.Reports.{IsQuiet}
+use Rattle.bp_log.specs.Verdicts.{IsQuiet}
 use Rattle.bp_args.specs.declared.command.Run.{Run}
 use Rattle.bp_replay.specs.Laws.{Retells}
 use Rattle.bp_cli.specs.declared.conclusion.Conclusion.{Conclusion}

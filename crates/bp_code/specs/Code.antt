@@ -39,3 +39,7 @@ text_of program options records = text (code_of program options) options records
 -- what is printed without injectors
 abbrev pub text_alone : PlainProgram → PlainOptions → Option (List ℕ)
 text_alone program options = text_of program options (records_alone program options)
+
+-- the same code, which no proof opens
+unfoldable pub sealed_code_of : PlainProgram → PlainOptions → Code Origin PlainSet
+sealed_code_of program options = code_of program options

@@ -30,7 +30,7 @@ use Rattle.bp_floor.specs.declared.phase.Phase.TheVariants.{Ready, Lent, Rest, O
 use Rattle.bp_floor.specs.Floors.{phase_at, phase_of}
 use Rattle.bp_steps.specs.Steps.{opened as steps_opened}
 use Rattle.js_program.specs.PlainProgram.{PlainProgram}
-use Rattle.bp_floor.specs.Programs.{code_of}
+use Rattle.bp_code.specs.Code.{sealed_code_of as code_of}
 use Rattle.bp_arbiter.specs.Arbiters.{opened, PlainArbiter, StandsFor, Recounts, code_in, options_in, stand_in, coming}
 use Rattle.bp_arbiter.specs.Absorbing as arbiters
 use Rattle.bp_arbiter.specs.Absorbing.{is_failed, fits, with_item}

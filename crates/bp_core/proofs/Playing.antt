@@ -8,7 +8,7 @@ use Rattle.bp_steps.specs.declared.step.CoreStep.{CoreStep}
 use Rattle.bp_steps.specs.Steps.{Moment, pair_at, after_step}
 use Rattle.bp_steps.proofs.Played.{steps_on, one_step, last}
 use Rattle.bp_code.specs.Nodes.{nodes_of}
-use Rattle.bp_floor.specs.Programs.{code_of}
+use Rattle.bp_code.specs.Code.{sealed_code_of as code_of}
 use Rattle.bp_core.specs.declared.stepping.Core.{Core}
 use Rattle.bp_arbiter.specs.Arbiters.{PlainArbiter, Tells, code_in, options_in}
 use Rattle.bp_core.specs.Moments.{step_on}

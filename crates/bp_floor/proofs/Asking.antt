@@ -9,7 +9,7 @@ use Rattle.bp_meaning.specs.Membership.{member}
 use Rattle.bp_select.specs.declared.answers.SelectFault.{SelectFault}
 use Rattle.bp_select.specs.Answers.{AnswersAs}
 use Rattle.bp_floor.specs.declared.board.Board.{Board}
-use Rattle.bp_floor.specs.Programs.{code_of}
+use Rattle.bp_code.specs.Code.{sealed_code_of as code_of}
 use Rattle.bp_floor.specs.inner.Boards.{stand_of}
 use Rattle.bp_floor.specs.inner.Kept.{Running}
 use Rattle.bp_floor.specs.inner.Going.{IsResting}

@@ -25,7 +25,7 @@ use Rattle.bp_select.specs.declared.answers.SelectFault.TheVariants as select_fa
 use Rattle.bp_select.specs.Answers.{AnswersReach, FaultAs, IsReach}
 use Rattle.bp_floor.specs.declared.board.Board.{Board}
 use Rattle.bp_floor.specs.declared.touching.Touch.{Touch}
-use Rattle.bp_floor.specs.Programs.{code_of}
+use Rattle.bp_code.specs.Code.{sealed_code_of as code_of}
 use Rattle.bp_floor.specs.inner.Seating.{seated, AreOwn}
 use Rattle.bp_floor.specs.inner.Boards.{stand_of, pair_of}
 use Rattle.bp_floor.specs.Forgetting.{forgotten}

@@ -16,7 +16,7 @@ use Rattle.bp_meaning.specs.After.{handler}
 use Rattle.bp_thread.specs.declared.job.Job.{Job}
 use Rattle.bp_thread.specs.Jobs.{plain_job, is_stopped}
 use Rattle.bp_floor.specs.declared.entry.Handler.{Handler}
-use Rattle.bp_floor.specs.Programs.{code_of}
+use Rattle.bp_code.specs.Code.{sealed_code_of as code_of}
 use Rattle.bp_floor.specs.inner.Entries.{handler_seen}
 use Rattle.bp_floor.specs.inner.Seating.{PlainSeat, seated, origin_in, replies_in, IsOwn, IsOwnIn, AreOwn}
 use Rattle.bp_floor.specs.inner.Seated.{job_at}

@@ -21,7 +21,7 @@ use Rattle.bp_floor.specs.declared.entry.Handler.{Handler}
 use Rattle.bp_floor.specs.declared.entry.Entry.{Entry as Code_entry}
 use Rattle.bp_floor.specs.declared.entry.Entry.TheVariants.{Top, Runs as Code_runs, Stops as Code_stops}
 use Rattle.bp_floor.specs.inner.Entries.{handler_seen, entry_seen}
-use Rattle.bp_floor.specs.Programs.{code_of}
+use Rattle.bp_code.specs.Code.{sealed_code_of as code_of}
 use Rattle.bp_floor.specs.inner.Seating.{PlainSeat, seated, origin_in, replies_in, outcome_in, is_waiting, is_ready, where_from, stop_at, statement_at, stated_from, IsOwn, IsOwnIn, AreOwn}
 use Rattle.bp_floor.specs.inner.Seated.{job_at}
 use Rattle.bp_floor.specs.inner.Kept.{Running, IsBelow, AreBelow, AreFrom, Rises, runs_in}

@@ -11,7 +11,7 @@ use Rattle.bp_run.specs.Numbers.{number_of}
 use Rattle.bp_thread.specs.declared.job.Job.{Job}
 use Rattle.bp_thread.specs.Jobs.{plain_job}
 use Rattle.bp_thread.specs.Carried.{HaveDistinctNumbers}
-use Rattle.bp_floor.specs.Programs.{code_of}
+use Rattle.bp_code.specs.Code.{sealed_code_of as code_of}
 use Rattle.bp_floor.specs.inner.Kept.{AreFrom, Rises}
 use Rattle.bp_floor.specs.Lending.{IsLent, JobFor, AreLent}
 

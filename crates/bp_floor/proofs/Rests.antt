@@ -16,7 +16,7 @@ use Rattle.bp_run.specs.Numbers.{number_in, touch_at, touch_of, IsRising}
 use Rattle.bp_run.proofs.Numbers.{reach_each, reach_rising, live_rising}
 use Rattle.bp_thread.specs.declared.job.Job.{Job}
 use Rattle.bp_thread.specs.Jobs.{plain_job, is_stopped}
-use Rattle.bp_floor.specs.Programs.{code_of}
+use Rattle.bp_code.specs.Code.{sealed_code_of as code_of}
 use Rattle.bp_floor.specs.inner.Seating.{PlainSeat, seated, origin_in, replies_in, outcome_in, is_waiting, where_from, stop_at, statement_at, stated_from, IsOwn, IsOwnIn, AreOwn}
 use Rattle.bp_floor.specs.inner.Kept.{Running, AreFrom, Rises}
 use Rattle.bp_floor.specs.inner.Touching.{IsStanding, AreStanding}

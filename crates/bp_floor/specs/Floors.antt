@@ -25,7 +25,7 @@ use Rattle.bp_floor.specs.declared.phase.Phase.{Phase}
 use Rattle.bp_floor.specs.declared.phase.Phase.TheVariants.{Ready, Lent, Rest, Over}
 use Rattle.bp_floor.specs.declared.went.Went.{Went}
 use Rattle.bp_floor.specs.declared.went.Went.TheVariants.{Moved, Stopped}
-use Rattle.bp_floor.specs.Programs.{code_of}
+use Rattle.bp_code.specs.Code.{sealed_code_of as code_of}
 use Rattle.bp_floor.specs.inner.Desks.{Fits}
 use Rattle.bp_floor.specs.inner.Seating.{is_waiting, is_ready, where_from, stated_from, AreOwn}
 use Rattle.bp_floor.specs.inner.Boards.{pair_of}

@@ -13,7 +13,7 @@ use Rattle.bp_select.specs.Benches.{placed, live_at}
 use Rattle.bp_thread.specs.declared.job.Job.{Job}
 use Rattle.bp_thread.specs.Jobs.{plain_job, IsOf, StandsFor}
 use Rattle.bp_floor.specs.declared.board.Board.{Board}
-use Rattle.bp_floor.specs.Programs.{code_of}
+use Rattle.bp_code.specs.Code.{sealed_code_of as code_of}
 use Rattle.bp_floor.specs.inner.Desks.{Fits}
 use Rattle.bp_floor.specs.Forgetting.{forgotten}
 use Rattle.bp_floor.specs.inner.Seating.{seated, is_waiting, is_ready, where_from, stated_from, stop_at, AreOwn}

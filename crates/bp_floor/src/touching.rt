@@ -4,7 +4,7 @@ ghost use Rattle.js_value.specs.Value as value;
 ghost use Rattle.js_value.specs.Views.{plain_value};
 ghost use Rattle.bp_run.specs.Story.{line_of_choice, handler_body, entry_of};
 ghost use Rattle.bp_thread.specs.Jobs.{plain_job};
-ghost use Rattle.bp_floor.specs.Programs.{code_of};
+ghost use Rattle.bp_code.specs.Code.{sealed_code_of as code_of};
 ghost use Rattle.bp_floor.specs.inner.Seating.{seated, AreOwn};
 ghost use Rattle.bp_floor.specs.inner.Entries.{handler_seen, entry_seen};
 ghost use Rattle.bp_floor.specs.inner.Boards.{stand_of, pair_of};

@@ -14,7 +14,7 @@ ghost use Rattle.bp_thread.specs.Jobs.{plain_job, is_ended};
 ghost use Rattle.bp_floor.specs.inner.Seating.{seated, stop_at};
 ghost use Rattle.bp_floor.specs.inner.Entries.{entry_seen};
 ghost use Rattle.bp_floor.specs.inner.Parts.{part_seen, ending_seen, unstated};
-ghost use Rattle.bp_floor.specs.Programs.{code_of};
+ghost use Rattle.bp_code.specs.Code.{sealed_code_of as code_of};
 ghost use Rattle.bp_floor.specs.inner.Boards.{stand_of, pair_of};
 ghost use Rattle.bp_floor.specs.Forgetting.{forgotten};
 ghost use Rattle.bp_floor.specs.inner.Kept.{Running, AreBelow, IsKept, IsOn};

@@ -11,7 +11,7 @@ use Rattle.bp_reading.specs.Reading.{Stage, BeginsWith, first_stage}
 use Rattle.bp_run.specs.Bodies.{Code}
 use Rattle.bp_run.specs.Configuration.{Configuration}
 use Rattle.bp_run.specs.Story.{Next, next, after_record, story}
-use Rattle.bp_floor.specs.Programs.{code_of}
+use Rattle.bp_code.specs.Code.{sealed_code_of as code_of}
 
 -- a program under options, records of it in a log of this version, and where they lead
 pub record Course : Type 0 where

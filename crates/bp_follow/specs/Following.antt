@@ -16,7 +16,7 @@ use Rattle.bp_reading.specs.Reading.{Next as Reads, finished, Stage}
 use Rattle.bp_reader.specs.Reads.{MeansNext}
 use Rattle.bp_run.specs.Configuration.{Configuration, Stand}
 use Rattle.bp_run.specs.Settling.{initial}
-use Rattle.bp_floor.specs.Programs.{code_of}
+use Rattle.bp_code.specs.Code.{sealed_code_of as code_of}
 use Rattle.bp_run.specs.Story.{has_room, record_of}
 use Rattle.bp_floor.specs.declared.phase.Phase.{Phase}
 use Rattle.bp_floor.specs.declared.phase.Phase.TheVariants.{Ready, Lent, Rest, Over}

@@ -23,7 +23,7 @@ use Rattle.bp_steps.specs.Merging.{record_by, item_by, items_by}
 use Rattle.bp_steps.specs.Steps.{Moment, played}
 use Rattle.bp_steps.proofs.Played.{last, one_step, steps_on}
 use Rattle.bp_code.specs.Nodes.{nodes_of}
-use Rattle.bp_floor.specs.Programs.{code_of}
+use Rattle.bp_code.specs.Code.{sealed_code_of as code_of}
 use Rattle.bp_arbiter.specs.Arbiters.{PlainArbiter, code_in, options_in}
 use Rattle.bp_arbiter.specs.Absorbing.{is_failed, absorbed, ComesBack}
 use Rattle.bp_floor.specs.declared.absorb.Absorb.{Absorb as Absorbed}

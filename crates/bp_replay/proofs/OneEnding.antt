@@ -21,7 +21,7 @@ use Rattle.bp_reader.specs.declared.fault.LogFault.TheVariants as log
 use Rattle.bp_run.specs.Configuration.{Configuration}
 use Rattle.bp_run.specs.Settling.{initial}
 use Rattle.bp_run.specs.Story.{story}
-use Rattle.bp_floor.specs.Programs.{code_of}
+use Rattle.bp_code.specs.Code.{sealed_code_of as code_of}
 use Rattle.bp_script.specs.Programs.{IsProgram, IsRefused}
 use Rattle.bp_script.proofs.Once.{never, one_program}
 use Rattle.bp_follow.specs.declared.fault.ReplayFault.{ReplayFault}

@@ -21,7 +21,8 @@ use Rattle.js_names.specs.declared.place.NameFault.{NameFault}
 use Rattle.js_names.specs.Places.{Place, places}
 use Rattle.js_names.specs.Slots.{assigned_in, slot_count}
 use Rattle.js_names.specs.Rules.{name_fault, fault_at, sooner, comes_before, fails_unknown, fails_twice, fails_const, fails_capture, fails_loop_word, fails_return, fails_slots}
-use Rattle.js_parser.specs.Parse.{IsLineIn, all_items}
+use Rattle.js_parser.specs.Parse.{all_items}
+use Rattle.js_grammar.specs.Trees.{IsLineIn}
 use Rattle.js_parser.proofs.Programs.{tree_found, tree_missed}
 use Rattle.bp_script.specs.declared.refusal.Kind.{Kind}
 use Rattle.bp_script.specs.declared.refusal.Rule.{Rule}

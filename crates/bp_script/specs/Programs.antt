@@ -14,7 +14,7 @@ use Rattle.js_grammar.specs.Trees.{IsTree, HasNoTree}
 use Rattle.js_grammar.specs.Unsupported.{first_unsupported}
 use Rattle.js_names.specs.declared.place.NameFault.{NameFault}
 use Rattle.js_names.specs.Rules.{name_fault}
-use Rattle.js_parser.specs.Parse.{IsLineIn}
+use Rattle.js_grammar.specs.Trees.{IsLineIn}
 use Rattle.js_program.specs.PlainProgram.{PlainProgram}
 use Rattle.js_resolver.specs.Resolved.{resolved}
 use Rattle.bp_script.specs.declared.refusal.Kind.{Kind}

@@ -14,7 +14,7 @@ use Rattle.bp_run.specs.Text.{text}
 use Rattle.bp_steps.specs.Steps as steps
 use Rattle.bp_steps.specs.Steps.{lends}
 use Rattle.bp_code.specs.Code as bp_code
-use Rattle.bp_floor.specs.Programs.{code_of}
+use Rattle.bp_code.specs.Code.{sealed_code_of as code_of}
 use Rattle.bp_arbiter.specs.Arbiters.{opened, code_in}
 use Rattle.bp_core.specs.declared.stepping.Core.{Core}
 use Rattle.bp_core.specs.Cores.{KeepsProgram, IsCoreAt}

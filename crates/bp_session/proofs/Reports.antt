@@ -44,7 +44,8 @@ use Rattle.bp_told.proofs.Pieces.{appends_nothing, longer_front, records_text-ap
 use Rattle.bp_session.specs.declared.report.Ending.{Ending}
 use Rattle.bp_session.specs.declared.report.Ending.TheVariants as ending
 use Rattle.bp_session.specs.inner.Lending.{Begins}
-use Rattle.bp_session.specs.Reports.{Wholly, Partly, BrokeAt, ComeBack, IsQuiet, EndsAs}
+use Rattle.bp_session.specs.Reports.{Wholly, Partly, BrokeAt, ComeBack, EndsAs}
+use Rattle.bp_log.specs.Verdicts.{IsQuiet}
 use Rattle.bp_session.specs.inner.Serving.{IsAllWritten, IsFrontWritten, IsEnded, EndsServing, EndIsCaused, broke_at}
 
 -- ---- what was written

@@ -15,11 +15,6 @@ use Rattle.bp_hear.specs.Heard.{IsHeardToFault, EachHeardWhole}
 use Rattle.bp_session.specs.declared.report.Ending.{Ending}
 use Rattle.bp_session.specs.declared.report.Ending.TheVariants.{Verdict, Read, Write, LogWrite, Memory}
 
--- the verdict of a run that has nothing more to do, or does not wait for more
-abbrev pub IsQuiet : logs.Verdict → Type 0
-IsQuiet (verdict.Quiet n) = Unit {0}
-IsQuiet _ = ⊥
-
 module _ {L : Type 0} (written : L → Option (List ℕ)) (text : Texts) (head : List ℕ)
     (records : List Record) (old new : Given L) where
   -- the whole text and the whole log of these records were written

@@ -1,5 +1,6 @@
 -- Trees that tokens spell, within a limit of nesting.
-use Rattle.std.specs.Prelude.{ℕ, ◌≤◌, ◌≡◌, List}
+use Rattle.std.specs.Prelude.{ℕ, ◌≤◌, ◌≡◌, List, [], ◌∷◌, map}
+use Rattle.std.specs.List.{Contains}
 use Rattle.js_lexer.specs.declared.token.Token.{Token}
 use Rattle.js_tree.specs.Plain.{PlainItem}
 use Rattle.js_tree.specs.Nesting.{deepest_item}
@@ -17,3 +18,8 @@ HasNoTree limit ts = (is : List PlainItem) → IsTree limit ts is → ⊥
 -- tokens spell at most one tree
 abbrev pub OneTree : Type 0
 OneTree = (ts : List Token) (a b : List PlainItem) → SpellsTree ts a → SpellsTree ts b → a ≡ b
+
+-- the line of some token, or 1 where there is none
+abbrev pub IsLineIn : List Token → ℕ → Type 0
+IsLineIn [] line = line ≡ 1
+IsLineIn (t ∷ ts) line = Contains (map (λ (x : Token). x.line) (t ∷ ts)) line

@@ -15,11 +15,6 @@ use Rattle.js_steps.specs.declared.stop.Stop.{Stop}
 use Rattle.js_steps.specs.declared.stop.Stop.TheVariants.{NoTree, Memory}
 use Rattle.js_parser.specs.declared.fault.ParseFault.{ParseFault}
 
--- the line of some token, or 1 where there is none
-abbrev pub IsLineIn : List Token → ℕ → Type 0
-IsLineIn [] line = line ≡ 1
-IsLineIn (t ∷ ts) line = Contains (map (λ (x : Token). x.line) (t ∷ ts)) line
-
 -- a token is refused, the first of them on the line; or none is, and no tree of nesting at most that of
 -- the limit is spelled
 abbrev pub IsParseFault : List Token → ParseFault → Type 0

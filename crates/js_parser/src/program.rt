@@ -5,7 +5,8 @@ ghost use Rattle.js_grammar.specs.Trees.{IsTree};
 ghost use Rattle.js_grammar.specs.Unsupported.{first_unsupported};
 ghost use Rattle.js_steps.specs.Passed.{at_first};
 ghost use Rattle.js_steps.specs.Read.{IsGiven};
-ghost use Rattle.js_parser.specs.Parse.{next_item, next_function, IsItems, IsLineIn, IsParseFault, IsFault};
+ghost use Rattle.js_parser.specs.Parse.{next_item, next_function, IsItems, IsParseFault, IsFault};
+ghost use Rattle.js_grammar.specs.Trees.{IsLineIn};
 
 use crate::fault::ParseFault;
 use crate::refused::unsupported_line;

@@ -6,7 +6,7 @@ use Rattle.js_names.specs.declared.place.Seen.{Seen}
 use Rattle.js_names.specs.Places.{Place, or_else}
 use Rattle.js_names.specs.Views.{place_of}
 use Rattle.js_names.proofs.Taking.{or_else_assoc, or_else_none}
-use Rattle.js_resolver.specs.Tables.{Known, Notes}
+use Rattle.js_resolver.specs.inner.Tables.{Known, Notes}
 use Rattle.js_resolver.specs.Variables.{known_here, known_in}
 
 known_in-last : {A : Type 0} (key : Place → ℕ) (value : Place → Option A) (q : ℕ) (xs : List Place) (p : Place) → known_in key value q (xs ++ p ∷ []) ≡ or_else (known_in key value q xs) (known_here key value q p)

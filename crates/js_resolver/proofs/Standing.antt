@@ -8,7 +8,7 @@ use Rattle.js_names.specs.Entries.{top}
 use Rattle.js_names.specs.Places.{Place}
 use Rattle.js_names.specs.Slots.{assigned_in, slots_of, captures, vars_of, constants_of, functions_in}
 use Rattle.js_names.specs.Held.{Sets, held_in}
-use Rattle.js_resolver.specs.Tables.{Known}
+use Rattle.js_resolver.specs.inner.Tables.{Known}
 use Rattle.js_resolver.specs.Variables.{named_there, around_there, name_key, owner_key, known_in, named_at, code_at, around_of, index_in}
 use Rattle.js_resolver.specs.inner.TablesOf.{AreTablesOf}
 

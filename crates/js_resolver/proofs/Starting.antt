@@ -14,7 +14,7 @@ use Rattle.js_names.specs.Places.{Place, or_else}
 use Rattle.js_names.specs.Views.{place_of}
 use Rattle.js_names.specs.Slots.{assigned_in, constants_of}
 use Rattle.js_names.proofs.Taking.{or_else_assoc, or_else_none}
-use Rattle.js_resolver.specs.Tables.{Known}
+use Rattle.js_resolver.specs.inner.Tables.{Known}
 use Rattle.js_resolver.specs.Variables.{first_some}
 use Rattle.js_resolver.specs.Resolved.{constant_of, constant_there, function_named}
 use Rattle.js_resolver.specs.inner.Starts.{NotesStart, first_of, start_in}

@@ -9,7 +9,7 @@ use Rattle.js_names.specs.Places.{Place, places, is_var}
 use Rattle.js_names.specs.Slots.{assigned_in, constants_of}
 use Rattle.js_names.specs.Rules.{name_fault}
 use Rattle.js_resolver.specs.Variables.{code_at, body_of, first_some}
-use Rattle.js_resolver.specs.Tables.{first_line}
+use Rattle.js_resolver.specs.Variables.{first_line}
 use Rattle.js_resolver.specs.Nodes.{items_piece}
 
 -- a function declaration whose name stands at a place is a constant with its value from the start

@@ -106,3 +106,8 @@ body_of ps f parameters content line = record {
   content = content;
   line = line;
 }
+
+-- the line of the first place, which is the first token of the program
+abbrev pub first_line : List Place → ℕ
+first_line [] = 1
+first_line (p ∷ ps) = p.name.spot.line

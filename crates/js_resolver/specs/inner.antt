@@ -3,3 +3,4 @@ pub mod TablesOf
 pub mod Emits
 pub mod Starts
 pub mod Parts
+pub mod Tables

@@ -4,7 +4,7 @@ ghost use Rattle.indexmap.specs.IndexMap.{get};
 ghost use Rattle.js_names.specs.Slots.{constant_at, constants_of, function_at, functions_in};
 ghost use Rattle.js_names.specs.Views.{place_of};
 ghost use Rattle.js_names.specs.Held.{held_in};
-ghost use Rattle.js_resolver.specs.Tables.{Notes};
+ghost use Rattle.js_resolver.specs.inner.Tables.{Notes};
 ghost use Rattle.js_names.specs.Entries.{top};
 ghost use Rattle.js_resolver.specs.Variables.{index_in, second, variable_with, named_there, around_there, name_key, owner_key, known_in, slots_among};
 

@@ -5,7 +5,7 @@ use Rattle.js_program.specs.declared.node.ConstantStart.{ConstantStart}
 use Rattle.js_program.specs.PlainProgram.{PlainConstant}
 use Rattle.js_program.specs.Views.{plain_constant}
 use Rattle.js_names.specs.Places.{or_else}
-use Rattle.js_resolver.specs.Tables.{Known}
+use Rattle.js_resolver.specs.inner.Tables.{Known}
 
 abbrev pub start_in : Known ConstantStart → ℕ → Option PlainConstant
 start_in m q = option_map plain_constant (get nat_eq m q)

@@ -7,7 +7,7 @@ use Rattle.js_names.specs.Entries.{top}
 use Rattle.js_names.specs.Places.{Place}
 use Rattle.js_names.specs.Slots.{assigned_in, slots_of, captures, vars_of, constants_of}
 use Rattle.js_names.specs.Held.{Sets, held_in}
-use Rattle.js_resolver.specs.Tables.{Known}
+use Rattle.js_resolver.specs.inner.Tables.{Known}
 use Rattle.js_resolver.specs.Variables.{named_at, code_at, around_of, index_in}
 
 pub record AreTablesOf (variables : Known Variable) (declared functions : List ℕ) (outer : Known ℕ)

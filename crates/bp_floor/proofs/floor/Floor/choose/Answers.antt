@@ -7,7 +7,7 @@ use Rattle.bp_run.specs.Choosing.{choice}
 use Rattle.bp_select.specs.Answers.{AnswersAs, IsWithin, chosen_of}
 use Rattle.bp_floor.specs.inner.Boards.{stand_of}
 use Rattle.bp_floor.specs.Floors.{PlainFloor, code_on}
-use Rattle.bp_floor.specs.Programs.{code_of}
+use Rattle.bp_code.specs.Code.{sealed_code_of as code_of}
 use Rattle.bp_floor.proofs.Asking.{asked_at_rest}
 use Rattle.bp_floor.proofs.Sound.{rests_now}
 use Rattle.bp_floor.proofs.floor.Floor.choose.Goals as goal

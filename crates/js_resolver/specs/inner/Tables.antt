@@ -12,8 +12,3 @@ Known A = IndexMap ℕ A (BuildHasherDefault FoldHasher)
 abbrev pub Notes : {A : Type 0} → Known A → Known A → ℕ → Option A → Type 0
 Notes old new key value =
     (q : ℕ) → get nat_eq new q ≡ or_else (get nat_eq old q) (if nat_eq key q then value else None)
-
--- the line of the first place, which is the first token of the program
-abbrev pub first_line : List Place → ℕ
-first_line [] = 1
-first_line (p ∷ ps) = p.name.spot.line
