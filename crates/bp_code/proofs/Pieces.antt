@@ -17,23 +17,23 @@ use Rattle.bp_code.specs.Code.{code_of}
 -- 4 nodes: bp.registerBThread(name, the function of this number);
 abbrev pub registers : ℕ → List ℕ → ℕ → List PlainNode
 registers k name code =
-    one (p.words name) ∷ one (p.function code) ∷ one (p.builtin form.RegisterBThread (k ∷ (k + 1) ∷ [])) ∷ one (p.expression (k + 2)) ∷ []
+    one (p.text name) ∷ one (p.function code) ∷ one (p.builtin form.RegisterBThread (k ∷ (k + 1) ∷ [])) ∷ one (p.expression (k + 2)) ∷ []
 
 -- 5 nodes: bp.sync({request: bp.Event(name)});
 abbrev pub requests : ℕ → List ℕ → List PlainNode
 requests k name =
-    one (p.words name) ∷ one (p.builtin form.Event (k ∷ [])) ∷ one (p.fields (codes "request" ∷ []) ((k + 1) ∷ []))
+    one (p.text name) ∷ one (p.builtin form.Event (k ∷ [])) ∷ one (p.fields (codes "request" ∷ []) ((k + 1) ∷ []))
     ∷ one (p.builtin form.Sync ((k + 2) ∷ [])) ∷ one (p.expression (k + 3)) ∷ []
 
 -- 7 nodes: bp.sync({waitFor: bp.Event(first), key: bp.Event(second)});
 abbrev pub waits : ℕ → List ℕ → List ℕ → List ℕ → List PlainNode
 waits k first key second =
-    one (p.words first) ∷ one (p.builtin form.Event (k ∷ [])) ∷ one (p.words second) ∷ one (p.builtin form.Event ((k + 2) ∷ []))
+    one (p.text first) ∷ one (p.builtin form.Event (k ∷ [])) ∷ one (p.text second) ∷ one (p.builtin form.Event ((k + 2) ∷ []))
     ∷ one (p.fields (codes "waitFor" ∷ key ∷ []) ((k + 1) ∷ (k + 3) ∷ [])) ∷ one (p.builtin form.Sync ((k + 4) ∷ [])) ∷ one (p.expression (k + 5)) ∷ []
 
 -- 3 nodes: bp.log.info(text);
 abbrev pub logs : ℕ → List ℕ → List PlainNode
-logs k text = one (p.words text) ∷ one (p.builtin form.LogInfo (k ∷ [])) ∷ one (p.expression (k + 1)) ∷ []
+logs k text = one (p.text text) ∷ one (p.builtin form.LogInfo (k ∷ [])) ∷ one (p.expression (k + 1)) ∷ []
 
 -- the code of a program, with the number n for the word at place n
 abbrev pub counting : PlainProgram → PlainOptions → Code Origin PlainSet

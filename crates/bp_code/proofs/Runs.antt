@@ -59,7 +59,7 @@ pub handler_logs : printed default_options
     ++ one (p.function 2) ∷ one (p.builtin form.SetInterruptHandler (8 ∷ [])) ∷ one (p.expression 9) ∷ []
     ++ waits 11 (codes "e") (codes "interrupt") (codes "e") ++ logs 18 (codes "never")
     ++ requests 21 (codes "e")
-    ++ one (p.words (codes "stop ")) ∷ slot 0 ∷ one (p.member 27 (codes "name")) ∷ one (p.binary op.Add 26 28) ∷ one (p.builtin form.LogInfo (29 ∷ [])) ∷ one (p.expression 30) ∷ [])
+    ++ one (p.text (codes "stop ")) ∷ slot 0 ∷ one (p.member 27 (codes "name")) ∷ one (p.binary op.Add 26 28) ∷ one (p.builtin form.LogInfo (29 ∷ [])) ∷ one (p.expression 30) ∷ [])
     (statements 0 (10 ∷ 17 ∷ 20 ∷ []) ∷ statements 0 (25 ∷ []) ∷ body 1 1 (p.statements (31 ∷ [])) ∷ []) (3 ∷ 7 ∷ [])
     ≡ Some (codes "event [\"e\"]\nlog \"A\" \"stop e\"\ninterrupted \"A\"\ndone \"B\"\nverdict quiet 1\n")
 unfolding turn settle_in settle initial selectable choice reach step next after_record story_from story alone_from alone line_text lines_text text digits evaluation ground_of eval within turns_of
@@ -82,8 +82,8 @@ wave_after_wave = refl
 abbrev three_requests : List PlainNode
 three_requests =
     registers 0 (codes "A") 0
-    ++ one (p.words (codes "a")) ∷ one (p.builtin form.Event (4 ∷ [])) ∷ one (p.words (codes "b")) ∷ one (p.builtin form.Event (6 ∷ []))
-    ∷ one (p.words (codes "c")) ∷ one (p.builtin form.Event (8 ∷ [])) ∷ one (p.list (5 ∷ 7 ∷ 9 ∷ [])) ∷ one (p.fields (codes "request" ∷ []) (10 ∷ []))
+    ++ one (p.text (codes "a")) ∷ one (p.builtin form.Event (4 ∷ [])) ∷ one (p.text (codes "b")) ∷ one (p.builtin form.Event (6 ∷ []))
+    ∷ one (p.text (codes "c")) ∷ one (p.builtin form.Event (8 ∷ [])) ∷ one (p.list (5 ∷ 7 ∷ 9 ∷ [])) ∷ one (p.fields (codes "request" ∷ []) (10 ∷ []))
     ∷ one (p.builtin form.Sync (11 ∷ [])) ∷ one (p.expression 12) ∷ []
 
 pub ordered_takes_the_first : printed (record default_options { strategy = Ordered }) three_requests (statements 0 (13 ∷ []) ∷ []) (3 ∷ [])
@@ -95,7 +95,7 @@ ordered_takes_the_first = refl
 -- bp.registerBThread("A", () => { bp.sync({request: x}) })
 pub constants_are_seen :
     counted_alone (program
-    (one (p.words (codes "x")) ∷ one (p.builtin form.Event (0 ∷ [])) ∷ one (p.declaration Const (record { variable = Constant 0; value = Some 1 } ∷ []))
+    (one (p.text (codes "x")) ∷ one (p.builtin form.Event (0 ∷ [])) ∷ one (p.declaration Const (record { variable = Constant 0; value = Some 1 } ∷ []))
     ∷ registers 3 (codes "A") 0
     ++ constant 0 ∷ one (p.fields (codes "request" ∷ []) (7 ∷ [])) ∷ one (p.builtin form.Sync (8 ∷ [])) ∷ one (p.expression 9) ∷ [])
     (statements 0 (10 ∷ []) ∷ []) (p.undeclared ∷ []) (statements 0 (2 ∷ 6 ∷ []))) default_options
@@ -109,7 +109,7 @@ pub predicates_see_constants :
     counted_alone (program
     (one (p.truth true) ∷ one (p.declaration Const (record { variable = Constant 0; value = Some 0 } ∷ []))
     ∷ registers 2 (codes "A") 0 ++ registers 6 (codes "B") 1 ++ requests 10 (codes "e")
-    ++ one (p.words (codes "s")) ∷ one (p.function 2) ∷ one (p.builtin form.EventSet (15 ∷ 16 ∷ [])) ∷ one (p.fields (codes "waitFor" ∷ []) (17 ∷ []))
+    ++ one (p.text (codes "s")) ∷ one (p.function 2) ∷ one (p.builtin form.EventSet (15 ∷ 16 ∷ [])) ∷ one (p.fields (codes "waitFor" ∷ []) (17 ∷ []))
     ∷ one (p.builtin form.Sync (18 ∷ [])) ∷ one (p.expression 19) ∷ constant 0 ∷ [])
     (statements 0 (14 ∷ []) ∷ statements 0 (20 ∷ []) ∷ body 1 1 (p.one_value 21) ∷ []) (p.undeclared ∷ []) (statements 0 (1 ∷ 5 ∷ 9 ∷ []))) default_options
     ≡ Some (codes "event [\"e\"]\ndone \"A\"\ndone \"B\"\nverdict quiet 1\n")
@@ -124,11 +124,11 @@ pub large_two :
     counted_alone (program
     (one (p.function 0) ∷ one (p.declaration Const (record { variable = Constant 0; value = Some 0 } ∷ []))
     ∷ whole 0 ∷ one (p.declaration Let (given 0 2 ∷ [])) ∷ slot 0 ∷ whole 2 ∷ one (p.binary op.Less 4 5) ∷ one (p.update Increment After 0)
-    ∷ one (p.words (codes "t")) ∷ slot 0 ∷ one (p.binary op.Add 8 9) ∷ constant 0 ∷ slot 0 ∷ one (p.call 11 (12 ∷ []))
+    ∷ one (p.text (codes "t")) ∷ slot 0 ∷ one (p.binary op.Add 8 9) ∷ constant 0 ∷ slot 0 ∷ one (p.call 11 (12 ∷ []))
     ∷ one (p.builtin form.RegisterBThread (10 ∷ 13 ∷ [])) ∷ one (p.expression 14) ∷ one (p.for_three (0 ∷ []) (Some 3) (Some 6) (Some 7) 15)
     ∷ one (p.function 1)
     ∷ whole 0 ∷ one (p.declaration Let (given 1 18 ∷ [])) ∷ slot 1 ∷ whole 4 ∷ one (p.binary op.Less 20 21) ∷ one (p.update Increment After 1)
-    ∷ one (p.words (codes "e")) ∷ slot 0 ∷ one (p.builtin form.Event (24 ∷ 25 ∷ [])) ∷ one (p.fields (codes "request" ∷ []) (26 ∷ [])) ∷ one (p.builtin form.Sync (27 ∷ [])) ∷ one (p.expression 28)
+    ∷ one (p.text (codes "e")) ∷ slot 0 ∷ one (p.builtin form.Event (24 ∷ 25 ∷ [])) ∷ one (p.fields (codes "request" ∷ []) (26 ∷ [])) ∷ one (p.builtin form.Sync (27 ∷ [])) ∷ one (p.expression 28)
     ∷ one (p.for_three (1 ∷ []) (Some 19) (Some 22) (Some 23) 29) ∷ [])
     (body 1 1 (p.one_value 17) ∷ record { parameters = 0; slots = 2; captures = 0 ∷ []; vars = []; content = p.statements (30 ∷ []); line = 1 } ∷ [])
     (p.undeclared ∷ []) (statements 1 (1 ∷ 16 ∷ []))) default_options
@@ -161,7 +161,7 @@ pub predicates_have_the_budget :
     counted_alone (program
     (one (p.truth true) ∷ one (p.declaration Const (record { variable = Constant 0; value = Some 0 } ∷ []))
     ∷ registers 2 (codes "A") 0 ++ registers 6 (codes "B") 1 ++ requests 10 (codes "e")
-    ++ one (p.words (codes "s")) ∷ one (p.function 2) ∷ one (p.builtin form.EventSet (15 ∷ 16 ∷ [])) ∷ one (p.fields (codes "waitFor" ∷ []) (17 ∷ []))
+    ++ one (p.text (codes "s")) ∷ one (p.function 2) ∷ one (p.builtin form.EventSet (15 ∷ 16 ∷ [])) ∷ one (p.fields (codes "waitFor" ∷ []) (17 ∷ []))
     ∷ one (p.builtin form.Sync (18 ∷ [])) ∷ one (p.expression 19) ∷ constant 0 ∷ one (p.binary op.Same 21 0) ∷ [])
     (statements 0 (14 ∷ []) ∷ statements 0 (20 ∷ []) ∷ body 1 1 (p.one_value 22) ∷ []) (p.undeclared ∷ []) (statements 0 (1 ∷ 5 ∷ 9 ∷ []))) (record default_options { steps = 1 })
     ≡ Some (codes "event [\"e\"]\ndone \"A\"\ndone \"B\"\nverdict quiet 1\n")

@@ -52,8 +52,8 @@ pub first_violation : printed default_options
     (registers 0 (codes "A") 0 ++ registers 4 (codes "B") 1
     ++ whole 0 ∷ one (p.declaration Let (given 0 8 ∷ [])) ∷ slot 0 ∷ whole 50 ∷ one (p.binary op.Less 10 11) ∷ one (p.update Increment After 0)
     ∷ one (p.block [] []) ∷ one (p.for_three (0 ∷ []) (Some 9) (Some 12) (Some 13) 14)
-    ∷ one (p.truth false) ∷ one (p.words (codes "first")) ∷ one (p.builtin form.Assert (16 ∷ 17 ∷ [])) ∷ one (p.expression 18)
-    ∷ one (p.truth false) ∷ one (p.words (codes "second")) ∷ one (p.builtin form.Assert (20 ∷ 21 ∷ [])) ∷ one (p.expression 22) ∷ [])
+    ∷ one (p.truth false) ∷ one (p.text (codes "first")) ∷ one (p.builtin form.Assert (16 ∷ 17 ∷ [])) ∷ one (p.expression 18)
+    ∷ one (p.truth false) ∷ one (p.text (codes "second")) ∷ one (p.builtin form.Assert (20 ∷ 21 ∷ [])) ∷ one (p.expression 22) ∷ [])
     (statements 1 (15 ∷ 19 ∷ []) ∷ statements 0 (23 ∷ []) ∷ []) (3 ∷ 7 ∷ [])
     ≡ Some (codes "verdict violated \"A\" \"first\"\n")
 unfolding turn settle_in settle initial selectable choice reach step next after_record story_from story alone_from alone line_text lines_text text digits evaluation ground_of eval within turns_of
@@ -62,7 +62,7 @@ first_violation = refl
 -- bp.sync({request: bp.Event("e"), block: bp.EventSet("p", e => 1)})
 pub untrue_predicate : printed default_options
     (registers 0 (codes "A") 0
-    ++ one (p.words (codes "e")) ∷ one (p.builtin form.Event (4 ∷ [])) ∷ one (p.words (codes "p")) ∷ one (p.function 1) ∷ one (p.builtin form.EventSet (6 ∷ 7 ∷ []))
+    ++ one (p.text (codes "e")) ∷ one (p.builtin form.Event (4 ∷ [])) ∷ one (p.text (codes "p")) ∷ one (p.function 1) ∷ one (p.builtin form.EventSet (6 ∷ 7 ∷ []))
     ∷ one (p.fields (codes "request" ∷ codes "block" ∷ []) (5 ∷ 8 ∷ [])) ∷ one (p.builtin form.Sync (9 ∷ [])) ∷ one (p.expression 10) ∷ whole 1 ∷ [])
     (statements 0 (11 ∷ []) ∷ body 1 1 (p.one_value 12) ∷ []) (3 ∷ [])
     ≡ Some (codes "verdict fault \"A\" 1 truth\n")
@@ -73,7 +73,7 @@ untrue_predicate = refl
 pub each_turn_has_its_own : counted_alone (program
     (whole 0 ∷ one (p.declaration Let (given 0 0 ∷ [])) ∷ slot 0 ∷ whole 3 ∷ one (p.binary op.Less 2 3) ∷ one (p.update Increment After 0)
     ∷ slot 0 ∷ one (p.declaration Const (given 1 6 ∷ []))
-    ∷ one (p.words (codes "t")) ∷ slot 1 ∷ one (p.binary op.Add 8 9) ∷ one (p.function 0) ∷ one (p.builtin form.RegisterBThread (10 ∷ 11 ∷ [])) ∷ one (p.expression 12)
+    ∷ one (p.text (codes "t")) ∷ slot 1 ∷ one (p.binary op.Add 8 9) ∷ one (p.function 0) ∷ one (p.builtin form.RegisterBThread (10 ∷ 11 ∷ [])) ∷ one (p.expression 12)
     ∷ one (p.block (1 ∷ []) (7 ∷ 13 ∷ [])) ∷ one (p.for_three (0 ∷ []) (Some 1) (Some 4) (Some 5) 14)
     ∷ slot 0 ∷ one (p.builtin form.LogInfo (16 ∷ [])) ∷ one (p.expression 17) ∷ [])
     (record { parameters = 0; slots = 1; captures = 1 ∷ []; vars = []; content = p.statements (18 ∷ []); line = 1 } ∷ []) [] (statements 2 (15 ∷ []))) default_options
@@ -89,7 +89,7 @@ got =
     program
     (registers 0 (codes "B") 0 ++ registers 4 (codes "C") 1
     ++ waits 8 (codes "go") (codes "block") (codes "x")
-    ++ one (p.words (codes "x")) ∷ one (p.builtin form.Event (15 ∷ [])) ∷ one (p.fields (codes "waitFor" ∷ []) (16 ∷ [])) ∷ one (p.builtin form.Sync (17 ∷ [])) ∷ one (p.expression 18) ∷ []
+    ++ one (p.text (codes "x")) ∷ one (p.builtin form.Event (15 ∷ [])) ∷ one (p.fields (codes "waitFor" ∷ []) (16 ∷ [])) ∷ one (p.builtin form.Sync (17 ∷ [])) ∷ one (p.expression 18) ∷ []
     ++ logs 20 (codes "got"))
     (statements 0 (14 ∷ []) ∷ statements 0 (19 ∷ 22 ∷ []) ∷ []) [] (statements 0 (3 ∷ 7 ∷ []))
 

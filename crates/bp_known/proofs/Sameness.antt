@@ -5,7 +5,7 @@ use Rattle.std.proofs.lemmas.Bool.{and_parts}
 use Rattle.std.proofs.Math.Bool.{and-false}
 use Rattle.std.proofs.lemmas.Slice.Eq.{bytes_eq-Decides}
 use Rattle.js_data.proofs.SameEvent.{same_event-sound}
-use Rattle.js_value.specs.Value.{PlainValue, undefined, null, truth, whole, words, event, ValueList, no_values, value, PlainSet, only, any, all, nothing, or, and, xor, negate, predicate, SetList, no_sets, set_in}
+use Rattle.js_value.specs.Value.{PlainValue, undefined, null, truth, whole, text, event, ValueList, no_values, value, PlainSet, only, any, all, nothing, or, and, xor, negate, predicate, SetList, no_sets, set_in}
 use Rattle.js_value.specs.Views.{value_list_view, set_list_of}
 use Rattle.js_value.specs.declared.value.Value.{Value}
 use Rattle.bp_known.specs.Same.{same_leaf, same_leaves, same_set, same_sets}
@@ -27,7 +27,7 @@ same_leaf-sound undefined undefined h = refl
 same_leaf-sound null null h = refl
 same_leaf-sound (truth a) (truth b) h = ap truth ((booleans_Decides a b).0 h)
 same_leaf-sound (whole m) (whole n) h = ap whole ((signed_Decides m n).0 h)
-same_leaf-sound (words s) (words t) h = ap words ((bytes_eq-Decides s t).0 h)
+same_leaf-sound (text s) (text t) h = ap text ((bytes_eq-Decides s t).0 h)
 same_leaf-sound (event e) (event f) h = ap event (same_event-sound e f h)
 same_leaf-sound _ _ h = absurd (true≢false (sym h))
 

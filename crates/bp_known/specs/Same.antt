@@ -4,7 +4,7 @@ use Rattle.std.specs.Ordering.{int_eq}
 use Rattle.std.specs.Bool.{beq}
 use Rattle.std.specs.Str.{bytes_eq}
 use Rattle.js_data.specs.Event.{same_event}
-use Rattle.js_value.specs.Value.{PlainValue, undefined, null, truth, whole, words, event, ValueList, no_values, value, PlainSet, only, any, all, nothing, or, and, xor, negate, predicate, SetList, no_sets, set_in}
+use Rattle.js_value.specs.Value.{PlainValue, undefined, null, truth, whole, text, event, ValueList, no_values, value, PlainSet, only, any, all, nothing, or, and, xor, negate, predicate, SetList, no_sets, set_in}
 
 -- equal values that have no parts, but for an event's data
 abbrev pub same_leaf : PlainValue → PlainValue → Bool
@@ -12,7 +12,7 @@ same_leaf undefined undefined = true
 same_leaf null null = true
 same_leaf (truth a) (truth b) = beq a b
 same_leaf (whole m) (whole n) = int_eq m n
-same_leaf (words s) (words t) = bytes_eq s t
+same_leaf (text s) (text t) = bytes_eq s t
 same_leaf (event e) (event f) = same_event e f
 same_leaf _ _ = false
 

@@ -14,7 +14,7 @@ fn same_leaf(left: &Value, right: &Value) -> bool
         (Value::Null, Value::Null) => true,
         (Value::Truth(a), Value::Truth(b)) => *a == *b,
         (Value::Whole(a), Value::Whole(b)) => a.get() == b.get(),
-        (Value::Words(a), Value::Words(b)) => a.same(b),
+        (Value::Text(a), Value::Text(b)) => a.same(b),
         (Value::Event(a), Value::Event(b)) => a.same(b),
         _ => false,
     }

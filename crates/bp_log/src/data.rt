@@ -38,7 +38,7 @@ pub(crate) fn push_data(alloc: Global, tree: &Data, out: &mut String) -> Result<
         Data::Truth(true) => out.push_str("true"),
         Data::Truth(false) => out.push_str("false"),
         Data::Whole(number) => push_whole(*number, out),
-        Data::Words(text) => push_quoted(alloc, text, out),
+        Data::Text(text) => push_quoted(alloc, text, out),
         Data::List(items) => {
             out.push_str("[")?;
             push_items(alloc, items, out)

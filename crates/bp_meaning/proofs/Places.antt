@@ -62,7 +62,7 @@ requested_set = refl
 pub no_fields_at_all : statement_of v.undefined v.undefined ≡ None
 no_fields_at_all = refl
 
-pub wrong_priority : statement_of (v.fields v.no_fields) (v.words (codes "1")) ≡ None
+pub wrong_priority : statement_of (v.fields v.no_fields) (v.text (codes "1")) ≡ None
 wrong_priority = refl
 
 -- {request: a, waitFor: b, block: [a], interrupt: bp.all} with priority -2
@@ -93,9 +93,9 @@ interrupting_undefined = refl
 -- bp.setInterruptHandler(g); bp.sync({requests: 1});  (the last on line 7)
 abbrev two_stops : List PlainNode
 two_stops =
-    one (p.words (codes "1")) ∷ one (p.builtin form.LogInfo (0 ∷ [])) ∷ one (p.expression 1)
+    one (p.text (codes "1")) ∷ one (p.builtin form.LogInfo (0 ∷ [])) ∷ one (p.expression 1)
     ∷ one (p.fields [] []) ∷ one (p.builtin form.Sync (3 ∷ [])) ∷ one (p.expression 4)
-    ∷ one (p.words (codes "2")) ∷ one (p.builtin form.LogInfo (6 ∷ [])) ∷ one (p.expression 7)
+    ∷ one (p.text (codes "2")) ∷ one (p.builtin form.LogInfo (6 ∷ [])) ∷ one (p.expression 7)
     ∷ one (p.function 1) ∷ one (p.builtin form.SetInterruptHandler (9 ∷ [])) ∷ one (p.expression 10)
     ∷ one (p.fields [] []) ∷ one (p.builtin form.Sync (12 ∷ [])) ∷ one (p.expression 13)
     ∷ one (p.function 2) ∷ one (p.builtin form.SetInterruptHandler (15 ∷ [])) ∷ one (p.expression 16)
@@ -127,13 +127,13 @@ after_two_replies = refl
 
 -- what a top level registers, a b-thread runs; and a failed assertion is a violation
 pub registered :
-    after (bare (program (one (p.words (codes "n")) ∷ one (p.function 0) ∷ one (p.builtin form.RegisterBThread (0 ∷ 1 ∷ [])) ∷ one (p.expression 2) ∷ []) (statements 0 [] ∷ []) [] (statements 0 (3 ∷ [])))) 20 the_top []
+    after (bare (program (one (p.text (codes "n")) ∷ one (p.function 0) ∷ one (p.builtin form.RegisterBThread (0 ∷ 1 ∷ [])) ∷ one (p.expression 2) ∷ []) (statements 0 [] ∷ []) [] (statements 0 (3 ∷ [])))) 20 the_top []
     ≡ record { effects = run.Effect.Register (codes "n") (function Thread (v.function 0 v.no_values) []) ∷ []; outcome = run.Outcome.Ended }
 unfolding evaluation eval within
 registered = refl
 
 pub violated :
-    after (bare (program (whole 0 ∷ one (p.words (codes "no")) ∷ one (p.builtin form.Assert (0 ∷ 1 ∷ [])) ∷ one (p.expression 2) ∷ []) [] [] (statements 0 (3 ∷ [])))) 20 the_top []
+    after (bare (program (whole 0 ∷ one (p.text (codes "no")) ∷ one (p.builtin form.Assert (0 ∷ 1 ∷ [])) ∷ one (p.expression 2) ∷ []) [] [] (statements 0 (3 ∷ [])))) 20 the_top []
     ≡ record { effects = []; outcome = run.Outcome.Violated (codes "no") }
 unfolding evaluation eval within
 violated = refl
@@ -155,18 +155,18 @@ replaced_handler = refl
 
 -- bp.enqueueExternalEvent(bp.Event("a"))
 pub enqueued :
-    after (bare (program (one (p.words (codes "a")) ∷ one (p.builtin form.Event (0 ∷ [])) ∷ one (p.builtin form.EnqueueExternalEvent (1 ∷ [])) ∷ one (p.expression 2) ∷ []) [] [] (statements 0 (3 ∷ [])))) 20 the_top []
+    after (bare (program (one (p.text (codes "a")) ∷ one (p.builtin form.Event (0 ∷ [])) ∷ one (p.builtin form.EnqueueExternalEvent (1 ∷ [])) ∷ one (p.expression 2) ∷ []) [] [] (statements 0 (3 ∷ [])))) 20 the_top []
     ≡ record { effects = run.Effect.Enqueue a ∷ []; outcome = run.Outcome.Ended }
 unfolding evaluation eval within
 enqueued = refl
 
 -- a top level of two nodes with a budget of one
-pub spent : after (bare (program (one (p.words (codes "a")) ∷ one (p.expression 0) ∷ []) [] [] (statements 0 (1 ∷ [])))) 1 the_top [] ≡ record { effects = []; outcome = run.Outcome.Spent }
+pub spent : after (bare (program (one (p.text (codes "a")) ∷ one (p.expression 0) ∷ []) [] [] (statements 0 (1 ∷ [])))) 1 the_top [] ≡ record { effects = []; outcome = run.Outcome.Spent }
 unfolding evaluation eval within
 spent = refl
 
 -- -"a", on line 3
-pub broken : after (bare (program (one (p.words (codes "a")) ∷ on 3 (p.unary Minus 0) ∷ one (p.expression 1) ∷ []) [] [] (statements 0 (2 ∷ [])))) 9 the_top [] ≡ record { effects = []; outcome = run.Outcome.Broken fault.Mistyped 3 }
+pub broken : after (bare (program (one (p.text (codes "a")) ∷ on 3 (p.unary Minus 0) ∷ one (p.expression 1) ∷ []) [] [] (statements 0 (2 ∷ [])))) 9 the_top [] ≡ record { effects = []; outcome = run.Outcome.Broken fault.Mistyped 3 }
 unfolding evaluation eval within
 broken = refl
 
@@ -176,7 +176,7 @@ pub kept_handler :
     handler
     (of_functions
     (one (p.function 1) ∷ one (p.builtin form.SetInterruptHandler (0 ∷ [])) ∷ one (p.expression 1) ∷ one (p.fields [] []) ∷ one (p.builtin form.Sync (3 ∷ [])) ∷ one (p.expression 4)
-    ∷ one (p.words (codes "1")) ∷ one (p.builtin form.LogInfo (6 ∷ [])) ∷ one (p.expression 7) ∷ [])
+    ∷ one (p.text (codes "1")) ∷ one (p.builtin form.LogInfo (6 ∷ [])) ∷ one (p.expression 7) ∷ [])
     (statements 0 (2 ∷ 5 ∷ 8 ∷ 5 ∷ []) ∷ statements 0 [] ∷ []))
     20 body (a ∷ [])
     ≡ Some (v.function 1 v.no_values)

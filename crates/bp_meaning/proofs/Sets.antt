@@ -28,7 +28,7 @@ abbrev base : Ground
 base =
     of_functions
     (whole 1
-    ∷ slot 0 ∷ one (p.member 1 (codes "name")) ∷ one (p.words (codes "y")) ∷ one (p.binary op.Same 2 3)
+    ∷ slot 0 ∷ one (p.member 1 (codes "name")) ∷ one (p.text (codes "y")) ∷ one (p.binary op.Same 2 3)
     ∷ whole 1 ∷ whole 0 ∷ on 5 (p.binary op.Divide 5 6)
     ∷ one (p.truth true) ∷ one (p.block [] []) ∷ one (p.while_of 8 9)
     ∷ slot 1 ∷ one (p.binary op.Same 2 11) ∷ on 6 (p.builtin LogInfo (1 ∷ [])) ∷ [])
@@ -152,7 +152,7 @@ pub four_are_spent : member base 3 (fun 1) (named (codes "y")) ≡ Err Spent
 unfolding evaluation eval within
 four_are_spent = refl
 
-pub predicate_with_captured : asked (v.predicate (codes "p") 4 (v.value (v.words (codes "z")) v.no_values)) (codes "z") ≡ Ok true
+pub predicate_with_captured : asked (v.predicate (codes "p") 4 (v.value (v.text (codes "z")) v.no_values)) (codes "z") ≡ Ok true
 unfolding evaluation eval within
 predicate_with_captured = refl
 

@@ -10,7 +10,7 @@ use Rattle.json.proofs.Printed.Utf8.{are_ascii}
 use Rattle.serde_json.specs.Data as json
 use Rattle.serde_json.specs.Find.{as_i64, as_str, as_array}
 use Rattle.js_data.specs.Whole.{is_whole, IsWhole}
-use Rattle.js_data.specs.Data.{PlainData, null, truth, whole, words, list, fields, DataList, no_data, item, DataFields, no_fields, field, IsHeld, AreHeld, AreHeldFields}
+use Rattle.js_data.specs.Data.{PlainData, null, truth, whole, text as words, list, fields, DataList, no_data, item, DataFields, no_fields, field, IsHeld, AreHeld, AreHeldFields}
 use Rattle.js_data.specs.Event.{PlainEvent, IsHeldExtra}
 use Rattle.js_data.specs.JsonText.{data_text, data_list_text, data_fields_text, extra_text, quoted_text, comma}
 use Rattle.js_data.proofs.Shared.{chained}

@@ -3,7 +3,7 @@ use Rattle.std.proofs.Common.{◌≡◌, ℕ, suc, ◌<◌, ◌^◌, Bool, true,
 use Rattle.std.specs.Prelude.{decimal}
 use Rattle.std.proofs.lemmas.Bool.{ltb-true}
 use Rattle.js_data.specs.Whole.{IsWhole}
-use Rattle.js_data.specs.Data.{PlainData, null, truth, whole, words, list, fields, DataList, no_data, item, DataFields, no_fields, field, IsHeld, AreHeld, AreHeldFields}
+use Rattle.js_data.specs.Data.{PlainData, null, truth, whole, text, list, fields, DataList, no_data, item, DataFields, no_fields, field, IsHeld, AreHeld, AreHeldFields}
 use Rattle.js_data.specs.Event.{PlainEvent, IsEvent, IsHeldExtra}
 use Rattle.js_data.specs.JsonText.{event_text, data_text, data_list_text, data_fields_text, extra_text, quoted_text, comma}
 use Rattle.js_data.specs.Faults.{fault_name}
@@ -38,7 +38,7 @@ mutual
   lacks_data (truth true) h = refl
   lacks_data (truth false) h = refl
   lacks_data (whole z) h = lacks_whole z h
-  lacks_data (words t) h = lacks-quoted t
+  lacks_data (text t) h = lacks-quoted t
   lacks_data (list ds) h = lacks_list false ds h
   lacks_data (fields fs) h = lacks_fields false fs h
 

@@ -4,7 +4,7 @@ use Rattle.std.specs.Prelude.{decimal, flat_map, ◌==◌, ◌||◌, nat_lt}
 use Rattle.std.proofs.lemmas.Bool.{ltb-true}
 use Rattle.std.proofs.lemmas.Fmt.{length-decimal-le}
 use Rattle.js_data.specs.Whole.{IsWhole}
-use Rattle.js_data.specs.Data.{PlainData, null, truth, whole, words, list, fields, DataList, no_data, item, DataFields, no_fields, field, IsHeld, AreHeld, AreHeldFields, data_weight, data_list_weight, data_fields_weight}
+use Rattle.js_data.specs.Data.{PlainData, null, truth, whole, text, list, fields, DataList, no_data, item, DataFields, no_fields, field, IsHeld, AreHeld, AreHeldFields, data_weight, data_list_weight, data_fields_weight}
 use Rattle.js_data.specs.Event.{PlainEvent, IsEvent, IsHeldExtra, extra_weight}
 use Rattle.js_data.specs.JsonText.{event_text, data_text, data_list_text, data_fields_text, extra_text, quoted_text, escaped_byte, comma}
 use Rattle.js_data.specs.Faults.{fault_name}
@@ -61,7 +61,7 @@ mutual
   data_most (truth true) h = omega arith
   data_most (truth false) h = omega arith
   data_most (whole z) h = omega (arith, whole_most z h)
-  data_most (words s) h = omega (arith, quoted_most s)
+  data_most (text s) h = omega (arith, quoted_most s)
   data_most (list ds) h = omega (arith, data_list_most false ds h)
   data_most (fields fs) h = omega (arith, data_fields_most false fs h)
 

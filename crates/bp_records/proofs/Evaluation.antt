@@ -197,11 +197,11 @@ applies_keeps line None x args h k = breaks_keeps fault.Mistyped line
 applies_keeps line (Some f) x args h k = answered_keeps line (method_of f x args) (method_short f x args h k)
 
 registers_keeps : (line : ℕ) (x y : PlainValue) → IsShort x → IsShort y → Keeps (registers_thread line x y)
-registers_keeps line (v.words name) (v.function code captured) h k = acts_keeps (registers name (v.function code captured)) (h, k)
+registers_keeps line (v.text name) (v.function code captured) h k = acts_keeps (registers name (v.function code captured)) (h, k)
 registers_keeps line _ _ h k = breaks_keeps fault.Mistyped line
 
 asserted_keeps : (line : ℕ) (x y : PlainValue) → IsShort y → Keeps (asserted line x y)
-asserted_keeps line x (v.words text) h = either (is_truthy x) leaves_keeps (record { at = λ s m. (h, m.effects) })
+asserted_keeps line x (v.text text) h = either (is_truthy x) leaves_keeps (record { at = λ s m. (h, m.effects) })
 asserted_keeps line x _ h = breaks_keeps fault.Mistyped line
 
 enqueues_keeps : (line : ℕ) (x : PlainValue) → Keeps (enqueues_event line x)
@@ -299,7 +299,7 @@ module _ (g : Setting) (ground : AreShortSlots g.base.constants) (ev : ℕ → S
 
   combines_keeps : (line : ℕ) (node : PlainNodeForm) (xs : List PlainValue) → Each IsShort xs → Keeps (combines g ev line node xs)
   combines_keeps line (p.number n) xs m = gives_keeps (v.whole n) tt
-  combines_keeps line (p.words text) xs m = answered_keeps line (made (v.words text)) (text_short text)
+  combines_keeps line (p.text text) xs m = answered_keeps line (made (v.text text)) (text_short text)
   combines_keeps line (p.truth b) xs m = gives_keeps (v.truth b) tt
   combines_keeps line p.null xs m = gives_keeps v.null tt
   combines_keeps line p.undefined xs m = gives_keeps v.undefined tt

@@ -100,8 +100,8 @@ either false x y h k = k
 whole_short : (n : ℤ) → IsShortAnswer (made_whole n)
 whole_short n = either (is_whole n) (Ok (v.whole n)) (Err fault.Whole) tt tt
 
-pub text_short : (s : List ℕ) → IsShortAnswer (made (v.words s))
-text_short s = made_short (v.words s) (λ h. omega (arith, h))
+pub text_short : (s : List ℕ) → IsShortAnswer (made (v.text s))
+text_short s = made_short (v.text s) (λ h. omega (arith, h))
 
 -- ---- operators
 
@@ -164,7 +164,7 @@ mutual
   data_short d.null h = tt
   data_short (d.truth b) h = tt
   data_short (d.whole n) h = tt
-  data_short (d.words s) h = omega (arith, h)
+  data_short (d.text s) h = omega (arith, h)
   data_short (d.list ds) h = data_list_short ds (omega (arith, h))
   data_short (d.fields fs) h = data_fields_short fs (omega (arith, h))
 
@@ -186,7 +186,7 @@ name_short name (Some x) h = omega (arith, h)
 
 event_member_short : (e : PlainEvent) (name : List ℕ) → IsLight e → IsShortAnswer (event_member e name)
 event_member_short e name h =
-    either (bytes_eq name (codes "name")) (Ok (v.words e.name)) (if bytes_eq name (codes "data") then Ok (extra_value e.extra) else Err fault.Mistyped) (name_short e.name e.extra h)
+    either (bytes_eq name (codes "name")) (Ok (v.text e.name)) (if bytes_eq name (codes "data") then Ok (extra_value e.extra) else Err fault.Mistyped) (name_short e.name e.extra h)
     (either (bytes_eq name (codes "data")) (Ok (extra_value e.extra)) (Err fault.Mistyped) (extra_short e.name e.extra h) tt)
 
 pub member_short : (x : PlainValue) (name : List ℕ) → IsShort x → IsShortAnswer (member_of x name)
@@ -202,7 +202,7 @@ place_short (Some x) h = h
 pub index_short : (x i : PlainValue) → IsShort x → IsShortAnswer (index_of x i)
 index_short (v.list vs) (v.whole (pos n)) h = place_short (slice_get (values_in vs) n) (each_get IsShort (values_in vs) n (values_short vs h))
 index_short (v.list vs) (v.whole (negsuc n)) h = tt
-index_short (v.fields fs) (v.words key) h = field_short fs key h
+index_short (v.fields fs) (v.text key) h = field_short fs key h
 index_short _ _ h = tt
 
 -- ---- makings
@@ -212,7 +212,7 @@ event_with_short name None = tt
 event_with_short name (Some extra) = made_event_short (record { name = name; extra = extra })
 
 event_of_short : (name x : PlainValue) → IsShortAnswer (event_of name x)
-event_of_short (v.words name) x = event_with_short name (extra_of x)
+event_of_short (v.text name) x = event_with_short name (extra_of x)
 event_of_short _ x = tt
 
 event_parts_short : (xs : List PlainValue) → IsShortAnswer (event_of_parts xs)
@@ -221,7 +221,7 @@ event_parts_short (name ∷ []) = event_of_short name v.undefined
 event_parts_short (name ∷ x ∷ others) = event_of_short name x
 
 predicate_of_short : (name f : PlainValue) → IsShortAnswer (predicate_of name f)
-predicate_of_short (v.words name) (v.function code captured) = made_short (v.set (v.predicate name code captured)) (λ _. tt)
+predicate_of_short (v.text name) (v.function code captured) = made_short (v.set (v.predicate name code captured)) (λ _. tt)
 predicate_of_short _ _ = tt
 
 predicate_parts_short : (xs : List PlainValue) → IsShortAnswer (predicate_of_parts xs)
@@ -252,7 +252,7 @@ concat_short (Some xs) (a ∷ others) h k =
     (λ _. list_short (xs ++ flat_map joined (a ∷ others)) (each_append IsShort xs (flat_map joined (a ∷ others)) h (each_flat_map IsShort IsShort joined joined_short (a ∷ others) k)))
 
 on_texts_short : (f : List ℕ → List ℕ → Bool) (x y : PlainValue) → IsShortAnswer (on_texts f x y)
-on_texts_short f (v.words s) (v.words t) = tt
+on_texts_short f (v.text s) (v.text t) = tt
 on_texts_short f _ _ = tt
 
 of_texts_short : (f : List ℕ → List ℕ → Bool) (x : PlainValue) (args : List PlainValue) → IsShortAnswer (of_texts f x args)

@@ -20,7 +20,7 @@ abbrev mutual
   IsShort v.null = Unit {0}
   IsShort (v.truth b) = Unit {0}
   IsShort (v.whole n) = Unit {0}
-  IsShort (v.words s) = IsShortText s
+  IsShort (v.text s) = IsShortText s
   IsShort (v.list vs) = AreShort vs
   IsShort (v.fields fs) = AreShortFields fs
   IsShort (v.event e) = IsLight e

@@ -2,7 +2,7 @@
 use Rattle.std.proofs.Common.{◌≡◌, ℕ, ◌+◌, Bool, true, false, List, [], ◌∷◌, ◌++◌, length, refl}
 use Rattle.std.specs.Prelude.{ℤ, pos, negsuc, Option, Some, None, Result, Ok, Err, codes, replicate, option_map, if◌then◌else◌}
 use Rattle.std.specs.Fmt.{digits}
-use Rattle.js_data.specs.Data.{null, truth, whole, words, list, fields, no_data, item, no_fields, field}
+use Rattle.js_data.specs.Data.{null, truth, whole, text as words, list, fields, no_data, item, no_fields, field}
 use Rattle.js_data.specs.Event.{PlainEvent, same_event}
 use Rattle.js_data.specs.declared.fault.Fault.TheVariants.{Zero}
 use Rattle.js_data.proofs.Shared.{named}

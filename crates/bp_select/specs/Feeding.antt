@@ -3,7 +3,7 @@
 use Rattle.std.specs.Prelude.{ℕ, List, [], ◌++◌, Option, Some, None, fold}
 use Rattle.std.specs.Hash as fed
 use Rattle.std.specs.Hash.FoldHasher.{initial, write, finish}
-use Rattle.js_data.specs.Data.{PlainData, null, truth, whole, words, list, fields, DataList, no_data, item, DataFields, no_fields, field}
+use Rattle.js_data.specs.Data.{PlainData, null, truth, whole, text, list, fields, DataList, no_data, item, DataFields, no_fields, field}
 use Rattle.js_data.specs.Event.{PlainEvent}
 
 -- all leaves
@@ -12,7 +12,7 @@ abbrev mutual
   data_writes null = []
   data_writes (truth b) = fed.bool b
   data_writes (whole n) = fed.i64 n
-  data_writes (words s) = fed.str s
+  data_writes (text s) = fed.str s
   data_writes (list ds) = data_list_writes ds
   data_writes (fields fs) = data_fields_writes fs
 

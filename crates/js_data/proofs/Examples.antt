@@ -2,7 +2,7 @@
 use Rattle.std.specs.Prelude.{◌≡◌, pos, negsuc, [], ◌∷◌, true, false, Some, None, codes, refl}
 use Rattle.std.specs.Fmt.{digits}
 use Rattle.js_data.specs.Whole.{is_whole}
-use Rattle.js_data.specs.Data.{PlainData, null, truth, whole, words, list, fields, no_data, item, no_fields, field, data_weight, data_nesting, same_data, IsSortedData}
+use Rattle.js_data.specs.Data.{PlainData, null, truth, whole, text, list, fields, no_data, item, no_fields, field, data_weight, data_nesting, same_data, IsSortedData}
 use Rattle.js_data.specs.Event.{PlainEvent, event_weight, event_nesting, same_event}
 use Rattle.js_data.specs.JsonText.{quoted_text, event_text}
 
@@ -21,7 +21,7 @@ past_least = refl
 -- {"a":1,"b":[null,"hi"]}
 abbrev some_data : PlainData
 some_data =
-    fields (field (codes "a") (whole (pos 1)) (field (codes "b") (list (item null (item (words (codes "hi")) no_data))) no_fields))
+    fields (field (codes "a") (whole (pos 1)) (field (codes "b") (list (item null (item (text (codes "hi")) no_data))) no_fields))
 
 -- the fields 1; the key a 2, the number 1; the key b 2, the list 1, null 1, the text 3
 weight_of_data : data_weight some_data ≡ 11

@@ -5,7 +5,7 @@ use Rattle.std.specs.Cmp.{booleans_Decides, signed_Decides}
 use Rattle.std.proofs.lemmas.Bool.{and_parts}
 use Rattle.std.proofs.Math.Bool.{and-false}
 use Rattle.std.proofs.lemmas.Slice.Eq.{bytes_eq-Decides}
-use Rattle.js_data.specs.Data.{PlainData, null, truth, whole, words, list, fields, DataList, no_data, item, DataFields, no_fields, field, same_data, same_data_list, same_data_fields}
+use Rattle.js_data.specs.Data.{PlainData, null, truth, whole, text, list, fields, DataList, no_data, item, DataFields, no_fields, field, same_data, same_data_list, same_data_fields}
 use Rattle.js_data.specs.Views.{data_list_view, data_fields_view}
 use Rattle.js_data.specs.declared.data.Data.{Data}
 
@@ -28,7 +28,7 @@ mutual
   same_data-sound null null h = refl
   same_data-sound (truth a) (truth b) h = ap truth ((booleans_Decides a b).0 h)
   same_data-sound (whole m) (whole n) h = ap whole ((signed_Decides m n).0 h)
-  same_data-sound (words s) (words t) h = ap words ((bytes_eq-Decides s t).0 h)
+  same_data-sound (text s) (text t) h = ap text ((bytes_eq-Decides s t).0 h)
   same_data-sound (list ds) (list es) h = ap list (same_list-sound ds es h)
   same_data-sound (fields fs) (fields gs) h = ap fields (same_fields-sound fs gs h)
   same_data-sound _ _ h = absurd (true≢false (sym h))
@@ -58,7 +58,7 @@ mutual
   same_data-self null = refl
   same_data-self (truth a) = (booleans_Decides a a).1 refl
   same_data-self (whole m) = (signed_Decides m m).1 refl
-  same_data-self (words s) = (bytes_eq-Decides s s).1 refl
+  same_data-self (text s) = (bytes_eq-Decides s s).1 refl
   same_data-self (list ds) = same_list-self ds
   same_data-self (fields fs) = same_fields-self fs
 

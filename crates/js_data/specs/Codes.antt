@@ -37,7 +37,7 @@ abbrev mutual
   data_to (d.truth false) = gnum 0
   data_to (d.whole (pos n)) = gcons (gnum 0) (gnum n)
   data_to (d.whole (negsuc n)) = gcons (gnum 1) (gnum n)
-  data_to (d.words s) = gcons (gnum 2) (text_to s)
+  data_to (d.text s) = gcons (gnum 2) (text_to s)
   data_to (d.list ds) = gcons (gnum 3) (data_list_to ds)
   data_to (d.fields fs) = gcons (gnum 4) (data_fields_to fs)
 
@@ -56,7 +56,7 @@ abbrev mutual
   data_from (gnum (suc n)) = d.truth true
   data_from (gcons (gnum zero) g) = d.whole (pos (num_from g))
   data_from (gcons (gnum (suc zero)) g) = d.whole (negsuc (num_from g))
-  data_from (gcons (gnum (suc (suc zero))) g) = d.words (text_from g)
+  data_from (gcons (gnum (suc (suc zero))) g) = d.text (text_from g)
   data_from (gcons (gnum (suc (suc (suc zero)))) g) = d.list (data_list_from g)
   data_from (gcons (gnum (suc (suc (suc (suc n))))) g) = d.fields (data_fields_from g)
   data_from (gcons _ g) = d.null
@@ -76,7 +76,7 @@ mutual
   data_back (d.truth false) = refl
   data_back (d.whole (pos n)) = refl
   data_back (d.whole (negsuc n)) = refl
-  data_back (d.words s) = ap d.words (text_back s)
+  data_back (d.text s) = ap d.text (text_back s)
   data_back (d.list ds) = ap d.list (data_list_back ds)
   data_back (d.fields fs) = ap d.fields (data_fields_back fs)
 

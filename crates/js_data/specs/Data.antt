@@ -12,7 +12,7 @@ mutual
     null : PlainData
     truth : Bool → PlainData
     whole : ℤ → PlainData
-    words : List ℕ → PlainData
+    text : List ℕ → PlainData
     list : DataList → PlainData
     fields : DataFields → PlainData
 
@@ -34,7 +34,7 @@ abbrev mutual
   data_weight null = 1
   data_weight (truth b) = 1
   data_weight (whole n) = 1
-  data_weight (words s) = text_weight s
+  data_weight (text s) = text_weight s
   data_weight (list ds) = 1 + data_list_weight ds
   data_weight (fields fs) = 1 + data_fields_weight fs
 
@@ -52,7 +52,7 @@ abbrev mutual
   data_nesting null = 1
   data_nesting (truth b) = 1
   data_nesting (whole n) = 1
-  data_nesting (words s) = 1
+  data_nesting (text s) = 1
   data_nesting (list ds) = 1 + data_list_nesting ds
   data_nesting (fields fs) = 1 + data_fields_nesting fs
 
@@ -75,7 +75,7 @@ abbrev mutual
   IsSortedData null = Unit {0}
   IsSortedData (truth b) = Unit {0}
   IsSortedData (whole n) = Unit {0}
-  IsSortedData (words s) = Unit {0}
+  IsSortedData (text s) = Unit {0}
   IsSortedData (list ds) = AreSortedData ds
   IsSortedData (fields fs) = AreSortedDataFields fs
 
@@ -93,7 +93,7 @@ abbrev mutual
   same_data null null = true
   same_data (truth a) (truth b) = beq a b
   same_data (whole m) (whole n) = int_eq m n
-  same_data (words s) (words t) = bytes_eq s t
+  same_data (text s) (text t) = bytes_eq s t
   same_data (list ds) (list es) = same_data_list ds es
   same_data (fields fs) (fields gs) = same_data_fields fs gs
   same_data _ _ = false
@@ -115,7 +115,7 @@ abbrev mutual
   IsHeld null = Unit {0}
   IsHeld (truth b) = Unit {0}
   IsHeld (whole n) = IsWhole n
-  IsHeld (words s) = is_utf8 s ≡ true
+  IsHeld (text s) = is_utf8 s ≡ true
   IsHeld (list ds) = AreHeld ds
   IsHeld (fields fs) = AreHeldFields fs
 

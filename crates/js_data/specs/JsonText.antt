@@ -2,7 +2,7 @@
 use Rattle.std.specs.Prelude.{ℕ, ◌||◌, ◌==◌, ◌/◌, ◌%◌, List, [], ◌∷◌, ◌++◌, flat_map, Bool, true, false, nat_lt, if◌then◌else◌, Option, Some, None, codes}
 use Rattle.std.specs.Fmt.{signed_decimal}
 use Rattle.std.specs.Char.{digit_char}
-use Rattle.js_data.specs.Data.{PlainData, null, truth, whole, words, list, fields, DataList, no_data, item, DataFields, no_fields, field}
+use Rattle.js_data.specs.Data.{PlainData, null, truth, whole, text, list, fields, DataList, no_data, item, DataFields, no_fields, field}
 use Rattle.js_data.specs.Event.{PlainEvent}
 
 -- The bytes: 34 is the quotation mark, 92 the backslash, 44 the comma, 58 the colon, 91 and 93 the
@@ -37,7 +37,7 @@ abbrev mutual
   data_text null = codes "null"
   data_text (truth b) = truth_text b
   data_text (whole n) = signed_decimal n
-  data_text (words s) = quoted_text s
+  data_text (text s) = quoted_text s
   data_text (list ds) = 91 ∷ data_list_text false ds
   data_text (fields fs) = 123 ∷ data_fields_text false fs
 

@@ -1,6 +1,6 @@
 -- The plain form of each type that holds itself.
 use Rattle.std.specs.Prelude.{ℕ, List, map, Option, option_map}
-use Rattle.js_data.specs.Data.{PlainData, null, truth, whole, words, list, fields, DataList, DataFields}
+use Rattle.js_data.specs.Data.{PlainData, null, truth, whole, text, list, fields, DataList, DataFields}
 use Rattle.js_data.specs.Event.{PlainEvent}
 pub use Rattle.js_data.specs.Lists.{data_list_of, data_fields_of}
 use Rattle.js_data.specs.declared.data.Data.{Data, fold-Data}
@@ -10,7 +10,7 @@ abbrev pub data_step : Data-F PlainData → PlainData
 data_step Data-F.Null = null
 data_step (Data-F.Truth b) = truth b
 data_step (Data-F.Whole n) = whole n
-data_step (Data-F.Words s) = words s
+data_step (Data-F.Text s) = text s
 data_step (Data-F.List v) = list (data_list_of v.items)
 data_step (Data-F.Fields v) = fields (data_fields_of v.items)
 

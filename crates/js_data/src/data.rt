@@ -19,7 +19,7 @@ pub enum Data {
     /// A whole number.
     Whole(Whole),
     /// A text.
-    Words(Text),
+    Text(Text),
     /// A list.
     List(Vec<Data>),
     /// Fields; wherever a condition says so, their keys are sorted by their bytes and distinct.
@@ -34,7 +34,7 @@ impl Drop for Data {
             Data::Null => {}
             Data::Truth(_) => {}
             Data::Whole(_) => {}
-            Data::Words(_) => {}
+            Data::Text(_) => {}
             Data::List(_) => {}
             Data::Fields(_) => {}
         }
@@ -62,7 +62,7 @@ pub fn data_weight(tree: &Data) -> u64
             let _number = n.get();
             1
         }
-        Data::Words(text) => text_weight(text),
+        Data::Text(text) => text_weight(text),
         Data::List(items) => list_weight(items),
         Data::Fields(fields) => fields_weight(fields),
     }
@@ -99,7 +99,7 @@ pub fn data_nesting(tree: &Data) -> u64
     ensures { result ≡ capped (nesting_of (plain_data tree.now)) }
 {
     match tree {
-        Data::Null | Data::Truth(_) | Data::Whole(_) | Data::Words(_) => 1,
+        Data::Null | Data::Truth(_) | Data::Whole(_) | Data::Text(_) => 1,
         Data::List(items) => list_nesting(items).saturating_add(1),
         Data::Fields(fields) => fields_nesting(fields).saturating_add(1),
     }
@@ -136,7 +136,7 @@ pub fn copy_data(tree: &Data) -> Result<Data, Memory>
         Data::Null => Ok(Data::Null),
         Data::Truth(b) => Ok(Data::Truth(*b)),
         Data::Whole(n) => Ok(Data::Whole(*n)),
-        Data::Words(text) => Ok(Data::Words(text.copy()?)),
+        Data::Text(text) => Ok(Data::Text(text.copy()?)),
         Data::List(items) => Ok(Data::List(copy_list(items)?)),
         Data::Fields(fields) => Ok(Data::Fields(copy_fields(fields)?)),
     }
@@ -181,7 +181,7 @@ fn same_data(left: &Data, right: &Data) -> bool
         (Data::Null, Data::Null) => true,
         (Data::Truth(a), Data::Truth(b)) => *a == *b,
         (Data::Whole(a), Data::Whole(b)) => a.get() == b.get(),
-        (Data::Words(a), Data::Words(b)) => a.same(b),
+        (Data::Text(a), Data::Text(b)) => a.same(b),
         (Data::List(a), Data::List(b)) => same_list(a, b),
         (Data::Fields(a), Data::Fields(b)) => same_fields(a, b),
         _ => false,

@@ -11,7 +11,7 @@ ghost use Rattle.js_grammar.specs.Reader.{readers};
 ghost use Rattle.js_steps.specs.Passed.{at_first};
 ghost use Rattle.js_steps.specs.Read.{IsRead, IsExpr, IsStmt, IsTurn};
 
-use crate::leaves::{break_of, continue_of, member, number, postfix, used, words};
+use crate::leaves::{break_of, continue_of, member, number, postfix, text, used};
 use js_lexer::Sort;
 use js_steps::cursor::{begins, is_sort, next, sort_of, spot_of};
 use js_steps::ends::{end_of, is_return_end};
@@ -285,7 +285,7 @@ fn primary(cursor: &mut Cursor<'_>, inner: u32) -> Answer<Expr>
     let line = token.line;
     match sort_of(token) {
         Sort::Number => number(cursor),
-        Sort::Words => words(cursor),
+        Sort::Text => text(cursor),
         Sort::Name => used(cursor),
         Sort::True => {
             cursor.rest = rest;

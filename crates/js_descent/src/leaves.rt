@@ -2,7 +2,7 @@
 ghost use Rattle.std.specs.Prelude.{◌≡◌, ◌<◌, ◌+◌};
 ghost use Rattle.js_tree.specs.Views.{plain_expr};
 ghost use Rattle.js_tree.specs.Nesting.{nesting};
-ghost use Rattle.js_grammar.specs.Reading.{number_at, words_at, use_at, postfix_at, break_at, continue_at};
+ghost use Rattle.js_grammar.specs.Reading.{number_at, text_at, use_at, postfix_at, break_at, continue_at};
 ghost use Rattle.js_grammar.specs.Expressions.{member_turn};
 ghost use Rattle.js_grammar.specs.Reader.{readers};
 ghost use Rattle.js_steps.specs.Passed.{at_first};
@@ -21,12 +21,12 @@ pub fn number(cursor: &mut Cursor<'_>) -> Answer<Expr>
 }
 
 /// The content of a text literal.
-pub fn words(cursor: &mut Cursor<'_>) -> Answer<Expr>
-    ensures { IsExpr (at_first words_at) 1 cursor.old cursor.new result }
+pub fn text(cursor: &mut Cursor<'_>) -> Answer<Expr>
+    ensures { IsExpr (at_first text_at) 1 cursor.old cursor.new result }
 {
     let line = cursor.line();
-    let words = cursor.words()?;
-    Ok(expr_at(line, Form::Words(words), 1))
+    let text = cursor.text()?;
+    Ok(expr_at(line, Form::Text(text), 1))
 }
 
 /// A name that is used.

@@ -1,6 +1,6 @@
 //! What a node does that has begun.
 ghost use Rattle.std.specs.Prelude.{◌≡◌, IfOk};
-ghost use Rattle.js_value.specs.Value.{words};
+ghost use Rattle.js_value.specs.Value.{text as text_that_is};
 ghost use Rattle.js_ops.specs.Made.{made};
 ghost use Rattle.js_meaning.specs.State.{answered};
 ghost use Rattle.js_frames.specs.Places.{here};
@@ -38,10 +38,10 @@ fn turns(test: Option<u32>, body: u32, next: Option<u32>) -> Turns
 /// A text literal: one more owner of its text. Its only error is a full count of owners.
 #[inline(never)]
 fn literal(text: &Arc<Text>, line: u32) -> Result<Step, Memory>
-    ensures { IfOk result (Becomes (λ g. answered line (made (words text.now.value)))) }
+    ensures { IfOk result (Becomes (λ g. answered line (made (text_that_is text.now.value)))) }
 {
     let shared = text.clone()?;
-    answered(made(Value::Words(shared)), line)
+    answered(made(Value::Text(shared)), line)
 }
 
 /// What waits for the left side of an operator.
@@ -123,7 +123,7 @@ impl Engine {
         let node = node_of(base, number);
         match &node.form {
             NodeForm::Number(n) => Ok(give(Value::Whole(*n))),
-            NodeForm::Words(text) => literal(text, node.line),
+            NodeForm::Text(text) => literal(text, node.line),
             NodeForm::Truth(b) => Ok(give(Value::Truth(*b))),
             NodeForm::Null => Ok(give(Value::Null)),
             NodeForm::Undefined => Ok(give(Value::Undefined)),

@@ -1,7 +1,7 @@
 //! The forms of `bp` and `Math`, with their arguments.
 ghost use Rattle.std.specs.Prelude.{◌≡◌, IfOk, option_map};
 ghost use Rattle.js_data.specs.JsonText.{data_text};
-ghost use Rattle.js_value.specs.Value.{set, words};
+ghost use Rattle.js_value.specs.Value.{set, text as text_that_is};
 ghost use Rattle.js_value.specs.Views.{plain_value, plain_set};
 ghost use Rattle.js_value.specs.DataValues.{value_data};
 ghost use Rattle.js_meaning.specs.State.{gives};
@@ -52,13 +52,13 @@ fn assert_with(line: u32, condition: &Value, text: &Value) -> Result<Step, Memor
     ensures { IfOk result
         (Becomes (λ g. asserted line (plain_value condition.now) (plain_value text.now))) }
 {
-    let Value::Words(words) = text else {
+    let Value::Text(content) = text else {
         return Ok(mistyped(line));
     };
     if truthy(condition) {
         Ok(leave())
     } else {
-        let copied = words.copy()?;
+        let copied = content.copy()?;
         Ok(Step::Violate(copied))
     }
 }
@@ -190,7 +190,7 @@ impl Engine {
             (registers_thread line (plain_value name.now) (plain_value function)) self.new result }
     {
         match name {
-            Value::Words(text) => self.register_named(base, line, text, function),
+            Value::Text(text) => self.register_named(base, line, text, function),
             _ => Ok(mistyped(line)),
         }
     }
@@ -204,7 +204,7 @@ impl Engine {
     ) -> Result<Step, Memory>
         requires { StackFits base.now.program self.old.stack.items }
         ensures { Goes base.now self.old
-            (registers_thread line (words name.now) (plain_value function)) self.new result }
+            (registers_thread line (text_that_is name.now) (plain_value function)) self.new result }
     {
         match function {
             Value::Function { code, captured } => {

@@ -19,7 +19,7 @@ use Rattle.js_tree.specs.Nesting.{nesting, deepest, deepest_field, deepest_decla
 use Rattle.js_tree.specs.Endings.{ending, declarators_ending}
 use Rattle.js_lexer.specs.declared.sort.Sort.{Sort}
 use Rattle.js_lexer.specs.declared.sort.Sort.TheVariants.{LeftBrace, RightBrace, LeftParen, RightParen, LeftBracket, RightBracket, Dot, Semicolon, Comma, Question, Set, Function, Const, Let, Var, Return, If, Else, While, For, Break, Continue}
-use Rattle.js_grammar.specs.Sorts.{same, kind_name, name_at, kind_number, kind_words, sort, is, spot, named, numbered, quoted, member_word}
+use Rattle.js_grammar.specs.Sorts.{same, kind_name, name_at, kind_number, kind_text, sort, is, spot, named, numbered, quoted, member_word}
 use Rattle.js_grammar.specs.Operators.{operator_at, starts_operator, sort_sign, sign, sort_step, step, sort_assign, assign_op}
 use Rattle.js_grammar.specs.Arrows.{starts_function}
 use Rattle.js_grammar.specs.Ends.{starts_end, can_continue, end_absent, begins_other}
@@ -161,13 +161,13 @@ numbered-sort : (t : Token) (x : _) → numbered t ≡ Some x → sort t ≡ Sor
 unfolding numbered sort
 numbered-sort t x h = number-sort t.kind x h
 
-words-sort : (k : Kind) (x : List ℕ) → kind_words k ≡ Some x → kind_sort k ≡ Sort.Words
-words-sort (Kind.Words t) x h = refl
-words-sort _ x h = cc
+text-sort : (k : Kind) (x : List ℕ) → kind_text k ≡ Some x → kind_sort k ≡ Sort.Text
+text-sort (Kind.Text t) x h = refl
+text-sort _ x h = cc
 
-quoted-sort : (t : Token) (x : List ℕ) → quoted t ≡ Some x → sort t ≡ Sort.Words
+quoted-sort : (t : Token) (x : List ℕ) → quoted t ≡ Some x → sort t ≡ Sort.Text
 unfolding quoted sort
-quoted-sort t x h = words-sort t.kind x h
+quoted-sort t x h = text-sort t.kind x h
 
 name-none : (k : Kind) (s : _) → kind_sort k ≡ LeftParen → name_at (kind_name k) s ≡ None
 name-none (Kind.Name t) s h = cc

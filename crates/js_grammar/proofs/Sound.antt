@@ -304,7 +304,7 @@ module _ (room : ℕ) (inner : Readers)
 
   primary_at-sound : (t : Token) (ts : List Token) (k : Sort) → sort t ≡ k → OfSome (Expr Primary (t ∷ ts)) (exprs.primary_at room inner k t ts)
   primary_at-sound t ts Sort.Number e = some-gives (Expr Primary (t ∷ ts)) (numbered t) _ (λ n h. (number_of h, omega arith))
-  primary_at-sound t ts Sort.Words e = some-gives (Expr Primary (t ∷ ts)) (quoted t) _ (λ n h. (words_of h, omega arith))
+  primary_at-sound t ts Sort.Text e = some-gives (Expr Primary (t ∷ ts)) (quoted t) _ (λ n h. (words_of h, omega arith))
   primary_at-sound t ts Sort.Name e = some-gives (Expr Primary (t ∷ ts)) (named t) _ (λ n h. (name_of h, omega arith))
   primary_at-sound t ts True e = (true_of e, omega arith)
   primary_at-sound t ts False e = (false_of e, omega arith)

@@ -18,7 +18,7 @@ use Rattle.js_grammar.specs.Arrows.{starts_function}
 use Rattle.js_grammar.specs.Ends.{starts_end}
 use Rattle.js_grammar.specs.Tokens.{starts, line_of, end_before, is_const, starts_update, starts_assign}
 use Rattle.js_grammar.specs.Grammar.{Level, Primary, Calls, Operators, Choice, Assignment}
-use Rattle.js_grammar.specs.Reading.{Found, and_then, if_some, tail, after, after_some, within, Turn, run, header, opening, number_at, words_at, use_at, postfix_at, again, done}
+use Rattle.js_grammar.specs.Reading.{Found, and_then, if_some, tail, after, after_some, within, Turn, run, header, opening, number_at, text_at, use_at, postfix_at, again, done}
 
 -- readers of what has less nesting
 pub record Readers : Type 0 where
@@ -118,7 +118,7 @@ module _ (room : ℕ) (inner : Readers) where
 
   abbrev pub primary_at : Sort → Token → List Token → Found PlainExpr
   primary_at Sort.Number t ts = number_at t ts
-  primary_at Sort.Words t ts = words_at t ts
+  primary_at Sort.Text t ts = text_at t ts
   primary_at Sort.Name t ts = use_at t ts
   primary_at True t ts = Some (at 0 t.line (p.truth true), ts)
   primary_at False t ts = Some (at 0 t.line (p.truth false), ts)

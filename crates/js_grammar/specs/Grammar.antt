@@ -63,7 +63,7 @@ mutual
     number_of : {t : Token} {rest : List Token} {n : ℤ} → numbered t ≡ Some n →
         Spells Primary (t ∷ rest) (at 0 t.line (p.number n)) rest
     words_of : {t : Token} {rest : List Token} {x : List ℕ} → quoted t ≡ Some x →
-        Spells Primary (t ∷ rest) (at 0 t.line (p.words x)) rest
+        Spells Primary (t ∷ rest) (at 0 t.line (p.text x)) rest
     true_of : {t : Token} {rest : List Token} → sort t ≡ True →
         Spells Primary (t ∷ rest) (at 0 t.line (p.truth true)) rest
     false_of : {t : Token} {rest : List Token} → sort t ≡ False →

@@ -107,8 +107,8 @@ opening ts =
 abbrev pub number_at : Token → List Token → Found PlainExpr
 number_at t ts = if_some (numbered t) (λ n. Some (at 0 t.line (p.number n), ts))
 
-abbrev pub words_at : Token → List Token → Found PlainExpr
-words_at t ts = if_some (quoted t) (λ x. Some (at 0 t.line (p.words x), ts))
+abbrev pub text_at : Token → List Token → Found PlainExpr
+text_at t ts = if_some (quoted t) (λ x. Some (at 0 t.line (p.text x), ts))
 
 abbrev pub use_at : Token → List Token → Found PlainExpr
 use_at t ts = if_some (named t) (λ x. Some (at 0 t.line (p.use_of x), ts))

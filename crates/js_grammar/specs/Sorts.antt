@@ -37,16 +37,16 @@ kind_number _ = None
 unfoldable pub numbered : Token → Option ℤ
 numbered t = kind_number t.kind
 
-abbrev pub kind_words : Kind → Option (List ℕ)
-kind_words (Kind.Words text) = Some text
-kind_words _ = None
+abbrev pub kind_text : Kind → Option (List ℕ)
+kind_text (Kind.Text text) = Some text
+kind_text _ = None
 
 unfoldable pub quoted : Token → Option (List ℕ)
-quoted t = kind_words t.kind
+quoted t = kind_text t.kind
 
 abbrev pub kind_member : Kind → Option (List ℕ)
 kind_member (Kind.Name text) = Some text
-kind_member (Kind.Word text) = Some text
+kind_member (Kind.Keyword text) = Some text
 kind_member _ = None
 
 unfoldable pub member_word : Token → Option (List ℕ)
@@ -54,8 +54,8 @@ member_word t = kind_member t.kind
 
 abbrev pub kind_key : Kind → Option (List ℕ)
 kind_key (Kind.Name text) = Some text
-kind_key (Kind.Word text) = Some text
-kind_key (Kind.Words text) = Some text
+kind_key (Kind.Keyword text) = Some text
+kind_key (Kind.Text text) = Some text
 kind_key _ = None
 
 unfoldable pub key : Token → Option (List ℕ)

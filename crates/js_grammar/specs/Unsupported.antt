@@ -15,8 +15,8 @@ is_prototype text colon = colon && bytes_eq text (codes "__proto__")
 -- there, a mark may not
 abbrev pub is_refused : Kind → Bool → Bool → Bool
 is_refused (Kind.Name text) unsupported colon = is_prototype text colon
-is_refused (Kind.Words text) unsupported colon = is_prototype text colon
-is_refused (Kind.Word text) unsupported colon = unsupported && not colon
+is_refused (Kind.Text text) unsupported colon = is_prototype text colon
+is_refused (Kind.Keyword text) unsupported colon = unsupported && not colon
 is_refused (Kind.Mark text) unsupported colon = unsupported
 is_refused (Kind.Number n) unsupported colon = false
 

@@ -19,7 +19,7 @@ use Rattle.serde_json.specs.Written.{outline, items_outline, members_outline}
 use Rattle.serde_json.proofs.Numbers.{number_of-decimal, number_of-negative}
 use Rattle.serde_json.proofs.Texts.{print-outline}
 use Rattle.js_data.specs.Whole.{IsWhole}
-use Rattle.js_data.specs.Data.{PlainData, null, truth, whole, words, list, fields, DataList, no_data, item, DataFields, no_fields, field, IsSortedData, AreSortedData, AreSortedDataFields, IsHeld, AreHeld, AreHeldFields}
+use Rattle.js_data.specs.Data.{PlainData, null, truth, whole, text, list, fields, DataList, no_data, item, DataFields, no_fields, field, IsSortedData, AreSortedData, AreSortedDataFields, IsHeld, AreHeld, AreHeldFields}
 use Rattle.js_data.specs.Event.{PlainEvent, IsEvent, IsSortedExtra, IsHeldExtra}
 use Rattle.js_data.specs.JsonText.{event_text, data_text, data_list_text, data_fields_text, extra_text, quoted_text, comma}
 use Rattle.js_json.specs.inner.Built.{data_json, list_json, put_all, event_json}
@@ -50,7 +50,7 @@ mutual
   data_read null s h = refl
   data_read (truth b) s h = refl
   data_read (whole z) s h = number_read z h
-  data_read (words t) s h = refl
+  data_read (text t) s h = refl
   data_read (list ds) s h = ap (option_map json.array) (list_read ds s h)
   data_read (fields fs) s h = rw (put_all_is fs s) (ap (option_map json.object) (fields_read fs json.no_members s h ∙ ap Some (put_all_is fs s)))
 
@@ -67,7 +67,7 @@ mutual
   data_spelled null s h = tt
   data_spelled (truth b) s h = tt
   data_spelled (whole z) s h = number_spelled z h
-  data_spelled (words t) s h = tt
+  data_spelled (text t) s h = tt
   data_spelled (list ds) s h = list_spelled ds s h
   data_spelled (fields fs) s h = rw (put_all_is fs s) (fields_spelled fs s h)
 
@@ -129,7 +129,7 @@ mutual
   data_back null s h = refl
   data_back (truth b) s h = refl
   data_back (whole z) s h = number_back z h
-  data_back (words t) s h = refl
+  data_back (text t) s h = refl
   data_back (list ds) s h = ap (option_map list) (list_back ds s h)
   data_back (fields fs) s h = rw (put_all_is fs s) (ap (option_map fields) (fields_back fs s h))
 
@@ -171,7 +171,7 @@ mutual
   utf8_data (truth true) h = ascii _ refl
   utf8_data (truth false) h = ascii _ refl
   utf8_data (whole z) h = utf8_whole z h
-  utf8_data (words t) h = utf8_quoted t h
+  utf8_data (text t) h = utf8_quoted t h
   utf8_data (list ds) h = after_byte 91 _ refl (utf8_list false ds h)
   utf8_data (fields fs) h = after_byte 123 _ refl (utf8_fields false fs h)
 

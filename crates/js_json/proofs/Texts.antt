@@ -8,7 +8,7 @@ use Rattle.serde_json.specs.Data as json
 use Rattle.serde_json.specs.Data.{depth, items_depth, members_depth, put}
 use Rattle.serde_json.specs.Find.{of_integer}
 use Rattle.serde_json.specs.Written.{has_float, items_have_float, members_have_float, compact_text, items_text, members_text, number_text}
-use Rattle.js_data.specs.Data.{PlainData, null, truth, whole, words, list, fields, DataList, no_data, item, DataFields, no_fields, field, data_nesting, data_list_nesting, data_fields_nesting, IsBefore, IsSortedData, AreSortedData, AreSortedDataFields}
+use Rattle.js_data.specs.Data.{PlainData, null, truth, whole, text, list, fields, DataList, no_data, item, DataFields, no_fields, field, data_nesting, data_list_nesting, data_fields_nesting, IsBefore, IsSortedData, AreSortedData, AreSortedDataFields}
 use Rattle.js_data.specs.Event.{PlainEvent, IsEvent, IsSortedExtra, extra_nesting}
 use Rattle.serde_json.specs.Read.{max_depth}
 use Rattle.js_data.specs.JsonText.{data_text, data_list_text, data_fields_text, event_text}
@@ -73,7 +73,7 @@ mutual
   text_is (truth true) s = refl
   text_is (truth false) s = refl
   text_is (whole n) s = number_is n
-  text_is (words t) s = quoted_is t
+  text_is (text t) s = quoted_is t
   text_is (list ds) s = ap (λ t. 91 ∷ t) (list_text_is false ds s)
   text_is (fields fs) s = rw (put_all_is fs s) (ap (λ t. 123 ∷ t) (fields_text_is false fs s))
 
@@ -91,7 +91,7 @@ mutual
   no_float (truth b) s = refl
   no_float (whole (pos n)) s = refl
   no_float (whole (negsuc n)) s = refl
-  no_float (words t) s = refl
+  no_float (text t) s = refl
   no_float (list ds) s = list_no_float ds s
   no_float (fields fs) s = rw (put_all_is fs s) (fields_no_float fs s)
 
@@ -108,7 +108,7 @@ mutual
   depth_is null s = omega arith
   depth_is (truth b) s = omega arith
   depth_is (whole n) s = omega arith
-  depth_is (words t) s = omega arith
+  depth_is (text t) s = omega arith
   depth_is (list ds) s = omega (arith, list_depth_is ds s)
   depth_is (fields fs) s = rw (put_all_is fs s) (omega (arith, fields_depth_is fs s))
 

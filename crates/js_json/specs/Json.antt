@@ -6,7 +6,7 @@ use Rattle.serde_json.specs.Data as json
 use Rattle.serde_json.specs.Find.{as_i64, as_str, as_array}
 use Rattle.serde_json.specs.Read.{read}
 use Rattle.js_data.specs.Whole.{is_whole}
-use Rattle.js_data.specs.Data.{PlainData, null, truth, whole, words, list, fields, DataList, no_data, item, DataFields, no_fields, field}
+use Rattle.js_data.specs.Data.{PlainData, null, truth, whole, text, list, fields, DataList, no_data, item, DataFields, no_fields, field}
 use Rattle.js_data.specs.Event.{PlainEvent, event_weight, event_nesting}
 use Rattle.js_data.specs.declared.event.TheConstants.Event as event
 
@@ -18,7 +18,7 @@ abbrev mutual
   data_from json.null = Some null
   data_from (json.boolean b) = Some (truth b)
   data_from (json.number n) = option_and_then if_whole (as_i64 n)
-  data_from (json.string s) = Some (words s)
+  data_from (json.string s) = Some (text s)
   data_from (json.array ds) = option_map list (list_from ds)
   data_from (json.object ms) = option_map fields (fields_from ms)
 

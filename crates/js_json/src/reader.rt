@@ -87,7 +87,7 @@ fn data_of(alloc: Global, json: &Json) -> Result<Option<Data>, Memory>
         Json::Number(n) => Ok(whole_of(n)),
         Json::String(text) => {
             let copy = String::from_str(alloc, text.as_str())?;
-            Ok(Some(Data::Words(Text::new(copy))))
+            Ok(Some(Data::Text(Text::new(copy))))
         }
         Json::Array(items) => match list_of(alloc, items)? {
             None => Ok(None),

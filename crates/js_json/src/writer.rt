@@ -20,7 +20,7 @@ fn json_of(alloc: Global, tree: &Data) -> Result<Json, Memory>
         Data::Null => Ok(Json::Null),
         Data::Truth(b) => Ok(Json::Bool(*b)),
         Data::Whole(n) => Ok(Json::from(n.get())),
-        Data::Words(text) => Ok(Json::try_from_str(alloc, text.as_str())?),
+        Data::Text(text) => Ok(Json::try_from_str(alloc, text.as_str())?),
         Data::List(items) => Ok(Json::Array(json_of_items(alloc, items)?)),
         Data::Fields(fields) => Ok(Json::Object(json_of_fields(alloc, fields)?)),
     }

@@ -9,7 +9,7 @@ use Rattle.js_data.proofs.Shared.{drop_next}
 use Rattle.bp_tables.specs.Found.{front_in}
 use Rattle.js_lexer.specs.Bytes.{begins, is_name_byte, is_quote}
 use Rattle.js_lexer.specs.Front.{name_size}
-use Rattle.js_lexer.specs.Words.{all_marks}
+use Rattle.js_lexer.specs.Spellings.{all_marks}
 
 name_small : (b : ℕ) → is_name_byte b ≡ true → b < 128
 name_small b h = grind (arith, nat_tests)

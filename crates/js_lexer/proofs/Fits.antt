@@ -10,7 +10,7 @@ use Rattle.js_lexer.specs.declared.token.Kind.TheVariants.{Number}
 use Rattle.js_lexer.specs.declared.token.Flaw.TheVariants.{Character, NumberRange, Unsupported}
 use Rattle.js_lexer.specs.Bytes.{begins, is_digit, is_name_start, is_name_byte, is_quote}
 use Rattle.js_lexer.specs.Gaps.{blank_size, line_end_size, size_of_line, size_to_close}
-use Rattle.js_lexer.specs.Words.{all_marks}
+use Rattle.js_lexer.specs.Spellings.{all_marks}
 use Rattle.js_lexer.specs.Numbers.{is_digit_of, digits_size, has_base, base_of, decimal_size, number_size, number_value, is_unsupported_end}
 use Rattle.js_lexer.specs.Literals.{Escape, is_break, escape, spelled, Literal, closed, unclosed, wrong, behind, if_escape, literal}
 use Rattle.js_lexer.specs.Front.{Piece, nothing, gap, token, refused, name_size, number_before, number, quoted, block, mark, is_dot_digit, gap_or, comment_or_mark, gap_or_mark, front}

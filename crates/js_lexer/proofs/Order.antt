@@ -6,12 +6,12 @@ use Rattle.std.proofs.lemmas.Slice.Eq.{bytes_eq-Decides}
 use Rattle.bp_tables.specs.Found.{find_in, front_in}
 use Rattle.js_lexer.specs.declared.numbers.TheConstants.{GREATEST}
 use Rattle.js_lexer.specs.declared.token.Kind.{Kind}
-use Rattle.js_lexer.specs.declared.token.Kind.TheVariants.{Name, Word, Number}
+use Rattle.js_lexer.specs.declared.token.Kind.TheVariants.{Name, Keyword, Number}
 use Rattle.js_lexer.specs.declared.token.Flaw.TheVariants.{Character, NumberRange, Unsupported}
 use Rattle.js_lexer.specs.declared.token.Token.{Token}
 use Rattle.js_lexer.specs.Bytes.{begins, is_digit, is_name_start, is_name_byte, is_quote}
 use Rattle.js_lexer.specs.Gaps.{blank_size, line_end_size, size_of_line, size_to_close}
-use Rattle.js_lexer.specs.Words.{all_words, marks, unsupported_marks, all_marks}
+use Rattle.js_lexer.specs.Spellings.{all_keykeywords, marks, unsupported_marks, all_marks}
 use Rattle.js_lexer.specs.Numbers.{base_of, number_size, number_value, is_unsupported_end}
 use Rattle.js_lexer.specs.Literals.{Literal, closed, unclosed, wrong, literal}
 use Rattle.js_lexer.specs.Front.{Piece, nothing, gap, token, refused, name_size, number_before, quoted, block, mark, is_dot_digit, gap_or, gap_or_mark, front}
@@ -30,7 +30,7 @@ if-spelled : (bs : List ℕ) (t : Bool) (x y : Piece) → PieceSpelled bs x → 
 if-spelled bs true x y f g = f
 if-spelled bs false x y f g = g
 
-name-spelled : (t : Bool) (text : List ℕ) → IsSpelled (if t then Word text else Name text) text
+name-spelled : (t : Bool) (text : List ℕ) → IsSpelled (if t then Keyword text else Name text) text
 name-spelled true text = refl
 name-spelled false text = refl
 
@@ -59,7 +59,7 @@ gap_or-spelled bs (suc n) other k = tt
 front-spelled : (bs : List ℕ) → PieceSpelled bs (front bs)
 front-spelled [] = tt
 front-spelled (b ∷ bs) =
-    if-spelled (b ∷ bs) (is_name_start b) _ _ (name-spelled (is_some (find_in all_words (take (name_size (b ∷ bs)) (b ∷ bs)))) (take (name_size (b ∷ bs)) (b ∷ bs))) (
+    if-spelled (b ∷ bs) (is_name_start b) _ _ (name-spelled (is_some (find_in all_keykeywords (take (name_size (b ∷ bs)) (b ∷ bs)))) (take (name_size (b ∷ bs)) (b ∷ bs))) (
     if-spelled (b ∷ bs) (is_digit b) _ _
     (if-spelled (b ∷ bs) (nat_lt GREATEST (number_value (b ∷ bs))) (refused NumberRange 0) _ tt
     (before-spelled (b ∷ bs) (drop (number_size (b ∷ bs)) (b ∷ bs)) (base_of (b ∷ bs)) (number_value (b ∷ bs)) (number_size (b ∷ bs)))) (

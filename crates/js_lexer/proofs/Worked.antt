@@ -1,7 +1,7 @@
 -- Worked examples.
 use Rattle.std.proofs.Common.{◌≡◌, [], ◌∷◌, ◌++◌, codes, refl, pos, Some, None}
 use lib.Utf8.{encode}
-use Rattle.js_lexer.specs.declared.token.Kind.TheVariants.{Name, Word, Number, Words, Mark}
+use Rattle.js_lexer.specs.declared.token.Kind.TheVariants.{Name, Keyword, Number, Text, Mark}
 use Rattle.js_lexer.specs.declared.token.Flaw.TheVariants.{Character, OpenText, Escape, NumberRange, Unsupported}
 use Rattle.js_lexer.specs.Gaps.{line_of}
 use Rattle.js_lexer.specs.Literals.{escape}
@@ -10,10 +10,10 @@ use Rattle.js_lexer.specs.Front.{gap, token, refused, front}
 name_front : front (codes "ab$1+c") ≡ token (Name (codes "ab$1")) 4
 name_front = refl
 
-word_front : front (codes "let x") ≡ token (Word (codes "let")) 3
+word_front : front (codes "let x") ≡ token (Keyword (codes "let")) 3
 word_front = refl
 
-refused_word_front : front (codes "typeof") ≡ token (Word (codes "typeof")) 6
+refused_word_front : front (codes "typeof") ≡ token (Keyword (codes "typeof")) 6
 refused_word_front = refl
 
 range_front : front (codes "9007199254740992n") ≡ refused NumberRange 0
@@ -40,7 +40,7 @@ zeros_front = refl
 open_front : front (codes "'abc") ≡ refused OpenText 0
 open_front = refl
 
-literal_front : front (codes "'a\\n' ") ≡ token (Words (97 ∷ (10 ∷ []))) 5
+literal_front : front (codes "'a\\n' ") ≡ token (Text (97 ∷ (10 ∷ []))) 5
 unfolding encode
 literal_front = refl
 

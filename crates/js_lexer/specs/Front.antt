@@ -4,12 +4,12 @@ use Rattle.js_lexer.specs.Characters.{dot, backtick}
 use Rattle.bp_tables.specs.Found.{find_in, front_in}
 use Rattle.js_lexer.specs.declared.numbers.TheConstants.{GREATEST}
 use Rattle.js_lexer.specs.declared.token.Kind.{Kind}
-use Rattle.js_lexer.specs.declared.token.Kind.TheVariants.{Name, Word, Number, Words, Mark}
+use Rattle.js_lexer.specs.declared.token.Kind.TheVariants.{Name, Keyword, Number, Text, Mark}
 use Rattle.js_lexer.specs.declared.token.Flaw.{Flaw}
 use Rattle.js_lexer.specs.declared.token.Flaw.TheVariants.{Character, OpenText, Escape, NumberRange, Unsupported}
 use Rattle.js_lexer.specs.Bytes.{begins, is_digit, is_name_start, is_name_byte, is_quote}
 use Rattle.js_lexer.specs.Gaps.{blank_size, line_end_size, size_of_line, size_to_close}
-use Rattle.js_lexer.specs.Words.{all_words, all_marks}
+use Rattle.js_lexer.specs.Spellings.{all_keykeywords, all_marks}
 use Rattle.js_lexer.specs.Numbers.{base_of, number_size, number_value, is_unsupported_end}
 use Rattle.js_lexer.specs.Literals.{Literal, closed, unclosed, wrong, literal}
 
@@ -28,7 +28,7 @@ name_size (b ∷ bs) = if is_name_byte b then suc (name_size bs) else 0
 
 -- a word, or else a name
 abbrev pub name_kind : List ℕ → Kind
-name_kind text = if is_some (find_in all_words text) then Word text else Name text
+name_kind text = if is_some (find_in all_keykeywords text) then Keyword text else Name text
 
 -- a number by what follows it directly
 abbrev pub number_before : ℕ → ℕ → ℕ → List ℕ → Piece
@@ -44,7 +44,7 @@ number bs =
 
 -- a text literal, with its first quote
 abbrev pub quoted : Literal → Piece
-quoted (closed content n) = token (Words content) (1 + n)
+quoted (closed content n) = token (Text content) (1 + n)
 quoted unclosed = refused OpenText 0
 quoted (wrong n) = refused Escape (1 + n)
 

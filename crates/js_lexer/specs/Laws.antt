@@ -2,12 +2,12 @@
 use Rattle.std.specs.Prelude.{ℕ, ◌≡◌, ◌≤◌, ◌<◌, ◌-◌, ◌⊎◌, nat_le, Bool, true, not, ◌&&◌, ◌||◌, List, [], ◌∷◌, ◌++◌, length, take, drop, ⊤, Some}
 use Rattle.bp_tables.specs.Found.{front_in}
 use Rattle.js_lexer.specs.declared.token.Kind.{Kind}
-use Rattle.js_lexer.specs.declared.token.Kind.TheVariants.{Name, Word, Number, Words, Mark}
+use Rattle.js_lexer.specs.declared.token.Kind.TheVariants.{Name, Keyword, Number, Text, Mark}
 use Rattle.js_lexer.specs.declared.token.Flaw.{Flaw}
 use Rattle.js_lexer.specs.declared.token.Token.{Token}
 use Rattle.js_lexer.specs.Bytes.{begins}
 use Rattle.js_lexer.specs.Gaps.{line_of}
-use Rattle.js_lexer.specs.Words.{marks, unsupported_marks, all_marks}
+use Rattle.js_lexer.specs.Spellings.{marks, unsupported_marks, all_marks}
 use Rattle.js_lexer.specs.Cut.{Cut, Refused}
 
 -- at most one list of tokens is a cutting of a text
@@ -33,10 +33,10 @@ CutOrRefused bytes =
 -- a name, a word and a mark hold the bytes that they are
 abbrev pub IsSpelled : Kind → List ℕ → Type 0
 IsSpelled (Name text) bytes = text ≡ bytes
-IsSpelled (Word text) bytes = text ≡ bytes
+IsSpelled (Keyword text) bytes = text ≡ bytes
 IsSpelled (Mark text) bytes = text ≡ bytes
 IsSpelled (Number number) bytes = ⊤
-IsSpelled (Words text) bytes = ⊤
+IsSpelled (Text text) bytes = ⊤
 
 -- a token stands after a place, with at least one byte, in the text, at its line
 pub record IsPlaced (bytes : List ℕ) (behind : ℕ) (t : Token) : Type 0 where

@@ -1,7 +1,7 @@
 pub mod Characters
 pub mod Bytes
 pub mod Gaps
-pub mod Words
+pub mod Spellings
 pub mod Sorts
 pub mod Numbers
 pub mod Literals

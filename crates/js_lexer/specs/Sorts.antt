@@ -3,13 +3,13 @@ use Rattle.std.specs.Prelude.{ℕ, nat_eq, Option, Some, None, if◌then◌else�
 use Rattle.bp_tables.specs.Found.{find_in}
 use Rattle.js_lexer.specs.declared.token.Kind.{Kind}
 use Rattle.js_lexer.specs.declared.sort.Sort.{Sort}
-use Rattle.js_lexer.specs.Words.{all_words, all_marks}
+use Rattle.js_lexer.specs.Spellings.{all_keykeywords, all_marks}
 
 -- the sort of a numbered word or mark
 
-abbrev pub word_sort : Option ℕ → Sort
-word_sort None = Sort.Unsupported
-word_sort (Some n) =
+abbrev pub keyword_sort : Option ℕ → Sort
+keyword_sort None = Sort.Unsupported
+keyword_sort (Some n) =
     if nat_eq n 1 then Sort.Const else if nat_eq n 2 then Sort.Let else
     if nat_eq n 3 then Sort.Var else if nat_eq n 4 then Sort.Function else
     if nat_eq n 5 then Sort.Return else if nat_eq n 6 then Sort.If else
@@ -45,7 +45,7 @@ mark_sort (Some n) =
 -- the sort of a token of the kind
 abbrev pub kind_sort : Kind → Sort
 kind_sort (Kind.Name text) = Sort.Name
-kind_sort (Kind.Word text) = word_sort (find_in all_words text)
+kind_sort (Kind.Keyword text) = keyword_sort (find_in all_keykeywords text)
 kind_sort (Kind.Number n) = Sort.Number
-kind_sort (Kind.Words text) = Sort.Words
+kind_sort (Kind.Text text) = Sort.Text
 kind_sort (Kind.Mark text) = mark_sort (find_in all_marks text)

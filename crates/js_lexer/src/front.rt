@@ -7,16 +7,16 @@ ghost use Rattle.js_lexer.specs.inner.Found.{IsFound};
 ghost use Rattle.js_lexer.specs.Front.{token, name_size, name_kind, block, mark, quoted, is_dot_digit, front, comment_or_mark, gap_or_mark};
 ghost use Rattle.js_lexer.specs.Gaps.{size_to_close};
 ghost use Rattle.js_lexer.specs.Literals.{literal};
-ghost use Rattle.js_lexer.specs.Words.{all_words, all_marks};
+ghost use Rattle.js_lexer.specs.Spellings.{all_keykeywords, all_marks};
 ghost use Rattle.bp_tables.specs.Found.{front_in};
 
 use crate::bytes::{begins_name, is_digit_byte, is_quote_byte, stands_in_name};
 use crate::gaps::{blank_front, close_front, line_end_front, line_front};
 use crate::literals::literal_front;
 use crate::numbers::number_front;
-use crate::sort::{Sort, numbered_mark, numbered_word};
+use crate::sort::{Sort, numbered_mark, numbered_keyword};
 use crate::token::{Flaw, Found, Kind, Stop};
-use crate::words::{MarkTable, WordTable};
+use crate::spellings::{MarkTable, KeywordTable};
 use bp_tables::Front;
 use js_data::{Memory, Text};
 use std::alloc::Global;
@@ -46,16 +46,16 @@ fn name_extent(bytes: &[u8]) -> usize
 }
 
 /// The word or name in front.
-pub fn name_front(alloc: Global, words: &WordTable, bytes: &[u8]) -> Result<Found, Stop>
-    requires { words.now ≡ all_words }
+pub fn name_front(alloc: Global, keywords: &KeywordTable, bytes: &[u8]) -> Result<Found, Stop>
+    requires { keywords.now ≡ all_keykeywords }
     ensures { IsFound (token (name_kind (take (name_size bytes.now) bytes.now))
         (name_size bytes.now)) result }
 {
     let size = name_extent(bytes);
     let text = text_of(alloc, &bytes[..size])?;
-    let number = words.find(&bytes[..size]);
+    let number = keywords.find(&bytes[..size]);
     let (kind, sort) = match number {
-        Some(_) => (Kind::Word(text), numbered_word(number)),
+        Some(_) => (Kind::Keyword(text), numbered_keyword(number)),
         None => (Kind::Name(text), Sort::Name),
     };
     Ok(Found::Token(kind, sort, size))
@@ -143,13 +143,13 @@ fn quoted_front(
 /// What stands in front of the bytes, which are the text's from the place on.
 pub fn front_at(
     alloc: Global,
-    words: &WordTable,
+    keywords: &KeywordTable,
     marks: &MarkTable,
     bytes: &[u8],
     text: &str,
     place: usize,
 ) -> Result<Found, Stop>
-    requires words { words.now ≡ all_words }
+    requires keywords { keywords.now ≡ all_keykeywords }
     requires marks { marks.now ≡ all_marks }
     requires size { length text.now ≤ MOST_BYTES }
     requires place { bytes.now ≡ drop place text.now }
@@ -160,7 +160,7 @@ pub fn front_at(
         unreachable!();
     };
     if begins_name(*b) {
-        return name_front(alloc, words, bytes);
+        return name_front(alloc, keywords, bytes);
     }
     if is_digit_byte(*b) {
         return number_front(bytes);

@@ -3,7 +3,7 @@ ghost use Rattle.std.specs.Prelude.{◌≡◌, ◌≤◌, ◌<◌, ◌+◌, ◌^
 ghost use Rattle.std.specs.Str.{IsUtf8};
 ghost use Rattle.js_lexer.specs.declared.limits.TheConstants.{MOST_BYTES};
 ghost use Rattle.js_lexer.specs.Cut.{Cut};
-ghost use Rattle.js_lexer.specs.Words.{all_words, all_marks};
+ghost use Rattle.js_lexer.specs.Spellings.{all_keykeywords, all_marks};
 ghost use Rattle.js_lexer.specs.Lexed.{IsRefusal, fault_of};
 ghost use Rattle.js_lexer.specs.inner.Steps.{IsStep, StopFits, fault_of_stop};
 ghost use Rattle.js_lexer.specs.Laws.{OneCutting, OneRefusal, NeverBoth, CutOrRefused, TokensInOrder, LongestMark};
@@ -11,7 +11,7 @@ ghost use Rattle.js_lexer.specs.Laws.{OneCutting, OneRefusal, NeverBoth, CutOrRe
 use crate::front::front_at;
 use crate::gaps::line_ends_in;
 use crate::token::{Flaw, Found, LexFault, Stop, Token};
-use crate::words::{MarkTable, WordTable, mark_table, word_table};
+use crate::spellings::{MarkTable, KeywordTable, mark_table, keyword_table};
 use std::alloc::Global;
 
 /// The refusal of a flaw at a byte's place.
@@ -67,18 +67,18 @@ fn rest_of(text: &str, place: usize) -> &[u8]
 
 fn step_at(
     alloc: Global,
-    words: &WordTable,
+    keywords: &KeywordTable,
     marks: &MarkTable,
     text: &str,
     place: usize,
 ) -> Result<Found, Stop>
-    requires words { words.now ≡ all_words }
+    requires keywords { keywords.now ≡ all_keykeywords }
     requires marks { marks.now ≡ all_marks }
     requires size { length text.now ≤ MOST_BYTES }
     requires place { place < length text.now }
     ensures { IsStep text.now place result }
 {
-    front_at(alloc, words, marks, rest_of(text, place), text, place)
+    front_at(alloc, keywords, marks, rest_of(text, place), text, place)
 }
 
 fn is_broken(new_line: bool, ends: u32) -> bool
@@ -93,14 +93,14 @@ fn lex_text(alloc: Global, text: &str) -> Result<Vec<Token>, LexFault>
     ensures tokens { IfOk result (λ tokens. Cut text.now tokens.items) }
     ensures refused { IfErr result (IsRefusal text.now) }
 {
-    let words = word_table();
+    let keywords = keyword_table();
     let marks = mark_table();
     let mut tokens = Vec::new(alloc);
     let mut place: usize = 0;
     let mut line: u32 = 1;
     let mut new_line = true;
     'more: while place < text.len() {
-        match step_at(alloc, &words, &marks, text, place) {
+        match step_at(alloc, &keywords, &marks, text, place) {
             Ok(Found::Gap(size)) => {
                 let ends = line_ends_in(rest_of(text, place), size);
                 new_line = is_broken(new_line, ends);

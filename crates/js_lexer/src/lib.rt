@@ -10,7 +10,7 @@ mod literals;
 mod numbers;
 mod sort;
 mod token;
-mod words;
+mod spellings;
 
 pub use gaps::line_at;
 pub use lexer::{lex, one_cutting, tokens_in_order};

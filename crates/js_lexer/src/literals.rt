@@ -270,8 +270,8 @@ pub fn literal_front(alloc: Global, quote: u8, text: &str) -> Result<Found, Stop
             return Err(Stop::Refused(Flaw::OpenText, 0));
         };
         if *b == quote {
-            let kind = Kind::Words(Text::new(content));
-            return Ok(Found::Token(kind, Sort::Words, 1 + (size + 1)));
+            let kind = Kind::Text(Text::new(content));
+            return Ok(Found::Token(kind, Sort::Text, 1 + (size + 1)));
         }
         if is_break_byte(*b) {
             return Err(Stop::Refused(Flaw::OpenText, 0));

@@ -1,6 +1,6 @@
 //! What a token is for the grammar.
 ghost use Rattle.std.specs.Prelude.{◌≡◌};
-ghost use Rattle.js_lexer.specs.Sorts.{word_sort, mark_sort};
+ghost use Rattle.js_lexer.specs.Sorts.{keyword_sort, mark_sort};
 
 /// A sort of tokens: a variant for each mark and each word of the language.
 #[derive(Clone, Copy, PartialEq, Eq)]
@@ -9,7 +9,7 @@ pub enum Sort {
     Name,
     Number,
     /// A text literal.
-    Words,
+    Text,
     /// A word or a mark that the language refuses.
     Unsupported,
     /// `===`
@@ -88,8 +88,8 @@ pub enum Sort {
 }
 
 /// The sort of a numbered word.
-pub fn numbered_word(number: Option<u16>) -> Sort
-    ensures { result ≡ word_sort number }
+pub fn numbered_keyword(number: Option<u16>) -> Sort
+    ensures { result ≡ keyword_sort number }
 {
     match number {
         Some(1) => Sort::Const,

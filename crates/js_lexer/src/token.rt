@@ -12,11 +12,11 @@ pub enum Kind {
     /// A name that is no word.
     Name(Text),
     /// A word of the language, or one that it refuses.
-    Word(Text),
+    Keyword(Text),
     /// A number.
     Number(Whole),
     /// The content of a text literal.
-    Words(Text),
+    Text(Text),
     /// A mark, also one that the language refuses.
     Mark(Text),
 }
@@ -27,9 +27,9 @@ impl Drop for Kind {
     fn drop(self) {
         match self {
             Kind::Name(_) => {}
-            Kind::Word(_) => {}
+            Kind::Keyword(_) => {}
             Kind::Number(_) => {}
-            Kind::Words(_) => {}
+            Kind::Text(_) => {}
             Kind::Mark(_) => {}
         }
     }

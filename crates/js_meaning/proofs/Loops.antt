@@ -29,8 +29,8 @@ unfolding evaluation eval within
 and_stops = refl
 
 pub or_goes_on : comes_to Thread 100
-    (whole 0 ∷ one (p.words (codes "a")) ∷ one (p.binary op.Or 0 1) ∷ one (p.return_of 2) ∷ []) (statements 0 (3 ∷ []) ∷ [])
-    ≡ ends (v.words (codes "a")) 96 []
+    (whole 0 ∷ one (p.text (codes "a")) ∷ one (p.binary op.Or 0 1) ∷ one (p.return_of 2) ∷ []) (statements 0 (3 ∷ []) ∷ [])
+    ≡ ends (v.text (codes "a")) 96 []
 unfolding evaluation eval within
 or_goes_on = refl
 
@@ -48,11 +48,11 @@ break_and_continue = refl
 
 -- for (const x of ["a", "b", "c"]) { if (x === "b") return x; }
 pub for_of_returns : comes_to Thread 100
-    (one (p.words (codes "a")) ∷ one (p.words (codes "b")) ∷ one (p.words (codes "c")) ∷ one (p.list (0 ∷ 1 ∷ 2 ∷ []))
-    ∷ slot 0 ∷ one (p.words (codes "b")) ∷ one (p.binary op.Same 4 5) ∷ slot 0 ∷ one (p.return_of 7) ∷ one (p.if_alone 6 8) ∷ one (p.block [] (9 ∷ []))
+    (one (p.text (codes "a")) ∷ one (p.text (codes "b")) ∷ one (p.text (codes "c")) ∷ one (p.list (0 ∷ 1 ∷ 2 ∷ []))
+    ∷ slot 0 ∷ one (p.text (codes "b")) ∷ one (p.binary op.Same 4 5) ∷ slot 0 ∷ one (p.return_of 7) ∷ one (p.if_alone 6 8) ∷ one (p.block [] (9 ∷ []))
     ∷ one (p.for_of 0 3 10) ∷ [])
     (statements 1 (11 ∷ []) ∷ [])
-    ≡ ends (v.words (codes "b")) 83 []
+    ≡ ends (v.text (codes "b")) 83 []
 unfolding evaluation eval within
 for_of_returns = refl
 
@@ -146,7 +146,7 @@ pub sync_stops : comes_to Thread 100 (one (p.fields [] []) ∷ whole 3 ∷ on 2 
 unfolding evaluation eval within
 sync_stops = refl
 
-pub assertion_fails : comes_to Thread 100 (whole 0 ∷ one (p.words (codes "no")) ∷ one (p.builtin form.Assert (0 ∷ 1 ∷ [])) ∷ one (p.expression 2) ∷ []) (statements 0 (3 ∷ []) ∷ [])
+pub assertion_fails : comes_to Thread 100 (whole 0 ∷ one (p.text (codes "no")) ∷ one (p.builtin form.Assert (0 ∷ 1 ∷ [])) ∷ one (p.expression 2) ∷ []) (statements 0 (3 ∷ []) ∷ [])
     ≡ violated (codes "no") (left 96 [])
 unfolding evaluation eval within
 assertion_fails = refl
@@ -155,7 +155,7 @@ assertion_fails = refl
 pub reply_is_the_value :
     evaluation (of_functions (one (p.fields [] []) ∷ one (p.builtin form.Sync (0 ∷ [])) ∷ one (p.member 1 (codes "name")) ∷ one (p.return_of 2) ∷ []) (statements 0 (3 ∷ []) ∷ [])) 7
     (function Thread (v.function 0 v.no_values) []) (named (codes "e") ∷ [])
-    ≡ ends (v.words (codes "e")) 7 []
+    ≡ ends (v.text (codes "e")) 7 []
 unfolding evaluation eval within
 reply_is_the_value = refl
 
@@ -175,8 +175,8 @@ assertion_without_text = refl
 
 -- bp.enqueueExternalEvent(bp.Event("e", 1)); bp.log.info(bp.Event("e", [1, null]))
 pub enqueued_and_logged : comes_to Handler 100
-    (one (p.words (codes "e")) ∷ one (p.builtin form.Event (0 ∷ [])) ∷ one (p.builtin form.EnqueueExternalEvent (1 ∷ [])) ∷ one (p.expression 2)
-    ∷ one (p.words (codes "e")) ∷ whole 1 ∷ one p.null ∷ one (p.list (5 ∷ 6 ∷ [])) ∷ one (p.builtin form.Event (4 ∷ 7 ∷ [])) ∷ one (p.builtin form.LogInfo (8 ∷ [])) ∷ one (p.expression 9) ∷ [])
+    (one (p.text (codes "e")) ∷ one (p.builtin form.Event (0 ∷ [])) ∷ one (p.builtin form.EnqueueExternalEvent (1 ∷ [])) ∷ one (p.expression 2)
+    ∷ one (p.text (codes "e")) ∷ whole 1 ∷ one p.null ∷ one (p.list (5 ∷ 6 ∷ [])) ∷ one (p.builtin form.Event (4 ∷ 7 ∷ [])) ∷ one (p.builtin form.LogInfo (8 ∷ [])) ∷ one (p.expression 9) ∷ [])
     (statements 0 (3 ∷ 10 ∷ []) ∷ [])
     ≡ ends v.undefined 89 (enqueues (named (codes "e")) ∷ says (codes "[\"e\",[1,null]]") ∷ [])
 unfolding evaluation eval within digits
@@ -186,7 +186,7 @@ enqueued_and_logged = refl
 
 -- return [0 ? 1 : 2, "a" ? 3 : 4]: the other branch is not begun
 pub conditionals : comes_to Thread 100
-    (whole 0 ∷ whole 1 ∷ whole 2 ∷ one (p.conditional 0 1 2) ∷ one (p.words (codes "a")) ∷ whole 3 ∷ whole 4 ∷ one (p.conditional 4 5 6) ∷ one (p.list (3 ∷ 7 ∷ [])) ∷ one (p.return_of 8) ∷ [])
+    (whole 0 ∷ whole 1 ∷ whole 2 ∷ one (p.conditional 0 1 2) ∷ one (p.text (codes "a")) ∷ whole 3 ∷ whole 4 ∷ one (p.conditional 4 5 6) ∷ one (p.list (3 ∷ 7 ∷ [])) ∷ one (p.return_of 8) ∷ [])
     (statements 0 (9 ∷ []) ∷ [])
     ≡ ends (v.list (v.value (v.whole (pos 2)) (v.value (v.whole (pos 3)) v.no_values))) 92 []
 unfolding evaluation eval within
@@ -194,8 +194,8 @@ conditionals = refl
 
 -- if (0) bp.log.info("a"); else bp.log.info("b"); if (1) bp.log.info("c"); else bp.log.info("d");
 pub if_or_else : comes_to Thread 100
-    (one (p.words (codes "a")) ∷ one (p.builtin form.LogInfo (0 ∷ [])) ∷ one (p.expression 1) ∷ one (p.words (codes "b")) ∷ one (p.builtin form.LogInfo (3 ∷ [])) ∷ one (p.expression 4)
-    ∷ one (p.words (codes "c")) ∷ one (p.builtin form.LogInfo (6 ∷ [])) ∷ one (p.expression 7) ∷ one (p.words (codes "d")) ∷ one (p.builtin form.LogInfo (9 ∷ [])) ∷ one (p.expression 10)
+    (one (p.text (codes "a")) ∷ one (p.builtin form.LogInfo (0 ∷ [])) ∷ one (p.expression 1) ∷ one (p.text (codes "b")) ∷ one (p.builtin form.LogInfo (3 ∷ [])) ∷ one (p.expression 4)
+    ∷ one (p.text (codes "c")) ∷ one (p.builtin form.LogInfo (6 ∷ [])) ∷ one (p.expression 7) ∷ one (p.text (codes "d")) ∷ one (p.builtin form.LogInfo (9 ∷ [])) ∷ one (p.expression 10)
     ∷ whole 0 ∷ one (p.if_else 12 2 5) ∷ whole 1 ∷ one (p.if_else 14 8 11) ∷ [])
     (statements 0 (13 ∷ 15 ∷ []) ∷ [])
     ≡ ends v.undefined 90 (says (codes "b") ∷ says (codes "c") ∷ [])
@@ -275,7 +275,7 @@ list_of_a_for_of = refl
 -- the nodes of a call of a form on line 2, with arguments among: 1, "n", a function, true
 abbrev called_with : Builtin → List ℕ → Outcome
 called_with f arguments =
-    comes_to Thread 100 (whole 1 ∷ one (p.words (codes "n")) ∷ one (p.function 0) ∷ one (p.truth true) ∷ on 2 (p.builtin f arguments) ∷ one (p.expression 4) ∷ []) (statements 0 (5 ∷ []) ∷ [])
+    comes_to Thread 100 (whole 1 ∷ one (p.text (codes "n")) ∷ one (p.function 0) ∷ one (p.truth true) ∷ on 2 (p.builtin f arguments) ∷ one (p.expression 4) ∷ []) (statements 0 (5 ∷ []) ∷ [])
 
 -- bp.registerBThread(1, f), bp.registerBThread("n", 1), bp.registerBThread("n")
 pub registers_no_text : called_with form.RegisterBThread (0 ∷ 2 ∷ []) ≡ broken fault.Mistyped 2 (left 96 [])
@@ -328,7 +328,7 @@ sets_a_handler = refl
 
 -- Math.floor(1 / 0, bp.log.info("c")): the fault comes after the argument that is dropped
 pub floor_after_its_arguments : comes_to Thread 100
-    (whole 1 ∷ whole 0 ∷ one (p.words (codes "c")) ∷ one (p.builtin form.LogInfo (2 ∷ [])) ∷ on 2 (p.floor_divide 0 1 (3 ∷ [])) ∷ one (p.expression 4) ∷ []) (statements 0 (5 ∷ []) ∷ [])
+    (whole 1 ∷ whole 0 ∷ one (p.text (codes "c")) ∷ one (p.builtin form.LogInfo (2 ∷ [])) ∷ on 2 (p.floor_divide 0 1 (3 ∷ [])) ∷ one (p.expression 4) ∷ []) (statements 0 (5 ∷ []) ∷ [])
     ≡ broken fault.Zero 2 (left 94 (says (codes "c") ∷ []))
 unfolding evaluation eval within
 floor_after_its_arguments = refl
@@ -345,7 +345,7 @@ bare_return = refl
 abbrev captured_by : Builtin → List ℕ → Outcome
 captured_by f arguments =
     comes_to Thread 100
-    (whole 5 ∷ one (p.declaration Let (given 0 0 ∷ [])) ∷ one (p.words (codes "n")) ∷ one (p.function 1) ∷ one (p.builtin f arguments) ∷ one (p.expression 4) ∷ slot 0 ∷ [])
+    (whole 5 ∷ one (p.declaration Let (given 0 0 ∷ [])) ∷ one (p.text (codes "n")) ∷ one (p.function 1) ∷ one (p.builtin f arguments) ∷ one (p.expression 4) ∷ slot 0 ∷ [])
     (statements 1 (1 ∷ 5 ∷ []) ∷ record { parameters = 0; slots = 1; captures = 0 ∷ []; vars = []; content = p.one_value 6; line = 1 } ∷ [])
 
 pub registered_with_captured : captured_by form.RegisterBThread (2 ∷ 3 ∷ []) ≡ ends v.undefined 94 (registers (codes "n") (v.function 1 (v.value (v.whole (pos 5)) v.no_values)) ∷ [])

@@ -32,7 +32,7 @@ list xs = v.list (value_list_of xs)
 
 -- the nodes of `return [..]` with these operators on the first seven nodes: 7, 2, 6, 3, null, undefined, "a"
 abbrev operands : List PlainNode
-operands = whole 7 ∷ whole 2 ∷ whole 6 ∷ whole 3 ∷ one p.null ∷ one p.undefined ∷ one (p.words (codes "a")) ∷ []
+operands = whole 7 ∷ whole 2 ∷ whole 6 ∷ whole 3 ∷ one p.null ∷ one p.undefined ∷ one (p.text (codes "a")) ∷ []
 
 -- return [7 + 2, 7 - 2, 7 * 2, 6 / 3, 7 % 2]
 pub arithmetic : comes_to Thread 100
@@ -108,8 +108,8 @@ read_before = refl
 
 -- return ["a", 7][1], and of {a: 1, b: 2} the field "b"
 pub places : comes_to Thread 100
-    (one (p.words (codes "a")) ∷ whole 7 ∷ one (p.list (0 ∷ 1 ∷ [])) ∷ whole 1 ∷ one (p.index 2 3)
-    ∷ whole 1 ∷ whole 2 ∷ one (p.fields (codes "a" ∷ codes "b" ∷ []) (5 ∷ 6 ∷ [])) ∷ one (p.words (codes "b")) ∷ one (p.index 7 8)
+    (one (p.text (codes "a")) ∷ whole 7 ∷ one (p.list (0 ∷ 1 ∷ [])) ∷ whole 1 ∷ one (p.index 2 3)
+    ∷ whole 1 ∷ whole 2 ∷ one (p.fields (codes "a" ∷ codes "b" ∷ []) (5 ∷ 6 ∷ [])) ∷ one (p.text (codes "b")) ∷ one (p.index 7 8)
     ∷ one (p.list (4 ∷ 9 ∷ [])) ∷ one (p.return_of 10) ∷ [])
     (statements 0 (11 ∷ []) ∷ [])
     ≡ ends (list (number 7 ∷ number 2 ∷ [])) 88 []
@@ -118,7 +118,7 @@ places = refl
 
 -- return ["ab".startsWith("a"), "ab".endsWith("a"), [7].concat([6], 3)]
 pub methods_of_texts_and_lists : comes_to Thread 100
-    (one (p.words (codes "ab")) ∷ one (p.words (codes "a")) ∷ one (p.method 0 (codes "startsWith") (1 ∷ [])) ∷ one (p.method 0 (codes "endsWith") (1 ∷ []))
+    (one (p.text (codes "ab")) ∷ one (p.text (codes "a")) ∷ one (p.method 0 (codes "startsWith") (1 ∷ [])) ∷ one (p.method 0 (codes "endsWith") (1 ∷ []))
     ∷ whole 7 ∷ one (p.list (4 ∷ [])) ∷ whole 6 ∷ one (p.list (6 ∷ [])) ∷ whole 3 ∷ one (p.method 5 (codes "concat") (7 ∷ 8 ∷ []))
     ∷ one (p.list (2 ∷ 3 ∷ 9 ∷ [])) ∷ one (p.return_of 10) ∷ [])
     (statements 0 (11 ∷ []) ∷ [])
@@ -128,7 +128,7 @@ methods_of_texts_and_lists = refl
 
 -- with e = bp.Event("e"): return [e.or(bp.all), e.and(bp.none), e.xor(bp.all), e.negate()]
 pub methods_of_sets : comes_to Thread 100
-    (one (p.words (codes "e")) ∷ one (p.builtin form.Event (0 ∷ [])) ∷ one (p.builtin form.All []) ∷ one (p.builtin form.Nothing [])
+    (one (p.text (codes "e")) ∷ one (p.builtin form.Event (0 ∷ [])) ∷ one (p.builtin form.All []) ∷ one (p.builtin form.Nothing [])
     ∷ one (p.method 1 (codes "or") (2 ∷ [])) ∷ one (p.method 1 (codes "and") (3 ∷ [])) ∷ one (p.method 1 (codes "xor") (2 ∷ [])) ∷ one (p.method 1 (codes "negate") [])
     ∷ one (p.list (4 ∷ 5 ∷ 6 ∷ 7 ∷ [])) ∷ one (p.return_of 8) ∷ [])
     (statements 0 (9 ∷ []) ∷ [])
@@ -147,7 +147,7 @@ no_method = refl
 
 -- bp.log.info([7, "a"]); bp.log.info({a: null}); return Math.floor(7)
 pub logged_values : comes_to Thread 100
-    (whole 7 ∷ one (p.words (codes "a")) ∷ one (p.list (0 ∷ 1 ∷ [])) ∷ one (p.builtin form.LogInfo (2 ∷ [])) ∷ one (p.expression 3)
+    (whole 7 ∷ one (p.text (codes "a")) ∷ one (p.list (0 ∷ 1 ∷ [])) ∷ one (p.builtin form.LogInfo (2 ∷ [])) ∷ one (p.expression 3)
     ∷ one p.null ∷ one (p.fields (codes "a" ∷ []) (5 ∷ [])) ∷ one (p.builtin form.LogInfo (6 ∷ [])) ∷ one (p.expression 7)
     ∷ one (p.builtin form.Floor (0 ∷ [])) ∷ one (p.return_of 9) ∷ [])
     (statements 0 (4 ∷ 8 ∷ 10 ∷ []) ∷ [])
@@ -161,13 +161,13 @@ pub logged_no_data : comes_to Thread 100 (one p.undefined ∷ one (p.list (0 ∷
 unfolding evaluation eval within
 logged_no_data = refl
 
-pub floor_of_text : comes_to Thread 100 (one (p.words (codes "a")) ∷ on 3 (p.builtin form.Floor (0 ∷ [])) ∷ one (p.expression 1) ∷ []) (statements 0 (2 ∷ []) ∷ [])
+pub floor_of_text : comes_to Thread 100 (one (p.text (codes "a")) ∷ on 3 (p.builtin form.Floor (0 ∷ [])) ∷ one (p.expression 1) ∷ []) (statements 0 (2 ∷ []) ∷ [])
     ≡ broken fault.Mistyped 3 (left 97 [])
 unfolding evaluation eval within
 floor_of_text = refl
 
 -- return bp.EventSet("s", f), where f captures nothing
-pub set_by_a_function : comes_to Thread 100 (one (p.words (codes "s")) ∷ one (p.function 0) ∷ one (p.builtin form.EventSet (0 ∷ 1 ∷ [])) ∷ one (p.return_of 2) ∷ []) (statements 0 (3 ∷ []) ∷ [])
+pub set_by_a_function : comes_to Thread 100 (one (p.text (codes "s")) ∷ one (p.function 0) ∷ one (p.builtin form.EventSet (0 ∷ 1 ∷ [])) ∷ one (p.return_of 2) ∷ []) (statements 0 (3 ∷ []) ∷ [])
     ≡ ends (v.set (v.predicate (codes "s") 0 v.no_values)) 96 []
 unfolding evaluation eval within
 set_by_a_function = refl
@@ -175,11 +175,11 @@ set_by_a_function = refl
 -- ---- limits of what an expression makes
 
 -- a text of 65,535 bytes is within the limit of weight, and one of 65,536 is past it
-pub heaviest_text : comes_to Thread 100 (one (p.words (replicate 65_535 97)) ∷ one (p.expression 0) ∷ []) (statements 0 (1 ∷ []) ∷ []) ≡ ends v.undefined 98 []
+pub heaviest_text : comes_to Thread 100 (one (p.text (replicate 65_535 97)) ∷ one (p.expression 0) ∷ []) (statements 0 (1 ∷ []) ∷ []) ≡ ends v.undefined 98 []
 unfolding evaluation eval within
 heaviest_text = refl
 
-pub too_heavy_text : comes_to Thread 100 (on 4 (p.words (replicate 65_536 97)) ∷ one (p.expression 0) ∷ []) (statements 0 (1 ∷ []) ∷ []) ≡ broken fault.Weight 4 (left 98 [])
+pub too_heavy_text : comes_to Thread 100 (on 4 (p.text (replicate 65_536 97)) ∷ one (p.expression 0) ∷ []) (statements 0 (1 ∷ []) ∷ []) ≡ broken fault.Weight 4 (left 98 [])
 unfolding evaluation eval within
 too_heavy_text = refl
 
@@ -189,7 +189,7 @@ too_heavy_text = refl
 abbrev on_line_5 : PlainNodeForm → Outcome
 on_line_5 form =
     comes_to Thread 100
-    (one (p.words (codes "a")) ∷ one (p.declaration Let (given 0 0 ∷ [])) ∷ whole 7 ∷ one (p.list (2 ∷ [])) ∷ one (p.fields [] []) ∷ whole 1 ∷ on 5 form ∷ one (p.expression 6) ∷ [])
+    (one (p.text (codes "a")) ∷ one (p.declaration Let (given 0 0 ∷ [])) ∷ whole 7 ∷ one (p.list (2 ∷ [])) ∷ one (p.fields [] []) ∷ whole 1 ∷ on 5 form ∷ one (p.expression 6) ∷ [])
     (statements 1 (1 ∷ 7 ∷ []) ∷ [])
 
 -- x++, x -= 1, -"a"

@@ -145,11 +145,11 @@ module _ (g : Setting) (W : (State → Outcome) → (State → Outcome) → Type
   applies_walk line (Some f) x args = answered_walk line (method_of f x args)
 
   registers_walk : (line : ℕ) (x y : PlainValue) → acts g.mode ≡ true → W (registers_thread line x y) (registers_thread line x y)
-  registers_walk line (v.words name) (v.function code captured) is = w.acting _ is
+  registers_walk line (v.text name) (v.function code captured) is = w.acting _ is
   registers_walk line _ _ is = w.breaking fault.Mistyped line
 
   asserted_walk : (line : ℕ) (x y : PlainValue) → has_effect_in g.mode form.Assert ≡ true → W (asserted line x y) (asserted line x y)
-  asserted_walk line x (v.words text) is = either (is_truthy x) leaves_walk (w.violating text is)
+  asserted_walk line x (v.text text) is = either (is_truthy x) leaves_walk (w.violating text is)
   asserted_walk line x _ is = w.breaking fault.Mistyped line
 
   enqueues_walk : (line : ℕ) (x : PlainValue) → acts g.mode ≡ true → W (enqueues_event line x) (enqueues_event line x)
@@ -224,7 +224,7 @@ module _ (g : Setting) (W : (State → Outcome) → (State → Outcome) → Type
 
     pub combines_walk : (line : ℕ) (node : PlainNodeForm) (vs : List PlainValue) → W (combines g ev line node vs) (combines g ev' line node vs)
     combines_walk line (p.number n) vs = gives_walk (v.whole n)
-    combines_walk line (p.words text) vs = answered_walk line (made (v.words text))
+    combines_walk line (p.text text) vs = answered_walk line (made (v.text text))
     combines_walk line (p.truth b) vs = gives_walk (v.truth b)
     combines_walk line p.null vs = gives_walk v.null
     combines_walk line p.undefined vs = gives_walk v.undefined

@@ -105,7 +105,7 @@ module _ (g : Setting) (ev : ℕ → State → Outcome) where
   -- that do otherwise are in `does`.
   abbrev pub combines : ℕ → PlainNodeForm → List PlainValue → State → Outcome
   combines line (p.number n) vs s = gives (v.whole n) s
-  combines line (p.words text) vs s = answered line (made (v.words text)) s
+  combines line (p.text text) vs s = answered line (made (v.text text)) s
   combines line (p.truth b) vs s = gives (v.truth b) s
   combines line p.null vs s = gives v.null s
   combines line p.undefined vs s = gives v.undefined s

@@ -21,7 +21,7 @@ abbrev pub does_to_run : Effect → State → Outcome
 does_to_run x s = leaves (record s { effects = s.effects ++ x ∷ [] })
 
 abbrev pub registers_thread : ℕ → PlainValue → PlainValue → State → Outcome
-registers_thread line (v.words name) (v.function code captured) s =
+registers_thread line (v.text name) (v.function code captured) s =
     does_to_run (registers name (v.function code captured)) s
 registers_thread line _ _ s = breaks fault.Mistyped line s
 
@@ -33,7 +33,7 @@ asks budget line statement priority (e ∷ es) s =
     gives (v.event e) (record s { fuel = budget; replies = es; delivered = length s.effects })
 
 abbrev pub asserted : ℕ → PlainValue → PlainValue → State → Outcome
-asserted line condition (v.words text) s =
+asserted line condition (v.text text) s =
     cond (is_truthy condition) leaves (λ now. violated text (left_of now)) s
 asserted line condition _ s = breaks fault.Mistyped line s
 

@@ -14,7 +14,7 @@ use Rattle.js_tree.specs.declared.tree.AssignOp.{AssignOp}
 use Rattle.js_tree.specs.declared.tree.Expr.{Expr}
 use Rattle.js_tree.specs.declared.tree.Field.{Field}
 use Rattle.js_tree.specs.declared.tree.Stmt.{Stmt}
-use Rattle.js_tree.specs.declared.tree.Form.{Form, Number, Words, Truth, Null, Use, List as ListOf, Fields, Member, Index, Call, Unary, Update, Binary, Conditional, Assign, ArrowValue, ArrowBlock, Function}
+use Rattle.js_tree.specs.declared.tree.Form.{Form, Number, Text, Truth, Null, Use, List as ListOf, Fields, Member, Index, Call, Unary, Update, Binary, Conditional, Assign, ArrowValue, ArrowBlock, Function}
 use Rattle.js_tree.specs.Plain as p
 use Rattle.js_tree.specs.Plain.{PlainForm, PlainField, exprs_of, fields_of, stmts_of}
 use Rattle.js_tree.specs.Views.{plain_expr, plain_form, plain_field, plain_stmt}
@@ -52,9 +52,9 @@ pub number_sites : (s : List Scope) (a : Around) (e : Expr) (n : _) → e.form �
 unfolding form_sites
 number_sites s a e n h = form_at s a e (Number n) _ h (number_is n)
 
-pub words_sites : (s : List Scope) (a : Around) (e : Expr) (n : _) → e.form ≡ (Words n) → [] ≡ tree_sites s a e
+pub words_sites : (s : List Scope) (a : Around) (e : Expr) (n : _) → e.form ≡ (Text n) → [] ≡ tree_sites s a e
 unfolding form_sites
-words_sites s a e n h = form_at s a e (Words n) _ h (words_is n)
+words_sites s a e n h = form_at s a e (Text n) _ h (words_is n)
 
 pub truth_sites : (s : List Scope) (a : Around) (e : Expr) (n : _) → e.form ≡ (Truth n) → [] ≡ tree_sites s a e
 unfolding form_sites

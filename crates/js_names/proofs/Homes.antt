@@ -157,7 +157,7 @@ mutual
 
   home_form : (scopes : List Scope) (a : Around) (form : PlainForm) → ScopedForm form → AreHome (form_sites scopes a form)
   home_form scopes a (t.number n) s = tt
-  home_form scopes a (t.words text) s = tt
+  home_form scopes a (t.text text) s = tt
   home_form scopes a (t.truth b) s = tt
   home_form scopes a t.null s = tt
   home_form scopes a (t.use_of name) s = home_read scopes a name

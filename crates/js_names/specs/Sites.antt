@@ -5,7 +5,7 @@ use Rattle.js_tree.specs.declared.tree.Name.{Name}
 use Rattle.js_tree.specs.declared.tree.Spot.{Spot}
 use Rattle.js_tree.specs.declared.tree.DeclareKind.{DeclareKind}
 use Rattle.js_tree.specs.declared.tree.DeclareKind.TheVariants.{Const as const_word, Let as let_word, Var as var_word}
-use Rattle.js_tree.specs.Plain.{PlainExpr, at, PlainForm, number, words, truth, null, use_of, list, fields, member, index, call, unary, update, binary, conditional, assign, arrow_value, arrow_block, function, PlainExprs, no_exprs, expr_in, PlainFields, no_fields, field_in, PlainPerhaps, absent, present, PlainDeclarators, no_declarators, declarator_in, PlainStart, nothing, declared, started, PlainStmt, on, PlainStmtForm, empty, block, declaration, expression, if_alone, if_else, while_of, for_three, for_of, break_of, continue_of, return_nothing, return_of, PlainStmts, no_stmts, stmt_in, PlainItem, statement, function_of}
+use Rattle.js_tree.specs.Plain.{PlainExpr, at, PlainForm, number, text, truth, null, use_of, list, fields, member, index, call, unary, update, binary, conditional, assign, arrow_value, arrow_block, function, PlainExprs, no_exprs, expr_in, PlainFields, no_fields, field_in, PlainPerhaps, absent, present, PlainDeclarators, no_declarators, declarator_in, PlainStart, nothing, declared, started, PlainStmt, on, PlainStmtForm, empty, block, declaration, expression, if_alone, if_else, while_of, for_three, for_of, break_of, continue_of, return_nothing, return_of, PlainStmts, no_stmts, stmt_in, PlainItem, statement, function_of}
 use Rattle.js_tree.specs.Nesting.{is_object}
 use Rattle.js_names.specs.declared.place.Role.{Role}
 use Rattle.js_names.specs.declared.place.Role.TheVariants.{Parameter, Const, Let, Var, Function}
@@ -75,7 +75,7 @@ unfoldable mutual
 
   pub form_sites : List Scope → Around → PlainForm → List Site
   form_sites scopes a (number n) = []
-  form_sites scopes a (words text) = []
+  form_sites scopes a (text s) = []
   form_sites scopes a (truth b) = []
   form_sites scopes a null = []
   form_sites scopes a (use_of name) = read_site scopes a name

@@ -53,7 +53,7 @@ fn put_expr(walk: &mut Walk, around: Around, e: &Expr) -> Result<(), AllocError>
 {
     match &e.form {
         Form::Number(_) => Ok(()),
-        Form::Words(_) => Ok(()),
+        Form::Text(_) => Ok(()),
         Form::Truth(_) => Ok(()),
         Form::Null => Ok(()),
         Form::Use(name) => put_read(walk, around, name),

@@ -17,8 +17,8 @@ fn is_refused_kind(kind: &Kind, unsupported: bool, colon: bool) -> bool
 {
     match kind {
         Kind::Name(text) => is_prototype_key(text, colon),
-        Kind::Words(text) => is_prototype_key(text, colon),
-        Kind::Word(_) => unsupported && !colon,
+        Kind::Text(text) => is_prototype_key(text, colon),
+        Kind::Keyword(_) => unsupported && !colon,
         Kind::Mark(_) => unsupported,
         Kind::Number(_) => false,
     }

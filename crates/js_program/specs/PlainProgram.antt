@@ -18,7 +18,7 @@ pub record PlainDeclared : Type 0 where
 
 pub data PlainNodeForm : Type 0 where
   number : ℤ → PlainNodeForm
-  words : List ℕ → PlainNodeForm
+  text : List ℕ → PlainNodeForm
   truth : Bool → PlainNodeForm
   null : PlainNodeForm
   undefined : PlainNodeForm

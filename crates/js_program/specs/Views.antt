@@ -18,7 +18,7 @@ plain_declared d = record { variable = d.variable; value = d.value }
 
 abbrev pub plain_node_form : NodeForm → PlainNodeForm
 plain_node_form (f.Number n) = p.number n
-plain_node_form (f.Words text) = p.words text.value
+plain_node_form (f.Text text) = p.text text.value
 plain_node_form (f.Truth b) = p.truth b
 plain_node_form f.Null = p.null
 plain_node_form f.Undefined = p.undefined

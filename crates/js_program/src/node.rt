@@ -26,7 +26,7 @@ pub struct Declared {
 pub enum NodeForm {
     Number(Whole),
     /// Shared, so that its value is one more owner of it.
-    Words(Arc<Text>),
+    Text(Arc<Text>),
     Truth(bool),
     Null,
     Undefined,
@@ -80,7 +80,7 @@ impl Drop for NodeForm {
     fn drop(self) {
         match self {
             NodeForm::Number(_) => {}
-            NodeForm::Words(_) => {}
+            NodeForm::Text(_) => {}
             NodeForm::Truth(_) => {}
             NodeForm::Null => {}
             NodeForm::Undefined => {}

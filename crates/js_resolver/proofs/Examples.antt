@@ -64,7 +64,7 @@ three_functions =
     t.statement (spot 0 1) (one_let (codes "total") 4 (expr 1 (t.binary Operator.Add (whole 1) (whole 2))) 17)
     ∷ t.function_of (spot 18 2) (name (codes "add") 27) (name (codes "a") 31 ∷ name (codes "b") 34 ∷ [])
     (stmts_of (t.on 2 (t.return_of (spot 39 2) (expr 2 (t.binary Operator.Add (uses (codes "a") 46) (uses (codes "b") 50)))) ∷ []))
-    ∷ t.statement (spot 54 3) (does (bp (codes "registerBThread") 54 (expr 3 (t.words (codes "t")) ∷ expr 3 (t.function (spot 78 3) []
+    ∷ t.statement (spot 54 3) (does (bp (codes "registerBThread") 54 (expr 3 (t.text (codes "t")) ∷ expr 3 (t.function (spot 78 3) []
     (stmts_of (one_let (codes "x") 95 (expr 1 (t.call (uses (codes "add") 99) (exprs_of (whole 1 ∷ uses (codes "total") 106 ∷ [])))) 112
     ∷ does (bp (codes "sync") 114 (uses (codes "x") 122 ∷ []))
     ∷ does (expr 4 (t.arrow_value (spot 127 4) [] (uses (codes "x") 133)))
@@ -81,7 +81,7 @@ pub three_functions_program : resolved three_functions ≡ Some (record {
       ∷ node 1 (n.read (Slot 1))
       ∷ node 2 (n.binary Operator.Add 4 5)
       ∷ node 2 (n.return_of 6)
-      ∷ node 3 (n.words (codes "t"))  -- 8
+      ∷ node 3 (n.text (codes "t"))  -- 8
       ∷ node 1 (n.read (Constant 1))
       ∷ node 1 (n.number (pos 1))
       ∷ node 1 (n.read (Constant 0))

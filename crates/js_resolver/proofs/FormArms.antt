@@ -15,7 +15,7 @@ use Rattle.js_tree.specs.declared.tree.AssignOp.{AssignOp}
 use Rattle.js_tree.specs.declared.tree.Expr.{Expr}
 use Rattle.js_tree.specs.declared.tree.Field.{Field}
 use Rattle.js_tree.specs.declared.tree.Stmt.{Stmt}
-use Rattle.js_tree.specs.declared.tree.Form.{Form, Number, Words, Truth, Null, Use, List as ListOf, Fields, Member, Index, Call, Unary, Update, Binary, Conditional, Assign, ArrowValue, ArrowBlock, Function}
+use Rattle.js_tree.specs.declared.tree.Form.{Form, Number, Text, Truth, Null, Use, List as ListOf, Fields, Member, Index, Call, Unary, Update, Binary, Conditional, Assign, ArrowValue, ArrowBlock, Function}
 use Rattle.js_tree.specs.Plain as p
 use Rattle.js_tree.specs.Plain.{exprs_of, fields_of, stmts_of}
 use Rattle.js_tree.specs.Views.{plain_expr, plain_form, plain_field, plain_stmt}
@@ -40,10 +40,10 @@ pub number_arm : (ps : List Place) (a : Emitter) (f : Form) (k : _) → f ≡ Nu
 unfolding form_parts
 number_arm ps a f k h = forms_expr ps a a (N.Number k) [] (p.number k) (plain_form f) (sym (ap plain_form h ∙ number_is k)) (emits_none a) refl
 
-pub words_arm : (ps : List Place) (a : Emitter) (f : Form) (k : _) (s : Arc (List ℕ) Global) → f ≡ Words k → arc_value s ≡ k
-    → FormsExpr ps a a (N.Words s) (plain_form f)
+pub words_arm : (ps : List Place) (a : Emitter) (f : Form) (k : _) (s : Arc (List ℕ) Global) → f ≡ Text k → arc_value s ≡ k
+    → FormsExpr ps a a (N.Text s) (plain_form f)
 unfolding form_parts
-words_arm ps a f k s h e = forms_expr ps a a (N.Words s) [] (p.words k) (plain_form f) (sym (ap plain_form h ∙ words_is k)) (emits_none a) (ap n.words e)
+words_arm ps a f k s h e = forms_expr ps a a (N.Text s) [] (p.text k) (plain_form f) (sym (ap plain_form h ∙ words_is k)) (emits_none a) (ap n.text e)
 
 pub truth_arm : (ps : List Place) (a : Emitter) (f : Form) (k : _) → f ≡ Truth k
     → FormsExpr ps a a (N.Truth k) (plain_form f)

@@ -126,7 +126,7 @@ mutual
 
   pub form_listed : (ps : List Place) (scopes : List Scope) (a : Around) (b : ℕ) (form : PlainForm) → Lists ps (form_sites scopes a form) (form_parts ps b form)
   form_listed ps scopes a b (t.number i) = refl
-  form_listed ps scopes a b (t.words text) = refl
+  form_listed ps scopes a b (t.text text) = refl
   form_listed ps scopes a b (t.truth v) = refl
   form_listed ps scopes a b t.null = refl
   form_listed ps scopes a b (t.use_of name) = listed_none ps (read_site scopes a name) none (begun-read scopes a name) refl

@@ -337,7 +337,7 @@ form_keys ps b _ = tt
 expr_fine : (p : PlainProgram) (ps : List Place) (scopes : List Scope) (a : Around) (form : PlainForm) (xs : List ℕ) → HasKeys form xs → IsWithin scopes a.owner → AllFine p ps (form_sites scopes a form) → form_fits p (slots_in ps a.owner) (expr_node ps form xs) ≡ true
 unfolding form_sites
 expr_fine p ps scopes a (t.number i) xs q w h = refl
-expr_fine p ps scopes a (t.words text) xs q w h = refl
+expr_fine p ps scopes a (t.text text) xs q w h = refl
 expr_fine p ps scopes a (t.truth v) xs q w h = refl
 expr_fine p ps scopes a t.null xs q w h = refl
 expr_fine p ps scopes a (t.use_of name) xs q w h = use_fits p ps scopes a name xs h
@@ -451,7 +451,7 @@ mutual
 
   form_good : (p : PlainProgram) (ps : List Place) (scopes : List Scope) (a : Around) (b : ℕ) (form : PlainForm) → IsWithin scopes a.owner → Yields p ps a.owner b (form_sites scopes a form) (form_parts ps b form)
   form_good p ps scopes a b (t.number i) w = yields_none p ps a.owner b []
-  form_good p ps scopes a b (t.words text) w = yields_none p ps a.owner b []
+  form_good p ps scopes a b (t.text text) w = yields_none p ps a.owner b []
   form_good p ps scopes a b (t.truth v) w = yields_none p ps a.owner b []
   form_good p ps scopes a b t.null w = yields_none p ps a.owner b []
   form_good p ps scopes a b (t.use_of name) w = yields_none p ps a.owner b (read_site scopes a name)

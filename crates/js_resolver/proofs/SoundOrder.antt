@@ -114,7 +114,7 @@ mutual
 
   pub form_orderly : (ps : List Place) (b : ℕ) (form : PlainForm) → IsOrderly b (form_need form) (form_parts ps b form)
   form_orderly ps b (t.number i) = orderly_none b
-  form_orderly ps b (t.words text) = orderly_none b
+  form_orderly ps b (t.text text) = orderly_none b
   form_orderly ps b (t.truth v) = orderly_none b
   form_orderly ps b t.null = orderly_none b
   form_orderly ps b (t.use_of name) = orderly_none b

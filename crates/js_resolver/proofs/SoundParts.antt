@@ -97,7 +97,7 @@ kept_use P false v = tt
 -- an expression's node names its parts alone
 pub kept_expr : (P : ℕ → Type 0) (ps : List Place) (form : PlainForm) (xs : List ℕ) → form_need form ≤ length xs → Every P xs → Every P (parts_of (expr_node ps form xs))
 kept_expr P ps (t.number i) xs l h = tt
-kept_expr P ps (t.words text) xs l h = tt
+kept_expr P ps (t.text text) xs l h = tt
 kept_expr P ps (t.truth b) xs l h = tt
 kept_expr P ps t.null xs l h = tt
 kept_expr P ps (t.use_of name) xs l h = kept_use P (is_undefined name.text) (named_at ps name.spot.at)

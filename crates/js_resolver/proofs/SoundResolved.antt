@@ -140,7 +140,7 @@ mutual
 
   form_knows : (ps : List Place) (r : AreRight ps) (scopes : List Scope) (a : Around) (form : PlainForm) → ScopesKnown ps a.owner scopes → Knows ps (form_sites scopes a form)
   form_knows ps r scopes a (t.number i) k = λ h. tt
-  form_knows ps r scopes a (t.words text) k = λ h. tt
+  form_knows ps r scopes a (t.text text) k = λ h. tt
   form_knows ps r scopes a (t.truth v) k = λ h. tt
   form_knows ps r scopes a t.null k = λ h. tt
   form_knows ps r scopes a (t.use_of name) k = knows_read ps r scopes a name k

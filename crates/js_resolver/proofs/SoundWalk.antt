@@ -87,7 +87,7 @@ mutual
 
   form_walks : (P : ℕ → List Scope → Type 0) (f : ℕ) (r : IsClosed P f) (scopes : List Scope) (a : Around) (form : PlainForm) → P a.owner scopes → Walks P f (form_sites scopes a form)
   form_walks P f r scopes a (t.number i) k = λ h. tt
-  form_walks P f r scopes a (t.words text) k = λ h. tt
+  form_walks P f r scopes a (t.text text) k = λ h. tt
   form_walks P f r scopes a (t.truth v) k = λ h. tt
   form_walks P f r scopes a t.null k = λ h. tt
   form_walks P f r scopes a (t.use_of name) k = walks_read P f scopes a name k

@@ -56,7 +56,7 @@ keys_of (t.field_in key e fs) = key ∷ keys_of fs
 -- the form of a node, from the numbers of its parts in the order in which they begin
 abbrev pub expr_node : List Place → PlainForm → List ℕ → PlainNodeForm
 expr_node ps (t.number i) parts = n.number i
-expr_node ps (t.words text) parts = n.words text
+expr_node ps (t.text text) parts = n.text text
 expr_node ps (t.truth b) parts = n.truth b
 expr_node ps t.null parts = n.null
 expr_node ps (t.use_of name) parts =

@@ -20,7 +20,7 @@ unfoldable mutual
 
   pub form_parts : List Place → ℕ → PlainForm → Piece
   form_parts ps b (t.number i) = none
-  form_parts ps b (t.words text) = none
+  form_parts ps b (t.text text) = none
   form_parts ps b (t.truth v) = none
   form_parts ps b t.null = none
   form_parts ps b (t.use_of name) = none

@@ -67,9 +67,9 @@ fn emit_form(
 {
     match form {
         Form::Number(number) => Ok(NodeForm::Number(*number)),
-        Form::Words(text) => {
+        Form::Text(text) => {
             let literal = shared_text(emitter.alloc, text)?;
-            Ok(NodeForm::Words(literal))
+            Ok(NodeForm::Text(literal))
         }
         Form::Truth(truth) => Ok(NodeForm::Truth(*truth)),
         Form::Null => Ok(NodeForm::Null),

@@ -11,9 +11,9 @@ use std::test::Fail;
 fn shown_token(alloc: Global, token: &Token) -> Result<String, AllocError> {
     let text = match &token.kind {
         Kind::Name(text) => format!(in alloc; "name {}", text.as_str())?,
-        Kind::Word(text) => format!(in alloc; "word {}", text.as_str())?,
+        Kind::Keyword(text) => format!(in alloc; "word {}", text.as_str())?,
         Kind::Number(number) => format!(in alloc; "number {}", number.get())?,
-        Kind::Words(text) => format!(in alloc; "text {:?}", text.as_str())?,
+        Kind::Text(text) => format!(in alloc; "text {:?}", text.as_str())?,
         Kind::Mark(text) => format!(in alloc; "mark {}", text.as_str())?,
     };
     let start = if token.new_line { "new " } else { "" };

@@ -197,7 +197,7 @@ fn declarators(out: &mut String, trees: &[Declarator], room: u32) -> Result<(), 
 fn form(out: &mut String, form: &Form, room: u32) -> Result<(), AllocError> {
     match form {
         Form::Number(n) => number(out, *n),
-        Form::Words(text) => quoted(out, text),
+        Form::Text(text) => quoted(out, text),
         Form::Truth(true) => out.push_str("true"),
         Form::Truth(false) => out.push_str("false"),
         Form::Null => out.push_str("null"),

@@ -4,7 +4,7 @@ use Rattle.js_lexer.specs.declared.token.Kind.{Kind}
 use Rattle.js_lexer.specs.declared.token.Token.{Token}
 use Rattle.js_lexer.specs.declared.sort.Sort.{Sort}
 use Rattle.js_tree.specs.declared.tree.Spot.{Spot}
-use Rattle.js_grammar.specs.Sorts.{sort, named, numbered, quoted, member_word, key, kind_name, kind_number, kind_words, kind_member, kind_key, name_at, spot}
+use Rattle.js_grammar.specs.Sorts.{sort, named, numbered, quoted, member_word, key, kind_name, kind_number, kind_text, kind_member, kind_key, name_at, spot}
 use Rattle.js_grammar.specs.Operators.{operator_at, at_level, operator, sign, sort_sign, step, sort_step, assign_op, sort_assign}
 use Rattle.js_grammar.specs.Arrows.{arrow_follows}
 use Rattle.js_grammar.specs.Tokens.{starts, declares, sort_declare, lexical, if_lexical, is_of, is_of_name}
@@ -31,7 +31,7 @@ pub numbered_is : (t : Token) → numbered t ≡ kind_number t.kind
 unfolding numbered
 numbered_is t = refl
 
-pub quoted_is : (t : Token) → quoted t ≡ kind_words t.kind
+pub quoted_is : (t : Token) → quoted t ≡ kind_text t.kind
 unfolding quoted
 quoted_is t = refl
 
@@ -43,11 +43,11 @@ pub key_is : (t : Token) → key t ≡ kind_key t.kind
 unfolding key
 key_is t = refl
 
-pub member_among : (k : Kind) (x y : List ℕ) → (k ≡ Kind.Name x) ⊎ (k ≡ Kind.Word x) → y ≡ x → kind_member k ≡ Some y
+pub member_among : (k : Kind) (x y : List ℕ) → (k ≡ Kind.Name x) ⊎ (k ≡ Kind.Keyword x) → y ≡ x → kind_member k ≡ Some y
 member_among k x y (inl e) h = rw (e, h) refl
 member_among k x y (inr e) h = rw (e, h) refl
 
-pub key_among : (k : Kind) (x y : List ℕ) → (k ≡ Kind.Name x) ⊎ ((k ≡ Kind.Word x) ⊎ (k ≡ Kind.Words x)) → y ≡ x → kind_key k ≡ Some y
+pub key_among : (k : Kind) (x y : List ℕ) → (k ≡ Kind.Name x) ⊎ ((k ≡ Kind.Keyword x) ⊎ (k ≡ Kind.Text x)) → y ≡ x → kind_key k ≡ Some y
 key_among k x y (inl e) h = rw (e, h) refl
 key_among k x y (inr (inl e)) h = rw (e, h) refl
 key_among k x y (inr (inr e)) h = rw (e, h) refl

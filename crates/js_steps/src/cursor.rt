@@ -169,14 +169,14 @@ impl<'a> Cursor<'a> {
 
     /// Moves past a text literal, for its content.
     #[tactic(auto, using(crate::proofs::Using::quoted_is))]
-    pub fn words(&mut self) -> Result<Text, Stop>
+    pub fn text(&mut self) -> Result<Text, Stop>
         ensures { IsTaken quoted self.old.rest.now self.new.rest.now result }
     {
         let Some((token, rest)) = next(self.rest) else {
             return Err(self.no_tree());
         };
         match &token.kind {
-            Kind::Words(text) => {
+            Kind::Text(text) => {
                 self.rest = rest;
                 Ok(text.copy()?)
             }
@@ -193,7 +193,7 @@ impl<'a> Cursor<'a> {
             return Err(self.no_tree());
         };
         match &token.kind {
-            Kind::Name(text) | Kind::Word(text) => {
+            Kind::Name(text) | Kind::Keyword(text) => {
                 self.rest = rest;
                 Ok(text.copy()?)
             }
@@ -210,7 +210,7 @@ impl<'a> Cursor<'a> {
             return Err(self.no_tree());
         };
         match &token.kind {
-            Kind::Name(text) | Kind::Word(text) | Kind::Words(text) => {
+            Kind::Name(text) | Kind::Keyword(text) | Kind::Text(text) => {
                 self.rest = rest;
                 Ok(text.copy()?)
             }

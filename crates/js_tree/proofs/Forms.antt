@@ -13,8 +13,8 @@ use Rattle.js_tree.specs.declared.tree.AssignOp.{AssignOp}
 use Rattle.js_tree.specs.declared.tree.Expr.{Expr, fold_out-Expr}
 use Rattle.js_tree.specs.declared.tree.Field.{Field, fold_out-Field}
 use Rattle.js_tree.specs.declared.tree.Stmt.{Stmt}
-use Rattle.js_tree.specs.declared.tree.Form.{Number, Words, Truth, Null, Use, List as ListOf, Fields, Member, Index, Call, Unary, Update, Binary, Conditional, Assign, ArrowValue, ArrowBlock, Function, fold-roll-Form}
-use Rattle.js_tree.specs.declared.tree.Form.TheVariants.{rolls-Number, rolls-Words, rolls-Truth, rolls-Null, rolls-Use, rolls-List, rolls-Fields, rolls-Member, rolls-Index, rolls-Call, rolls-Unary, rolls-Update, rolls-Binary, rolls-Conditional, rolls-Assign, rolls-ArrowValue, rolls-ArrowBlock, rolls-Function}
+use Rattle.js_tree.specs.declared.tree.Form.{Number, Text, Truth, Null, Use, List as ListOf, Fields, Member, Index, Call, Unary, Update, Binary, Conditional, Assign, ArrowValue, ArrowBlock, Function, fold-roll-Form}
+use Rattle.js_tree.specs.declared.tree.Form.TheVariants.{rolls-Number, rolls-Text, rolls-Truth, rolls-Null, rolls-Use, rolls-List, rolls-Fields, rolls-Member, rolls-Index, rolls-Call, rolls-Unary, rolls-Update, rolls-Binary, rolls-Conditional, rolls-Assign, rolls-ArrowValue, rolls-ArrowBlock, rolls-Function}
 use Rattle.js_tree.specs.Plain as p
 use Rattle.js_tree.specs.Plain.{PlainExpr, PlainForm, PlainField, PlainDeclarator, PlainStart, PlainStmt, PlainStmtForm, exprs_of, fields_of, stmts_of}
 use Rattle.js_tree.specs.Views.{plain_expr, plain_form, plain_field, plain_stmt, form_step, start_step, stmt_form_step, declarator_step, expr_step, field_step, stmt_step}
@@ -28,8 +28,8 @@ field_is f = search (rules, fold_out-Field)
 pub number_is : (n : _) → plain_form (Number n) ≡ p.number n
 number_is n = ap plain_form (sym (rolls-Number n)) ∙ fold-roll-Form PlainForm PlainStart PlainStmtForm PlainDeclarator PlainExpr PlainField PlainStmt form_step start_step stmt_form_step declarator_step expr_step field_step stmt_step _
 
-pub words_is : (n : _) → plain_form (Words n) ≡ p.words n
-words_is n = ap plain_form (sym (rolls-Words n)) ∙ fold-roll-Form PlainForm PlainStart PlainStmtForm PlainDeclarator PlainExpr PlainField PlainStmt form_step start_step stmt_form_step declarator_step expr_step field_step stmt_step _
+pub words_is : (n : _) → plain_form (Text n) ≡ p.text n
+words_is n = ap plain_form (sym (rolls-Text n)) ∙ fold-roll-Form PlainForm PlainStart PlainStmtForm PlainDeclarator PlainExpr PlainField PlainStmt form_step start_step stmt_form_step declarator_step expr_step field_step stmt_step _
 
 pub truth_is : (n : _) → plain_form (Truth n) ≡ p.truth n
 truth_is n = ap plain_form (sym (rolls-Truth n)) ∙ fold-roll-Form PlainForm PlainStart PlainStmtForm PlainDeclarator PlainExpr PlainField PlainStmt form_step start_step stmt_form_step declarator_step expr_step field_step stmt_step _

@@ -17,7 +17,7 @@ mutual
 
   pub data PlainForm : Type 0 where
     number : ℤ → PlainForm
-    words : List ℕ → PlainForm
+    text : List ℕ → PlainForm
     truth : Bool → PlainForm
     null : PlainForm
     use_of : Name → PlainForm

@@ -20,7 +20,7 @@ perhaps (Some e) = p.present e
 abbrev pub form_step :
     Form-F PlainForm PlainStart PlainStmtForm PlainDeclarator PlainExpr PlainField PlainStmt → PlainForm
 form_step (Form-F.Number n) = p.number n
-form_step (Form-F.Words t) = p.words t
+form_step (Form-F.Text t) = p.text t
 form_step (Form-F.Truth b) = p.truth b
 form_step Form-F.Null = p.null
 form_step (Form-F.Use name) = p.use_of name

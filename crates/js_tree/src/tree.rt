@@ -120,7 +120,7 @@ pub struct Expr {
 #[cycle(tree)]
 pub enum Form {
     Number(Whole),
-    Words(Text),
+    Text(Text),
     Truth(bool),
     Null,
     Use(Name),
@@ -151,7 +151,7 @@ impl Drop for Form {
     fn drop(self) {
         match self {
             Form::Number(_) => {}
-            Form::Words(_) => {}
+            Form::Text(_) => {}
             Form::Truth(_) => {}
             Form::Null => {}
             Form::Use(_) => {}

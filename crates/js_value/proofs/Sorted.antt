@@ -49,7 +49,7 @@ mutual
   data_sorted v.null h = tt
   data_sorted (v.truth b) h = tt
   data_sorted (v.whole n) h = tt
-  data_sorted (v.words s) h = tt
+  data_sorted (v.text s) h = tt
   data_sorted (v.list vs) h = if_list (values_data vs) (list_sorted vs h)
   data_sorted (v.fields fs) h = if_fields (fields_data fs) (fields_sorted fs h)
   data_sorted (v.event e) h = tt

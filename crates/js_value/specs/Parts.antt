@@ -5,9 +5,9 @@ use Rattle.js_data.specs.Event.{PlainEvent}
 use Rattle.js_value.specs.Value as v
 use Rattle.js_value.specs.Value.{PlainValue, ValueList, ValueFields}
 
-abbrev pub words_in : PlainValue → Option (List ℕ)
-words_in (v.words s) = Some s
-words_in _ = None
+abbrev pub text_inside : PlainValue → Option (List ℕ)
+text_inside (v.text s) = Some s
+text_inside _ = None
 
 abbrev pub list_in : PlainValue → Option ValueList
 list_in (v.list vs) = Some vs

@@ -7,7 +7,7 @@ ghost use Rattle.js_value.specs.Kept.{HaveSortedKeys};
 ghost use Rattle.js_value.specs.Views.{plain_value, value_list_view, value_fields_view};
 ghost use Rattle.js_value.specs.DataValues.{data_value, data_values, data_value_fields, value_data, values_data, fields_data};
 
-use crate::reading::words;
+use crate::reading::text_value;
 use crate::value::{Items, Pairs, Value};
 use js_data::{Data, Memory, Text};
 use std::alloc::Global;
@@ -24,7 +24,7 @@ pub fn value_of_data(alloc: Global, tree: &Data) -> Result<Value, Memory>
         Data::Null => Ok(Value::Null),
         Data::Truth(b) => Ok(Value::Truth(*b)),
         Data::Whole(n) => Ok(Value::Whole(*n)),
-        Data::Words(text) => words(alloc, text.copy()?),
+        Data::Text(text) => text_value(alloc, text.copy()?),
         Data::List(items) => Ok(Value::List(Items::new(alloc, values_of_data(alloc, items)?)?)),
         Data::Fields(fields) => Ok(Value::Fields(Pairs::new(
             alloc,
@@ -81,7 +81,7 @@ fn data_of(alloc: Global, v: &Value) -> Result<Option<Data>, Memory>
         Value::Null => Ok(Some(Data::Null)),
         Value::Truth(b) => Ok(Some(Data::Truth(*b))),
         Value::Whole(n) => Ok(Some(Data::Whole(*n))),
-        Value::Words(text) => Ok(Some(Data::Words(text.copy()?))),
+        Value::Text(text) => Ok(Some(Data::Text(text.copy()?))),
         Value::List(items) => match data_of_values(alloc, items)? {
             None => Ok(None),
             Some(made) => Ok(Some(Data::List(made))),

@@ -1,6 +1,6 @@
 //! Copies of values, values of texts and of events, and what a condition and `+` take a value for.
 ghost use Rattle.std.specs.Prelude.{◌≡◌, IfOk, option_map};
-ghost use Rattle.js_value.specs.Value.{words as words_of, event as event_that_is, is_truthy, value_text};
+ghost use Rattle.js_value.specs.Value.{text as text_that_is, event as event_that_is, is_truthy, value_text};
 ghost use Rattle.js_value.specs.Views.{plain_value};
 
 use crate::value::Value;
@@ -17,7 +17,7 @@ pub fn truthy(v: &Value) -> bool
         Value::Undefined | Value::Null => false,
         Value::Truth(b) => *b,
         Value::Whole(n) => n.get() != 0,
-        Value::Words(text) => text.as_str().len() > 0,
+        Value::Text(text) => text.as_str().len() > 0,
         Value::List(_)
         | Value::Fields(_)
         | Value::Event(_)
@@ -36,7 +36,7 @@ pub fn copy(v: &Value) -> Result<Value, Memory>
         Value::Null => Ok(Value::Null),
         Value::Truth(b) => Ok(Value::Truth(*b)),
         Value::Whole(n) => Ok(Value::Whole(*n)),
-        Value::Words(text) => Ok(Value::Words(text.clone()?)),
+        Value::Text(text) => Ok(Value::Text(text.clone()?)),
         Value::List(items) => Ok(Value::List(items.copy()?)),
         Value::Fields(fields) => Ok(Value::Fields(fields.copy()?)),
         Value::Event(event) => Ok(Value::Event(event.clone()?)),
@@ -50,10 +50,10 @@ pub fn copy(v: &Value) -> Result<Value, Memory>
 
 /// The value of this text. Its only error is out of memory: the value is the first owner of the text, so no
 /// count can be full.
-pub fn words(alloc: Global, text: Text) -> Result<Value, Memory>
-    ensures { IfOk result (λ v. plain_value v ≡ words_of text) }
+pub fn text_value(alloc: Global, text: Text) -> Result<Value, Memory>
+    ensures { IfOk result (λ v. plain_value v ≡ text_that_is text) }
 {
-    Ok(Value::Words(Arc::new(alloc, text)?))
+    Ok(Value::Text(Arc::new(alloc, text)?))
 }
 
 /// The value of this event. Its only error is out of memory: the value is the first owner of the event, so
@@ -75,7 +75,7 @@ pub fn text_in<'a>(v: &'a Value, buffer: &'a mut Buffer) -> Option<&'a str>
         Value::Truth(true) => Some("true"),
         Value::Truth(false) => Some("false"),
         Value::Whole(n) => Some(buffer.format(n.get())),
-        Value::Words(text) => Some(text.as_str()),
+        Value::Text(text) => Some(text.as_str()),
         Value::List(_)
         | Value::Fields(_)
         | Value::Event(_)

@@ -25,7 +25,7 @@ pub fn set_of_value(alloc: Global, v: &Value) -> Result<Option<EventSet>, Memory
         | Value::Null
         | Value::Truth(_)
         | Value::Whole(_)
-        | Value::Words(_)
+        | Value::Text(_)
         | Value::Fields(_)
         | Value::Function { .. } => Ok(None),
     }

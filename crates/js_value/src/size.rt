@@ -18,7 +18,7 @@ pub fn weight(v: &Value) -> u64
 {
     match v {
         Value::Undefined | Value::Null | Value::Truth(_) | Value::Whole(_) => 1,
-        Value::Words(text) => text_weight(text),
+        Value::Text(text) => text_weight(text),
         Value::List(items) => items.weight().saturating_add(1),
         Value::Fields(fields) => fields.weight().saturating_add(1),
         Value::Event(event) => event.weight(),
@@ -33,7 +33,7 @@ pub fn nesting(v: &Value) -> u64
     ensures { result ≡ capped (value_nesting (plain_value v.now)) }
 {
     match v {
-        Value::Undefined | Value::Null | Value::Truth(_) | Value::Whole(_) | Value::Words(_) => 1,
+        Value::Undefined | Value::Null | Value::Truth(_) | Value::Whole(_) | Value::Text(_) => 1,
         Value::List(items) => items.nesting().saturating_add(1),
         Value::Fields(fields) => fields.nesting().saturating_add(1),
         Value::Event(event) => event.nesting(),

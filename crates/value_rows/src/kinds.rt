@@ -26,7 +26,7 @@ fn mark(answer: &Result<Value, OpFault>) -> char {
         Ok(Value::Truth(true)) => 't',
         Ok(Value::Truth(false)) => 'f',
         Ok(Value::Whole(_)) => 'n',
-        Ok(Value::Words(_)) => 'w',
+        Ok(Value::Text(_)) => 'w',
         Err(OpFault::Fault(Fault::Mistyped)) => 'x',
         _ => '?',
     }

@@ -2,7 +2,7 @@
 use Rattle.std.specs.Prelude.{Option, Some, None}
 use Rattle.serde_json.specs.Data as json
 use Rattle.serde_json.specs.Find.{of_integer}
-use Rattle.js_data.specs.Data.{PlainData, null, truth, whole, words, list, fields, DataList, no_data, item, DataFields, no_fields, field}
+use Rattle.js_data.specs.Data.{PlainData, null, truth, whole, text, list, fields, DataList, no_data, item, DataFields, no_fields, field}
 use Rattle.js_data.specs.Event.{PlainEvent}
 
 abbrev mutual
@@ -10,7 +10,7 @@ abbrev mutual
   data_json null = json.null
   data_json (truth b) = json.boolean b
   data_json (whole n) = json.number (of_integer n)
-  data_json (words s) = json.string s
+  data_json (text s) = json.string s
   data_json (list ds) = json.array (list_json ds)
   data_json (fields fs) = json.object (put_all fs json.no_members)
 

@@ -6,4 +6,4 @@ use Rattle.js_frames.proofs.Becoming.{becomes_as}
 use Rattle.js_frames.proofs.begin.literal.Goals as goal
 
 pub returns : goal.returns
-returns c = becomes_as _ _ c.answered.result (λ g s. ap (λ x. answered c.args.line (made x) s) (ap v.words c.in_ok-shared.ensures.cases)) (c.answered.ensures _ c.made.ensures.answer)
+returns c = becomes_as _ _ c.answered.result (λ g s. ap (λ x. answered c.args.line (made x) s) (ap v.text c.in_ok-shared.ensures.cases)) (c.answered.ensures _ c.made.ensures.answer)

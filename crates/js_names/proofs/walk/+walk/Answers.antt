@@ -19,9 +19,9 @@ pub put_expr-returns-in-Number : goal.put_expr-returns-in-Number
 put_expr-returns-in-Number t c =
     subst (Adds c.args.walk.now c.args.walk.now) (number_sites (scopes_in c.args.walk.now) c.args.around c.args.e.now c.in-Number.field-0 c.in-Number.is) (adds_none c.args.walk.now)
 
-pub put_expr-returns-in-Words : goal.put_expr-returns-in-Words
-put_expr-returns-in-Words t c =
-    subst (Adds c.args.walk.now c.args.walk.now) (words_sites (scopes_in c.args.walk.now) c.args.around c.args.e.now c.in-Words.field-0 c.in-Words.is) (adds_none c.args.walk.now)
+pub put_expr-returns-in-Text : goal.put_expr-returns-in-Text
+put_expr-returns-in-Text t c =
+    subst (Adds c.args.walk.now c.args.walk.now) (words_sites (scopes_in c.args.walk.now) c.args.around c.args.e.now c.in-Text.field-0 c.in-Text.is) (adds_none c.args.walk.now)
 
 pub put_expr-returns-in-Truth : goal.put_expr-returns-in-Truth
 put_expr-returns-in-Truth t c =

@@ -30,9 +30,9 @@ pub emit_form-returns-in-Number : goal.emit_form-returns-in-Number
 emit_form-returns-in-Number t c =
     f.number_arm c.args.tables.now c.args.emitter.now c.args.form.now c.in-Number.number c.in-Number.is
 
-pub emit_form-returns-in_ok-literal-in-Words : goal.emit_form-returns-in_ok-literal-in-Words
-emit_form-returns-in_ok-literal-in-Words t c =
-    f.words_arm c.args.tables.now c.args.emitter.now c.args.form.now c.in-Words.text c.in_ok-literal-in-Words.literal c.in-Words.is c.in_ok-literal-in-Words.ensures
+pub emit_form-returns-in_ok-literal-in-Text : goal.emit_form-returns-in_ok-literal-in-Text
+emit_form-returns-in_ok-literal-in-Text t c =
+    f.words_arm c.args.tables.now c.args.emitter.now c.args.form.now c.in-Text.text c.in_ok-literal-in-Text.literal c.in-Text.is c.in_ok-literal-in-Text.ensures
 
 pub emit_form-returns-in-Truth : goal.emit_form-returns-in-Truth
 emit_form-returns-in-Truth t c =

@@ -38,8 +38,8 @@ returns-in-ReturnNothing c = begin_gives (plain_ground c.args.base.now) (place_o
 pub returns-in-Empty : goal.returns-in-Empty
 returns-in-Empty c = begin_gives (plain_ground c.args.base.now) (place_of c.args.self.now) c.args.number c.node_of-node.result.now c.node_of-node.ensures.node _ c.in-Empty.is _ _ c.leave.ensures c.requires.fits (λ s. refl)
 
-pub returns-in-Words : goal.returns-in-Words
-returns-in-Words c = begin_means (plain_ground c.args.base.now) (place_of c.args.self.now) c.args.number c.node_of-node.result.now c.node_of-node.ensures.node _ c.in-Words.is _ c.literal.result _ (becomes_ok (plain_ground c.args.base.now) (place_of c.args.self.now) _ _ c.literal.result c.requires.fits c.literal.ensures (λ s. refl)) (λ s. refl)
+pub returns-in-Text : goal.returns-in-Text
+returns-in-Text c = begin_means (plain_ground c.args.base.now) (place_of c.args.self.now) c.args.number c.node_of-node.result.now c.node_of-node.ensures.node _ c.in-Text.is _ c.literal.result _ (becomes_ok (plain_ground c.args.base.now) (place_of c.args.self.now) _ _ c.literal.result c.requires.fits c.literal.ensures (λ s. refl)) (λ s. refl)
 
 pub returns-in-Read : goal.returns-in-Read
 returns-in-Read c = begin_means (plain_ground c.args.base.now) (place_of c.args.self.now) c.args.number c.node_of-node.result.now c.node_of-node.ensures.node _ c.in-Read.is _ c.read.result _ c.read.ensures (λ s. refl)

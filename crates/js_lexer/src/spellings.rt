@@ -1,20 +1,20 @@
-//! The words and marks of the language.
+//! The keywords and marks of the language.
 ghost use Rattle.std.specs.Prelude.{◌≡◌, ◌++◌, IsTrue};
 ghost use Rattle.bp_tables.specs.Found.{have_distinct_keys};
-ghost use Rattle.js_lexer.specs.Words.{words, unsupported_words, all_marks};
+ghost use Rattle.js_lexer.specs.Spellings.{keywords, unsupported_keykeywords, all_marks};
 
 use bp_tables::{Table, rows};
 
-/// The words, each with its number.
-pub type WordTable = Table<39>;
+/// The keywords, each with its number.
+pub type KeywordTable = Table<39>;
 
 /// The marks, each with its number.
 pub type MarkTable = Table<57>;
 
-/// The words of the language, numbered from 1, and the words that it refuses, numbered from 101.
-pub fn word_table() -> WordTable
-    ensures rows { result ≡ words ++ unsupported_words }
-    ensures distinct { IsTrue (have_distinct_keys (words ++ unsupported_words)) }
+/// The keywords of the language, numbered from 1, and the keywords that it refuses, numbered from 101.
+pub fn keyword_table() -> KeywordTable
+    ensures rows { result ≡ keywords ++ unsupported_keykeywords }
+    ensures distinct { IsTrue (have_distinct_keys (keywords ++ unsupported_keykeywords)) }
 {
     Table::new(rows![
         b"const" => 1,

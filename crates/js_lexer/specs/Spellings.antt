@@ -1,9 +1,9 @@
--- The words and marks of the language, each with a number; those that are refused later are numbered
+-- The keywords and marks of the language, each with a number; those that are refused later are numbered
 -- from 101.
 use Rattle.std.specs.Prelude.{ℕ, nat_eq, List, [], ◌∷◌, ◌++◌, length, filter, codes}
 
-abbrev pub words : List (List ℕ × ℕ)
-words =
+abbrev pub keywords : List (List ℕ × ℕ)
+keywords =
     (codes "const", 1) ∷ ((codes "let", 2) ∷ ((codes "var", 3) ∷ (
     (codes "function", 4) ∷ ((codes "return", 5) ∷ (
     (codes "if", 6) ∷ ((codes "else", 7) ∷ ((codes "while", 8) ∷ (
@@ -11,8 +11,8 @@ words =
     (codes "continue", 11) ∷ ((codes "true", 12) ∷ (
     (codes "false", 13) ∷ ((codes "null", 14) ∷ [])))))))))))))
 
-abbrev pub unsupported_words : List (List ℕ × ℕ)
-unsupported_words =
+abbrev pub unsupported_keykeywords : List (List ℕ × ℕ)
+unsupported_keykeywords =
     (codes "switch", 101) ∷ ((codes "case", 102) ∷ ((codes "default", 103) ∷ (
     (codes "do", 104) ∷ ((codes "try", 105) ∷ (
     (codes "catch", 106) ∷ ((codes "finally", 107) ∷ ((codes "throw", 108) ∷ (
@@ -49,8 +49,8 @@ unsupported_marks =
     (codes ">>=", 116) ∷ ((codes ">>>=", 117) ∷ ((codes "**=", 118) ∷ (
     (codes "&&=", 119) ∷ ((codes "||=", 120) ∷ ((codes "??=", 121) ∷ []))))))))))))))))))))
 
-abbrev pub all_words : List (List ℕ × ℕ)
-all_words = words ++ unsupported_words
+abbrev pub all_keykeywords : List (List ℕ × ℕ)
+all_keykeywords = keywords ++ unsupported_keykeywords
 
 -- those of this many bytes
 abbrev pub of_size : ℕ → List (List ℕ × ℕ) → List (List ℕ × ℕ)
