@@ -49,8 +49,8 @@ said_by r = record nothing_said {
   seed = Some r.options.seed;
   budget = Some r.options.budget;
   steps = Some r.options.steps;
-  workers = Some r.beside.workers;
-  slice = Some r.beside.slice;
+  workers = Some r.parallelism.workers;
+  slice = Some r.parallelism.slice;
   wait = Some r.options.wait;
 }
 
@@ -84,8 +84,8 @@ wait_said s b e = rw (e, wait_back b) refl
 record AreNumbers (r : PlainRun) : Type 0 where
   pub budget : nat_le r.options.budget most_64 ≡ true
   pub steps : nat_le r.options.steps most_32 ≡ true
-  pub workers : nat_le r.beside.workers most_32 ≡ true
-  pub slice : nat_le r.beside.slice most_64 ≡ true
+  pub workers : nat_le r.parallelism.workers most_32 ≡ true
+  pub slice : nat_le r.parallelism.slice most_64 ≡ true
 
 less : (n low high : ℕ) → nat_le n low ≡ true → low ≤ high → nat_le n high ≡ true
 less n low high h k = le-leb n high (omega (arith, leb-true n low h, k))
@@ -95,14 +95,14 @@ are_numbers r h =
     let a = and_parts (nat_le 1 r.options.budget) _ h.options in
     let b = and_parts (nat_le r.options.budget MOST_BUDGET) _ a.1 in
     let c = and_parts (nat_le 1 r.options.steps) (nat_le r.options.steps MOST_STEPS) b.1 in
-    let d = and_parts (nat_le 1 r.beside.workers) _ h.beside in
-    let e = and_parts (nat_le r.beside.workers MOST_WORKERS) _ d.1 in
-    let f = and_parts (nat_le 1 r.beside.slice) (nat_le r.beside.slice MOST_SLICE) e.1 in
+    let d = and_parts (nat_le 1 r.parallelism.workers) _ h.parallelism in
+    let e = and_parts (nat_le r.parallelism.workers MOST_WORKERS) _ d.1 in
+    let f = and_parts (nat_le 1 r.parallelism.slice) (nat_le r.parallelism.slice MOST_SLICE) e.1 in
     record {
       budget = less r.options.budget MOST_BUDGET most_64 b.0 (omega arith);
       steps = less r.options.steps MOST_STEPS most_32 c.1 (omega arith);
-      workers = less r.beside.workers MOST_WORKERS most_32 e.0 (omega arith);
-      slice = less r.beside.slice MOST_SLICE most_64 f.1 (omega arith);
+      workers = less r.parallelism.workers MOST_WORKERS most_32 e.0 (omega arith);
+      slice = less r.parallelism.slice MOST_SLICE most_64 f.1 (omega arith);
     }
 
 -- what is said by these values and the options that are left
@@ -117,22 +117,22 @@ run_said r h =
     let three = record two { seed = Some r.options.seed } in
     let four = record three { budget = Some r.options.budget } in
     let five = record four { steps = Some r.options.steps } in
-    let six = record five { workers = Some r.beside.workers } in
-    let seven = record six { slice = Some r.beside.slice } in
+    let six = record five { workers = Some r.parallelism.workers } in
+    let seven = record six { slice = Some r.parallelism.slice } in
     ap (onward r (StrategyKey ∷ Seed ∷ Budget ∷ Steps ∷ Workers ∷ Slice ∷ Wait ∷ [])) (log_said r.log h.log)
     ∙ (ap (onward r (Seed ∷ Budget ∷ Steps ∷ Workers ∷ Slice ∷ Wait ∷ [])) (strategy_said one r.options.strategy refl)
     ∙ (ap (onward r (Budget ∷ Steps ∷ Workers ∷ Slice ∷ Wait ∷ [])) (seed_said two r.options.seed refl h.seed)
     ∙ (ap (onward r (Steps ∷ Workers ∷ Slice ∷ Wait ∷ [])) (budget_said three r.options.budget refl n.budget)
     ∙ (ap (onward r (Workers ∷ Slice ∷ Wait ∷ [])) (steps_said four r.options.steps refl n.steps)
-    ∙ (ap (onward r (Slice ∷ Wait ∷ [])) (workers_said five r.beside.workers refl n.workers)
-    ∙ (ap (onward r (Wait ∷ [])) (slice_said six r.beside.slice refl n.slice)
+    ∙ (ap (onward r (Slice ∷ Wait ∷ [])) (workers_said five r.parallelism.workers refl n.workers)
+    ∙ (ap (onward r (Wait ∷ [])) (slice_said six r.parallelism.slice refl n.slice)
     ∙ ap (onward r []) (wait_said seven r.options.wait refl)))))))
 
 run_back : (r : PlainRun) → IsRun r → run_with (said_by r) r.program r.injectors ≡ Some (command.Run r)
 run_back r h =
     let count : in_range (record r.options { injectors = length r.injectors }) ≡ true = h.options in
     ap (λ b. if b then Some (command.Run (record r { options = record r.options { injectors = length r.injectors } })) else None)
-    (both_true count (both_true h.beside h.apart))
+    (both_true count (both_true h.parallelism h.apart))
     ∙ ap (λ k. Some (command.Run (record r { options = record r.options { injectors = k } }))) (sym h.count)
 
 -- the word takes as many names

@@ -3,9 +3,9 @@ use Rattle.std.proofs.Common.{◌≡◌, ◌∙◌, ◌≤◌, Bool, true, false
 use Rattle.std.specs.Prelude.{SomeIff, if◌then◌else◌}
 use Rattle.std.proofs.lemmas.Bool.{and_parts, le-leb, leb-true, false_from_ne_true}
 use Rattle.bp_log.specs.Options.{PlainOptions, AreOptions}
-use Rattle.bp_log.specs.Beside.{PlainBeside, AreBeside}
+use Rattle.bp_log.specs.Parallelism.{PlainParallelism, IsParallelism}
 use Rattle.bp_log.specs.declared.limits.TheConstants.{MOST_INJECTORS}
-use Rattle.bp_args.specs.Command.{in_range, beside_in_range}
+use Rattle.bp_args.specs.Command.{in_range, parallelism_in_range}
 
 are_in_range : (o : PlainOptions) → AreOptions o → in_range o ≡ true
 are_in_range o h = rw (le-leb _ _ h.some_budget, le-leb _ _ h.budget, le-leb _ _ h.some_steps, le-leb _ _ h.steps) refl
@@ -36,11 +36,11 @@ pub told_waiting : (o : PlainOptions) (r : Option PlainOptions) → o.injectors 
     option_map (λ (q : PlainOptions). record q { wait = o.wait }) r ≡ (if in_range o then Some o else None)
 told_waiting o r e h = ap (option_map (λ (q : PlainOptions). record q { wait = o.wait })) (told (record o { wait = true }) r e h) ∙ waiting o (in_range o)
 
-beside_are_in_range : (b : PlainBeside) → AreBeside b → beside_in_range b ≡ true
-beside_are_in_range b h = rw (le-leb _ _ h.some_workers, le-leb _ _ h.workers, le-leb _ _ h.some_slice, le-leb _ _ h.slice) refl
+parallelism_is_in_range : (b : PlainParallelism) → IsParallelism b → parallelism_in_range b ≡ true
+parallelism_is_in_range b h = rw (le-leb _ _ h.some_workers, le-leb _ _ h.workers, le-leb _ _ h.some_slice, le-leb _ _ h.slice) refl
 
-are_beside : (b : PlainBeside) → beside_in_range b ≡ true → AreBeside b
-are_beside b h =
+is_parallelism : (b : PlainParallelism) → parallelism_in_range b ≡ true → IsParallelism b
+is_parallelism b h =
     let s = and_parts _ _ h in
     let t = and_parts _ _ s.1 in
     let u = and_parts _ _ t.1 in
@@ -51,6 +51,6 @@ are_beside b h =
       slice = leb-true _ _ u.1;
     }
 
-pub told_beside : (b : PlainBeside) (r : Option PlainBeside) → SomeIff r (AreBeside b) b → r ≡ (if beside_in_range b then Some b else None)
-told_beside b (Some p) h = rw (beside_are_in_range b h.0) (ap (λ (q : PlainBeside). Some q) h.1)
-told_beside b None h = rw (false_from_ne_true (beside_in_range b) (λ t. h (are_beside b t))) refl
+pub told_parallelism : (b : PlainParallelism) (r : Option PlainParallelism) → SomeIff r (IsParallelism b) b → r ≡ (if parallelism_in_range b then Some b else None)
+told_parallelism b (Some p) h = rw (parallelism_is_in_range b h.0) (ap (λ (q : PlainParallelism). Some q) h.1)
+told_parallelism b None h = rw (false_from_ne_true (parallelism_in_range b) (λ t. h (is_parallelism b t))) refl

@@ -3,7 +3,7 @@ use Rattle.std.proofs.Common.{◌≡◌, ℕ, false, List, [], ◌∷◌, length
 use Rattle.std.specs.Prelude.{codes}
 use Rattle.std.specs.Fmt.{digits}
 use Rattle.bp_log.specs.Options.{PlainOptions, default_options}
-use Rattle.bp_log.specs.Beside.{PlainBeside, default_beside}
+use Rattle.bp_log.specs.Parallelism.{PlainParallelism, default_parallelism}
 use Rattle.bp_log.specs.declared.options.Strategy.TheVariants.{Ordered}
 use Rattle.bp_matches.specs.Normal.{normal_words}
 use Rattle.bp_args.specs.declared.command.Command.{Command}
@@ -15,11 +15,11 @@ abbrev p : List ℕ
 p = codes "p"
 
 -- a run of p
-abbrev run_p : Option (List ℕ) → PlainOptions → PlainBeside → Command
-run_p log options beside = Run (record { program = p; injectors = []; log = log; options = options; beside = beside })
+abbrev run_p : Option (List ℕ) → PlainOptions → PlainParallelism → Command
+run_p log options parallelism = Run (record { program = p; injectors = []; log = log; options = options; parallelism = parallelism })
 
 abbrev plain_p : Command
-plain_p = run_p None default_options default_beside
+plain_p = run_p None default_options default_parallelism
 
 abbrev q : List ℕ
 q = codes "q"
@@ -27,7 +27,7 @@ q = codes "q"
 -- a run of p with these injectors
 abbrev run_with_all : List (List ℕ) → Option (List ℕ) → Command
 run_with_all names log =
-    Run (record { program = p; injectors = names; log = log; options = record default_options { injectors = length names }; beside = default_beside })
+    Run (record { program = p; injectors = names; log = log; options = record default_options { injectors = length names }; parallelism = default_parallelism })
 
 -- sixteen names
 abbrev sixteen : List (List ℕ)
@@ -38,16 +38,16 @@ sixteen = q ∷ q ∷ q ∷ q ∷ q ∷ q ∷ q ∷ q ∷ q ∷ q ∷ q ∷ q �
 pub bare : command_of (codes "run" ∷ p ∷ []) ≡ Some plain_p
 bare = refl
 
-pub next_word : command_of (codes "run" ∷ codes "--seed" ∷ codes "7" ∷ p ∷ []) ≡ Some (run_p None (record default_options { seed = 7 }) default_beside)
+pub next_word : command_of (codes "run" ∷ codes "--seed" ∷ codes "7" ∷ p ∷ []) ≡ Some (run_p None (record default_options { seed = 7 }) default_parallelism)
 next_word = refl
 
-pub same_word : command_of (codes "run" ∷ p ∷ codes "--seed=007" ∷ []) ≡ Some (run_p None (record default_options { seed = 7 }) default_beside)
+pub same_word : command_of (codes "run" ∷ p ∷ codes "--seed=007" ∷ []) ≡ Some (run_p None (record default_options { seed = 7 }) default_parallelism)
 same_word = refl
 
 pub options : command_of (codes "run" ∷ codes "--log=l=" ∷ codes "--strategy" ∷ codes "ordered" ∷ codes "--budget=2" ∷ p ∷ codes "--steps=3" ∷ codes "--workers=64" ∷ codes "--slice=1" ∷ []) ≡ Some (run_p (Some (codes "l=")) (record default_options { strategy = Ordered; budget = 2; steps = 3 }) (record { workers = 64; slice = 1 }))
 options = refl
 
-pub dashes : command_of (codes "run" ∷ codes "--" ∷ codes "--seed=1" ∷ []) ≡ Some (Run (record { program = codes "--seed=1"; injectors = []; log = None; options = default_options; beside = default_beside }))
+pub dashes : command_of (codes "run" ∷ codes "--" ∷ codes "--seed=1" ∷ []) ≡ Some (Run (record { program = codes "--seed=1"; injectors = []; log = None; options = default_options; parallelism = default_parallelism }))
 dashes = refl
 
 pub injector : command_of (codes "run" ∷ p ∷ q ∷ []) ≡ Some (run_with_all (q ∷ []) None)
@@ -65,7 +65,7 @@ replay = refl
 pub accept : command_of (codes "accept" ∷ codes "--" ∷ p ∷ []) ≡ Some (Accept p)
 accept = refl
 
-pub no_wait : command_of (codes "run" ∷ codes "--wait=no" ∷ p ∷ []) ≡ Some (run_p None (record default_options { wait = false }) default_beside)
+pub no_wait : command_of (codes "run" ∷ codes "--wait=no" ∷ p ∷ []) ≡ Some (run_p None (record default_options { wait = false }) default_parallelism)
 no_wait = refl
 
 pub wait : command_of (codes "run" ∷ p ∷ codes "--wait" ∷ codes "yes" ∷ []) ≡ Some plain_p

@@ -19,7 +19,7 @@ use Rattle.bp_args.specs.declared.verb.Verb.{Verb}
 use Rattle.bp_args.specs.declared.verb.Verb.TheVariants as verb
 use Rattle.bp_args.specs.Verbs.{verb_at, allows, takes}
 use Rattle.bp_args.specs.Said.{nothing_said, said_on, step, step_at, option_in, parts_at, key_of, name, is_name, set, once, some_text, number_word, is_whole, only}
-use Rattle.bp_args.specs.Command.{options_of, in_range, beside_of, beside_in_range, is_apart, run_with, command_on, command_for, command_with, command_behind, command_of}
+use Rattle.bp_args.specs.Command.{options_of, in_range, parallelism_of, parallelism_in_range, is_apart, run_with, command_on, command_for, command_with, command_behind, command_of}
 
 -- ---- what words say
 
@@ -114,7 +114,7 @@ pub record IsRun (r : PlainRun) : Type 0 where
   pub count : r.options.injectors ≡ length r.injectors
   pub few : takes verb.Run (length (r.program ∷ r.injectors)) ≡ true
   pub seed : nat_le r.options.seed most_64 ≡ true
-  pub beside : beside_in_range r.beside ≡ true
+  pub parallelism : parallelism_in_range r.parallelism ≡ true
   pub apart : is_apart (r.program ∷ r.injectors) r.log ≡ true
   pub log : is_some_text r.log ≡ true
 
@@ -152,20 +152,20 @@ run_asked s program injectors = record {
   injectors = injectors;
   log = s.log;
   options = options_of s (length injectors);
-  beside = beside_of s;
+  parallelism = parallelism_of s;
 }
 
 run_within : (s : Said) (program : List ℕ) (injectors : List (List ℕ)) → Holds s → takes verb.Run (length (program ∷ injectors)) ≡ true → Within (run_with s program injectors)
 run_within s program injectors h few =
     if_within _ (Some (command.Run (run_asked s program injectors))) (λ t.
     let a = and_parts (in_range (options_of s (length injectors))) _ t in
-    let b = and_parts (beside_in_range (beside_of s)) _ a.1 in
+    let b = and_parts (parallelism_in_range (parallelism_of s)) _ a.1 in
     record {
       options = a.0;
       count = refl;
       few = few;
       seed = seed_fits s.seed h.seed;
-      beside = b.0;
+      parallelism = b.0;
       apart = b.1;
       log = h.log;
     })

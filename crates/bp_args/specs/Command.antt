@@ -3,7 +3,7 @@ use Rattle.std.specs.Prelude.{ℕ, ◌&&◌, Bool, true, not, nat_le, if◌then�
 use Rattle.std.specs.List.{list_any}
 use Rattle.std.specs.Str.{bytes_eq}
 use Rattle.bp_log.specs.Options.{PlainOptions, default_options}
-use Rattle.bp_log.specs.Beside.{PlainBeside, default_beside}
+use Rattle.bp_log.specs.Parallelism.{PlainParallelism, default_parallelism}
 use Rattle.bp_log.specs.declared.limits.TheConstants.{MOST_BUDGET, MOST_STEPS, MOST_WORKERS, MOST_SLICE}
 use Rattle.bp_args.specs.declared.command.Command.{Command}
 use Rattle.bp_args.specs.declared.command.Command.TheVariants as command
@@ -26,10 +26,10 @@ options_of s injectors = record {
 }
 
 -- what is said of workers and slice, each as where nothing is said if it is not
-abbrev pub beside_of : Said → PlainBeside
-beside_of s = record {
-  workers = unwrap_or s.workers default_beside.workers;
-  slice = unwrap_or s.slice default_beside.slice;
+abbrev pub parallelism_of : Said → PlainParallelism
+parallelism_of s = record {
+  workers = unwrap_or s.workers default_parallelism.workers;
+  slice = unwrap_or s.slice default_parallelism.slice;
 }
 
 -- the numbers are in their ranges
@@ -38,8 +38,8 @@ in_range o =
     nat_le 1 o.budget && (nat_le o.budget MOST_BUDGET
     && (nat_le 1 o.steps && nat_le o.steps MOST_STEPS))
 
-abbrev pub beside_in_range : PlainBeside → Bool
-beside_in_range b =
+abbrev pub parallelism_in_range : PlainParallelism → Bool
+parallelism_in_range b =
     nat_le 1 b.workers && (nat_le b.workers MOST_WORKERS
     && (nat_le 1 b.slice && nat_le b.slice MOST_SLICE))
 
@@ -52,13 +52,13 @@ is_apart names (Some log) = not (list_any (bytes_eq log) names)
 abbrev pub run_with : Said → List ℕ → List (List ℕ) → Option Command
 run_with s program injectors =
     if in_range (options_of s (length injectors))
-    && (beside_in_range (beside_of s) && is_apart (program ∷ injectors) s.log)
+    && (parallelism_in_range (parallelism_of s) && is_apart (program ∷ injectors) s.log)
     then Some (command.Run (record {
       program = program;
       injectors = injectors;
       log = s.log;
       options = options_of s (length injectors);
-      beside = beside_of s;
+      parallelism = parallelism_of s;
     }))
     else None
 

@@ -4,14 +4,14 @@ ghost use Rattle.bp_matches.specs.Keys.{keys};
 ghost use Rattle.bp_args.specs.declared.verb.Verb.TheVariants as verb;
 ghost use Rattle.bp_args.specs.Verbs.{takes};
 ghost use Rattle.bp_args.specs.Said.{nothing_said, said_on};
-ghost use Rattle.bp_args.specs.Command.{options_of, in_range, beside_of, beside_in_range, is_apart as apart, large_of, command_for, command_with, command_of};
+ghost use Rattle.bp_args.specs.Command.{options_of, in_range, parallelism_of, parallelism_in_range, is_apart as apart, large_of, command_for, command_with, command_of};
 ghost use Rattle.bp_args.specs.inner.Normal.{said_from, command_from};
 
 use crate::normal::normal_of;
 use crate::said::{Said, number_of};
 use crate::verb::Verb;
 use bp_log::limits::MOST_INJECTORS;
-use bp_log::{Beside, Options};
+use bp_log::{Parallelism, Options};
 use bp_matches::{Key, Values, Words, values_of};
 use js_data::Text;
 use std::alloc::{AllocError, Global};
@@ -32,7 +32,7 @@ pub struct Run {
     /// What is asked of the run.
     pub options: Options,
     /// What is asked of the machine that runs, and shows in no output.
-    pub beside: Beside,
+    pub parallelism: Parallelism,
 }
 
 /// A command.
@@ -93,14 +93,14 @@ fn options_of(said: &Said, injectors: u32) -> Option<Options>
 }
 
 /// Workers and slice as they are said, or `None` exactly where one is out of its range.
-fn beside_of(said: &Said) -> Option<Beside>
+fn parallelism_of(said: &Said) -> Option<Parallelism>
     ensures { result
-        ≡ (if beside_in_range (beside_of said.now) then Some (beside_of said.now) else None) }
+        ≡ (if parallelism_in_range (parallelism_of said.now) then Some (parallelism_of said.now) else None) }
 {
-    let defaults = Beside::defaults();
+    let defaults = Parallelism::defaults();
     let workers = said.workers.unwrap_or(defaults.workers());
     let slice = said.slice.unwrap_or(defaults.slice());
-    Beside::new(workers, slice)
+    Parallelism::new(workers, slice)
 }
 
 /// Whether the log has a name that none of these is.
@@ -125,7 +125,7 @@ fn run_of(said: Said) -> Option<Command>
 {
     let injectors = (said.names.as_slice().len() - 1) as u32;
     let options = options_of(&said, injectors)?;
-    let beside = beside_of(&said)?;
+    let parallelism = parallelism_of(&said)?;
     let (names, log) = said.into_names();
     if !is_apart(names.as_slice(), &log) {
         return None;
@@ -137,7 +137,7 @@ fn run_of(said: Said) -> Option<Command>
         injectors: Words::new(injectors),
         log,
         options,
-        beside,
+        parallelism,
     }))
 }
 

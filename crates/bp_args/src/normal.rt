@@ -60,7 +60,7 @@ fn run_values(alloc: Global, run: Run) -> Result<Values, Memory>
         injectors,
         log,
         options,
-        beside,
+        parallelism,
     } = run;
     Ok(Values {
         log,
@@ -68,8 +68,8 @@ fn run_values(alloc: Global, run: Run) -> Result<Values, Memory>
         seed: Some(number_text(alloc, options.seed())?),
         budget: Some(number_text(alloc, options.budget())?),
         steps: Some(number_text(alloc, u64::from(options.steps()))?),
-        workers: Some(number_text(alloc, u64::from(beside.workers()))?),
-        slice: Some(number_text(alloc, beside.slice())?),
+        workers: Some(number_text(alloc, u64::from(parallelism.workers()))?),
+        slice: Some(number_text(alloc, parallelism.slice())?),
         wait: Some(text_of(alloc, wait_word(options.wait()))?),
         words: words_of(alloc, Verb::Run, program, injectors)?,
     })

@@ -13,7 +13,7 @@ use crate::conclusion::Conclusion;
 use crate::ended::Ended;
 use bp_base::{MemorySink, MemorySource, Sink, write_all};
 use bp_large::large_program;
-use bp_log::{Beside, Header, Memory, Options, Record};
+use bp_log::{Parallelism, Header, Memory, Options, Record};
 use bp_session::{Ending, Report, Session};
 use js_program::Program;
 use std::alloc::Global;
@@ -89,9 +89,9 @@ fn run_aside<R: Threads + Wait + Sync>(
     };
     let inputs: Vec<MemorySource> = Vec::new(alloc);
     let mut log: Option<MemorySink> = None;
-    let beside = Beside::defaults();
+    let parallelism = Parallelism::defaults();
     let out = &mut sink;
-    let (report, _) = Session::run(rt, alloc, program, &header, beside, inputs, out, &mut log);
+    let (report, _) = Session::run(rt, alloc, program, &header, parallelism, inputs, out, &mut log);
     Ok((report, sink))
 }
 

@@ -55,8 +55,8 @@ pub(crate) fn run_opened<R: Threads + Wait + Sync, W: World, K: Sink>(
         unreachable!()
     };
     header_keeps(&header);
-    let beside = asked.beside;
-    let (report, back) = Session::run(rt, alloc, program, &header, beside, inputs, out, &mut log);
+    let parallelism = asked.parallelism;
+    let (report, back) = Session::run(rt, alloc, program, &header, parallelism, inputs, out, &mut log);
     let Report { end, records } = report;
     records_keep(&records);
     close_inputs(world, back);

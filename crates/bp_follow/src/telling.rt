@@ -16,7 +16,7 @@ use crate::ReplayFault;
 use crate::following::follow;
 use bp_arbiter::Arbiter;
 use bp_base::{Sink, Source};
-use bp_log::{Beside, Line, Options, PrintError, Verdict};
+use bp_log::{Parallelism, Line, Options, PrintError, Verdict};
 use bp_reader::Reader;
 use bp_told::Page;
 use bp_turns::{Alone, settle};
@@ -65,7 +65,7 @@ fn show<K: Sink>(
     ensures counts { K.faults out.old ≤ K.faults out.new }
     ensures named { K.made_as out.new ≡ K.made_as out.old }
 {
-    settle(alloc, arbiter, &Alone(Beside::defaults()))?;
+    settle(alloc, arbiter, &Alone(Parallelism::defaults()))?;
     arbiter.keeps();
     let lines = arbiter.take_lines();
     page.print(alloc, said(arbiter, lines.as_slice()), out)

@@ -18,7 +18,7 @@ use Rattle.bp_lanes.specs.contracts.ends.Mouth as Mouth
 use Rattle.bp_feeds.specs.contracts.feed.Feed as Feed
 use Rattle.bp_feeds.proofs.line_reader.LineReader.TheSendSync as reader
 use Rattle.bp_inject.proofs.injecting.Injected.TheSendSync as injected
-use Rattle.bp_inject.specs.contracts.beside.Turned as Turned
+use Rattle.bp_inject.specs.contracts.running.Turned as Turned
 
 item_send : IsSend Item.the_row
 item_send = variants_send Item.enum ((event_send, tt), ((search sendable, tt), (tt, (tt, tt))))

@@ -9,29 +9,29 @@ use Rattle.bp_feeds.specs.declared.feed.Feed.{Feed}
 use Rattle.bp_feeds.specs.Items.{has_last, has_fault}
 use Rattle.bp_feeds.specs.Reading.{BeginsItems}
 use Rattle.bp_feeds.specs.Feeds.{given, StandsTo}
-use Rattle.bp_inject.specs.declared.started.Beside.{Beside}
+use Rattle.bp_inject.specs.declared.started.Running.{Running}
 use Rattle.bp_inject.specs.declared.started.Started.{Started}
 use Rattle.bp_inject.specs.declared.started.Started.TheVariants as started
 
 module _ {S : Type 0} where
   -- the thread takes its feed from the ring into which this feed alone was put
-  pub record IsHanded (b : Beside S) : Type 0 where
+  pub record IsHanded (b : Running S) : Type 0 where
     pub pair : IsPair b.outlet b.thread.promise.0.value
     pub fresh : received b.thread.promise.0.value ≡ []
     pub handed : sent b.outlet ≡ b.feed.value ∷ []
 
   -- the feed that the thread was handed, or the one that came back
   abbrev pub feed_of : Started S → Feed S
-  feed_of (started.Beside b) = b.feed.value
+  feed_of (started.Running b) = b.feed.value
   feed_of (started.Alone f) = f
 
   -- whether it has a thread
-  abbrev pub is_beside : Started S → Bool
-  is_beside (started.Beside b) = true
-  is_beside (started.Alone f) = false
+  abbrev pub is_running : Started S → Bool
+  is_running (started.Running b) = true
+  is_running (started.Alone f) = false
 
   abbrev pub IsStarted : Started S → Type 0
-  IsStarted (started.Beside b) = IsHanded b
+  IsStarted (started.Running b) = IsHanded b
   IsStarted (started.Alone f) = Unit {0}
 
   -- the ear belongs to the lane on which the injector offers

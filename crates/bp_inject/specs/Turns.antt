@@ -6,8 +6,8 @@ use Rattle.rtrb.specs.Ring.{received, SameConsumer}
 use Rattle.bp_feeds.specs.declared.feed.Feed.{Feed}
 use Rattle.bp_feeds.specs.Feeds.{is_over, GoesOn}
 use Rattle.bp_inject.specs.declared.injecting.Injected.TheVariants.{Over}
-use Rattle.bp_inject.specs.declared.beside.NotOver.{NotOver}
-use Rattle.bp_inject.specs.declared.beside.Turned.{Turned}
+use Rattle.bp_inject.specs.declared.running.NotOver.{NotOver}
+use Rattle.bp_inject.specs.declared.running.Turned.{Turned}
 
 module _ {S : Type 0} where
   -- a feed was taken from here, and it went on to the one that is given back, which is over exactly

@@ -3,7 +3,7 @@ ghost use Rattle.std.specs.Prelude.{◌≡◌, ◌<◌, length, false};
 ghost use Rattle.rtrb.specs.Ring.{sent, received, known_free, IsPair};
 ghost use Rattle.bp_lanes.specs.Lanes.{offered, taken, is_closed, IsLane};
 
-use crate::beside::NotOver;
+use crate::running::NotOver;
 use bp_base::{Memory, Source};
 use bp_feeds::Feed;
 use bp_lanes::{Ear, Mouth, lane};

@@ -2,10 +2,10 @@
 #![tactic(auto)]
 
 mod berth;
-mod beside;
+mod running;
 mod injecting;
 mod started;
 
 pub use berth::Berth;
 pub use injecting::{Injected, inject};
-pub use started::{Beside, Started, join, start};
+pub use started::{Running, Started, join, start};

@@ -2,10 +2,10 @@
 ghost use Rattle.std.specs.Prelude.{◌≡◌, ◌↔◌, [], ◌++◌, Ok, true, false, IfSome, IsErr};
 ghost use Rattle.bp_lanes.specs.Lanes.{offered, taken, known, is_closed, IsLane, IsSameEar};
 ghost use Rattle.bp_feeds.specs.Feeds.{GoesOn, is_over};
-ghost use Rattle.bp_inject.specs.Injectors.{feed_of, is_beside, IsHanded, IsTied, IsUnread, IsFrom, CameBack};
+ghost use Rattle.bp_inject.specs.Injectors.{feed_of, is_running, IsHanded, IsTied, IsUnread, IsFrom, CameBack};
 
 use crate::berth::Berth;
-use crate::beside::{FromIntake, NotOver, Turned, take_and_turn};
+use crate::running::{FromIntake, NotOver, Turned, take_and_turn};
 use crate::injecting::Injected;
 use bp_base::{Memory, Source};
 use bp_feeds::Feed;
@@ -18,7 +18,7 @@ use std::thread::{PromisedHandle, Scope, Threads};
 
 /// The thread of an injector, and how it was handed its feed.
 #[derive(Drop)]
-pub struct Beside<S: Source> {
+pub struct Running<S: Source> {
     thread: PromisedHandle<Turned<S>, FromIntake<S>>,
     outlet: Producer<Feed<S>, Global, NotOver>,
     feed: Snapshot<Feed<S>>,
@@ -28,7 +28,7 @@ pub struct Beside<S: Source> {
 #[derive(Drop)]
 pub enum Started<S: Source> {
     /// Its thread.
-    Beside(Beside<S>),
+    Running(Running<S>),
     /// Its feed, where no thread could be made.
     Alone(Feed<S>),
 }
@@ -77,25 +77,25 @@ pub fn start<'s, S: Source + Send + Drop + 's, R: Threads + Wait + Sync, E>(
             let handed = Snapshot::of(&feed);
             outlet.push_reserved(feed);
             bell.ring(rt);
-            let beside = Beside {
+            let running = Running {
                 thread,
                 outlet,
                 feed: handed,
             };
-            (Started::Beside(beside), ear)
+            (Started::Running(running), ear)
         }
         None => (Started::Alone(feed), ear),
     }
 }
 
-impl<S: Source + Drop> Beside<S> {
+impl<S: Source + Drop> Running<S> {
     /// The feed as the thread left it, and what `inject` answered there.
     fn joined<R: Threads>(self, rt: &R) -> (Feed<S>, Result<Injected, Memory>)
         requires { IsHanded self }
         ensures on { GoesOn S.left S.faults self.feed.value result.0 }
         ensures over { (result.1 ≡ Ok Injected.Over) ↔ (is_over result.0 ≡ true) }
     {
-        let Beside {
+        let Running {
             thread,
             mut outlet,
             feed: _,
@@ -126,14 +126,14 @@ pub fn join<S: Source + Drop, R: Threads>(
     requires { IsTied started ear.old }
     ensures ear { IsSameEar ear.old ear.new × (taken ear.new ≡ taken ear.old) }
     ensures closed { is_closed ear.new ≡ true }
-    ensures memory { IsErr result.1 → is_beside started ≡ true }
+    ensures memory { IsErr result.1 → is_running started ≡ true }
     ensures back { (source : S) → IsFrom S.left S.faults source (feed_of started)
         → CameBack S.left S.faults source result.0 (taken ear.new ++ known ear.new)
         (result.1 ≡ Ok Injected.Over) }
 {
     match started {
-        Started::Beside(beside) => {
-            let (feed, answer) = beside.joined(rt);
+        Started::Running(running) => {
+            let (feed, answer) = running.joined(rt);
             (closed(feed, ear), answer)
         }
         Started::Alone(feed) => {

@@ -1,5 +1,5 @@
 pub mod Options
-pub mod Beside
+pub mod Parallelism
 pub mod Header
 pub mod Verdicts
 pub mod Records

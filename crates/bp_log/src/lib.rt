@@ -2,7 +2,7 @@
 #![tactic(auto)]
 
 mod behind;
-pub mod beside;
+pub mod parallelism;
 mod data;
 pub mod header;
 pub mod item;
@@ -15,7 +15,7 @@ pub mod trace;
 pub mod verdict;
 pub mod version;
 
-pub use beside::Beside;
+pub use parallelism::Parallelism;
 pub use header::Header;
 pub use item::Item;
 pub use lines::{PrintError, line_of, print, whole_line_of};

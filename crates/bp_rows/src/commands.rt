@@ -5,7 +5,7 @@ use std::test::Fail;
 
 fn shown_run(alloc: Global, run: &Run) -> Result<String, Fail> {
     let options = run.options;
-    let beside = run.beside;
+    let parallelism = run.parallelism;
     let log = match &run.log {
         None => "none",
         Some(log) => log.as_str(),
@@ -22,8 +22,8 @@ fn shown_run(alloc: Global, run: &Run) -> Result<String, Fail> {
         options.seed(),
         options.budget(),
         options.steps(),
-        beside.workers(),
-        beside.slice()
+        parallelism.workers(),
+        parallelism.slice()
     )?)
 }
 

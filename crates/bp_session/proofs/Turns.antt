@@ -14,7 +14,7 @@ use Rattle.bp_feeds.specs.declared.feed.Fed.TheVariants.{Full, Over, Went}
 use Rattle.bp_feeds.specs.Feeds.{is_over, GoesOn}
 use Rattle.bp_inject.specs.declared.started.Started.{Started}
 use Rattle.bp_inject.specs.declared.started.Started.TheVariants as started
-use Rattle.bp_inject.specs.Injectors.{IsTied, IsFrom, feed_of, is_beside}
+use Rattle.bp_inject.specs.Injectors.{IsTied, IsFrom, feed_of, is_running}
 use Rattle.bp_inject.proofs.Joined.{from_on}
 use Rattle.bp_hear.specs.declared.hearing.Hearing.{Hearing}
 use Rattle.bp_scope.specs.declared.reading.Reading.{Reading}
@@ -44,7 +44,7 @@ module _ {S : Type 0} where
   one_turned r f g e o t =
       record {
         turned = λ h. subst (λ (x : Started S). IsTurn (feed_of x) g) (sym e) t;
-        stays = λ h. absurd (both_ways (turns_here r) h (ap (λ (x : Started S). not (is_beside x) && not (is_over (feed_of x))) e ∙ ap not o));
+        stays = λ h. absurd (both_ways (turns_here r) h (ap (λ (x : Started S). not (is_running x) && not (is_over (feed_of x))) e ∙ ap not o));
       }
 
   -- an injector that does not turn here stays

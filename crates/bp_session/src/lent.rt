@@ -21,7 +21,7 @@ use crate::telling::tell;
 use bp_base::{Sink, Source};
 use bp_core::Core;
 use bp_lanes::Bell;
-use bp_log::{Beside, Verdict};
+use bp_log::{Parallelism, Verdict};
 use bp_scope::{Reading, Serves};
 use bp_told::{RunFault, Telling};
 use std::alloc::Global;
@@ -134,7 +134,7 @@ fn ended<S: Source, K: Sink, L: Sink>(
 pub(crate) struct Parts<S, V> {
     pub(crate) core: Core,
     pub(crate) telling: Telling,
-    pub(crate) beside: Beside,
+    pub(crate) parallelism: Parallelism,
     pub(crate) shows: V,
     pub(crate) back: Vec<S>,
     pub(crate) end: Ending,
@@ -172,12 +172,12 @@ fn serve_parts<S: Source + Drop, R: Threads + Wait + Sync, K: Sink, L: Sink, V: 
     ensures counts { K.faults out.old ≤ K.faults out.new }
     ensures stays { LogStays L.made_as L.faults log.old log.new }
 {
-    let beside = parts.beside;
+    let parallelism = parts.parallelism;
     let core = &mut parts.core;
     let telling = &mut parts.telling;
     let shows = &mut parts.shows;
     let served = serve_on(
-        rt, alloc, core, beside, telling, out, log, &mut calls, readings, shows,
+        rt, alloc, core, parallelism, telling, out, log, &mut calls, readings, shows,
     );
     parts.end = ended(alloc, served, core, telling, out, log, readings);
 }

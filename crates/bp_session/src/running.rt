@@ -23,7 +23,7 @@ use crate::showing::{Shows, Silent};
 use bp_base::{Memory, Sink, Source};
 use bp_core::Core;
 use bp_core::laws::stories_have_legal_schedules;
-use bp_log::{Beside, Header, Records};
+use bp_log::{Parallelism, Header, Records};
 use bp_scope::{Places, in_scope};
 use bp_told::Telling;
 use js_program::Program;
@@ -123,7 +123,7 @@ impl Session {
         alloc: Global,
         program: Program,
         header: &Header,
-        beside: Beside,
+        parallelism: Parallelism,
         inputs: Vec<S>,
         out: &mut K,
         log: &mut Option<L>,
@@ -165,7 +165,7 @@ impl Session {
         let mut parts = Parts {
             core,
             telling,
-            beside,
+            parallelism,
             shows: Silent,
             back: Vec::new(alloc),
             end: Ending::Memory,
@@ -174,7 +174,7 @@ impl Session {
         let Parts {
             core,
             telling: _,
-            beside: _,
+            parallelism: _,
             shows: _,
             back,
             end,

@@ -21,7 +21,7 @@ use crate::telling::{tell, write};
 use crate::turning::{some_turn_here, turn_all_here};
 use bp_base::{Memory, Sink, Source};
 use bp_core::{Core, Phase, Picked};
-use bp_log::{Beside, Verdict};
+use bp_log::{Parallelism, Verdict};
 use bp_scope::Reading;
 use bp_told::{RunFault, Telling};
 use bp_turns::{Carrier, Workers, settle_core};
@@ -302,7 +302,7 @@ pub(crate) fn serve_on<S: Source, R: Threads + Wait + Sync, K: Sink, L: Sink, V:
     rt: &R,
     alloc: Global,
     core: &mut Core,
-    beside: Beside,
+    parallelism: Parallelism,
     telling: &mut Telling,
     out: &mut K,
     log: &mut Option<L>,
@@ -325,7 +325,7 @@ pub(crate) fn serve_on<S: Source, R: Threads + Wait + Sync, K: Sink, L: Sink, V:
     ensures counts { K.faults out.old ≤ K.faults out.new }
     ensures stays { LogStays L.made_as L.faults log.old log.new }
 {
-    let workers = Workers { rt, beside };
+    let workers = Workers { rt, parallelism };
     let mut heard = false;
     for _ in rt.forever() {
         settle_and_tell(alloc, core, &workers, telling, out, log)?;

@@ -14,7 +14,7 @@ fn turns_here<S: Source>(reading: &Reading<S>) -> bool
     ensures { result ≡ turns_here reading.now }
 {
     match &reading.started {
-        Started::Beside(_) => false,
+        Started::Running(_) => false,
         Started::Alone(feed) => !feed.is_over(),
     }
 }
@@ -38,7 +38,7 @@ fn turn_here<S: Source>(reading: &mut Reading<S>) -> Result<(), Memory>
     ensures turns { OnOk result (MakesTurn reading.old reading.new) }
 {
     match &mut reading.started {
-        Started::Beside(_) => Ok(()),
+        Started::Running(_) => Ok(()),
         Started::Alone(feed) => {
             if feed.is_over() {
                 return Ok(());

@@ -1,5 +1,5 @@
 pub mod Slices
-pub mod Beside
+pub mod Carriers
 pub mod Measure
 pub mod Verdicts
 pub mod Arbiters

@@ -6,7 +6,7 @@ ghost use Rattle.bp_thread.specs.Carried.{AreCarriedOut, HaveDistinctNumbers};
 ghost use Rattle.bp_pool.specs.Carrying.{AreOf, AreOpen};
 
 use crate::carrying::carry_all;
-use bp_log::{Beside, Memory};
+use bp_log::{Parallelism, Memory};
 use bp_pool::{Open, superstep};
 use bp_thread::Job;
 use js_frames::Ground;
@@ -40,7 +40,7 @@ pub trait Carrier {
 
 /// The calling thread, which carries one job after the other.
 #[derive(Drop)]
-pub struct Alone(pub Beside);
+pub struct Alone(pub Parallelism);
 
 impl Carrier for Alone {
     fn carry_out(
@@ -63,7 +63,7 @@ pub struct Workers<'a, R: Threads + Wait + Sync> {
     /// The runtime that starts them.
     pub rt: &'a R,
     /// How many they are, and how many nodes a slice begins.
-    pub beside: Beside,
+    pub parallelism: Parallelism,
 }
 
 impl<R: Threads + Wait + Sync> Carrier for Workers<'_, R> {
@@ -78,8 +78,8 @@ impl<R: Threads + Wait + Sync> Carrier for Workers<'_, R> {
         _budget: u64,
         jobs: Vec<Job>,
     ) -> Result<Vec<Job>, Memory> {
-        let workers = self.beside.workers();
-        let slice = self.beside.slice();
+        let workers = self.parallelism.workers();
+        let slice = self.parallelism.slice();
         superstep(self.rt, alloc, ground, jobs, workers, slice, &Open)
     }
 }

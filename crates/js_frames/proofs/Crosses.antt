@@ -14,8 +14,8 @@ use Rattle.js_frames.specs.contracts.effect.Effects as Effects
 use Rattle.js_frames.specs.contracts.engine.Engine as Engine
 use Rattle.js_frames.specs.contracts.frame.Frame as Frame
 use Rattle.js_frames.specs.contracts.frame.Part as Part
-use Rattle.js_frames.specs.contracts.frame.Turns as Turns
-use Rattle.js_frames.specs.contracts.frame.Turn as Turn
+use Rattle.js_frames.specs.contracts.frame.Loop as Loop
+use Rattle.js_frames.specs.contracts.frame.Iteration as Iteration
 use Rattle.js_frames.specs.contracts.frame.Sequence as Sequence
 use Rattle.js_frames.specs.contracts.frame.Walk as Walk
 use Rattle.js_frames.specs.contracts.step.Completion as Completion
@@ -48,8 +48,8 @@ ground_sync = search (sendable, crosses, program_sync, slots_sync, rules_sync) d
 
 -- ---- machines
 
-turns_send : IsSend Turns.the_row
-turns_send = search sendable depth 18
+loop_send : IsSend Loop.the_row
+loop_send = search sendable depth 18
 
 sequence_send : IsSend Sequence.the_row
 sequence_send = search sendable depth 18
@@ -57,8 +57,8 @@ sequence_send = search sendable depth 18
 walk_send : IsSend Walk.the_row
 walk_send = search (sendable, crosses, items_send) depth 18
 
-turn_send : IsSend Turn.the_row
-turn_send = search (sendable, turns_send, items_send) depth 18
+iteration_send : IsSend Iteration.the_row
+iteration_send = search (sendable, loop_send, items_send) depth 18
 
 completion_send : IsSend Completion.the_row
 completion_send = search (sendable, value_send) depth 18
@@ -67,10 +67,10 @@ values_send : IsSend Values.the_row
 values_send = search (sendable, crosses, value_send) depth 18
 
 part_send : IsSend Part.the_row
-part_send = variants_send Part.enum ((search sendable, tt), ((search sendable, (search (sendable, value_send), tt)), ((search sendable, (values_send, tt)), ((search sendable, tt), ((search sendable, tt), ((search sendable, (search sendable, tt)), ((search sendable, tt), ((search sendable, (search sendable, tt)), ((search (sendable, op.the_send), (search (sendable, value_send), (search sendable, (search sendable, tt)))), ((search sendable, (search (sendable, variable.the_send), (search sendable, tt))), (tt, (tt, ((sequence_send, (search sendable, tt)), ((turns_send, tt), ((turns_send, tt), ((turns_send, tt), ((search sendable, (search sendable, (search sendable, tt))), ((walk_send, tt), tt))))))))))))))))))
+part_send = variants_send Part.enum ((search sendable, tt), ((search sendable, (search (sendable, value_send), tt)), ((search sendable, (values_send, tt)), ((search sendable, tt), ((search sendable, tt), ((search sendable, (search sendable, tt)), ((search sendable, tt), ((search sendable, (search sendable, tt)), ((search (sendable, op.the_send), (search (sendable, value_send), (search sendable, (search sendable, tt)))), ((search sendable, (search (sendable, variable.the_send), (search sendable, tt))), (tt, (tt, ((sequence_send, (search sendable, tt)), ((loop_send, tt), ((loop_send, tt), ((loop_send, tt), ((search sendable, (search sendable, (search sendable, tt))), ((walk_send, tt), tt))))))))))))))))))
 
 frame_send : IsSend Frame.the_row
-frame_send = variants_send Frame.enum ((part_send, tt), ((turn_send, tt), ((slots_send, (search sendable, tt)), tt)))
+frame_send = variants_send Frame.enum ((part_send, tt), ((iteration_send, tt), ((slots_send, (search sendable, tt)), tt)))
 
 pub effects_send : IsSend Effects.the_row
 effects_send = search (sendable, crosses, event_send, text_send, value_send) depth 18

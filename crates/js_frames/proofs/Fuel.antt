@@ -15,10 +15,10 @@ use Rattle.js_meaning.proofs.Walk.{bind, either, leaves_walk, gives_walk, slot_w
 use Rattle.js_meaning.proofs.Following.{Well, Sure, sure_ways, turns_sure, eval_sure, left_follows, later_of}
 use Rattle.js_frames.specs.declared.frame.Part.{Part}
 use Rattle.js_frames.specs.declared.frame.Part.TheVariants.{First, Second, Further, Or, And, Choice, When, Assigned, AssignedWith, Declared, Dropped, Returned, Statements, Started, Tested, Between, Listed, Walked}
-use Rattle.js_frames.specs.declared.frame.Turn.{Turn}
-use Rattle.js_frames.specs.declared.frame.Turn.TheVariants.{OfLoop, OfItems}
+use Rattle.js_frames.specs.declared.frame.Iteration.{Iteration}
+use Rattle.js_frames.specs.declared.frame.Iteration.TheVariants.{OfLoop, OfItems}
 use Rattle.js_frames.specs.declared.frame.Frame.{Frame}
-use Rattle.js_frames.specs.declared.frame.Frame.TheVariants.{Waiting, Turning, Called}
+use Rattle.js_frames.specs.declared.frame.Frame.TheVariants.{Waiting, Iterating, Called}
 use Rattle.js_frames.specs.Frames.{statements_of, parts_from, declares_from, declaring_from, rest, again, resume, plug}
 use Rattle.js_frames.specs.Leads.{node_does}
 
@@ -76,7 +76,7 @@ module _ (g : Setting) where
   rest_goes (Walked w) x =
       for_each_from_walk g (Sure g) (sure_ways g) (eval g) (eval g) begins_well w.line (v.function w.code w.captured) (v.list w.items) w.index (drop w.index (values_in w.items))
 
-  again_goes : (turn : Turn) → Goes (again g turn)
+  again_goes : (iteration : Iteration) → Goes (again g iteration)
   unfolding again
   again_goes (OfLoop t) = bind g (Sure g) (sure_ways g) _ _ (perhaps_walk g (Sure g) (sure_ways g) (eval g) (eval g) begins_well t.next) (λ _. loop_goes t.test t.body t.next)
   again_goes (OfItems k body items place) = each_walk g (Sure g) (sure_ways g) (eval g) (eval g) begins_well k body (drop place (values_in items))
@@ -103,25 +103,25 @@ module _ (g : Setting) where
   resume_low : (fuel : ℕ) (f : Frame) (o : Outcome) → Low fuel o → Low fuel (resume g f o)
   unfolding resume
   resume_low fuel (Waiting part) (went (normal x) s) l = goes_low fuel (rest g part x) (rest_goes part x) s l
-  resume_low fuel (Turning turn) (went (normal x) s) l = goes_low fuel (again g turn) (again_goes turn) s l
-  resume_low fuel (Turning turn) (went continued s) l = goes_low fuel (again g turn) (again_goes turn) s l
+  resume_low fuel (Iterating iteration) (went (normal x) s) l = goes_low fuel (again g iteration) (again_goes iteration) s l
+  resume_low fuel (Iterating iteration) (went continued s) l = goes_low fuel (again g iteration) (again_goes iteration) s l
   resume_low fuel (Waiting part) (went broke s) l = l
   resume_low fuel (Waiting part) (went continued s) l = l
   resume_low fuel (Waiting part) (went (returned x) s) l = l
-  resume_low fuel (Turning turn) (went broke s) l = l
-  resume_low fuel (Turning turn) (went (returned x) s) l = l
+  resume_low fuel (Iterating iteration) (went broke s) l = l
+  resume_low fuel (Iterating iteration) (went (returned x) s) l = l
   resume_low fuel (Called slots active) (went c s) l = l
   resume_low fuel (Waiting part) (broken f line e) l = l
-  resume_low fuel (Turning turn) (broken f line e) l = l
+  resume_low fuel (Iterating iteration) (broken f line e) l = l
   resume_low fuel (Called slots active) (broken f line e) l = l
   resume_low fuel (Waiting part) (violated text e) l = l
-  resume_low fuel (Turning turn) (violated text e) l = l
+  resume_low fuel (Iterating iteration) (violated text e) l = l
   resume_low fuel (Called slots active) (violated text e) l = l
   resume_low fuel (Waiting part) (spent e) l = l
-  resume_low fuel (Turning turn) (spent e) l = l
+  resume_low fuel (Iterating iteration) (spent e) l = l
   resume_low fuel (Called slots active) (spent e) l = l
   resume_low fuel (Waiting part) (stopped x y line e) l = l
-  resume_low fuel (Turning turn) (stopped x y line e) l = l
+  resume_low fuel (Iterating iteration) (stopped x y line e) l = l
   resume_low fuel (Called slots active) (stopped x y line e) l = l
 
   plug_low : (fuel : ℕ) (fs : List Frame) (o : Outcome) → Low fuel o → Low fuel (plug g fs o)

@@ -25,7 +25,7 @@ use Rattle.js_frames.specs.declared.step.Step.TheVariants.{Begin, Give, Ask, Fai
 use Rattle.js_frames.specs.declared.machine.Pending.{Pending}
 use Rattle.js_frames.specs.declared.machine.Pending.TheVariants.{Next, Resumed}
 use Rattle.js_frames.specs.declared.frame.Frame.{Frame}
-use Rattle.js_frames.specs.declared.frame.Frame.TheVariants.{Waiting, Turning, Called}
+use Rattle.js_frames.specs.declared.frame.Frame.TheVariants.{Waiting, Iterating, Called}
 use Rattle.js_frames.specs.declared.machine.Pause.{Pause}
 use Rattle.js_frames.specs.declared.machine.Pause.TheVariants as pause
 use Rattle.js_frames.specs.declared.machine.Machine.{Machine}
@@ -47,25 +47,25 @@ module _ (g : Setting) where
   resume_stopped : (f : Frame) (s p : PlainValue) (line : ℕ) (l : Left) → resume g f (stopped s p line l) ≡ stopped s p line l
   unfolding resume
   resume_stopped (Waiting part) s p line l = refl
-  resume_stopped (Turning turn) s p line l = refl
+  resume_stopped (Iterating iteration) s p line l = refl
   resume_stopped (Called slots n) s p line l = refl
 
   resume_broken : (f : Frame) (fault : Fault) (line : ℕ) (l : Left) → resume g f (broken fault line l) ≡ broken fault line l
   unfolding resume
   resume_broken (Waiting part) fault line l = refl
-  resume_broken (Turning turn) fault line l = refl
+  resume_broken (Iterating iteration) fault line l = refl
   resume_broken (Called slots n) fault line l = refl
 
   resume_violated : (f : Frame) (text : List ℕ) (l : Left) → resume g f (violated text l) ≡ violated text l
   unfolding resume
   resume_violated (Waiting part) text l = refl
-  resume_violated (Turning turn) text l = refl
+  resume_violated (Iterating iteration) text l = refl
   resume_violated (Called slots n) text l = refl
 
   resume_spent : (f : Frame) (l : Left) → resume g f (spent l) ≡ spent l
   unfolding resume
   resume_spent (Waiting part) l = refl
-  resume_spent (Turning turn) l = refl
+  resume_spent (Iterating iteration) l = refl
   resume_spent (Called slots n) l = refl
 
 -- a call gives a value, if it completes

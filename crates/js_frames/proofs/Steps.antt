@@ -292,7 +292,7 @@ passes Broke f s h = refl
 passes Continued f s h = refl
 passes (Returned v) f s h = refl
 
--- what goes on with the next turn
+-- what goes on with the next iteration
 pub turns_on : (c : Completion) (f : State → Outcome) (s : State) → (((v : Value) × (c ≡ Normal v)) ⊎ (c ≡ Continued)) → f s ≡ after_turn (went (plain_completion c) s) f
 turns_on c f s h = elim h [ inl e ↦ ap (λ q. after_turn (went (plain_completion q) s) f) (sym e.1) | inr e ↦ ap (λ q. after_turn (went (plain_completion q) s) f) (sym e) ]
 

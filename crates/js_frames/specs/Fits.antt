@@ -4,15 +4,15 @@ use Rattle.js_program.specs.PlainProgram as p
 use Rattle.js_program.specs.PlainProgram.{PlainNodeForm, PlainNode, PlainProgram}
 use Rattle.js_frames.specs.declared.step.Step.{Step}
 use Rattle.js_frames.specs.declared.step.Step.TheVariants.{Begin}
-use Rattle.js_frames.specs.declared.frame.Turns.{Turns}
+use Rattle.js_frames.specs.declared.frame.Loop.{Loop}
 use Rattle.js_frames.specs.declared.frame.Sequence.{Sequence}
 use Rattle.js_frames.specs.declared.frame.Sequence.TheVariants.{Block, Function, Top}
 use Rattle.js_frames.specs.declared.frame.Part.{Part}
 use Rattle.js_frames.specs.declared.frame.Part.TheVariants.{First, Second, Further, Or, And, Choice, When, Declared, Statements, Started, Tested, Between, Listed}
-use Rattle.js_frames.specs.declared.frame.Turn.{Turn}
-use Rattle.js_frames.specs.declared.frame.Turn.TheVariants.{OfLoop, OfItems}
+use Rattle.js_frames.specs.declared.frame.Iteration.{Iteration}
+use Rattle.js_frames.specs.declared.frame.Iteration.TheVariants.{OfLoop, OfItems}
 use Rattle.js_frames.specs.declared.frame.Frame.{Frame}
-use Rattle.js_frames.specs.declared.frame.Frame.TheVariants.{Waiting, Turning, Called}
+use Rattle.js_frames.specs.declared.frame.Frame.TheVariants.{Waiting, Iterating, Called}
 
 -- the number of a node
 abbrev pub IsNode : PlainProgram → ℕ → Type 0
@@ -63,7 +63,7 @@ SequenceFits program (Block n) = IsNode program n
 SequenceFits program (Function code) = code < length program.functions
 SequenceFits program Top = Unit {0}
 
-pub record TurnsFit (program : PlainProgram) (t : Turns) : Type 0 where
+pub record LoopFits (program : PlainProgram) (t : Loop) : Type 0 where
   pub test : IsPerhapsNode program t.test
   pub body : IsNode program t.body
   pub next : IsPerhapsNode program t.next
@@ -78,19 +78,19 @@ PartFits program (Choice a b) = IsNode program a × IsNode program b
 PartFits program (When body) = IsNode program body
 PartFits program (Declared n variable place) = IsNode program n × HasForm IsDeclaration program n
 PartFits program (Statements which place) = SequenceFits program which
-PartFits program (Started t) = TurnsFit program t
-PartFits program (Tested t) = TurnsFit program t
-PartFits program (Between t) = TurnsFit program t
+PartFits program (Started t) = LoopFits program t
+PartFits program (Tested t) = LoopFits program t
+PartFits program (Between t) = LoopFits program t
 PartFits program (Listed k body line) = IsNode program body
 PartFits program _ = Unit {0}
 
-abbrev pub TurnFits : PlainProgram → Turn → Type 0
-TurnFits program (OfLoop t) = TurnsFit program t
-TurnFits program (OfItems k body items place) = IsNode program body
+abbrev pub IterationFits : PlainProgram → Iteration → Type 0
+IterationFits program (OfLoop t) = LoopFits program t
+IterationFits program (OfItems k body items place) = IsNode program body
 
 abbrev pub FrameFits : PlainProgram → Frame → Type 0
 FrameFits program (Waiting part) = PartFits program part
-FrameFits program (Turning turn) = TurnFits program turn
+FrameFits program (Iterating iteration) = IterationFits program iteration
 FrameFits program (Called slots active) = Unit {0}
 
 unfoldable pub StackFits : PlainProgram → List Frame → Type 0

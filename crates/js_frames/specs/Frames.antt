@@ -20,16 +20,16 @@ use Rattle.js_frames.specs.declared.step.Completion.{Completion}
 use Rattle.js_frames.specs.declared.step.Completion.TheVariants.{Normal, Broke, Continued, Returned as ReturnedOf}
 use Rattle.js_frames.specs.declared.step.Step.{Step}
 use Rattle.js_frames.specs.declared.step.Step.TheVariants.{Begin, Give, Ask, Fail, Violate}
-use Rattle.js_frames.specs.declared.frame.Turns.{Turns}
+use Rattle.js_frames.specs.declared.frame.Loop.{Loop}
 use Rattle.js_frames.specs.declared.frame.Walk.{Walk}
 use Rattle.js_frames.specs.declared.frame.Sequence.{Sequence}
 use Rattle.js_frames.specs.declared.frame.Sequence.TheVariants.{Block, Function, Top}
 use Rattle.js_frames.specs.declared.frame.Part.{Part}
 use Rattle.js_frames.specs.declared.frame.Part.TheVariants.{First, Second, Further, Or, And, Choice, When, Assigned, AssignedWith, Declared, Dropped, Returned, Statements, Started, Tested, Between, Listed, Walked}
-use Rattle.js_frames.specs.declared.frame.Turn.{Turn}
-use Rattle.js_frames.specs.declared.frame.Turn.TheVariants.{OfLoop, OfItems}
+use Rattle.js_frames.specs.declared.frame.Iteration.{Iteration}
+use Rattle.js_frames.specs.declared.frame.Iteration.TheVariants.{OfLoop, OfItems}
 use Rattle.js_frames.specs.declared.frame.Frame.{Frame}
-use Rattle.js_frames.specs.declared.frame.Frame.TheVariants.{Waiting, Turning, Called}
+use Rattle.js_frames.specs.declared.frame.Frame.TheVariants.{Waiting, Iterating, Called}
 use Rattle.js_frames.specs.Places.{Place, Beside, setting_at, state_at}
 
 abbrev pub plain_completion : Completion → js.Completion
@@ -80,11 +80,11 @@ module _ (g : Setting) where
   sequence_from which place s = sequence (eval g) (drop place (statements_of g.base.program which)) s
 
   -- a loop at its test
-  abbrev pub loop : Turns → State → Outcome
+  abbrev pub loop : Loop → State → Outcome
   loop t s = turns_of g t.test t.body t.next s
 
   -- a `for`
-  abbrev pub starts_loop : List ℕ → Option ℕ → Turns → State → Outcome
+  abbrev pub starts_loop : List ℕ → Option ℕ → Loop → State → Outcome
   starts_loop slots first t s = perhaps (eval g) first (undeclare slots s) >>= λ _. loop t
 
   -- a `for of` from a place of its list on
@@ -123,15 +123,15 @@ module _ (g : Setting) where
   rest (Listed k body line) x s = each_of (eval g) line k body x s
   rest (Walked w) x s = walk_from w s
 
-  -- the other turns of a loop
-  unfoldable pub again : Turn → State → Outcome
+  -- the other iterations of a loop
+  unfoldable pub again : Iteration → State → Outcome
   again (OfLoop t) s = perhaps (eval g) t.next s >>= λ _. loop t
   again (OfItems k body items place) s = items_from k body items place s
 
   -- what waits goes on with an outcome
   unfoldable pub resume : Frame → Outcome → Outcome
   resume (Waiting part) o = o >>= rest part
-  resume (Turning turn) o = after_turn o (again turn)
+  resume (Iterating iteration) o = after_turn o (again iteration)
   resume (Called slots active) o = after_call slots active o
 
   -- all that waits goes on with an outcome, the last frame first

@@ -8,7 +8,7 @@ ghost use Rattle.js_frames.specs.Fits.{StackFits, IsNode, HasForm, IsShort};
 ghost use Rattle.js_frames.specs.Leads.{Goes, Becomes, node_does, waits_for, operand_frame};
 
 use crate::engine::Engine;
-use crate::frame::{Frame, Part, Turns};
+use crate::frame::{Frame, Part, Loop};
 use crate::ground::Ground;
 use crate::nodes::node_of;
 use crate::step::{Completion, Step, answered, give, leave};
@@ -27,12 +27,12 @@ fn choice(yes: u32, no: u32) -> Frame
     Frame::Waiting(Part::Choice(yes, no))
 }
 
-/// The turns of a loop.
+/// What a loop runs.
 #[inline(always)]
-fn turns(test: Option<u32>, body: u32, next: Option<u32>) -> Turns
+fn cycle(test: Option<u32>, body: u32, next: Option<u32>) -> Loop
     ensures { result ≡ record { test = test; body = body; next = next } }
 {
-    Turns { test, body, next }
+    Loop { test, body, next }
 }
 
 /// A text literal: one more owner of its text. Its only error is a full count of owners.
@@ -152,9 +152,9 @@ impl Engine {
             NodeForm::Expression(part) => self.wait(*part, Frame::Waiting(Part::Dropped)),
             NodeForm::If(test, body) => self.wait(*test, Frame::Waiting(Part::When(*body))),
             NodeForm::IfElse(test, yes, no) => self.wait(*test, choice(*yes, *no)),
-            NodeForm::While(test, body) => self.test(base, turns(Some(*test), *body, None)),
+            NodeForm::While(test, body) => self.test(base, cycle(Some(*test), *body, None)),
             NodeForm::ForThree(slots, first, test, next, body) => {
-                self.start_loop(base, slots, *first, turns(*test, *body, *next))
+                self.start_loop(base, slots, *first, cycle(*test, *body, *next))
             }
             NodeForm::ForOf(slot, list, body) => {
                 self.for_of(base, *slot, *list, *body, node.line)

@@ -4,9 +4,9 @@ use crate::values::Values;
 use js_program::Variable;
 use js_value::{Items, Op, Value};
 
-/// A loop's test, its body, and what comes between two turns.
+/// A loop's test, its body, and what comes between two iterations.
 #[derive(Clone, Copy)]
-pub struct Turns {
+pub struct Loop {
     pub test: Option<u32>,
     pub body: u32,
     pub next: Option<u32>,
@@ -63,11 +63,11 @@ pub enum Part {
     /// Statements, for the one before this place.
     Statements(Sequence, usize),
     /// The first part of a `for`.
-    Started(Turns),
+    Started(Loop),
     /// The test of a loop.
-    Tested(Turns),
-    /// What comes between two turns.
-    Between(Turns),
+    Tested(Loop),
+    /// What comes between two iterations.
+    Between(Loop),
     /// The list of a `for of`: the slot, the body and the line.
     Listed(u32, u32, u32),
     /// A call of the function of a `forEach`.
@@ -76,9 +76,9 @@ pub enum Part {
 
 /// A loop that waits for its body.
 #[derive(Drop)]
-pub enum Turn {
+pub enum Iteration {
     /// Of a `while` or a `for`.
-    OfLoop(Turns),
+    OfLoop(Loop),
     /// Of a `for of`: the slot, the body, the list and the place of the next element.
     OfItems(u32, u32, Items, usize),
 }
@@ -87,7 +87,7 @@ pub enum Turn {
 #[derive(Drop)]
 pub enum Frame {
     Waiting(Part),
-    Turning(Turn),
+    Iterating(Iteration),
     /// A call, which keeps the caller's slots and how many calls were active.
     Called(Slots, u32),
 }

@@ -34,8 +34,8 @@ impl Engine {
                 Completion::Normal(value) => self.give_value(base, part, value),
                 other => Ok(Step::Give(other)),
             },
-            Frame::Turning(turn) => {
-                let step = self.give_turn(base, turn, completion)?;
+            Frame::Iterating(iteration) => {
+                let step = self.give_iteration(base, iteration, completion)?;
                 Ok(step)
             }
             Frame::Called(slots, calls) => Ok(self.return_to(slots, calls, completion)),
@@ -57,8 +57,8 @@ impl Engine {
             Part::Assigned(slot, line) => self.assigned(base, slot, line, value),
             Part::Dropped => Ok(leave()),
             Part::Statements(sequence, place) => self.go_on(base, sequence, place),
-            Part::Tested(turns) => self.tested(base, turns, value),
-            Part::Between(turns) => self.test(base, turns),
+            Part::Tested(cycle) => self.tested(base, cycle, value),
+            Part::Between(cycle) => self.test(base, cycle),
             other => {
                 let step = self.give_any(base, other, value)?;
                 Ok(step)
@@ -93,9 +93,9 @@ impl Engine {
             Part::Dropped => Ok(leave()),
             Part::Returned => Ok(Step::Give(Completion::Returned(value))),
             Part::Statements(sequence, place) => self.go_on(base, sequence, place),
-            Part::Started(turns) => self.test(base, turns),
-            Part::Tested(turns) => self.tested(base, turns, value),
-            Part::Between(turns) => self.test(base, turns),
+            Part::Started(cycle) => self.test(base, cycle),
+            Part::Tested(cycle) => self.tested(base, cycle, value),
+            Part::Between(cycle) => self.test(base, cycle),
             Part::Listed(slot, body, line) => self.listed(base, slot, body, line, value),
             Part::Walked(walk) => self.walk(base, walk),
         }

@@ -6,11 +6,11 @@ ghost use Rattle.js_meaning.specs.Statements.{after_turn, each_of, does_for_of};
 ghost use Rattle.js_meaning.specs.Meaning.{eval};
 ghost use Rattle.js_frames.specs.Places.{here};
 ghost use Rattle.js_frames.specs.Frames.{plain_completion, rest, again, resume, loop, starts_loop, items_from};
-ghost use Rattle.js_frames.specs.Fits.{StackFits, IsNode, IsPerhapsNode, TurnsFit, TurnFits};
+ghost use Rattle.js_frames.specs.Fits.{StackFits, IsNode, IsPerhapsNode, LoopFits, IterationFits};
 ghost use Rattle.js_frames.specs.Leads.{Goes};
 
 use crate::engine::Engine;
-use crate::frame::{Frame, Part, Turn, Turns};
+use crate::frame::{Frame, Part, Iteration, Loop};
 use crate::ground::Ground;
 use crate::step::{Completion, Step, leave, mistyped};
 use crate::values::item_at;
@@ -25,77 +25,77 @@ impl Engine {
         base: &Ground,
         slots: &[u32],
         first: Option<u32>,
-        turns: Turns,
+        cycle: Loop,
     ) -> Result<Step, Memory>
-        requires turns { TurnsFit base.now.program turns }
+        requires cycle { LoopFits base.now.program cycle }
         requires first { IsPerhapsNode base.now.program first }
         requires fits { StackFits base.now.program self.old.stack.items }
         ensures { Goes base.now self.old
-            (starts_loop (here base.now self.old) slots.now first turns)
+            (starts_loop (here base.now self.old) slots.now first cycle)
             self.new result }
     {
         self.slots.undeclare(slots);
         match first {
-            None => self.test(base, turns),
-            Some(part) => self.wait(part, Frame::Waiting(Part::Started(turns))),
+            None => self.test(base, cycle),
+            Some(part) => self.wait(part, Frame::Waiting(Part::Started(cycle))),
         }
     }
 
     /// The test of a loop begins; an absent one is true.
     #[inline(always)]
-    pub fn test(&mut self, base: &Ground, turns: Turns) -> Result<Step, Memory>
-        requires turns { TurnsFit base.now.program turns }
+    pub fn test(&mut self, base: &Ground, cycle: Loop) -> Result<Step, Memory>
+        requires cycle { LoopFits base.now.program cycle }
         requires fits { StackFits base.now.program self.old.stack.items }
         ensures { Goes base.now self.old
-            (loop (here base.now self.old) turns)
+            (loop (here base.now self.old) cycle)
             self.new result }
     {
-        match turns.test {
-            None => self.turn(base, turns),
-            Some(part) => self.wait(part, Frame::Waiting(Part::Tested(turns))),
+        match cycle.test {
+            None => self.iteration(base, cycle),
+            Some(part) => self.wait(part, Frame::Waiting(Part::Tested(cycle))),
         }
     }
 
     /// The body of a loop begins.
     #[inline(always)]
-    fn turn(&mut self, base: &Ground, turns: Turns) -> Result<Step, Memory>
-        requires turns { TurnsFit base.now.program turns }
+    fn iteration(&mut self, base: &Ground, cycle: Loop) -> Result<Step, Memory>
+        requires cycle { LoopFits base.now.program cycle }
         requires fits { StackFits base.now.program self.old.stack.items }
         ensures { let g = here base.now self.old in Goes base.now self.old
-            (λ s. after_turn (eval g turns.body s) (again g (Turn.OfLoop turns)))
+            (λ s. after_turn (eval g cycle.body s) (again g (Iteration.OfLoop cycle)))
             self.new result }
     {
-        self.wait(turns.body, Frame::Turning(Turn::OfLoop(turns)))
+        self.wait(cycle.body, Frame::Iterating(Iteration::OfLoop(cycle)))
     }
 
     /// The test of a loop has its value.
     #[inline(always)]
-    pub fn tested(&mut self, base: &Ground, turns: Turns, value: Value) -> Result<Step, Memory>
-        requires turns { TurnsFit base.now.program turns }
+    pub fn tested(&mut self, base: &Ground, cycle: Loop, value: Value) -> Result<Step, Memory>
+        requires cycle { LoopFits base.now.program cycle }
         requires fits { StackFits base.now.program self.old.stack.items }
         ensures { Goes base.now self.old
-            (rest (here base.now self.old) (Part.Tested turns) (plain_value value))
+            (rest (here base.now self.old) (Part.Tested cycle) (plain_value value))
             self.new result }
     {
         if truthy(&value) {
-            self.turn(base, turns)
+            self.iteration(base, cycle)
         } else {
             Ok(leave())
         }
     }
 
-    /// What comes between two turns begins; where it is absent, the test.
+    /// What comes between two iterations begins; where it is absent, the test.
     #[inline(always)]
-    fn turned(&mut self, base: &Ground, turns: Turns) -> Result<Step, Memory>
-        requires turns { TurnsFit base.now.program turns }
+    fn iterated(&mut self, base: &Ground, cycle: Loop) -> Result<Step, Memory>
+        requires cycle { LoopFits base.now.program cycle }
         requires fits { StackFits base.now.program self.old.stack.items }
         ensures { Goes base.now self.old
-            (again (here base.now self.old) (Turn.OfLoop turns))
+            (again (here base.now self.old) (Iteration.OfLoop cycle))
             self.new result }
     {
-        match turns.next {
-            None => self.test(base, turns),
-            Some(part) => self.wait(part, Frame::Waiting(Part::Between(turns))),
+        match cycle.next {
+            None => self.test(base, cycle),
+            Some(part) => self.wait(part, Frame::Waiting(Part::Between(cycle))),
         }
     }
 
@@ -165,42 +165,42 @@ impl Engine {
         self.slots.set(slot, Some(value));
         self.wait(
             body,
-            Frame::Turning(Turn::OfItems(slot, body, items, place + 1)),
+            Frame::Iterating(Iteration::OfItems(slot, body, items, place + 1)),
         )
     }
 
-    /// The next turn of a loop.
+    /// The next iteration of a loop.
     #[inline(always)]
-    fn turn_again(&mut self, base: &Ground, turn: Turn) -> Result<Step, Memory>
-        requires turn { TurnFits base.now.program turn }
+    fn iterate_again(&mut self, base: &Ground, iteration: Iteration) -> Result<Step, Memory>
+        requires iteration { IterationFits base.now.program iteration }
         requires fits { StackFits base.now.program self.old.stack.items }
         ensures { Goes base.now self.old
-            (again (here base.now self.old) turn)
+            (again (here base.now self.old) iteration)
             self.new result }
     {
-        match turn {
-            Turn::OfLoop(turns) => self.turned(base, turns),
-            Turn::OfItems(slot, body, items, place) => self.each(base, slot, body, items, place),
+        match iteration {
+            Iteration::OfLoop(cycle) => self.iterated(base, cycle),
+            Iteration::OfItems(slot, body, items, place) => self.each(base, slot, body, items, place),
         }
     }
 
     /// The body of a loop has completed.
     #[inline(never)]
-    pub fn give_turn(
+    pub fn give_iteration(
         &mut self,
         base: &Ground,
-        turn: Turn,
+        iteration: Iteration,
         completion: Completion,
     ) -> Result<Step, Memory>
-        requires turn { TurnFits base.now.program turn }
+        requires iteration { IterationFits base.now.program iteration }
         requires fits { StackFits base.now.program self.old.stack.items }
         ensures { Goes base.now self.old
-            (λ s. resume (here base.now self.old) (Frame.Turning turn)
+            (λ s. resume (here base.now self.old) (Frame.Iterating iteration)
             (went (plain_completion completion) s))
             self.new result }
     {
         match completion {
-            Completion::Normal(_) | Completion::Continued => self.turn_again(base, turn),
+            Completion::Normal(_) | Completion::Continued => self.iterate_again(base, iteration),
             Completion::Broke => Ok(leave()),
             Completion::Returned(value) => Ok(Step::Give(Completion::Returned(value))),
         }

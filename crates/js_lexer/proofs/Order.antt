@@ -11,7 +11,7 @@ use Rattle.js_lexer.specs.declared.token.Flaw.TheVariants.{Character, NumberRang
 use Rattle.js_lexer.specs.declared.token.Token.{Token}
 use Rattle.js_lexer.specs.Bytes.{begins, is_digit, is_name_start, is_name_byte, is_quote}
 use Rattle.js_lexer.specs.Gaps.{blank_size, line_end_size, size_of_line, size_to_close}
-use Rattle.js_lexer.specs.Spellings.{all_keykeywords, marks, unsupported_marks, all_marks}
+use Rattle.js_lexer.specs.Spellings.{all_keywords, marks, unsupported_marks, all_marks}
 use Rattle.js_lexer.specs.Numbers.{base_of, number_size, number_value, is_unsupported_end}
 use Rattle.js_lexer.specs.Literals.{Literal, closed, unclosed, wrong, literal}
 use Rattle.js_lexer.specs.Front.{Piece, nothing, gap, token, refused, name_size, number_before, quoted, block, mark, is_dot_digit, gap_or, gap_or_mark, front}
@@ -59,7 +59,7 @@ gap_or-spelled bs (suc n) other k = tt
 front-spelled : (bs : List ℕ) → PieceSpelled bs (front bs)
 front-spelled [] = tt
 front-spelled (b ∷ bs) =
-    if-spelled (b ∷ bs) (is_name_start b) _ _ (name-spelled (is_some (find_in all_keykeywords (take (name_size (b ∷ bs)) (b ∷ bs)))) (take (name_size (b ∷ bs)) (b ∷ bs))) (
+    if-spelled (b ∷ bs) (is_name_start b) _ _ (name-spelled (is_some (find_in all_keywords (take (name_size (b ∷ bs)) (b ∷ bs)))) (take (name_size (b ∷ bs)) (b ∷ bs))) (
     if-spelled (b ∷ bs) (is_digit b) _ _
     (if-spelled (b ∷ bs) (nat_lt GREATEST (number_value (b ∷ bs))) (refused NumberRange 0) _ tt
     (before-spelled (b ∷ bs) (drop (number_size (b ∷ bs)) (b ∷ bs)) (base_of (b ∷ bs)) (number_value (b ∷ bs)) (number_size (b ∷ bs)))) (

@@ -9,7 +9,7 @@ use Rattle.js_lexer.specs.declared.token.Flaw.{Flaw}
 use Rattle.js_lexer.specs.declared.token.Flaw.TheVariants.{Character, OpenText, Escape, NumberRange, Unsupported}
 use Rattle.js_lexer.specs.Bytes.{begins, is_digit, is_name_start, is_name_byte, is_quote}
 use Rattle.js_lexer.specs.Gaps.{blank_size, line_end_size, size_of_line, size_to_close}
-use Rattle.js_lexer.specs.Spellings.{all_keykeywords, all_marks}
+use Rattle.js_lexer.specs.Spellings.{all_keywords, all_marks}
 use Rattle.js_lexer.specs.Numbers.{base_of, number_size, number_value, is_unsupported_end}
 use Rattle.js_lexer.specs.Literals.{Literal, closed, unclosed, wrong, literal}
 
@@ -28,7 +28,7 @@ name_size (b ∷ bs) = if is_name_byte b then suc (name_size bs) else 0
 
 -- a word, or else a name
 abbrev pub name_kind : List ℕ → Kind
-name_kind text = if is_some (find_in all_keykeywords text) then Keyword text else Name text
+name_kind text = if is_some (find_in all_keywords text) then Keyword text else Name text
 
 -- a number by what follows it directly
 abbrev pub number_before : ℕ → ℕ → ℕ → List ℕ → Piece

@@ -3,7 +3,7 @@ use Rattle.std.specs.Prelude.{ℕ, nat_eq, Option, Some, None, if◌then◌else�
 use Rattle.bp_tables.specs.Found.{find_in}
 use Rattle.js_lexer.specs.declared.token.Kind.{Kind}
 use Rattle.js_lexer.specs.declared.sort.Sort.{Sort}
-use Rattle.js_lexer.specs.Spellings.{all_keykeywords, all_marks}
+use Rattle.js_lexer.specs.Spellings.{all_keywords, all_marks}
 
 -- the sort of a numbered word or mark
 
@@ -45,7 +45,7 @@ mark_sort (Some n) =
 -- the sort of a token of the kind
 abbrev pub kind_sort : Kind → Sort
 kind_sort (Kind.Name text) = Sort.Name
-kind_sort (Kind.Keyword text) = keyword_sort (find_in all_keykeywords text)
+kind_sort (Kind.Keyword text) = keyword_sort (find_in all_keywords text)
 kind_sort (Kind.Number n) = Sort.Number
 kind_sort (Kind.Text text) = Sort.Text
 kind_sort (Kind.Mark text) = mark_sort (find_in all_marks text)

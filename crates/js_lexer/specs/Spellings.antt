@@ -11,8 +11,8 @@ keywords =
     (codes "continue", 11) ∷ ((codes "true", 12) ∷ (
     (codes "false", 13) ∷ ((codes "null", 14) ∷ [])))))))))))))
 
-abbrev pub unsupported_keykeywords : List (List ℕ × ℕ)
-unsupported_keykeywords =
+abbrev pub unsupported_keywords : List (List ℕ × ℕ)
+unsupported_keywords =
     (codes "switch", 101) ∷ ((codes "case", 102) ∷ ((codes "default", 103) ∷ (
     (codes "do", 104) ∷ ((codes "try", 105) ∷ (
     (codes "catch", 106) ∷ ((codes "finally", 107) ∷ ((codes "throw", 108) ∷ (
@@ -49,8 +49,8 @@ unsupported_marks =
     (codes ">>=", 116) ∷ ((codes ">>>=", 117) ∷ ((codes "**=", 118) ∷ (
     (codes "&&=", 119) ∷ ((codes "||=", 120) ∷ ((codes "??=", 121) ∷ []))))))))))))))))))))
 
-abbrev pub all_keykeywords : List (List ℕ × ℕ)
-all_keykeywords = keywords ++ unsupported_keykeywords
+abbrev pub all_keywords : List (List ℕ × ℕ)
+all_keywords = keywords ++ unsupported_keywords
 
 -- those of this many bytes
 abbrev pub of_size : ℕ → List (List ℕ × ℕ) → List (List ℕ × ℕ)

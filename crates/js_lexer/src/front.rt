@@ -7,7 +7,7 @@ ghost use Rattle.js_lexer.specs.inner.Found.{IsFound};
 ghost use Rattle.js_lexer.specs.Front.{token, name_size, name_kind, block, mark, quoted, is_dot_digit, front, comment_or_mark, gap_or_mark};
 ghost use Rattle.js_lexer.specs.Gaps.{size_to_close};
 ghost use Rattle.js_lexer.specs.Literals.{literal};
-ghost use Rattle.js_lexer.specs.Spellings.{all_keykeywords, all_marks};
+ghost use Rattle.js_lexer.specs.Spellings.{all_keywords, all_marks};
 ghost use Rattle.bp_tables.specs.Found.{front_in};
 
 use crate::bytes::{begins_name, is_digit_byte, is_quote_byte, stands_in_name};
@@ -47,7 +47,7 @@ fn name_extent(bytes: &[u8]) -> usize
 
 /// The word or name in front.
 pub fn name_front(alloc: Global, keywords: &KeywordTable, bytes: &[u8]) -> Result<Found, Stop>
-    requires { keywords.now ≡ all_keykeywords }
+    requires { keywords.now ≡ all_keywords }
     ensures { IsFound (token (name_kind (take (name_size bytes.now) bytes.now))
         (name_size bytes.now)) result }
 {
@@ -149,7 +149,7 @@ pub fn front_at(
     text: &str,
     place: usize,
 ) -> Result<Found, Stop>
-    requires keywords { keywords.now ≡ all_keykeywords }
+    requires keywords { keywords.now ≡ all_keywords }
     requires marks { marks.now ≡ all_marks }
     requires size { length text.now ≤ MOST_BYTES }
     requires place { bytes.now ≡ drop place text.now }

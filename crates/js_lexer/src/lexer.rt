@@ -3,7 +3,7 @@ ghost use Rattle.std.specs.Prelude.{◌≡◌, ◌≤◌, ◌<◌, ◌+◌, ◌^
 ghost use Rattle.std.specs.Str.{IsUtf8};
 ghost use Rattle.js_lexer.specs.declared.limits.TheConstants.{MOST_BYTES};
 ghost use Rattle.js_lexer.specs.Cut.{Cut};
-ghost use Rattle.js_lexer.specs.Spellings.{all_keykeywords, all_marks};
+ghost use Rattle.js_lexer.specs.Spellings.{all_keywords, all_marks};
 ghost use Rattle.js_lexer.specs.Lexed.{IsRefusal, fault_of};
 ghost use Rattle.js_lexer.specs.inner.Steps.{IsStep, StopFits, fault_of_stop};
 ghost use Rattle.js_lexer.specs.Laws.{OneCutting, OneRefusal, NeverBoth, CutOrRefused, TokensInOrder, LongestMark};
@@ -72,7 +72,7 @@ fn step_at(
     text: &str,
     place: usize,
 ) -> Result<Found, Stop>
-    requires keywords { keywords.now ≡ all_keykeywords }
+    requires keywords { keywords.now ≡ all_keywords }
     requires marks { marks.now ≡ all_marks }
     requires size { length text.now ≤ MOST_BYTES }
     requires place { place < length text.now }

@@ -1,7 +1,7 @@
 //! The keywords and marks of the language.
 ghost use Rattle.std.specs.Prelude.{◌≡◌, ◌++◌, IsTrue};
 ghost use Rattle.bp_tables.specs.Found.{have_distinct_keys};
-ghost use Rattle.js_lexer.specs.Spellings.{keywords, unsupported_keykeywords, all_marks};
+ghost use Rattle.js_lexer.specs.Spellings.{keywords, unsupported_keywords, all_marks};
 
 use bp_tables::{Table, rows};
 
@@ -13,8 +13,8 @@ pub type MarkTable = Table<57>;
 
 /// The keywords of the language, numbered from 1, and the keywords that it refuses, numbered from 101.
 pub fn keyword_table() -> KeywordTable
-    ensures rows { result ≡ keywords ++ unsupported_keykeywords }
-    ensures distinct { IsTrue (have_distinct_keys (keywords ++ unsupported_keykeywords)) }
+    ensures rows { result ≡ keywords ++ unsupported_keywords }
+    ensures distinct { IsTrue (have_distinct_keys (keywords ++ unsupported_keywords)) }
 {
     Table::new(rows![
         b"const" => 1,

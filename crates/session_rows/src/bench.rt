@@ -1,6 +1,6 @@
 //! A session of a script, and what it came to, told in one text.
 use bp_base::{MemorySink, MemorySource, Sink, Source};
-use bp_log::{Beside, Header, Line, Options, Strategy, line_of};
+use bp_log::{Parallelism, Header, Line, Options, Strategy, line_of};
 use bp_script::accept;
 use bp_session::{Ending, Report, Session};
 use std::alloc::Global;
@@ -67,12 +67,12 @@ pub fn ends_as<S: Source + Send + Drop, K: Sink, R: Threads + Wait + Sync>(
     rt: &R,
     alloc: Global,
     script: &str,
-    beside: (u32, u64),
+    parallelism: (u32, u64),
     inputs: Vec<S>,
     out: &mut K,
     log: &mut Option<MemorySink>,
 ) -> Result<(String, usize), Fail> {
-    ends_waiting(rt, alloc, script, true, beside, inputs, out, log)
+    ends_waiting(rt, alloc, script, true, parallelism, inputs, out, log)
 }
 
 /// The same, where it waits for its injectors or does not.
@@ -81,7 +81,7 @@ pub fn ends_waiting<S: Source + Send + Drop, K: Sink, R: Threads + Wait + Sync>(
     alloc: Global,
     script: &str,
     waits: bool,
-    beside: (u32, u64),
+    parallelism: (u32, u64),
     inputs: Vec<S>,
     out: &mut K,
     log: &mut Option<MemorySink>,
@@ -91,8 +91,8 @@ pub fn ends_waiting<S: Source + Send + Drop, K: Sink, R: Threads + Wait + Sync>(
     if header.options().injectors() as usize != inputs.len() {
         return Err(Fail::new("more inputs than injectors"));
     }
-    let beside = Beside::new(beside.0, beside.1).ok_or("no numbers")?;
-    let (report, back) = Session::run(rt, alloc, program, &header, beside, inputs, out, log);
+    let parallelism = Parallelism::new(parallelism.0, parallelism.1).ok_or("no numbers")?;
+    let (report, back) = Session::run(rt, alloc, program, &header, parallelism, inputs, out, log);
     Ok((ending(alloc, report)?, back.len()))
 }
 
@@ -101,13 +101,13 @@ pub fn told<R: Threads + Wait + Sync>(
     rt: &R,
     alloc: Global,
     script: &str,
-    beside: (u32, u64),
+    parallelism: (u32, u64),
     inputs: Vec<MemorySource>,
     out_fails: &[u64],
     log_fails: &[u64],
 ) -> Result<Came, Fail> {
     told_waiting(
-        rt, alloc, script, true, beside, inputs, out_fails, log_fails,
+        rt, alloc, script, true, parallelism, inputs, out_fails, log_fails,
     )
 }
 
@@ -117,14 +117,14 @@ pub fn told_waiting<R: Threads + Wait + Sync>(
     alloc: Global,
     script: &str,
     waits: bool,
-    beside: (u32, u64),
+    parallelism: (u32, u64),
     inputs: Vec<MemorySource>,
     out_fails: &[u64],
     log_fails: &[u64],
 ) -> Result<Came, Fail> {
     let mut out = sink(alloc, out_fails)?;
     let mut log = Some(sink(alloc, log_fails)?);
-    let (end, back) = ends_waiting(rt, alloc, script, waits, beside, inputs, &mut out, &mut log)?;
+    let (end, back) = ends_waiting(rt, alloc, script, waits, parallelism, inputs, &mut out, &mut log)?;
     let log = match log {
         Some(log) => written(log)?,
         None => String::new(alloc),

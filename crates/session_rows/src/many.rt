@@ -35,19 +35,19 @@ pub fn printed_again(alloc: Global, log: &str) -> Result<String, Fail> {
 }
 
 /// A session with two injectors of many lines.
-fn two<R: Threads + Wait + Sync>(rt: &R, alloc: Global, beside: (u32, u64)) -> Result<Came, Fail> {
+fn two<R: Threads + Wait + Sync>(rt: &R, alloc: Global, parallelism: (u32, u64)) -> Result<Came, Fail> {
     let mut inputs = Vec::new(alloc);
     inputs.push(source(alloc, lines(alloc, "a", LINES)?.as_str(), &[])?)?;
     inputs.push(source(alloc, lines(alloc, "b", LINES)?.as_str(), &[])?)?;
-    told(rt, alloc, WATCHES, beside, inputs, &[], &[])
+    told(rt, alloc, WATCHES, parallelism, inputs, &[], &[])
 }
 
 /// Whatever the workers, the slices and the merge, the log replays to what was printed.
 #[test]
 fn logs_of_many_events_replay(rt: HostRuntime) -> Result<(), Fail> {
     let alloc = rt.alloc();
-    for beside in [(1, 1), (1, 7), (2, 10_000), (8, 10_000)] {
-        let came = two(&rt, alloc, beside)?;
+    for parallelism in [(1, 1), (1, 7), (2, 10_000), (8, 10_000)] {
+        let came = two(&rt, alloc, parallelism)?;
         assert_eq!(rt; came.end.as_str(), "verdict quiet 1000");
         assert!(rt; printed_again(alloc, came.log.as_str())?.as_str() == came.printed.as_str());
     }

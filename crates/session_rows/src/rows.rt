@@ -27,11 +27,11 @@ pub const BESIDES: [(u32, u64); 4] = [(1, 1), (1, 10_000), (2, 7), (8, 10_000)];
 fn blocked<R: Threads + Wait + Sync>(
     rt: &R,
     alloc: Global,
-    beside: (u32, u64),
+    parallelism: (u32, u64),
 ) -> Result<bool, Fail> {
     let mut inputs = Vec::new(alloc);
     inputs.push(source(alloc, BLOCKED_LINES, &[])?)?;
-    let came = told(rt, alloc, BLOCKED, beside, inputs, &[], &[])?;
+    let came = told(rt, alloc, BLOCKED, parallelism, inputs, &[], &[])?;
     Ok(
         came.printed.as_str() == BLOCKED_TEXT
             && came.end.as_str() == "verdict quiet 2"
@@ -41,8 +41,8 @@ fn blocked<R: Threads + Wait + Sync>(
 
 #[test]
 fn a_blocked_event_is_overtaken(rt: HostRuntime) -> Result<(), Fail> {
-    for beside in BESIDES {
-        assert!(rt; blocked(&rt, rt.alloc(), beside)?);
+    for parallelism in BESIDES {
+        assert!(rt; blocked(&rt, rt.alloc(), parallelism)?);
     }
     Ok(())
 }
@@ -74,19 +74,19 @@ fn is_merge(text: &str) -> bool {
 fn merged<R: Threads + Wait + Sync>(
     rt: &R,
     alloc: Global,
-    beside: (u32, u64),
+    parallelism: (u32, u64),
 ) -> Result<bool, Fail> {
     let mut inputs = Vec::new(alloc);
     inputs.push(source(alloc, "[\"a\",1]\n[\"a\",2]\n[\"a\",3]\n", &[])?)?;
     inputs.push(source(alloc, "[\"b\",1]\n[\"b\",2]\n[\"b\",3]\n", &[])?)?;
-    let came = told(rt, alloc, WATCHES, beside, inputs, &[], &[])?;
+    let came = told(rt, alloc, WATCHES, parallelism, inputs, &[], &[])?;
     Ok(is_merge(came.printed.as_str()) && came.end.as_str() == "verdict quiet 6" && came.back == 2)
 }
 
 #[test]
 fn two_injectors_merge(rt: HostRuntime) -> Result<(), Fail> {
-    for beside in BESIDES {
-        assert!(rt; merged(&rt, rt.alloc(), beside)?);
+    for parallelism in BESIDES {
+        assert!(rt; merged(&rt, rt.alloc(), parallelism)?);
     }
     Ok(())
 }

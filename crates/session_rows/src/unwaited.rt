@@ -26,7 +26,7 @@ fn asleep<R: Threads + Wait + Sync>(
     alloc: Global,
     script: &str,
     waits: bool,
-    beside: (u32, u64),
+    parallelism: (u32, u64),
     lines: u64,
     many: u32,
     looks: u64,
@@ -43,7 +43,7 @@ fn asleep<R: Threads + Wait + Sync>(
         lines: &seen,
     };
     let mut log = None;
-    let (end, back) = ends_waiting(rt, alloc, script, waits, beside, inputs, &mut out, &mut log)?;
+    let (end, back) = ends_waiting(rt, alloc, script, waits, parallelism, inputs, &mut out, &mut log)?;
     if back != many as usize {
         return Err(Fail::new("not every input came back"));
     }
@@ -54,9 +54,9 @@ fn asleep<R: Threads + Wait + Sync>(
 /// A run that does not wait ends while its injectors are asleep, by any workers and slices.
 #[test]
 fn injectors_that_sleep_are_not_waited_for(rt: HostRuntime) -> Result<(), Fail> {
-    for beside in BESIDES {
+    for parallelism in BESIDES {
         for many in [1u32, 2, 16] {
-            let (end, text) = asleep(&rt, rt.alloc(), ONCE, false, beside, 1, many, LOOKS)?;
+            let (end, text) = asleep(&rt, rt.alloc(), ONCE, false, parallelism, 1, many, LOOKS)?;
             assert_eq!(rt; end.as_str(), "verdict quiet 0");
             assert_eq!(rt; text.as_str(), "verdict quiet 0\n");
         }
@@ -149,7 +149,7 @@ fn loud(alloc: Global) -> Result<String, AllocError> {
 fn in_time<R: Threads + Wait + Sync>(
     rt: &R,
     alloc: Global,
-    beside: (u32, u64),
+    parallelism: (u32, u64),
     line: &str,
 ) -> Result<(String, String), Fail> {
     let reads = AtomicU64::new(0);
@@ -170,7 +170,7 @@ fn in_time<R: Threads + Wait + Sync>(
         alloc,
         script.as_str(),
         false,
-        beside,
+        parallelism,
         inputs,
         &mut out,
         &mut log,
@@ -186,8 +186,8 @@ fn in_time<R: Threads + Wait + Sync>(
 /// What is there in time is taken.
 #[test]
 fn what_is_there_in_time_is_taken(rt: HostRuntime) -> Result<(), Fail> {
-    for beside in BESIDES {
-        let (end, text) = in_time(&rt, rt.alloc(), beside, "[\"x\"]\n")?;
+    for parallelism in BESIDES {
+        let (end, text) = in_time(&rt, rt.alloc(), parallelism, "[\"x\"]\n")?;
         assert_eq!(rt; end.as_str(), "verdict quiet 1");
         assert!(rt;
             text.as_str()
@@ -275,11 +275,11 @@ fn a_write_fails(rt: HostRuntime) -> Result<(), Fail> {
 #[test]
 fn logs_of_runs_that_do_not_wait_replay(rt: HostRuntime) -> Result<(), Fail> {
     let alloc = rt.alloc();
-    for beside in BESIDES {
+    for parallelism in BESIDES {
         let mut inputs = Vec::new(alloc);
         inputs.push(source(alloc, "[\"a\",1]\n[\"a\",2]\n", &[])?)?;
         inputs.push(source(alloc, "[\"b\",1]\n", &[])?)?;
-        let came = told_waiting(&rt, alloc, WATCHES, false, beside, inputs, &[], &[])?;
+        let came = told_waiting(&rt, alloc, WATCHES, false, parallelism, inputs, &[], &[])?;
         let log = came.log.as_str();
         assert!(rt; came.end.as_str().starts_with("verdict quiet "));
         assert!(rt;

@@ -36,8 +36,8 @@ said_of (command.Run asked) = record {
   seed = Some (decimal asked.options.seed);
   budget = Some (decimal asked.options.budget);
   steps = Some (decimal asked.options.steps);
-  workers = Some (decimal asked.beside.workers);
-  slice = Some (decimal asked.beside.slice);
+  workers = Some (decimal asked.parallelism.workers);
+  slice = Some (decimal asked.parallelism.slice);
   wait = Some (wait_name asked.options.wait);
   words = verb_name verb.Run ∷ asked.program ∷ asked.injectors;
 }

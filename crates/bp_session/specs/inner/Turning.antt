@@ -9,7 +9,7 @@ use Rattle.bp_core.specs.declared.stepping.Core.{Core}
 use Rattle.bp_lanes.specs.Lanes.{offered, free_places}
 use Rattle.bp_feeds.specs.declared.feed.Feed.{Feed}
 use Rattle.bp_feeds.specs.Feeds.{is_over}
-use Rattle.bp_inject.specs.Injectors.{feed_of, is_beside}
+use Rattle.bp_inject.specs.Injectors.{feed_of, is_running}
 use Rattle.bp_scope.specs.declared.reading.Reading.{Reading}
 
 -- the run waits for its injectors, and nothing comes of its records until an item does
@@ -20,7 +20,7 @@ pub record IsWaiting (c : Core) : Type 0 where
 module _ {S : Type 0} where
   -- whether the injector has no thread and is not over
   abbrev pub turns_here : Reading S → Bool
-  turns_here r = not (is_beside r.started) && not (is_over (feed_of r.started))
+  turns_here r = not (is_running r.started) && not (is_over (feed_of r.started))
 
   -- The feed made a turn: an item was offered, or a line was passed over, or the last item was
   -- offered, or an item is kept for which there is no place.

@@ -1,7 +1,7 @@
 use Rattle.std.proofs.Common.{◌∙◌, ap, sym, arith}
 use Rattle.bp_log.specs.Options.{PlainOptions}
 use Rattle.js_frames.specs.Places.{plain_ground}
-use Rattle.bp_turns.proofs.Beside.{are_of, are_open, are_whole}
+use Rattle.bp_turns.proofs.Carriers.{are_of, are_open, are_whole}
 use Rattle.bp_turns.proofs.Arbiters.{can_run_here, carried_at}
 use Rattle.arbiter_rows.proofs.Turning.{IsOut, out, back, goes_on}
 use Rattle.arbiter_rows.proofs.floors.turn.Goals as goal

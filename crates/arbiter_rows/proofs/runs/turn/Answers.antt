@@ -1,7 +1,7 @@
 use Rattle.std.proofs.Common.{ap, arith}
 use Rattle.bp_arbiter.specs.Arbiters.{is_lent, options_in}
 use Rattle.js_frames.specs.Places.{plain_ground}
-use Rattle.bp_turns.proofs.Beside.{are_of, are_open, are_whole}
+use Rattle.bp_turns.proofs.Carriers.{are_of, are_open, are_whole}
 use Rattle.bp_turns.proofs.Arbiters.{budget_of, can_run_here, carried_at}
 use Rattle.arbiter_rows.proofs.runs.turn.Goals as goal
 

@@ -8,10 +8,10 @@ use Rattle.bp_inject.specs.Injectors.{feed_of}
 use Rattle.bp_inject.proofs.Joined.{came_back}
 use Rattle.bp_inject.proofs.started.join.Goals as goal
 
-pub returns-in-Beside-clause-back : goal.returns-in-Beside-clause-back
-returns-in-Beside-clause-back g c = λ first f.
+pub returns-in-Running-clause-back : goal.returns-in-Running-clause-back
+returns-in-Running-clause-back g c = λ first f.
     let goes : GoesOn g.S.Source.left g.S.Source.faults (feed_of c.args.started) c.joined-feed.result.0 =
-    subst (λ (s : Feed _). GoesOn g.S.Source.left g.S.Source.faults s c.joined-feed.result.0) (sym (ap feed_of c.in-Beside.is)) c.joined-feed.ensures.on in
+    subst (λ (s : Feed _). GoesOn g.S.Source.left g.S.Source.faults s c.joined-feed.result.0) (sym (ap feed_of c.in-Running.is)) c.joined-feed.ensures.on in
     came_back g.S.Source.left g.S.Source.faults first (feed_of c.args.started) c.joined-feed.result.0 c.closed.result (taken c.closed.new.ear ++ known c.closed.new.ear) _ f goes
     c.closed.ensures.source c.closed.ensures.all c.joined-feed.ensures.over
 

@@ -2,7 +2,7 @@ use Rattle.std.proofs.Common.{arith}
 use Rattle.bp_arbiter.specs.Arbiters.{options_in}
 use Rattle.bp_turns.proofs.Arbiters.{turn_records, budget_of, carried_at, can_run_here}
 use Rattle.js_frames.specs.Places.{plain_ground}
-use Rattle.bp_turns.proofs.Beside.{are_of, are_open, are_whole}
+use Rattle.bp_turns.proofs.Carriers.{are_of, are_open, are_whole}
 use Rattle.bp_turns.proofs.Turned.{turn_settles}
 use Rattle.bp_turns.proofs.settling.turn.Goals as goal
 

@@ -3,7 +3,7 @@ use Rattle.std.proofs.Common.{[], refl, sym, ap, ◌∙◌, subst}
 use Rattle.js_frames.specs.declared.frame.Part.TheVariants.{Choice}
 use Rattle.js_frames.specs.declared.frame.Frame.TheVariants.{Waiting}
 use Rattle.js_frames.specs.Places.{plain_ground, place_of, here}
-use Rattle.js_frames.specs.Fits.{AreNodes, IsShort, IsDeclaration, TurnsFit}
+use Rattle.js_frames.specs.Fits.{AreNodes, IsShort, IsDeclaration, LoopFits}
 use Rattle.js_meaning.specs.Variables.{undeclare}
 use Rattle.js_program.specs.PlainProgram.{parts_of}
 use Rattle.js_program.specs.Views.{plain_node_form}
@@ -125,18 +125,18 @@ pub for_of-requires-clause-body : goal.for_of-requires-clause-body
 for_of-requires-clause-body c = part_is (plain_ground c.args.base.now) (place_of c.args.self.now) c.args.number c.node_of-node.result.now c.node_of-node.ensures.node _ c.in-ForOf.is c.node_of-node.ensures.parts 1 _ refl
 
 pub returns-in-While : goal.returns-in-While
-returns-in-While c = begin_means (plain_ground c.args.base.now) (place_of c.args.self.now) c.args.number c.node_of-node.result.now c.node_of-node.ensures.node _ c.in-While.is _ c.test.result _ c.test.ensures (λ s. ap (λ t. loop (here c.args.base.now c.args.self.now) t s) c.turns.ensures)
+returns-in-While c = begin_means (plain_ground c.args.base.now) (place_of c.args.self.now) c.args.number c.node_of-node.result.now c.node_of-node.ensures.node _ c.in-While.is _ c.test.result _ c.test.ensures (λ s. ap (λ t. loop (here c.args.base.now c.args.self.now) t s) c.cycle.ensures)
 
-pub test-requires-clause-turns : goal.test-requires-clause-turns
-test-requires-clause-turns c = subst (TurnsFit (let p = c.args.base.now in p.program)) (sym c.turns.ensures) (record { test = part_is (plain_ground c.args.base.now) (place_of c.args.self.now) c.args.number c.node_of-node.result.now c.node_of-node.ensures.node _ c.in-While.is c.node_of-node.ensures.parts 0 _ refl; body = part_is (plain_ground c.args.base.now) (place_of c.args.self.now) c.args.number c.node_of-node.result.now c.node_of-node.ensures.node _ c.in-While.is c.node_of-node.ensures.parts 1 _ refl; next = tt })
+pub test-requires-clause-cycle : goal.test-requires-clause-cycle
+test-requires-clause-cycle c = subst (LoopFits (let p = c.args.base.now in p.program)) (sym c.cycle.ensures) (record { test = part_is (plain_ground c.args.base.now) (place_of c.args.self.now) c.args.number c.node_of-node.result.now c.node_of-node.ensures.node _ c.in-While.is c.node_of-node.ensures.parts 0 _ refl; body = part_is (plain_ground c.args.base.now) (place_of c.args.self.now) c.args.number c.node_of-node.result.now c.node_of-node.ensures.node _ c.in-While.is c.node_of-node.ensures.parts 1 _ refl; next = tt })
 
 pub returns-in-ForThree : goal.returns-in-ForThree
-returns-in-ForThree c = begin_means (plain_ground c.args.base.now) (place_of c.args.self.now) c.args.number c.node_of-node.result.now c.node_of-node.ensures.node _ c.in-ForThree.is _ c.start_loop.result _ c.start_loop.ensures (λ s. ap (λ ks. starts_loop (here c.args.base.now c.args.self.now) ks c.in-ForThree.first c.turns-in-ForThree.result s) c.deref-in-ForThree.ensures.value ∙ ap (λ t. starts_loop (here c.args.base.now c.args.self.now) (let v = c.in-ForThree.slots in v.items) c.in-ForThree.first t s) c.turns-in-ForThree.ensures)
+returns-in-ForThree c = begin_means (plain_ground c.args.base.now) (place_of c.args.self.now) c.args.number c.node_of-node.result.now c.node_of-node.ensures.node _ c.in-ForThree.is _ c.start_loop.result _ c.start_loop.ensures (λ s. ap (λ ks. starts_loop (here c.args.base.now c.args.self.now) ks c.in-ForThree.first c.cycle-in-ForThree.result s) c.deref-in-ForThree.ensures.value ∙ ap (λ t. starts_loop (here c.args.base.now c.args.self.now) (let v = c.in-ForThree.slots in v.items) c.in-ForThree.first t s) c.cycle-in-ForThree.ensures)
 
 pub start_loop-requires-clause-first : goal.start_loop-requires-clause-first
 start_loop-requires-clause-first c = (for_parts (let p = c.args.base.now in p.program) c.in-ForThree.first c.in-ForThree.test c.in-ForThree.next c.in-ForThree.body (subst (λ f. AreNodes (let p = c.args.base.now in p.program) (parts_of (plain_node_form f))) c.in-ForThree.is c.node_of-node.ensures.parts)).0
 
-pub start_loop-requires-clause-turns : goal.start_loop-requires-clause-turns
-start_loop-requires-clause-turns c =
+pub start_loop-requires-clause-cycle : goal.start_loop-requires-clause-cycle
+start_loop-requires-clause-cycle c =
     let h = for_parts (let p = c.args.base.now in p.program) c.in-ForThree.first c.in-ForThree.test c.in-ForThree.next c.in-ForThree.body (subst (λ f. AreNodes (let p = c.args.base.now in p.program) (parts_of (plain_node_form f))) c.in-ForThree.is c.node_of-node.ensures.parts) in
-    subst (TurnsFit (let p = c.args.base.now in p.program)) (sym c.turns-in-ForThree.ensures) (record { test = h.1; next = h.2; body = h.3 })
+    subst (LoopFits (let p = c.args.base.now in p.program)) (sym c.cycle-in-ForThree.ensures) (record { test = h.1; next = h.2; body = h.3 })

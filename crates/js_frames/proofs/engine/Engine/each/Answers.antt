@@ -2,11 +2,11 @@ use Rattle.std.proofs.Common.{Some, refl, sym, ap, ◌∙◌, ◌+◌, arith}
 use Rattle.js_value.specs.Views.{plain_value}
 use Rattle.js_meaning.specs.Statements.{after_turn}
 use Rattle.js_meaning.specs.Meaning.{eval}
-use Rattle.js_frames.specs.declared.frame.Turn.TheVariants.{OfItems}
+use Rattle.js_frames.specs.declared.frame.Iteration.TheVariants.{OfItems}
 use Rattle.js_frames.specs.Places.{plain_ground, place_of, here, state_at}
 use Rattle.js_frames.specs.Frames.{again, resume}
 use Rattle.js_frames.proofs.Steps.{left, moves_ok, wait_leads}
-use Rattle.js_frames.proofs.Turning.{next_item, no_item}
+use Rattle.js_frames.proofs.Iterating.{next_item, no_item}
 use Rattle.js_frames.proofs.engine.Engine.each.Goals as goal
 
 pub returns-in_default : goal.returns-in_default

@@ -37,15 +37,15 @@ returns-in-Statements c = part_means (plain_ground c.args.base.now) (place_of c.
 
 pub returns-in-Started : goal.returns-in-Started
 unfolding rest
-returns-in-Started c = part_means (plain_ground c.args.base.now) (place_of c.args.self.now) c.args.part (part.Started c.in-Started.turns) (plain_value c.args.value) c.in-Started.is (place_of c.test.new.self) c.test.result _ c.test.ensures (λ s. refl)
+returns-in-Started c = part_means (plain_ground c.args.base.now) (place_of c.args.self.now) c.args.part (part.Started c.in-Started.cycle) (plain_value c.args.value) c.in-Started.is (place_of c.test.new.self) c.test.result _ c.test.ensures (λ s. refl)
 
 pub returns-in-Tested : goal.returns-in-Tested
 unfolding rest
-returns-in-Tested c = part_means (plain_ground c.args.base.now) (place_of c.args.self.now) c.args.part (part.Tested c.in-Tested.turns) (plain_value c.args.value) c.in-Tested.is (place_of c.tested.new.self) c.tested.result _ c.tested.ensures (λ s. refl)
+returns-in-Tested c = part_means (plain_ground c.args.base.now) (place_of c.args.self.now) c.args.part (part.Tested c.in-Tested.cycle) (plain_value c.args.value) c.in-Tested.is (place_of c.tested.new.self) c.tested.result _ c.tested.ensures (λ s. refl)
 
 pub returns-in-Between : goal.returns-in-Between
 unfolding rest
-returns-in-Between c = part_means (plain_ground c.args.base.now) (place_of c.args.self.now) c.args.part (part.Between c.in-Between.turns) (plain_value c.args.value) c.in-Between.is (place_of c.test-in-Between.new.self) c.test-in-Between.result _ c.test-in-Between.ensures (λ s. refl)
+returns-in-Between c = part_means (plain_ground c.args.base.now) (place_of c.args.self.now) c.args.part (part.Between c.in-Between.cycle) (plain_value c.args.value) c.in-Between.is (place_of c.test-in-Between.new.self) c.test-in-Between.result _ c.test-in-Between.ensures (λ s. refl)
 
 pub returns-in-Listed : goal.returns-in-Listed
 unfolding rest

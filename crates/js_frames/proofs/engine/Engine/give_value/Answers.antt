@@ -24,11 +24,11 @@ returns-in-Statements c = part_means (plain_ground c.args.base.now) (place_of c.
 
 pub returns-in-Tested : goal.returns-in-Tested
 unfolding rest
-returns-in-Tested c = part_means (plain_ground c.args.base.now) (place_of c.args.self.now) c.args.part (part.Tested c.in-Tested.turns) (plain_value c.args.value) c.in-Tested.is (place_of c.tested.new.self) c.tested.result _ c.tested.ensures (λ s. refl)
+returns-in-Tested c = part_means (plain_ground c.args.base.now) (place_of c.args.self.now) c.args.part (part.Tested c.in-Tested.cycle) (plain_value c.args.value) c.in-Tested.is (place_of c.tested.new.self) c.tested.result _ c.tested.ensures (λ s. refl)
 
 pub returns-in-Between : goal.returns-in-Between
 unfolding rest
-returns-in-Between c = part_means (plain_ground c.args.base.now) (place_of c.args.self.now) c.args.part (part.Between c.in-Between.turns) (plain_value c.args.value) c.in-Between.is (place_of c.test.new.self) c.test.result _ c.test.ensures (λ s. refl)
+returns-in-Between c = part_means (plain_ground c.args.base.now) (place_of c.args.self.now) c.args.part (part.Between c.in-Between.cycle) (plain_value c.args.value) c.in-Between.is (place_of c.test.new.self) c.test.result _ c.test.ensures (λ s. refl)
 
 pub returns-in-Dropped : goal.returns-in-Dropped
 unfolding rest

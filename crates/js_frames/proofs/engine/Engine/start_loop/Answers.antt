@@ -6,7 +6,7 @@ use Rattle.js_frames.specs.Places.{plain_ground, place_of, here, state_at}
 use Rattle.js_frames.specs.Fits.{IsPerhapsNode}
 use Rattle.js_frames.specs.Frames.{rest, resume, loop}
 use Rattle.js_frames.proofs.Steps.{wait_leads, moves_ok}
-use Rattle.js_frames.proofs.Turning.{state_undeclared, start_absent, start_there}
+use Rattle.js_frames.proofs.Iterating.{state_undeclared, start_absent, start_there}
 use Rattle.js_frames.proofs.engine.Engine.start_loop.Goals as goal
 
 pub returns-in-None : goal.returns-in-None
@@ -14,7 +14,7 @@ returns-in-None c =
     let g = here c.args.base.now c.args.self.now in
     let old = place_of c.args.self.now in
     moves_ok (plain_ground c.args.base.now) old (record old { slots = c.undeclare.new.self }) _ _ _ c.test.result refl refl refl refl
-    (λ b. ap (loop g c.args.turns) (state_undeclared old c.undeclare.new.self c.args.slots.now b c.undeclare.ensures) ∙ start_absent g c.args.slots.now c.args.first c.args.turns (state_at old b) c.in-None.is)
+    (λ b. ap (loop g c.args.cycle) (state_undeclared old c.undeclare.new.self c.args.slots.now b c.undeclare.ensures) ∙ start_absent g c.args.slots.now c.args.first c.args.cycle (state_at old b) c.in-None.is)
     c.test.ensures
 
 pub returns-in-Some : goal.returns-in-Some
@@ -23,6 +23,6 @@ returns-in-Some c =
     let g = here c.args.base.now c.args.self.now in
     let old = place_of c.args.self.now in
     let mid = record old { slots = c.undeclare.new.self } in
-    moves_ok (plain_ground c.args.base.now) old mid _ _ (λ s. eval g c.in-Some.part s >>= rest g (Started c.args.turns)) c.wait.result refl refl refl refl
-    (λ b. ap (λ s. eval g c.in-Some.part s >>= rest g (Started c.args.turns)) (state_undeclared old c.undeclare.new.self c.args.slots.now b c.undeclare.ensures) ∙ start_there g c.args.slots.now c.args.first c.args.turns (state_at old b) c.in-Some.part c.in-Some.is)
-    (wait_leads (plain_ground c.args.base.now) mid _ _ c.wait.result _ _ c.requires.fits c.wait.ensures c.requires.turns (subst (IsPerhapsNode (let p = c.args.base.now in p.program)) c.in-Some.is c.requires.first) (λ s. refl))
+    moves_ok (plain_ground c.args.base.now) old mid _ _ (λ s. eval g c.in-Some.part s >>= rest g (Started c.args.cycle)) c.wait.result refl refl refl refl
+    (λ b. ap (λ s. eval g c.in-Some.part s >>= rest g (Started c.args.cycle)) (state_undeclared old c.undeclare.new.self c.args.slots.now b c.undeclare.ensures) ∙ start_there g c.args.slots.now c.args.first c.args.cycle (state_at old b) c.in-Some.part c.in-Some.is)
+    (wait_leads (plain_ground c.args.base.now) mid _ _ c.wait.result _ _ c.requires.fits c.wait.ensures c.requires.cycle (subst (IsPerhapsNode (let p = c.args.base.now in p.program)) c.in-Some.is c.requires.first) (λ s. refl))

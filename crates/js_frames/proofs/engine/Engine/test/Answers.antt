@@ -3,14 +3,14 @@ use Rattle.js_frames.specs.Places.{plain_ground, here}
 use Rattle.js_frames.specs.Fits.{IsPerhapsNode}
 use Rattle.js_frames.specs.Frames.{resume}
 use Rattle.js_frames.proofs.Steps.{wait_leads, means_ok}
-use Rattle.js_frames.proofs.Turning.{loop_without_test, loop_with_test}
+use Rattle.js_frames.proofs.Iterating.{loop_without_test, loop_with_test}
 use Rattle.js_frames.proofs.engine.Engine.test.Goals as goal
 
 pub returns-in-None : goal.returns-in-None
-returns-in-None c = means_ok (plain_ground c.args.base.now) _ _ _ _ c.turn.result c.turn.ensures (λ s. loop_without_test (here c.args.base.now c.args.self.now) c.args.turns s c.in-None.is)
+returns-in-None c = means_ok (plain_ground c.args.base.now) _ _ _ _ c.iteration.result c.iteration.ensures (λ s. loop_without_test (here c.args.base.now c.args.self.now) c.args.cycle s c.in-None.is)
 
 pub returns-in-Some : goal.returns-in-Some
 unfolding resume
 returns-in-Some c =
-    let t = c.requires.turns in
-    wait_leads (plain_ground c.args.base.now) _ _ _ c.wait.result _ _ c.requires.fits c.wait.ensures t (subst (IsPerhapsNode (let b = c.args.base.now in b.program)) c.in-Some.is t.test) (λ s. loop_with_test (here c.args.base.now c.args.self.now) c.args.turns s c.in-Some.part c.in-Some.is)
+    let t = c.requires.cycle in
+    wait_leads (plain_ground c.args.base.now) _ _ _ c.wait.result _ _ c.requires.fits c.wait.ensures t (subst (IsPerhapsNode (let b = c.args.base.now in b.program)) c.in-Some.is t.test) (λ s. loop_with_test (here c.args.base.now c.args.self.now) c.args.cycle s c.in-Some.part c.in-Some.is)

@@ -1,6 +1,6 @@
 use Rattle.std.proofs.Common.{◌≡◌}
 use Rattle.rtrb.specs.Ring.{received, SameConsumer}
-use Rattle.bp_inject.proofs.beside.take_and_turn.Given as goal
+use Rattle.bp_inject.proofs.running.take_and_turn.Given as goal
 
 abbrev pub invariant-loop : goal.invariant-loop
 invariant-loop g l = record {

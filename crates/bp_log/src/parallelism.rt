@@ -1,6 +1,6 @@
 //! What is asked of the machine that runs, and shows in no output.
 ghost use Rattle.std.specs.Prelude.{◌≡◌, SomeIff};
-ghost use Rattle.bp_log.specs.Beside.{PlainBeside, AreBeside, default_beside};
+ghost use Rattle.bp_log.specs.Parallelism.{PlainParallelism, IsParallelism, default_parallelism};
 
 use crate::limits::{MOST_SLICE, MOST_WORKERS};
 use std::alloc::AllocError;
@@ -9,56 +9,56 @@ use std::marker::Model;
 /// How many workers run the b-threads, and how many nodes a slice of work begins.
 ///
 /// Its type keeps that there are 1 to 64 workers, and that a slice is 1 to 1,000,000,000 nodes.
-pub struct Beside {
+pub struct Parallelism {
     workers: u32,
     slice: u64,
 }
 
-impl Model for Beside {
-    ghost use Rattle.bp_log.specs.Beside.{PlainBeside, AreBeside};
+impl Model for Parallelism {
+    ghost use Rattle.bp_log.specs.Parallelism.{PlainParallelism, IsParallelism};
 
-    ghost Value = { PlainBeside };
+    ghost Value = { PlainParallelism };
 
     ghost view = { λ b. record { workers = b.workers; slice = b.slice } };
 
-    ghost invariant = { λ b. AreBeside (record { workers = b.workers; slice = b.slice }) };
+    ghost invariant = { λ b. IsParallelism (record { workers = b.workers; slice = b.slice }) };
 
     ghost inverse = { λ p. record { workers = p.workers; slice = p.slice } };
 }
 
-impl Clone for Beside {
+impl Clone for Parallelism {
     ghost use Rattle.std.specs.Prelude.{◌≡◌, ⊤};
 
     ghost is_clone = { λ a b. b ≡ a };
 
     ghost is_infallible = { λ _. ⊤ };
 
-    fn clone(&self) -> Result<Beside, AllocError> {
+    fn clone(&self) -> Result<Parallelism, AllocError> {
         Ok(*self)
     }
 }
 
-impl Copy for Beside {}
+impl Copy for Parallelism {}
 
-impl Beside {
+impl Parallelism {
     /// These numbers, or `None` exactly where one is out of its range.
-    pub fn new(workers: u32, slice: u64) -> Option<Beside>
-        ensures { let plain : PlainBeside = record { workers = workers; slice = slice } in
-            SomeIff result (AreBeside plain) plain }
+    pub fn new(workers: u32, slice: u64) -> Option<Parallelism>
+        ensures { let plain : PlainParallelism = record { workers = workers; slice = slice } in
+            SomeIff result (IsParallelism plain) plain }
     {
         let workers_fit = 1 <= workers && workers <= MOST_WORKERS;
         let slice_fits = 1 <= slice && slice <= MOST_SLICE;
         if !workers_fit || !slice_fits {
             return None;
         }
-        Some(Beside { workers, slice })
+        Some(Parallelism { workers, slice })
     }
 
     /// Four workers, and slices of 10,000 nodes.
-    pub fn defaults() -> Beside
-        ensures { result ≡ default_beside }
+    pub fn defaults() -> Parallelism
+        ensures { result ≡ default_parallelism }
     {
-        Beside {
+        Parallelism {
             workers: 4,
             slice: 10_000,
         }
@@ -67,7 +67,7 @@ impl Beside {
     /// How many workers there are.
     pub fn workers(&self) -> u32
         ensures workers { result ≡ self.now.workers }
-        ensures within { AreBeside self.now }
+        ensures within { IsParallelism self.now }
     {
         self.workers
     }
@@ -75,7 +75,7 @@ impl Beside {
     /// How many nodes a slice begins.
     pub fn slice(&self) -> u64
         ensures slice { result ≡ self.now.slice }
-        ensures within { AreBeside self.now }
+        ensures within { IsParallelism self.now }
     {
         self.slice
     }

@@ -2,17 +2,17 @@
 use Rattle.std.specs.Prelude.{ℕ, ◌≤◌}
 use Rattle.bp_log.specs.declared.limits.TheConstants.{MOST_WORKERS, MOST_SLICE}
 
-pub record PlainBeside : Type 0 where
+pub record PlainParallelism : Type 0 where
   pub workers : ℕ
   pub slice : ℕ
 
 -- the numbers are in their ranges
-pub record AreBeside (b : PlainBeside) : Type 0 where
+pub record IsParallelism (b : PlainParallelism) : Type 0 where
   pub some_workers : 1 ≤ b.workers
   pub workers : b.workers ≤ MOST_WORKERS
   pub some_slice : 1 ≤ b.slice
   pub slice : b.slice ≤ MOST_SLICE
 
 -- where nothing is said
-abbrev pub default_beside : PlainBeside
-default_beside = record { workers = 4; slice = 10_000 }
+abbrev pub default_parallelism : PlainParallelism
+default_parallelism = record { workers = 4; slice = 10_000 }

@@ -12,9 +12,9 @@ use Rattle.js_meaning.specs.Variables.{undeclare, set_slot}
 use Rattle.js_meaning.specs.Statements.{after_turn, perhaps, one_turn, each, each_of}
 use Rattle.js_meaning.specs.Meaning.{eval, turns_of}
 use Rattle.js_meaning.proofs.Bound.{turns_again}
-use Rattle.js_frames.specs.declared.frame.Turns.{Turns}
+use Rattle.js_frames.specs.declared.frame.Loop.{Loop}
 use Rattle.js_frames.specs.declared.frame.Part.TheVariants.{Started, Tested, Between}
-use Rattle.js_frames.specs.declared.frame.Turn.TheVariants.{OfLoop}
+use Rattle.js_frames.specs.declared.frame.Iteration.TheVariants.{OfLoop}
 use Rattle.js_frames.specs.Places.{Place, Beside, state_at}
 use Rattle.js_frames.specs.Frames.{rest, again, loop, starts_loop, items_from}
 use Rattle.js_frames.proofs.Lists.{drop_at, drop_past, undeclared_slots}
@@ -23,7 +23,7 @@ use Rattle.js_frames.proofs.Lists.{drop_at, drop_past, undeclared_slots}
 pub state_undeclared : (old : Place) (slots : List (Option PlainValue)) (ks : List ℕ) (b : Beside) → slots ≡ fold (λ ss k. slice_set ss k None) old.slots ks → state_at (record old { slots = slots }) b ≡ undeclare ks (state_at old b)
 state_undeclared old slots ks b e = ap (λ ss. record (state_at old b) { slots = ss }) e ∙ sym (undeclared_slots ks (state_at old b))
 
-module _ (g : Setting) (t : Turns) (s : State) where
+module _ (g : Setting) (t : Loop) (s : State) where
   pub loop_without_test : t.test ≡ None → after_turn (eval g t.body s) (again g (OfLoop t)) ≡ loop g t s
   unfolding again
   loop_without_test e =
@@ -42,10 +42,10 @@ module _ (g : Setting) (t : Turns) (s : State) where
   unfolding rest again
   next_there n e = ap (λ q. perhaps (eval g) q s >>= λ _. loop g t) (sym e)
 
-pub start_absent : (g : Setting) (slots : List ℕ) (first : Option ℕ) (t : Turns) (s : State) → first ≡ None → loop g t (undeclare slots s) ≡ starts_loop g slots first t s
+pub start_absent : (g : Setting) (slots : List ℕ) (first : Option ℕ) (t : Loop) (s : State) → first ≡ None → loop g t (undeclare slots s) ≡ starts_loop g slots first t s
 start_absent g slots first t s e = ap (λ q. perhaps (eval g) q (undeclare slots s) >>= λ _. loop g t) (sym e)
 
-pub start_there : (g : Setting) (slots : List ℕ) (first : Option ℕ) (t : Turns) (s : State) (n : ℕ) → first ≡ Some n → (eval g n (undeclare slots s) >>= rest g (Started t)) ≡ starts_loop g slots first t s
+pub start_there : (g : Setting) (slots : List ℕ) (first : Option ℕ) (t : Loop) (s : State) (n : ℕ) → first ≡ Some n → (eval g n (undeclare slots s) >>= rest g (Started t)) ≡ starts_loop g slots first t s
 unfolding rest
 start_there g slots first t s n e = ap (λ q. perhaps (eval g) q (undeclare slots s) >>= λ _. loop g t) (sym e)
 
