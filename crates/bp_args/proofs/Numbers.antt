@@ -5,7 +5,7 @@ use Rattle.std.specs.Str.{all_ascii_digits}
 use Rattle.std.specs.Str.Parse.{ParsesUnsigned}
 use Rattle.std.proofs.lemmas.Bool.{and_parts, le-leb, leb-true, lt-ltb, ltb-true, false_from_ne_true}
 use Rattle.bp_reading.specs.Words.{value_on}
-use Rattle.bp_lines.proofs.Decimals.{parsed, parses}
+use Rattle.bp_reader.proofs.Decimals.{parsed, parses}
 use Rattle.bp_args.specs.declared.said.TheConstants.{MOST_DIGITS}
 use Rattle.bp_args.specs.Said.{number_word}
 

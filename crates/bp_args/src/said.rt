@@ -6,7 +6,7 @@ ghost use Rattle.bp_reading.specs.Words.{most_32};
 
 use crate::command::Usage;
 use crate::verb::Verb;
-use bp_lines::behind_word;
+use bp_reader::behind_word;
 use bp_log::options::wait_of_word;
 use bp_log::{Memory, Strategy};
 use bp_matches::{DASHES, Key, Words};

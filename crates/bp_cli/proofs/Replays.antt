@@ -5,8 +5,8 @@ use Rattle.bp_base.specs.Worlds.{Holdings, Opens}
 use Rattle.bp_base.specs.Pieces.{Appends, AppendsFront}
 use Rattle.bp_log.specs.declared.verdict.Verdict.{Verdict}
 use Rattle.bp_reader.specs.declared.fault.LogFault.TheVariants as log_fault
-use Rattle.bp_follow.specs.declared.fault.ReplayFault.{ReplayFault}
-use Rattle.bp_follow.specs.Courses.{text_in}
+use Rattle.bp_replay.specs.declared.fault.ReplayFault.{ReplayFault}
+use Rattle.bp_replay.specs.Courses.{text_in}
 use Rattle.bp_replay.specs.Replays as replays
 use Rattle.bp_cli.specs.declared.conclusion.Conclusion.{Conclusion}
 use Rattle.bp_cli.specs.declared.conclusion.Conclusion.TheVariants.{NoMemory}

@@ -1,7 +1,7 @@
 -- Logs that are migrated.
 use Rattle.std.specs.Prelude.{◌≡◌, ℕ, List, Option, Result, Ok, Err, IfSome, IsSomeAnd, unwrap_or}
-use Rattle.bp_follow.specs.declared.fault.ReplayFault.{ReplayFault}
-use Rattle.bp_follow.specs.declared.fault.ReplayFault.TheVariants as replay
+use Rattle.bp_replay.specs.declared.fault.ReplayFault.{ReplayFault}
+use Rattle.bp_replay.specs.declared.fault.ReplayFault.TheVariants as replay
 use Rattle.bp_migrate.specs.declared.fault.MigrateFault.{MigrateFault}
 use Rattle.bp_migrate.specs.declared.fault.MigrateFault.TheVariants.{Log, Write, Memory}
 use Rattle.bp_migrate.specs.Laws.{IsSomeLog}

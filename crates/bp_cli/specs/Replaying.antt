@@ -3,8 +3,8 @@ use Rattle.std.specs.Prelude.{◌≡◌, ℕ, List, ◌++◌, decimal, codes, Op
 use Rattle.bp_log.specs.declared.verdict.Verdict.{Verdict}
 use Rattle.bp_reader.specs.declared.fault.LogFault.{LogFault}
 use Rattle.bp_reader.specs.declared.fault.LogFault.TheVariants as log
-use Rattle.bp_follow.specs.declared.fault.ReplayFault.{ReplayFault}
-use Rattle.bp_follow.specs.declared.fault.ReplayFault.TheVariants.{Log, Differs, Program, Write, Memory}
+use Rattle.bp_replay.specs.declared.fault.ReplayFault.{ReplayFault}
+use Rattle.bp_replay.specs.declared.fault.ReplayFault.TheVariants.{Log, Differs, Program, Write, Memory}
 use Rattle.bp_replay.specs.Replays as replays
 use Rattle.bp_notes.specs.Notes.{differing}
 use Rattle.bp_cli.specs.declared.conclusion.Conclusion.{Conclusion}

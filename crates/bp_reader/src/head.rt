@@ -9,7 +9,7 @@ ghost use Rattle.bp_reader.specs.Gets.{Gets};
 use crate::LogFault;
 use crate::input::{Input, Taken};
 use bp_base::Source;
-use bp_lines::{behind_word, number_of};
+use crate::{behind_word, number_of};
 use bp_log::limits::{MOST_BUDGET, MOST_BYTES, MOST_INJECTORS, MOST_STEPS};
 use bp_log::options::wait_of_word;
 use bp_log::{Header, Options, Strategy, Version};

@@ -2,3 +2,8 @@ pub mod Whole
 pub mod WholeLogs
 pub mod RunLogs
 pub mod OneEnding
+pub mod Tales
+pub mod Steps
+pub mod Shows
+pub mod Loop
+pub mod Opened

@@ -24,10 +24,10 @@ use Rattle.bp_run.specs.Story.{story}
 use Rattle.bp_code.specs.Code.{sealed_code_of as code_of}
 use Rattle.bp_script.specs.Programs.{IsProgram, IsRefused}
 use Rattle.bp_script.proofs.Once.{never, one_program}
-use Rattle.bp_follow.specs.declared.fault.ReplayFault.{ReplayFault}
-use Rattle.bp_follow.specs.declared.fault.ReplayFault.TheVariants.{Log, Differs, Program, Write, Memory}
-use Rattle.bp_follow.specs.Courses.{Course, code_in, led, text_in, IsTold}
-use Rattle.bp_follow.specs.Endings.{EndsAt}
+use Rattle.bp_replay.specs.declared.fault.ReplayFault.{ReplayFault}
+use Rattle.bp_replay.specs.declared.fault.ReplayFault.TheVariants.{Log, Differs, Program, Write, Memory}
+use Rattle.bp_replay.specs.Courses.{Course, code_in, led, text_in, IsTold}
+use Rattle.bp_replay.specs.Endings.{EndsAt}
 use Rattle.bp_replay.specs.Replays.{Prints, Replays, HasNoRun, HasRefusedProgram}
 use Rattle.bp_replay.specs.Laws.{IsTrouble, PrintOne, OneEnding}
 use Rattle.bp_replay.proofs.WholeLogs.{same_record, same_rest, next_leads, one_ok, read_ok}

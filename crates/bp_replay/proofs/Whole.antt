@@ -13,13 +13,13 @@ use Rattle.bp_reader.specs.declared.fault.LogFault.{LogFault}
 use Rattle.bp_reader.specs.declared.fault.LogFault.TheVariants as log
 use Rattle.bp_script.specs.Programs.{IsProgram}
 use Rattle.bp_told.proofs.Pieces.{written_all, written_front, written_part, written_front_part}
-use Rattle.bp_follow.specs.declared.fault.ReplayFault.{ReplayFault}
-use Rattle.bp_follow.specs.declared.fault.ReplayFault.TheVariants as fault
-use Rattle.bp_follow.specs.Courses.{text_in}
-use Rattle.bp_follow.specs.Endings.{EndsAt}
-use Rattle.bp_follow.specs.Faults.{fault_of_log}
+use Rattle.bp_replay.specs.declared.fault.ReplayFault.{ReplayFault}
+use Rattle.bp_replay.specs.declared.fault.ReplayFault.TheVariants as fault
+use Rattle.bp_replay.specs.Courses.{text_in}
+use Rattle.bp_replay.specs.Endings.{EndsAt}
+use Rattle.bp_replay.specs.Faults.{fault_of_log}
 use Rattle.bp_replay.specs.Replays.{Prints, HasNoRun, IsReplay, ReplaysTaken}
-use Rattle.bp_follow.specs.Following.{first_course, Shown, Tells, TellsTaken}
+use Rattle.bp_replay.specs.Following.{first_course, Shown, Tells, TellsTaken}
 use Rattle.bp_replay.specs.inner.Behind.{HasNoProgram, EndsBehind, TakenBehind}
 
 -- ---- the page is written

@@ -28,10 +28,10 @@ use Rattle.bp_code.specs.Code.{sealed_code_of as code_of}
 use Rattle.bp_code.specs.Code.{text_of}
 use Rattle.bp_script.specs.Programs.{IsProgram, IsRefused}
 use Rattle.bp_script.proofs.Once.{never, one_program}
-use Rattle.bp_follow.specs.declared.fault.ReplayFault.{ReplayFault}
-use Rattle.bp_follow.specs.declared.fault.ReplayFault.TheVariants.{Log, Differs, Program, Write, Memory}
-use Rattle.bp_follow.specs.Courses.{Course, code_in, led, text_in}
-use Rattle.bp_follow.specs.Endings.{Parts, EndsAt}
+use Rattle.bp_replay.specs.declared.fault.ReplayFault.{ReplayFault}
+use Rattle.bp_replay.specs.declared.fault.ReplayFault.TheVariants.{Log, Differs, Program, Write, Memory}
+use Rattle.bp_replay.specs.Courses.{Course, code_in, led, text_in}
+use Rattle.bp_replay.specs.Endings.{Parts, EndsAt}
 use Rattle.bp_replay.specs.Replays.{Prints, Replays, HasNoRun, IsReplay}
 use Rattle.bp_replay.specs.Laws.{IsTrouble, IsLogOf, TellsAll, ReplaysTellTheRun}
 

@@ -1,3 +1,7 @@
 pub mod Replays
 pub mod Laws
 pub mod inner
+pub mod Faults
+pub mod Courses
+pub mod Endings
+pub mod Following

@@ -8,7 +8,7 @@ ghost use Rattle.bp_replay.specs.Replays.{IsReplay, ReplaysTaken};
 ghost use Rattle.bp_replay.specs.inner.Behind.{EndsBehind, TakenBehind};
 
 use bp_base::{Sink, Source};
-use bp_follow::{ReplayFault, replay_onto};
+use crate::{ReplayFault, replay_onto};
 use bp_log::{Header, Verdict};
 use bp_reader::Reader;
 use bp_script::{ScriptFault, accept};

@@ -6,10 +6,10 @@ use Rattle.bp_log.specs.declared.verdict.Verdict.{Verdict}
 use Rattle.bp_reading.specs.Reading.{Stage}
 use Rattle.bp_script.specs.declared.refusal.Refusal.{Refusal}
 use Rattle.bp_script.specs.Programs.{IsProgram, IsRefused}
-use Rattle.bp_follow.specs.declared.fault.ReplayFault.{ReplayFault}
-use Rattle.bp_follow.specs.declared.fault.ReplayFault.TheVariants.{Log, Differs, Program, Write, Memory}
-use Rattle.bp_follow.specs.Courses.{Course, Follows, text_in}
-use Rattle.bp_follow.specs.Endings.{EndsAt, IsAtItsEnd}
+use Rattle.bp_replay.specs.declared.fault.ReplayFault.{ReplayFault}
+use Rattle.bp_replay.specs.declared.fault.ReplayFault.TheVariants.{Log, Differs, Program, Write, Memory}
+use Rattle.bp_replay.specs.Courses.{Course, Follows, text_in}
+use Rattle.bp_replay.specs.Endings.{EndsAt, IsAtItsEnd}
 use Rattle.bp_replay.specs.Replays.{Prints}
 
 -- with the program refused, or with memory wanting before a record was read

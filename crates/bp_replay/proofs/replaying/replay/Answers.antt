@@ -1,8 +1,8 @@
 use Rattle.std.proofs.Common.{◌≡◌, ◌∙◌, sym, subst, rules, Option, List, ℕ}
 use Rattle.bp_reader.specs.Fed.{Between}
 use Rattle.bp_reader.specs.declared.fault.LogFault.TheVariants as log
-use Rattle.bp_follow.specs.declared.fault.ReplayFault.TheVariants as fault
-use Rattle.bp_follow.specs.Faults.{fault_of_log}
+use Rattle.bp_replay.specs.declared.fault.ReplayFault.TheVariants as fault
+use Rattle.bp_replay.specs.Faults.{fault_of_log}
 use Rattle.bp_replay.specs.Replays.{ReplaysTaken}
 use Rattle.bp_replay.proofs.Whole.{taken_whole, taken_headless, is_read}
 use Rattle.bp_replay.proofs.replaying.replay.Goals as goal

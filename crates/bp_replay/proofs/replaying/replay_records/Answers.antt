@@ -4,8 +4,8 @@ use Rattle.std.proofs.lemmas.Result.{err_from_is_err_and}
 use Rattle.bp_log.specs.Options.{PlainOptions}
 use Rattle.bp_reader.specs.Fed.{Between}
 use Rattle.bp_script.specs.Programs.{IsProgram}
-use Rattle.bp_follow.specs.declared.fault.ReplayFault.{ReplayFault}
-use Rattle.bp_follow.specs.Following.{first_course, Tells, TellsTaken}
+use Rattle.bp_replay.specs.declared.fault.ReplayFault.{ReplayFault}
+use Rattle.bp_replay.specs.Following.{first_course, Tells, TellsTaken}
 use Rattle.bp_replay.specs.inner.Behind.{EndsBehind}
 use Rattle.bp_replay.proofs.Whole.{ends_written, ends_unwritten, taken_written}
 use Rattle.bp_replay.proofs.replaying.replay_records.Goals as goal

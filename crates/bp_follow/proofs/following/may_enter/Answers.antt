@@ -1,5 +1,0 @@
-use Rattle.bp_follow.proofs.Steps.{enters_same}
-use Rattle.bp_follow.proofs.following.may_enter.Goals as goal
-
-pub returns-in-In-clause-same : goal.returns-in-In-clause-same
-returns-in-In-clause-same c = λ d t. enters_same d c.args.arbiter.now c.args.found.now t c.requires.rest c.floor.ensures.shows

@@ -1,4 +1,0 @@
-pub mod Faults
-pub mod Courses
-pub mod Endings
-pub mod Following
