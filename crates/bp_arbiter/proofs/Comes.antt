@@ -9,7 +9,7 @@ use Rattle.bp_log.specs.declared.record.Record.{Record}
 use Rattle.bp_log.specs.declared.record.Record.TheVariants.{Sel, End}
 use Rattle.bp_log.specs.declared.verdict.Verdict.{Verdict}
 use Rattle.bp_log.specs.declared.verdict.Verdict.TheVariants as verdict
-use Rattle.bp_words.specs.Words.{draw_word}
+use Rattle.bp_draw.specs.Words.{draw_word}
 use Rattle.bp_run.specs.Bodies as bodies
 use Rattle.bp_run.specs.Bodies.{SetFault}
 use Rattle.bp_run.specs.Configuration.{Stand}

@@ -6,7 +6,7 @@ use Rattle.js_meaning.specs.State.{Ground}
 use Rattle.js_meaning.specs.Bodies.{Origin, the_top, function, bare, ground_of}
 use Rattle.bp_log.specs.Options.{PlainOptions}
 use Rattle.bp_log.specs.declared.record.Record.{Record}
-use Rattle.bp_words.specs.Words.{draw_word}
+use Rattle.bp_draw.specs.Words.{draw_word}
 use Rattle.bp_run.specs.Bodies.{Code}
 use Rattle.bp_run.specs.Story.{alone}
 use Rattle.bp_run.specs.Text.{text}

@@ -9,7 +9,7 @@ ghost use Rattle.bp_log.specs.declared.record.Record.{Record};
 ghost use Rattle.bp_log.specs.declared.record.Record.TheVariants as recorded;
 ghost use Rattle.bp_log.specs.declared.verdict.Verdict.{Verdict};
 ghost use Rattle.bp_log.specs.declared.verdict.Verdict.TheVariants.{Quiet};
-ghost use Rattle.bp_words.specs.Words.{draw_word};
+ghost use Rattle.bp_draw.specs.Words.{draw_word};
 ghost use Rattle.bp_run.specs.Configuration.{Configuration, Thread};
 ghost use Rattle.bp_run.specs.Settling.{Pair, turn, settle, at_rest};
 ghost use Rattle.bp_run.specs.Selecting.{live, stated};

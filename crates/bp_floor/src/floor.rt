@@ -5,7 +5,7 @@ ghost use Rattle.js_frames.specs.Places.{plain_ground};
 ghost use Rattle.bp_log.specs.declared.limits.TheConstants.{MOST_WAITING};
 ghost use Rattle.bp_log.specs.declared.item.Item.TheVariants as item;
 ghost use Rattle.bp_log.specs.declared.trace.Line.{Line};
-ghost use Rattle.bp_words.specs.Words.{draw_word};
+ghost use Rattle.bp_draw.specs.Words.{draw_word};
 ghost use Rattle.bp_run.specs.Configuration.{name_in, not_ended};
 ghost use Rattle.bp_run.specs.Settling.{Pair, turn, before, opening, queued};
 ghost use Rattle.bp_run.specs.Selecting.{selectable, blocker, requested};

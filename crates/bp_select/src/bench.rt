@@ -2,7 +2,7 @@
 ghost use Rattle.std.specs.Prelude.{◌≡◌, ◌<◌, ◌≤◌, ◌+◌, ◌^◌, ℕ, Ok, length, option_map, IfOk, OnOk, OnErr};
 ghost use Rattle.js_meaning.specs.State.{Ground as Base};
 ghost use Rattle.js_frames.specs.Places.{plain_ground};
-ghost use Rattle.bp_words.specs.Words.{draw_word};
+ghost use Rattle.bp_draw.specs.Words.{draw_word};
 ghost use Rattle.bp_run.specs.Selecting.{selectable, blocker, requests, requested};
 ghost use Rattle.bp_run.specs.Choosing.{choice, reach};
 ghost use Rattle.bp_meaning.specs.Membership.{member};

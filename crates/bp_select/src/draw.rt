@@ -1,8 +1,8 @@
 //! The words of the random choice, one after another.
 ghost use Rattle.std.specs.Prelude.{◌≡◌, ◌<◌, ◌+◌, ◌^◌};
-ghost use Rattle.bp_words.specs.Words.{draw_word};
+ghost use Rattle.bp_draw.specs.Words.{draw_word};
 
-use bp_words::word_of;
+use bp_draw::word_of;
 use std::marker::Model;
 
 /// The words that are drawn for a seed. Contracts see the seed, and how many words were drawn.

@@ -2,7 +2,7 @@
 ghost use Rattle.std.specs.Prelude.{◌≡◌, ◌<◌, ◌≤◌, ◌+◌, ◌^◌, ℕ, [], List, Ok, None, length, map, true, IfOk, IfSome, OnErr};
 ghost use Rattle.js_data.specs.Event.{PlainEvent};
 ghost use Rattle.js_frames.specs.Places.{plain_ground};
-ghost use Rattle.bp_words.specs.Words.{draw_word};
+ghost use Rattle.bp_draw.specs.Words.{draw_word};
 ghost use Rattle.bp_meaning.specs.Membership.{member};
 ghost use Rattle.js_value.specs.Value.{PlainSet};
 ghost use Rattle.bp_run.specs.Selecting.{Live, without_fault, first_unblocked, selectable};

@@ -12,12 +12,12 @@ use Rattle.js_grammar.specs.Grammar.{Operators}
 use Rattle.js_grammar.specs.Expressions as exprs
 use Rattle.js_grammar.specs.Reading.{run}
 use Rattle.js_grammar.specs.Reader.{readers}
-use Rattle.js_steps.specs.declared.cursor.Cursor.{Cursor}
-use Rattle.js_steps.specs.declared.stop.Stop.{Stop}
-use Rattle.js_steps.specs.declared.stop.Stop.TheVariants.{NoTree, Memory}
-use Rattle.js_steps.specs.Read.{left}
-use Rattle.js_steps.specs.Read.{IsExpr}
-use Rattle.js_steps.proofs.Loops.{operated_turn}
+use Rattle.js_cursor.specs.declared.cursor.Cursor.{Cursor}
+use Rattle.js_cursor.specs.declared.stop.Stop.{Stop}
+use Rattle.js_cursor.specs.declared.stop.Stop.TheVariants.{NoTree, Memory}
+use Rattle.js_cursor.specs.Read.{left}
+use Rattle.js_cursor.specs.Read.{IsExpr}
+use Rattle.js_cursor.proofs.Loops.{operated_turn}
 use Rattle.js_descent.proofs.Using.{operators_next, operators_none}
 
 -- a tree that is too deep takes no operator

@@ -17,7 +17,7 @@ use Rattle.js_grammar.specs.Expressions as exprs
 use Rattle.js_grammar.specs.Statements as stmts
 use Rattle.js_grammar.specs.Reading.{run, and_then}
 use Rattle.js_grammar.specs.Reader.{readers}
-use Rattle.js_steps.specs.Passed.{at_first}
+use Rattle.js_cursor.specs.Passed.{at_first}
 
 -- room
 

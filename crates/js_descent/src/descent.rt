@@ -8,18 +8,18 @@ ghost use Rattle.js_grammar.specs.Reading.{run};
 ghost use Rattle.js_grammar.specs.Expressions.{operated_step, round_at, function_at, assign_at as assign_read, primary as primary_read, elements as elements_read, field_at, fields as fields_read, declarator as declarator_read, declarators_of_kind, statements as statements_read, closed_statements, called as called_read, index_turn, call_turn, signed as signed_read, operators as operators_read, choice as choice_read, arrow as arrow_read};
 ghost use Rattle.js_grammar.specs.Statements.{body_at, test as test_read, declaration_at, if_at, while_at, start as start_read, perhaps as perhaps_read, for_three_at, for_of_at, for_at, return_at, expression_at};
 ghost use Rattle.js_grammar.specs.Reader.{readers};
-ghost use Rattle.js_steps.specs.Passed.{at_first};
-ghost use Rattle.js_steps.specs.Read.{IsRead, IsExpr, IsStmt, IsTurn};
+ghost use Rattle.js_cursor.specs.Passed.{at_first};
+ghost use Rattle.js_cursor.specs.Read.{IsRead, IsExpr, IsStmt, IsTurn};
 
 use crate::leaves::{break_of, continue_of, member, number, postfix, text, used};
 use js_lexer::Sort;
-use js_steps::cursor::{begins, is_sort, next, sort_of, spot_of};
-use js_steps::ends::{end_of, is_return_end};
-use js_steps::peek::{
+use js_cursor::cursor::{begins, is_sort, next, sort_of, spot_of};
+use js_cursor::ends::{end_of, is_return_end};
+use js_cursor::peek::{
     begins_assign, begins_end, begins_for_of, begins_function, begins_lexical, begins_update,
     declares_at, is_constant, operator_in, sign_at, step_at,
 };
-use js_steps::{Answer, Cursor, Found, binary, callee_depth, expr_at, stmt_at};
+use js_cursor::{Answer, Cursor, Found, binary, callee_depth, expr_at, stmt_at};
 use js_tree::{
     Declarator, DeclareKind, Ending, Expr, Field, Fix, Form, Start, Stmt, StmtForm, ending_of,
     ending_of_last,
@@ -81,7 +81,7 @@ fn arrow(cursor: &mut Cursor<'_>, inner: u32) -> Answer<Expr>
 
 /// An assignment to a name.
 #[cycle(descent)]
-#[tactic(auto, using(js_steps::proofs::Using::held_none))]
+#[tactic(auto, using(js_cursor::proofs::Using::held_none))]
 fn assign(cursor: &mut Cursor<'_>, inner: u32) -> Answer<Expr>
     requires { inner < u32.MAX }
     ensures { IsExpr (at_first (assign_read inner (readers inner))) (inner + 1)
@@ -97,7 +97,7 @@ fn assign(cursor: &mut Cursor<'_>, inner: u32) -> Answer<Expr>
 
 /// A test and two branches, or the test alone.
 #[cycle(descent)]
-#[tactic(auto, using(js_steps::proofs::Using::after_none, js_grammar::proofs::Complete::choice_alone))]
+#[tactic(auto, using(js_cursor::proofs::Using::after_none, js_grammar::proofs::Complete::choice_alone))]
 fn choice(cursor: &mut Cursor<'_>, inner: u32) -> Answer<Expr>
     requires { inner < u32.MAX }
     ensures { IsExpr (choice_read inner (readers inner)) (inner + 1) cursor.old cursor.new result }
@@ -141,7 +141,7 @@ fn operators(cursor: &mut Cursor<'_>, level: u8, inner: u32) -> Answer<Expr>
 
 /// This many operators of the level with their operands, after the first, to the left.
 #[cycle(descent)]
-#[tactic(auto, using(js_steps::proofs::Loops::operated_turn, crate::proofs::Chains::chain_deep, crate::proofs::Chains::chain_more, crate::proofs::Chains::chain_broken))]
+#[tactic(auto, using(js_cursor::proofs::Loops::operated_turn, crate::proofs::Chains::chain_deep, crate::proofs::Chains::chain_more, crate::proofs::Chains::chain_broken))]
 fn chain(
     cursor: &mut Cursor<'_>,
     line: u32,
@@ -176,7 +176,7 @@ fn chain(
 
 /// A unary operator and its operand; `++` or `--` and a name; or what has none of these in front.
 #[cycle(descent)]
-#[tactic(auto, using(js_steps::proofs::Using::held_none))]
+#[tactic(auto, using(js_cursor::proofs::Using::held_none))]
 fn signed(cursor: &mut Cursor<'_>, inner: u32) -> Answer<Expr>
     requires { inner < u32.MAX }
     ensures { IsExpr (signed_read inner (readers inner)) (inner + 1) cursor.old cursor.new result }
@@ -204,7 +204,7 @@ fn signed(cursor: &mut Cursor<'_>, inner: u32) -> Answer<Expr>
 
 /// A primary, and this many of `.word`, `[ expression ]` and `( arguments )`.
 #[cycle(descent)]
-#[tactic(auto, using(js_steps::proofs::Loops::called_turn))]
+#[tactic(auto, using(js_cursor::proofs::Loops::called_turn))]
 fn called(cursor: &mut Cursor<'_>, inner: u32) -> Answer<Expr>
     requires { inner < u32.MAX }
     ensures { IsExpr (called_read inner (readers inner)) (inner + 1) cursor.old cursor.new result }
@@ -235,7 +235,7 @@ fn called(cursor: &mut Cursor<'_>, inner: u32) -> Answer<Expr>
 
 /// An element, after its bracket.
 #[cycle(descent)]
-#[tactic(auto, using(js_steps::proofs::Using::after_none))]
+#[tactic(auto, using(js_cursor::proofs::Using::after_none))]
 fn index(cursor: &mut Cursor<'_>, line: u32, list: Found<Expr>, inner: u32) -> Answer<Expr>
     requires room { inner < u32.MAX }
     requires measured { list.depth ≡ nesting (plain_expr list.tree) }
@@ -274,7 +274,7 @@ fn call(cursor: &mut Cursor<'_>, line: u32, callee: Found<Expr>, inner: u32) -> 
 
 /// A primary expression.
 #[cycle(descent)]
-#[tactic(auto, using(js_steps::proofs::Using::after_none))]
+#[tactic(auto, using(js_cursor::proofs::Using::after_none))]
 fn primary(cursor: &mut Cursor<'_>, inner: u32) -> Answer<Expr>
     requires { inner < u32.MAX }
     ensures { IsExpr (primary_read inner (readers inner)) (inner + 1) cursor.old cursor.new result }
@@ -320,7 +320,7 @@ fn primary(cursor: &mut Cursor<'_>, inner: u32) -> Answer<Expr>
 
 /// An expression in parentheses, after the first.
 #[cycle(descent)]
-#[tactic(auto, using(js_steps::proofs::Using::after_none))]
+#[tactic(auto, using(js_cursor::proofs::Using::after_none))]
 fn round(cursor: &mut Cursor<'_>, inner: u32) -> Answer<Expr>
     requires { inner < u32.MAX }
     ensures { IsExpr (round_at inner (readers inner)) (inner + 1) cursor.old cursor.new result }
@@ -352,7 +352,7 @@ fn function(cursor: &mut Cursor<'_>, inner: u32) -> Answer<Expr>
 
 /// Expressions separated by commas, and the mark that closes them.
 #[cycle(descent)]
-#[tactic(auto, using(js_steps::proofs::Loops::elements_turn, js_tree::proofs::Rows::map_push, js_tree::proofs::Rows::deepest_push, crate::proofs::Using::next_element_none, crate::proofs::Using::elements_begin))]
+#[tactic(auto, using(js_cursor::proofs::Loops::elements_turn, js_tree::proofs::Rows::map_push, js_tree::proofs::Rows::deepest_push, crate::proofs::Using::next_element_none, crate::proofs::Using::elements_begin))]
 fn elements(cursor: &mut Cursor<'_>, close: Sort, inner: u32) -> Answer<Vec<Expr>>
     ensures { IsRead (λ es. map plain_expr es.items) (λ es. deepest (exprs_of es))
         (elements_read inner (readers inner) close) inner 1 cursor.old cursor.new result }
@@ -401,7 +401,7 @@ fn field(cursor: &mut Cursor<'_>, inner: u32) -> Answer<Field>
 
 /// Fields and `}`, after the `{`.
 #[cycle(descent)]
-#[tactic(auto, using(js_steps::proofs::Loops::fields_turn, js_tree::proofs::Rows::map_push_field, js_tree::proofs::Rows::deepest_push_field, crate::proofs::Using::next_field_none, crate::proofs::Using::fields_begin))]
+#[tactic(auto, using(js_cursor::proofs::Loops::fields_turn, js_tree::proofs::Rows::map_push_field, js_tree::proofs::Rows::deepest_push_field, crate::proofs::Using::next_field_none, crate::proofs::Using::fields_begin))]
 fn fields(cursor: &mut Cursor<'_>, inner: u32) -> Answer<Vec<Field>>
     ensures { IsRead (λ fs. map plain_field fs.items) (λ fs. deepest_field (fields_of fs))
         (fields_read inner (readers inner)) inner 1 cursor.old cursor.new result }
@@ -452,7 +452,7 @@ fn declarator(cursor: &mut Cursor<'_>, kind: DeclareKind, inner: u32) -> Answer<
 
 /// Declarators separated by commas.
 #[cycle(descent)]
-#[tactic(auto, using(js_steps::proofs::Loops::declarators_turn, js_tree::proofs::Rows::map_push_declarator, js_tree::proofs::Rows::deepest_push_declarator, js_grammar::proofs::Complete::next_declarator_stop))]
+#[tactic(auto, using(js_cursor::proofs::Loops::declarators_turn, js_tree::proofs::Rows::map_push_declarator, js_tree::proofs::Rows::deepest_push_declarator, js_grammar::proofs::Complete::next_declarator_stop))]
 fn declarators(cursor: &mut Cursor<'_>, kind: DeclareKind, inner: u32) -> Answer<Vec<Declarator>>
     ensures { IsRead (λ ds. map plain_declarator ds.items)
         (λ ds. deepest_declarator (declarators_of ds))
@@ -472,7 +472,7 @@ fn declarators(cursor: &mut Cursor<'_>, kind: DeclareKind, inner: u32) -> Answer
 
 /// Statements up to `}` or the end of the text.
 #[cycle(descent)]
-#[tactic(auto, using(js_steps::proofs::Loops::statements_turn, js_tree::proofs::Rows::map_push_stmt, js_tree::proofs::Rows::deepest_push_stmt))]
+#[tactic(auto, using(js_cursor::proofs::Loops::statements_turn, js_tree::proofs::Rows::map_push_stmt, js_tree::proofs::Rows::deepest_push_stmt))]
 fn statements(cursor: &mut Cursor<'_>, inner: u32) -> Answer<Vec<Stmt>>
     ensures { IsRead (λ ss. map plain_stmt ss.items) (λ ss. deepest_stmt (stmts_of ss))
         (statements_read inner (readers inner)) inner 0 cursor.old cursor.new result }
@@ -489,7 +489,7 @@ fn statements(cursor: &mut Cursor<'_>, inner: u32) -> Answer<Vec<Stmt>>
 
 /// Statements and `}`.
 #[cycle(descent)]
-#[tactic(auto, using(js_steps::proofs::Using::after_none))]
+#[tactic(auto, using(js_cursor::proofs::Using::after_none))]
 pub fn closed(cursor: &mut Cursor<'_>, inner: u32) -> Answer<Vec<Stmt>>
     ensures { IsRead (λ ss. map plain_stmt ss.items) (λ ss. deepest_stmt (stmts_of ss))
         (closed_statements inner (readers inner)) inner 1 cursor.old cursor.new result }
@@ -512,7 +512,7 @@ fn body(cursor: &mut Cursor<'_>, inner: u32) -> Answer<Stmt>
 
 /// An expression in parentheses.
 #[cycle(descent)]
-#[tactic(auto, using(js_steps::proofs::Using::after_none))]
+#[tactic(auto, using(js_cursor::proofs::Using::after_none))]
 fn test(cursor: &mut Cursor<'_>, inner: u32) -> Answer<Expr>
     ensures { IsExpr (test_read inner (readers inner)) inner cursor.old cursor.new result }
 {
@@ -620,7 +620,7 @@ fn perhaps(cursor: &mut Cursor<'_>, close: Sort, inner: u32) -> Answer<Option<Ex
 
 /// A loop with three parts, after its parenthesis.
 #[cycle(descent)]
-#[tactic(auto, using(js_steps::proofs::Using::after_none))]
+#[tactic(auto, using(js_cursor::proofs::Using::after_none))]
 fn for_three(cursor: &mut Cursor<'_>, line: u32, inner: u32) -> Answer<Stmt>
     requires { inner < u32.MAX }
     ensures { IsStmt (for_three_at inner (readers inner) line) (inner + 1)
@@ -641,7 +641,7 @@ fn for_three(cursor: &mut Cursor<'_>, line: u32, inner: u32) -> Answer<Stmt>
 
 /// A loop over a list, after its parenthesis.
 #[cycle(descent)]
-#[tactic(auto, using(js_steps::proofs::Using::after_none, js_steps::proofs::Using::held_none))]
+#[tactic(auto, using(js_cursor::proofs::Using::after_none, js_cursor::proofs::Using::held_none))]
 fn for_of(cursor: &mut Cursor<'_>, line: u32, inner: u32) -> Answer<Stmt>
     requires { inner < u32.MAX }
     ensures { IsStmt (for_of_at inner (readers inner) line) (inner + 1)
@@ -660,7 +660,7 @@ fn for_of(cursor: &mut Cursor<'_>, line: u32, inner: u32) -> Answer<Stmt>
 
 /// A `for`.
 #[cycle(descent)]
-#[tactic(auto, using(js_steps::proofs::Using::after_none))]
+#[tactic(auto, using(js_cursor::proofs::Using::after_none))]
 fn for_any(cursor: &mut Cursor<'_>, inner: u32) -> Answer<Stmt>
     requires { inner < u32.MAX }
     ensures { IsStmt (at_first (λ t. for_at inner (readers inner) t.line)) (inner + 1)

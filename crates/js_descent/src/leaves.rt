@@ -5,10 +5,10 @@ ghost use Rattle.js_tree.specs.Nesting.{nesting};
 ghost use Rattle.js_grammar.specs.Reading.{number_at, text_at, use_at, postfix_at, break_at, continue_at};
 ghost use Rattle.js_grammar.specs.Expressions.{member_turn};
 ghost use Rattle.js_grammar.specs.Reader.{readers};
-ghost use Rattle.js_steps.specs.Passed.{at_first};
-ghost use Rattle.js_steps.specs.Read.{IsExpr, IsStmt, IsTurn};
+ghost use Rattle.js_cursor.specs.Passed.{at_first};
+ghost use Rattle.js_cursor.specs.Read.{IsExpr, IsStmt, IsTurn};
 
-use js_steps::{Answer, Cursor, Found, expr_at, object_depth, stmt_at};
+use js_cursor::{Answer, Cursor, Found, expr_at, object_depth, stmt_at};
 use js_tree::{Ending, Expr, Fix, Form, Stmt, StmtForm};
 
 /// A number.
@@ -39,7 +39,7 @@ pub fn used(cursor: &mut Cursor<'_>) -> Answer<Expr>
 }
 
 /// `++` or `--` after a name.
-#[tactic(auto, using(js_steps::proofs::Using::held_none))]
+#[tactic(auto, using(js_cursor::proofs::Using::held_none))]
 pub fn postfix(cursor: &mut Cursor<'_>) -> Answer<Expr>
     ensures { IsExpr (at_first postfix_at) 1 cursor.old cursor.new result }
 {
@@ -68,7 +68,7 @@ pub fn continue_of(cursor: &mut Cursor<'_>) -> Answer<Stmt>
 }
 
 /// A member, after its dot.
-#[tactic(auto, using(js_steps::proofs::Using::held_none))]
+#[tactic(auto, using(js_cursor::proofs::Using::held_none))]
 pub fn member(cursor: &mut Cursor<'_>, line: u32, object: Found<Expr>, inner: u32) -> Answer<Expr>
     requires room { inner < u32.MAX }
     requires measured { object.depth ≡ nesting (plain_expr object.tree) }

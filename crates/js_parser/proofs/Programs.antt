@@ -14,7 +14,7 @@ use Rattle.js_grammar.specs.Reading.{next_turn, run, and_then}
 use Rattle.js_grammar.specs.Reader.{readers}
 use Rattle.js_grammar.proofs.Unique as unique
 use Rattle.js_grammar.specs.Sorts.{is, spot}
-use Rattle.js_steps.proofs.Loops as loops
+use Rattle.js_cursor.proofs.Loops as loops
 use Rattle.js_parser.specs.Parse.{next_item, next_function, all_items}
 
 pub item_function : (t : Token) (ts : List Token) → is Sort.Function t ≡ true → next_item (t ∷ ts) ≡ next_function t ts

@@ -11,8 +11,8 @@ use Rattle.js_grammar.specs.Unsupported.{first_unsupported}
 use Rattle.js_grammar.specs.Reading.{Found}
 use Rattle.js_grammar.specs.Statements.{item_function_at, item, items}
 use Rattle.js_grammar.specs.Reader.{readers}
-use Rattle.js_steps.specs.declared.stop.Stop.{Stop}
-use Rattle.js_steps.specs.declared.stop.Stop.TheVariants.{NoTree, Memory}
+use Rattle.js_cursor.specs.declared.stop.Stop.{Stop}
+use Rattle.js_cursor.specs.declared.stop.Stop.TheVariants.{NoTree, Memory}
 use Rattle.js_parser.specs.declared.fault.ParseFault.{ParseFault}
 
 -- a token is refused, the first of them on the line; or none is, and no tree of nesting at most that of

@@ -1,5 +1,5 @@
 //! Why tokens are refused.
-use js_steps::Stop;
+use js_cursor::Stop;
 use thiserror::Error;
 
 /// Why no tree is made of tokens.

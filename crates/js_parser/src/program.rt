@@ -3,8 +3,8 @@ ghost use Rattle.std.specs.Prelude.{◌≡◌, false, IfOk, IfErr, None};
 ghost use Rattle.js_tree.specs.Views.{plain_item, plain_tree};
 ghost use Rattle.js_grammar.specs.Trees.{IsTree};
 ghost use Rattle.js_grammar.specs.Unsupported.{first_unsupported};
-ghost use Rattle.js_steps.specs.Passed.{at_first};
-ghost use Rattle.js_steps.specs.Read.{IsGiven};
+ghost use Rattle.js_cursor.specs.Passed.{at_first};
+ghost use Rattle.js_cursor.specs.Read.{IsGiven};
 ghost use Rattle.js_parser.specs.Parse.{next_item, next_function, IsItems, IsParseFault, IsFault};
 ghost use Rattle.js_grammar.specs.Trees.{IsLineIn};
 
@@ -12,13 +12,13 @@ use crate::fault::ParseFault;
 use crate::refused::unsupported_line;
 use js_descent::{closed, statement};
 use js_lexer::{Sort, Token};
-use js_steps::cursor::{is_sort, next, spot_of};
-use js_steps::{Cursor, Stop};
+use js_cursor::cursor::{is_sort, next, spot_of};
+use js_cursor::{Cursor, Stop};
 use js_tree::{Item, MOST_NESTING, Tree};
 use std::alloc::Global;
 
 /// A function declaration.
-#[tactic(auto, using(js_steps::proofs::Using::held_none))]
+#[tactic(auto, using(js_cursor::proofs::Using::held_none))]
 fn function(cursor: &mut Cursor<'_>) -> Result<Item, Stop>
     ensures { IsGiven plain_item (at_first next_function) cursor.old cursor.new result }
 {

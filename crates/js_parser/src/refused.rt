@@ -4,7 +4,7 @@ ghost use Rattle.js_grammar.specs.Unsupported.{is_prototype, is_refused, first_u
 
 use js_data::Text;
 use js_lexer::{Kind, Sort, Token};
-use js_steps::cursor::{begins, is_sort, next};
+use js_cursor::cursor::{begins, is_sort, next};
 
 fn is_prototype_key(text: &Text, colon: bool) -> bool
     ensures { result ≡ is_prototype text.now colon }

@@ -1,5 +1,5 @@
 use Rattle.std.proofs.Common.{◌∙◌, ◌%◌, ℕ, length, ap, Some, None}
-use Rattle.bp_words.specs.Words.{draw_word}
+use Rattle.bp_draw.specs.Words.{draw_word}
 use Rattle.bp_run.specs.Choosing.{Choice}
 use Rattle.bp_select.specs.Draws.{PlainDraw}
 use Rattle.bp_select.specs.Candidates.{event_of}

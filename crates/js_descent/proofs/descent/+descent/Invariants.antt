@@ -5,7 +5,7 @@ use Rattle.js_tree.specs.Nesting.{nesting, deepest, deepest_field, deepest_decla
 use Rattle.js_grammar.specs.Reading.{run}
 use Rattle.js_grammar.specs.Expressions.{called_step, called, elements_step, elements, fields_step, fields, declarators_step, declarators_of_kind, operated_step, operators, statements_step, statements}
 use Rattle.js_grammar.specs.Reader.{readers}
-use Rattle.js_steps.specs.Read.{left}
+use Rattle.js_cursor.specs.Read.{left}
 use Rattle.js_descent.proofs.descent.+descent.Given as goal
 
 -- each call has less room, or the same room and a tighter form

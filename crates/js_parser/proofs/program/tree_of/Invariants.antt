@@ -4,7 +4,7 @@ use Rattle.js_tree.specs.Views.{plain_item}
 use Rattle.js_grammar.specs.Reading.{run}
 use Rattle.js_grammar.specs.Statements.{items_step}
 use Rattle.js_grammar.specs.Reader.{readers}
-use Rattle.js_steps.specs.Read.{left}
+use Rattle.js_cursor.specs.Read.{left}
 use Rattle.js_parser.specs.Parse.{all_items}
 use Rattle.js_parser.proofs.program.tree_of.Given as goal
 

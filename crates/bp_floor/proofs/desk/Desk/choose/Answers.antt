@@ -3,7 +3,7 @@ use Rattle.std.specs.Prelude.{All, true}
 use Rattle.std.proofs.lemmas.Result.{err_from_is_err_and}
 use Rattle.js_data.specs.Event.{PlainEvent}
 use Rattle.js_frames.specs.Places.{plain_ground}
-use Rattle.bp_words.specs.Words.{draw_word}
+use Rattle.bp_draw.specs.Words.{draw_word}
 use Rattle.bp_meaning.specs.Membership.{member}
 use Rattle.bp_run.specs.Selecting.{blocked}
 use Rattle.bp_run.specs.Choosing.{choice}

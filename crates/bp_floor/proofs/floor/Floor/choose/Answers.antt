@@ -1,7 +1,7 @@
 use Rattle.std.proofs.Common.{ℕ, IfOk, length, subst}
 use Rattle.js_frames.specs.Places.{plain_ground}
 use Rattle.bp_run.specs.Selecting.{live}
-use Rattle.bp_words.specs.Words.{draw_word}
+use Rattle.bp_draw.specs.Words.{draw_word}
 use Rattle.bp_log.specs.declared.options.Strategy as log
 use Rattle.bp_run.specs.Choosing.{choice}
 use Rattle.bp_select.specs.Answers.{AnswersAs, IsWithin, chosen_of}

@@ -1,7 +1,0 @@
-use Rattle.arbiter_rows.proofs.bench.ask.Goals as goal
-
-pub reach-requires : goal.reach-requires
-reach-requires c = record { fits = c.requires _ _ }
-
-pub blocker-requires : goal.blocker-requires
-blocker-requires c = record { fits = c.requires _ _ }

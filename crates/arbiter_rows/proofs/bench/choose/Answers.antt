@@ -1,4 +1,0 @@
-use Rattle.arbiter_rows.proofs.bench.choose.Goals as goal
-
-pub choose-choice-requires-clause-fits : goal.choose-choice-requires-clause-fits
-choose-choice-requires-clause-fits c = c.requires.fits _ _

@@ -1,4 +1,0 @@
-use Rattle.arbiter_rows.proofs.bench.enabled.Goals as goal
-
-pub enabled-requires-clause-fits : goal.enabled-requires-clause-fits
-enabled-requires-clause-fits c = c.requires.fits _ _

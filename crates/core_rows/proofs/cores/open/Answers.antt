@@ -1,5 +1,0 @@
-use Rattle.std.proofs.Common.{[]}
-use Rattle.core_rows.proofs.cores.open.Goals as goal
-
-pub returns-clause-somewhere : goal.returns-clause-somewhere
-returns-clause-somewhere c = record { taken = []; moment = _; at = c.in_ok-open.ensures.at }

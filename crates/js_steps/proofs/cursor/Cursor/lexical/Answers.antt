@@ -1,5 +1,0 @@
-use Rattle.std.proofs.Common.{◌∙◌, sym}
-use Rattle.js_steps.proofs.cursor.Cursor.lexical.Goals as goal
-
-pub returns : goal.returns
-returns c = (c.in-Some.token.now, c.in-Some.ensures, sym c.lexical_at.ensures ∙ c.in-Some-lexical_at.is)

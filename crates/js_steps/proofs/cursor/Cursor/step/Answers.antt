@@ -1,5 +1,0 @@
-use Rattle.std.proofs.Common.{◌∙◌, sym}
-use Rattle.js_steps.proofs.cursor.Cursor.step.Goals as goal
-
-pub returns : goal.returns
-returns c = (c.in-Some.token.now, c.in-Some.ensures, sym c.step_at.ensures ∙ c.in-Some-step_at.is)

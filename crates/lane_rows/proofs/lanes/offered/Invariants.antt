@@ -1,5 +1,0 @@
-use Rattle.bp_lanes.specs.Lanes.{IsSameMouth}
-use Rattle.lane_rows.proofs.lanes.offered.Given as goal
-
-abbrev pub invariant-loop-number : goal.invariant-loop-number
-invariant-loop-number l = IsSameMouth l.fn.mouth l.mouth
