@@ -18,11 +18,11 @@ use Rattle.bp_floor.specs.Floors.{IsPhased}
 use Rattle.bp_arbiter.specs.declared.run.Run.{Run}
 use Rattle.bp_arbiter.specs.Arbiters.{PlainArbiter, StandsFor, Keeps, is_over, options_in, stand_in}
 use Rattle.bp_arbiter.specs.Sound.{IsSound, IsStanding}
-use Rattle.bp_arbiter.specs.Absorbing.{is_failed, fits, with_item, absorbed}
+use Rattle.bp_arbiter.specs.Absorb.{is_failed, fits, with_item, absorbed}
 use Rattle.bp_arbiter.specs.Recording.{PlainRecordList}
 use Rattle.bp_arbiter.specs.Runs.{seen}
 use Rattle.bp_arbiter.proofs.Standing.{sound_of}
-use Rattle.bp_arbiter.proofs.Absorbs.{stands_absorbed}
+use Rattle.bp_arbiter.proofs.AbsorbLemmas.{stands_absorbed}
 use Rattle.bp_arbiter.proofs.Turnings.{IsAt, at_phase}
 
 still_open : (j : ℕ) (x : Item) (a : PlainArbiter) → is_complete a.records ≡ false → is_complete (absorbed j x a).records ≡ false

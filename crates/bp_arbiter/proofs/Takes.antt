@@ -12,12 +12,12 @@ use Rattle.bp_thread.specs.declared.job.Job.{Job}
 use Rattle.bp_floor.specs.declared.phase.Phase.{Phase}
 use Rattle.bp_floor.specs.declared.phase.Phase.TheVariants.{Ready, Lent, Rest, Over}
 use Rattle.bp_floor.specs.Forgetting.{forget, forgotten}
-use Rattle.bp_floor.specs.Lending.{filled_pair}
+use Rattle.bp_floor.specs.Loans.{filled_pair}
 use Rattle.bp_floor.specs.Floors.{PlainFloor, IsPhased, is_idle}
 use Rattle.bp_floor.proofs.Forgetting.{live_count}
 use Rattle.bp_arbiter.specs.Arbiters.{PlainArbiter, StandsFor, StandsSomewhere, Tells, Keeps, Recounts, stand_in, Shows, is_lent}
 use Rattle.bp_arbiter.specs.Sound.{IsSound, IsStanding}
-use Rattle.bp_arbiter.proofs.Picks.{unfilled}
+use Rattle.bp_arbiter.proofs.PickLemmas.{unfilled}
 use Rattle.bp_arbiter.proofs.Told.{same_code, same_story, same_told, told_lines, settled_idle}
 
 -- the same floor, without these lines

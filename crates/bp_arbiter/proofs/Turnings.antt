@@ -21,11 +21,11 @@ use Rattle.bp_arbiter.specs.declared.run.Run.{Run}
 use Rattle.bp_arbiter.specs.declared.picked.Picked.TheVariants as picked
 use Rattle.bp_arbiter.specs.Arbiters.{PlainArbiter, StandsFor, Tells, Keeps, Recounts, coming, code_in, stand_in, is_over}
 use Rattle.bp_arbiter.specs.Sound.{IsSound, IsStanding}
-use Rattle.bp_arbiter.specs.Picking.{after_pick, picked_of, phase_after}
+use Rattle.bp_arbiter.specs.Pick.{after_pick, picked_of, phase_after}
 use Rattle.bp_arbiter.specs.Runs.{seen, next_in, configuration_of, HasCome, IsBeside, IsUnheard}
 use Rattle.bp_arbiter.proofs.Told.{tells_same}
 use Rattle.bp_arbiter.proofs.Standing.{sound_of}
-use Rattle.bp_arbiter.proofs.Picks.{next_is, stands_on, phase_come, moved_not_over as not_over}
+use Rattle.bp_arbiter.proofs.PickLemmas.{next_is, stands_on, phase_come, moved_not_over as not_over}
 
 -- an arbiter whose memory was never wanting, in this phase
 pub record IsAt (f : Phase) (a : PlainArbiter) (r : Run) : Type 0 where

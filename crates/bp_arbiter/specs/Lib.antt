@@ -3,7 +3,7 @@ pub mod Arbiters
 pub mod Sound
 pub mod Recording
 pub mod Runs
-pub mod Absorbing
-pub mod Picking
-pub mod Lending
-pub mod Sealing
+pub mod Absorb
+pub mod Pick
+pub mod Lend
+pub mod Seal

@@ -17,10 +17,10 @@ ghost use Rattle.bp_floor.specs.declared.phase.Phase.TheVariants as phase;
 ghost use Rattle.bp_floor.specs.Floors.{IsPhased, is_idle, phase_of};
 ghost use Rattle.bp_arbiter.specs.declared.picked.Picked.TheVariants as picked;
 ghost use Rattle.bp_arbiter.specs.Arbiters.{opened, code_in, options_in, stand_in, Recounts, coming, StandsFor, StandsSomewhere, Tells, is_lent, is_over, HadMemory, IsGivenUp, Keeps, Shows};
-ghost use Rattle.bp_arbiter.specs.Absorbing.{is_failed, fits, ComesBack, with_item, absorbed};
-ghost use Rattle.bp_arbiter.specs.Picking.{picked_of, after_pick, phase_after};
-ghost use Rattle.bp_arbiter.specs.Lending.{AreOut, AreBack, AreReturned};
-ghost use Rattle.bp_arbiter.specs.Sealing.{ending, after_turn};
+ghost use Rattle.bp_arbiter.specs.Absorb.{is_failed, fits, ComesBack, with_item, absorbed};
+ghost use Rattle.bp_arbiter.specs.Pick.{picked_of, after_pick, phase_after};
+ghost use Rattle.bp_arbiter.specs.Lend.{AreOut, AreBack, AreReturned};
+ghost use Rattle.bp_arbiter.specs.Seal.{ending, after_turn};
 
 use crate::numbers::Numbers;
 use crate::picked::Picked;

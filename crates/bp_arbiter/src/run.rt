@@ -7,10 +7,10 @@ ghost use Rattle.bp_floor.specs.declared.absorb.Absorb.TheVariants as absorb;
 ghost use Rattle.bp_floor.specs.declared.phase.Phase.{Phase};
 ghost use Rattle.bp_floor.specs.declared.phase.Phase.TheVariants as phase;
 ghost use Rattle.bp_floor.specs.Floors.{AreBack, CanGo, is_idle};
-ghost use Rattle.bp_arbiter.specs.Absorbing.{absorbed, fits, is_failed};
-ghost use Rattle.bp_arbiter.specs.Picking.{picked_of};
+ghost use Rattle.bp_arbiter.specs.Absorb.{absorbed, fits, is_failed};
+ghost use Rattle.bp_arbiter.specs.Pick.{picked_of};
 ghost use Rattle.bp_arbiter.specs.Runs.{seen, next_in, next_chosen_in, next_idle_in, ends_or_waits, IsBeside, IsUnheard, IsEnded, HasCome};
-ghost use Rattle.bp_arbiter.specs.Sealing.{IsTurned, IsCutOff};
+ghost use Rattle.bp_arbiter.specs.Seal.{IsTurned, IsCutOff};
 
 use crate::numbers::Numbers;
 use crate::picked::Picked;

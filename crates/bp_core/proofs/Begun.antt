@@ -21,14 +21,14 @@ use Rattle.bp_code.specs.Code.{ground_for}
 use Rattle.bp_floor.specs.declared.phase.Phase.TheVariants.{Ready, Lent}
 use Rattle.bp_code.specs.Code.{sealed_code_of as code_of}
 use Rattle.bp_floor.specs.Forgetting.{forget, forgotten, IsGoing, AreGoing}
-use Rattle.bp_floor.specs.Lending.{JobFor, IsLent, AreLent, standing}
+use Rattle.bp_floor.specs.Loans.{JobFor, IsLent, AreLent, standing}
 use Rattle.bp_floor.specs.Floors.{IsPhased, phase_at, phase_of}
 use Rattle.bp_floor.proofs.Lists.{get_map}
 use Rattle.bp_floor.proofs.Forgetting.{forget_ended_at}
 use Rattle.bp_arbiter.specs.Arbiters.{PlainArbiter, StandsFor, Recounts, code_in, options_in}
-use Rattle.bp_arbiter.specs.Lending.{CanRun, AllCanRun, AreOut}
+use Rattle.bp_arbiter.specs.Lend.{CanRun, AllCanRun, AreOut}
 use Rattle.bp_core.specs.Moments.{IsBegun, AreBegun, lent_at_once, IsReadyAt, IsAt}
-use Rattle.bp_arbiter.proofs.Picks.{unfilled}
+use Rattle.bp_arbiter.proofs.PickLemmas.{unfilled}
 use Rattle.bp_arbiter.proofs.Told.{same_code, same_story}
 
 -- ---- who goes on

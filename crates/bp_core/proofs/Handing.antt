@@ -17,8 +17,8 @@ use Rattle.bp_thread.specs.Jobs.{plain_job, IsOf, IsWhole}
 use Rattle.bp_thread.specs.Carried.{Carries}
 use Rattle.bp_floor.specs.declared.phase.Phase.TheVariants.{Lent}
 use Rattle.bp_arbiter.specs.Arbiters.{PlainArbiter, StandsFor, Recounts, code_in, options_in}
-use Rattle.bp_floor.specs.Lending.{AreLent, filled_pair, standing}
-use Rattle.bp_arbiter.specs.Lending.{AllCanRun, AreOut}
+use Rattle.bp_floor.specs.Loans.{AreLent, filled_pair, standing}
+use Rattle.bp_arbiter.specs.Lend.{AllCanRun, AreOut}
 use Rattle.bp_core.specs.Moments.{HasBegun, IsBegun, AreBegun, IsAt}
 use Rattle.bp_core.specs.Cores.{CanRunNow}
 use Rattle.bp_core.proofs.Merges.{carried_at, stands_back}

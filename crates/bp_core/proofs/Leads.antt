@@ -32,13 +32,13 @@ use Rattle.bp_steps.specs.Steps.{opened as steps_opened}
 use Rattle.js_program.specs.PlainProgram.{PlainProgram}
 use Rattle.bp_code.specs.Code.{sealed_code_of as code_of}
 use Rattle.bp_arbiter.specs.Arbiters.{opened, PlainArbiter, StandsFor, Recounts, code_in, options_in, stand_in, coming}
-use Rattle.bp_arbiter.specs.Absorbing as arbiters
-use Rattle.bp_arbiter.specs.Absorbing.{is_failed, fits, with_item}
-use Rattle.bp_arbiter.specs.Picking.{picked_of, after_pick, phase_after, moved_phase}
+use Rattle.bp_arbiter.specs.Absorb as arbiters
+use Rattle.bp_arbiter.specs.Absorb.{is_failed, fits, with_item}
+use Rattle.bp_arbiter.specs.Pick.{picked_of, after_pick, phase_after, moved_phase}
 use Rattle.bp_core.specs.Cores.{KeepsProgram}
 use Rattle.bp_core.specs.Moments.{is_ready, AreBegun, IsReadyAt, IsAt, lent_at_once, step_on}
-use Rattle.bp_arbiter.proofs.Absorbs.{one_more, comes_at, event_comes, bad_comes, end_comes}
-use Rattle.bp_arbiter.proofs.Picks.{on}
+use Rattle.bp_arbiter.proofs.AbsorbLemmas.{one_more, comes_at, event_comes, bad_comes, end_comes}
+use Rattle.bp_arbiter.proofs.PickLemmas.{on}
 use Rattle.bp_arbiter.proofs.Told.{same_code, same_story, same_told, stands_opened}
 
 -- ---- phases
@@ -148,7 +148,7 @@ module _ (a : PlainArbiter) (jobs : List Job) (taken : List Line) (m : Moment Or
   queue_is = ap (λ (q : Pair Origin). q.stand.queue) (h.stands).floor
 
   pub count_is : length m.told.stand.threads ≡ length (stand_in a).threads
-  count_is = Rattle.bp_arbiter.proofs.Seals.as_many a.floor jobs taken (pair_at m) (h.stands).floor
+  count_is = Rattle.bp_arbiter.proofs.SealLemmas.as_many a.floor jobs taken (pair_at m) (h.stands).floor
 
   -- ---- at rest
 

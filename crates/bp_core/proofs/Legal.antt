@@ -30,7 +30,7 @@ use Rattle.bp_floor.specs.declared.phase.Phase.{Phase}
 use Rattle.bp_floor.specs.declared.phase.Phase.TheVariants.{Ready, Lent, Rest, Over}
 use Rattle.bp_floor.specs.Floors.{phase_at}
 use Rattle.bp_arbiter.specs.Arbiters.{PlainArbiter, code_in, options_in, stand_in, is_lent as lent_phase}
-use Rattle.bp_arbiter.specs.Absorbing.{is_failed, fits}
+use Rattle.bp_arbiter.specs.Absorb.{is_failed, fits}
 use Rattle.bp_core.specs.Moments.{HasBegun, AreBegun, IsAt, lent_at_once, step_on}
 use Rattle.bp_core.specs.Cores.{is_rest, takes, has_outcome, is_open, is_legal, AreDone}
 use Rattle.bp_core.proofs.Leads.{reading_is, queue_is}

@@ -24,16 +24,16 @@ use Rattle.bp_thread.specs.declared.job.Job.{Job}
 use Rattle.bp_thread.specs.Jobs.{plain_job}
 use Rattle.bp_thread.specs.Carried.{Carries, CarriedOut, AreCarriedOut}
 use Rattle.bp_floor.specs.declared.phase.Phase.TheVariants.{Lent}
-use Rattle.bp_floor.specs.Lending.{fill, filled, filled_pair}
+use Rattle.bp_floor.specs.Loans.{fill, filled, filled_pair}
 use Rattle.bp_floor.specs.Floors.{phase_at, phase_of}
 use Rattle.bp_arbiter.specs.Arbiters.{PlainArbiter, StandsFor, Recounts, code_in, options_in, stand_in, coming, is_lent as is_lent_phase}
-use Rattle.bp_arbiter.specs.Lending.{AreBack}
-use Rattle.bp_arbiter.specs.Sealing.{ending, ended_with, after_turn}
+use Rattle.bp_arbiter.specs.Lend.{AreBack}
+use Rattle.bp_arbiter.specs.Seal.{ending, ended_with, after_turn}
 use Rattle.bp_core.specs.Moments.{HasBegun, AreBegun, IsReadyAt, IsAt, step_on}
 use Rattle.bp_core.specs.Cores.{AreDone}
 use Rattle.bp_core.proofs.Leads.{ready_from, lent_parts}
-use Rattle.bp_arbiter.proofs.Picks.{on}
-use Rattle.bp_arbiter.proofs.Seals.{ended_verdict}
+use Rattle.bp_arbiter.proofs.PickLemmas.{on}
+use Rattle.bp_arbiter.proofs.SealLemmas.{ended_verdict}
 use Rattle.bp_arbiter.proofs.Told.{same_story}
 
 -- ---- jobs that were carried on

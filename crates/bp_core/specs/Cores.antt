@@ -9,7 +9,7 @@ use Rattle.bp_floor.specs.declared.phase.Phase.{Phase}
 use Rattle.bp_floor.specs.declared.phase.Phase.TheVariants.{Ready, Lent, Rest, Over}
 use Rattle.bp_core.specs.declared.play_fault.PlayFault.{PlayFault}
 use Rattle.bp_core.specs.declared.play_fault.PlayFault.TheVariants as fault
-use Rattle.bp_arbiter.specs.Absorbing.{is_failed, fits}
+use Rattle.bp_arbiter.specs.Absorb.{is_failed, fits}
 use Rattle.js_meaning.specs.Bodies.{Origin}
 use Rattle.bp_log.specs.declared.trace.Line.{Line}
 use Rattle.bp_steps.specs.declared.step.CoreStep.{CoreStep}

@@ -16,7 +16,7 @@ use Rattle.bp_floor.specs.declared.phase.Phase.{Phase}
 use Rattle.bp_floor.specs.declared.phase.Phase.TheVariants.{Ready, Lent, Rest, Over}
 use Rattle.bp_floor.specs.Floors.{phase_of}
 use Rattle.bp_arbiter.specs.Arbiters.{PlainArbiter, StandsFor, Recounts, code_in, options_in}
-use Rattle.bp_arbiter.specs.Lending.{AreOut}
+use Rattle.bp_arbiter.specs.Lend.{AreOut}
 
 -- this many nodes have begun since the start or the last reply, or the outcome is there
 abbrev pub HasBegun : Ground → ℕ → Job → Option ℕ → Type 0

@@ -11,8 +11,8 @@ ghost use Rattle.bp_steps.specs.Steps.{Moment};
 ghost use Rattle.bp_steps.specs.Steps as steps;
 ghost use Rattle.bp_floor.specs.declared.phase.Phase.TheVariants as phase;
 ghost use Rattle.bp_arbiter.specs.Arbiters.{opened, is_lent, coming, stand_in, Tells};
-ghost use Rattle.bp_arbiter.specs.Picking.{picked_of};
-ghost use Rattle.bp_arbiter.specs.Absorbing.{is_failed, absorbed, ComesBack};
+ghost use Rattle.bp_arbiter.specs.Pick.{picked_of};
+ghost use Rattle.bp_arbiter.specs.Absorb.{is_failed, absorbed, ComesBack};
 ghost use Rattle.bp_core.specs.Cores.{KeepsProgram, HasLent, is_rest, has_outcome};
 ghost use Rattle.bp_core.specs.Moments.{is_ready, IsReadyAt, IsAt};
 

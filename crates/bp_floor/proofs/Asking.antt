@@ -12,7 +12,7 @@ use Rattle.bp_floor.specs.declared.board.Board.{Board}
 use Rattle.bp_code.specs.Code.{sealed_code_of as code_of}
 use Rattle.bp_floor.specs.inner.Boards.{stand_of}
 use Rattle.bp_floor.specs.inner.Kept.{Running}
-use Rattle.bp_floor.specs.inner.Going.{IsResting}
+use Rattle.bp_floor.specs.inner.Transition.{IsResting}
 use Rattle.bp_floor.proofs.Sound.{has_is, bench_live, rest_ground}
 
 -- the sets are asked on the ground of its program

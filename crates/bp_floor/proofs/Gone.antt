@@ -24,12 +24,12 @@ use Rattle.bp_floor.specs.inner.Seating.{seated}
 use Rattle.bp_floor.specs.inner.Boards.{stand_of, pair_of}
 use Rattle.bp_floor.specs.Forgetting.{forgotten, forget}
 use Rattle.bp_floor.specs.inner.Kept.{Running, IsKept, AreBelow, Rises, runs_in}
-use Rattle.bp_floor.specs.Returning.{AreLater, ground_at}
-use Rattle.bp_floor.specs.inner.Touching.{CanTouch, moves_in, moved_pair}
+use Rattle.bp_floor.specs.Returns.{AreLater, ground_at}
+use Rattle.bp_floor.specs.inner.Reached.{CanTouch, moves_in, moved_pair}
 use Rattle.bp_floor.specs.Floors.{PlainFloor, IsMoved, CanGo, phase_at, phase_of, not_lent, ready_in}
-use Rattle.bp_floor.specs.inner.Going.{IsSoundOn, IsResting, IsReached, floor_on}
+use Rattle.bp_floor.specs.inner.Transition.{IsSoundOn, IsResting, IsReached, floor_on}
 use Rattle.bp_floor.proofs.Rests.{reached_stand, rising_rises}
-use Rattle.bp_floor.proofs.Returns.{later_alone, later_ground}
+use Rattle.bp_floor.proofs.ReturnLemmas.{later_alone, later_ground}
 use Rattle.bp_floor.proofs.Sound.{rest_nobody}
 use Rattle.bp_floor.proofs.Looking.{looks_open}
 

@@ -21,10 +21,10 @@ use Rattle.bp_floor.specs.inner.Entries.{handler_seen}
 use Rattle.bp_floor.specs.inner.Seating.{PlainSeat, seated, origin_in, replies_in, IsOwn, IsOwnIn, AreOwn}
 use Rattle.bp_floor.specs.inner.Seated.{job_at}
 use Rattle.bp_floor.specs.inner.Kept.{Running}
-use Rattle.bp_floor.specs.inner.Touching.{IsStanding, AreStanding, HasHandler, handler_at}
+use Rattle.bp_floor.specs.inner.Reached.{IsStanding, AreStanding, HasHandler, handler_at}
 use Rattle.bp_floor.proofs.Lists.{get_map}
 use Rattle.bp_floor.proofs.Places.{own_at0}
-use Rattle.bp_floor.proofs.Touches.{stopped_some}
+use Rattle.bp_floor.proofs.ReachedLemmas.{stopped_some}
 
 mapped_twice : (e : PlainEvent) (o : Option PlainValue) →
     option_map (handler_at e) o ≡ option_map (λ (x : Origin). let b : Body Origin = record { origin = x; replies = [] } in b) (option_map (λ (f : PlainValue). function mode.Handler f (value.event e ∷ [])) o)

@@ -20,7 +20,7 @@ use Rattle.bp_select.specs.declared.answers.Reach.{Reach}
 use Rattle.bp_select.specs.declared.answers.SelectFault.TheVariants as select_fault
 use Rattle.bp_select.specs.Answers.{move_of, IsReach, FaultAs}
 use Rattle.bp_floor.specs.Floors.{PlainFloor, code_on, stop_at_reach, stop_of}
-use Rattle.bp_floor.specs.inner.Going.{IsReached}
+use Rattle.bp_floor.specs.inner.Transition.{IsReached}
 
 -- ---- how many are reached
 

@@ -13,7 +13,7 @@ use Rattle.bp_thread.specs.Jobs.{plain_job}
 use Rattle.bp_thread.specs.Carried.{HaveDistinctNumbers}
 use Rattle.bp_code.specs.Code.{sealed_code_of as code_of}
 use Rattle.bp_floor.specs.inner.Kept.{AreFrom, Rises}
-use Rattle.bp_floor.specs.Lending.{IsLent, JobFor, AreLent}
+use Rattle.bp_floor.specs.Loans.{IsLent, JobFor, AreLent}
 
 -- ---- rising numbers are distinct
 

@@ -31,7 +31,7 @@ use Rattle.bp_floor.specs.declared.board.Board.{Board}
 use Rattle.bp_floor.specs.inner.Seating.{PlainSeat, seated, is_waiting, is_ready, where_from, stated_from, IsOwn, AreOwn}
 use Rattle.bp_floor.specs.inner.Boards.{stand_of, pair_of, retired}
 use Rattle.bp_floor.specs.inner.Kept.{Running, IsOn, IsKept, IsBelow, AreBelow, AreFrom, runs_in}
-use Rattle.bp_floor.specs.Returning.{entry_in, IsMirrored, IsSameBut}
+use Rattle.bp_floor.specs.Returns.{entry_in, IsMirrored, IsSameBut}
 use Rattle.bp_floor.proofs.Lists.{change_map}
 use Rattle.bp_floor.proofs.Places.{where_last0, stated_last, own_last0, from_last, runs_last, where_ended0, own_changed0, stated_changed0}
 use Rattle.bp_floor.proofs.Widening.{wider_effects, wider_part, below_more}

@@ -21,15 +21,15 @@ use Rattle.bp_floor.specs.inner.Seating.{PlainSeat, seated}
 use Rattle.bp_floor.specs.inner.Boards.{stand_of, pair_of}
 use Rattle.bp_floor.specs.Forgetting.{forgotten, AreGoing, forget}
 use Rattle.bp_floor.specs.inner.Kept.{Running, IsKept, IsOn, AreBelow, Rises}
-use Rattle.bp_floor.specs.Lending.{AreDone, filled, filled_pair, standing}
-use Rattle.bp_floor.specs.Returning.{AreLater, IsBack, ground_at}
+use Rattle.bp_floor.specs.Loans.{AreDone, filled, filled_pair, standing}
+use Rattle.bp_floor.specs.Returns.{AreLater, IsBack, ground_at}
 use Rattle.bp_floor.specs.inner.Lent.{CanLend, AreOut, IsGroundOf}
 use Rattle.js_program.specs.PlainProgram.{PlainProgram}
 use Rattle.bp_floor.specs.Floors.{PlainFloor, AreBack, IsSound, StandsFor, StandsWith, phase_at, phase_of, code_on}
 use Rattle.bp_floor.proofs.Unended.{seats_going, filled_going, turn_of_standing}
 use Rattle.bp_floor.proofs.Gone.{ready_phase, lent_phase}
 use Rattle.bp_floor.proofs.Rests.{rising_rises}
-use Rattle.bp_floor.proofs.Returns.{later_alone, later_ground}
+use Rattle.bp_floor.proofs.ReturnLemmas.{later_alone, later_ground}
 
 -- ---- lending
 

@@ -22,7 +22,7 @@ use Rattle.bp_code.specs.Code.{sealed_code_of as code_of}
 use Rattle.bp_floor.specs.inner.Seating.{PlainSeat, seated, stated_from, AreOwn}
 use Rattle.bp_floor.specs.inner.Boards.{stand_of, pair_of}
 use Rattle.bp_floor.specs.inner.Kept.{Running, AreBelow, Rises, runs_in}
-use Rattle.bp_floor.specs.Returning.{RunsAlone, ground_at}
+use Rattle.bp_floor.specs.Returns.{RunsAlone, ground_at}
 use Rattle.bp_floor.specs.Floors.{PlainFloor, IsSound, IsPhased, phase_at}
 use Rattle.bp_floor.proofs.Unended.{seats_going}
 use Rattle.bp_floor.proofs.Rests.{stated_live}

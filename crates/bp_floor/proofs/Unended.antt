@@ -14,7 +14,7 @@ use Rattle.bp_thread.specs.Jobs.{plain_job}
 use Rattle.bp_floor.specs.inner.Seating.{PlainSeat, seated, outcome_in, is_waiting, where_from}
 use Rattle.bp_floor.specs.Forgetting.{forget, forgotten, AreGoing}
 use Rattle.bp_floor.specs.inner.Kept.{AreFrom, runs_in}
-use Rattle.bp_floor.specs.Lending.{fill, filled}
+use Rattle.bp_floor.specs.Loans.{fill, filled}
 use Rattle.bp_floor.proofs.Places.{where_above}
 use Rattle.bp_floor.proofs.Forgetting.{turn_stands, forget_ended_at}
 

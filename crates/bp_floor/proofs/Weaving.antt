@@ -10,7 +10,7 @@ use Rattle.bp_run.specs.Numbers.{number_in}
 use Rattle.bp_select.specs.declared.answers.Reach.{Reach}
 use Rattle.bp_select.specs.Answers.{move_of, interrupt_of, IsReach}
 use Rattle.bp_floor.specs.inner.Kept.{AreFrom, Rises}
-use Rattle.bp_floor.specs.inner.Going.{first_touch}
+use Rattle.bp_floor.specs.inner.Transition.{first_touch}
 
 get_drop : (m : ℕ) (xs : List ℕ) → slice_get xs m ≡ slice_get (drop m xs) 0
 get_drop zero xs = refl

@@ -31,8 +31,8 @@ use Rattle.bp_floor.specs.inner.Seating.{is_waiting, is_ready, where_from, state
 use Rattle.bp_floor.specs.inner.Boards.{pair_of}
 use Rattle.bp_floor.specs.Forgetting.{forget, forgotten, AreGoing}
 use Rattle.bp_floor.specs.inner.Kept.{Running, AreBelow, Rises, runs_in}
-use Rattle.bp_floor.specs.Lending.{AreDone, filled_pair, standing}
-use Rattle.bp_floor.specs.Returning.{RunsAlone, ground_at}
+use Rattle.bp_floor.specs.Loans.{AreDone, filled_pair, standing}
+use Rattle.bp_floor.specs.Returns.{RunsAlone, ground_at}
 
 -- A floor: its ground, its options, and where its b-threads stand, with the lines that were not taken
 -- yet. Those that have ended, and those whose jobs are lent, show no body.

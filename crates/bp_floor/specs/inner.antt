@@ -9,6 +9,6 @@ pub mod Seated
 pub mod Boards
 pub mod Kept
 pub mod Lent
-pub mod Touching
+pub mod Reached
 pub mod Absorbing
-pub mod Going
+pub mod Transition

@@ -1,7 +1,7 @@
 //! What stands on a floor.
 ghost use Rattle.std.specs.Prelude.{◌≡◌, ◌<◌, length, option_map, OnOk};
 ghost use Rattle.bp_thread.specs.Views.{plain_statement};
-ghost use Rattle.bp_floor.specs.Returning.{IsStated};
+ghost use Rattle.bp_floor.specs.Returns.{IsStated};
 
 use crate::{Desk, LineList, Seats, Wave};
 use bp_log::{Memory, Verdict};

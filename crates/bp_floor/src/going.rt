@@ -9,9 +9,9 @@ ghost use Rattle.bp_run.specs.Selecting.{live};
 ghost use Rattle.bp_select.specs.Answers.{IsReach};
 ghost use Rattle.bp_floor.specs.inner.Boards.{pair_of, stand_of};
 ghost use Rattle.bp_floor.specs.inner.Kept.{Rises};
-ghost use Rattle.bp_floor.specs.inner.Touching.{touch_seen};
+ghost use Rattle.bp_floor.specs.inner.Reached.{touch_seen};
 ghost use Rattle.bp_floor.specs.Floors.{PlainFloor, CanGo, GoesAs, code_on, phase_of, stop_of, told_verdict};
-ghost use Rattle.bp_floor.specs.inner.Going.{IsResting, IsSoundOn, LooksAs, floor_on, first_touch};
+ghost use Rattle.bp_floor.specs.inner.Transition.{IsResting, IsSoundOn, LooksAs, floor_on, first_touch};
 
 use crate::{Board, Phase, Touch, Went};
 use bp_log::limits::MOST_WEIGHT;

@@ -9,7 +9,7 @@ ghost use Rattle.bp_floor.specs.inner.Seating.{seated, AreOwn};
 ghost use Rattle.bp_floor.specs.inner.Entries.{handler_seen, entry_seen};
 ghost use Rattle.bp_floor.specs.inner.Boards.{stand_of, pair_of};
 ghost use Rattle.bp_floor.specs.inner.Kept.{Running, IsKept, runs_in};
-ghost use Rattle.bp_floor.specs.inner.Touching.{touch_seen, handler_at, HasHandler, IsStanding, AreStanding, IsGivenTo, IsTouch, CanTouch, IsTouchedBy, moves_in, moved_pair};
+ghost use Rattle.bp_floor.specs.inner.Reached.{touch_seen, handler_at, HasHandler, IsStanding, AreStanding, IsGivenTo, IsTouch, CanTouch, IsTouchedBy, moves_in, moved_pair};
 ghost use Rattle.bp_floor.specs.Forgetting.{forgotten};
 ghost use Rattle.js_meaning.specs.Bodies.{Origin, the_top};
 ghost use Rattle.bp_run.specs.Configuration.{Stand};

@@ -18,8 +18,8 @@ ghost use Rattle.bp_code.specs.Code.{sealed_code_of as code_of};
 ghost use Rattle.bp_floor.specs.inner.Boards.{stand_of, pair_of};
 ghost use Rattle.bp_floor.specs.Forgetting.{forgotten};
 ghost use Rattle.bp_floor.specs.inner.Kept.{Running, AreBelow, IsKept, IsOn};
-ghost use Rattle.bp_floor.specs.Lending.{filled, filled_pair, has_body};
-ghost use Rattle.bp_floor.specs.Returning.{IsBack, IsPut, IsSameBut, IsFilled, IsKeptBy, RunsBelow, Puts, AreAllBack, entry_in, turned_apart};
+ghost use Rattle.bp_floor.specs.Loans.{filled, filled_pair, has_body};
+ghost use Rattle.bp_floor.specs.Returns.{IsBack, IsPut, IsSameBut, IsFilled, IsKeptBy, RunsBelow, Puts, AreAllBack, entry_in, turned_apart};
 
 use crate::{Board, Ending, Entry, LineList, Part, Ran, Rans, Wave};
 use bp_log::{Memory, Options};

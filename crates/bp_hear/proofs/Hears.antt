@@ -25,7 +25,7 @@ use Rattle.bp_steps.proofs.Played.{last, one_step, steps_on}
 use Rattle.bp_code.specs.Nodes.{nodes_of}
 use Rattle.bp_code.specs.Code.{sealed_code_of as code_of}
 use Rattle.bp_arbiter.specs.Arbiters.{PlainArbiter, code_in, options_in}
-use Rattle.bp_arbiter.specs.Absorbing.{is_failed, absorbed, ComesBack}
+use Rattle.bp_arbiter.specs.Absorb.{is_failed, absorbed, ComesBack}
 use Rattle.bp_floor.specs.declared.absorb.Absorb.{Absorb as Absorbed}
 use Rattle.bp_floor.specs.declared.absorb.Absorb.TheVariants.{Full, Memory}
 use Rattle.bp_run.specs.Configuration.{Stand}

@@ -10,7 +10,7 @@ use Rattle.bp_steps.specs.declared.step.CoreStep.{CoreStep}
 use Rattle.bp_steps.specs.declared.step.CoreStep.TheVariants.{Absorb}
 use Rattle.bp_steps.specs.Merging.{record_by, items_by}
 use Rattle.bp_arbiter.specs.Arbiters.{stand_in}
-use Rattle.bp_arbiter.specs.Absorbing.{fits}
+use Rattle.bp_arbiter.specs.Absorb.{fits}
 use Rattle.bp_core.specs.declared.stepping.Core.{Core}
 use Rattle.bp_core.specs.Cores.{Plays, KeepsProgram}
 use Rattle.bp_hear.specs.declared.hearing.Hearing.{Hearing}

@@ -4,7 +4,7 @@ ghost use Rattle.std.specs.List.{list_any};
 ghost use Rattle.bp_log.specs.declared.item.Item.TheVariants as item;
 ghost use Rattle.bp_lanes.specs.Lanes.{known};
 ghost use Rattle.bp_floor.specs.declared.phase.Phase.TheVariants as phase;
-ghost use Rattle.bp_arbiter.specs.Absorbing.{fits};
+ghost use Rattle.bp_arbiter.specs.Absorb.{fits};
 ghost use Rattle.bp_arbiter.specs.Arbiters.{stand_in};
 ghost use Rattle.bp_hear.specs.Hearings.{Brings, Hears, IsHeardOut, IsRecorded, AreOthers};
 

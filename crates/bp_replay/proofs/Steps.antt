@@ -26,8 +26,8 @@ use Rattle.bp_arbiter.specs.declared.picked.Picked.{Picked}
 use Rattle.bp_arbiter.specs.declared.picked.Picked.TheVariants as picked
 use Rattle.bp_arbiter.specs.Arbiters as arbiter
 use Rattle.bp_arbiter.specs.Arbiters.{PlainArbiter, Recounts, StandsFor, Shows, options_in, stand_in, is_lent}
-use Rattle.bp_arbiter.specs.Absorbing.{with_item, absorbed}
-use Rattle.bp_arbiter.specs.Picking.{picked_of, after_pick, phase_after}
+use Rattle.bp_arbiter.specs.Absorb.{with_item, absorbed}
+use Rattle.bp_arbiter.specs.Pick.{picked_of, after_pick, phase_after}
 use Rattle.bp_turns.specs.Turning.{StandsAfter}
 use Rattle.bp_turns.proofs.Arbiters.{same_code, recounts_at, recounts_in, coming_at}
 use Rattle.bp_replay.specs.declared.fault.ReplayFault.{ReplayFault}

@@ -8,7 +8,8 @@ ghost use Rattle.bp_replay.specs.Replays.{IsReplay, ReplaysTaken};
 ghost use Rattle.bp_replay.specs.inner.Behind.{EndsBehind, TakenBehind};
 
 use bp_base::{Sink, Source};
-use crate::{ReplayFault, replay_onto};
+use crate::fault::ReplayFault;
+use crate::telling::replay_onto;
 use bp_log::{Header, Verdict};
 use bp_reader::Reader;
 use bp_script::{ScriptFault, accept};

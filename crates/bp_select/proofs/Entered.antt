@@ -9,7 +9,7 @@ use Rattle.js_data.proofs.Shared.{drop_is}
 use Rattle.js_value.specs.Value.{PlainSet}
 use Rattle.bp_run.specs.Selecting.{Live}
 use Rattle.bp_select.specs.Tops.{Top, raised, with_request, with_requests, with_live}
-use Rattle.bp_select.proofs.Tops.{request_at}
+use Rattle.bp_select.proofs.TopLemmas.{request_at}
 
 module _ {K : Type 0} (f : K → PlainEvent) where
   abbrev eq_by : K → K → Bool

@@ -21,10 +21,10 @@ use Rattle.bp_select.specs.Heeding.{Each, IsNoted, Stays, any_key}
 use Rattle.bp_select.specs.Lives.{live_of}
 use Rattle.bp_select.specs.Parts.{IsPart}
 use Rattle.bp_select.specs.Places.{place_in, is_number, AreInOrder}
-use Rattle.bp_select.proofs.Heeding.{each_at, in_push, in_pushed, number_at, place_own}
+use Rattle.bp_select.proofs.HeedLemmas.{each_at, in_push, in_pushed, number_at, place_own}
 use Rattle.bp_select.proofs.Leaving.{at_within}
-use Rattle.bp_select.proofs.Parts.{part_push, part_skip}
-use Rattle.bp_select.proofs.Touching.{Reaches, reaches_step, reaches_fault}
+use Rattle.bp_select.proofs.PartLemmas.{part_push, part_skip}
+use Rattle.bp_select.proofs.TouchLemmas.{Reaches, reaches_step, reaches_fault}
 
 -- ---- places
 

@@ -18,7 +18,7 @@ use Rattle.bp_steps.specs.Steps.{Moment, pair_at, is_resting, picked, settled, a
 use Rattle.bp_arbiter.specs.declared.picked.Picked.{Picked}
 use Rattle.bp_arbiter.specs.declared.picked.Picked.TheVariants.{Wait}
 use Rattle.bp_arbiter.specs.Arbiters.{PlainArbiter, code_in, options_in, coming}
-use Rattle.bp_arbiter.specs.Picking.{picked_of}
+use Rattle.bp_arbiter.specs.Pick.{picked_of}
 use Rattle.bp_core.specs.declared.stepping.Core.{Core}
 use Rattle.bp_core.specs.Cores.{IsCoreAt, Makes, KeepsProgram}
 use Rattle.bp_core.specs.Moments.{step_on}

@@ -15,8 +15,8 @@ use Rattle.bp_floor.specs.declared.phase.Phase.{Phase}
 use Rattle.bp_code.specs.Code.{sealed_code_of as code_of}
 use Rattle.bp_floor.specs.Floors.{PlainFloor}
 use Rattle.bp_arbiter.specs.Arbiters.{PlainArbiter, code_in, options_in, stand_in, Recounts, coming}
-use Rattle.bp_arbiter.specs.Lending.{AllCanRun}
-use Rattle.bp_arbiter.specs.Sealing.{ending}
+use Rattle.bp_arbiter.specs.Lend.{AllCanRun}
+use Rattle.bp_arbiter.specs.Seal.{ending}
 
 pub same_code : (a b : PlainArbiter) → b.floor.base.program ≡ a.floor.base.program → options_in b ≡ options_in a → code_in b ≡ code_in a
 same_code a b p q = λ i. code_of (p i) (q i)

@@ -4,7 +4,7 @@ use Rattle.std.proofs.lemmas.List.Elements.{All-weaker, All-from_recursion}
 use Rattle.js_meaning.specs.State.{Ground}
 use Rattle.bp_thread.specs.declared.job.Job.{Job}
 use Rattle.bp_thread.specs.Jobs.{plain_job, IsOf, IsWhole}
-use Rattle.bp_arbiter.specs.Lending.{AllCanRun, CanRun}
+use Rattle.bp_arbiter.specs.Lend.{AllCanRun, CanRun}
 use Rattle.bp_pool.specs.Carrying.{AreOf, AreOpen}
 
 -- jobs that are to be carried on are of the ground's program

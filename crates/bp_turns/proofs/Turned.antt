@@ -16,8 +16,8 @@ use Rattle.bp_floor.specs.declared.phase.Phase.{Phase}
 use Rattle.bp_floor.specs.declared.phase.Phase.TheVariants.{Ready, Over}
 use Rattle.bp_floor.specs.Floors.{phase_at, phase_of}
 use Rattle.bp_arbiter.specs.Arbiters.{PlainArbiter, code_in, options_in, stand_in, Recounts, StandsFor, StandsSomewhere, is_lent, is_over}
-use Rattle.bp_arbiter.specs.Sealing.{ending, after_turn}
-use Rattle.bp_arbiter.proofs.Seals.{ended_verdict}
+use Rattle.bp_arbiter.specs.Seal.{ending, after_turn}
+use Rattle.bp_arbiter.proofs.SealLemmas.{ended_verdict}
 use Rattle.bp_turns.specs.Turning.{GoesOn, Closes, Settles}
 use Rattle.bp_turns.proofs.Verdicts.{settles_over}
 use Rattle.bp_turns.proofs.Arbiters.{same_code, recounts_in}

@@ -23,7 +23,7 @@ use Rattle.js_names.specs.Sites.{Site, site, read_site, assign_site, member_site
 use Rattle.js_names.specs.Places.{is_var, see}
 use Rattle.js_names.specs.Scoped.{is_lexical, ScopedExpr, ScopedForm, ScopedExprs, ScopedFields, ScopedPerhaps, ScopedDeclarators, ScopedStart, ScopedStmt, ScopedBody, ScopedStmtForm, ScopedStmts, ScopedItems}
 use Rattle.js_names.specs.Kept.{IsOwn, stands, IsSeenAlike, ProgramsKeepEnough}
-use Rattle.js_names.proofs.Keeping.{keeps_enough}
+use Rattle.js_names.proofs.KeptLemmas.{keeps_enough}
 
 -- the innermost scope has the name itself
 abbrev HasName : List Scope → List ℕ → Type 0

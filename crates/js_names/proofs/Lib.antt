@@ -3,7 +3,7 @@ mod Examples
 pub mod Stacks
 pub mod Taking
 pub mod Making
-pub mod Holding
+pub mod HeldLemmas
 pub mod Firsts
 pub mod Adding
 pub mod Exprs

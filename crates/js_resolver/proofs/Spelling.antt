@@ -12,9 +12,9 @@ use Rattle.js_grammar.specs.Trees.{IsTree}
 use Rattle.js_names.specs.Rules.{name_fault}
 use Rattle.js_resolver.specs.Resolved.{program_of_tree}
 use Rattle.js_resolver.specs.Spelled.{next, InOrder, IsSpelled}
-use Rattle.js_resolver.proofs.SoundResolved.{resolved_sound}
-use Rattle.js_resolver.proofs.ApartNames.{spelled_apart}
-use Rattle.js_resolver.proofs.ApartCounts.{spelled_few}
+use Rattle.js_resolver.proofs.sound.Resolved.{resolved_sound}
+use Rattle.js_resolver.proofs.apart.Names.{spelled_apart}
+use Rattle.js_resolver.proofs.apart.Counts.{spelled_few}
 
 -- the program is sound where no rule of names is broken
 pub spelled_sound : (items : List PlainItem) → IsSpelled items → name_fault items ≡ None → IsSound (program_of_tree items)

@@ -18,15 +18,15 @@ use Rattle.bp_thread.specs.declared.job.Job.{Job}
 use Rattle.bp_thread.specs.Carried.{AreCarriedOut}
 use Rattle.bp_floor.specs.declared.phase.Phase.{Phase}
 use Rattle.bp_floor.specs.declared.phase.Phase.TheVariants.{Ready, Lent}
-use Rattle.bp_floor.specs.Lending.{AreLent, filled_pair, standing}
+use Rattle.bp_floor.specs.Loans.{AreLent, filled_pair, standing}
 use Rattle.bp_floor.specs.Floors as floors
 use Rattle.bp_floor.specs.Floors.{PlainFloor, StandsFor, StandsWith, IsPhased, code_on, is_idle}
 use Rattle.bp_arbiter.specs.Arbiters.{PlainArbiter, IsDrawn, StandsFor as ArbiterStands}
-use Rattle.bp_arbiter.specs.Lending.{AreOut}
+use Rattle.bp_arbiter.specs.Lend.{AreOut}
 use Rattle.bp_arbiter.proofs.Calls.{calls_turned}
-use Rattle.bp_arbiter.proofs.Lends.{lent_out, back_done, filled_same}
-use Rattle.bp_arbiter.proofs.Picks.{unfilled}
-use Rattle.bp_arbiter.proofs.Seals.{as_many}
+use Rattle.bp_arbiter.proofs.LendLemmas.{lent_out, back_done, filled_same}
+use Rattle.bp_arbiter.proofs.PickLemmas.{unfilled}
+use Rattle.bp_arbiter.proofs.SealLemmas.{as_many}
 use Rattle.bp_arbiter.proofs.Told.{same_code, at_rest_busy}
 use Rattle.test_arbiter.specs.Floors.{Goes}
 

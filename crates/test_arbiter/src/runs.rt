@@ -1,7 +1,7 @@
 //! An arbiter that is moved on by hand.
 ghost use Rattle.std.specs.Prelude.{◌≡◌, false};
 ghost use Rattle.bp_floor.specs.declared.phase.Phase.TheVariants as phase;
-ghost use Rattle.bp_arbiter.specs.Absorbing.{is_failed};
+ghost use Rattle.bp_arbiter.specs.Absorb.{is_failed};
 
 use crate::lines::event;
 use bp_arbiter::{Arbiter, Phase, Picked};

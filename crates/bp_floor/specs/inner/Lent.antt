@@ -11,8 +11,8 @@ use Rattle.bp_thread.specs.Jobs.{plain_job, IsOf, IsFresh}
 use Rattle.bp_floor.specs.inner.Seating.{PlainSeat, seated, is_waiting, is_ready, where_from, stated_from, AreOwn}
 use Rattle.bp_floor.specs.inner.Seated.{job_at}
 use Rattle.bp_floor.specs.inner.Kept.{Running, AreBelow, runs_in}
-use Rattle.bp_floor.specs.Lending.{AreLent, filled, standing}
-use Rattle.bp_floor.specs.Returning.{ground_at, RunsAlone}
+use Rattle.bp_floor.specs.Loans.{AreLent, filled, standing}
+use Rattle.bp_floor.specs.Returns.{ground_at, RunsAlone}
 
 -- a job that stands at the start of this body
 pub record IsStarted (base : Ground) (o : PlainOptions) (number : ℕ) (origin : Origin) (j : Job)

@@ -2,9 +2,9 @@ use Rattle.std.proofs.Common.{◌<◌, ◌+◌, ◌∙◌, ℕ, List, length, ma
 use Rattle.std.specs.Borrow.{Bor}
 use Rattle.bp_run.specs.Choosing.{Touched as to}
 use Rattle.bp_floor.specs.declared.touching.Touch.{Touch}
-use Rattle.bp_floor.specs.inner.Touching.{touch_seen}
+use Rattle.bp_floor.specs.inner.Reached.{touch_seen}
 use Rattle.bp_floor.proofs.Weaving.{Weaves, weaves_start, weaves_moves, weaves_interrupts, weaves_none}
-use Rattle.bp_floor.proofs.Goes.{first_is, looked_up, weaves_same, pushed_seen}
+use Rattle.bp_floor.proofs.TransitionLemmas.{first_is, looked_up, weaves_same, pushed_seen}
 use Rattle.bp_floor.proofs.going.touches_of.Goals.{in-Some-Moves+in_ok-push-in-Some-Moves, in-Some-Interrupts+in_ok-push-in-Some-Interrupts, in-None}
 use Rattle.bp_floor.proofs.going.touches_of.Goals as goal
 

@@ -1,5 +1,5 @@
 use Rattle.std.proofs.Common.{map}
-use Rattle.bp_floor.specs.inner.Touching.{touch_seen}
+use Rattle.bp_floor.specs.inner.Reached.{touch_seen}
 use Rattle.bp_floor.proofs.Weaving.{Weaves}
 use Rattle.bp_floor.proofs.going.touches_of.Given as goal
 

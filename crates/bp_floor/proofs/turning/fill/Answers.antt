@@ -1,5 +1,5 @@
 use Rattle.std.proofs.Common.{◌∙◌, sym}
-use Rattle.bp_floor.proofs.Returns.{filled_ended, filled_not}
+use Rattle.bp_floor.proofs.ReturnLemmas.{filled_ended, filled_not}
 use Rattle.bp_floor.proofs.turning.fill.Goals as goal
 
 pub returns-then-has_ended-clause-filled : goal.returns-then-has_ended-clause-filled

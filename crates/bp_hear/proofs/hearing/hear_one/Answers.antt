@@ -1,5 +1,5 @@
 use Rattle.std.proofs.Common.{rules, ◌≡◌, Some, None, false, refl, sym, ap, ◌∙◌}
-use Rattle.bp_arbiter.specs.Absorbing.{is_failed}
+use Rattle.bp_arbiter.specs.Absorb.{is_failed}
 use Rattle.bp_arbiter.specs.Arbiters.{stand_in}
 use Rattle.bp_core.specs.declared.stepping.Core.{Core}
 use Rattle.bp_hear.proofs.Hears.{brings_as, back_full, back_memory, sound_item, hears_none, hears_item}

@@ -6,7 +6,7 @@ use Rattle.bp_select.specs.Lives.{lent}
 use Rattle.bp_select.specs.Candidates.{event_of}
 use Rattle.bp_select.specs.declared.candidate.Candidate.{Candidate}
 use Rattle.bp_select.proofs.Questions.{unblocked_step, unblocked_last, unblocked_fault}
-use Rattle.bp_select.proofs.Tops.{tops_step}
+use Rattle.bp_select.proofs.TopLemmas.{tops_step}
 use Rattle.bp_select.proofs.asking.unblocked.Goals as goal
 
 pub loop-candidate-preserved : goal.loop-candidate-preserved

@@ -5,7 +5,7 @@ use Rattle.bp_select.specs.Priorities.{top_of}
 use Rattle.bp_select.specs.Candidates.{event_of, events_in}
 use Rattle.bp_select.specs.declared.candidate.Candidate.{Candidate}
 use Rattle.bp_select.proofs.Firsts.{kept_step, kept_last}
-use Rattle.bp_select.proofs.Tops.{tops_get}
+use Rattle.bp_select.proofs.TopLemmas.{tops_get}
 use Rattle.bp_select.proofs.choosing.greatest.Goals as goal
 
 pub loop-candidate-preserved : goal.loop-candidate-preserved

@@ -3,7 +3,7 @@ use Rattle.bp_select.specs.Priorities.{upper, top_of}
 use Rattle.bp_select.specs.Candidates.{event_of, events_in}
 use Rattle.bp_select.specs.declared.candidate.Candidate.{Candidate}
 use Rattle.bp_select.proofs.Remains.{top_step, top_last}
-use Rattle.bp_select.proofs.Tops.{tops_get}
+use Rattle.bp_select.proofs.TopLemmas.{tops_get}
 use Rattle.bp_select.proofs.choosing.top_of.Goals as goal
 
 pub loop-candidate-preserved : goal.loop-candidate-preserved

@@ -1,7 +1,7 @@
 use Rattle.std.proofs.Common.{◌∙◌, ℕ, List, ap, get_or, refl}
 use Rattle.std.proofs.lemmas.List.{take_all}
 use Rattle.bp_roll.specs.Rolls.{is_in}
-use Rattle.bp_select.proofs.Heeding.{in_pushed}
+use Rattle.bp_select.proofs.HeedLemmas.{in_pushed}
 use Rattle.bp_select.proofs.Finding.{places_step}
 use Rattle.bp_select.proofs.heeds.add_places.Goals as goal
 

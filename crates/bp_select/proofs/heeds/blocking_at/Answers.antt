@@ -6,7 +6,7 @@ use Rattle.bp_select.specs.Heeding.{IsNoted, blocks_key}
 use Rattle.bp_select.specs.Lives.{live_of}
 use Rattle.bp_select.specs.Parts.{blocks_nothing}
 use Rattle.bp_select.proofs.Finding.{found_at}
-use Rattle.bp_select.proofs.Heeding.{each_map}
+use Rattle.bp_select.proofs.HeedLemmas.{each_map}
 use Rattle.bp_select.proofs.heeds.blocking_at.Goals as goal
 
 pub part_at-requires : goal.part_at-requires

@@ -4,7 +4,7 @@ use Rattle.bp_roll.specs.Rolls.{is_in}
 use Rattle.bp_select.specs.declared.bench.Stated.{Stated}
 use Rattle.bp_select.specs.Heeding.{HeedsAt}
 use Rattle.bp_select.specs.Lives.{live_of}
-use Rattle.bp_select.proofs.Heeding.{absent_each, each_map, found_each}
+use Rattle.bp_select.proofs.HeedLemmas.{absent_each, each_map, found_each}
 use Rattle.bp_select.proofs.Leaving.{at_within}
 use Rattle.bp_select.proofs.heeds.keys_at.Goals as goal
 

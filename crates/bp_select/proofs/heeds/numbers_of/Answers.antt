@@ -1,4 +1,4 @@
-use Rattle.bp_select.proofs.Heeding.{numbers_all, numbers_step}
+use Rattle.bp_select.proofs.HeedLemmas.{numbers_all, numbers_step}
 use Rattle.bp_select.proofs.heeds.numbers_of.Goals as goal
 
 pub loop-stated-preserved : goal.loop-stated-preserved

@@ -1,6 +1,6 @@
 use Rattle.std.proofs.Common.{map}
 use Rattle.bp_select.specs.Lives.{live_of}
-use Rattle.bp_select.proofs.Heeding.{noted_when}
+use Rattle.bp_select.proofs.HeedLemmas.{noted_when}
 use Rattle.bp_select.proofs.heeds.settle_one.Goals as goal
 
 pub returns-clause-noted : goal.returns-clause-noted

@@ -5,7 +5,7 @@ use Rattle.bp_roll.specs.Rolls.{is_in}
 use Rattle.bp_sets.proofs.Deciding.{set_below}
 use Rattle.bp_select.specs.Feeding.{event_key}
 use Rattle.bp_select.specs.Heeding.{HaveKeysOf}
-use Rattle.bp_select.proofs.Heeding.{in_push, keys_any, keys_only}
+use Rattle.bp_select.proofs.HeedLemmas.{in_push, keys_any, keys_only}
 use Rattle.bp_select.proofs.keys.+add.Goals as goal
 
 pub add_set-returns-in_ok-push-in-Only-clause-set : goal.add_set-returns-in_ok-push-in-Only-clause-set

@@ -2,7 +2,7 @@ use Rattle.std.proofs.Common.{◌≡◌, ℕ, true}
 use Rattle.js_value.specs.Sizes.{set_size, sets_size}
 use Rattle.js_value.specs.Views.{set_list_of}
 use Rattle.bp_roll.specs.Rolls.{is_in}
-use Rattle.bp_select.proofs.Heeding.{HaveKeys}
+use Rattle.bp_select.proofs.HeedLemmas.{HaveKeys}
 use Rattle.bp_select.proofs.keys.+add.Given as goal
 
 abbrev pub decreases-add_set : goal.decreases-add_set

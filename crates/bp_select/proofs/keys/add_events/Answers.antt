@@ -3,7 +3,7 @@ use Rattle.std.specs.List.{list_any}
 use Rattle.std.proofs.lemmas.List.{take_all}
 use Rattle.js_data.specs.Event.{PlainEvent, same_event}
 use Rattle.bp_roll.specs.Rolls.{is_in}
-use Rattle.bp_select.proofs.Heeding.{events_step, in_pushed}
+use Rattle.bp_select.proofs.HeedLemmas.{events_step, in_pushed}
 use Rattle.bp_select.proofs.keys.add_events.Goals as goal
 
 pub loop-event-preserved : goal.loop-event-preserved

@@ -1,5 +1,5 @@
 use Rattle.bp_select.specs.Lives.{live_of}
-use Rattle.bp_select.proofs.Heeding.{heeds_all}
+use Rattle.bp_select.proofs.HeedLemmas.{heeds_all}
 use Rattle.bp_select.proofs.keys.keys_of.Goals as goal
 
 pub returns : goal.returns

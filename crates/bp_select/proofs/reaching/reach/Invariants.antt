@@ -1,7 +1,7 @@
 use Rattle.std.proofs.Common.{drop}
 use Rattle.js_frames.specs.Places.{plain_ground}
 use Rattle.bp_meaning.specs.Membership.{member}
-use Rattle.bp_select.proofs.Touching.{Reaches}
+use Rattle.bp_select.proofs.TouchLemmas.{Reaches}
 use Rattle.bp_select.proofs.reaching.reach.Given as goal
 
 abbrev pub invariant-loop-stated : goal.invariant-loop-stated

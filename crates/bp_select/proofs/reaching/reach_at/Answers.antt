@@ -4,7 +4,7 @@ use Rattle.js_frames.specs.Places.{plain_ground}
 use Rattle.bp_meaning.specs.Membership.{member}
 use Rattle.bp_select.specs.declared.answers.Reach.{Reach}
 use Rattle.bp_select.proofs.Finding.{ArePassed, adds_fault, adds_step, asked_last, asked_next, passed_step}
-use Rattle.bp_select.proofs.Touching.{Reaches, reaches_last}
+use Rattle.bp_select.proofs.TouchLemmas.{Reaches, reaches_last}
 use Rattle.bp_select.proofs.reaching.reach_at.Goals as goal
 use Rattle.bp_select.proofs.reaching.reach_at.Goals.{then-is_between+in_ok-ask_at, else-is_between}
 

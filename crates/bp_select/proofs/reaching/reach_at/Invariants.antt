@@ -2,7 +2,7 @@ use Rattle.std.proofs.Common.{◌≤◌, drop, length}
 use Rattle.js_frames.specs.Places.{plain_ground}
 use Rattle.bp_meaning.specs.Membership.{member}
 use Rattle.bp_select.proofs.Finding.{ArePassed}
-use Rattle.bp_select.proofs.Touching.{Reaches}
+use Rattle.bp_select.proofs.TouchLemmas.{Reaches}
 use Rattle.bp_select.proofs.reaching.reach_at.Given as goal
 
 abbrev pub invariant-loop-place : goal.invariant-loop-place

@@ -14,7 +14,7 @@ use Rattle.bp_select.specs.Candidates.{tops_of}
 use Rattle.bp_select.specs.Free.{free_of}
 use Rattle.bp_select.specs.Lives.{live_of, lent}
 use Rattle.bp_select.specs.Parts.{IsPart, blocks_nothing}
-use Rattle.bp_select.proofs.Parts.{of_part, order_part, tops_part}
+use Rattle.bp_select.proofs.PartLemmas.{of_part, order_part, tops_part}
 use Rattle.bp_select.proofs.selecting.selectable.Goals as goal
 
 pub told-requires-clause-order : goal.told-requires-clause-order

@@ -1,4 +1,4 @@
-use Rattle.js_names.proofs.Holding.{captures_taken}
+use Rattle.js_names.proofs.HeldLemmas.{captures_taken}
 use Rattle.js_names.proofs.holdings.captured.Goals as goal
 
 pub returns : goal.returns

@@ -1,4 +1,4 @@
-use Rattle.js_names.proofs.Holding.{holds_both}
+use Rattle.js_names.proofs.HeldLemmas.{holds_both}
 use Rattle.js_names.proofs.holdings.hold_all.Goals as goal
 
 pub returns : goal.returns

@@ -2,7 +2,7 @@ use Rattle.std.proofs.Common.{◌∙◌, ap, arith}
 use Rattle.js_names.specs.Slots.{captures_in}
 use Rattle.js_names.specs.Views.{place_of}
 use Rattle.js_names.specs.Held.{held_in}
-use Rattle.js_names.proofs.Holding.{holds_more, holds_again}
+use Rattle.js_names.proofs.HeldLemmas.{holds_more, holds_again}
 use Rattle.js_names.proofs.holdings.hold_all_captures.Goals.{then-not-is_made+in_ok-hold_captures+in_ok-note_captures, else-not-is_made}
 use Rattle.js_names.proofs.holdings.hold_all_captures.Goals as goal
 

@@ -2,7 +2,7 @@ use Rattle.std.proofs.Common.{◌≡◌, ◌∙◌, sym, arith, fold, get_or, dr
 use Rattle.std.proofs.lemmas.List.{at_drop_more, at_drop_all}
 use Rattle.js_names.specs.Slots.{joins, held_by, holds_all, inside}
 use Rattle.js_names.specs.Held.{held_in}
-use Rattle.js_names.proofs.Holding.{inside_step, inside_stop}
+use Rattle.js_names.proofs.HeldLemmas.{inside_step, inside_stop}
 use Rattle.js_names.proofs.holdings.hold_inside.Goals as goal
 
 pub returns-then-function-declared : goal.returns-then-function-declared

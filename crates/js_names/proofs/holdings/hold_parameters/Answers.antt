@@ -1,7 +1,7 @@
 use Rattle.std.proofs.Common.{arith}
 use Rattle.js_names.specs.Slots.{parameter_in}
 use Rattle.js_names.specs.Views.{place_of}
-use Rattle.js_names.proofs.Holding.{holds_more}
+use Rattle.js_names.proofs.HeldLemmas.{holds_more}
 use Rattle.js_names.proofs.holdings.hold_parameters.Goals as goal
 
 pub loop-place-preserved : goal.loop-place-preserved

@@ -2,7 +2,7 @@ use Rattle.std.proofs.Common.{◌∙◌, ap, sym, subst, Some}
 use Rattle.std.specs.Slice.{IsItemAt}
 use Rattle.js_names.specs.Slots.{holds_all, inside}
 use Rattle.js_names.specs.Views.{place_of}
-use Rattle.js_names.proofs.Holding.{made_captures}
+use Rattle.js_names.proofs.HeldLemmas.{made_captures}
 use Rattle.js_names.proofs.holdings.is_made.Goals as goal
 
 pub returns : goal.returns

@@ -1,4 +1,4 @@
-use Rattle.js_names.proofs.Holding.{slots_taken}
+use Rattle.js_names.proofs.HeldLemmas.{slots_taken}
 use Rattle.js_names.proofs.holdings.slots.Goals as goal
 
 pub returns : goal.returns

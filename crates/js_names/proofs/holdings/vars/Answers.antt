@@ -1,4 +1,4 @@
-use Rattle.js_names.proofs.Holding.{vars_taken}
+use Rattle.js_names.proofs.HeldLemmas.{vars_taken}
 use Rattle.js_names.proofs.holdings.vars.Goals as goal
 
 pub returns : goal.returns

@@ -1,4 +1,4 @@
-use Rattle.js_names.proofs.Keeping.{keeps_enough}
+use Rattle.js_names.proofs.KeptLemmas.{keeps_enough}
 use Rattle.js_names.proofs.Homes.{programs_keep_enough}
 use Rattle.js_names.proofs.laws.blocks_keep_enough.Goals as goal
 

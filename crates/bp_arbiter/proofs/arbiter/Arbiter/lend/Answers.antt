@@ -6,8 +6,8 @@ use Rattle.bp_arbiter.specs.Arbiters.{PlainArbiter, stand_in}
 use Rattle.bp_arbiter.specs.Runs.{seen}
 use Rattle.bp_arbiter.proofs.Told.{leaves, given_up_before, given_up_now}
 use Rattle.bp_arbiter.proofs.Turnings.{at_phase}
-use Rattle.bp_arbiter.proofs.Lends.{as_many_lent}
-use Rattle.bp_arbiter.proofs.Lendings.{lends}
+use Rattle.bp_arbiter.proofs.LendLemmas.{as_many_lent}
+use Rattle.bp_arbiter.proofs.LendSteps.{lends}
 use Rattle.bp_arbiter.proofs.arbiter.Arbiter.lend.Goals as goal
 
 pub returns-then-self-clause-memory : goal.returns-then-self-clause-memory

@@ -8,7 +8,7 @@ use Rattle.bp_floor.specs.declared.phase.Phase.{Phase}
 use Rattle.bp_floor.specs.declared.phase.Phase.TheVariants.{Rest}
 use Rattle.bp_arbiter.specs.declared.picked.Picked.{Picked}
 use Rattle.bp_arbiter.specs.Arbiters.{PlainArbiter, StandsFor, Tells, Recounts, code_in, coming}
-use Rattle.bp_arbiter.specs.Picking.{after_pick, picked_of, phase_after}
+use Rattle.bp_arbiter.specs.Pick.{after_pick, picked_of, phase_after}
 use Rattle.bp_arbiter.specs.Runs.{seen}
 use Rattle.bp_arbiter.specs.Sound.{IsSound}
 use Rattle.bp_arbiter.proofs.Told.{stands_tells, given_up_before, given_up_now}

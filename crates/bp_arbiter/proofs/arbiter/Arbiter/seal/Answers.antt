@@ -9,12 +9,12 @@ use Rattle.bp_floor.specs.declared.phase.Phase.{Phase}
 use Rattle.bp_floor.specs.declared.phase.Phase.TheVariants.{Lent}
 use Rattle.bp_arbiter.specs.Arbiters.{PlainArbiter, StandsFor, code_in, options_in}
 use Rattle.bp_arbiter.specs.Runs.{seen}
-use Rattle.bp_arbiter.specs.Sealing.{after_turn}
+use Rattle.bp_arbiter.specs.Seal.{after_turn}
 use Rattle.bp_arbiter.specs.Sound.{IsSound}
-use Rattle.bp_arbiter.specs.Lending.{AreReturned}
+use Rattle.bp_arbiter.specs.Lend.{AreReturned}
 use Rattle.bp_arbiter.proofs.Told.{given_up_before, given_up_now}
 use Rattle.bp_arbiter.proofs.Turnings.{at_phase}
-use Rattle.bp_arbiter.proofs.Sealings.{floor_back, cut_off, cut_sound, seal_stands, seal_over_back, seal_grows, seal_sound}
+use Rattle.bp_arbiter.proofs.SealSteps.{floor_back, cut_off, cut_sound, seal_stands, seal_over_back, seal_grows, seal_sound}
 use Rattle.bp_arbiter.proofs.arbiter.Arbiter.seal.Goals as goal
 
 pub seal-requires-clause-back : goal.seal-requires-clause-back

@@ -1,7 +1,7 @@
 use Rattle.std.proofs.Common.{◌≡◌, sym, subst, Bool, OnOk}
 use Rattle.bp_log.specs.declared.item.Item.{Item}
 use Rattle.bp_floor.specs.declared.phase.Phase.{Phase}
-use Rattle.bp_arbiter.specs.Absorbing.{absorbed}
+use Rattle.bp_arbiter.specs.Absorb.{absorbed}
 use Rattle.bp_arbiter.specs.Runs.{seen}
 use Rattle.bp_arbiter.proofs.run.Run.absorb.Goals as goal
 

@@ -7,10 +7,10 @@ use Rattle.bp_select.specs.declared.answers.SelectFault.{SelectFault}
 use Rattle.bp_select.specs.Answers.{FaultAs, IsWithin, chosen_of}
 use Rattle.bp_select.specs.Draws.{PlainDraw}
 use Rattle.bp_floor.specs.Floors.{PlainFloor}
-use Rattle.bp_floor.proofs.Goes.{verdict_for}
+use Rattle.bp_floor.proofs.TransitionLemmas.{verdict_for}
 use Rattle.bp_floor.proofs.Lists.{found}
 use Rattle.bp_arbiter.specs.declared.run.Run.{Run}
-use Rattle.bp_arbiter.specs.Picking.{picked_of}
+use Rattle.bp_arbiter.specs.Pick.{picked_of}
 use Rattle.bp_arbiter.specs.Runs.{next_chosen_in, next_idle_in, HasCome}
 use Rattle.bp_arbiter.proofs.Told.{no_verdict}
 use Rattle.bp_arbiter.proofs.Comes.{IsChoosing, choice_in, can_go_on, queued_choice, fault_within, next_chosen_is, next_idle_is, next_faulty, come, chosen_goes, fault_told}

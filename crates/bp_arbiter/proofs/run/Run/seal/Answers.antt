@@ -1,6 +1,6 @@
 use Rattle.std.proofs.Common.{◌∙◌, ap, sym, Some, option_map}
 use Rattle.bp_select.specs.Draws.{PlainDraw}
-use Rattle.bp_arbiter.proofs.Seals.{turned_ended}
+use Rattle.bp_arbiter.proofs.SealLemmas.{turned_ended}
 use Rattle.bp_arbiter.proofs.run.Run.seal.Goals as goal
 
 pub returns-in_ok-end-clause-turned : goal.returns-in_ok-end-clause-turned

@@ -6,7 +6,7 @@ use Rattle.bp_thread.specs.declared.job.Job.{Job}
 use Rattle.bp_steps.specs.declared.step.CoreStep.TheVariants.{Absorb}
 use Rattle.bp_steps.specs.Steps.{pair_at}
 use Rattle.bp_core.specs.declared.stepping.Core.{Core}
-use Rattle.bp_arbiter.specs.Absorbing.{absorbed, fits, with_item}
+use Rattle.bp_arbiter.specs.Absorb.{absorbed, fits, with_item}
 use Rattle.bp_arbiter.specs.Arbiters.{StandsFor, is_over, stand_in}
 use Rattle.bp_core.specs.Moments.{IsAt}
 use Rattle.bp_core.specs.Cores.{Makes}

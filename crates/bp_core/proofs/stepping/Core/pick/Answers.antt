@@ -3,7 +3,7 @@ use Rattle.js_meaning.specs.State.{Ground}
 use Rattle.bp_steps.specs.Steps.{pair_at, picked}
 use Rattle.bp_arbiter.specs.declared.picked.Picked.{Picked}
 use Rattle.bp_arbiter.specs.Arbiters.{code_in, coming, is_over}
-use Rattle.bp_arbiter.specs.Picking.{phase_after}
+use Rattle.bp_arbiter.specs.Pick.{phase_after}
 use Rattle.bp_core.proofs.Leads.{pick_leads, ready_picked, told_is, alone}
 use Rattle.std.proofs.lemmas.Result.{err_from_is_err_and}
 use Rattle.bp_core.proofs.stepping.Core.pick.Goals as goal

@@ -5,7 +5,7 @@ use Rattle.bp_thread.specs.declared.job.Job.{Job}
 use Rattle.bp_steps.specs.Steps.{pair_at, settled, sealed}
 use Rattle.bp_run.specs.Settling.{turn}
 use Rattle.bp_arbiter.specs.Arbiters.{code_in, options_in, stand_in, is_over, is_lent}
-use Rattle.bp_arbiter.specs.Lending.{AreBack, AreReturned}
+use Rattle.bp_arbiter.specs.Lend.{AreBack, AreReturned}
 use Rattle.bp_core.proofs.Leads.{count_is}
 use Rattle.bp_core.proofs.Merges.{seal_leads, ready_sealed, back_of, unlent_phase, stands_back, carried_out_on}
 use Rattle.std.proofs.lemmas.Result.{err_from_is_err_and}

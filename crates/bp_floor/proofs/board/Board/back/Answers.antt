@@ -3,7 +3,7 @@ use Rattle.js_frames.specs.Places.{plain_ground}
 use Rattle.js_meaning.specs.State.{Effect}
 use Rattle.bp_meaning.specs.After.{effect_of}
 use Rattle.bp_floor.specs.inner.Entries.{entry_seen}
-use Rattle.bp_floor.proofs.Returns.{puts_kept, taken}
+use Rattle.bp_floor.proofs.ReturnLemmas.{puts_kept, taken}
 use Rattle.bp_floor.proofs.board.Board.back.Goals as goal
 
 pub returns-clause-puts : goal.returns-clause-puts

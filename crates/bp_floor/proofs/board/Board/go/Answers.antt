@@ -3,10 +3,10 @@ use Rattle.js_meaning.specs.Bodies.{Origin}
 use Rattle.js_frames.specs.Places.{plain_ground}
 use Rattle.bp_run.specs.Settling.{Pair}
 use Rattle.bp_floor.specs.declared.going.Outlook.{Outlook}
-use Rattle.bp_floor.specs.inner.Touching.{touch_seen}
-use Rattle.bp_floor.specs.inner.Going.{LooksAs, floor_on}
+use Rattle.bp_floor.specs.inner.Reached.{touch_seen}
+use Rattle.bp_floor.specs.inner.Transition.{LooksAs, floor_on}
 use Rattle.bp_floor.proofs.Gone.{place_there, few_transitions}
-use Rattle.bp_floor.proofs.Goes.{can, moved}
+use Rattle.bp_floor.proofs.TransitionLemmas.{can, moved}
 use Rattle.bp_floor.proofs.board.Board.go.Goals as goal
 
 pub entries-requires : goal.entries-requires

@@ -5,10 +5,10 @@ use Rattle.bp_select.specs.declared.answers.SelectFault.{SelectFault}
 use Rattle.bp_select.specs.Answers.{FaultAs}
 use Rattle.js_frames.specs.Places.{plain_ground}
 use Rattle.bp_floor.specs.inner.Boards.{stand_of}
-use Rattle.bp_floor.specs.inner.Going.{floor_on}
+use Rattle.bp_floor.specs.inner.Transition.{floor_on}
 use Rattle.bp_code.specs.Code.{sealed_code_of as code_of}
 use Rattle.bp_floor.proofs.Onward.{pair_asked}
-use Rattle.bp_floor.proofs.Goes.{reach_at_rest, few_at_rest, faulty_at_rest, stops_at_fault, verdict_told}
+use Rattle.bp_floor.proofs.TransitionLemmas.{reach_at_rest, few_at_rest, faulty_at_rest, stops_at_fault, verdict_told}
 use Rattle.bp_floor.proofs.board.Board.look.Goals as goal
 
 pub weighed-requires-clause-few : goal.weighed-requires-clause-few

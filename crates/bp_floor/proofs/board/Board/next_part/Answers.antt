@@ -9,9 +9,9 @@ use Rattle.bp_run.specs.Bodies as run
 use Rattle.bp_thread.specs.declared.job.Job.{Job}
 use Rattle.bp_floor.specs.inner.Entries.{entry_seen}
 use Rattle.bp_floor.specs.inner.Parts.{part_seen}
-use Rattle.bp_floor.specs.Returning.{Puts}
+use Rattle.bp_floor.specs.Returns.{Puts}
 use Rattle.bp_floor.proofs.Lists.{nothing_to_come}
-use Rattle.bp_floor.proofs.Returns.{puts_nothing, puts_none_left}
+use Rattle.bp_floor.proofs.ReturnLemmas.{puts_nothing, puts_none_left}
 use Rattle.bp_floor.proofs.board.Board.next_part.Goals as goal
 
 pub returns-then-not-has_body-clause-puts : goal.returns-then-not-has_body-clause-puts

@@ -3,7 +3,7 @@ use Rattle.std.specs.Vec.Iter.{into_iter_items}
 use Rattle.bp_floor.specs.declared.entry.Entry as entry
 use Rattle.bp_floor.specs.inner.Entries.{entry_seen}
 use Rattle.bp_floor.proofs.Lists.{nothing_to_come}
-use Rattle.bp_floor.proofs.Returns.{goes_begin, goes_left, goes_some, goes_next, goes_end}
+use Rattle.bp_floor.proofs.ReturnLemmas.{goes_begin, goes_left, goes_some, goes_next, goes_end}
 use Rattle.bp_floor.proofs.board.Board.put_back.Goals as goal
 
 pub loop-entry-init : goal.loop-entry-init

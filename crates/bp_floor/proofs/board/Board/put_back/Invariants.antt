@@ -2,7 +2,7 @@ use Rattle.std.proofs.Common.{◌≡◌, map}
 use Rattle.std.specs.Vec.Iter.{into_iter_items}
 use Rattle.js_frames.specs.Places.{plain_ground}
 use Rattle.bp_floor.specs.inner.Entries.{entry_seen}
-use Rattle.bp_floor.proofs.Returns.{Goes}
+use Rattle.bp_floor.proofs.ReturnLemmas.{Goes}
 use Rattle.bp_floor.proofs.board.Board.put_back.Given as goal
 
 abbrev pub invariant-loop-entry : goal.invariant-loop-entry

@@ -1,8 +1,8 @@
 use Rattle.std.proofs.Common.{refl, map, ap, ◌+◌}
 use Rattle.bp_select.specs.Benches.{PlainBench}
-use Rattle.bp_floor.specs.inner.Touching.{touch_seen}
+use Rattle.bp_floor.specs.inner.Reached.{touch_seen}
 use Rattle.bp_floor.specs.declared.board.Board.{Board}
-use Rattle.bp_floor.proofs.Touches.{stepped_is, stepped_keeps}
+use Rattle.bp_floor.proofs.ReachedLemmas.{stepped_is, stepped_keeps}
 use Rattle.bp_floor.proofs.board.Board.step.Goals as goal
 
 pub returns-clause-stepped : goal.returns-clause-stepped

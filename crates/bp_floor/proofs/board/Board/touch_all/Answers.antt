@@ -2,8 +2,8 @@ use Rattle.std.proofs.Common.{◌∙◌, List, map, refl}
 use Rattle.std.proofs.lemmas.List.{at_drop_more, at_drop_all}
 use Rattle.bp_floor.specs.declared.touching.Touch.{Touch}
 use Rattle.bp_floor.specs.declared.touching.Touch.TheVariants.{Moves}
-use Rattle.bp_floor.specs.inner.Touching.{touch_seen}
-use Rattle.bp_floor.proofs.Touches.{reaches_start, reaches_standing, reaches_next, reaches_end}
+use Rattle.bp_floor.specs.inner.Reached.{touch_seen}
+use Rattle.bp_floor.proofs.ReachedLemmas.{reaches_start, reaches_standing, reaches_next, reaches_end}
 use Rattle.bp_floor.proofs.board.Board.touch_all.Goals as goal
 
 pub loop-touch-init : goal.loop-touch-init

@@ -1,6 +1,6 @@
 use Rattle.std.proofs.Common.{◌≡◌, map, drop}
-use Rattle.bp_floor.specs.inner.Touching.{touch_seen}
-use Rattle.bp_floor.proofs.Touches.{Reaches}
+use Rattle.bp_floor.specs.inner.Reached.{touch_seen}
+use Rattle.bp_floor.proofs.ReachedLemmas.{Reaches}
 use Rattle.bp_floor.proofs.board.Board.touch_all.Given as goal
 
 abbrev pub invariant-loop-touch : goal.invariant-loop-touch

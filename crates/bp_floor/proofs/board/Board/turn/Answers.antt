@@ -2,7 +2,7 @@ use Rattle.std.proofs.Common.{◌∙◌}
 use Rattle.std.proofs.lemmas.Result.{on_ok_weaker}
 use Rattle.std.specs.Vec.Iter.{into_iter_items}
 use Rattle.js_frames.specs.Places.{plain_ground}
-use Rattle.bp_floor.proofs.Turns.{apart_back, apart_joined}
+use Rattle.bp_floor.proofs.TurnLemmas.{apart_back, apart_joined}
 use Rattle.bp_floor.proofs.board.Board.turn.Goals as goal
 
 pub returns-in-Ok-clause-turned : goal.returns-in-Ok-clause-turned

@@ -1,7 +1,7 @@
 use Rattle.std.proofs.Common.{refl, sym, subst}
 use Rattle.js_frames.specs.Places.{plain_ground}
 use Rattle.bp_floor.specs.Floors.{PlainFloor, StandsFor, GoesFrom, code_on}
-use Rattle.bp_floor.specs.inner.Going.{floor_on}
+use Rattle.bp_floor.specs.inner.Transition.{floor_on}
 use Rattle.bp_floor.proofs.Shown.{goes_from, goes_like}
 use Rattle.bp_floor.proofs.floor.Floor.go.Goals as goal
 

@@ -3,7 +3,7 @@ use Rattle.std.proofs.lemmas.List.{at_drop_more, at_drop_all}
 use Rattle.bp_floor.specs.declared.touching.Touch.{Touch}
 use Rattle.bp_floor.specs.declared.touching.Touch.TheVariants.{Moves}
 use Rattle.bp_floor.specs.inner.Entries.{entry_seen}
-use Rattle.bp_floor.specs.inner.Touching.{touch_seen}
+use Rattle.bp_floor.specs.inner.Reached.{touch_seen}
 use Rattle.bp_floor.proofs.Handlers.{entering_next, entering_end}
 use Rattle.bp_floor.proofs.seats.Seats.entries.Goals as goal
 

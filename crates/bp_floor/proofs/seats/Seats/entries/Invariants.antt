@@ -1,5 +1,5 @@
 use Rattle.std.proofs.Common.{map, drop}
-use Rattle.bp_floor.specs.inner.Touching.{touch_seen}
+use Rattle.bp_floor.specs.inner.Reached.{touch_seen}
 use Rattle.bp_floor.proofs.Handlers.{Entering}
 use Rattle.bp_floor.proofs.seats.Seats.entries.Given as goal
 

@@ -4,7 +4,7 @@ use Rattle.js_frames.specs.Places.{plain_ground}
 use Rattle.bp_thread.specs.declared.job.Job.{Job}
 use Rattle.bp_floor.specs.declared.entry.Entry.{Entry}
 use Rattle.bp_floor.specs.inner.Entries.{entry_seen}
-use Rattle.bp_floor.proofs.Lent.{Outgoing, outgoing_start, outgoing_below, outgoing_next, outgoing_end}
+use Rattle.bp_floor.proofs.LoanLemmas.{Outgoing, outgoing_start, outgoing_below, outgoing_next, outgoing_end}
 use Rattle.bp_floor.proofs.seats.Seats.lend.Goals as goal
 
 pub loop-entry-init : goal.loop-entry-init

@@ -1,7 +1,7 @@
 use Rattle.std.proofs.Common.{map, drop}
 use Rattle.js_frames.specs.Places.{plain_ground}
 use Rattle.bp_floor.specs.inner.Entries.{entry_seen}
-use Rattle.bp_floor.proofs.Lent.{Outgoing}
+use Rattle.bp_floor.proofs.LoanLemmas.{Outgoing}
 use Rattle.bp_floor.proofs.seats.Seats.lend.Given as goal
 
 abbrev pub invariant-loop-entry : goal.invariant-loop-entry

@@ -3,7 +3,7 @@ use Rattle.js_frames.specs.Places.{plain_ground}
 use Rattle.bp_floor.specs.declared.entry.Entry.{Entry}
 use Rattle.bp_floor.specs.inner.Entries.{entry_seen}
 use Rattle.bp_floor.specs.inner.Lent.{Lends}
-use Rattle.bp_floor.proofs.Lent.{started}
+use Rattle.bp_floor.proofs.LoanLemmas.{started}
 use Rattle.bp_floor.proofs.seats.Seats.lend_one.Goals as goal
 
 pub returns-in_ok-top-in-Top : goal.returns-in_ok-top-in-Top

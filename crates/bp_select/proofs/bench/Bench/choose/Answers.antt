@@ -12,7 +12,7 @@ use Rattle.bp_select.specs.Lives.{live_of, lent}
 use Rattle.bp_select.specs.Benches.{PlainBench}
 use Rattle.bp_select.specs.Free.{free_of}
 use Rattle.bp_select.specs.Parts.{IsPart, asks_nothing}
-use Rattle.bp_select.proofs.Parts.{chosen_part, part_here}
+use Rattle.bp_select.proofs.PartLemmas.{chosen_part, part_here}
 use Rattle.bp_select.proofs.Selects.{choice_of, choice_fault, fault_here, from_within, selectable_within}
 use Rattle.bp_select.proofs.bench.Bench.choose.Goals as goal
 

@@ -1,7 +1,7 @@
 use Rattle.std.proofs.Common.{option_map, refl}
 use Rattle.bp_thread.specs.Views.{plain_statement}
 use Rattle.bp_known.specs.Known.{sets_in}
-use Rattle.bp_select.proofs.Heeding.{kept_more, kept_placed}
+use Rattle.bp_select.proofs.HeedLemmas.{kept_more, kept_placed}
 use Rattle.bp_select.proofs.bench.Bench.place.Goals as goal
 
 pub invariant_of-self-in_err-note : goal.invariant_of-self-in_err-note

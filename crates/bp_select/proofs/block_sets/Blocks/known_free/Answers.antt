@@ -3,7 +3,7 @@ use Rattle.bp_meaning.specs.Membership.{member}
 use Rattle.bp_select.specs.Candidates.{event_of}
 use Rattle.bp_select.specs.declared.candidate.Candidate.{Candidate}
 use Rattle.bp_select.proofs.Questions.{unblocked_step}
-use Rattle.bp_select.proofs.Tops.{tops_step}
+use Rattle.bp_select.proofs.TopLemmas.{tops_step}
 use Rattle.bp_select.proofs.block_sets.Blocks.known_free.Goals as goal
 
 pub loop-candidate-preserved : goal.loop-candidate-preserved

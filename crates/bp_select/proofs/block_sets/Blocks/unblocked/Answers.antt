@@ -9,7 +9,7 @@ use Rattle.bp_select.specs.Lives.{lent}
 use Rattle.bp_select.specs.Candidates.{event_of}
 use Rattle.bp_select.specs.declared.candidate.Candidate.{Candidate}
 use Rattle.bp_select.proofs.Questions.{unblocked_step, unblocked_last, unblocked_fault}
-use Rattle.bp_select.proofs.Tops.{tops_step}
+use Rattle.bp_select.proofs.TopLemmas.{tops_step}
 use Rattle.bp_select.proofs.block_sets.Blocks.unblocked.Goals as goal
 
 pub is_blocked-requires-clause-sets : goal.is_blocked-requires-clause-sets

@@ -1,6 +1,6 @@
 use Rattle.std.proofs.Common.{map}
 use Rattle.bp_select.specs.Lives.{live_of}
-use Rattle.bp_select.proofs.Heeding.{all_changed}
+use Rattle.bp_select.proofs.HeedLemmas.{all_changed}
 use Rattle.bp_select.proofs.heeds.Heeds.begin.Goals as goal
 
 pub returns-then-self-clause-noted : goal.returns-then-self-clause-noted

@@ -1,4 +1,4 @@
-use Rattle.bp_select.proofs.Heeding.{notes_more}
+use Rattle.bp_select.proofs.HeedLemmas.{notes_more}
 use Rattle.bp_select.proofs.heeds.Heeds.note.Goals as goal
 
 pub returns-in_ok-push-clause-others : goal.returns-in_ok-push-clause-others

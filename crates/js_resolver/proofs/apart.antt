@@ -1,0 +1,9 @@
+pub mod Bounds
+pub mod Counts
+pub mod Declared
+pub mod Names
+pub mod Nodes
+pub mod Order
+pub mod Spans
+pub mod Spelled
+pub mod There

@@ -1,0 +1,162 @@
+-- A tree that tokens in order spell keeps its names apart.
+use Rattle.std.proofs.Common.{◌≡◌, ◌∙◌, inl, inr, ℕ, suc, ◌≤◌, List, [], ◌∷◌, ◌++◌, refl, ap, sym, subst, map, arith, Some, Bool, true, false, if◌then◌else◌, nat_eq}
+use Rattle.std.proofs.lemmas.Bool.{false≢true}
+use Rattle.std.specs.Prelude.{is_some}
+use Rattle.std.specs.List.{flat_map}
+use Rattle.js_lexer.specs.declared.token.Token.{Token}
+use Rattle.js_tree.specs.Plain.{PlainItem}
+use Rattle.js_grammar.specs.Grammar.{SpellsTree}
+use Rattle.js_names.specs.declared.place.Declared.{Declared}
+use Rattle.js_names.specs.declared.place.Role.{Role}
+use Rattle.js_names.specs.declared.place.Role.TheVariants.{Parameter, Const, Let, Var, Function}
+use Rattle.js_names.specs.declared.place.What.{What}
+use Rattle.js_names.specs.Entries.{top}
+use Rattle.js_names.specs.Spots.{program_spot}
+use Rattle.js_names.specs.Sites.{Site, begin_site, item_sites, program_sites}
+use Rattle.js_names.specs.Places.{Place, see, places, declared_at}
+use Rattle.js_names.specs.Slots.{held_by, parameter_in, parameter_at, is_begin}
+use Rattle.js_resolver.specs.Variables.{second}
+use Rattle.js_resolver.specs.Spelled.{next, InOrder}
+use Rattle.js_resolver.proofs.sound.Found.{IsFound, AllFound}
+use Rattle.js_resolver.proofs.sound.Functions.{begun}
+use Rattle.js_resolver.proofs.sound.Known.{AllDeclared}
+use Rattle.js_resolver.proofs.sound.Lists.{In, HasPlace}
+use Rattle.js_resolver.proofs.sound.Places.{is_name}
+use Rattle.js_resolver.proofs.sound.Program.{program_scopes}
+use Rattle.js_resolver.proofs.sound.Resolved.{StandApart}
+use Rattle.js_resolver.proofs.sound.Room.{NoRepeats}
+use Rattle.js_resolver.proofs.apart.Bounds.{Ascend, ascend_from, ascend_in, ascend_apart}
+use Rattle.js_resolver.proofs.apart.Order.{names_in}
+use Rattle.js_resolver.proofs.apart.Declared.{program_own, program_vars}
+use Rattle.js_resolver.proofs.apart.Spans.{Lie, Spans}
+use Rattle.js_resolver.proofs.apart.Spelled.{tree_spans}
+
+-- places of one kind with keys of their own
+
+keys : (Place → Bool) → (Place → ℕ) → List Place → List ℕ
+keys t key [] = []
+keys t key (p ∷ ps) = if t p then key p ∷ keys t key ps else keys t key ps
+
+key_in : (t : Place → Bool) (key : Place → ℕ) (q : Place) (ps : List Place) → HasPlace q ps → t q ≡ true → In (key q) (keys t key ps)
+unfolding keys
+key_in t key q [] h e = absurd h
+key_in t key q (p ∷ ps) (inl m) e = subst (λ (b : Bool). In (key q) (if b then key p ∷ keys t key ps else keys t key ps)) (sym e ∙ ap t m) (inl (ap key m))
+key_in t key q (p ∷ ps) (inr h) e =
+    let k = key_in t key q ps h e in
+    elim (t p) as (λ b. In (key q) (if b then key p ∷ keys t key ps else keys t key ps)) [ true ↦ inr k | false ↦ k ]
+
+keys_behind : (t : Place → Bool) (key : Place → ℕ) (p : Place) (ps : List Place) → NoRepeats (keys t key (p ∷ ps)) → NoRepeats (keys t key ps)
+unfolding keys
+keys_behind t key p ps h = elim (t p) as (λ b. NoRepeats (if b then key p ∷ keys t key ps else keys t key ps) → NoRepeats (keys t key ps)) [ true ↦ λ k. k.1 | false ↦ λ k. k ] h
+
+keys_first : (t : Place → Bool) (key : Place → ℕ) (p : Place) (ps : List Place) → NoRepeats (keys t key (p ∷ ps)) → t p ≡ true → In (key p) (keys t key ps) → ⊥
+unfolding keys
+keys_first t key p ps h e = (subst (λ (b : Bool). NoRepeats (if b then key p ∷ keys t key ps else keys t key ps)) e h).0
+
+one_place : (t : Place → Bool) (key : Place → ℕ) (q r : Place) (ps : List Place) → NoRepeats (keys t key ps) → HasPlace q ps → HasPlace r ps → t q ≡ true → t r ≡ true → key q ≡ key r → q ≡ r
+one_place t key q r [] n h k e f same = absurd h
+one_place t key q r (p ∷ ps) n (inl x) (inl y) e f same = x ∙ sym y
+one_place t key q r (p ∷ ps) n (inl x) (inr k) e f same =
+    absurd (keys_first t key p ps n (sym (ap t x) ∙ e) (subst (λ v. In v (keys t key ps)) (sym same ∙ ap key x) (key_in t key r ps k f)))
+one_place t key q r (p ∷ ps) n (inr h) (inl y) e f same =
+    absurd (keys_first t key p ps n (sym (ap t y) ∙ f) (subst (λ v. In v (keys t key ps)) (same ∙ ap key y) (key_in t key q ps h e)))
+one_place t key q r (p ∷ ps) n (inr h) (inr k) e f same = one_place t key q r ps (keys_behind t key p ps n) h k e f same
+
+keys-names : (ss : List Site) → keys (λ (q : Place). is_name q.what) (λ (q : Place). q.name.spot.at) (map see ss) ≡ names_in ss
+unfolding keys see
+keys-names [] = refl
+keys-names (s ∷ ss) = ap (λ z. if is_name s.what then s.name.spot.at ∷ z else z) (keys-names ss)
+
+keys-begun : (ss : List Site) → keys (λ (q : Place). is_begin q.what) (λ (q : Place). q.around.owner) (map see ss) ≡ begun ss
+unfolding keys see
+keys-begun [] = refl
+keys-begun (s ∷ ss) = ap (λ z. if is_begin s.what then s.around.owner ∷ z else z) (keys-begun ss)
+
+-- what sites are as places
+
+found_declared : (s : Site) (w : What) (role : Role) → IsFound w s → w ≡ What.Declares role → (d : Declared) × (declared_at w s.scopes s.name.text ≡ Some d) × (d.owner ≡ s.around.owner)
+found_declared s (What.Declares r) role h e = (h.0, h.1, h.2.owner)
+found_declared s What.Reads role h e = absurd (cc)
+found_declared s What.Assigns role h e = absurd (cc)
+found_declared s What.Misuses role h e = absurd (cc)
+found_declared s What.LoopWord role h e = absurd (cc)
+found_declared s What.Returns role h e = absurd (cc)
+found_declared s What.Begins role h e = absurd (cc)
+
+all_declared : (ss : List Site) → AllFound ss → AllDeclared (map see ss)
+unfolding see
+all_declared [] h q k role e = absurd k
+all_declared (s ∷ ss) h q (inl m) role e =
+    subst (λ (q : Place). q.what ≡ What.Declares role → (d : Declared) × (q.declared ≡ Some d) × (d.owner ≡ q.around.owner)) (sym m) (λ e. found_declared s s.what role h.0 e) e
+all_declared (s ∷ ss) h q (inr k) role e = all_declared ss h.1 q k role e
+
+declared_name : (s : Site) (w : What) → is_some (declared_at w s.scopes s.name.text) ≡ true → is_name w ≡ true
+declared_name s (What.Declares r) h = refl
+declared_name s What.Reads h = refl
+declared_name s What.Assigns h = refl
+declared_name s What.Misuses h = absurd (false≢true h)
+declared_name s What.LoopWord h = absurd (false≢true h)
+declared_name s What.Returns h = absurd (false≢true h)
+declared_name s What.Begins h = absurd (false≢true h)
+
+place_name : (ss : List Site) (q : Place) → HasPlace q (map see ss) → is_some q.declared ≡ true → is_name q.what ≡ true
+unfolding see
+place_name [] q h e = absurd h
+place_name (s ∷ ss) q (inl m) e = subst (λ (q : Place). is_some q.declared ≡ true → is_name q.what ≡ true) (sym m) (λ e. declared_name s s.what e) e
+place_name (s ∷ ss) q (inr h) e = place_name ss q h e
+
+-- the parameters of one function are some of the names
+
+ascend_behind : (low high x : ℕ) (xs : List ℕ) → Ascend low high (x ∷ xs) → Ascend low high xs
+ascend_behind low high x xs h = ascend_from low (suc x) high xs (omega (arith, h.0)) h.1
+
+held_ascend : (f low high : ℕ) (ss : List Site) → Ascend low high (names_in ss) → Ascend low high (held_by f (flat_map parameter_in (map see ss)))
+unfolding see
+held_ascend f low high [] h = h
+held_ascend f low high (s ∷ ss) h =
+    let place = s.name.spot.at in
+    let rest = flat_map parameter_in (map see ss) in
+    let less : Ascend low high (place ∷ names_in ss) → Ascend low high (held_by f rest) = λ k. held_ascend f low high ss (ascend_behind low high place (names_in ss) k) in
+    let more : Ascend low high (place ∷ names_in ss) → Ascend low high (if nat_eq s.around.owner f then place ∷ held_by f rest else held_by f rest) = λ k.
+    elim (nat_eq s.around.owner f) as (λ b. Ascend low high (if b then place ∷ held_by f rest else held_by f rest)) [ true ↦ (k.0, held_ascend f (suc place) high ss k.1) | false ↦ less k ]
+    in
+    let role : (r : Role) → Ascend low high (place ∷ names_in ss) → Ascend low high (held_by f (parameter_at (What.Declares r) (see s) ++ rest)) =
+    λ r. elim r as (λ r. Ascend low high (place ∷ names_in ss) → Ascend low high (held_by f (parameter_at (What.Declares r) (see s) ++ rest))) [ Parameter ↦ more | Const ↦ less | Let ↦ less | Var ↦ less | Function ↦ less ]
+    in
+    let cases : (w : What) → Ascend low high (if is_name w then place ∷ names_in ss else names_in ss) → Ascend low high (held_by f (parameter_at w (see s) ++ rest)) =
+    λ w. elim w as (λ w. Ascend low high (if is_name w then place ∷ names_in ss else names_in ss) → Ascend low high (held_by f (parameter_at w (see s) ++ rest))) [
+      | What.Declares r ↦ role r
+      | What.Reads ↦ less
+      | What.Assigns ↦ less
+      | What.Misuses ↦ λ k. held_ascend f low high ss k
+      | What.LoopWord ↦ λ k. held_ascend f low high ss k
+      | What.Returns ↦ λ k. held_ascend f low high ss k
+      | What.Begins ↦ λ k. held_ascend f low high ss k
+    ]
+    in
+    cases s.what h
+
+-- Tokens in order before an end that is no place of the top level keep the names of the tree apart that they spell.
+pub spelled_apart : (end : ℕ) (ts : List Token) (items : List PlainItem) → end ≤ top → InOrder end ts → SpellsTree ts items → StandApart items
+unfolding places program_sites
+spelled_apart end ts items l order spelled =
+    let scopes = program_scopes items in
+    let first = begin_site scopes top (program_spot items) in
+    let ss = flat_map (item_sites scopes) items in
+    let spans : Spans ts [] ss = tree_spans scopes (program_own items) (program_vars items) spelled in
+    let lie : Lie end ts [] ss = spans.lie end order in
+    let outside : In top (begun ss) → ⊥ = λ k. let r = ascend_in (next end ts) end top (begun ss) lie.begins k in omega (arith, r.1, l) in
+    let begins : NoRepeats (begun ss) = ascend_apart (next end ts) end (begun ss) lie.begins in
+    record {
+      declared = all_declared (first ++ ss) (tt, spans.found);
+      begin = λ q r h k e f same.
+          ap (λ (p : Place). second top p.functions)
+          (one_place (λ (q : Place). is_begin q.what) (λ (q : Place). q.around.owner) q r (map see (first ++ ss)) (subst NoRepeats (sym (keys-begun (first ++ ss))) (outside, begins)) h k e f same);
+      found = spans.found;
+      names = λ q r h k e f same.
+          one_place (λ (q : Place). is_name q.what) (λ (q : Place). q.name.spot.at) q r (map see (first ++ ss)) (subst NoRepeats (sym (keys-names (first ++ ss))) (ascend_apart (next end ts) end (names_in ss) lie.names)) h k
+          (place_name (first ++ ss) q h e) (place_name (first ++ ss) r k f) same;
+      functions = begins;
+      inner = outside;
+      parameters = λ f. ascend_apart (next end ts) end (held_by f (flat_map parameter_in (map see (first ++ ss)))) (held_ascend f (next end ts) end (first ++ ss) lie.names);
+    }

@@ -1,0 +1,16 @@
+pub mod Alone
+pub mod Examples
+pub mod Fine
+pub mod Found
+pub mod Functions
+pub mod Known
+pub mod Lists
+pub mod Nodes
+pub mod Order
+pub mod Parts
+pub mod Places
+pub mod Program
+pub mod Resolved
+pub mod Room
+pub mod Scopes
+pub mod Walk
