@@ -11,7 +11,7 @@ use crate::normal::normal_of;
 use crate::said::{Said, number_of};
 use crate::verb::Verb;
 use bp_log::limits::MOST_INJECTORS;
-use bp_log::{Parallelism, Options};
+use bp_log::{Options, Parallelism};
 use bp_matches::{Key, Values, Words, values_of};
 use js_data::Text;
 use std::alloc::{AllocError, Global};

@@ -6,10 +6,10 @@ ghost use Rattle.bp_reading.specs.Words.{most_32};
 
 use crate::command::Usage;
 use crate::verb::Verb;
-use bp_reader::behind_word;
 use bp_log::options::wait_of_word;
 use bp_log::{Memory, Strategy};
 use bp_matches::{DASHES, Key, Words};
+use bp_reader::behind_word;
 use js_data::Text;
 use std::alloc::Global;
 

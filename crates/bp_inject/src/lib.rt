@@ -2,8 +2,8 @@
 #![tactic(auto)]
 
 mod berth;
-mod running;
 mod injecting;
+mod running;
 mod started;
 
 pub use berth::Berth;

@@ -5,8 +5,8 @@ ghost use Rattle.bp_feeds.specs.Feeds.{GoesOn, is_over};
 ghost use Rattle.bp_inject.specs.Injectors.{feed_of, is_running, IsHanded, IsTied, IsUnread, IsFrom, CameBack};
 
 use crate::berth::Berth;
-use crate::running::{FromIntake, NotOver, Turned, take_and_turn};
 use crate::injecting::Injected;
+use crate::running::{FromIntake, NotOver, Turned, take_and_turn};
 use bp_base::{Memory, Source};
 use bp_feeds::Feed;
 use bp_lanes::{Bell, Ear};

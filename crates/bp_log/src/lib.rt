@@ -2,7 +2,6 @@
 #![tactic(auto)]
 
 mod behind;
-pub mod parallelism;
 mod data;
 pub mod header;
 pub mod item;
@@ -10,17 +9,18 @@ pub mod limits;
 pub mod lines;
 pub mod logs;
 pub mod options;
+pub mod parallelism;
 pub mod record;
 pub mod trace;
 pub mod verdict;
 pub mod version;
 
-pub use parallelism::Parallelism;
 pub use header::Header;
 pub use item::Item;
 pub use lines::{PrintError, line_of, print, whole_line_of};
 pub use logs::{write_header, write_record};
 pub use options::{Options, Strategy};
+pub use parallelism::Parallelism;
 pub use record::{Record, Records};
 use std::alloc::AllocError;
 pub use trace::{Line, Lines};

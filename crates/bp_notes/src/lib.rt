@@ -3,4 +3,4 @@
 
 mod texts;
 
-pub use texts::differing;
+pub use texts::{differing, record_text_of};

@@ -25,7 +25,7 @@ fn verdict_text_of(alloc: Global, verdict: &Verdict) -> Result<Text, Memory>
 
 /// The text of a record, without its line end.
 #[tactic(auto, unfolding(bp_log::specs::Logs::record_text))]
-fn record_text_of(alloc: Global, entry: &Record) -> Result<Text, Memory>
+pub fn record_text_of(alloc: Global, entry: &Record) -> Result<Text, Memory>
     ensures { IfOk result (λ t. t ≡ record_text entry.now) }
 {
     let text = match entry {

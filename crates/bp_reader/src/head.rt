@@ -6,10 +6,9 @@ ghost use Rattle.bp_log.specs.declared.version.Version.TheVariants as version;
 ghost use Rattle.bp_reader.specs.Fed.{Between};
 ghost use Rattle.bp_reader.specs.Gets.{Gets};
 
-use crate::LogFault;
 use crate::input::{Input, Taken};
+use crate::{LogFault, behind_word, number_of};
 use bp_base::Source;
-use crate::{behind_word, number_of};
 use bp_log::limits::{MOST_BUDGET, MOST_BYTES, MOST_INJECTORS, MOST_STEPS};
 use bp_log::options::wait_of_word;
 use bp_log::{Header, Options, Strategy, Version};

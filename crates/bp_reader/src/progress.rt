@@ -3,8 +3,7 @@ ghost use Rattle.std.specs.Prelude.{◌≡◌, ◌<◌, ◌+◌, IfOk, OnErr, na
 ghost use Rattle.bp_reading.specs.Heads.{line_room};
 ghost use Rattle.bp_reading.specs.Reading.{is_live as live, is_known as known, can_stand as stands, after, next_record, first_stage};
 
-use crate::LogFault;
-use crate::record_of;
+use crate::{LogFault, record_of};
 use bp_log::{Memory, Record, Verdict, Version};
 use bp_reading::limits::{MOST_LINE_BYTES, MOST_RECORDS};
 use std::alloc::Global;

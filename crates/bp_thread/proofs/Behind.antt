@@ -17,10 +17,10 @@ use Rattle.js_meaning.proofs.Walk.{bind, either, leaves_walk, gives_walk, slot_w
 use Rattle.js_meaning.proofs.Following.{Sure, sure_ways, turns_sure, eval_sure, left_follows}
 use Rattle.js_frames.specs.declared.frame.Part.{Part}
 use Rattle.js_frames.specs.declared.frame.Part.TheVariants.{First, Second, Further, Or, And, Choice, When, Assigned, AssignedWith, Declared, Dropped, Returned, Statements, Started, Tested, Between, Listed, Walked}
-use Rattle.js_frames.specs.declared.frame.Turn.{Turn}
-use Rattle.js_frames.specs.declared.frame.Turn.TheVariants.{OfLoop, OfItems}
+use Rattle.js_frames.specs.declared.frame.Iteration.{Iteration}
+use Rattle.js_frames.specs.declared.frame.Iteration.TheVariants.{OfLoop, OfItems}
 use Rattle.js_frames.specs.declared.frame.Frame.{Frame}
-use Rattle.js_frames.specs.declared.frame.Frame.TheVariants.{Waiting, Turning, Called}
+use Rattle.js_frames.specs.declared.frame.Frame.TheVariants.{Waiting, Iterating, Called}
 use Rattle.js_frames.specs.declared.step.Step.{Step}
 use Rattle.js_frames.specs.declared.step.Step.TheVariants.{Begin, Give, Ask, Fail, Violate}
 use Rattle.js_frames.specs.declared.machine.Pending.{Pending}
@@ -87,7 +87,7 @@ module _ (g : Setting) where
   rest_goes (Walked w) x =
       for_each_from_walk g (Sure g) (sure_ways g) (eval g) (eval g) eval_goes w.line (v.function w.code w.captured) (v.list w.items) w.index (drop w.index (values_in w.items))
 
-  again_goes : (turn : Turn) → Goes (again g turn)
+  again_goes : (turn : Iteration) → Goes (again g turn)
   unfolding again
   again_goes (OfLoop t) = bind g (Sure g) (sure_ways g) _ _ (perhaps_walk g (Sure g) (sure_ways g) (eval g) (eval g) eval_goes t.next) (λ _. loop_goes t.test t.body t.next)
   again_goes (OfItems k body items place) = each_walk g (Sure g) (sure_ways g) (eval g) (eval g) eval_goes k body (drop place (values_in items))
@@ -100,25 +100,25 @@ module _ (g : Setting) where
   resume_behind : (es : List Effect) (f : Frame) (o : Outcome) → Behind es o → Behind es (resume g f o)
   unfolding resume
   resume_behind es (Waiting part) (went (normal x) s) b = goes_behind es (rest g part x) (rest_goes part x) s b
-  resume_behind es (Turning turn) (went (normal x) s) b = goes_behind es (again g turn) (again_goes turn) s b
-  resume_behind es (Turning turn) (went continued s) b = goes_behind es (again g turn) (again_goes turn) s b
+  resume_behind es (Iterating turn) (went (normal x) s) b = goes_behind es (again g turn) (again_goes turn) s b
+  resume_behind es (Iterating turn) (went continued s) b = goes_behind es (again g turn) (again_goes turn) s b
   resume_behind es (Waiting part) (went broke s) b = b
   resume_behind es (Waiting part) (went continued s) b = b
   resume_behind es (Waiting part) (went (returned x) s) b = b
-  resume_behind es (Turning turn) (went broke s) b = b
-  resume_behind es (Turning turn) (went (returned x) s) b = b
+  resume_behind es (Iterating turn) (went broke s) b = b
+  resume_behind es (Iterating turn) (went (returned x) s) b = b
   resume_behind es (Called slots active) (went c s) b = b
   resume_behind es (Waiting part) (broken f line e) b = b
-  resume_behind es (Turning turn) (broken f line e) b = b
+  resume_behind es (Iterating turn) (broken f line e) b = b
   resume_behind es (Called slots active) (broken f line e) b = b
   resume_behind es (Waiting part) (violated text e) b = b
-  resume_behind es (Turning turn) (violated text e) b = b
+  resume_behind es (Iterating turn) (violated text e) b = b
   resume_behind es (Called slots active) (violated text e) b = b
   resume_behind es (Waiting part) (spent e) b = b
-  resume_behind es (Turning turn) (spent e) b = b
+  resume_behind es (Iterating turn) (spent e) b = b
   resume_behind es (Called slots active) (spent e) b = b
   resume_behind es (Waiting part) (stopped x y line e) b = b
-  resume_behind es (Turning turn) (stopped x y line e) b = b
+  resume_behind es (Iterating turn) (stopped x y line e) b = b
   resume_behind es (Called slots active) (stopped x y line e) b = b
 
   plug_behind : (es : List Effect) (fs : List Frame) (o : Outcome) → Behind es o → Behind es (plug g fs o)

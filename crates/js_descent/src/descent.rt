@@ -12,7 +12,6 @@ ghost use Rattle.js_cursor.specs.Passed.{at_first};
 ghost use Rattle.js_cursor.specs.Read.{IsRead, IsExpr, IsStmt, IsTurn};
 
 use crate::leaves::{break_of, continue_of, member, number, postfix, text, used};
-use js_lexer::Sort;
 use js_cursor::cursor::{begins, is_sort, next, sort_of, spot_of};
 use js_cursor::ends::{end_of, is_return_end};
 use js_cursor::peek::{
@@ -20,6 +19,7 @@ use js_cursor::peek::{
     declares_at, is_constant, operator_in, sign_at, step_at,
 };
 use js_cursor::{Answer, Cursor, Found, binary, callee_depth, expr_at, stmt_at};
+use js_lexer::Sort;
 use js_tree::{
     Declarator, DeclareKind, Ending, Expr, Field, Fix, Form, Start, Stmt, StmtForm, ending_of,
     ending_of_last,

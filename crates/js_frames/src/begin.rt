@@ -8,7 +8,7 @@ ghost use Rattle.js_frames.specs.Fits.{StackFits, IsNode, HasForm, IsShort};
 ghost use Rattle.js_frames.specs.Leads.{Goes, Becomes, node_does, waits_for, operand_frame};
 
 use crate::engine::Engine;
-use crate::frame::{Frame, Part, Loop};
+use crate::frame::{Frame, Loop, Part};
 use crate::ground::Ground;
 use crate::nodes::node_of;
 use crate::step::{Completion, Step, answered, give, leave};

@@ -10,7 +10,7 @@ ghost use Rattle.js_frames.specs.Fits.{StackFits, IsNode, IsPerhapsNode, LoopFit
 ghost use Rattle.js_frames.specs.Leads.{Goes};
 
 use crate::engine::Engine;
-use crate::frame::{Frame, Part, Iteration, Loop};
+use crate::frame::{Frame, Iteration, Loop, Part};
 use crate::ground::Ground;
 use crate::step::{Completion, Step, leave, mistyped};
 use crate::values::item_at;
@@ -180,7 +180,9 @@ impl Engine {
     {
         match iteration {
             Iteration::OfLoop(cycle) => self.iterated(base, cycle),
-            Iteration::OfItems(slot, body, items, place) => self.each(base, slot, body, items, place),
+            Iteration::OfItems(slot, body, items, place) => self.each(
+                base, slot, body, items, place,
+            ),
         }
     }
 

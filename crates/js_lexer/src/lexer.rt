@@ -10,8 +10,8 @@ ghost use Rattle.js_lexer.specs.Laws.{OneCutting, OneRefusal, NeverBoth, CutOrRe
 
 use crate::front::front_at;
 use crate::gaps::line_ends_in;
+use crate::spellings::{KeywordTable, MarkTable, keyword_table, mark_table};
 use crate::token::{Flaw, Found, LexFault, Stop, Token};
-use crate::spellings::{MarkTable, KeywordTable, mark_table, keyword_table};
 use std::alloc::Global;
 
 /// The refusal of a flaw at a byte's place.

@@ -9,8 +9,8 @@ mod limits;
 mod literals;
 mod numbers;
 mod sort;
-mod token;
 mod spellings;
+mod token;
 
 pub use gaps::line_at;
 pub use lexer::{lex, one_cutting, tokens_in_order};

@@ -8,5 +8,5 @@ pub mod Firsts
 pub mod Adding
 pub mod Exprs
 pub mod Stmts
-mod Keeping
+mod KeptLemmas
 mod Homes

@@ -29,7 +29,7 @@ site scopes around what name =
     record { what = what; name = name; scopes = scopes; around = around } ∷ []
 
 abbrev pub word_at : List ℕ → Spot → Name
-word_at text spot = record { text = text; spot = spot }
+word_at name spot = record { text = name; spot = spot }
 
 -- a name that is read: `bp` or `Math` alone is not a form, and `undefined` is a value
 abbrev pub read_site : List Scope → Around → Name → List Site

@@ -1,12 +1,11 @@
 -- What parsing answers.
-use Rattle.std.specs.Prelude.{ℕ, ◌-◌, ◌≡◌, false, List, [], ◌∷◌, map, Some, None, Result, Ok, Err}
-use Rattle.std.specs.List.{Contains}
+use Rattle.std.specs.Prelude.{ℕ, ◌-◌, ◌≡◌, false, List, [], Some, None, Result, Ok, Err}
 use Rattle.js_lexer.specs.declared.token.Token.{Token}
 use Rattle.js_tree.specs.declared.tree.Tree.{Tree}
 use Rattle.js_tree.specs.declared.limits.TheConstants.{MOST_NESTING}
 use Rattle.js_tree.specs.Plain.{PlainItem}
 use Rattle.js_tree.specs.Views.{plain_tree}
-use Rattle.js_grammar.specs.Trees.{HasNoTree}
+use Rattle.js_grammar.specs.Trees.{HasNoTree, IsLineIn}
 use Rattle.js_grammar.specs.Unsupported.{first_unsupported}
 use Rattle.js_grammar.specs.Reading.{Found}
 use Rattle.js_grammar.specs.Statements.{item_function_at, item, items}

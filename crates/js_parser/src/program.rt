@@ -10,10 +10,10 @@ ghost use Rattle.js_grammar.specs.Trees.{IsLineIn};
 
 use crate::fault::ParseFault;
 use crate::refused::unsupported_line;
-use js_descent::{closed, statement};
-use js_lexer::{Sort, Token};
 use js_cursor::cursor::{is_sort, next, spot_of};
 use js_cursor::{Cursor, Stop};
+use js_descent::{closed, statement};
+use js_lexer::{Sort, Token};
 use js_tree::{Item, MOST_NESTING, Tree};
 use std::alloc::Global;
 

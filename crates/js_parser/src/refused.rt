@@ -2,9 +2,9 @@
 ghost use Rattle.std.specs.Prelude.{◌≡◌, false};
 ghost use Rattle.js_grammar.specs.Unsupported.{is_prototype, is_refused, first_unsupported};
 
+use js_cursor::cursor::{begins, is_sort, next};
 use js_data::Text;
 use js_lexer::{Kind, Sort, Token};
-use js_cursor::cursor::{begins, is_sort, next};
 
 fn is_prototype_key(text: &Text, colon: bool) -> bool
     ensures { result ≡ is_prototype text.now colon }

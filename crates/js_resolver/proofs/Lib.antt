@@ -13,7 +13,6 @@ pub mod StmtArms
 pub mod FunctionArms
 pub mod CallArms
 pub mod Parts
-mod SoundExamples
 pub mod Spelling
 pub mod apart
 pub mod sound
