@@ -8,6 +8,8 @@ use Rattle.js_data.specs.Event.{PlainEvent, same_event}
 use Rattle.js_data.proofs.Shared.{drop_is}
 use Rattle.js_value.specs.Value.{PlainSet}
 use Rattle.bp_run.specs.Selecting.{Live}
+use Rattle.bp_select.specs.Candidates.{candidate_of, tops_of}
+use Rattle.bp_select.specs.declared.key.Key.{Key}
 use Rattle.bp_select.specs.Tops.{Top, raised, with_request, with_requests, with_live}
 use Rattle.bp_select.proofs.TopLemmas.{request_at}
 
@@ -60,3 +62,9 @@ live_step {A} f all i x old new whole h k m w =
 
 pub live_last : {A : Type 0} (f : A → Live PlainSet) (all : List A) (i : ℕ) (found whole : List Top) → length all ≤ i → with_live found (map f (drop i all)) ≡ whole → found ≡ whole
 live_last {A} f all i found whole h w = sym (ap (λ (ts : List A). with_live found (map f ts)) (drop_all i all h)) ∙ w
+
+-- ---- the entries of a map
+
+pub listed_tops : (es : List (Key × ℤ)) → tops_of (map candidate_of es) ≡ map (λ p. (p.0.event.now, p.1)) es
+listed_tops [] = refl
+listed_tops (e ∷ es) = ap (λ (ts : List Top). (e.0.event.now, e.1) ∷ ts) (listed_tops es)

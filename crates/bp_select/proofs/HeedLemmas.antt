@@ -188,6 +188,7 @@ touched_keys t ks waits interrupts asks = record { each = λ e. inr (by e (is_in
     by : (e : PlainEvent) (b : Bool) → is_in (event_key e) ks ≡ b → (is_in (event_key e) ks ≡ true) ⊎ Stays e t
     by e true h = inl h
     by e false h = inr (record {
+      unasked = asked_none e (requests e t) refl h;
       each = λ base budget.
           untouched (member base budget) e t (none_of e t.statement.interrupt interrupts h base budget) (asked_none e (requests e t) refl h) (none_of e t.statement.wait_for waits h base budget);
     })

@@ -1,6 +1,6 @@
 -- Statements put and taken away where some are not live.
-use Rattle.std.proofs.Common.{◌≡◌, ℕ, zero, suc, ◌+◌, ◌-◌, ◌<◌, ◌≤◌, arith, Bool, true, false, ◌||◌, ◌&&◌, List, [], ◌∷◌, length, map, set, get_or, filter, refl, ap, sym, ◌∙◌, subst, Option, Some, None, nat_lt, if◌then◌else◌, slice_get}
-use Rattle.std.specs.List.{cons_option, insert, list_any}
+use Rattle.std.proofs.Common.{◌≡◌, ℕ, zero, suc, ◌+◌, ◌-◌, ◌<◌, ◌≤◌, arith, Bool, true, false, not, ◌||◌, ◌&&◌, List, [], ◌∷◌, length, map, set, get_or, filter, refl, ap, sym, ◌∙◌, subst, Option, Some, None, nat_lt, if◌then◌else◌, slice_get}
+use Rattle.std.specs.List.{cons_option, insert, list_any, remove}
 use Rattle.std.proofs.lemmas.Bool.{ltb-true, eqb-true}
 use Rattle.js_value.specs.Value.{PlainSet}
 use Rattle.bp_run.specs.Bodies.{Statement}
@@ -9,7 +9,7 @@ use Rattle.bp_run.specs.Selecting.{Live, requests, requested}
 use Rattle.bp_thread.specs.Views.{plain_statement}
 use Rattle.bp_select.specs.declared.bench.Stated.{Stated}
 use Rattle.bp_select.specs.Lives.{live_of}
-use Rattle.bp_select.specs.Lists.{live_in, gap, gone_in, AreCounted}
+use Rattle.bp_select.specs.Lists.{live_in, gap, gone_in, is_gap, AreCounted}
 use Rattle.bp_select.specs.Benches.{live_at, placed}
 use Rattle.bp_select.specs.Places.{place_in, is_number, AreAbove, AreInOrder}
 use Rattle.bp_select.proofs.Putting.{above, above_trans, order_placed, place_of_one, placed_before, placed_at, placed_after, put_set, put_insert}
@@ -236,6 +236,56 @@ pub tidy_same : (xs ys : List Stated) → ys ≡ filter (λ s. s.here) xs → li
 tidy_same xs ys e =
     let none : gone_in ys ≡ 0 = ap gone_in e ∙ gone_filter xs in
     none_gone ys none ∙ ap (λ (zs : List Stated). map live_of zs) e
+
+-- where none is gone, all stay
+none_filter : (xs : List Stated) → gone_in xs ≡ 0 → filter (λ s. s.here) xs ≡ xs
+none_filter [] h = refl
+none_filter (x ∷ xs) h = by x.here refl (λ z. none_filter xs z)
+  where
+    by : (b : Bool) → x.here ≡ b → (gone_in xs ≡ 0 → filter (λ s. s.here) xs ≡ xs) → filter (λ s. s.here) (x ∷ xs) ≡ x ∷ xs
+    by true e ih =
+        let z : gap x ≡ 0 = ap (λ (b : Bool). if b then 0 else 1) e in
+        ap (λ (b : Bool). if b then x ∷ filter (λ s. s.here) xs else filter (λ s. s.here) xs) e ∙ ap (λ (ys : List Stated). x ∷ ys) (ih (omega (arith, h, z)))
+    by false e ih = (let z : gap x ≡ 1 = ap (λ (b : Bool). if b then 0 else 1) e in absurd (omega (arith, h, z)))
+
+pub gap_within : (xs : List Stated) (k : ℕ) → is_gap (slice_get xs k) ≡ true → k < length xs
+gap_within [] k h = absurd (cc)
+gap_within (x ∷ xs) zero h = omega arith
+gap_within (x ∷ xs) (suc k) h = let m = gap_within xs k h in omega (arith, m)
+
+gap_one : (x : Stated) → not x.here ≡ true → gap x ≡ 1
+gap_one x h = by x.here refl
+  where
+    by : (b : Bool) → x.here ≡ b → gap x ≡ 1
+    by true e = absurd (cc)
+    by false e = ap (λ (b : Bool). if b then 0 else 1) e
+
+-- one that is gone is counted
+gap_counted : (xs : List Stated) (k : ℕ) → is_gap (slice_get xs k) ≡ true → 1 ≤ gone_in xs
+gap_counted [] k h = absurd (cc)
+gap_counted (x ∷ xs) zero h = let z : gap x ≡ 1 = gap_one x h in omega (arith, z)
+gap_counted (x ∷ xs) (suc k) h = let m = gap_counted xs k h in omega (arith, m)
+
+-- the only one that is gone is taken out
+pub one_gap : (xs : List Stated) (k : ℕ) → is_gap (slice_get xs k) ≡ true → gone_in xs ≡ 1 → remove xs k ≡ filter (λ s. s.here) xs
+one_gap [] k h e = absurd (cc)
+one_gap (x ∷ xs) zero h e = by x.here refl
+  where
+    z : gap x ≡ 1
+    z = gap_one x h
+
+    by : (b : Bool) → x.here ≡ b → xs ≡ filter (λ s. s.here) (x ∷ xs)
+    by true g = (let y : gap x ≡ 0 = ap (λ (b : Bool). if b then 0 else 1) g in absurd (omega (arith, y, z)))
+    by false g = sym (ap (λ (b : Bool). if b then x ∷ filter (λ s. s.here) xs else filter (λ s. s.here) xs) g ∙ none_filter xs (omega (arith, e, z)))
+one_gap (x ∷ xs) (suc k) h e = by x.here refl (λ z. one_gap xs k h z)
+  where
+    by : (b : Bool) → x.here ≡ b → (gone_in xs ≡ 1 → remove xs k ≡ filter (λ s. s.here) xs) → x ∷ remove xs k ≡ filter (λ s. s.here) (x ∷ xs)
+    by true g ih =
+        let z : gap x ≡ 0 = ap (λ (b : Bool). if b then 0 else 1) g in
+        ap (λ (ys : List Stated). x ∷ ys) (ih (omega (arith, e, z))) ∙ sym (ap (λ (b : Bool). if b then x ∷ filter (λ s. s.here) xs else filter (λ s. s.here) xs) g)
+    by false g ih =
+        let z : gap x ≡ 1 = ap (λ (b : Bool). if b then 0 else 1) g in
+        let m = gap_counted xs k h in absurd (omega (arith, e, z, m))
 
 -- ---- who requests an event
 

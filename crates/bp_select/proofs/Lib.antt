@@ -14,3 +14,5 @@ pub mod Noting
 pub mod HeedLemmas
 pub mod Finding
 pub mod PartLemmas
+pub mod CountLemmas
+pub mod TallyLemmas

@@ -7,20 +7,23 @@ use Rattle.bp_run.specs.Bodies.{Statement}
 use Rattle.bp_run.specs.Selecting.{Live}
 use Rattle.bp_known.specs.declared.known.Told.{Told}
 use Rattle.bp_known.specs.Known.{AreKnown, sets_in}
+use Rattle.bp_select.specs.Tallies.{PlainTally, Tallied, no_tally}
 
--- what the live b-threads state, in the order of their numbers; the block sets that are noted, and
--- what is told of events under them
+-- what the live b-threads state, in the order of their numbers; the block sets that are noted, what
+-- is told of events under them, and how many free events each requests
 pub record PlainBench : Type 0 where
   pub live : List (Live PlainSet)
   pub sets : List (ℕ × PlainSet)
   pub told : List Told
+  pub tally : PlainTally
 
 abbrev pub empty_bench : PlainBench
-empty_bench = record { live = []; sets = []; told = [] }
+empty_bench = record { live = []; sets = []; told = []; tally = no_tally }
 
--- what is told is so under this ground and budget
-abbrev pub Fits : PlainBench → Ground → ℕ → Type 0
-Fits b base budget = AreKnown base budget (sets_in b.sets) b.told
+-- what is told and counted is so under this ground and budget
+pub record Fits (b : PlainBench) (base : Ground) (budget : ℕ) : Type 0 where
+  pub known : AreKnown base budget (sets_in b.sets) b.told
+  pub tallied : Tallied base budget (sets_in b.sets) b.live b.tally
 
 abbrev pub live_at : {Set : Type 0} → ℕ → Option (Statement Set) → Option (Live Set)
 live_at n o = option_map (λ s. record { number = n; statement = s }) o

@@ -4,7 +4,7 @@ use Rattle.js_data.specs.Event.{PlainEvent}
 use Rattle.js_value.specs.Value.{PlainSet}
 use Rattle.js_meaning.specs.State.{Ground}
 use Rattle.bp_meaning.specs.Membership.{member}
-use Rattle.bp_run.specs.Selecting.{Live}
+use Rattle.bp_run.specs.Selecting.{Live, requests}
 use Rattle.bp_run.specs.Choosing.{touched}
 use Rattle.bp_roll.specs.Rolls.{PlainRoll, is_in, is_noted}
 use Rattle.bp_select.specs.declared.heeds.Heeds as heeds
@@ -17,8 +17,10 @@ use Rattle.bp_select.specs.Parts.{asks_nothing, blocks_nothing}
 abbrev pub any_key : ℕ
 any_key = 0
 
--- the event does nothing to the b-thread, whatever the ground and the budget
+-- the event, which it does not request, does nothing to the b-thread, whatever the ground and the
+-- budget
 pub record Stays (e : PlainEvent) (t : Live PlainSet) : Type 0 where
+  pub unasked : requests e t ≡ false
   pub each : (base : Ground) (budget : ℕ) → touched (member base budget) e t ≡ Ok None
 
 -- the keys have that of each event which the set may have, and no event puts the set at fault

@@ -15,3 +15,5 @@ pub mod Parts
 pub mod Heeding
 pub mod Places
 pub mod Lists
+pub mod Counting
+pub mod Tallies

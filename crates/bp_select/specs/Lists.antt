@@ -1,5 +1,5 @@
 -- Those of some b-threads that are live.
-use Rattle.std.specs.Prelude.{◌≡◌, ℕ, ◌+◌, List, [], ◌∷◌, map, filter, if◌then◌else◌}
+use Rattle.std.specs.Prelude.{◌≡◌, ℕ, ◌+◌, Bool, false, not, Option, None, Some, List, [], ◌∷◌, map, filter, if◌then◌else◌}
 use Rattle.js_value.specs.Value.{PlainSet}
 use Rattle.bp_run.specs.Selecting.{Live}
 use Rattle.bp_select.specs.declared.bench.Stated.{Stated}
@@ -21,6 +21,11 @@ gap s = if s.here then 0 else 1
 abbrev pub gone_in : List Stated → ℕ
 gone_in [] = 0
 gone_in (x ∷ xs) = gap x + gone_in xs
+
+-- whether one is there, and not live
+abbrev pub is_gap : Option Stated → Bool
+is_gap None = false
+is_gap (Some s) = not s.here
 
 -- their numbers rise, and this many are not live
 pub record AreCounted (xs : List Stated) (count : ℕ) : Type 0 where

@@ -15,8 +15,9 @@ use crate::asking::blocker;
 use crate::block_sets::Blocks;
 use crate::heeds::Heeds;
 use crate::placing::StatedList;
-use crate::selecting::{chosen, selectable};
+use crate::selecting::{choose, enabled};
 use crate::settling::settle;
+use crate::tally::Tally;
 use crate::{Choice, Draw, Enabled, Reach, SelectFault};
 use bp_log::{Memory, Strategy};
 use bp_thread::Statement;
@@ -37,7 +38,8 @@ pub(crate) struct Stated {
 }
 
 /// What the live b-threads state, by their numbers. Contracts see the list of statements, the block
-/// sets that are noted, and what is known of events under these.
+/// sets that are noted, what is known of events under these, and how many free events each b-thread
+/// requests.
 ///
 /// A bench fits a ground and a budget where what it knows is so under them. A new bench fits all
 /// of them.
@@ -49,6 +51,8 @@ pub struct Bench {
     changed: Vec<u32>,
     /// Whom an event may touch. Only how fast they are found rests on it.
     heeds: Heeds,
+    /// How many free events each b-thread requests.
+    tally: Tally,
 }
 
 impl Model for Bench {
@@ -58,12 +62,18 @@ impl Model for Bench {
     ghost use Rattle.bp_select.specs.Benches.{PlainBench};
     ghost use Rattle.bp_select.specs.Heeding.{AreKept};
     ghost use Rattle.bp_known.specs.Known.{sets_in};
+    ghost use Rattle.bp_select.specs.Tallies.{plain_tally};
 
     ghost Value = { PlainBench };
 
     ghost coded = { Prim.hlevel (codes, event_code, set_code) };
 
-    ghost view = { λ b. record { live = b.live.live; sets = b.blocks.sets; told = b.blocks.told } };
+    ghost view = { λ b. record {
+      live = b.live.live;
+      sets = b.blocks.sets;
+      told = b.blocks.told;
+      tally = plain_tally b.tally;
+    } };
 
     ghost invariant = { λ b. AreKept b.live.live (sets_in b.blocks.sets) b.changed.items b.heeds };
 }
@@ -79,6 +89,7 @@ impl Bench {
             blocks: Blocks::new(alloc),
             changed: Vec::new(alloc),
             heeds: Heeds::new(alloc),
+            tally: Tally::new(alloc),
         }
     }
 
@@ -96,6 +107,7 @@ impl Bench {
     {
         self.changed.push(number)?;
         self.heeds.note(number)?;
+        self.tally.mark(number)?;
         self.live.place(number, statement)
     }
 
@@ -128,14 +140,12 @@ impl Bench {
             budget,
             live,
             &mut self.blocks,
+            &mut self.tally,
             &mut self.changed,
         )?;
-        let asking = self.heeds.asking(alloc, live)?;
-        let asking = asking.as_slice();
-        let heeds = &self.heeds;
+        let heeds = &mut self.heeds;
         let blocks = &mut self.blocks;
-        let free = selectable(alloc, ground, budget, live, heeds, asking, blocks, queue)?;
-        Ok(free.into_enabled(alloc)?)
+        enabled(alloc, ground, budget, live, heeds, blocks, queue)
     }
 
     /// Which event comes next, under this strategy. Of several candidates that remain, the next
@@ -175,14 +185,15 @@ impl Bench {
             budget,
             live,
             &mut self.blocks,
+            &mut self.tally,
             &mut self.changed,
         )?;
-        let asking = self.heeds.asking(alloc, live)?;
-        let asking = asking.as_slice();
-        let heeds = &self.heeds;
+        let heeds = &mut self.heeds;
         let blocks = &mut self.blocks;
-        let free = selectable(alloc, ground, budget, live, heeds, asking, blocks, queue)?;
-        Ok(chosen(alloc, strategy, asking, free, draw)?)
+        let tally = &mut self.tally;
+        choose(
+            alloc, ground, budget, strategy, live, heeds, blocks, tally, queue, draw,
+        )
     }
 
     /// Whom the event reaches: those that it interrupts, and of the others those that request it or

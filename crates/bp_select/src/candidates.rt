@@ -1,5 +1,5 @@
 //! The requested events, each once, in the order in which they first appear.
-ghost use Rattle.std.specs.Prelude.{◌≡◌, [], IfOk, OnOk, map};
+ghost use Rattle.std.specs.Prelude.{◌≡◌, ◌∷◌, [], IfOk, OnOk, map};
 ghost use Rattle.bp_select.specs.Lives.{lent, live_of};
 ghost use Rattle.bp_select.specs.Tops.{raised, with_request, with_requests, with_live};
 ghost use Rattle.bp_select.specs.Candidates.{tops_in, tops_of, candidate_of};
@@ -58,6 +58,18 @@ fn listed<'a>(alloc: Global, tops: Tops<'a>) -> Result<Vec<Candidate<'a>>, Memor
             top,
         })
         .collect(alloc)
+}
+
+/// The events that one b-thread requests.
+pub(crate) fn candidates_of<'a>(
+    alloc: Global,
+    stated: &'a Stated,
+) -> Result<Vec<Candidate<'a>>, Memory>
+    ensures { IfOk result (λ l. tops_of l.items ≡ with_live [] (live_of stated.now ∷ [])) }
+{
+    let mut tops = IndexMap::new(alloc);
+    request_all(&mut tops, stated)?;
+    listed(alloc, tops)
 }
 
 /// The events that the b-threads request.

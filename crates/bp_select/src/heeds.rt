@@ -30,6 +30,10 @@ use std::alloc::Global;
 /// This many b-threads are asked faster than it is found whom an event may touch.
 const FEW: usize = 32;
 
+/// This many b-threads that request or block something are asked faster than one of their free
+/// events is found by counts.
+const FEW_ASKERS: usize = 16;
+
 /// Under which keys the live b-threads are noted.
 #[derive(Drop)]
 pub(crate) struct Heeds {
@@ -68,7 +72,7 @@ fn settle_one(alloc: Global, live: &[Stated], roll: &mut Roll, number: u32) -> R
 }
 
 /// The numbers of the b-threads.
-fn numbers_of(alloc: Global, live: &[Stated]) -> Result<Vec<u32>, Memory>
+pub(crate) fn numbers_of(alloc: Global, live: &[Stated]) -> Result<Vec<u32>, Memory>
     ensures { IfOk result (λ ns. Each (λ t. is_in t.number ns.items ≡ true) (map live_of live.now)) }
 {
     let mut numbers = Vec::new(alloc);
@@ -118,7 +122,7 @@ fn in_order(mut places: Vec<usize>) -> Result<Vec<usize>, Memory>
 }
 
 /// The places of those that the event may touch, in order.
-fn places_of(
+pub(crate) fn places_of(
     alloc: Global,
     live: &[Stated],
     roll: &Roll,
@@ -162,7 +166,7 @@ fn asking_at<'a>(alloc: Global, live: &'a [Stated], roll: &Roll) -> Result<Vec<&
 }
 
 /// Those that block something, as they are noted.
-fn blocking_at<'a>(
+pub(crate) fn blocking_at<'a>(
     alloc: Global,
     live: &'a [Stated],
     roll: &Roll,
@@ -264,6 +268,27 @@ impl Heeds {
     {
         self.whole = false;
         self.changed.clear();
+    }
+
+    /// Whether many b-threads request or block something; then all are noted as they are now. Its
+    /// only error is out of memory.
+    pub fn are_many(&mut self, alloc: Global, live: &[Stated]) -> Result<bool, Memory>
+        requires order { AreInOrder (map live_of live.now) }
+        requires noted { WhereWhole self.old.whole (map live_of live.now) self.old.roll
+            self.old.changed.items }
+        ensures settled { IfOk result (λ b. b ≡ true →
+            Each (λ t. IsNoted self.new.roll t) (map live_of live.now)) }
+        ensures noted { WhereWhole self.new.whole (map live_of live.now) self.new.roll
+            self.new.changed.items }
+    {
+        if !self.is_worth(live.len()) {
+            return Ok(false);
+        }
+        self.begin(alloc, live)?;
+        self.settle(alloc, live)?;
+        let askers = self.roll.at(ASKS).len();
+        let blockers = self.roll.at(BLOCKS).len();
+        Ok(askers.saturating_add(blockers) > FEW_ASKERS)
     }
 
     /// Those that request something. All are noted as they are now, if any count as noted. Its only

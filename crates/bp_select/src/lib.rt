@@ -3,7 +3,8 @@
 //!
 //! What the block sets answered of an event is kept until one of them changes. Where b-threads are
 //! many, candidates are gathered of those alone that request something, and an event is asked about
-//! of those alone whose statements name it or whose sets are not lists of events.
+//! of those alone whose statements name it or whose sets are not lists of events. Where one of all
+//! free events is drawn, it is found by how many each b-thread requests.
 #![tactic(auto)]
 
 mod answers;
@@ -13,6 +14,7 @@ mod block_sets;
 mod candidate;
 mod candidates;
 mod choosing;
+mod counts;
 mod draw;
 mod feeding;
 mod heeds;
@@ -23,6 +25,7 @@ mod placing;
 mod reaching;
 mod selecting;
 mod settling;
+mod tally;
 
 pub use answers::{Choice, Enabled, Reach, SelectFault};
 pub use bench::Bench;

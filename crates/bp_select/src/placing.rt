@@ -1,10 +1,10 @@
 //! Statements in the order of their numbers.
-ghost use Rattle.std.specs.Prelude.{◌≡◌, ◌<◌, ◌&&◌, [], Some, None, get_or, length, map, option_map, slice_get, true, OnOk, OnErr};
+ghost use Rattle.std.specs.Prelude.{◌≡◌, ◌<◌, ◌&&◌, [], Some, None, filter, get_or, length, map, option_map, slice_get, true, OnOk, OnErr};
 ghost use Rattle.std.specs.List.{list_any};
 ghost use Rattle.bp_run.specs.Selecting.{requests, requested};
 ghost use Rattle.bp_thread.specs.Views.{plain_statement};
 ghost use Rattle.bp_select.specs.Benches.{placed};
-ghost use Rattle.bp_select.specs.Lists.{AreCounted, gap, live_in};
+ghost use Rattle.bp_select.specs.Lists.{AreCounted, gap, is_gap, live_in};
 ghost use Rattle.bp_select.specs.Lives.{live_of};
 ghost use Rattle.bp_select.specs.Places.{AreInOrder, place_in, is_number};
 
@@ -23,6 +23,8 @@ use std::marker::Model;
 pub(crate) struct StatedList {
     items: Vec<Stated>,
     gone: usize,
+    /// The place of the last one that left. Only how fast the list is tidied rests on it.
+    left: usize,
 }
 
 impl Model for StatedList {
@@ -98,6 +100,29 @@ fn take_away(items: &mut Vec<Stated>, gone: &mut usize, at: usize, number: u32)
     }
 }
 
+/// Whether the one at this place is there, and not live.
+fn is_gap(items: &[Stated], at: usize) -> bool
+    ensures { result ≡ is_gap (slice_get items.now at) }
+{
+    match items.get(at) {
+        None => false,
+        Some(stated) => !stated.here,
+    }
+}
+
+/// Those that are not live, which are this many, give up their places. Where it is one alone, and at
+/// this place, no other is looked at.
+fn clear(items: &mut Vec<Stated>, gone: usize, left: usize)
+    requires { AreCounted items.old.items gone }
+    ensures { items.new.items ≡ filter (λ t. t.here) items.old.items }
+{
+    if gone == 1 && is_gap(items.as_slice(), left) {
+        let _left = items.remove(left);
+    } else {
+        items.retain(|stated| stated.here);
+    }
+}
+
 /// Whether one of them that is live requests the event.
 fn is_requested(items: &[Stated], event: &Event) -> bool
     ensures { result ≡ list_any (λ t. t.here && requests event.now (live_of t)) items.now }
@@ -113,6 +138,7 @@ impl StatedList {
         StatedList {
             items: Vec::new(alloc),
             gone: 0,
+            left: 0,
         }
     }
 
@@ -135,6 +161,7 @@ impl StatedList {
             }
             None => {
                 take_away(&mut self.items, &mut self.gone, at, number);
+                self.left = at;
                 Ok(())
             }
         }
@@ -146,7 +173,7 @@ impl StatedList {
         ensures none { self.new.gone ≡ 0 }
     {
         if self.gone > 0 {
-            self.items.retain(|stated| stated.here);
+            clear(&mut self.items, self.gone, self.left);
             self.gone = 0;
         }
     }

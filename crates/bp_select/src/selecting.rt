@@ -6,11 +6,12 @@ ghost use Rattle.bp_draw.specs.Words.{draw_word};
 ghost use Rattle.bp_meaning.specs.Membership.{member};
 ghost use Rattle.js_value.specs.Value.{PlainSet};
 ghost use Rattle.bp_run.specs.Selecting.{Live, without_fault, first_unblocked, selectable};
-ghost use Rattle.bp_run.specs.Choosing.{drawn_of, chosen};
+ghost use Rattle.bp_run.specs.Choosing.{choice, drawn_of, chosen};
 ghost use Rattle.bp_select.specs.Lives.{lent, live_of};
-ghost use Rattle.bp_select.specs.Heeding.{Each, IsNoted};
+ghost use Rattle.bp_select.specs.Heeding.{Each, IsNoted, WhereWhole};
 ghost use Rattle.js_meaning.specs.State.{Ground as Base};
-ghost use Rattle.bp_select.specs.Answers.{AnswersAs, IsFrom, chosen_of, enabled_of};
+ghost use Rattle.bp_select.specs.Answers.{AnswersAs, IsFrom, IsWithin, chosen_of, enabled_of};
+ghost use Rattle.bp_select.specs.Tallies.{Tallied, plain_tally};
 ghost use Rattle.bp_select.specs.Blocks.{AreOf};
 ghost use Rattle.bp_select.specs.Candidates.{events_in, tops_of};
 ghost use Rattle.bp_select.specs.Free.{free_of, IsOf};
@@ -26,6 +27,7 @@ use crate::candidate::Candidate;
 use crate::candidates::candidates;
 use crate::choosing::remaining;
 use crate::heeds::Heeds;
+use crate::tally::{Tally, quick};
 use crate::{Choice, Draw, Enabled, SelectFault};
 use bp_log::{Memory, Strategy};
 use js_data::Event;
@@ -311,4 +313,125 @@ pub(crate) fn chosen<'a>(
         Free::Outer(place) => Ok(Choice::External(place)),
         Free::Nothing => Ok(Choice::Nothing),
     }
+}
+
+/// What can be selected, as a bench answers it.
+pub(crate) fn enabled(
+    alloc: Global,
+    ground: &Ground,
+    budget: u64,
+    live: &[Stated],
+    heeds: &mut Heeds,
+    blocks: &mut Blocks,
+    queue: &[Event],
+) -> Result<Enabled, SelectFault>
+    requires few { length queue.now < 2 ^ 32 }
+    requires order { AreInOrder (map live_of live.now) }
+    requires noted { WhereWhole heeds.old.whole (map live_of live.now) heeds.old.roll
+        heeds.old.changed.items }
+    requires sets { AreOf (map live_of live.now) (sets_in blocks.old.sets) }
+    requires known { AreKnown (plain_ground ground.now) budget (sets_in blocks.old.sets)
+        blocks.old.told }
+    ensures enabled { let has = member (plain_ground ground.now) budget in
+        AnswersAs enabled_of (selectable has (map live_of live.now) queue.now) result }
+    ensures noted { WhereWhole heeds.new.whole (map live_of live.now) heeds.new.roll
+        heeds.new.changed.items }
+    ensures sets { blocks.new.sets ≡ blocks.old.sets }
+    ensures known { AreKnown (plain_ground ground.now) budget (sets_in blocks.old.sets)
+        blocks.new.told }
+{
+    let asking = heeds.asking(alloc, live)?;
+    let asking = asking.as_slice();
+    let free = selectable(alloc, ground, budget, live, heeds, asking, blocks, queue)?;
+    Ok(free.into_enabled(alloc)?)
+}
+
+/// Which event comes next, where each candidate is looked at.
+fn choose_of_all(
+    alloc: Global,
+    ground: &Ground,
+    budget: u64,
+    strategy: Strategy,
+    live: &[Stated],
+    heeds: &mut Heeds,
+    blocks: &mut Blocks,
+    queue: &[Event],
+    draw: &mut Draw,
+) -> Result<Choice, SelectFault>
+    requires few { length queue.now < 2 ^ 32 }
+    requires words { draw.old.drawn + 1 < 2 ^ 64 }
+    requires order { AreInOrder (map live_of live.now) }
+    requires noted { WhereWhole heeds.old.whole (map live_of live.now) heeds.old.roll
+        heeds.old.changed.items }
+    requires sets { AreOf (map live_of live.now) (sets_in blocks.old.sets) }
+    requires known { AreKnown (plain_ground ground.now) budget (sets_in blocks.old.sets)
+        blocks.old.told }
+    ensures chosen { AnswersAs (chosen_of queue.now draw.new.drawn)
+        (choice (member (plain_ground ground.now) budget) (draw_word draw.old.seed) strategy
+        (map live_of live.now) queue.now draw.old.drawn) result }
+    ensures seed { draw.new.seed ≡ draw.old.seed }
+    ensures drawn { (draw.old.drawn ≤ draw.new.drawn) × (draw.new.drawn ≤ draw.old.drawn + 1) }
+    ensures within { IfOk result (IsWithin (length queue.now)) }
+    ensures nothing { result ≡ Ok Choice.Nothing → draw.new ≡ draw.old }
+    ensures failed { OnErr result (draw.new ≡ draw.old) }
+    ensures noted { WhereWhole heeds.new.whole (map live_of live.now) heeds.new.roll
+        heeds.new.changed.items }
+    ensures sets { blocks.new.sets ≡ blocks.old.sets }
+    ensures known { AreKnown (plain_ground ground.now) budget (sets_in blocks.old.sets)
+        blocks.new.told }
+{
+    let asking = heeds.asking(alloc, live)?;
+    let asking = asking.as_slice();
+    let free = selectable(alloc, ground, budget, live, heeds, asking, blocks, queue)?;
+    Ok(chosen(alloc, strategy, asking, free, draw)?)
+}
+
+/// Which event comes next, found by counts where that serves.
+pub(crate) fn choose(
+    alloc: Global,
+    ground: &Ground,
+    budget: u64,
+    strategy: Strategy,
+    live: &[Stated],
+    heeds: &mut Heeds,
+    blocks: &mut Blocks,
+    tally: &mut Tally,
+    queue: &[Event],
+    draw: &mut Draw,
+) -> Result<Choice, SelectFault>
+    requires few { length queue.now < 2 ^ 32 }
+    requires words { draw.old.drawn + 1 < 2 ^ 64 }
+    requires order { AreInOrder (map live_of live.now) }
+    requires noted { WhereWhole heeds.old.whole (map live_of live.now) heeds.old.roll
+        heeds.old.changed.items }
+    requires sets { AreOf (map live_of live.now) (sets_in blocks.old.sets) }
+    requires known { AreKnown (plain_ground ground.now) budget (sets_in blocks.old.sets)
+        blocks.old.told }
+    requires tallied { Tallied (plain_ground ground.now) budget (sets_in blocks.old.sets)
+        (map live_of live.now) (plain_tally tally.old) }
+    ensures chosen { AnswersAs (chosen_of queue.now draw.new.drawn)
+        (choice (member (plain_ground ground.now) budget) (draw_word draw.old.seed) strategy
+        (map live_of live.now) queue.now draw.old.drawn) result }
+    ensures seed { draw.new.seed ≡ draw.old.seed }
+    ensures drawn { (draw.old.drawn ≤ draw.new.drawn) × (draw.new.drawn ≤ draw.old.drawn + 1) }
+    ensures within { IfOk result (IsWithin (length queue.now)) }
+    ensures nothing { result ≡ Ok Choice.Nothing → draw.new ≡ draw.old }
+    ensures failed { OnErr result (draw.new ≡ draw.old) }
+    ensures noted { WhereWhole heeds.new.whole (map live_of live.now) heeds.new.roll
+        heeds.new.changed.items }
+    ensures sets { blocks.new.sets ≡ blocks.old.sets }
+    ensures known { AreKnown (plain_ground ground.now) budget (sets_in blocks.old.sets)
+        blocks.new.told }
+    ensures tallied { Tallied (plain_ground ground.now) budget (sets_in blocks.old.sets)
+        (map live_of live.now) (plain_tally tally.new) }
+{
+    let picked = quick(
+        alloc, ground, budget, strategy, live, heeds, blocks, tally, draw,
+    )?;
+    if let Some(picked) = picked {
+        return Ok(picked.into_choice(draw));
+    }
+    choose_of_all(
+        alloc, ground, budget, strategy, live, heeds, blocks, queue, draw,
+    )
 }

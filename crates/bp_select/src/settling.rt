@@ -1,15 +1,19 @@
 //! The block sets that are noted become those of the live b-threads.
-ghost use Rattle.std.specs.Prelude.{◌≡◌, ℕ, false, map, nat_eq, option_map, OnOk};
+ghost use Rattle.std.specs.Prelude.{◌≡◌, ℕ, List, false, map, nat_eq, option_map, OnOk};
 ghost use Rattle.js_frames.specs.Places.{plain_ground};
 ghost use Rattle.bp_select.specs.Blocks.{AreOf, IsNoted, block_at, own_set};
 ghost use Rattle.bp_known.specs.Known.{AreKnown, sets_in};
 ghost use Rattle.bp_select.specs.Lives.{live_of};
 ghost use Rattle.bp_select.specs.Places.{AreInOrder};
+ghost use Rattle.bp_select.specs.Tallies.{Tallied, plain_tally};
+ghost use Rattle.bp_run.specs.Selecting.{Live};
+ghost use Rattle.js_value.specs.Value.{PlainSet};
 
 use crate::asking::is_empty_set;
 use crate::bench::Stated;
 use crate::block_sets::Blocks;
 use crate::placing::{is_at, place_of};
+use crate::tally::Tally;
 use bp_known::is_same;
 use bp_log::Memory;
 use js_frames::Ground;
@@ -40,13 +44,14 @@ fn block_of(live: &[Stated], number: u32) -> Option<&EventSet>
 }
 
 /// The block set of this number becomes that of its b-thread. Where it is made alike, nothing is
-/// done.
+/// done; else nothing counts as counted any more.
 fn settle_one(
     alloc: Global,
     ground: &Ground,
     budget: u64,
     live: &[Stated],
     blocks: &mut Blocks,
+    tally: &mut Tally,
     number: u32,
 ) -> Result<(), Memory>
     requires order { AreInOrder (map live_of live.now) }
@@ -56,6 +61,10 @@ fn settle_one(
         blocks.new.told }
     ensures others { (n : ℕ) → nat_eq number n ≡ false →
         sets_in blocks.new.sets n ≡ sets_in blocks.old.sets n }
+    ensures tallied { (ts : List (Live PlainSet)) →
+        Tallied (plain_ground ground.now) budget (sets_in blocks.old.sets) ts (plain_tally tally.old)
+        → Tallied (plain_ground ground.now) budget (sets_in blocks.new.sets) ts
+        (plain_tally tally.new) }
     ensures settled { OnOk result
         (sets_in blocks.new.sets number ≡ block_at (map live_of live.now) number) }
 {
@@ -64,6 +73,7 @@ fn settle_one(
         return Ok(());
     }
     blocks.forget_idle();
+    tally.rest();
     blocks.restate(alloc, ground, budget, number, set)
 }
 
@@ -75,6 +85,7 @@ pub(crate) fn settle(
     budget: u64,
     live: &[Stated],
     blocks: &mut Blocks,
+    tally: &mut Tally,
     changed: &mut Vec<u32>,
 ) -> Result<(), Memory>
     requires order { AreInOrder (map live_of live.now) }
@@ -82,12 +93,16 @@ pub(crate) fn settle(
     requires known { AreKnown (plain_ground ground.now) budget (sets_in blocks.old.sets)
         blocks.old.told }
     ensures noted { IsNoted (map live_of live.now) (sets_in blocks.new.sets) changed.new.items }
+    ensures tallied { (ts : List (Live PlainSet)) →
+        Tallied (plain_ground ground.now) budget (sets_in blocks.old.sets) ts (plain_tally tally.old)
+        → Tallied (plain_ground ground.now) budget (sets_in blocks.new.sets) ts
+        (plain_tally tally.new) }
     ensures settled { OnOk result (AreOf (map live_of live.now) (sets_in blocks.new.sets)) }
     ensures known { AreKnown (plain_ground ground.now) budget (sets_in blocks.new.sets)
         blocks.new.told }
 {
     for at in 0..changed.len() {
-        settle_one(alloc, ground, budget, live, blocks, changed[at])?;
+        settle_one(alloc, ground, budget, live, blocks, tally, changed[at])?;
     }
     changed.clear();
     Ok(())

@@ -5,6 +5,8 @@ use Rattle.bp_known.specs.Known.{AreKnown, sets_in}
 use Rattle.bp_select.specs.Blocks.{block_at}
 use Rattle.bp_select.specs.Lives.{live_of}
 use Rattle.bp_select.proofs.Noting.{restated_others, restated_own}
+use Rattle.bp_select.specs.Tallies.{plain_tally}
+use Rattle.bp_select.proofs.TallyLemmas.{tallied_rest}
 use Rattle.bp_select.proofs.settling.settle_one.Goals as goal
 
 pub restate-requires : goal.restate-requires
@@ -24,3 +26,6 @@ pub returns-clause-settled : goal.returns-clause-settled
 returns-clause-settled c =
     restated_own c.args.number (option_map (λ s. s.now) c.block_of-set.result) (block_at (map live_of c.args.live.now) c.args.number) c.forget_idle.new.self.sets c.restate.new.self.sets c.restate.result c.restate.ensures.sets
     c.block_of-set.ensures
+
+pub returns-clause-tallied : goal.returns-clause-tallied
+returns-clause-tallied c = λ ts h. tallied_rest (plain_ground c.args.ground.now) c.args.budget (sets_in c.restate.new.self.sets) ts (plain_tally c.rest.new.self) c.rest.ensures

@@ -1,30 +1,44 @@
-use Rattle.std.proofs.Common.{◌≡◌, ◌∙◌, List, Ok, map, ap, sym, subst}
-use Rattle.std.specs.Borrow.{Bor}
-use Rattle.std.proofs.lemmas.Result.{err_from_is_err_and}
+use Rattle.std.proofs.Common.{◌≡◌, ◌∙◌, ℕ, List, map, ap, sym, subst}
 use Rattle.js_value.specs.Value.{PlainSet}
 use Rattle.js_frames.specs.Places.{plain_ground}
 use Rattle.bp_meaning.specs.Membership.{member}
-use Rattle.bp_run.specs.Selecting.{Enabled, Live, selectable}
-use Rattle.bp_select.specs.declared.bench.Stated.{Stated}
-use Rattle.bp_select.proofs.Selects.{fault_here}
-use Rattle.bp_select.specs.Free.{free_of}
-use Rattle.bp_select.specs.Lives.{live_of, lent}
-use Rattle.bp_select.specs.Benches.{PlainBench}
-use Rattle.bp_select.specs.Parts.{IsPart, asks_nothing}
+use Rattle.bp_known.specs.Known.{AreKnown, sets_in}
+use Rattle.bp_run.specs.Selecting.{Live, selectable}
+use Rattle.bp_select.specs.Answers.{AnswersAs, enabled_of}
+use Rattle.bp_select.specs.Lives.{live_of}
+use Rattle.bp_select.specs.Benches.{Fits, PlainBench}
+use Rattle.bp_select.specs.Tallies.{Tallied, plain_tally}
 use Rattle.bp_select.proofs.bench.Bench.enabled.Goals as goal
 
-pub selectable-requires-clause-asking : goal.selectable-requires-clause-asking
-selectable-requires-clause-asking c =
-    subst (λ (xs : List (Bor Stated)). IsPart asks_nothing (map lent xs) (map live_of c.as_slice-live.result.now)) (sym c.as_slice-asking.ensures.value) c.in_ok-asking.ensures.asking
+pub settle-requires-clause-known : goal.settle-requires-clause-known
+settle-requires-clause-known c =
+    let fits = subst (λ (b : PlainBench). Fits b (plain_ground c.args.ground.now) c.args.budget) (sym c.self.view_is) c.requires.fits in
+    fits.known
 
-pub returns-in_err-free-clause-enabled : goal.returns-in_err-free-clause-enabled
-returns-in_err-free-clause-enabled c =
-    let p = err_from_is_err_and c.from_residual-in_err-free.result c.from_residual-in_err-free.ensures.1 in
-    let here : map live_of c.as_slice-live.result.now ≡ c.args.self.now.live = c.as_slice-live.ensures.live ∙ c.tidy.ensures.same ∙ ap (λ (b : PlainBench). b.live) c.self.view_is in
-    rw (p.1, p.2) (fault_here (member (plain_ground c.args.ground.now) c.args.budget) c.args.queue.now (map live_of c.as_slice-live.result.now) c.args.self.now.live _ here c.in_err-free.ensures.free)
+pub returns-in_err-settle-clause-fits : goal.returns-in_err-settle-clause-fits
+returns-in_err-settle-clause-fits c =
+    let base = plain_ground c.args.ground.now in
+    let fits = subst (λ (b : PlainBench). Fits b base c.args.budget) (sym c.self.view_is) c.requires.fits in
+    record {
+      known = c.settle.ensures.known;
+      tallied =
+          c.settle.ensures.tallied c.tidy.new.self.live
+          (subst (λ (ts : List (Live PlainSet)). Tallied base c.args.budget (sets_in c.self.inside.blocks.sets) ts (plain_tally c.self.inside.tally)) (sym c.tidy.ensures.same) fits.tallied);
+    }
 
 pub returns-clause-enabled : goal.returns-clause-enabled
 returns-clause-enabled c =
     let here : map live_of c.as_slice-live.result.now ≡ c.args.self.now.live = c.as_slice-live.ensures.live ∙ c.tidy.ensures.same ∙ ap (λ (b : PlainBench). b.live) c.self.view_is in
-    subst (λ (ts : List (Live PlainSet)). selectable (member (plain_ground c.args.ground.now) c.args.budget) ts c.args.queue.now ≡ Ok (free_of c.in_ok-free.free)) here c.in_ok-free.ensures.free
-    ∙ ap (λ (x : Enabled). Ok x) (sym c.in_ok-into_enabled.ensures)
+    subst (λ (ts : List (Live PlainSet)). AnswersAs enabled_of (selectable (member (plain_ground c.args.ground.now) c.args.budget) ts c.args.queue.now) c.enabled.result) here c.enabled.ensures.enabled
+
+pub returns-clause-fits : goal.returns-clause-fits
+returns-clause-fits c =
+    let base = plain_ground c.args.ground.now in
+    let fits = subst (λ (b : PlainBench). Fits b base c.args.budget) (sym c.self.view_is) c.requires.fits in
+    record {
+      known = subst (λ (es : List (ℕ × PlainSet)). AreKnown base c.args.budget (sets_in es) c.enabled.new.blocks.told) (sym c.enabled.ensures.sets) c.enabled.ensures.known;
+      tallied =
+          subst (λ (es : List (ℕ × PlainSet)). Tallied base c.args.budget (sets_in es) c.tidy.new.self.live (plain_tally c.settle.new.tally)) (sym c.enabled.ensures.sets)
+          (c.settle.ensures.tallied c.tidy.new.self.live
+          (subst (λ (ts : List (Live PlainSet)). Tallied base c.args.budget (sets_in c.self.inside.blocks.sets) ts (plain_tally c.self.inside.tally)) (sym c.tidy.ensures.same) fits.tallied));
+    }

@@ -1,0 +1,9 @@
+use Rattle.std.proofs.Common.{◌≡◌, ℕ, length}
+use Rattle.bp_select.specs.Counting.{count_at}
+use Rattle.bp_select.proofs.counts.Counts.make_room.Given as goal
+
+abbrev pub invariant-loop-place : goal.invariant-loop-place
+invariant-loop-place l = record {
+  room : length l.self ≡ l._place;
+  same : (n : ℕ) → count_at l.self n ≡ count_at l.fn.self n;
+}

@@ -1,0 +1,155 @@
+//! Counts by number, and of each block of them together, so that one is found without a look at
+//! each.
+ghost use Rattle.std.specs.Prelude.{◌≡◌, ◌<◌, ◌≤◌, ◌+◌, ◌++◌, ◌∷◌, ℕ, List, [], false, length, nat_eq, sum, take, true, IfOk, IfSome, OnOk};
+ghost use Rattle.bp_select.specs.Counting.{AreSums, count_at};
+
+use bp_log::Memory;
+use std::alloc::Global;
+use std::marker::Model;
+
+/// This many counts are a block.
+const BLOCK: usize = 64;
+
+/// Counts by number. Contracts see the list of them.
+#[derive(Drop)]
+pub(crate) struct Counts {
+    /// 0 where nobody is.
+    items: Vec<usize>,
+    /// Those of each block together.
+    sums: Vec<usize>,
+}
+
+impl Model for Counts {
+    ghost use Rattle.std.specs.Prelude.{ℕ, List};
+    ghost use Rattle.bp_select.specs.Counting.{AreSums};
+
+    ghost Value = { List ℕ };
+
+    ghost view = { λ c. c.items.items };
+
+    ghost invariant = { λ c. AreSums c.sums.items c.items.items };
+}
+
+/// There is a block for one count more.
+fn make_block(sums: &mut Vec<usize>, items: &[usize]) -> Result<(), Memory>
+    requires { AreSums sums.old.items items.now }
+    ensures sums { AreSums sums.new.items items.now }
+    ensures room { OnOk result (AreSums sums.new.items (items.now ++ 0 ∷ [])) }
+{
+    if items.len() / BLOCK >= sums.len() {
+        sums.push(0)?;
+    }
+    Ok(())
+}
+
+/// A number, and a place before its count.
+#[derive(Clone, Copy)]
+pub(crate) struct Spot {
+    /// The number.
+    pub number: usize,
+    /// The place.
+    pub rest: usize,
+}
+
+/// The first number from this one on whose count reaches past this place behind the counts before.
+fn spot_from(items: &[usize], from: usize, place: usize) -> Option<Spot>
+    ensures { IfSome result (λ s.
+        (sum (take s.number items.now) + s.rest ≡ sum (take from items.now) + place)
+        × (s.rest < count_at items.now s.number)) }
+{
+    let mut rest = place;
+    for number in from..items.len() {
+        let count = items[number];
+        if rest < count {
+            return Some(Spot { number, rest });
+        }
+        rest -= count;
+    }
+    None
+}
+
+impl Counts {
+    /// No counts.
+    pub fn new(alloc: Global) -> Counts
+        ensures { result ≡ [] }
+    {
+        Counts {
+            items: Vec::new(alloc),
+            sums: Vec::new(alloc),
+        }
+    }
+
+    /// One count more, which is 0.
+    fn push(&mut self) -> Result<(), Memory>
+        ensures pushed { OnOk result (self.new ≡ self.old ++ 0 ∷ []) }
+        ensures same { (n : ℕ) → count_at self.new n ≡ count_at self.old n }
+    {
+        make_block(&mut self.sums, self.items.as_slice())?;
+        self.items.push(0)?;
+        Ok(())
+    }
+
+    /// There is room for the count of this number.
+    fn make_room(&mut self, number: u32) -> Result<(), Memory>
+        ensures room { OnOk result (number < length self.new) }
+        ensures same { (n : ℕ) → count_at self.new n ≡ count_at self.old n }
+    {
+        for _place in self.items.len()..number as usize + 1 {
+            self.push()?;
+        }
+        Ok(())
+    }
+
+    /// This is the count of this number, where there is room for it, and tells whether it can be.
+    fn put(&mut self, number: u32, count: usize) -> bool
+        requires { number < length self.old }
+        ensures own { result ≡ true → count_at self.new number ≡ count }
+        ensures others { (n : ℕ) → nat_eq n number ≡ false →
+            count_at self.new n ≡ count_at self.old n }
+    {
+        let at = number as usize;
+        let others = self.sums[at / BLOCK] - self.items[at];
+        let Some(sum) = others.checked_add(count) else {
+            return false;
+        };
+        self.items[at] = count;
+        self.sums[at / BLOCK] = sum;
+        true
+    }
+
+    /// This is the count of this number from now on, and tells whether it can be.
+    pub fn set(&mut self, number: u32, count: usize) -> Result<bool, Memory>
+        ensures own { IfOk result (λ b. b ≡ true → count_at self.new number ≡ count) }
+        ensures others { (n : ℕ) → nat_eq n number ≡ false →
+            count_at self.new n ≡ count_at self.old n }
+    {
+        self.make_room(number)?;
+        Ok(self.put(number, count))
+    }
+
+    /// How many there are in all, if that can be told.
+    pub fn total(&self) -> Option<usize>
+        ensures { IfSome result (λ n. n ≡ sum self.now) }
+    {
+        let mut total: usize = 0;
+        for together in self.sums.as_slice() {
+            total = total.checked_add(*together)?;
+        }
+        Some(total)
+    }
+
+    /// The number whose count reaches past this place of all, and the place behind the counts before.
+    pub fn spot_at(&self, place: usize) -> Option<Spot>
+        ensures { IfSome result (λ s. (sum (take s.number self.now) + s.rest ≡ place)
+            × (s.rest < count_at self.now s.number)) }
+    {
+        let mut rest = place;
+        for (block, together) in self.sums.as_slice().iter().enumerate() {
+            if rest < *together {
+                return spot_from(self.items.as_slice(), block.checked_mul(BLOCK)?, rest);
+            }
+            rest -= *together;
+        }
+        None
+    }
+}
