@@ -136,7 +136,7 @@ leaves a v b e h k r l jobs taken p s = tells_same v b taken h k r l (subst (λ 
 
 -- ---- out of memory
 
--- where memory had been wanting, nothing changes
+-- where memory had run out, nothing changes
 pub given_up_before : (IsLent : List Job → Type 0) (a : PlainArbiter) → a.broken ≡ true → IsGivenUp IsLent a a
 given_up_before IsLent a w = record { broken = w; records = refl; phase = refl; tells = λ jobs taken p l s. stands_tells a jobs taken p s; stays = λ h. refl }
 

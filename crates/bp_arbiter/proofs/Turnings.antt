@@ -27,7 +27,7 @@ use Rattle.bp_arbiter.proofs.Told.{tells_same}
 use Rattle.bp_arbiter.proofs.Standing.{sound_of}
 use Rattle.bp_arbiter.proofs.PickLemmas.{next_is, stands_on, phase_come, moved_not_over as not_over}
 
--- an arbiter whose memory was never wanting, in this phase
+-- an arbiter whose memory never ran out, in this phase
 pub record IsAt (f : Phase) (a : PlainArbiter) (r : Run) : Type 0 where
   pub is : a ≡ seen r f false
   pub sound : IsSound r.draw.seed (seen r f false)

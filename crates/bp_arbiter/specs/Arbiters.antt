@@ -109,14 +109,14 @@ is_over Lent = false
 is_over Rest = false
 is_over Over = true
 
--- memory was not wanting before, and is not now
+-- memory did not run out before, and is not now
 pub record HadMemory (old new : PlainArbiter) : Type 0 where
   pub before : old.broken ≡ false
   pub after : new.broken ≡ false
 
 -- After memory ran out nothing was recorded, and what can be done is as before. Of each pair that the
 -- arbiter stood for with such jobs, the lines taken and to be taken are the first of the story's. Where
--- memory had been wanting before, nothing has changed.
+-- memory had run out before, nothing has changed.
 pub record IsGivenUp (IsLent : List Job → Type 0) (old new : PlainArbiter) : Type 0 where
   pub broken : new.broken ≡ true
   pub records : new.records ≡ old.records

@@ -9,12 +9,14 @@ ghost use Rattle.bp_log.specs.declared.trace.Line.{Line};
 ghost use Rattle.bp_log.specs.declared.verdict.Verdict.{Verdict as End};
 ghost use Rattle.bp_run.specs.Configuration.{Configuration};
 ghost use Rattle.bp_run.specs.Settling.{Pair, opening};
+ghost use Rattle.bp_run.specs.Selecting.{selectable};
 ghost use Rattle.bp_run.specs.Story.{has_room, record_of};
 ghost use Rattle.bp_run.specs.Story as story;
 ghost use Rattle.bp_thread.specs.declared.job.Job.{Job as Lent};
 ghost use Rattle.bp_thread.specs.Carried.{HaveDistinctNumbers};
 ghost use Rattle.bp_floor.specs.declared.phase.Phase.TheVariants as phase;
-ghost use Rattle.bp_floor.specs.Floors.{IsPhased, is_idle, phase_of};
+ghost use Rattle.bp_select.specs.Answers.{AnswersAs, enabled_of};
+ghost use Rattle.bp_floor.specs.Floors.{IsPhased, has_on, is_idle, live_on, phase_of};
 ghost use Rattle.bp_arbiter.specs.declared.picked.Picked.TheVariants as picked;
 ghost use Rattle.bp_arbiter.specs.Arbiters.{opened, code_in, options_in, stand_in, Recounts, coming, StandsFor, StandsSomewhere, Tells, is_lent, is_over, HadMemory, IsGivenUp, Keeps, Shows};
 ghost use Rattle.bp_arbiter.specs.Absorb.{is_failed, fits, ComesBack, with_item, absorbed};
@@ -29,7 +31,7 @@ use crate::run::Run;
 use bp_floor::{Absorb, Floor, Phase};
 use bp_log::limits::MOST_WAITING;
 use bp_log::{Item, Lines, Memory, Options, Record, Records, Verdict};
-use bp_select::Draw;
+use bp_select::{Draw, Enabled, SelectFault};
 use bp_thread::Job;
 use js_frames::Ground;
 use js_program::Program;
@@ -46,7 +48,7 @@ pub struct Arbiter {
     run: Run,
     /// After memory ran out, that before the call.
     phase: Phase,
-    /// Memory was wanting.
+    /// Memory ran out.
     broken: bool,
 }
 
@@ -92,8 +94,7 @@ impl Model for Arbiter {
 }
 
 impl Arbiter {
-    /// The arbiter of a program before anything has run: its top level is to be run. Its only error is want
-    /// of memory.
+    /// The arbiter of a program before anything has run: its top level is to be run.
     pub fn open(alloc: Global, program: Program, options: Options) -> Result<Arbiter, Memory>
         ensures opened { IfOk result (λ a. a ≡ opened program options) }
         ensures stands { IfOk result (λ a. StandsFor a [] [] opening) }
@@ -111,7 +112,7 @@ impl Arbiter {
         })
     }
 
-    /// What an arbiter keeps unless memory ran out, as facts for its callers. Does nothing.
+    /// What an arbiter keeps unless memory ran out, as a fact for its callers. Does nothing.
     pub fn keeps(&self)
         ensures stands { self.now.broken ≡ false → is_lent self.now.phase ≡ false →
             StandsSomewhere self.now }
@@ -126,7 +127,9 @@ impl Arbiter {
             (c : Configuration Origin) → Recounts self.now c →
             c.stand.lines ≡ taken ++ (stand_in self.now).lines }
     {
+        // Reads a field for the proof alone: so what the type keeps is known.
         let _run = &self.run;
+        // For the proof: what the floor keeps.
         self.run.floor.keeps();
     }
 
@@ -144,6 +147,7 @@ impl Arbiter {
         ensures shows { self.now.broken ≡ false → is_idle self.now.phase ≡ true →
             (c : Configuration Origin) → Recounts self.now c → Shows (stand_in self.now) c.stand }
     {
+        // For the proof: what the floor keeps.
         self.run.floor.keeps();
         &self.run.floor
     }
@@ -190,6 +194,13 @@ impl Arbiter {
         ensures { result.now ≡ self.now.reading }
     {
         self.run.reading.as_slice()
+    }
+
+    /// How many words of the random choice were drawn.
+    pub fn drawn(&self) -> u64
+        ensures { result ≡ self.now.drawn }
+    {
+        self.run.draw.drawn()
     }
 
     /// Whether a further event may wait.
@@ -263,6 +274,7 @@ impl Arbiter {
         if self.broken || self.run.records.reserve().is_err() {
             return Err(Absorb::Memory(item));
         }
+        // For the proof: what the floor keeps.
         self.run.floor.keeps();
         self.run.absorb(injector, item)
     }
@@ -307,6 +319,7 @@ impl Arbiter {
         if self.broken {
             return Err(AllocError);
         }
+        // For the proof: what the floor keeps.
         self.run.floor.keeps();
         self.broken = true;
         let picked = self.run.pick(alloc)?;
@@ -315,7 +328,7 @@ impl Arbiter {
         Ok(picked)
     }
 
-    /// The jobs of what is to be run, in order: at `Ready`, and then it is `Lent`. Its only error is want of
+    /// The jobs of what is to be run, in order: at `Ready`, and then it is `Lent`. Its only error is out of
     /// memory, after which each later call answers it.
     pub fn lend(&mut self, alloc: Global) -> Result<Vec<Job>, Memory>
         requires ready { self.old.phase ≡ phase.Ready }
@@ -335,6 +348,7 @@ impl Arbiter {
         if self.broken {
             return Err(AllocError);
         }
+        // For the proof: what the floor keeps.
         self.run.floor.keeps();
         self.broken = true;
         let jobs = self.run.floor.lend(alloc)?;
@@ -370,6 +384,7 @@ impl Arbiter {
         if self.broken {
             return Err(AllocError);
         }
+        // For the proof: what the floor keeps.
         self.run.floor.keeps();
         self.broken = true;
         self.run.seal(alloc, jobs)?;

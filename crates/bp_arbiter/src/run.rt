@@ -23,7 +23,8 @@ use bp_thread::Job;
 use js_data::Event;
 use std::alloc::{AllocError, Global};
 
-/// A run.
+/// All of an arbiter that a call changes. It lacks the invariant of `Arbiter`, so that a method may
+/// break that on the way.
 pub struct Run {
     /// Where its b-threads stand.
     pub floor: Floor,
@@ -100,8 +101,7 @@ impl Run {
         }
     }
 
-    /// Selects an event that was chosen, unless it would pass a limit or its reach is at fault. Its
-    /// only error is out of memory.
+    /// Selects an event that was chosen, unless it would pass a limit or its reach is at fault.
     fn select(&mut self, alloc: Global, event: Event, place: Option<u32>) -> Result<Picked, Memory>
         requires rest { self.old.floor.phase ≡ phase.Rest }
         requires can { CanGo self.old.floor event place }
@@ -162,6 +162,7 @@ impl Run {
         ensures drawn { self.new.draw.drawn ≤ self.old.draw.drawn + 1 }
         ensures failed { OnErr result (IsUnheard self.old self.new) }
     {
+        // For the proof: what the floor keeps.
         self.floor.keeps();
         self.records.reserve()?;
         match self.floor.choose(alloc, &mut self.draw) {
@@ -226,8 +227,7 @@ impl Run {
         }
     }
 
-    /// Merges what the lent jobs did; a verdict gets its line and its record. Its only error is want of
-    /// memory.
+    /// Merges what the lent jobs did; a verdict gets its line and its record.
     pub fn seal(&mut self, alloc: Global, jobs: Vec<Job>) -> Result<Phase, Memory>
         requires lent { self.old.floor.phase ≡ phase.Lent }
         requires whole { self.old.floor.broken ≡ false }

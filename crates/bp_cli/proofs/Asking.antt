@@ -154,7 +154,7 @@ asks_unmade asked name WorldError.Memory c before mid after last closed e k a b 
           (asks_on before mid after (asked.program ∷ []) asked.injectors (subst (λ (x : List ℕ). Asks before x mid) e a) b),
     )
 
--- whatever was asked for, memory may be wanting for the note
+-- whatever was asked for, memory may run out for the note
 some_asked : (k : Conclusion) (names asked : List (List ℕ)) → AsksFor k names asked → IsPrefix asked names
 some_asked NotRead names asked h = h.1
 some_asked (Refused refusal) names asked h = subst (λ (xs : List (List ℕ)). IsPrefix xs names) (sym h) (prefix_take 1 names)

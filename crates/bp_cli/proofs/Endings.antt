@@ -189,7 +189,7 @@ large_wanting n records before after Accepted h k m = absurd (false≢true h)
 large_wanting n records before after (Ran v) h k m = absurd (false≢true h)
 large_wanting n records before after _ h k m = none_some _ _ m.prints
 
--- whatever noted conclusion a command ends in, memory may be wanting for the note
+-- whatever noted conclusion a command ends in, memory may run out for the note
 wanting_note : (c : Option Command) (records : List Record) (before after : Outside) (k : Conclusion) → has_note k ≡ true → EndsIn c records before after k → EndsIn c records before after NoMemory
 wanting_note None records before after k h e = (inr refl, e.1)
 wanting_note (Some (command.Run asked)) records before after k h (e, inl n) = (tt, inl (inr refl, n.1))

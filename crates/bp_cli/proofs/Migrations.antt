@@ -44,7 +44,7 @@ migrates_partly bytes b a ended (inr m) =
       };
     })
 
--- however it ended, memory may be wanting for the note
+-- however it ended, memory may run out for the note
 pub migration_partly : (name : List ℕ) (before after : Outside) (c : Conclusion) → MigratesTo name before after c → MigratesTo name before after NoMemory
 migration_partly name before after c m =
     record {

@@ -54,7 +54,7 @@ pub told_under : (name : List ℕ) (holds : Option Holdings) (P Q : List ℕ →
 told_under name None P Q f h = tt
 told_under name (Some held) P Q f h = some_under (held name) P Q f h
 
--- however it ended, memory may be wanting for the note
+-- however it ended, memory may run out for the note
 pub replay_partly : (name : List ℕ) (before after : Outside) (c : Conclusion) → ReplaysTo name before after c → ReplaysTo name before after NoMemory
 replay_partly name before after c r =
     record { ended = Err ReplayFault.Memory; is_conclusion = refl; ends = told_under name before.holds _ _ (λ bytes h. replays_partly bytes before.printed after.printed r.ended h) r.ends; holds = r.holds }

@@ -18,7 +18,7 @@ names_of (Migrate log) = log ∷ []
 abbrev pub WasAsked : Option (List (List ℕ)) → List (List ℕ) → Option (List (List ℕ)) → Type 0
 WasAsked before names after = IfSome before (λ asked. after ≡ Some (asked ++ names))
 
--- so many of its names, from their front, a command asks for that ends so: the first where that is
+-- this many of its names, from their front, a command asks for that ends so: the first where that is
 -- refused, the first and maybe more where reading failed, some where memory ran out, and else
 -- all
 abbrev pub AsksFor : Conclusion → List (List ℕ) → List (List ℕ) → Type 0

@@ -4,7 +4,7 @@ use Rattle.bp_log.specs.declared.record.Record.{Record}
 use Rattle.bp_args.specs.declared.command.Command.{Command}
 use Rattle.bp_args.specs.declared.command.Command.TheVariants.{Run, Replay, Accept, Large, Migrate}
 use Rattle.bp_cli.specs.declared.conclusion.Conclusion.{Conclusion}
-use Rattle.bp_cli.specs.declared.conclusion.Conclusion.TheVariants.{NoCommand, Refused, Accepted, Ran, NotRead, NotWritten, NoMemory, BadLog, Migrated}
+use Rattle.bp_cli.specs.declared.conclusion.Conclusion.TheVariants.{NoCommand, Refused, NotRead, NotWritten, NoMemory}
 use Rattle.bp_cli.specs.Outside.{Outside, ReadFailed, WriteFailed, IsAsBefore, IsUnder}
 use Rattle.bp_cli.specs.Texts.{SaysAccepted}
 use Rattle.bp_cli.specs.Runs.{IsRunOf}

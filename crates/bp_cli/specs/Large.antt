@@ -40,7 +40,7 @@ abbrev pub IsPrintedWhole : PlainProgram → List ℕ → Conclusion → Type 0
 IsPrintedWhole program written (Ran v) = text_alone program default_options ≡ Some written
 IsPrintedWhole program written _ = Unit {0}
 
--- How measuring the program of so many b-threads ends, which is accepted: these are the records of
+-- How measuring the program of this many b-threads ends, which is accepted: these are the records of
 -- its run, or the first of them, and the line of the one run was printed as that ends.
 pub record Measures (n : ℕ) (records : List Record) (before after : Outside)
     (conclusion : Conclusion) : Type 0 where

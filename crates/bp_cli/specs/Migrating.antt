@@ -1,5 +1,5 @@
 -- Logs that are migrated.
-use Rattle.std.specs.Prelude.{◌≡◌, ℕ, List, Option, Result, Ok, Err, IfSome, IsSomeAnd, unwrap_or}
+use Rattle.std.specs.Prelude.{◌≡◌, ℕ, List, Result, Ok, Err, IfSome, IsSomeAnd, unwrap_or}
 use Rattle.bp_replay.specs.declared.fault.ReplayFault.{ReplayFault}
 use Rattle.bp_replay.specs.declared.fault.ReplayFault.TheVariants as replay
 use Rattle.bp_migrate.specs.declared.fault.MigrateFault.{MigrateFault}

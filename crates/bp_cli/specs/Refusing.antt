@@ -19,7 +19,7 @@ program_of (Accept program) = Some program
 program_of _ = None
 
 -- where the world tells that the program is refused, the code is 2, unless reading failed or memory
--- was wanting
+-- ran out
 abbrev pub Refuses : Option Command → Option Holdings → ℕ → Type 0
 Refuses command holds code =
     IfSome holds (λ held. IfSome (option_and_then program_of command)

@@ -47,7 +47,7 @@ fn carry_out<R: Threads + Wait + Sync, W: World, K: Sink>(
     }
 }
 
-/// Carries out what the words ask for, and says how it ended.
+/// Carries out the command that the words are, and says how it ended.
 fn conclude<R: Threads + Wait + Sync, W: World, K: Sink>(
     rt: &R,
     alloc: Global,
@@ -70,7 +70,7 @@ fn conclude<R: Threads + Wait + Sync, W: World, K: Sink>(
     }
 }
 
-/// Carries out what the words ask for.
+/// Carries out the command that the words are.
 ///
 /// The words are those after the program's name: `run [OPTIONS] PROGRAM [INJECTOR]...`, `replay
 /// LOG`, `accept PROGRAM`, `large N` or `migrate LOG`.
@@ -82,24 +82,24 @@ pub fn command<R: Threads + Wait + Sync, W: World, K: Sink>(
     out: &mut K,
 ) -> Status
     // It ends with the code and the note of a conclusion, and each failure has its cause. At 0 and
-    // 3 to 7 a run printed the whole text of its records, which are a story of the program and
-    // merge what the world holds under the injectors' names, and where a log is kept, it holds the
-    // same records; each replay of that log prints the same text and comes to the same verdict,
-    // unless it meets trouble; at 0 of a run that waits for its injectors all that they brought was
-    // recorded. At 8 reading failed: before the run, and then nothing was printed, or an injector,
-    // and then all that was recorded was told. At 9 and 10 a front of the text was printed and a
-    // front of the log is held, in which the records of that text stand. Without injectors the
-    // records are those of the one run, or the first of them. A replay at 8 and 11 printed the text
-    // of the records that were followed. A migration ends at 0 where the bytes are a log, and
-    // printed it in the second version; it ends at 11 where they are none. The world was asked for
-    // the names of the words, in order, and for all of them where a verdict came. So where no count
-    // rose and memory was not wanting, the code is 1, 2, 11, that of the verdict, or 0 for an
+    // 3 to 7 a run has printed the whole text of its records, which are a story of the program and
+    // merge what the world holds under the injectors' names; if a log is kept, it has the same
+    // records, and each replay of it prints the same text and comes to the same verdict, unless
+    // reading or writing fails or memory runs out. At 0 of a run that waits for its injectors all
+    // that they brought was recorded. At 8 reading failed: before the run, and then nothing was
+    // printed, or of an injector, and then all that was recorded was told. At 9 and 10 a prefix of
+    // the text was printed, and a prefix of the log is held, in which the records of that text
+    // are. Without injectors the records are those of the one run, or the first of them. A replay
+    // at 8 and 11 has printed the text of the records that were followed. A migration ends at 0 if
+    // the bytes are a log, printed in the second version, and at 11 if not. The world was asked
+    // for the names of the words, in order, and for all of them if a verdict came. So if no count
+    // rose and memory did not run out, the code is 1, 2, 11, that of the verdict, or 0 for an
     // accepted program and a migrated log.
     ensures ends { let seen = outside W.holds W.asked W.read_faults W.write_faults
         K.written K.faults in Ends (command_of (map string_bytes words.now))
         (seen world.old out.old) (seen world.new out.new) result.code result.note result.records }
 
-    // A refused program comes to no other end, but for a fault of reading or out of memory.
+    // A refused program comes to no other end, except for a fault of reading or out of memory.
     ensures refuses { Refuses (command_of (map string_bytes words.now)) (W.holds world.old)
         result.code }
 

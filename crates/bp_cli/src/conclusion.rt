@@ -15,23 +15,23 @@ use bp_session::Ending;
 use js_data::Text;
 use std::alloc::Global;
 
-/// The note of words that are no command.
+/// The note for words that are not a command.
 const USAGE: &str =
     "usage: bp run [OPTIONS] PROGRAM [INJECTOR]... | bp replay LOG | bp accept PROGRAM | bp large N | bp migrate LOG";
 
-/// The note of what was not read.
+/// The note for a fault of reading.
 const READ_FAULT: &str = "read fault";
 
-/// The note of what was not printed.
+/// The note for a fault of writing.
 const WRITE_FAULT: &str = "write fault";
 
 /// How a command ends.
 pub enum Conclusion {
-    /// The words are no command.
+    /// The words are not a command.
     NoCommand,
     /// The program is refused.
     Refused(Refusal),
-    /// The program is accepted, and that was printed.
+    /// The program is accepted, which was printed.
     Accepted,
     /// The run came to this verdict, and was printed whole.
     Ran(Verdict),
@@ -39,9 +39,9 @@ pub enum Conclusion {
     NotRead,
     /// Printing or writing the log failed.
     NotWritten,
-    /// No memory was left.
+    /// Out of memory.
     NoMemory,
-    /// The log is none, its program is refused, or it differs from its run.
+    /// The bytes are not a log, its program is refused, or it differs from its run.
     BadLog(ReplayFault),
     /// The log was printed in the second version.
     Migrated,
@@ -91,7 +91,7 @@ fn verdict_code(kind: VerdictKind) -> u8
     }
 }
 
-/// The conclusion where reading or writing failed or memory ran out.
+/// The conclusion if reading or writing failed or memory ran out.
 fn trouble_of(fault: &ReplayFault) -> Option<Conclusion>
     ensures { result ≡ trouble_in fault.now }
 {
@@ -120,7 +120,7 @@ fn as_replayed(fault: MigrateFault) -> ReplayFault
     }
 }
 
-/// Why bytes are no log.
+/// Why bytes are not a log.
 fn log_detail(alloc: Global, fault: LogFault) -> Result<String, Memory>
     ensures { IfOk result (λ s. string_bytes s ≡ log_fault_text fault) }
 {

@@ -15,7 +15,7 @@ pub(crate) struct Ended {
 }
 
 impl Ended {
-    /// So it ended, and no run was made.
+    /// It ended so, and no run was made.
     pub(crate) fn without_run(alloc: Global, conclusion: Conclusion) -> Ended
         ensures conclusion { result.conclusion ≡ conclusion }
         ensures records { result.records ≡ [] }

@@ -13,7 +13,7 @@ use crate::conclusion::Conclusion;
 use crate::ended::Ended;
 use bp_base::{MemorySink, MemorySource, Sink, write_all};
 use bp_large::large_program;
-use bp_log::{Parallelism, Header, Memory, Options, Record};
+use bp_log::{Header, Memory, Options, Parallelism, Record};
 use bp_session::{Ending, Report, Session};
 use js_program::Program;
 use std::alloc::Global;
@@ -69,8 +69,8 @@ fn line_of(alloc: Global, count: u32, records: &[Record], text: &[u8]) -> Result
     format!(in alloc; "large {count} events {events} lines {sizes}")
 }
 
-/// Runs the program under the default options, aside: what its run came to, and its text. Want of
-/// room for the text ends the run as a failure of its output.
+/// Runs the program under the default options, and keeps its text: what its run came to, and the
+/// text. If there is no room for the text, the run ends as if its output had failed.
 fn run_aside<R: Threads + Wait + Sync>(
     rt: &R,
     alloc: Global,
@@ -91,11 +91,20 @@ fn run_aside<R: Threads + Wait + Sync>(
     let mut log: Option<MemorySink> = None;
     let parallelism = Parallelism::defaults();
     let out = &mut sink;
-    let (report, _) = Session::run(rt, alloc, program, &header, parallelism, inputs, out, &mut log);
+    let (report, _) = Session::run(
+        rt,
+        alloc,
+        program,
+        &header,
+        parallelism,
+        inputs,
+        out,
+        &mut log,
+    );
     Ok((report, sink))
 }
 
-/// Runs the program of this many b-threads, and prints one line of what its run comes to.
+/// Runs the program of this many b-threads, and prints one line on what its run comes to.
 pub(crate) fn measure_large<R: Threads + Wait + Sync, K: Sink>(
     rt: &R,
     alloc: Global,

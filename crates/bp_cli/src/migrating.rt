@@ -11,7 +11,7 @@ use bp_migrate::{Migrated, migrate};
 use js_data::Text;
 use std::alloc::Global;
 
-/// Prints the log of that name, as far as it is one, as a log of the second version.
+/// Prints the log of that name in the second version, as far as it is a log.
 pub(crate) fn migrate_log<W: World, K: Sink>(
     alloc: Global,
     name: &Text,

@@ -23,7 +23,7 @@ pub(crate) fn close_inputs<W: World>(world: &mut W, inputs: Vec<W::Input>)
     }
 }
 
-/// Opens the inputs of these names, in order. Where one is not opened, those before it are closed.
+/// Opens the inputs of these names, in order. If one is not opened, those before it are closed.
 pub(crate) fn open_inputs<W: World>(
     alloc: Global,
     world: &mut W,
@@ -57,7 +57,7 @@ pub(crate) fn open_inputs<W: World>(
     Ok(inputs)
 }
 
-/// Makes the log of this name, where one is to be kept.
+/// Makes the log of this name, if one is to be kept.
 pub(crate) fn create_log<W: World>(
     world: &mut W,
     name: &Option<Text>,
@@ -85,7 +85,7 @@ pub(crate) fn create_log<W: World>(
     }
 }
 
-/// Closes the log under its name, where one is kept.
+/// Closes the log under its name, if one is kept.
 pub(crate) fn close_log<W: World>(world: &mut W, name: &Option<Text>, log: Option<W::Output>)
     requires { IsLogNamed W.Output.made_as name.now log }
     ensures held { IsLogHeld W.Output.written (W.holds world.old) name.now log (W.holds world.new) }

@@ -1,4 +1,4 @@
-//! Commands on a program of the world.
+//! Commands on a program that the world holds.
 ghost use Rattle.std.specs.Prelude.{[], Some};
 ghost use Rattle.bp_args.specs.declared.command.Command.TheVariants as command;
 ghost use Rattle.bp_cli.specs.Asking.{AsksIn};
@@ -18,12 +18,12 @@ use std::alloc::Global;
 use std::sync::Wait;
 use std::thread::Threads;
 
-/// What is printed of an accepted program.
+/// What is printed for an accepted program.
 const ACCEPTED: &[u8] = b"accepted\n";
 
-/// Runs the program of that name as the words ask for, with its injectors, prints its run, and
-/// keeps its log where they ask for one. The program is opened first, then the injectors, in order,
-/// and then the log.
+/// Runs the program of that name as the words ask, with its injectors, prints its run, and keeps
+/// its log if they ask for one. The program is opened first, then the injectors, in order, and
+/// then the log.
 pub(crate) fn run_program<R: Threads + Wait + Sync, W: World, K: Sink>(
     rt: &R,
     alloc: Global,

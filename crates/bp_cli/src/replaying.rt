@@ -11,7 +11,7 @@ use bp_replay::{Replayed, replay};
 use js_data::Text;
 use std::alloc::Global;
 
-/// Replays the log of that name, and prints its run as far as it is one.
+/// Replays the log of that name, and prints its run as far as the log is one.
 pub(crate) fn replay_log<W: World, K: Sink>(
     alloc: Global,
     name: &Text,

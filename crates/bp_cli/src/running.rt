@@ -54,10 +54,21 @@ pub(crate) fn run_opened<R: Threads + Wait + Sync, W: World, K: Sink>(
     let Some(header) = Header::new(asked.options, bytes) else {
         unreachable!()
     };
+    // For the proof: what the header keeps.
     header_keeps(&header);
     let parallelism = asked.parallelism;
-    let (report, back) = Session::run(rt, alloc, program, &header, parallelism, inputs, out, &mut log);
+    let (report, back) = Session::run(
+        rt,
+        alloc,
+        program,
+        &header,
+        parallelism,
+        inputs,
+        out,
+        &mut log,
+    );
     let Report { end, records } = report;
+    // For the proof: what the records keep.
     records_keep(&records);
     close_inputs(world, back);
     close_log(world, &asked.log, log);

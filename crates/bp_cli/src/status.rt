@@ -1,4 +1,4 @@
-//! What a command hands to the system.
+//! What a command leaves to the system.
 ghost use Rattle.std.specs.Prelude.{◌≡◌, ◌⊎◌, true};
 ghost use Rattle.bp_cli.specs.Conclusions.{has_note, IsStatusOf};
 
@@ -20,8 +20,8 @@ pub struct Status {
 }
 
 impl Status {
-    /// The status of a command that ended so, or, where that has a note, the one that says that no
-    /// memory was left for it.
+    /// The status of a command that ended so, or that of out of memory, if there was none for its
+    /// note.
     pub(crate) fn of(alloc: Global, ended: Ended) -> Status
         ensures status { IsStatusOf result.code result.note ended.conclusion
             ⊎ ((has_note ended.conclusion ≡ true)

@@ -31,7 +31,7 @@ pub record Playing (start now : Core) (all rest : List CoreStep) (at : ℕ) : Ty
   pub kept : KeepsProgram start.arbiter now.arbiter
   pub somewhere : now.broken ≡ false → IsSomewhere now now.jobs.items
   pub inside : now.out ≡ false
-  -- where memory had been wanting before, nothing was made
+  -- where memory had run out before, nothing was made
   pub idle : start.broken ≡ true → (now ≡ start) × (at ≡ 0)
 
 pub playing_begin : (c : Core) (all rest : List CoreStep) → rest ≡ all → (c.broken ≡ false → IsSomewhere c c.jobs.items) → c.out ≡ false → Playing c c all rest 0
@@ -113,7 +113,7 @@ playing_cut start now new all rest next s at p e q w =
       broken = w;
     }
 
--- memory had been wanting, so it was at no moment
+-- memory had run out, so it was at no moment
 pub broken_cuts : (c : Core) (s : CoreStep) → c.broken ≡ true → Cuts c c s
 broken_cuts c s w taken m h = absurd (let y = h.whole in let z : true ≡ false = sym w ∙ y in cc)
 
@@ -125,7 +125,7 @@ still_cuts c new s e taken m h =
       tells = subst (λ (x : PlainArbiter). Tells x taken) (sym e) (stands_tells c.arbiter c.jobs.items taken (pair_at m) (h.at).stands);
     }
 
--- memory had been wanting, so no step is made
+-- memory had run out, so no step is made
 pub playing_stays : (start now : Core) (all rest : List CoreStep) (at : ℕ) → Playing start now all rest at → start.broken ≡ true → IsStill start now at
 playing_stays start now all rest at p b = let i = p.idle b in record { place = i.1; arbiter = ap (λ (c : Core). c.arbiter) i.0 }
 

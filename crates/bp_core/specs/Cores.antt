@@ -69,7 +69,7 @@ AreBetween a m s records =
     (records ≡ m.records)
     ⊎ ((n : Moment Origin) × (step_on a m s ≡ Some n) × (records ≡ n.records))
 
--- Memory was wanting in this step: the records are those from before it or after it, and a story
+-- Memory ran out in this step: the records are those from before it or after it, and a story
 -- still; the lines taken and to be taken are the first of the story's.
 pub record IsCut (old new : Core) (taken : List Line) (m : Moment Origin) (s : CoreStep)
     : Type 0 where

@@ -9,7 +9,7 @@ pub enum PlayFault {
     /// The step at this place is not legal there; it left nothing.
     #[error("the step at {at} is not legal")]
     Illegal { at: u32, step: CoreStep },
-    /// Memory was wanting at this place.
+    /// Memory ran out at this place.
     #[error("no memory was left at the step at {at}")]
     Memory { at: u32 },
 }

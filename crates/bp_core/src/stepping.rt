@@ -81,6 +81,7 @@ fn lend_on(alloc: Global, arbiter: &mut Arbiter) -> Result<Vec<Job>, Memory>
         IsReadyAt arbiter.old taken m → Tells arbiter.new taken) }
     ensures lent { OnOk result (arbiter.new.phase ≡ phase.Lent → HasLent arbiter.old arbiter.new) }
 {
+    // For the proof: what the arbiter keeps.
     arbiter.keeps();
     if !is_ready(arbiter.phase()) {
         return Ok(Vec::new(alloc));
@@ -99,7 +100,7 @@ pub struct Core {
     /// The lent jobs, unless they are out.
     jobs: Vec<Job>,
     out: bool,
-    /// Memory was wanting.
+    /// Memory ran out.
     broken: bool,
 }
 
@@ -152,6 +153,7 @@ impl Core {
         if self.broken {
             return Err(AllocError);
         }
+        // For the proof: what the arbiter keeps.
         self.arbiter.keeps();
         self.broken = true;
         let picked = self.arbiter.pick(self.alloc)?;
@@ -183,6 +185,7 @@ impl Core {
         if self.broken {
             return Err(Absorb::Memory(item));
         }
+        // For the proof: what the arbiter keeps.
         self.arbiter.keeps();
         self.arbiter.absorb(injector, item)
     }
@@ -206,6 +209,7 @@ impl Core {
         if self.broken {
             return Err(AllocError);
         }
+        // For the proof: what the arbiter keeps.
         self.arbiter.keeps();
         self.broken = true;
         let jobs = mem::replace(&mut self.jobs, Vec::new(self.alloc));
@@ -215,7 +219,7 @@ impl Core {
         Ok(())
     }
 
-    /// The lent job at this place is carried on by at most so many nodes. Its only error is want of
+    /// The lent job at this place is carried on by at most this many nodes. Its only error is out of
     /// memory, after which each later call answers it.
     fn carry_on(&mut self, place: usize, nodes: u64) -> Result<(), Memory>
         requires lent { self.old.arbiter.phase ≡ phase.Lent }
@@ -266,8 +270,7 @@ impl Core {
         mem::replace(&mut self.jobs, Vec::new(self.alloc))
     }
 
-    /// The lent jobs come back, in the same order, each carried on or to its outcome. Takes no
-    /// memory.
+    /// The lent jobs come back, in the same order, each carried on or to its outcome.
     pub fn hand_in(&mut self, jobs: Vec<Job>)
         requires out { self.old.out ≡ true }
         ensures at { HandsIn self.old jobs.items self.new }

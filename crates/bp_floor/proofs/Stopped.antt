@@ -1,5 +1,5 @@
 -- At rest the job of a b-thread that has not ended tells where it stands.
-use Rattle.std.proofs.Common.{◌≡◌, ℕ, ◌<◌, Bool, true, false, List, [], length, map, refl, sym, ap, ◌∙◌, subst, arith, Option, Some, None, slice_get, option_map, if◌then◌else◌}
+use Rattle.std.proofs.Common.{◌≡◌, ℕ, ◌<◌, Bool, false, List, [], map, refl, sym, ap, ◌∙◌, subst, Option, Some, None, slice_get, option_map, if◌then◌else◌}
 use Rattle.js_data.proofs.Shared.{one_answer}
 use Rattle.js_value.specs.Value.{PlainSet}
 use Rattle.js_meaning.specs.Bodies.{evaluation}
@@ -10,11 +10,11 @@ use Rattle.bp_code.specs.Code.{ground_for}
 use Rattle.bp_code.specs.Code.{sealed_code_of as code_of}
 use Rattle.bp_floor.specs.inner.Seating.{PlainSeat, seated, origin_in, replies_in, is_waiting, where_from, IsOwn, AreOwn}
 use Rattle.bp_floor.specs.inner.Seated.{job_at}
-use Rattle.bp_floor.specs.inner.Stops.{Stop, stop_with, stop_in}
+use Rattle.bp_floor.specs.inner.Stops.{stop_with, stop_in}
 use Rattle.bp_floor.specs.inner.Kept.{Running}
-use Rattle.bp_floor.proofs.Lists.{found, get_map}
+use Rattle.bp_floor.proofs.Lists.{get_map}
 use Rattle.bp_floor.proofs.Places.{own_at0}
-use Rattle.bp_floor.proofs.Rests.{Settled, not_waiting, none_waits}
+use Rattle.bp_floor.proofs.Rests.{not_waiting, none_waits}
 
 -- the line of the stop where a job stands
 abbrev line_in : Running → Job → Option ℕ

@@ -92,7 +92,7 @@ ready_in Ready ns = runs_in ns
 ready_in Rest ns = runs_in ns
 ready_in Over ns = runs_in ns
 
--- what a floor keeps while memory was never wanting
+-- what a floor keeps while memory never ran out
 pub record IsSound (r : Running) (base : Ground) (b : Board) (phase : Phase) : Type 0 where
   pub own : AreOwn r.program r.options 0 b.seats
   pub waiting : where_from is_waiting 0 b.seats ≡ runs_in b.wave
@@ -117,7 +117,7 @@ is_idle Lent = false
 is_idle Rest = true
 is_idle Over = true
 
--- what its pair keeps while memory was never wanting
+-- what its pair keeps while memory never ran out
 pub record IsPhased (f : PlainFloor) : Type 0 where
   pub at_phase : not_lent f.phase ≡ phase_of f.pair
   pub grounded : f.base ≡ ground_at f.base.program f.options.budget f.pair.entries
@@ -133,7 +133,7 @@ pub record IsSealed (f : PlainFloor) (jobs : List Job) (g : PlainFloor) : Type 0
   pub pair_is : g.pair ≡ forgotten the_top (turn (code_on f) (filled_pair jobs f.pair))
   pub phase_is : g.phase ≡ phase_of g.pair
 
--- memory was not wanting before, and is not now
+-- memory did not run out before, and is not now
 pub record HadMemory (old new : PlainFloor) : Type 0 where
   pub before : old.broken ≡ false
   pub after : new.broken ≡ false

@@ -6,6 +6,6 @@ use bp_log::Item;
 pub enum Absorb {
     /// As many events wait as may.
     Full(Item),
-    /// Memory was wanting.
+    /// Memory ran out.
     Memory(Item),
 }

@@ -7,7 +7,8 @@ use crate::{Desk, LineList, Seats, Wave};
 use bp_log::{Memory, Verdict};
 use bp_thread::Statement;
 
-/// Where a run stands, and what is to be run there.
+/// Where a run stands, and what is to be run there: all of a floor that a call changes. It lacks the
+/// invariant of `Floor`, so that a method may break that on the way.
 pub struct Board {
     /// The b-threads.
     pub seats: Seats,
@@ -40,8 +41,7 @@ impl Drop for Board {
 }
 
 impl Board {
-    /// The b-thread of this number states this from now on; with nothing it is not live. Its only
-    /// error is out of memory.
+    /// The b-thread of this number states this from now on; with nothing it is not live.
     pub fn restate(&mut self, number: u32, statement: Option<Statement>) -> Result<(), Memory>
         requires { number < length self.old.seats }
         ensures stated { OnOk result

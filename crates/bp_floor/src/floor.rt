@@ -99,8 +99,7 @@ impl Model for Floor {
 }
 
 impl Floor {
-    /// The floor of a program before anything has run: its top level is to be run. Its only error
-    /// is out of memory.
+    /// The floor of a program before anything has run: its top level is to be run.
     pub fn open(alloc: Global, program: Program, options: Options) -> Result<Floor, Memory>
         ensures { IfOk result (λ f. f ≡ record {
           base = bare program;
@@ -134,7 +133,7 @@ impl Floor {
         })
     }
 
-    /// What a floor keeps while memory was never wanting, as facts for its callers. Does nothing.
+    /// What a floor keeps while memory never ran out, as a fact for its callers. Does nothing.
     pub fn keeps(&self)
         ensures { self.now.broken ≡ false → IsPhased self.now }
     {
@@ -451,8 +450,7 @@ impl Floor {
         }
     }
 
-    /// The fault of a set, as the verdict in the name of its b-thread. Its only error is want of
-    /// memory.
+    /// The fault of a set, as the verdict in the name of its b-thread.
     pub fn fault_verdict(&self, number: u32, fault: SetFault) -> Result<Verdict, Memory>
         requires { number < length self.now.pair.stand.threads }
         ensures { IfOk result (λ v. told_verdict self.now.pair.stand number fault ≡ Some v) }
@@ -460,8 +458,7 @@ impl Floor {
         self.board.fault_verdict(number, fault)
     }
 
-    /// The verdict is that of the floor, with its line; the phase is `Over`. Its only error is want
-    /// of memory.
+    /// The verdict is that of the floor, with its line; the phase is `Over`.
     pub fn end(&mut self, verdict: Verdict) -> Result<(), Memory>
         requires idle { is_idle self.old.phase ≡ true }
         ensures ground { self.new.base ≡ self.old.base }

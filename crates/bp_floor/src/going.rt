@@ -75,8 +75,7 @@ fn touches_of(alloc: Global, reach: &Reach) -> Result<Vec<Touch>, Memory>
 }
 
 impl Board {
-    /// The fault of a set, as the verdict in the name of its b-thread. Its only error is want of
-    /// memory.
+    /// The fault of a set, as the verdict in the name of its b-thread.
     pub fn fault_verdict(&self, number: u32, fault: SetFault) -> Result<Verdict, Memory>
         requires { number < length self.now.seats }
         ensures { IfOk result (λ v. told_verdict (stand_of self.now) number fault ≡ Some v) }
@@ -96,6 +95,7 @@ impl Board {
         requires few { moved ≤ MOST_THREADS }
         ensures { result ≡ self.now.weight + event_weight event.now * (1 + moved) }
     {
+        // For the proof: what the event keeps.
         event.keeps();
         self.weight + event.weight() * (1 + moved as u64)
     }
@@ -138,8 +138,7 @@ impl Board {
         }
     }
 
-    /// The verdict with which an event stops the run, if there is one. Its only error is want of
-    /// memory.
+    /// The verdict with which an event stops the run, if there is one.
     pub fn stop_at(
         &mut self,
         alloc: Global,

@@ -52,6 +52,7 @@ fn argument_of(alloc: Global, event: &Event) -> Result<Value, Memory>
 fn keeps_handler(job: &Job)
     ensures { HasHandler job.now }
 {
+    // Reads a field for the proof alone: so what the type keeps is known.
     let _handler = job.handler();
 }
 
@@ -98,6 +99,7 @@ impl Seats {
         match self.job(number) {
             None => Ok(None),
             Some(job) => {
+                // For the proof: what the job keeps of its handler.
                 keeps_handler(job);
                 handler_of(alloc, job, event)
             }

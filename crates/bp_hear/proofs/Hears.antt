@@ -1,5 +1,5 @@
 -- What is heard goes to the records of one injector, and leaves those of the others.
-use Rattle.std.proofs.Common.{◌≡◌, ◌≢◌, ℕ, ◌+◌, ◌<◌, Bool, true, false, List, [], ◌∷◌, ◌++◌, Option, None, option_to_list, length, get_or, set, refl, sym, ap, ◌∙◌, subst, append_assoc, append-nil, eqb-true}
+use Rattle.std.proofs.Common.{◌≡◌, ◌≢◌, ℕ, ◌+◌, ◌<◌, true, false, List, [], ◌∷◌, ◌++◌, Option, None, option_to_list, length, get_or, set, refl, sym, ap, ◌∙◌, subst, append_assoc, append-nil, eqb-true}
 use Rattle.std.specs.Prelude.{◌==◌}
 use Rattle.std.proofs.lemmas.Bool.{false_from_ne_true, eq-eqb, or_parts, or_from}
 use Rattle.std.proofs.lemmas.List.{get_or-set_other, get_or-set_same, length-set}

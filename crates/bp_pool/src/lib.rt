@@ -1,7 +1,6 @@
 //! Super-steps: jobs that are carried to their outcomes by several workers over one shared queue.
 #![tactic(auto)]
 
-mod beside;
 mod carrying;
 mod gate;
 pub mod laws;
@@ -12,6 +11,7 @@ mod rule;
 mod seat;
 mod seating;
 mod worker;
+mod workers;
 
 pub use gate::{Gate, Open};
 pub use pool::superstep;

@@ -5,10 +5,10 @@ ghost use Rattle.bp_log.specs.declared.limits.TheConstants.{MOST_WORKERS};
 ghost use Rattle.bp_thread.specs.Carried.{AreCarriedOut, HaveDistinctNumbers};
 ghost use Rattle.bp_pool.specs.Carrying.{AreOf, AreOpen};
 
-use crate::beside::by_workers;
 use crate::carrying::{finish_all, has_outcome, look};
 use crate::gate::Gate;
 use crate::pace::Pace;
+use crate::workers::by_workers;
 use bp_thread::Job;
 use js_data::Memory;
 use js_frames::Ground;

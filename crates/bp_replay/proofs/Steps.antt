@@ -253,3 +253,10 @@ followed_over c a r n (Err (fault.Differs number expected other)) v e w h =
 followed_over c a r n (Err fault.Program) v e w h = h
 followed_over c a r n (Err fault.Write) v e w h = h
 followed_over c a r n (Err fault.Memory) v e w h = tt
+
+-- an item that enters leaves the program
+pub absorbed_program : (j : ℕ) (i : Item) (a b : PlainArbiter) → b ≡ absorbed j i a → b.floor.base.program ≡ a.floor.base.program
+absorbed_program j (item.Offered e) a b h = ap (λ (x : PlainArbiter). x.floor.base.program) h
+absorbed_program j (item.Bad n) a b h = ap (λ (x : PlainArbiter). x.floor.base.program) h
+absorbed_program j item.Failed a b h = ap (λ (x : PlainArbiter). x.floor.base.program) h
+absorbed_program j item.End a b h = ap (λ (x : PlainArbiter). x.floor.base.program) h

@@ -10,11 +10,11 @@ use thiserror::Error;
 /// Why a log was not replayed to its end.
 #[derive(Debug, Error)]
 pub enum ReplayFault {
-    /// The bytes are no log, or reading them failed.
+    /// The bytes are not a log, or reading them failed.
     #[error("{0}")]
     Log(LogFault),
     /// The record of this number, counted from 1, is not what the run makes next: that is
-    /// `expected`, or `None` where the run waits for an injector.
+    /// `expected`, or `None` if the run waits for an injector.
     #[error("record {number} differs")]
     Differs {
         number: u32,
@@ -27,7 +27,7 @@ pub enum ReplayFault {
     /// The output failed.
     #[error("the output failed")]
     Write,
-    /// No memory was left.
+    /// Out of memory.
     #[error("no memory was left")]
     Memory,
 }

@@ -66,7 +66,9 @@ fn item_of(found: &Record) -> Result<(u32, Item), Memory>
 fn enter(arbiter: &mut Arbiter, found: &Record) -> Result<(), Memory>
     requires rest { arbiter.old.phase ≡ phase.Rest }
     requires may { enters arbiter.old.reading (stand_in arbiter.old) found.now ≡ true }
-    ensures { OnOk result ((c : Course) → IsThere c arbiter.old → Makes c found.now arbiter.new) }
+    ensures makes { OnOk result ((c : Course) → IsThere c arbiter.old → Makes c found.now arbiter.new) }
+    ensures program { OnOk result
+        (arbiter.new.floor.base.program ≡ arbiter.old.floor.base.program) }
 {
     let (injector, item) = item_of(found)?;
     match arbiter.absorb(injector, item) {
@@ -99,8 +101,10 @@ fn compare(arbiter: &Arbiter, number: u32, found: Record) -> Result<(), ReplayFa
 fn make(alloc: Global, arbiter: &mut Arbiter, number: u32, found: Record) -> Result<(), ReplayFault>
     requires rest { arbiter.old.phase ≡ phase.Rest }
     requires there { IsSomewhere arbiter.old }
-    ensures { (c : Course) → IsThere c arbiter.old → enters c.told.reading c.told.stand found ≡ false →
-        Followed c found number arbiter.new result }
+    ensures followed { (c : Course) → IsThere c arbiter.old →
+        enters c.told.reading c.told.stand found ≡ false → Followed c found number arbiter.new result }
+    ensures program { OnOk result
+        (arbiter.new.floor.base.program ≡ arbiter.old.floor.base.program) }
 {
     if arbiter.pick(alloc)? == Picked::Wait {
         return Err(ReplayFault::Differs {
@@ -121,7 +125,10 @@ fn go_on(
 ) -> Result<(), ReplayFault>
     requires rest { arbiter.old.phase ≡ phase.Rest }
     requires there { IsSomewhere arbiter.old }
-    ensures { (c : Course) → IsThere c arbiter.old → Followed c found number arbiter.new result }
+    ensures followed { (c : Course) → IsThere c arbiter.old →
+        Followed c found number arbiter.new result }
+    ensures program { OnOk result
+        (arbiter.new.floor.base.program ≡ arbiter.old.floor.base.program) }
 {
     if may_enter(arbiter, &found) {
         enter(arbiter, &found)?;
@@ -130,16 +137,19 @@ fn go_on(
     make(alloc, arbiter, number, found)
 }
 
-/// The run makes the record of this number, where it can; where it has ended by itself, that is its
-/// end.
-pub(crate) fn follow(
+/// Has the run make the record of this number, if it can; if the run has ended by itself, that is
+/// its end.
+pub fn follow(
     alloc: Global,
     arbiter: &mut Arbiter,
     number: u32,
     found: Record,
 ) -> Result<(), ReplayFault>
     requires { IsSomewhere arbiter.old }
-    ensures { (c : Course) → IsThere c arbiter.old → Followed c found number arbiter.new result }
+    ensures followed { (c : Course) → IsThere c arbiter.old →
+        Followed c found number arbiter.new result }
+    ensures program { OnOk result
+        (arbiter.new.floor.base.program ≡ arbiter.old.floor.base.program) }
 {
     if arbiter.phase() == Phase::Rest {
         return go_on(alloc, arbiter, number, found);

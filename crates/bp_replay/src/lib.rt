@@ -1,4 +1,4 @@
-//! A log that is replayed: its run is made again, record by record, and printed.
+//! Replays: the run of a log is made again, record by record, and printed.
 #![tactic(auto)]
 
 mod fault;

@@ -1,4 +1,4 @@
-//! A log, replayed.
+//! The replay of a log.
 ghost use Rattle.std.specs.Prelude.{◌≡◌, ◌≤◌, None, IfSome, IsErrOf};
 ghost use Rattle.bp_base.specs.Counts.{Rose};
 ghost use Rattle.bp_reading.specs.Reading.{first_stage};
@@ -7,9 +7,9 @@ ghost use Rattle.bp_reader.specs.Fed.{Between};
 ghost use Rattle.bp_replay.specs.Replays.{IsReplay, ReplaysTaken};
 ghost use Rattle.bp_replay.specs.inner.Behind.{EndsBehind, TakenBehind};
 
-use bp_base::{Sink, Source};
 use crate::fault::ReplayFault;
 use crate::telling::replay_onto;
+use bp_base::{Sink, Source};
 use bp_log::{Header, Verdict};
 use bp_reader::Reader;
 use bp_script::{ScriptFault, accept};
@@ -21,7 +21,7 @@ use std::alloc::Global;
 pub struct Replayed<S: Source> {
     /// The verdict with which the log and its run end, or why there is none.
     pub ended: Result<Verdict, ReplayFault>,
-    /// The source, as far as its blocks were taken.
+    /// The source, from which whole blocks were taken.
     pub log: S,
 }
 
@@ -61,21 +61,21 @@ fn replay_records<S: Source, K: Sink>(
     ended
 }
 
-/// Makes the run of a log again, record by record, and prints it, in pieces of 64 KiB or a little
+/// Makes the run of a log again, record by record, and prints it, in pieces of 64 KiB or slightly
 /// more.
 ///
 /// # Errors
 ///
-/// `Log` exactly where the bytes are no log at that place, `Program` exactly where its program is
-/// refused, and `Differs` exactly at the first record that the run does not make. Before the last
-/// two and the first the text of the records before was printed, also where the log could not be
-/// read on, and before `Write` and `Memory` a front of such a text.
+/// `Log` exactly if the bytes are not a log, with the place, `Program` exactly if its program is
+/// refused, and `Differs` exactly at the first record that the run does not make. At `Log` and
+/// `Differs` the text of the records before has been printed, also if the log could not be read
+/// on; at `Write` and `Memory` a prefix of such a text.
 pub fn replay<S: Source, K: Sink>(alloc: Global, log: S, out: &mut K) -> Replayed<S>
-    // Of a source that tells its bytes: the answer and what was printed are those of these bytes.
+    // If the source tells its bytes, the answer and what was printed are those of these bytes.
     ensures ends { IfSome (S.left log)
         (λ bytes. IsReplay bytes (K.written out.old) (K.written out.new) result.ended) }
 
-    // Where reading failed: what was printed is what a log of the bytes that were taken says.
+    // If reading failed, what was printed is what a log of the bytes that were taken says.
     ensures failed { IsErrOf result.ended (ReplayFault.Log log_fault.Read)
         → Between (S.left log) (S.left result.log) (λ bytes rest. ReplaysTaken bytes rest
         (K.written out.old) (K.written out.new)) }

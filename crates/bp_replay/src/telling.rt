@@ -1,4 +1,4 @@
-//! The loop that goes over the records of a log.
+//! Following a log to its end.
 ghost use Rattle.std.specs.Prelude.{◌≡◌, ◌<◌, ◌≤◌, ◌++◌, ◌∷◌, [], List, None, IfSome, IsErrOf, OnErr, OnOk, true};
 ghost use Rattle.bp_base.specs.Counts.{Rose};
 ghost use Rattle.bp_log.specs.Texts.{lines_text};
@@ -16,7 +16,7 @@ use crate::ReplayFault;
 use crate::following::follow;
 use bp_arbiter::Arbiter;
 use bp_base::{Sink, Source};
-use bp_log::{Parallelism, Line, Options, PrintError, Verdict};
+use bp_log::{Line, Options, Parallelism, PrintError, Verdict};
 use bp_reader::Reader;
 use bp_told::Page;
 use bp_turns::{Alone, settle};
@@ -66,6 +66,7 @@ fn show<K: Sink>(
     ensures named { K.made_as out.new ≡ K.made_as out.old }
 {
     settle(alloc, arbiter, &Alone(Parallelism::defaults()))?;
+    // For the proof: what the arbiter keeps.
     arbiter.keeps();
     let lines = arbiter.take_lines();
     page.print(alloc, said(arbiter, lines.as_slice()), out)
@@ -149,8 +150,8 @@ fn tell<S: Source, K: Sink>(
 }
 
 /// Makes the run of the program again, as far as the records that are still to be read are its own,
-/// and puts its text on the page. After `Write` and `Memory` a front of the text of such records
-/// was written or waits. After a failed read what was taken was followed as a log that ends there.
+/// and puts its text on the page. At `Write` and `Memory` a prefix of the text of such records was
+/// written or waits. After a failed read what was taken was followed as a log that ends there.
 pub fn replay_onto<S: Source, K: Sink>(
     alloc: Global,
     program: Program,

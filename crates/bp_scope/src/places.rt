@@ -16,8 +16,7 @@ pub struct Places<S: Source> {
 }
 
 impl<S: Source + Drop> Places<S> {
-    /// Room for so many injectors. Whoever has it can start and join them without memory. Its only error
-    /// is out of memory.
+    /// Room for this many injectors. Whoever has it can start and join them without memory.
     pub fn new(alloc: Global, count: usize) -> Result<Places<S>, Memory>
         ensures { IfOk result (λ p. HasRoom p count) }
     {

@@ -49,7 +49,7 @@ idle_of f (inr e) = ap is_idle e
 -- ---- one step after the other
 
 module _ {L : Type 0} {written : L → Option (List ℕ)} where
-  -- memory is not wanting where a run is served
+  -- memory does not run out where a run is served
   pub whole_ready : {c : Core} {now : Given L} {w : Waiting} → IsReady written c now w → c.broken ≡ false
   whole_ready r = (((r.serving).here).at).whole
 

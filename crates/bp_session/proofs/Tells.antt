@@ -12,7 +12,7 @@ use Rattle.bp_run.specs.Bodies.{Code}
 use Rattle.bp_run.specs.Configuration.{Configuration}
 use Rattle.bp_run.specs.Settling.{Body, Entry, Pair, at_rest}
 use Rattle.bp_run.specs.Text.{text}
-use Rattle.bp_steps.specs.Steps.{Moment, pair_at, bodies, lent_bodies, lends}
+use Rattle.bp_steps.specs.Steps.{Moment, pair_at, bodies, lends}
 use Rattle.bp_thread.specs.declared.job.Job.{Job}
 use Rattle.bp_floor.specs.Floors.{phase_at, is_idle}
 use Rattle.bp_arbiter.specs.Arbiters.{PlainArbiter, StandsFor, Recounts, code_in, options_in, stand_in}

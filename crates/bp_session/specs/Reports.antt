@@ -5,8 +5,7 @@ use Rattle.bp_base.specs.Pieces.{Appends, AppendsFront}
 use Rattle.bp_log.specs.Logs.{records_text}
 use Rattle.bp_log.specs.Records.{verdict_of, is_complete}
 use Rattle.bp_log.specs.declared.record.Record.{Record}
-use Rattle.bp_log.specs.declared.verdict.Verdict as logs
-use Rattle.bp_log.specs.declared.verdict.Verdict.TheVariants as verdict
+use Rattle.bp_log.specs.Verdicts.{IsQuiet}
 use Rattle.bp_steps.specs.Merging.{items_by}
 use Rattle.bp_told.specs.Logging.{LogGets, LogGetsFront, LogFails}
 use Rattle.bp_told.specs.Order.{Texts}

@@ -3,13 +3,13 @@ use bp_lanes::{Bell, Rope, Wake};
 use std::sync::Wait;
 use std::thread::Threads;
 
-/// Once so many items entered the injectors are woken. Each lane has room for as many, and an injector waits
-/// only where its lane is full: so it is woken at the latest when its lane was emptied.
+/// After this many items entered the injectors are woken. A lane has room for as many, and an injector waits
+/// only if its lane is full: so it is woken at the latest when its lane was emptied.
 const ENOUGH: usize = 64;
 
 /// The rope by which a session and its injectors wake one another, and how many items entered since it was
-/// last rung. A ring wakes all who wait for a place, and who is woken for a single one soon waits again: so
-/// it is rung only now and then.
+/// last rung. A ring wakes all that wait for a place, and one that is woken for a single place soon waits
+/// again: so it is not rung for each item.
 #[derive(Drop)]
 pub(crate) struct Calls<'a> {
     rope: Rope<'a>,
@@ -35,8 +35,8 @@ impl<'a> Calls<'a> {
         self.rope.wait(rt);
     }
 
-    /// So many items entered, which left as many places free. Who waits for one is woken where they are
-    /// enough, and at once where who serves may wait for a source.
+    /// This many items entered, which left as many places free. Who waits for one is woken if they are
+    /// enough, and at once if the session may wait for a source.
     pub(crate) fn entered<R: Threads + Wait + Sync>(
         &mut self,
         rt: &R,

@@ -12,7 +12,7 @@ use bp_hear::{HearFault, hear};
 use bp_scope::Reading;
 use bp_told::RunFault;
 
-/// What is there of one injector enters.
+/// Has what is there of one injector enter.
 fn hear_reading<S: Source>(
     core: &mut Core,
     number: u32,
@@ -39,7 +39,7 @@ fn hear_reading<S: Source>(
     }
 }
 
-/// What is there of each injector enters, of one after the other. True exactly where something did.
+/// Has what is there of each injector enter, one injector after the other. True if something did.
 pub(crate) fn hear_all<S: Source>(
     core: &mut Core,
     readings: &mut Vec<Reading<S>>,

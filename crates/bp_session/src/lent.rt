@@ -1,4 +1,4 @@
-//! What a session owns and is lent while it is served.
+//! What a session owns and borrows while it is served.
 ghost use Rattle.std.specs.Prelude.{◌≡◌, ◌⊎◌, ◌≤◌, ◌<◌, ◌^◌, ℕ, List, [], All, length, Option, None, Err, false, IfSome};
 ghost use Rattle.js_value.specs.Value.{PlainSet};
 ghost use Rattle.js_meaning.specs.Bodies.{Origin};
@@ -85,6 +85,7 @@ fn write_read<K: Sink, L: Sink>(
     ensures counts { K.faults out.old ≤ K.faults out.new }
     ensures stays { LogStays L.made_as L.faults log.old log.new }
 {
+    // For the proof: what the arbiter keeps.
     core.arbiter().keeps();
     match tell(alloc, core, telling, out, log) {
         Err(fault) => write_front(fault, telling, out, log),
@@ -140,14 +141,14 @@ pub(crate) struct Parts<S, V> {
     pub(crate) end: Ending,
 }
 
-/// What a session is lent, and all that it owns.
+/// What a session borrows, and all that it owns.
 pub(crate) struct Lent<'a, 'b, 'c, K, L, S, V> {
     pub(crate) out: &'a mut K,
     pub(crate) log: &'b mut Option<L>,
     pub(crate) parts: &'c mut Parts<S, V>,
 }
 
-/// Serves the run to its end, and writes what was told of it. Where there are no injectors nobody
+/// Serves the run to its end, and writes what was told of it. Without injectors nobody
 /// calls.
 fn serve_parts<S: Source + Drop, R: Threads + Wait + Sync, K: Sink, L: Sink, V: Shows>(
     rt: &R,
@@ -177,13 +178,22 @@ fn serve_parts<S: Source + Drop, R: Threads + Wait + Sync, K: Sink, L: Sink, V: 
     let telling = &mut parts.telling;
     let shows = &mut parts.shows;
     let served = serve_on(
-        rt, alloc, core, parallelism, telling, out, log, &mut calls, readings, shows,
+        rt,
+        alloc,
+        core,
+        parallelism,
+        telling,
+        out,
+        log,
+        &mut calls,
+        readings,
+        shows,
     );
     parts.end = ended(alloc, served, core, telling, out, log, readings);
 }
 
-/// Serves the run to its end where there are no injectors: no thread is made, no lock is taken and no bell
-/// is rung. The inputs, of which there are none, come back.
+/// Serves the run to its end without injectors: no thread is made, no lock is taken and no bell is rung.
+/// The inputs, of which there are none, come back.
 pub(crate) fn serve_alone<S: Source + Drop, R: Threads + Wait + Sync, K: Sink, L: Sink, V: Shows>(
     rt: &R,
     alloc: Global,

@@ -1,5 +1,5 @@
-//! A session: a run that is served while injectors bring their events, printed and kept in a log as it
-//! comes.
+//! A session: a run that is served while injectors bring their events, and is printed and logged as it
+//! goes on.
 #![tactic(auto)]
 
 mod calling;

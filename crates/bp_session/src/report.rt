@@ -13,7 +13,7 @@ pub enum Ending {
     Write,
     /// The log failed.
     LogWrite,
-    /// No memory was left.
+    /// Out of memory.
     Memory,
 }
 

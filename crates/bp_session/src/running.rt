@@ -1,4 +1,4 @@
-//! A program, run while injectors bring their events.
+//! Running a program while injectors bring events.
 ghost use Rattle.std.specs.Prelude.{◌≡◌, ◌≤◌, ◌<◌, ◌^◌, [], false, length, Some, IsSome, IfOk, IfSome};
 ghost use Rattle.bp_log.specs.Logs.{header_text};
 ghost use Rattle.bp_log.specs.declared.version.Version.TheVariants.{Second};
@@ -23,7 +23,7 @@ use crate::showing::{Shows, Silent};
 use bp_base::{Memory, Sink, Source};
 use bp_core::Core;
 use bp_core::laws::stories_have_legal_schedules;
-use bp_log::{Parallelism, Header, Records};
+use bp_log::{Header, Parallelism, Records};
 use bp_scope::{Places, in_scope};
 use bp_told::Telling;
 use js_program::Program;
@@ -31,15 +31,14 @@ use std::alloc::Global;
 use std::sync::Wait;
 use std::thread::Threads;
 
-/// All that a session needs memory for before it is served.
+/// All for which a session takes memory before it is served.
 struct Opened<S: Source> {
     core: Core,
     telling: Telling,
     places: Places<S>,
 }
 
-/// Takes the memory for a session of as many injectors as the header says. Its only error is want of
-/// memory.
+/// Takes the memory for a session of as many injectors as the header says.
 fn begin<S: Source + Drop, L: Sink>(
     alloc: Global,
     program: Program,
@@ -65,7 +64,7 @@ fn begin<S: Source + Drop, L: Sink>(
     })
 }
 
-/// Serves what is lent, in a scope in which each input has an injector, where there are inputs.
+/// Serves what is lent, in a scope in which each input, if there are any, has an injector.
 fn served<S: Source + Send + Drop, R: Threads + Wait + Sync, K: Sink, L: Sink, V: Shows>(
     rt: &R,
     alloc: Global,
@@ -110,14 +109,14 @@ fn served<S: Source + Send + Drop, R: Threads + Wait + Sync, K: Sink, L: Sink, V
 pub struct Session;
 
 impl Session {
-    /// Runs the program to its end under the options of the header, by so many workers and slices as is
-    /// said: neither shows in what is told. Each input is read on a thread of its own, and what is there of
-    /// it enters between two transitions; where no thread can be made the calling one reads, but only where
-    /// the run waits. Prints the text of the run, and writes its log, where one is kept: the header before
-    /// anything is printed, and each record before the lines that come of it. All that was told is written
-    /// before anything waits; where nothing is selectable, a run that waits for its injectors waits for one
-    /// that is still read, and another ends. It returns once each of the injectors has returned from its
-    /// source, and gives the inputs back, in order.
+    /// Runs the program to its end under the options of the header, with these workers and this slice,
+    /// which make no difference to what is told. Each input is read on a thread of its own, and what is
+    /// there of it enters between two transitions; if no thread can be made the calling one reads, but
+    /// only where the run waits. Prints the text of the run and writes its log, if one is kept: the header
+    /// before anything is printed, and each record before the lines that come of it. All that was told is
+    /// written before anything waits. If nothing can be selected, a run that waits for its injectors waits
+    /// for one that is still read, and any other run ends. Returns once each injector has returned from
+    /// its source, and gives the inputs back, in order.
     pub fn run<S: Source + Send + Drop, R: Threads + Wait + Sync, K: Sink, L: Sink>(
         rt: &R,
         alloc: Global,
@@ -141,7 +140,7 @@ impl Session {
             (given K.written out.new log.new) S.left S.faults inputs.items result.1.items
             result.0.records result.0.end }
 
-        // However it ends, what was printed is of the text of records that stand in the log.
+        // However it ends, what was printed is of the text of records that are in the log.
         ensures behind { PrintsBehind L.written (text_of program header.now.options)
             (header_text Second header.now) result.0.records (K.written out.old) (K.written out.new)
             log.old log.new }
@@ -149,6 +148,7 @@ impl Session {
         ensures counts { K.faults out.old ≤ K.faults out.new }
         ensures stays { LogStays L.made_as L.faults log.old log.new }
     {
+        // For the proof: a law.
         stories_have_legal_schedules();
         let Ok(opened) = begin(alloc, program, header, log) else {
             let report = Report {

@@ -29,7 +29,7 @@ use std::alloc::Global;
 use std::sync::Wait;
 use std::thread::Threads;
 
-/// Writes what waits to be written, and shows the run as it stands: so it is before anything may wait.
+/// Writes what waits to be written, and shows the run as it stands, before anything may wait.
 fn write_and_show<R: Threads + Wait + Sync, K: Sink, L: Sink, V: Shows>(
     rt: &R,
     alloc: Global,
@@ -52,8 +52,8 @@ fn write_and_show<R: Threads + Wait + Sync, K: Sink, L: Sink, V: Shows>(
     Ok(())
 }
 
-/// Where the run waits, own turns are made of injectors that have no thread. What waits to be written is
-/// written before, as a turn may wait for its source. True exactly where there was one.
+/// If the run waits, makes the turns of injectors that have no thread. What waits to be written is
+/// written before, since a turn may wait for its source. True if there was such an injector.
 fn turn_here<S: Source, R: Threads + Wait + Sync, K: Sink, L: Sink, V: Shows>(
     rt: &R,
     alloc: Global,
@@ -95,7 +95,7 @@ fn wait_at<R: Threads + Wait + Sync>(rt: &R, calls: &mut Option<Calls<'_>>) {
     }
 }
 
-/// Where the run waits and nobody has own turns, waits until an injector rings. What waits to be written is
+/// If the run waits and every injector has a thread, waits until one rings. What waits to be written is
 /// written before.
 fn wait_where<R: Threads + Wait + Sync, K: Sink, L: Sink, V: Shows>(
     rt: &R,
@@ -128,7 +128,7 @@ fn wait_where<R: Threads + Wait + Sync, K: Sink, L: Sink, V: Shows>(
     Ok(())
 }
 
-/// Writes what waits to be written, where something entered before.
+/// Writes what waits to be written, if something entered before.
 fn write_where<K: Sink, L: Sink>(
     heard: bool,
     telling: &mut Telling,
@@ -152,8 +152,8 @@ fn write_where<K: Sink, L: Sink>(
     write(telling, out, log)
 }
 
-/// An injector that ran out of memory has halted the bell: the session ends so then. Where there are no
-/// injectors nothing is asked.
+/// An injector that ran out of memory has halted the bell: then the session ends out of memory too.
+/// Without injectors nothing is asked.
 fn ask_halt<R: Threads + Wait + Sync>(rt: &R, calls: &mut Option<Calls<'_>>) -> Result<(), Stop>
     ensures { IfErr result (λ s. s ≡ Stop.Broken RunFault.Memory) }
 {
@@ -166,8 +166,8 @@ fn ask_halt<R: Threads + Wait + Sync>(rt: &R, calls: &mut Option<Calls<'_>>) -> 
     Ok(())
 }
 
-/// So many items entered. Wakes the injectors where enough places became free for who waits with an item,
-/// or where own turns follow, which may wait.
+/// This many items entered. Wakes the injectors if enough places became free for those that wait with an
+/// item, or if own turns follow, which may wait.
 fn ring_where<R: Threads + Wait + Sync>(
     rt: &R,
     entered: usize,
@@ -179,7 +179,7 @@ fn ring_where<R: Threads + Wait + Sync>(
     }
 }
 
-/// What comes next comes.
+/// Makes what comes next.
 fn pick(core: &mut Core) -> Result<Picked, Memory>
     requires rest { core.old.arbiter.phase ≡ phase.Rest }
     ensures picks { OnOk result (LeadsOn core.old core.new) }
@@ -194,8 +194,8 @@ fn pick(core: &mut Core) -> Result<Picked, Memory>
     core.pick()
 }
 
-/// What is there of the injectors enters, and then what comes next comes. Only where nothing entered and
-/// the run waits until something does, own turns are made, or it waits. True exactly where something
+/// Has what is there of the injectors enter, and then makes what comes next. Only if nothing entered and
+/// the run waits until something does, own turns are made, or the session waits. True if something
 /// entered.
 fn round<S: Source, R: Threads + Wait + Sync, K: Sink, L: Sink, V: Shows>(
     rt: &R,
@@ -249,7 +249,7 @@ fn verdict_in(core: &Core) -> Result<Verdict, Memory>
     }
 }
 
-/// The run is over: it is shown, and its verdict is answered.
+/// Shows the run, which is over, and answers its verdict.
 fn verdict_shown<R: Threads + Wait + Sync, V: Shows>(
     rt: &R,
     alloc: Global,
@@ -294,10 +294,10 @@ fn settle_and_tell<C: Carrier, K: Sink, L: Sink>(
     tell(alloc, core, telling, out, log)
 }
 
-/// Serves the run to its verdict: what is there of the injectors enters, what comes next comes, jobs are
-/// carried to their outcomes, and all of it is told as it comes. What is told is written before anything
-/// may wait, and after a round in which something entered. The run is shown before anything may wait, and
-/// once it is over. Without injectors nobody calls, and nothing waits.
+/// Serves the run to its verdict: has what is there of the injectors enter, makes what comes next, has
+/// jobs carried to their outcomes, and tells all of it as it comes. What is told is written before
+/// anything may wait, and after a round in which something entered. The run is shown before anything may
+/// wait, and once it is over. Without injectors nobody calls, and nothing waits.
 pub(crate) fn serve_on<S: Source, R: Threads + Wait + Sync, K: Sink, L: Sink, V: Shows>(
     rt: &R,
     alloc: Global,

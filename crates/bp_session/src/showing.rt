@@ -5,11 +5,11 @@ use std::alloc::Global;
 use std::sync::Wait;
 use std::thread::Threads;
 
-/// Is shown the run that a session serves: as it stands before anything waits, and once it is over.
+/// What is shown the run that a session serves: before anything waits, and once it is over.
 pub(crate) trait Shows {
     ghost use denote.Param.Send.{IsSync};
 
-    /// The run stands so.
+    /// Shows the run as it stands.
     fn show<R: Threads + Wait + Sync>(
         &mut self,
         rt: &R,
@@ -19,7 +19,7 @@ pub(crate) trait Shows {
         requires { IsSync R.row };
 }
 
-/// Is shown nothing.
+/// Shows nothing.
 #[derive(Drop)]
 pub(crate) struct Silent;
 

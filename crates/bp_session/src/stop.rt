@@ -11,8 +11,8 @@ pub(crate) enum Stop {
     /// The source of this injector failed.
     #[error("the source of injector {0} failed")]
     Read(u32),
-    /// The output or the log failed while the run was told, or no memory was left. What waits may still
-    /// be written, unless the log failed.
+    /// The output or the log failed while the run was told, or memory ran out. What waits may still be
+    /// written, unless the log failed.
     #[error("the run was not told to its end")]
     Broken(RunFault),
     /// The output or the log failed while what waits was written.

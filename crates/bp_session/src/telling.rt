@@ -37,6 +37,7 @@ pub(crate) fn tell<K: Sink, L: Sink>(
     ensures counts { K.faults out.old ≤ K.faults out.new }
     ensures stays { LogStays L.made_as L.faults log.old log.new }
 {
+    // For the proof: what the arbiter keeps.
     core.arbiter().keeps();
     let lines = core.take_lines();
     telling.tell(alloc, core.arbiter().records(), lines.as_slice(), out, log)

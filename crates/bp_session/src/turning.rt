@@ -1,4 +1,4 @@
-//! Turns of feeds that have no thread: who serves makes them.
+//! Turns of feeds that have no thread, which the session makes itself.
 ghost use Rattle.std.specs.Prelude.{◌≡◌, OnOk};
 ghost use Rattle.std.specs.List.{list_any};
 ghost use Rattle.bp_scope.specs.Readings.{Pairs, GoesOnAs};
@@ -31,7 +31,7 @@ pub(crate) fn some_turn_here<S: Source>(readings: &Vec<Reading<S>>) -> bool
     false
 }
 
-/// Makes one turn of an injector that has no thread and is not over, if it is such a one.
+/// Makes one turn of an injector, if it has no thread and is not over.
 fn turn_here<S: Source>(reading: &mut Reading<S>) -> Result<(), Memory>
     ensures goes_on { GoesOnAs S.left S.faults reading.old reading.new }
     ensures hearing { reading.new.hearing ≡ reading.old.hearing }

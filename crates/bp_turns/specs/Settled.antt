@@ -45,7 +45,7 @@ abbrev pub SettlesCore : Core → Core → Type 0
 SettlesCore old new =
     (taken : List Line) (m : Moment Origin) → IsHere old taken m → IsTurnedFrom new taken m
 
--- Memory was wanting in a turn: the records are as before or end with a verdict, and are a story still;
+-- Memory ran out in a turn: the records are as before or end with a verdict, and are a story still;
 -- the lines taken and to be taken are the first of the story's.
 pub record IsCutInTurns (a : PlainArbiter) (taken : List Line) (m : Moment Origin) : Type 0 where
   pub records : (a.records ≡ m.records) ⊎ EndsWith m.records a.records

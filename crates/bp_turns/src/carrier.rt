@@ -6,7 +6,7 @@ ghost use Rattle.bp_thread.specs.Carried.{AreCarriedOut, HaveDistinctNumbers};
 ghost use Rattle.bp_pool.specs.Carrying.{AreOf, AreOpen};
 
 use crate::carrying::carry_all;
-use bp_log::{Parallelism, Memory};
+use bp_log::{Memory, Parallelism};
 use bp_pool::{Open, superstep};
 use bp_thread::Job;
 use js_frames::Ground;
@@ -19,8 +19,7 @@ pub trait Carrier {
     /// What is asked of a carrier: of one over threads, that they may share the runtime.
     ghost can_carry: { Self → Type 0 } = { λ _. ⊤ };
 
-    /// The same jobs in the same order, each carried to its outcome. Its only error is want of
-    /// memory.
+    /// The same jobs in the same order, each carried to its outcome.
     fn carry_out(
         &self,
         alloc: Global,

@@ -10,8 +10,7 @@ use bp_core::{Core, Phase};
 use bp_log::Memory;
 use std::alloc::Global;
 
-/// One turn: the lent jobs are carried to their outcomes, and what they did is merged in order. Its only
-/// error is out of memory.
+/// One turn: the lent jobs are carried to their outcomes, and what they did is merged in order.
 fn turn_core<C: Carrier>(alloc: Global, core: &mut Core, carrier: &C) -> Result<(), Memory>
     requires can_carry { C.can_carry carrier.now }
     requires lent { core.old.arbiter.phase ≡ phase.Lent }

@@ -20,6 +20,7 @@ fn turn<C: Carrier>(alloc: Global, arbiter: &mut Arbiter, carrier: &C) -> Result
     ensures records { OnOk result (length arbiter.old.records ≤ length arbiter.new.records) }
     ensures grows { IfOk result (λ f. f ≡ phase.Ready
         → length (stand_in arbiter.old).threads < length (stand_in arbiter.new).threads) }
+    ensures program { arbiter.new.floor.base.program ≡ arbiter.old.floor.base.program }
 {
     let budget = arbiter.floor().options().budget();
     let lent = arbiter.lend(alloc)?;
@@ -35,6 +36,7 @@ pub fn settle<C: Carrier>(alloc: Global, arbiter: &mut Arbiter, carrier: &C) -> 
     ensures settles { OnOk result (Settles arbiter.old arbiter.new) }
     ensures records { OnOk result (length arbiter.old.records ≤ length arbiter.new.records) }
     ensures settled { OnOk result (¬ (arbiter.new.phase ≡ phase.Ready)) }
+    ensures program { arbiter.new.floor.base.program ≡ arbiter.old.floor.base.program }
 {
     while arbiter.phase() == Phase::Ready {
         // Each turn but the first runs b-threads that the one before registered, and these are few.

@@ -14,7 +14,7 @@ use Rattle.bp_select.specs.declared.answers.Choice.{Choice}
 use Rattle.bp_select.specs.declared.answers.Choice.TheVariants.{Internal, External, Nothing}
 use Rattle.bp_floor.specs.inner.Seating.{PlainSeat, outcome_in}
 
--- so many events at the front of the queue are known to be blocked, by the block sets on the bench and by
+-- this many events at the front of the queue are known to be blocked, by the block sets on the bench and by
 -- those that are away
 pub record PlainFront : Type 0 where
   pub blocked : ℕ

@@ -12,7 +12,7 @@ use Rattle.bp_replay.specs.Courses.{Course, Follows, text_in}
 use Rattle.bp_replay.specs.Endings.{EndsAt, IsAtItsEnd}
 use Rattle.bp_replay.specs.Replays.{Prints}
 
--- with the program refused, or with memory wanting before a record was read
+-- with the program refused, or with memory running out before a record was read
 abbrev pub HasNoProgram : PlainHeader → Result Verdict ReplayFault → Type 0
 HasNoProgram header (Ok v) = ⊥
 HasNoProgram header (Err (Log f)) = ⊥

@@ -1,4 +1,4 @@
-use Rattle.std.proofs.Common.{Some, Err, Option, List, ℕ, ap, subst, inl, inr, refl, sym, ◌∙◌}
+use Rattle.std.proofs.Common.{Err, Option, List, ℕ, ap, subst, inl, inr, refl, sym, ◌∙◌}
 use Rattle.bp_args.specs.declared.command.Command.TheVariants as command
 use Rattle.bp_base.specs.Worlds.{Asks, Opens}
 use Rattle.bp_base.specs.declared.outside.WorldError.{WorldError}

@@ -4,8 +4,8 @@ use Rattle.bp_floor.specs.declared.phase.Phase.TheVariants.{Rest}
 use Rattle.bp_replay.proofs.Steps.{stays_over, followed_over}
 use Rattle.bp_replay.proofs.following.follow.Goals as goal
 
-pub returns : goal.returns
-returns c =
+pub returns-clause-followed : goal.returns-clause-followed
+returns-clause-followed c =
     let moved : (c.args.arbiter.now.phase ≡ Rest) → ⊥ = search rules in
     λ d t.
     let o = stays_over d c.args.arbiter.now t moved in

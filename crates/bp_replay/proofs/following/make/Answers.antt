@@ -4,8 +4,8 @@ use Rattle.bp_replay.specs.Courses.{coming}
 use Rattle.bp_replay.proofs.Steps.{picks, waits_parts, made_of, records_made, some_made, followed_made}
 use Rattle.bp_replay.proofs.following.make.Goals as goal
 
-pub returns-then-eq : goal.returns-then-eq
-returns-then-eq c =
+pub returns-then-eq-clause-followed : goal.returns-then-eq-clause-followed
+returns-then-eq-clause-followed c =
     let e = c.in_ok-pick.ensures in
     let wait : c.in_ok-pick.field-0 ≡ picked.Wait = search rules in
     λ d t u.
@@ -22,8 +22,8 @@ compare-requires c =
     let m = made_of (coming d) (λ k. going (p.picked_is ∙ k)) in
     some_made c.pick.new.self d.records m.0 (records_made d c.pick.new.self m.0 p.records m.1)
 
-pub returns : goal.returns
-returns c =
+pub returns-clause-followed : goal.returns-clause-followed
+returns-clause-followed c =
     let e = c.in_ok-pick.ensures in
     let going : (c.in_ok-pick.field-0 ≡ picked.Wait) → ⊥ = search rules in
     λ d t u.

@@ -73,21 +73,21 @@ returns-in_err-follow-clause-tells g c =
     (subst (λ (e : ReplayFault). IfSome c.args.reader.now.left (λ rest. Tells (first_of c.args.reader.now.stage.version c.args.arbiter.now) rest (g.K.Sink.written c.args.out.now) c.show.new.page (g.K.Sink.written c.show.new.out) (Err e))) (sym p.2)
     (tells_parted (first_of c.args.reader.now.stage.version c.args.arbiter.now) d a.program a.options a.version r.told c.args.reader.now.left (g.K.Sink.written c.args.out.now) c.show.new.page (g.K.Sink.written c.show.new.out) c.loop-reader.reader.stage c.loop-reader.reader.left
     c.next.new.self.left c.in-Some.found (c.loop-reader.number + 1) c.follow.new.arbiter _ a.reached tells (ap (λ (n : ℕ). n + 1) a.number_is)
-    (c.in_err-follow.ensures d (c.in_ok-show.ensures.there d a.taken a.way))
+    (c.in_err-follow.ensures.followed d (c.in_ok-show.ensures.there d a.taken a.way))
     (shows_course d a.taken (a.way).more _ _ _ c.loop-reader.page _ (a.way).lines a.shows (c.in_ok-show.ensures.shows d a.taken a.way))))
 
 pub returns-in_err-follow-clause-read : goal.returns-in_err-follow-clause-read
 returns-in_err-follow-clause-read g c =
     let p = err_from_is_err_and c.from_residual-in_err-follow.result c.from_residual-in_err-follow.ensures.1 in
     let a = c.loop-reader.invariant.along in
-    let f = c.in_err-follow.ensures a.course (c.in_ok-show.ensures.there a.course a.taken a.way) in
+    let f = c.in_err-follow.ensures.followed a.course (c.in_ok-show.ensures.there a.course a.taken a.way) in
     λ h. absurd (followed_log a.course c.in-Some.found (c.loop-reader.number + 1) c.follow.new.arbiter _ log.Read f (sym p.2 ∙ same_error c.from_residual-in_err-follow.result p.0 (fault.Log log.Read) p.1 h))
 
 pub returns-in_err-follow-clause-write : goal.returns-in_err-follow-clause-write
 returns-in_err-follow-clause-write g c =
     let p = err_from_is_err_and c.from_residual-in_err-follow.result c.from_residual-in_err-follow.ensures.1 in
     let a = c.loop-reader.invariant.along in
-    let f = c.in_err-follow.ensures a.course (c.in_ok-show.ensures.there a.course a.taken a.way) in
+    let f = c.in_err-follow.ensures.followed a.course (c.in_ok-show.ensures.there a.course a.taken a.way) in
     λ h. absurd (followed_write a.course c.in-Some.found (c.loop-reader.number + 1) c.follow.new.arbiter _ f (sym p.2 ∙ same_error c.from_residual-in_err-follow.result p.0 fault.Write p.1 h))
 
 pub returns-in_err-verdict-clause-tells : goal.returns-in_err-verdict-clause-tells
@@ -107,7 +107,7 @@ finish-requires-clause-ended g c =
     let d = a.course in
     let s = c.loop-reader.reader.stage in
     let v = c.in-Some-verdict.verdict.now in
-    let m : Makes d c.in-Some.found c.follow.new.arbiter = c.in_ok-follow.ensures d (c.in_ok-show.ensures.there d a.taken a.way) in
+    let m : Makes d c.in-Some.found c.follow.new.arbiter = c.in_ok-follow.ensures.followed d (c.in_ok-show.ensures.there d a.taken a.way) in
     let e = said_end d c.in-Some.found c.follow.new.arbiter v m (sym c.in-Some-verdict.ensures.recorded) in
     let stage : c.next.new.self.stage ≡ after s c.in-Some.found = subst (λ (x : Option Record). IsStageAfter s (Ok x) c.next.new.self.stage) c.in-Some.is (c.in_ok-found.ensures.stage a.fresh) in
     ap (λ (x : Stage). x.ended) stage ∙ ap (λ (x : Record). (after s x).ended) e
@@ -119,7 +119,7 @@ returns-in-Some-verdict-clause-tells g c =
     let r = (a.way).runs in
     let s = c.loop-reader.reader.stage in
     let v = c.in_ok-verdict.verdict in
-    let m : Makes d c.in-Some.found c.follow.new.arbiter = c.in_ok-follow.ensures d (c.in_ok-show.ensures.there d a.taken a.way) in
+    let m : Makes d c.in-Some.found c.follow.new.arbiter = c.in_ok-follow.ensures.followed d (c.in_ok-show.ensures.there d a.taken a.way) in
     let said : verdict_of c.follow.new.arbiter.records ≡ Some v = sym (ap (λ (x : Verdict). Some x) c.in_ok-verdict.ensures ∙ c.in-Some-verdict.ensures.recorded) in
     let e : c.in-Some.found ≡ End v = said_end d c.in-Some.found c.follow.new.arbiter v m said in
     let n : Makes d (End v) c.follow.new.arbiter = subst (λ (x : Record). Makes d x c.follow.new.arbiter) e m in
@@ -139,14 +139,14 @@ pub returns-in_err-follow-clause-failed : goal.returns-in_err-follow-clause-fail
 returns-in_err-follow-clause-failed g c =
     let p = err_from_is_err_and c.from_residual-in_err-follow.result c.from_residual-in_err-follow.ensures.1 in
     let a = c.loop-reader.invariant.along in
-    let f = c.in_err-follow.ensures a.course (c.in_ok-show.ensures.there a.course a.taken a.way) in
+    let f = c.in_err-follow.ensures.followed a.course (c.in_ok-show.ensures.there a.course a.taken a.way) in
     λ h. absurd (followed_log a.course c.in-Some.found (c.loop-reader.number + 1) c.follow.new.arbiter _ log.Read f (sym p.2 ∙ same_error c.from_residual-in_err-follow.result p.0 (fault.Log log.Read) p.1 h))
 
 pub returns-in_err-follow-clause-empty : goal.returns-in_err-follow-clause-empty
 returns-in_err-follow-clause-empty g c =
     let p = err_from_is_err_and c.from_residual-in_err-follow.result c.from_residual-in_err-follow.ensures.1 in
     let a = c.loop-reader.invariant.along in
-    let f = c.in_err-follow.ensures a.course (c.in_ok-show.ensures.there a.course a.taken a.way) in
+    let f = c.in_err-follow.ensures.followed a.course (c.in_ok-show.ensures.there a.course a.taken a.way) in
     λ h. absurd (followed_log a.course c.in-Some.found (c.loop-reader.number + 1) c.follow.new.arbiter _ log.Read f (sym p.2 ∙ same_error c.from_residual-in_err-follow.result p.0 (fault.Log log.Read) p.1 h))
 
 pub returns-in-Some-verdict-clause-failed : goal.returns-in-Some-verdict-clause-failed
@@ -156,7 +156,7 @@ returns-in-Some-verdict-clause-failed g c =
     let r = (a.way).runs in
     let s = c.loop-reader.reader.stage in
     let v = c.in_ok-verdict.verdict in
-    let m : Makes d c.in-Some.found c.follow.new.arbiter = c.in_ok-follow.ensures d (c.in_ok-show.ensures.there d a.taken a.way) in
+    let m : Makes d c.in-Some.found c.follow.new.arbiter = c.in_ok-follow.ensures.followed d (c.in_ok-show.ensures.there d a.taken a.way) in
     let said : verdict_of c.follow.new.arbiter.records ≡ Some v = sym (ap (λ (x : Verdict). Some x) c.in_ok-verdict.ensures ∙ c.in-Some-verdict.ensures.recorded) in
     let e : c.in-Some.found ≡ End v = said_end d c.in-Some.found c.follow.new.arbiter v m said in
     let n : Makes d (End v) c.follow.new.arbiter = subst (λ (x : Record). Makes d x c.follow.new.arbiter) e m in
@@ -179,7 +179,7 @@ loop-reader-preserved g c =
     let a = c.loop-reader.invariant.along in
     let d = a.course in
     let s = c.loop-reader.reader.stage in
-    let m : Makes d c.in-Some.found c.follow.new.arbiter = c.in_ok-follow.ensures d (c.in_ok-show.ensures.there d a.taken a.way) in
+    let m : Makes d c.in-Some.found c.follow.new.arbiter = c.in_ok-follow.ensures.followed d (c.in_ok-show.ensures.there d a.taken a.way) in
     let none : verdict_of c.follow.new.arbiter.records ≡ None = search rules in
     let stage : c.next.new.self.stage ≡ after s c.in-Some.found = subst (λ (x : Option Record). IsStageAfter s (Ok x) c.next.new.self.stage) c.in-Some.is (c.in_ok-found.ensures.stage a.fresh) in
     let tells : IfSome c.loop-reader.reader.left (λ bytes. ReaderTells (Ok (Some c.in-Some.found)) (next_at s bytes) c.next.new.self.left) =

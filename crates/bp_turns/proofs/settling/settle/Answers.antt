@@ -1,4 +1,4 @@
-use Rattle.std.proofs.Common.{◌≡◌, ◌∙◌, arith, length, rules}
+use Rattle.std.proofs.Common.{◌≡◌, ◌∙◌, arith, length, refl, rules}
 use Rattle.bp_floor.specs.declared.phase.Phase.TheVariants.{Ready}
 use Rattle.bp_arbiter.specs.Arbiters.{stand_in}
 use Rattle.bp_turns.proofs.Turned.{settles_refl, settles_trans, settles_somewhere}
@@ -6,7 +6,7 @@ use Rattle.bp_turns.proofs.Measure.{falls}
 use Rattle.bp_turns.proofs.settling.settle.Goals as goal
 
 pub loop-alloc-init : goal.loop-alloc-init
-loop-alloc-init g c = record { stands = c.requires.stands; settles = settles_refl c.args.arbiter.now; records = omega arith }
+loop-alloc-init g c = record { stands = c.requires.stands; settles = settles_refl c.args.arbiter.now; records = omega arith; program = refl }
 
 pub loop-alloc-smaller : goal.loop-alloc-smaller
 loop-alloc-smaller g c =
@@ -25,4 +25,5 @@ loop-alloc-preserved g c =
       stands = settles_somewhere c.loop-alloc.arbiter c.turn.new.arbiter c.in_ok-turn.ensures.settles i.stands;
       settles = settles_trans c.args.arbiter.now c.loop-alloc.arbiter c.turn.new.arbiter ready i.settles c.in_ok-turn.ensures.settles;
       records = omega (arith, before, after);
+      program = c.turn.ensures.program ∙ i.program;
     }

@@ -1,8 +1,7 @@
-use Rattle.std.proofs.Common.{◌≡◌, ◌∙◌, List, [], Option, Some, sym, ap, slice_get, option_map}
+use Rattle.std.proofs.Common.{◌≡◌, ◌∙◌, List, [], Some, sym, ap, slice_get, option_map}
 use Rattle.js_meaning.specs.Bodies.{Origin}
 use Rattle.js_frames.specs.Places.{plain_ground}
 use Rattle.bp_run.specs.Settling.{Entry}
-use Rattle.bp_floor.specs.inner.Seating.{PlainSeat}
 use Rattle.bp_floor.specs.inner.Stops.{stop_in}
 use Rattle.bp_floor.specs.inner.Kept.{Running, runs_in}
 use Rattle.bp_floor.specs.Floors.{PlainFloor}
