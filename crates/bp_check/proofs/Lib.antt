@@ -1,2 +1,5 @@
 pub mod Marking
+mod Names
+mod Rows
+mod SentenceRows
 pub mod Telling

@@ -1,5 +1,5 @@
 -- What is told of a program, node after node.
-use Rattle.std.proofs.Common.{◌≡◌, ◌∙◌, ℕ, suc, ◌+◌, List, ◌++◌, ap, add-one}
+use Rattle.std.proofs.Common.{◌≡◌, ◌∙◌, ℕ, ◌+◌, ◌++◌, ap, add-one}
 use Rattle.std.proofs.lemmas.Grind.{flat_map-append}
 use Rattle.js_program.specs.PlainProgram.{PlainProgram}
 use Rattle.bp_check.specs.Findings.{found_at, found_below}

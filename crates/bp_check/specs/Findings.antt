@@ -1,13 +1,17 @@
 -- What of an accepted program will be at fault, or does other than it seems to.
-use Rattle.std.specs.Prelude.{ℕ, ℤ, pos, negsuc, zero, suc, ◌%◌, Bool, true, false, ◌||◌, nat_eq, List, [], ◌∷◌, ◌++◌, length, flat_map, slice_get, Option, Some, None, if◌then◌else◌}
+use Rattle.std.specs.Prelude.{ℕ, ℤ, pos, negsuc, zero, suc, ◌%◌, Bool, true, false, nat_eq, List, [], ◌∷◌, ◌++◌, length, flat_map, slice_get, Option, Some, None, if◌then◌else◌}
 use Rattle.std.specs.List.{list_any, zip}
 use Rattle.std.specs.Str.{bytes_eq}
+use Rattle.js_tree.specs.declared.tree.Sign.TheVariants.{Minus, Plus}
 use Rattle.js_tree.specs.declared.tree.Operator.{Operator}
 use Rattle.js_tree.specs.declared.tree.Operator.TheVariants.{Divide, Remainder}
+use Rattle.js_tree.specs.declared.tree.AssignOp.{AssignOp}
+use Rattle.js_tree.specs.declared.tree.AssignOp.TheVariants as assigning
 use Rattle.js_program.specs.declared.builtin.Builtin.{Builtin}
 use Rattle.js_program.specs.declared.builtin.Builtin.TheVariants.{Sync, Assert}
-use Rattle.js_program.specs.PlainProgram.{PlainNodeForm, number, fields, method, builtin, floor_divide, binary, PlainNode, PlainProgram}
-use Rattle.bp_check.specs.Words.{is_method, is_key}
+use Rattle.js_program.specs.PlainProgram.{PlainNodeForm, number, text, truth, null, undefined, list, fields, method, builtin, floor_divide, unary, binary, assign, function, PlainNode, PlainProgram}
+use Rattle.bp_meaning.specs.Statements.{is_key}
+use Rattle.bp_check.specs.Words.{is_method}
 use Rattle.bp_check.specs.Tops.{is_at_top}
 
 pub data Kind : Type 0 where
@@ -52,6 +56,33 @@ abbrev pub of_method : PlainProgram → ℕ → List ℕ → List Finding
 of_method p line word =
     if is_method word then [] else if is_field p word then [] else one line (no_method word)
 
+-- ---- literals
+
+-- what is written so is neither a text nor fields, whatever a run makes of it
+abbrev pub is_neither : PlainNodeForm → Bool
+is_neither (number z) = true
+is_neither (truth b) = true
+is_neither null = true
+is_neither undefined = true
+is_neither (list ns) = true
+is_neither (function f) = true
+is_neither (builtin form arguments) = true
+is_neither (floor_divide a b dropped) = true
+is_neither _ = false
+
+abbrev pub is_no_text : PlainNodeForm → Bool
+is_no_text (fields keys values) = true
+is_no_text form = is_neither form
+
+abbrev pub is_no_statement : PlainNodeForm → Bool
+is_no_statement (text t) = true
+is_no_statement form = is_neither form
+
+-- `undefined` is as if nothing stood there
+abbrev pub is_absent : Option PlainNode → Bool
+is_absent None = true
+is_absent (Some x) = elim x.form [ undefined ↦ true | _ ↦ false ]
+
 -- ---- statements
 
 abbrev pub line_in : Option PlainNode → ℕ
@@ -63,20 +94,21 @@ abbrev pub of_key : PlainProgram → List ℕ × ℕ → List Finding
 of_key p k =
     if is_key k.0 then [] else one (line_in (slice_get p.nodes k.1)) (no_key k.0)
 
-abbrev pub of_statement : PlainProgram → Option PlainNode → List Finding
-of_statement p None = []
-of_statement p (Some x) = elim x.form [
-  | fields keys values ↦ flat_map (of_key p) (zip keys values)
-  | _ ↦ []
-]
+abbrev pub of_statement_form : PlainProgram → ℕ → PlainNodeForm → List Finding
+of_statement_form p line (fields keys values) = flat_map (of_key p) (zip keys values)
+of_statement_form p line form = if is_no_statement form then one line no_statement else []
 
-abbrev pub of_priority : ℕ → List ℕ → List Finding
-of_priority line [] = []
-of_priority line (n ∷ ns) = one line has_priority
+abbrev pub of_statement : PlainProgram → ℕ → Option PlainNode → List Finding
+of_statement p line None = []
+of_statement p line (Some x) = of_statement_form p line x.form
+
+abbrev pub of_priority : PlainProgram → ℕ → List ℕ → List Finding
+of_priority p line [] = []
+of_priority p line (n ∷ dropped) = if is_absent (slice_get p.nodes n) then [] else one line has_priority
 
 abbrev pub of_stated : PlainProgram → ℕ → List ℕ → List Finding
 of_stated p line [] = one line no_statement
-of_stated p line (n ∷ ns) = of_statement p (slice_get p.nodes n) ++ of_priority line ns
+of_stated p line (n ∷ more) = of_statement p line (slice_get p.nodes n) ++ of_priority p line more
 
 abbrev pub of_top : Bool → ℕ → List Finding
 of_top false line = []
@@ -84,9 +116,13 @@ of_top true line = one line top_sync
 
 -- ---- `bp.ASSERT`
 
-abbrev pub of_assert : ℕ → List ℕ → List Finding
-of_assert line (c ∷ text ∷ dropped) = []
-of_assert line _ = one line no_text
+abbrev pub of_text : ℕ → Option PlainNode → List Finding
+of_text line None = []
+of_text line (Some x) = if is_no_text x.form then one line no_text else []
+
+abbrev pub of_assert : PlainProgram → ℕ → List ℕ → List Finding
+of_assert p line (c ∷ n ∷ dropped) = of_text line (slice_get p.nodes n)
+of_assert p line _ = one line no_text
 
 -- ---- divisions
 
@@ -106,6 +142,20 @@ literal_in (Some x) = literal_of x.form
 abbrev pub literal : PlainProgram → ℕ → Option ℕ
 literal p n = literal_in (slice_get p.nodes n)
 
+-- how far the number is from 0 that is written in digits, with a sign or without: whether a division leaves a
+-- rest is the same for both signs
+abbrev pub size_of : PlainProgram → PlainNodeForm → Option ℕ
+size_of p (unary Minus n) = literal p n
+size_of p (unary Plus n) = literal p n
+size_of p form = literal_of form
+
+abbrev pub size_in : PlainProgram → Option PlainNode → Option ℕ
+size_in p None = None
+size_in p (Some x) = size_of p x.form
+
+abbrev pub size : PlainProgram → ℕ → Option ℕ
+size p n = size_in p (slice_get p.nodes n)
+
 abbrev pub of_zero : ℕ → Option ℕ → List Finding
 of_zero line (Some zero) = one line by_zero
 of_zero line _ = []
@@ -122,20 +172,26 @@ of_literals line _ _ = []
 
 abbrev pub of_form : PlainProgram → Bool → ℕ → Builtin → List ℕ → List Finding
 of_form p at_top line Sync arguments = of_top at_top line ++ of_stated p line arguments
-of_form p at_top line Assert arguments = of_assert line arguments
+of_form p at_top line Assert arguments = of_assert p line arguments
 of_form p at_top line _ arguments = []
 
 abbrev pub of_operator : PlainProgram → ℕ → Operator → ℕ → ℕ → List Finding
-of_operator p line Divide a b = of_literals line (literal p a) (literal p b)
-of_operator p line Remainder a b = of_zero line (literal p b)
+of_operator p line Divide a b = of_literals line (size p a) (size p b)
+of_operator p line Remainder a b = of_zero line (size p b)
 of_operator p line _ a b = []
+
+abbrev pub of_assigning : PlainProgram → ℕ → AssignOp → ℕ → List Finding
+of_assigning p line assigning.Divide b = of_zero line (size p b)
+of_assigning p line assigning.Remainder b = of_zero line (size p b)
+of_assigning p line _ b = []
 
 abbrev pub of_node : PlainProgram → Bool → PlainNode → List Finding
 of_node p at_top x = elim x.form [
   | method on word arguments ↦ of_method p x.line word
   | builtin form arguments ↦ of_form p at_top x.line form arguments
   | binary operator a b ↦ of_operator p x.line operator a b
-  | floor_divide a b dropped ↦ of_zero x.line (literal p b)
+  | floor_divide a b dropped ↦ of_zero x.line (size p b)
+  | assign operator slot b ↦ of_assigning p x.line operator b
   | _ ↦ []
 ]
 

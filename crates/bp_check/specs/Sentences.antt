@@ -1,10 +1,10 @@
 -- Each finding in one sentence.
-use Rattle.std.specs.Prelude.{ℕ, Bool, true, false, ◌||◌, nat_le, nat_lt, List, [], ◌∷◌, ◌++◌, length, flat_map, decimal, codes, if◌then◌else◌, nat_eq, Option, Some, None}
+use Rattle.std.specs.Prelude.{ℕ, Bool, nat_lt, List, [], ◌∷◌, ◌++◌, length, flat_map, decimal, codes, if◌then◌else◌, nat_eq, ◌/◌, ◌&&◌, Option, Some, None}
 use Rattle.std.specs.Str.{bytes_eq}
 use Rattle.strsim.specs.Edits.{levenshtein_row}
 use Rattle.js_data.specs.JsonText.{quoted_text}
 use Rattle.js_program.specs.PlainProgram.{PlainProgram}
-use Rattle.bp_check.specs.declared.hint.TheConstants.{MOST_EDITS, ALL_METHODS}
+use Rattle.bp_check.specs.declared.hint.TheConstants.{MANY_EDITS, ALL_METHODS}
 use Rattle.bp_check.specs.Words.{methods}
 use Rattle.bp_check.specs.Findings as f
 use Rattle.bp_check.specs.Findings.{Kind, Finding, findings}
@@ -13,20 +13,27 @@ use Rattle.bp_check.specs.Findings.{Kind, Finding, findings}
 abbrev pub edits : List ℕ → List ℕ → ℕ
 edits a b = levenshtein_row nat_eq a b (length b)
 
--- the first of the words with the fewest edits, where these are no more than `best` before it
+-- so many edits are fewer than these, and than half of the letters of the name
+abbrev pub is_near : ℕ → ℕ → List ℕ → Bool
+is_near count best name = nat_lt count best && nat_lt count (length name / 2)
+
+-- the first of the names with the fewest edits, where these are fewer than `best` and the name is near
 abbrev pub nearer : List ℕ → Option (List ℕ) → ℕ → List (List ℕ) → Option (List ℕ)
 nearer word found best [] = found
 nearer word found best (w ∷ ws) =
-    if nat_lt (edits word w) best then nearer word (Some w) (edits word w) ws
+    if is_near (edits word w) best w then nearer word (Some w) (edits word w) ws
     else nearer word found best ws
 
--- the nearest method, where it is near
+-- the nearest method, where one is near
 unfoldable pub nearest : List ℕ → Option (List ℕ)
-nearest word = nearer word None MOST_EDITS methods
+nearest word = nearer word None MANY_EDITS methods
 
 abbrev pub hint_near : Option (List ℕ) → List ℕ
 hint_near None = ALL_METHODS.now
 hint_near (Some w) = codes "the nearest is " ++ w
+
+abbrev pub longer : List ℕ
+longer = codes "concat makes a longer list"
 
 abbrev pub over_lists : List ℕ
 over_lists = codes "`for (const x of list)` goes over a list"
@@ -34,14 +41,20 @@ over_lists = codes "`for (const x of list)` goes over a list"
 -- the methods of JavaScript and of BPjs that stand in many programs, each with what stands here for it
 abbrev pub hints : List (List ℕ × List ℕ)
 hints =
-    (codes "push", codes "concat makes a longer list")
-    ∷ (codes "unshift", codes "concat makes a longer list")
+    (codes "push", longer)
+    ∷ (codes "unshift", longer)
+    ∷ (codes "add", longer)
     ∷ (codes "map", over_lists)
     ∷ (codes "filter", over_lists)
+    ∷ (codes "find", over_lists)
     ∷ (codes "includes", over_lists)
+    ∷ (codes "some", over_lists)
+    ∷ (codes "every", over_lists)
+    ∷ (codes "reduce", over_lists)
     ∷ (codes "indexOf", codes "startsWith asks how a text begins")
     ∷ (codes "equals", codes "events and texts are compared by ===")
     ∷ (codes "contains", codes "a predicate is called as a function")
+    ∷ (codes "not", codes "negate makes the set of all other events")
     ∷ []
 
 abbrev pub told_in : List ℕ → List (List ℕ × List ℕ) → Option (List ℕ)

@@ -1,5 +1,5 @@
 -- The nodes of the top level.
-use Rattle.std.specs.Prelude.{◌≡◌, ◌<◌, ℕ, zero, suc, Bool, false, nat_eq, length, get_or, List, [], ◌∷◌, ◌++◌, if◌then◌else◌}
+use Rattle.std.specs.Prelude.{◌≡◌, ◌<◌, ℕ, suc, Bool, false, nat_eq, length, get_or, List, [], ◌∷◌, ◌++◌, if◌then◌else◌}
 use Rattle.std.specs.List.{list_any}
 use Rattle.js_program.specs.PlainProgram.{PlainNode, PlainProgram, parts_of, content_parts}
 

@@ -1,12 +1,12 @@
 //! Divisions of numbers.
 ghost use Rattle.std.specs.Prelude.{◌≡◌, ◌++◌, OnOk, string_bytes};
-ghost use Rattle.bp_check.specs.Findings.{in_digits, literal, of_zero, of_literals, of_operator};
+ghost use Rattle.bp_check.specs.Findings.{in_digits, literal, size, of_zero, of_literals, of_operator, of_assigning};
 ghost use Rattle.bp_check.specs.Sentences.{findings_text};
 
 use crate::sentences::{write_by_zero, write_has_rest};
 use js_data::{Memory, Whole};
 use js_program::{NodeForm, Program};
-use js_tree::Operator;
+use js_tree::{AssignOp, Operator, Sign};
 use std::alloc::Global;
 
 /// The number, where it is written in digits alone.
@@ -33,8 +33,22 @@ fn literal(program: &Program, number: u32) -> Option<u64>
     }
 }
 
+/// How far the number that a node is lies from 0, where it is written in digits, with a sign or without.
+fn size(program: &Program, number: u32) -> Option<u64>
+    ensures { result ≡ size program.now number }
+{
+    if number >= program.nodes() {
+        return None;
+    }
+    match &program.node(number).form {
+        NodeForm::Number(number) => in_digits(*number),
+        NodeForm::Unary(Sign::Minus | Sign::Plus, digits) => literal(program, *digits),
+        _ => None,
+    }
+}
+
 /// Writes that a divisor is zero, where it is.
-pub fn write_zero(
+fn write_zero(
     alloc: Global,
     line: u32,
     divisor: Option<u64>,
@@ -86,9 +100,9 @@ pub fn write_operator(
 {
     match operator {
         Operator::Divide => {
-            write_division(alloc, line, literal(program, a), literal(program, b), text)
+            write_division(alloc, line, size(program, a), size(program, b), text)
         }
-        Operator::Remainder => write_zero(alloc, line, literal(program, b), text),
+        Operator::Remainder => write_zero(alloc, line, size(program, b), text),
         _ => Ok(()),
     }
 }
@@ -102,7 +116,27 @@ pub fn write_floor(
     text: &mut String,
 ) -> Result<(), Memory>
     ensures { OnOk result (string_bytes text.new
-        ≡ string_bytes text.old ++ findings_text (of_zero line (literal program.now b))) }
+        ≡ string_bytes text.old ++ findings_text (of_zero line (size program.now b))) }
 {
-    write_zero(alloc, line, literal(program, b), text)
+    write_zero(alloc, line, size(program, b), text)
+}
+
+/// Writes what is found of an assignment.
+pub fn write_assigning(
+    alloc: Global,
+    program: &Program,
+    line: u32,
+    operator: AssignOp,
+    b: u32,
+    text: &mut String,
+) -> Result<(), Memory>
+    ensures { OnOk result (string_bytes text.new
+        ≡ string_bytes text.old ++ findings_text (of_assigning program.now line operator b)) }
+{
+    match operator {
+        AssignOp::Divide | AssignOp::Remainder => {
+            write_zero(alloc, line, size(program, b), text)
+        }
+        _ => Ok(()),
+    }
 }

@@ -3,11 +3,11 @@
 
 mod divisions;
 mod hint;
+mod literals;
 mod methods;
 mod nodes;
 mod sentences;
 mod syncs;
 mod tops;
 
-pub use hint::MOST_EDITS;
 pub use nodes::check;

@@ -10,6 +10,7 @@ ghost use Rattle.bp_check.specs.Sentences.{findings_text};
 
 use crate::sentences::write_no_method;
 use js_data::{Memory, Text};
+use js_ops::method_named;
 use js_program::{Node, NodeForm, Program};
 use std::alloc::Global;
 use std::sync::Arc;
@@ -18,10 +19,7 @@ use std::sync::Arc;
 fn is_method(word: &str) -> bool
     ensures { result ≡ is_method word.now }
 {
-    matches!(
-        word,
-        "concat" | "forEach" | "startsWith" | "endsWith" | "or" | "and" | "xor" | "negate"
-    )
+    word == "forEach" || method_named(word).is_some()
 }
 
 /// Whether the word is one of the keys.

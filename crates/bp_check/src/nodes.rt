@@ -5,7 +5,7 @@ ghost use Rattle.bp_check.specs.Tops.{is_at_top as stands_at_top};
 ghost use Rattle.bp_check.specs.Findings.{of_node, found_at, findings};
 ghost use Rattle.bp_check.specs.Sentences.{findings_text, check_text};
 
-use crate::divisions::{write_floor, write_operator};
+use crate::divisions::{write_assigning, write_floor, write_operator};
 use crate::methods::write_method;
 use crate::syncs::write_form;
 use crate::tops::top_marks;
@@ -33,6 +33,9 @@ fn write_node(
             write_operator(alloc, program, node.line, *operator, *a, *b, text)
         }
         NodeForm::FloorDivide(_, b, _) => write_floor(alloc, program, node.line, *b, text),
+        NodeForm::Assign(operator, _, b) => {
+            write_assigning(alloc, program, node.line, *operator, *b, text)
+        }
         _ => Ok(()),
     }
 }

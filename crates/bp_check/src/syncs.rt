@@ -1,11 +1,13 @@
 //! Statements of `bp.sync`, and texts of `bp.ASSERT`.
-ghost use Rattle.std.specs.Prelude.{◌≡◌, ◌++◌, OnOk, string_bytes, slice_get, map, flat_map};
+ghost use Rattle.std.specs.Prelude.{◌≡◌, ◌++◌, [], OnOk, string_bytes, slice_get, map, flat_map, if◌then◌else◌};
 ghost use Rattle.std.specs.List.{zip};
 ghost use Rattle.std.specs.Arc.{arc_value};
-ghost use Rattle.bp_check.specs.Words.{is_key};
-ghost use Rattle.bp_check.specs.Findings.{line_in, of_key, of_statement, of_priority, of_stated, of_top, of_assert, of_form};
+ghost use Rattle.js_program.specs.Views.{plain_node_form};
+ghost use Rattle.bp_meaning.specs.Statements.{is_key};
+ghost use Rattle.bp_check.specs.Findings.{one, no_statement, is_no_statement, line_in, of_key, of_statement_form, of_statement, of_priority, of_stated, of_top, of_text, of_assert, of_form};
 ghost use Rattle.bp_check.specs.Sentences.{findings_text};
 
+use crate::literals::{is_absent, is_no_statement, is_no_text};
 use crate::sentences::{
     write_has_priority, write_no_key, write_no_statement, write_no_text, write_top_sync,
 };
@@ -71,34 +73,67 @@ fn write_keys(
     Ok(())
 }
 
+/// Writes that `bp.sync` has no statement, where what is written so is none.
+fn write_other(alloc: Global, line: u32, form: &NodeForm, text: &mut String) -> Result<(), Memory>
+    ensures { OnOk result (string_bytes text.new ≡ string_bytes text.old ++ findings_text
+        (if is_no_statement (plain_node_form form.now) then one line no_statement else [])) }
+{
+    if is_no_statement(form) {
+        write_no_statement(alloc, line, text)
+    } else {
+        Ok(())
+    }
+}
+
+/// Writes what is found of what is written as a statement.
+fn write_statement_form(
+    alloc: Global,
+    program: &Program,
+    line: u32,
+    form: &NodeForm,
+    text: &mut String,
+) -> Result<(), Memory>
+    ensures { OnOk result (string_bytes text.new ≡ string_bytes text.old
+        ++ findings_text (of_statement_form program.now line (plain_node_form form.now))) }
+{
+    match form {
+        NodeForm::Fields(keys, values) => write_keys(alloc, program, keys, values, text),
+        _ => write_other(alloc, line, form, text),
+    }
+}
+
 /// Writes what is found of a statement.
 fn write_statement(
     alloc: Global,
     program: &Program,
+    line: u32,
     number: u32,
     text: &mut String,
 ) -> Result<(), Memory>
     ensures { OnOk result (string_bytes text.new ≡ string_bytes text.old
-        ++ findings_text (of_statement program.now (slice_get program.now.nodes number))) }
+        ++ findings_text (of_statement program.now line (slice_get program.now.nodes number))) }
 {
     if number >= program.nodes() {
         return Ok(());
     }
-    match &program.node(number).form {
-        NodeForm::Fields(keys, values) => write_keys(alloc, program, keys, values, text),
-        _ => Ok(()),
-    }
+    write_statement_form(alloc, program, line, &program.node(number).form, text)
 }
 
 /// Writes that most strategies ignore a priority, where there is one.
-fn write_priority(alloc: Global, line: u32, more: &[u32], text: &mut String) -> Result<(), Memory>
+fn write_priority(
+    alloc: Global,
+    program: &Program,
+    line: u32,
+    more: &[u32],
+    text: &mut String,
+) -> Result<(), Memory>
     ensures { OnOk result (string_bytes text.new
-        ≡ string_bytes text.old ++ findings_text (of_priority line more.now)) }
+        ≡ string_bytes text.old ++ findings_text (of_priority program.now line more.now)) }
 {
-    if more.is_empty() {
-        return Ok(());
+    match more {
+        [priority, ..] if !is_absent(program, *priority) => write_has_priority(alloc, line, text),
+        _ => Ok(()),
     }
-    write_has_priority(alloc, line, text)
 }
 
 /// Writes what is found of the arguments of `bp.sync`.
@@ -115,8 +150,8 @@ fn write_stated(
     let [first, more @ ..] = arguments else {
         return write_no_statement(alloc, line, text);
     };
-    write_statement(alloc, program, *first, text)?;
-    write_priority(alloc, line, more, text)
+    write_statement(alloc, program, line, *first, text)?;
+    write_priority(alloc, program, line, more, text)
 }
 
 /// Writes that `bp.sync` stands at the top level, where it does.
@@ -131,18 +166,40 @@ fn write_top(alloc: Global, is_at_top: bool, line: u32, text: &mut String) -> Re
     }
 }
 
+/// Writes that `bp.ASSERT` has no text, where the node of this number is none.
+fn write_text(
+    alloc: Global,
+    program: &Program,
+    line: u32,
+    number: u32,
+    text: &mut String,
+) -> Result<(), Memory>
+    ensures { OnOk result (string_bytes text.new ≡ string_bytes text.old
+        ++ findings_text (of_text line (slice_get program.now.nodes number))) }
+{
+    if number >= program.nodes() {
+        return Ok(());
+    }
+    if is_no_text(&program.node(number).form) {
+        write_no_text(alloc, line, text)
+    } else {
+        Ok(())
+    }
+}
+
 /// Writes that `bp.ASSERT` has no text, where it has none.
 fn write_assert(
     alloc: Global,
+    program: &Program,
     line: u32,
     arguments: &[u32],
     text: &mut String,
 ) -> Result<(), Memory>
     ensures { OnOk result (string_bytes text.new
-        ≡ string_bytes text.old ++ findings_text (of_assert line arguments.now)) }
+        ≡ string_bytes text.old ++ findings_text (of_assert program.now line arguments.now)) }
 {
     match arguments {
-        [_, _, ..] => Ok(()),
+        [_, number, ..] => write_text(alloc, program, line, *number, text),
         _ => write_no_text(alloc, line, text),
     }
 }
@@ -165,7 +222,7 @@ pub fn write_form(
             write_top(alloc, is_at_top, line, text)?;
             write_stated(alloc, program, line, arguments, text)
         }
-        Builtin::Assert => write_assert(alloc, line, arguments, text),
+        Builtin::Assert => write_assert(alloc, program, line, arguments, text),
         _ => Ok(()),
     }
 }

@@ -1,4 +1,4 @@
-use Rattle.std.proofs.Common.{◌≡◌, ◌∙◌, sym}
+use Rattle.std.proofs.Common.{◌∙◌, sym}
 use Rattle.js_program.specs.Views.{plain_node}
 use Rattle.bp_check.specs.Findings.{has_field}
 use Rattle.bp_check.proofs.Marking.{any_here, any_later}

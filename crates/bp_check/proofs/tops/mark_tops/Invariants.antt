@@ -1,4 +1,4 @@
-use Rattle.std.proofs.Common.{◌≡◌, ◌≤◌, length, drop}
+use Rattle.std.proofs.Common.{◌≤◌, length, drop}
 use Rattle.js_program.specs.PlainProgram.{content_parts}
 use Rattle.bp_check.specs.Tops.{numbers_in, Marks}
 use Rattle.bp_check.proofs.tops.mark_tops.Given as goal
