@@ -123,9 +123,22 @@ everyone_who_blocks_is_named = refl
 
 -- the others are in the middle of their turn
 pub a_fault_is_the_verdict : told (outcome_of_A (Broken Zero 7)) default_options (End (verdict.Fault (Named (codes "A")) 7 Zero) ∷ [])
-    ≡ Some (codes "after record 1: end fault \"A\" 7 zero\nverdict fault \"A\" 7 zero\n")
+    ≡ Some (codes "after record 1: end fault \"A\" 7 zero\nthe run ended before its b-threads stood\nverdict fault \"A\" 7 zero\n")
 unfolding turn settle_in settle initial selectable choice reach step next after_record story_from story line_text record_text digits standing_text rest_text state_after
 a_fault_is_the_verdict = refl
+
+-- A is at fault after x, in the turn in which B moves too
+abbrev falling : Body → List PlainEvent → Part Body Small
+falling Main replies = doing (Register (codes "A") A ∷ Register (codes "B") B ∷ [])
+falling A [] = at_point (x ∷ []) Nothing Nothing Nothing
+falling A (e ∷ es) = record { effects = []; outcome = Broken Zero 7 }
+falling B [] = at_point [] All Nothing Nothing
+falling _ replies = doing []
+
+pub a_fault_within_a_turn_tells_the_state_before : told falling default_options (Sel x ∷ [])
+    ≡ Some (codes "after record 1: sel [\"x\"]\nthe run ended within a turn: its b-threads stood last after record 0\nverdict fault \"A\" 7 zero\n")
+unfolding turn settle_in settle initial selectable choice reach step next after_record story_from story line_text record_text digits standing_text rest_text state_after
+a_fault_within_a_turn_tells_the_state_before = refl
 
 pub records_that_are_no_story_have_no_state : told one_blocked default_options (Sel x ∷ []) ≡ None
 unfolding turn settle_in settle initial selectable choice reach step next after_record story_from story line_text record_text digits standing_text rest_text state_after

@@ -1,5 +1,5 @@
 -- The state of a program's run after its records, in words.
-use Rattle.std.specs.Prelude.{ℕ, ◌-◌, List, [], ◌∷◌, ◌++◌, length, slice_get, Option, Some, None, option_and_then, option_map, decimal, codes, if◌then◌else◌}
+use Rattle.std.specs.Prelude.{ℕ, zero, suc, ◌-◌, List, [], ◌∷◌, ◌++◌, length, slice_get, Option, Some, None, option_and_then, option_map, decimal, codes, if◌then◌else◌}
 use Rattle.js_value.specs.Value.{PlainSet}
 use Rattle.js_program.specs.PlainProgram.{PlainProgram}
 use Rattle.js_meaning.specs.Bodies.{Origin, evaluation}
@@ -39,10 +39,16 @@ verdict_line None = []
 verdict_line (Some v) = whole_line (Ended_by v)
 
 -- Where a b-thread's own doing is the verdict, the others are in the middle of their turn, and nothing is said of
--- them: where they stood is the state before the last selection.
-abbrev pub if_at_rest : {Origin Set : Type 0} → Code Origin Set → Words Origin Set → Configuration Origin →
-    List ℕ
-if_at_rest l w c = if is_over c then [] else rest_text l w c
+-- them but after which record they stood last.
+abbrev pub within_turn : ℕ → List ℕ
+within_turn zero = codes "the run ended before its b-threads stood\n"
+within_turn (suc n) =
+    codes "the run ended within a turn: its b-threads stood last after record " ++ (decimal n ++ codes "\n")
+
+-- after this many records
+abbrev pub if_at_rest : {Origin Set : Type 0} → Code Origin Set → Words Origin Set → ℕ →
+    Configuration Origin → List ℕ
+if_at_rest l w n c = if is_over c then within_turn n else rest_text l w c
 
 -- where the records are a story: the state in which its end, if it has one, finds it, and the verdict
 unfoldable pub state_after : {Origin Set : Type 0} → Code Origin Set → Words Origin Set → PlainOptions →
@@ -50,7 +56,8 @@ unfoldable pub state_after : {Origin Set : Type 0} → Code Origin Set → Words
 state_after l w o records =
     option_and_then
     (λ found. option_map
-    (λ c. heading records ++ (if_at_rest l w found ++ verdict_line c.stand.verdict))
+    (λ c. heading records
+    ++ (if_at_rest l w (length (before_end records)) found ++ verdict_line c.stand.verdict))
     (story l o records))
     (story l o (before_end records))
 

@@ -4,6 +4,7 @@ pub mod Sets
 pub mod Blocking
 pub mod Standing
 pub mod States
+pub mod Stops
 pub mod Explained
 pub mod Whys
 pub mod Seeds
