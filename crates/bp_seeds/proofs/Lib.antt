@@ -1,0 +1,6 @@
+pub mod Behind
+pub mod Merging
+pub mod Places
+pub mod Runs
+pub mod Sweeping
+pub mod Told

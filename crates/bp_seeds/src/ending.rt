@@ -1,0 +1,73 @@
+//! How a run ends, in words.
+ghost use Rattle.std.specs.Prelude.{◌≡◌, IfOk};
+ghost use Rattle.bp_log.specs.Texts.{place_text, verdict_text};
+ghost use Rattle.bp_explain.specs.Seeds.{kind_text};
+
+use bp_log::{Line, Memory, Place, Verdict, line_of};
+use js_data::Text;
+use js_json::quoted;
+use std::alloc::Global;
+
+/// What stands before a verdict in the line that tells it.
+const VERDICT: &str = "verdict ";
+
+/// How a run ends.
+#[derive(Drop)]
+pub struct End {
+    /// Its verdict.
+    pub verdict: Verdict,
+    /// Whether some b-thread still stands.
+    pub alive: bool,
+}
+
+/// The text of these words. Its only error is want of memory.
+fn text_of(alloc: Global, words: &str) -> Result<Text, Memory>
+    ensures { IfOk result (λ t. t ≡ words.now) }
+{
+    Ok(Text::new(words.to_string(alloc)?))
+}
+
+/// The text of a place. Its only error is want of memory.
+fn place_text_of(alloc: Global, place: &Place) -> Result<Text, Memory>
+    ensures { IfOk result (λ t. t ≡ place_text place.now) }
+{
+    match place {
+        Place::Top => text_of(alloc, "top"),
+        Place::Thread(name) => quoted(alloc, name),
+    }
+}
+
+/// The text of a verdict, which is that of its line behind the first word.
+fn verdict_text_of(alloc: Global, verdict: &Verdict) -> Result<Text, Memory>
+    ensures { IfOk result (λ t. t ≡ verdict_text verdict.now) }
+{
+    let line = line_of(alloc, &Line::Verdict(verdict.copy()?))?;
+    match line.as_str().strip_prefix(VERDICT) {
+        Some(said) => Ok(Text::new(said.to_string(alloc)?)),
+        None => unreachable!(),
+    }
+}
+
+impl End {
+    /// Its kind, in words. Its only error is want of memory.
+    pub fn kind(&self, alloc: Global) -> Result<Text, Memory>
+        ensures { IfOk result (λ t. t ≡ kind_text self.now.alive self.now.verdict) }
+    {
+        match &self.verdict {
+            Verdict::Quiet(_) => {
+                if self.alive {
+                    text_of(alloc, "quiet, some stand")
+                } else {
+                    text_of(alloc, "quiet, all ended")
+                }
+            }
+            Verdict::Violated(place, _) => {
+                let place = place_text_of(alloc, place)?;
+                let place = place.as_str();
+                Ok(Text::new(format!(in alloc; "violated {place}")?))
+            }
+            Verdict::Steps(_) => text_of(alloc, "limit steps"),
+            verdict => verdict_text_of(alloc, verdict),
+        }
+    }
+}

@@ -1,0 +1,9 @@
+//! How the runs of a program end under many seeds, by kind, on all processors.
+#![tactic(auto)]
+
+mod counts;
+mod ending;
+mod running;
+mod sweep;
+
+pub use sweep::{Sweep, sweep_text};
