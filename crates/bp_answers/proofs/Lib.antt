@@ -1,0 +1,5 @@
+pub mod ReadLemmas
+pub mod Walks
+pub mod Rests
+pub mod States
+pub mod Asks
