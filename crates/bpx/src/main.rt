@@ -35,7 +35,7 @@ fn main(rt: HostRuntime) -> ExitCode {
     };
     let mut world = FileWorld::new(copy);
     let mut out = StreamSink::new(io::writer(&rt));
-    let end = answer(rt.alloc(), &words, &mut world, &mut out);
+    let end = answer(&rt, rt.alloc(), &words, &mut world, &mut out);
     let Ok(note) = end.note(rt.alloc()) else {
         return ExitCode::from(NO_MEMORY);
     };

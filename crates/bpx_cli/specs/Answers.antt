@@ -8,11 +8,14 @@ use Rattle.bp_script.specs.declared.refusal.Refusal.{Refusal}
 use Rattle.bp_script.specs.Programs.{IsProgram, IsRefused}
 use Rattle.bp_check.specs.Findings.{Finding, findings}
 use Rattle.bp_check.specs.Sentences.{check_text}
+use Rattle.bp_explain.specs.Seeds.{seeds_of}
+use Rattle.bpx_words.specs.Seeds.{PlainSeeds}
 use Rattle.bpx_words.specs.declared.request.Request.{Request}
 use Rattle.bpx_words.specs.declared.request.Request.TheVariants as request
+use Rattle.bpx_cli.specs.States.{IsStateOf, IsUnstated}
 use Rattle.bpx_cli.specs.declared.ended.Ended.{Ended}
-use Rattle.bpx_cli.specs.declared.ended.Ended.TheVariants.{Answered, Found, NoCommand, Refused, NotRead, NotWritten, NoMemory}
-use Rattle.bpx_cli.specs.declared.ended.TheConstants.{HELP}
+use Rattle.bpx_cli.specs.declared.ended.Ended.TheVariants.{Answered, Found, NoCommand, Refused, Absent, NotRead, NotWritten, NoMemory, BadLog}
+use Rattle.bpx_words.specs.declared.help.TheConstants.{HELP}
 
 -- these are the bytes under the name, where the world tells what it holds
 abbrev pub IsUnder : Option Holdings → List ℕ → List ℕ → Type 0
@@ -22,6 +25,12 @@ IsUnder holds name bytes = IfSome holds (λ held. held name ≡ Some bytes)
 pub record IsProgramOf (holds : Option Holdings) (name : List ℕ) (program : PlainProgram) : Type 0 where
   pub bytes : List ℕ
   pub under : IsUnder holds name bytes
+  pub accepted : IsProgram bytes program
+
+-- these bytes under the name are some program
+pub record IsScriptOf (holds : Option Holdings) (name bytes : List ℕ) : Type 0 where
+  pub under : IsUnder holds name bytes
+  pub program : PlainProgram
   pub accepted : IsProgram bytes program
 
 -- the bytes under the name are refused so
@@ -67,15 +76,25 @@ pub record IsCheckOf (holds : Option Holdings) (name text : List ℕ) (end : End
   pub is_program : IsProgramOf holds name program
   pub is_checked : IsChecked program text end
 
+-- how the runs of the program of that name end under each of the seeds
+pub record AreSeedsOf (holds : Option Holdings) (asked : PlainSeeds) (text : List ℕ) : Type 0 where
+  pub program : PlainProgram
+  pub is_program : IsProgramOf holds asked.program program
+  pub says : text ≡ seeds_of program asked.options asked.count asked.first
+
 -- this text and this end answer what is asked
 abbrev pub Answers : Option Holdings → Request → List ℕ → Ended → Type 0
 Answers holds request.Help text end = (text ≡ HELP.now) × (end ≡ Answered)
 Answers holds (request.Check name) text end = IsCheckOf holds name text end
+Answers holds (request.State s) text end = IsStateOf holds s text × (end ≡ Answered)
+Answers holds (request.Seeds s) text end = AreSeedsOf holds s text × (end ≡ Answered)
 
--- nothing answers it: its program is refused, or was not read, or memory ran out
+-- nothing answers it: its program is refused, its log has no state, or it was not read, or memory ran out
 abbrev pub IsUnanswered : Option Holdings → Request → Ended → Type 0
 IsUnanswered holds request.Help end = end ≡ NoMemory
 IsUnanswered holds (request.Check name) end = IsUnloaded holds name end
+IsUnanswered holds (request.State s) end = IsUnstated holds s end
+IsUnanswered holds (request.Seeds s) end = IsUnloaded holds s.program end
 
 -- this was printed after what was, and answers what is asked
 pub record IsAnswered (holds : Option Holdings) (asked : Request) (before after : Option (List ℕ)) (end : Ended) : Type 0 where
@@ -97,6 +116,8 @@ EndsAs holds asked before after Found = IsAnswered holds asked before after Foun
 EndsAs holds asked before after NotWritten = IsCut holds asked before after
 EndsAs holds asked before after NoCommand = ⊥
 EndsAs holds asked before after (Refused refusal) = (after ≡ before) × IsUnanswered holds asked (Refused refusal)
+EndsAs holds asked before after Absent = (after ≡ before) × IsUnanswered holds asked Absent
+EndsAs holds asked before after (BadLog fault) = (after ≡ before) × IsUnanswered holds asked (BadLog fault)
 EndsAs holds asked before after NotRead = (after ≡ before) × IsUnanswered holds asked NotRead
 EndsAs holds asked before after NoMemory = after ≡ before
 

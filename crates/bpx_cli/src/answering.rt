@@ -4,22 +4,18 @@ ghost use Rattle.bp_base.specs.Counts.{Rose};
 ghost use Rattle.bpx_words.specs.Requests.{request_of};
 ghost use Rattle.bpx_cli.specs.Answers.{ended_by, Answers, IsUnanswered, IsUnloaded, IsChecked, IsCheckOf, EndsAs, Ends};
 
-use crate::ended::{Ended, HELP};
+use crate::ended::{Ended, Reply};
 use crate::loading::load;
+use crate::seeding::seeds_of;
+use crate::stating::state_of;
 use bp_base::{Sink, World, write_all};
 use bp_check::check;
 use bp_log::Memory;
-use bpx_words::{Request, Usage, read};
+use bpx_words::{HELP, Request, Usage, read};
 use js_data::Text;
 use js_program::Program;
 use std::alloc::Global;
-
-/// A text, and how the command ends that prints it.
-#[derive(Drop)]
-struct Reply {
-    text: String,
-    end: Ended,
-}
+use std::thread::Threads;
 
 /// How a check ends that prints this.
 fn end_of(text: &str) -> Ended
@@ -69,7 +65,12 @@ fn help(alloc: Global) -> Result<Reply, Memory>
 }
 
 /// The answer, or how a command ends that has none.
-fn answer_to<W: World>(alloc: Global, request: &Request, world: &mut W) -> Result<Reply, Ended>
+fn answer_to<R: Threads + Sync, W: World>(
+    rt: &R,
+    alloc: Global,
+    request: &Request,
+    world: &mut W,
+) -> Result<Reply, Ended>
     ensures answers { IfOk result
         (λ a. Answers (W.holds world.old) request.now (string_bytes a.text) a.end) }
     ensures unanswered { IfErr result (IsUnanswered (W.holds world.old) request.now) }
@@ -84,11 +85,14 @@ fn answer_to<W: World>(alloc: Global, request: &Request, world: &mut W) -> Resul
             Err(_) => Err(Ended::NoMemory),
         },
         Request::Check(name) => check_of(alloc, name, world),
+        Request::State(asked) => state_of(alloc, asked, world),
+        Request::Seeds(asked) => seeds_of(rt, alloc, asked, world),
     }
 }
 
 /// Answers a request.
-fn carry_out<W: World, K: Sink>(
+fn carry_out<R: Threads + Sync, W: World, K: Sink>(
+    rt: &R,
     alloc: Global,
     request: &Request,
     world: &mut W,
@@ -103,7 +107,7 @@ fn carry_out<W: World, K: Sink>(
     ensures read_counts { W.read_faults world.old ≤ W.read_faults world.new }
     ensures write_counts { K.faults out.old ≤ K.faults out.new }
 {
-    let answer = match answer_to(alloc, request, world) {
+    let answer = match answer_to(rt, alloc, request, world) {
         Ok(answer) => answer,
         Err(end) => return end,
     };
@@ -114,7 +118,8 @@ fn carry_out<W: World, K: Sink>(
 }
 
 /// Answers what the words ask for: they are those after the program's name.
-pub fn answer<W: World, K: Sink>(
+pub fn answer<R: Threads + Sync, W: World, K: Sink>(
+    rt: &R,
     alloc: Global,
     words: &[String],
     world: &mut W,
@@ -132,7 +137,7 @@ pub fn answer<W: World, K: Sink>(
     ensures holds { W.holds world.new ≡ W.holds world.old }
 {
     match read(alloc, words) {
-        Ok(request) => carry_out(alloc, &request, world, out),
+        Ok(request) => carry_out(rt, alloc, &request, world, out),
         Err(Usage::Wrong) => Ended::NoCommand,
         Err(Usage::Memory) => Ended::NoMemory,
     }

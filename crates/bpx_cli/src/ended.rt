@@ -1,21 +1,24 @@
 //! How a command ends.
-ghost use Rattle.std.specs.Prelude.{◌≡◌, IfOk};
-ghost use Rattle.bpx_cli.specs.Codes.{code_of, note_of};
+ghost use Rattle.std.specs.Prelude.{◌≡◌, IfOk, string_bytes};
+ghost use Rattle.bpx_cli.specs.Codes.{bad_log_note, code_of, detail_of, log_detail, note_of};
+ghost use Rattle.bpx_cli.specs.States.{ended_of_log, trouble_of};
 
+use bp_answers::NoAnswer;
 use bp_log::Memory;
+use bp_notes::differing;
+use bp_reader::LogFault;
+use bp_replay::ReplayFault;
 use bp_script::Refusal;
+use bpx_words::USAGE;
 use js_data::Text;
 use std::alloc::Global;
 
-/// What can be asked for.
-pub const HELP: &str = "bpx check PROGRAM
-    what of a program will be at fault, or does other than it seems to: a line for each finding
-bpx --help
-    these lines
-";
-
-/// The note of words that are no command.
-const USAGE: &str = "usage: bpx check PROGRAM | bpx --help";
+/// A text, and how the command ends that prints it.
+#[derive(Drop)]
+pub(crate) struct Reply {
+    pub(crate) text: String,
+    pub(crate) end: Ended,
+}
 
 /// How a command ends.
 #[derive(Drop)]
@@ -28,16 +31,91 @@ pub enum Ended {
     NoCommand,
     /// The program is refused.
     Refused(Refusal),
+    /// The log has no record of this number.
+    Absent,
     /// Reading failed.
     NotRead,
     /// Printing failed.
     NotWritten,
     /// No memory was left.
     NoMemory,
+    /// The log is none, its program is refused, or it differs from its run.
+    BadLog(ReplayFault),
+}
+
+/// How a command ends where reading a log failed or memory ran out.
+fn trouble_of(fault: &ReplayFault) -> Option<Ended>
+    ensures { result ≡ trouble_of fault.now }
+{
+    match fault {
+        ReplayFault::Log(LogFault::Version) => None,
+        ReplayFault::Log(LogFault::Header) => None,
+        ReplayFault::Log(LogFault::Line(_)) => None,
+        ReplayFault::Log(LogFault::Cut) => None,
+        ReplayFault::Log(LogFault::Read) => Some(Ended::NotRead),
+        ReplayFault::Log(LogFault::Memory) => Some(Ended::NoMemory),
+        ReplayFault::Differs { .. } => None,
+        ReplayFault::Program => None,
+        ReplayFault::Write => None,
+        ReplayFault::Memory => Some(Ended::NoMemory),
+    }
+}
+
+/// Why bytes are no log.
+fn log_detail(alloc: Global, fault: LogFault) -> Result<String, Memory>
+    ensures { IfOk result (λ s. string_bytes s ≡ log_detail fault) }
+{
+    match fault {
+        LogFault::Version => "version".to_string(alloc),
+        LogFault::Header => "header".to_string(alloc),
+        LogFault::Line(number) => format!(in alloc; "line {number}"),
+        LogFault::Cut => "cut".to_string(alloc),
+        LogFault::Read => "read fault".to_string(alloc),
+        LogFault::Memory => "memory".to_string(alloc),
+    }
+}
+
+/// Why a log is bad.
+fn detail(alloc: Global, fault: &ReplayFault) -> Result<String, Memory>
+    ensures { IfOk result (λ s. string_bytes s ≡ detail_of fault.now) }
+{
+    match fault {
+        ReplayFault::Log(fault) => log_detail(alloc, *fault),
+        ReplayFault::Differs {
+            number,
+            expected,
+            found,
+        } => differing(alloc, *number, expected, found),
+        ReplayFault::Program => "program".to_string(alloc),
+        ReplayFault::Write => "write fault".to_string(alloc),
+        ReplayFault::Memory => "memory".to_string(alloc),
+    }
+}
+
+/// The note of a bad log.
+fn bad_log_note(alloc: Global, fault: &ReplayFault) -> Result<Text, Memory>
+    ensures { IfOk result (λ t. t ≡ bad_log_note fault.now) }
+{
+    let detail = detail(alloc, fault)?;
+    let detail = detail.as_str();
+    Ok(Text::new(format!(in alloc; "bad log: {detail}")?))
 }
 
 impl Ended {
-    /// Its code for the system: 0, 1 or 2, or 8, 9, 10 or 12.
+    /// What comes of a log of which nothing is said.
+    pub(crate) fn of_log(fault: NoAnswer) -> Ended
+        ensures { result ≡ ended_of_log fault }
+    {
+        match fault {
+            NoAnswer::Absent => Ended::Absent,
+            NoAnswer::Refused(fault) => match trouble_of(&fault) {
+                Some(end) => end,
+                None => Ended::BadLog(fault),
+            },
+        }
+    }
+
+    /// Its code for the system: from 0 to 2, or from 8 to 13.
     pub fn code(&self) -> u8
         ensures { result ≡ code_of self.now }
     {
@@ -45,9 +123,11 @@ impl Ended {
             Ended::Answered => 0,
             Ended::Found => 1,
             Ended::Refused(_) => 2,
+            Ended::Absent => 13,
             Ended::NotRead => 8,
             Ended::NotWritten => 9,
             Ended::NoMemory => 10,
+            Ended::BadLog(_) => 11,
             Ended::NoCommand => 12,
         }
     }
@@ -58,6 +138,8 @@ impl Ended {
     {
         let words = match self {
             Ended::Refused(refusal) => return refusal.note(alloc),
+            Ended::BadLog(fault) => return bad_log_note(alloc, fault),
+            Ended::Absent => "no such record",
             Ended::NoCommand => USAGE,
             Ended::NotRead => "read fault",
             Ended::NotWritten => "write fault",

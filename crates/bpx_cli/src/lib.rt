@@ -4,6 +4,8 @@
 mod answering;
 mod ended;
 mod loading;
+mod seeding;
+mod stating;
 
 pub use answering::answer;
 pub use ended::Ended;

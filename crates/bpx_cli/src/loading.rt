@@ -2,7 +2,7 @@
 ghost use Rattle.std.specs.Prelude.{◌≡◌, ◌≤◌, IsErrOf, IfOk, IfErr};
 ghost use Rattle.bp_base.specs.Counts.{Rose};
 ghost use Rattle.bp_script.specs.Programs.{IsProgram};
-ghost use Rattle.bpx_cli.specs.Answers.{IsUnder, IsProgramOf, IsTooLong, AreUnaccepted, IsUnloaded};
+ghost use Rattle.bpx_cli.specs.Answers.{IsUnder, IsProgramOf, IsScriptOf, IsTooLong, AreUnaccepted, IsUnloaded};
 
 use crate::ended::Ended;
 use bp_base::{ReadError, World, WorldError, read_all};
@@ -42,6 +42,23 @@ fn accepted(alloc: Global, bytes: &[u8]) -> Result<Program, Ended>
     }
 }
 
+/// The bytes of that name, or how a command ends that has none.
+fn read_bytes<W: World>(alloc: Global, world: &mut W, name: &str) -> Result<Vec<u8>, Ended>
+    ensures bytes { IfOk result (λ v. IsUnder (W.holds world.old) name.now v.items) }
+    ensures unloaded { IfErr result (IsUnloaded (W.holds world.old) name.now) }
+    ensures cause { IsErrOf result Ended.NotRead
+        → Rose (W.read_faults world.old) (W.read_faults world.new) }
+    ensures holds { W.holds world.new ≡ W.holds world.old }
+    ensures counts { W.read_faults world.old ≤ W.read_faults world.new }
+{
+    match bytes_of(alloc, world, name) {
+        Ok(bytes) => Ok(bytes),
+        Err(ReadError::Fault) => Err(Ended::NotRead),
+        Err(ReadError::TooLong) => Err(Ended::Refused(Refusal::TooLong)),
+        Err(ReadError::Memory) => Err(Ended::NoMemory),
+    }
+}
+
 /// The accepted program of that name, or how a command ends that has none.
 pub(crate) fn load<W: World>(alloc: Global, world: &mut W, name: &str) -> Result<Program, Ended>
     ensures program { IfOk result (IsProgramOf (W.holds world.old) name.now) }
@@ -51,11 +68,20 @@ pub(crate) fn load<W: World>(alloc: Global, world: &mut W, name: &str) -> Result
     ensures holds { W.holds world.new ≡ W.holds world.old }
     ensures counts { W.read_faults world.old ≤ W.read_faults world.new }
 {
-    let bytes = match bytes_of(alloc, world, name) {
-        Ok(bytes) => bytes,
-        Err(ReadError::Fault) => return Err(Ended::NotRead),
-        Err(ReadError::TooLong) => return Err(Ended::Refused(Refusal::TooLong)),
-        Err(ReadError::Memory) => return Err(Ended::NoMemory),
-    };
+    let bytes = read_bytes(alloc, world, name)?;
     accepted(alloc, bytes.as_slice())
+}
+
+/// The bytes of the accepted program of that name, or how a command ends that has none.
+pub(crate) fn script<W: World>(alloc: Global, world: &mut W, name: &str) -> Result<Vec<u8>, Ended>
+    ensures script { IfOk result (λ v. IsScriptOf (W.holds world.old) name.now v.items) }
+    ensures unloaded { IfErr result (IsUnloaded (W.holds world.old) name.now) }
+    ensures cause { IsErrOf result Ended.NotRead
+        → Rose (W.read_faults world.old) (W.read_faults world.new) }
+    ensures holds { W.holds world.new ≡ W.holds world.old }
+    ensures counts { W.read_faults world.old ≤ W.read_faults world.new }
+{
+    let bytes = read_bytes(alloc, world, name)?;
+    let _program = accepted(alloc, bytes.as_slice())?;
+    Ok(bytes)
 }

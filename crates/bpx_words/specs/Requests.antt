@@ -1,11 +1,13 @@
 -- What the words of `bpx` ask for. Those of `check` are read as those of `bp accept`.
-use Rattle.std.specs.Prelude.{ℕ, List, [], ◌∷◌, Option, Some, None, codes, if◌then◌else◌}
+use Rattle.std.specs.Prelude.{ℕ, List, [], ◌∷◌, Option, Some, None, option_map, codes, if◌then◌else◌}
 use Rattle.std.specs.Str.{bytes_eq}
 use Rattle.bp_args.specs.declared.command.Command.{Command}
 use Rattle.bp_args.specs.declared.command.Command.TheVariants as command
 use Rattle.bp_args.specs.Command.{command_of}
 use Rattle.bpx_words.specs.declared.request.Request.{Request}
 use Rattle.bpx_words.specs.declared.request.Request.TheVariants as request
+use Rattle.bpx_words.specs.States.{state_of}
+use Rattle.bpx_words.specs.Seeds.{seeds_of}
 
 abbrev pub check_of : Option Command → Option Request
 check_of (Some (command.Accept program)) = Some (request.Check program)
@@ -18,7 +20,9 @@ help_of (word ∷ words) = None
 abbrev pub request_behind : List ℕ → List (List ℕ) → Option Request
 request_behind first words =
     if bytes_eq first (codes "check") then check_of (command_of (codes "accept" ∷ words)) else
-    (if bytes_eq first (codes "--help") then help_of words else None)
+    (if bytes_eq first (codes "state") then option_map request.State (state_of words) else
+    (if bytes_eq first (codes "seeds") then option_map request.Seeds (seeds_of words) else
+    (if bytes_eq first (codes "--help") then help_of words else None)))
 
 -- what the words ask for, if they are a command of `bpx`
 abbrev pub request_of : List (List ℕ) → Option Request

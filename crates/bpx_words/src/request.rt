@@ -1,10 +1,12 @@
 //! Requests, and the words that they are read from.
-ghost use Rattle.std.specs.Prelude.{◌≡◌, ◌∷◌, Some, None, map, string_bytes, IfOk, IsErrOf};
-ghost use Rattle.bp_args.specs.Command.{command_of};
+ghost use Rattle.std.specs.Prelude.{◌≡◌, Some, None, map, string_bytes, IfOk, IsErrOf};
 ghost use Rattle.bpx_words.specs.Requests.{check_of, help_of, request_behind, request_of};
 
+use crate::behind::command_behind;
+use crate::seeds::{Seeds, seeds_of};
+use crate::state::{State, state_of};
 use bp_args::{Command, Usage};
-use js_data::{Memory, Text};
+use js_data::Text;
 use std::alloc::Global;
 
 /// What is asked for.
@@ -14,30 +16,10 @@ pub enum Request {
     Help,
     /// What of the program of this name will be at fault, or does other than it seems to.
     Check(Text),
-}
-
-/// The words with another one before them.
-fn words_behind(alloc: Global, first: &str, words: &[String]) -> Result<Vec<String>, Memory>
-    ensures { IfOk result (λ v. map string_bytes v.items
-        ≡ first.now ∷ map string_bytes words.now) }
-{
-    let mut all = Vec::new(alloc);
-    all.push(String::from_str(alloc, first)?)?;
-    for word in words {
-        all.push(String::from_str(alloc, word.as_str())?)?;
-    }
-    Ok(all)
-}
-
-/// The command of `bp` that the words are after this first one.
-fn command_behind(alloc: Global, first: &str, words: &[String]) -> Result<Command, Usage>
-    ensures command { IfOk result
-        (λ c. command_of (first.now ∷ map string_bytes words.now) ≡ Some c) }
-    ensures wrong { IsErrOf result Usage.Wrong
-        → command_of (first.now ∷ map string_bytes words.now) ≡ None }
-{
-    let all = words_behind(alloc, first, words)?;
-    bp_args::read(alloc, all.as_slice())
+    /// Where the b-threads of a run stand.
+    State(State),
+    /// How the runs of a program end.
+    Seeds(Seeds),
 }
 
 /// The request for a check that a command of `bp` stands for.
@@ -71,6 +53,8 @@ fn read_behind(alloc: Global, first: &str, words: &[String]) -> Result<Request, 
 {
     match first {
         "check" => check_in(command_behind(alloc, "accept", words)?),
+        "state" => Ok(Request::State(state_of(alloc, words)?)),
+        "seeds" => Ok(Request::Seeds(seeds_of(alloc, words)?)),
         "--help" => help_in(words),
         _ => Err(Usage::Wrong),
     }

@@ -4,6 +4,10 @@
 #[cfg(test)]
 mod mistakes;
 #[cfg(test)]
+mod seeds;
+#[cfg(test)]
+mod states;
+#[cfg(test)]
 mod tables;
 #[cfg(test)]
 mod world;

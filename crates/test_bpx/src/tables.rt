@@ -5,16 +5,35 @@ use crate::world::said_in;
 use std::alloc::Global;
 use std::process::Abort;
 use std::test::Fail;
+use std::thread::Threads;
+
+/// What a row of the table has.
+#[derive(Clone, Copy)]
+struct Row<'a> {
+    script: &'a str,
+    bp: &'a str,
+    bpx: &'a str,
+}
+
+/// A row in its three parts.
+fn row_of(row: &str) -> Result<Row<'_>, Fail> {
+    let (script, said) = row.split_once(" ==> ").ok_or("no mark")?;
+    let (bp, bpx) = said.split_once(" ==>").ok_or("no second mark")?;
+    Ok(Row { script, bp, bpx })
+}
 
 /// Whether of the script of a row is said what stands there.
-fn holds(alloc: Global, row: &str) -> Result<bool, Fail> {
-    let (script, told) = row.split_once(" ==>").ok_or("no mark")?;
-    let script = script.replace(alloc, "\\n", "\n")?;
-    let said = said_in(alloc, "check script.js", script.as_str(), &[], &[])?;
-    if told.is_empty() {
+fn holds<R: Threads + Sync>(rt: &R, alloc: Global, row: &str) -> Result<bool, Fail> {
+    let row = row_of(row)?;
+    let script = row.script.replace(alloc, "\\n", "\n")?;
+    let said = said_in(rt, alloc, "check script.js", script.as_str(), &[], &[])?;
+    if row.bp.starts_with("refused") {
+        return Ok(said.code == 2 && said.note.as_str() == row.bp && said.printed.is_empty());
+    }
+    if row.bpx.is_empty() {
         return Ok(said.code == 0 && said.printed.is_empty());
     }
-    let mut wanted = told.trim().replace(alloc, " | ", "\n")?;
+    let mut wanted = row.bpx.trim().replace(alloc, " | ", "\n")?;
     wanted.push_str("\n")?;
     Ok(said.code == 1 && said.note.is_empty() && said.printed == wanted)
 }
@@ -23,30 +42,39 @@ fn holds(alloc: Global, row: &str) -> Result<bool, Fail> {
 fn mistakes_are_found(rt: HostRuntime) -> Result<(), Fail> {
     let alloc = rt.alloc();
     for row in MISTAKES.trim().split("\n") {
-        assert!(rt; holds(alloc, row)?, "{row}");
+        assert!(rt; holds(&rt, alloc, row)?, "{row}");
     }
     Ok(())
 }
 
 /// Whether the end has this code and this note, and nothing was printed.
-fn ends_with(alloc: Global, words: &str, script: &str, code: u8, note: &str) -> Result<bool, Fail> {
-    let said = said_in(alloc, words, script, &[], &[])?;
+fn ends_with<R: Threads + Sync>(
+    rt: &R,
+    alloc: Global,
+    words: &str,
+    script: &str,
+    code: u8,
+    note: &str,
+) -> Result<bool, Fail> {
+    let said = said_in(rt, alloc, words, script, &[], &[])?;
     Ok(said.code == code && said.note.as_str() == note && said.printed.is_empty())
 }
 
 #[test]
 fn what_is_no_check_is_refused(rt: HostRuntime) -> Result<(), Fail> {
     let alloc = rt.alloc();
-    let usage = "usage: bpx check PROGRAM | bpx --help";
-    assert!(rt; ends_with(alloc, "check", "", 12, usage)?);
-    assert!(rt; ends_with(alloc, "check script.js script.js", "", 12, usage)?);
-    assert!(rt; ends_with(alloc, "check --seed 1 script.js", "", 12, usage)?);
-    assert!(rt; ends_with(alloc, "accept script.js", "", 12, usage)?);
-    assert!(rt; ends_with(alloc, "--help script.js", "", 12, usage)?);
-    assert!(rt; ends_with(alloc, "check -- script.js", "", 0, "")?);
-    assert!(rt; ends_with(alloc, "check other.js", "", 8, "read fault")?);
+    let usage =
+        "usage: bpx check PROGRAM | bpx state LOG [N] | bpx seeds PROGRAM FROM TO [OPTIONS] | bpx --help";
+    assert!(rt; ends_with(&rt, alloc, "check", "", 12, usage)?);
+    assert!(rt; ends_with(&rt, alloc, "check script.js script.js", "", 12, usage)?);
+    assert!(rt; ends_with(&rt, alloc, "check --seed 1 script.js", "", 12, usage)?);
+    assert!(rt; ends_with(&rt, alloc, "accept script.js", "", 12, usage)?);
+    assert!(rt; ends_with(&rt, alloc, "--help script.js", "", 12, usage)?);
+    assert!(rt; ends_with(&rt, alloc, "check -- script.js", "", 0, "")?);
+    assert!(rt; ends_with(&rt, alloc, "check other.js", "", 8, "read fault")?);
     assert!(rt;
         ends_with(
+            &rt,
             alloc,
             "check script.js",
             "a",
@@ -59,7 +87,7 @@ fn what_is_no_check_is_refused(rt: HostRuntime) -> Result<(), Fail> {
 
 #[test]
 fn help_is_printed(rt: HostRuntime) -> Result<(), Fail> {
-    let said = said_in(rt.alloc(), "--help", "", &[], &[])?;
+    let said = said_in(&rt, rt.alloc(), "--help", "", &[], &[])?;
     assert_eq!(rt; said.code, 0);
     assert!(rt;
         said.printed.as_str().starts_with("bpx check PROGRAM\n"),
@@ -75,9 +103,9 @@ fn help_is_printed(rt: HostRuntime) -> Result<(), Fail> {
 #[test]
 fn failing_calls_are_told(rt: HostRuntime) -> Result<(), Fail> {
     let alloc = rt.alloc();
-    let unread = said_in(alloc, "check script.js", "1 / 0", &[1], &[])?;
+    let unread = said_in(&rt, alloc, "check script.js", "1 / 0", &[1], &[])?;
     assert_eq!(rt; unread.code, 8);
-    let unwritten = said_in(alloc, "check script.js", "1 / 0", &[], &[1])?;
+    let unwritten = said_in(&rt, alloc, "check script.js", "1 / 0", &[], &[1])?;
     assert_eq!(rt; unwritten.code, 9);
     assert_eq!(rt; unwritten.note.as_str(), "write fault");
     assert!(rt; unwritten.printed.is_empty());

@@ -4,6 +4,7 @@ use bp_base::{MemorySink, MemoryWorld};
 use bpx_cli::answer;
 use std::alloc::Global;
 use std::test::Fail;
+use std::thread::Threads;
 
 /// What was answered.
 #[derive(Debug, Drop)]
@@ -16,12 +17,13 @@ pub struct Said {
     pub printed: String,
 }
 
-/// What is answered to these words, which stand between blanks, in a world that holds the script as `script.js`. Of the calls to
-/// the world and to the output these fail.
-pub fn said_in(
+/// What is answered to these words, which stand between blanks, in a world that holds these texts under their names. Of the calls
+/// to the world and to the output these fail.
+pub fn said_of<R: Threads + Sync>(
+    rt: &R,
     alloc: Global,
     words: &str,
-    script: &str,
+    held: &[(&str, &str)],
     world_fails: &[u64],
     output_fails: &[u64],
 ) -> Result<Said, Fail> {
@@ -30,16 +32,34 @@ pub fn said_in(
         all.push(word.to_string(alloc)?)?;
     }
     let mut world = MemoryWorld::new(alloc, 1_000_000, world_fails.to_vec(alloc)?);
-    world.hold(
-        "script.js".to_string(alloc)?,
-        script.as_bytes().to_vec(alloc)?,
-    )?;
+    for (name, text) in held {
+        world.hold(name.to_string(alloc)?, text.as_bytes().to_vec(alloc)?)?;
+    }
     let mut out = MemorySink::new(alloc, 1_000_000, output_fails.to_vec(alloc)?)?;
-    let end = answer(alloc, &all, &mut world, &mut out);
+    let end = answer(rt, alloc, &all, &mut world, &mut out);
     let printed = std::str::from_utf8(out.written()).or(Err("no text"))?;
     Ok(Said {
         code: end.code(),
         note: end.note(alloc)?.into_string(),
         printed: printed.to_string(alloc)?,
     })
+}
+
+/// What is answered in a world that holds the script as `script.js`.
+pub fn said_in<R: Threads + Sync>(
+    rt: &R,
+    alloc: Global,
+    words: &str,
+    script: &str,
+    world_fails: &[u64],
+    output_fails: &[u64],
+) -> Result<Said, Fail> {
+    said_of(
+        rt,
+        alloc,
+        words,
+        &[("script.js", script)],
+        world_fails,
+        output_fails,
+    )
 }

@@ -1,0 +1,40 @@
+//! The state of a run after records of its log.
+ghost use Rattle.std.specs.Prelude.{◌≡◌, ◌≤◌, IsErrOf, IfOk, IfErr, string_bytes};
+ghost use Rattle.bp_base.specs.Counts.{Rose};
+ghost use Rattle.bpx_cli.specs.States.{IsStateOf, IsUnstated};
+
+use crate::ended::{Ended, Reply};
+use bp_answers::{Answer, state};
+use bp_base::{World, WorldError};
+use bpx_words::State;
+use std::alloc::Global;
+
+/// The state after records of the log of that name, or how a command ends that tells none.
+pub(crate) fn state_of<W: World>(
+    alloc: Global,
+    asked: &State,
+    world: &mut W,
+) -> Result<Reply, Ended>
+    ensures answers { IfOk result (λ a.
+        IsStateOf (W.holds world.old) asked.now (string_bytes a.text) × (a.end ≡ Ended.Answered)) }
+    ensures unanswered { IfErr result (IsUnstated (W.holds world.old) asked.now) }
+    ensures cause { IsErrOf result Ended.NotRead
+        → Rose (W.read_faults world.old) (W.read_faults world.new) }
+    ensures holds { W.holds world.new ≡ W.holds world.old }
+    ensures counts { W.read_faults world.old ≤ W.read_faults world.new }
+{
+    let input = match world.open(asked.log.as_str()) {
+        Ok(input) => input,
+        Err(WorldError::Failed) => return Err(Ended::NotRead),
+        Err(WorldError::Memory) => return Err(Ended::NoMemory),
+    };
+    let Answer { text, log } = state(alloc, input, asked.number);
+    world.close_input(log);
+    match text {
+        Ok(text) => Ok(Reply {
+            text,
+            end: Ended::Answered,
+        }),
+        Err(fault) => Err(Ended::of_log(fault)),
+    }
+}

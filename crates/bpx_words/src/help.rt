@@ -1,0 +1,19 @@
+//! What can be asked for, in words.
+
+/// What can be asked for.
+pub const HELP: &str = "bpx check PROGRAM
+    what of a program will be at fault, or does other than it seems to: a line for each finding
+bpx state LOG [N]
+    where the b-threads of the run that a log tells stand after its first N records, or after all
+    of them: what each asks for, what waits in the queue, and why nothing can be selected
+bpx seeds PROGRAM FROM TO [OPTIONS]
+    how the runs of a program end under the seeds from FROM to TO, at most 1,000,000: how many end
+    so, and the first seed of them. The options are those of `bp run` but --log and --seed, and
+    there are no injectors
+bpx --help
+    these lines
+";
+
+/// The note of words that ask for nothing.
+pub const USAGE: &str =
+    "usage: bpx check PROGRAM | bpx state LOG [N] | bpx seeds PROGRAM FROM TO [OPTIONS] | bpx --help";
