@@ -30,10 +30,10 @@ fill blocks_199_deep '' "$(many '{' 199)$(many '}' 199)" ''
 fill one_list_of_arguments 'let f = () => {}; f(' '1,' ')'
 fill list_in_190_parentheses "$(many '(' 190)[" '1,' "]$(many ')' 190)"
 fill open_parentheses '' '(' ''
-fill calls_behind_calls 'let f = () => {}; f' '()' ''
+fill calls_after_calls 'let f = () => {}; f' '()' ''
 sh "$top/bp" accept "$texts/flat_statements" > /dev/null
 for text in flat_statements empty_statements chain_to_the_left chains_of_198_operators parentheses_198_deep blocks_199_deep \
-    one_list_of_arguments list_in_190_parentheses open_parentheses calls_behind_calls; do
+    one_list_of_arguments list_in_190_parentheses open_parentheses calls_after_calls; do
     begin=$(date +%s%N)
     answer=$(sh "$top/bp" accept "$texts/$text" 2>&1) || true
     end=$(date +%s%N)

@@ -1,8 +1,8 @@
 #!/bin/sh
 # Times benches of 300 and of 3,000 live statements, in a copy of the crates: how long it takes to place the statements, and how
 # long a question takes: each strategy's choice, whom an event reaches, what can be selected, and who blocks an event.
-# select_main.txt is the program that does it, and select_invariants.txt what holds in its loops; they have no endings of
-# sources, since no check of the repository reads them.
+# select_main.txt is the program that does it, and select_placed.txt and select_asked.txt what holds in its loops; they have no
+# endings of sources, since no check of the repository reads them.
 set -e
 top=$(cd "$(dirname "$0")/.." && pwd)
 copy=$(mktemp -d)

@@ -68,7 +68,7 @@ awk -v seed="$seed" -v runs="$runs" 'BEGIN {
     }
 }' > "$got/delays"
 
-# feed FILE DELAY..: the lines of the file, each behind its delay
+# feed FILE DELAY..: the lines of the file, each after its delay
 feed() {
     file=$1
     shift

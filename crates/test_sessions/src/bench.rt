@@ -1,6 +1,6 @@
 //! A session of a script, and what it came to, told in one text.
 use bp_base::{MemorySink, MemorySource, Sink, Source};
-use bp_log::{Parallelism, Header, Line, Options, Strategy, line_of};
+use bp_log::{Header, Line, Options, Parallelism, Strategy, line_of};
 use bp_script::accept;
 use bp_session::{Ending, Report, Session};
 use std::alloc::Global;
@@ -107,7 +107,14 @@ pub fn told<R: Threads + Wait + Sync>(
     log_fails: &[u64],
 ) -> Result<Came, Fail> {
     told_waiting(
-        rt, alloc, script, true, parallelism, inputs, out_fails, log_fails,
+        rt,
+        alloc,
+        script,
+        true,
+        parallelism,
+        inputs,
+        out_fails,
+        log_fails,
     )
 }
 
@@ -124,7 +131,16 @@ pub fn told_waiting<R: Threads + Wait + Sync>(
 ) -> Result<Came, Fail> {
     let mut out = sink(alloc, out_fails)?;
     let mut log = Some(sink(alloc, log_fails)?);
-    let (end, back) = ends_waiting(rt, alloc, script, waits, parallelism, inputs, &mut out, &mut log)?;
+    let (end, back) = ends_waiting(
+        rt,
+        alloc,
+        script,
+        waits,
+        parallelism,
+        inputs,
+        &mut out,
+        &mut log,
+    )?;
     let log = match log {
         Some(log) => written(log)?,
         None => String::new(alloc),

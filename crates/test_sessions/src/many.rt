@@ -35,7 +35,11 @@ pub fn printed_again(alloc: Global, log: &str) -> Result<String, Fail> {
 }
 
 /// A session with two injectors of many lines.
-fn two<R: Threads + Wait + Sync>(rt: &R, alloc: Global, parallelism: (u32, u64)) -> Result<Came, Fail> {
+fn two<R: Threads + Wait + Sync>(
+    rt: &R,
+    alloc: Global,
+    parallelism: (u32, u64),
+) -> Result<Came, Fail> {
     let mut inputs = Vec::new(alloc);
     inputs.push(source(alloc, lines(alloc, "a", LINES)?.as_str(), &[])?)?;
     inputs.push(source(alloc, lines(alloc, "b", LINES)?.as_str(), &[])?)?;

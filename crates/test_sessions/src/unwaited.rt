@@ -43,7 +43,16 @@ fn asleep<R: Threads + Wait + Sync>(
         lines: &seen,
     };
     let mut log = None;
-    let (end, back) = ends_waiting(rt, alloc, script, waits, parallelism, inputs, &mut out, &mut log)?;
+    let (end, back) = ends_waiting(
+        rt,
+        alloc,
+        script,
+        waits,
+        parallelism,
+        inputs,
+        &mut out,
+        &mut log,
+    )?;
     if back != many as usize {
         return Err(Fail::new("not every input came back"));
     }

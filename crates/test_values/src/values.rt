@@ -2,15 +2,15 @@
 use crate::words::{text, value_of};
 use js_value::{
     Event, EventSet, Fault, Items, Pairs, SetTree, Value, Whole, copy, event_value, nesting,
-    text_of, truthy, weight, words,
+    text_of, text_value, truthy, weight,
 };
 use std::alloc::Global;
 use std::sync::Arc;
 use std::test::Fail;
 use std::thread::{Threads, join};
 
-fn words_of(alloc: Global, s: &str) -> Result<Value, Fail> {
-    Ok(words(alloc, text(alloc, s)?)?)
+fn said(alloc: Global, s: &str) -> Result<Value, Fail> {
+    Ok(text_value(alloc, text(alloc, s)?)?)
 }
 
 fn whole(n: i64) -> Result<Value, Fail> {
@@ -43,7 +43,7 @@ fn list_of_fields(alloc: Global) -> Result<Value, Fail> {
 }
 
 fn function(alloc: Global) -> Result<Value, Fail> {
-    let captured = vec![in alloc; words_of(alloc, "ab")?, Value::Undefined]?;
+    let captured = vec![in alloc; said(alloc, "ab")?, Value::Undefined]?;
     Ok(Value::Function {
         code: 0,
         captured: Items::new(alloc, captured)?,
@@ -99,7 +99,7 @@ pub fn value_agrees(alloc: Global, name: &str, want: &str) -> Result<bool, Fail>
 }
 
 fn predicate(alloc: Global) -> Result<SetTree, Fail> {
-    let captured = vec![in alloc; words_of(alloc, "north")?]?;
+    let captured = vec![in alloc; said(alloc, "north")?]?;
     Ok(SetTree::Predicate {
         name: Arc::new(alloc, text(alloc, "cars")?)?,
         code: 3,
@@ -180,7 +180,7 @@ fn two_threads_hold_one_value(rt: HostRuntime) -> Result<(), Fail> {
 
 /// The text, the list and the event that a value gives up.
 fn parts_given_up(alloc: Global) -> Result<(bool, usize, bool), Fail> {
-    let text = words_of(alloc, "ab")?.into_words().map_err(|_| "no text")?;
+    let text = said(alloc, "ab")?.into_text().map_err(|_| "no text")?;
     let items = list_of_fields(alloc)?.into_list().map_err(|_| "no list")?;
     let event = event(alloc)?.into_event().map_err(|_| "no event")?;
     Ok((text.as_str() == "ab", items.len(), event.same(&go(alloc)?)))
@@ -189,7 +189,7 @@ fn parts_given_up(alloc: Global) -> Result<(bool, usize, bool), Fail> {
 #[test]
 fn values_give_up_what_they_hold(rt: HostRuntime) -> Result<(), Fail> {
     assert_eq!(rt; parts_given_up(rt.alloc())?, (true, 2, true));
-    assert!(rt; matches!(whole(1)?.into_words(), Err(Value::Whole(_))));
+    assert!(rt; matches!(whole(1)?.into_text(), Err(Value::Whole(_))));
     assert!(rt; matches!(whole(1)?.into_list(), Err(Value::Whole(_))));
     assert!(rt; matches!(whole(1)?.into_event(), Err(Value::Whole(_))));
     Ok(())

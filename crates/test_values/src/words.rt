@@ -3,7 +3,7 @@
 use js_ops::{OpFault, make, member, method};
 use js_value::{
     Event, EventSet, Items, Make, Method, SetTree, Text, Value, event_of, event_text, event_value,
-    words,
+    text_value,
 };
 use std::alloc::Global;
 use std::sync::Arc;
@@ -80,7 +80,7 @@ pub fn brackets(alloc: Global, count: usize) -> Result<String, Fail> {
 
 /// A text of this many bytes, which weighs one more.
 fn letters(alloc: Global, count: usize) -> Result<Value, Fail> {
-    Ok(words(alloc, Text::new("a".repeat(alloc, count)?))?)
+    Ok(text_value(alloc, Text::new("a".repeat(alloc, count)?))?)
 }
 
 /// This many lists, one in another; 2 to 64.
@@ -131,7 +131,7 @@ fn data_in(alloc: Global, held: &Event) -> Result<String, Fail> {
 
 /// The JSON of data, as what stands in the text of an event after its name; `too large` where no event can hold it.
 fn shown_data(alloc: Global, v: Value) -> Result<String, Fail> {
-    let name = words(alloc, text(alloc, "")?)?;
+    let name = text_value(alloc, text(alloc, "")?)?;
     match &make(alloc, Make::Event, &[name, v], &[]) {
         Ok(Value::Event(held)) => data_in(alloc, held),
         _ => Ok(String::from_str(alloc, "too large")?),
