@@ -3,6 +3,8 @@
 # definitions, laws and clauses that the pages name. Proves nothing and takes some seconds. Ends with a line `N passed, M failed`.
 cd "$(dirname "$0")/.." || exit 1
 passed=0 failed=0
+room=$(mktemp -d) && trap 'rm -rf "$room"' EXIT || exit 1
+export LC_ALL=C
 
 # says WHAT FOUND: passed, if nothing was found
 says() {
@@ -46,11 +48,16 @@ says "pages: files of crates that are not there" "$(
         [ -e "crates/$file" ] || [ -e "crates/$file.antt" ] || echo "$file"
     done)"
 
-# Every law and definition that a page gives the words of stands somewhere in the crates.
+# Every name of code in a page, in backticks, stands somewhere in the crates: with `_` in all pages, and types, files and definitions
+# that begin with a capital in those that lead to the crates (but for the words of BPjs in docs/MAP.md).
 says "pages: names that no crate has" "$(
-    sed '/^```/,/^```/d' docs/PROVED.md docs/RUNS.md docs/MEANING.md | grep -oh '`[a-z]\+_[a-z_]\+`' | tr -d '`' | sort -u | while read -r name; do
-        grep -rqw --include=*.rt --include=*.antt --include=crates.txt -e "$name" crates crates.txt || echo "$name"
-    done)"
+    {
+        sed '/^```/,/^```/d' docs/*.md README.md | grep -oh '`[a-z]\+_[a-z_]\+`'
+        sed -e '/^```/,/^```/d' -e '/^## Words of this house/,/^## /d' docs/MAP.md docs/PROVED.md docs/RUNS.md docs/MEANING.md docs/DECISIONS.md README.md |
+            grep -oh '`[A-Z][A-Za-z]*[a-z][A-Za-z]*`'
+    } | tr -d '`' | sort -u > "$room/names"
+    find crates -name out -prune -o \( -name '*.rt' -o -name '*.antt' \) -print | xargs cat crates.txt | grep -o '[A-Za-z_][A-Za-z0-9_]*' |
+        sort -u | comm -23 "$room/names" -)"
 
 # Every clause that stands beside a call in a table with a column of clauses stands in a crate of its row, or of the row above.
 says "pages: clauses that the crate of the call does not have" "$(
@@ -59,7 +66,7 @@ says "pages: clauses that the crate of the call does not have" "$(
         !clauses { clauses = ($(NF - 1) ~ /^ Clause $/) ? 1 : 2; next }
         clauses == 1 && !/^\|---/ {
             cell = $2; now = ""
-            while (match(cell, /`(bp|js)_[a-z_]*`/)) { now = now " " substr(cell, RSTART + 1, RLENGTH - 2); cell = substr(cell, RSTART + RLENGTH) }
+            while (match(cell, /`(bpx?|js)_[a-z_]*`/)) { now = now " " substr(cell, RSTART + 1, RLENGTH - 2); cell = substr(cell, RSTART + RLENGTH) }
             if (now != "") crates = now
             cell = $(NF - 1)
             while (match(cell, /`[a-z_]*`/)) { print substr(cell, RSTART + 1, RLENGTH - 2) crates; cell = substr(cell, RSTART + RLENGTH) }

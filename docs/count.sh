@@ -13,14 +13,15 @@ lines() {
     find "$1" -type f -name "*.$2" -exec cat {} + | wc -l
 }
 
+# files FOLDER SUFFIX: how many files of this kind there are, without those that only list the others
 files() {
     [ -d "$1" ] || { echo 0; return; }
-    find "$1" -type f -name "*.$2" | wc -l
+    find "$1" -type f -name "*.$2" ! -name Lib.antt ! -name inner.antt | wc -l
 }
 
-# row CRATE: its lines of source, specs and proofs, its files of specs, and its edits
+# row CRATE: its lines of source, specs and proofs, its files of specs, how many of them are inner ones, and its edits
 row() {
-    echo "$1 $(lines "crates/$1/src" rt) $(lines "crates/$1/specs" antt) $(lines "crates/$1/proofs" antt) $(files "crates/$1/specs" antt) $(files "crates/$1/must-fail" edit)"
+    echo "$1 $(lines "crates/$1/src" rt) $(lines "crates/$1/specs" antt) $(lines "crates/$1/proofs" antt) $(files "crates/$1/specs" antt) $(files "crates/$1/specs/inner" antt) $(files "crates/$1/must-fail" edit)"
 }
 
 rows() { for crate in $(crates); do row "$crate"; done; }
@@ -30,7 +31,7 @@ chain() {
     awk -F: '
         /^[a-z]/ {
             split($1, head, " "); name = head[1]
-            if (name ~ /_rows$/) next
+            if (name ~ /^test_/) next
             best = 0; under[name] = ""
             count = split($2, below, " ")
             for (each = 1; each <= count; each++)
@@ -43,16 +44,16 @@ chain() {
 }
 
 if [ "$1" = crates ]; then
-    echo "crate source specs proofs spec-files edits"
+    echo "crate source specs proofs spec-files inner edits"
     rows
     exit
 fi
 rows | awk '
-    { crates++; source += $2; specs += $3; proofs += $4; files += $5; edits += $6 }
-    $1 ~ /_rows$/ { tests++; rows += $2; source -= $2 }
+    { crates++; source += $2; specs += $3; proofs += $4; files += $5; inner += $6; edits += $7 }
+    $1 ~ /^test_/ { tests++; rows += $2; source -= $2 }
     END {
         print "crates: " crates ", of which " tests " hold tests alone"
-        print "lines: source " source ", tests " rows ", specs " specs " in " files " files, proofs " proofs
+        print "lines: source " source ", tests " rows ", specs " specs " in " files " files, " inner " of them inner, proofs " proofs
         print "edits that must be refused: " edits
     }'
 echo "longest chain of crates: $(chain)"
