@@ -76,6 +76,6 @@ HasNoHeader bytes (Err (Refused Write)) = ⊥
 HasNoHeader bytes (Err (Refused Memory)) = Unit {0}
 HasNoHeader bytes (Err Absent) = ⊥
 
--- the state of the story of the log's records, of the first so many or of all, or why there is none
+-- the state of the story of the log's records, of the first of them or of all, or why there is none
 abbrev pub IsState : List ℕ → Option ℕ → Result (String Global) NoAnswer → Type 0
 IsState bytes number result = HasNoHeader bytes result ⊎ AnswersHeaded bytes number result

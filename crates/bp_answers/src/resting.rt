@@ -26,8 +26,7 @@ fn is_nothing(enabled: Result<Enabled, SelectFault>) -> Result<bool, Memory>
     }
 }
 
-/// The b-threads that stand at a `bp.sync`, in the order of registration. Its only error is want of
-/// memory.
+/// The b-threads that stand at a `bp.sync`, in the order of registration.
 fn stops(alloc: Global, floor: &Floor) -> Result<Vec<Stop<'_>>, Memory>
     requires sound { floor.now.broken ≡ false }
     requires rest { floor.now.phase ≡ phase.Rest }
@@ -59,6 +58,7 @@ pub fn write_at_rest(alloc: Global, arbiter: &mut Arbiter, text: &mut String) ->
     ensures same { arbiter.new ≡ arbiter.old }
 {
     let nothing = is_nothing(arbiter.enabled(alloc))?;
+    // For the proof: what the arbiter keeps.
     arbiter.keeps();
     let floor = arbiter.floor();
     let stops = stops(alloc, floor)?;

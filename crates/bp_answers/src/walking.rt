@@ -22,8 +22,10 @@ pub(crate) fn come_to_rest(alloc: Global, arbiter: &mut Arbiter) -> Result<(), M
     ensures program { arbiter.new.floor.base.program ≡ arbiter.old.floor.base.program }
 {
     settle(alloc, arbiter, &Alone(Parallelism::defaults()))?;
+    // For the proof: what the arbiter keeps.
     arbiter.keeps();
     let _lines = arbiter.take_lines();
+    // For the proof: what the arbiter keeps.
     arbiter.keeps();
     Ok(())
 }

@@ -50,8 +50,7 @@ fn bare_values(alloc: Global, verb: Verb, name: Text) -> Result<Values, Memory>
     })
 }
 
-/// What a run says: each option that it has, defaults written out. Its only error is want of
-/// memory.
+/// What a run says: each option that it has, defaults written out.
 fn run_values(alloc: Global, run: Run) -> Result<Values, Memory>
     ensures { IfOk result (λ v. v ≡ said_by (command.Run run)) }
 {

@@ -4,7 +4,7 @@ ghost use Rattle.bp_base.specs.inner.Calls.{planned, is_to_fail, called};
 
 use std::marker::Model;
 
-/// How many calls were made, and the numbers of those that are to fail. Calls are numbered from 1.
+/// How many calls were made, and the numbers of those that will fail. Calls are numbered from 1.
 #[derive(Drop)]
 pub struct Calls {
     made: u64,
@@ -26,7 +26,7 @@ impl Calls {
         Calls { made: 0, fails }
     }
 
-    /// Counts one more call, and says whether it is to fail.
+    /// Counts one more call, and says whether it fails.
     pub fn count(&mut self) -> bool
         ensures counted { self.new ≡ called self.old }
         ensures failing { result ≡ is_to_fail self.old }

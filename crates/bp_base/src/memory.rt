@@ -1,4 +1,4 @@
-//! A source and a sink in memory. They tell all, and fail at the calls that their lists name.
+//! A source and a sink in memory, which tell all, and fail at the calls that their lists name.
 ghost use Rattle.std.specs.Prelude.{◌≡◌, ◌≤◌, ◌+◌, ◌<◌, [], length, take, drop, min, IfOk, OnErr, is_err, if◌then◌else◌};
 ghost use Rattle.bp_base.specs.Counts.{Rose, raised};
 ghost use Rattle.bp_base.specs.Pieces.{Gives, Appends};
@@ -10,7 +10,7 @@ use crate::{Failed, Memory, Sink, Source};
 use std::alloc::Global;
 use std::marker::Model;
 
-/// Bytes in memory, read from their front.
+/// Bytes in memory, which are read from their front.
 pub struct MemorySource {
     bytes: Vec<u8>,
     at: usize,
@@ -96,7 +96,7 @@ impl Source for MemorySource {
     }
 }
 
-/// Bytes that are written into memory, with room for a number of them.
+/// A sink in memory, with room for a number of bytes.
 pub struct MemorySink {
     bytes: Vec<u8>,
     room: u64,
@@ -128,8 +128,8 @@ impl Model for MemorySink {
 }
 
 impl MemorySink {
-    /// A sink with room for so many bytes, whose calls of `write` with these numbers fail. A write of no bytes
-    /// can't fail and isn't counted. The room is taken here.
+    /// A sink with room for this many bytes, whose calls of `write` with these numbers fail. A write of no
+    /// bytes can't fail and isn't counted. The memory is taken here.
     pub fn new(alloc: Global, room: u64, fails: Vec<u64>) -> Result<MemorySink, Memory>
         ensures { IfOk result
             (λ sink. sink

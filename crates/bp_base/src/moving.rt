@@ -1,4 +1,4 @@
-//! Reading all that comes, and writing all that is given.
+//! Reading a source to its end, and writing all of a piece.
 ghost use Rattle.std.specs.Prelude.{◌≡◌, ◌<◌, ◌≤◌, [], length, vec_len, IfOk, OnOk, OnErr, IsErrOf, IfSome};
 ghost use Rattle.bp_base.specs.Counts.{Rose};
 ghost use Rattle.bp_base.specs.Pieces.{GivesSome, Appends, AppendsFront};
@@ -7,7 +7,7 @@ use crate::{Failed, Sink, Source};
 use std::alloc::{AllocError, Global};
 use thiserror::Error;
 
-/// Why not all was read.
+/// Why reading stopped before the end.
 #[derive(Clone, Copy, Debug, PartialEq, Eq, Error)]
 pub enum ReadError {
     /// The source failed.
@@ -16,7 +16,7 @@ pub enum ReadError {
     /// More bytes came than were allowed.
     #[error("more bytes came than were allowed")]
     TooLong,
-    /// No memory was left.
+    /// Out of memory.
     #[error("no memory was left")]
     Memory,
 }
@@ -43,7 +43,7 @@ impl From<Failed> for ReadError {
     }
 }
 
-/// The bytes up to the end, at most `limit` of them. After a refusal some bytes are taken.
+/// Reads up to the end, at most `limit` bytes. After an error some bytes have been taken.
 pub fn read_all<S: Source>(alloc: Global, source: &mut S, limit: u64) -> Result<Vec<u8>, ReadError>
     ensures all { IfOk result (λ bytes. IfSome (S.left source.old) (λ left. bytes.items ≡ left)) }
     ensures end { OnOk result (IfSome (S.left source.old) (λ _. S.left source.new ≡ Some [])) }
@@ -67,7 +67,7 @@ pub fn read_all<S: Source>(alloc: Global, source: &mut S, limit: u64) -> Result<
     Err(ReadError::TooLong)
 }
 
-/// Writes the whole piece. After a refusal a part of it, from its front, was appended.
+/// Writes the whole piece. After an error a prefix of it has been appended.
 pub fn write_all<K: Sink>(sink: &mut K, bytes: &[u8]) -> Result<(), Failed>
     ensures whole { OnOk result (Appends (K.written sink.old) bytes.now (K.written sink.new)) }
     ensures front { OnErr result (AppendsFront (K.written sink.old) bytes.now (K.written sink.new)) }

@@ -7,7 +7,7 @@ ghost use Rattle.bp_base.specs.Worlds.{Holdings, Opens, Asks, Keeps, IsMadeAs};
 use std::alloc::{AllocError, AllocFailed};
 use thiserror::Error;
 
-/// No memory was left. It is answered by every call that takes memory, and says nothing else.
+/// Out of memory. Every call that takes memory may answer it, and it says nothing else.
 pub type Memory = AllocError;
 
 /// The outside failed.
@@ -17,14 +17,14 @@ pub struct Failed;
 
 /// Bytes that come a piece at a time.
 pub trait Source {
-    /// The bytes still to come, where the source tells it.
+    /// The bytes still to come, if the source tells them.
     ghost left: { Self → Option (List ℕ) };
 
     /// How often it has failed.
     ghost faults: { Self → ℕ };
 
-    /// Moves bytes from the front of what is left to the front of the buffer, and says how many. That none came
-    /// into a buffer with room means that none is left.
+    /// Moves bytes from the front of what is left to the front of the buffer, and says how many. If none came
+    /// into a buffer with room, none are left.
     fn read(&mut self, into: &mut [u8]) -> Result<usize, Failed>
         ensures within { IfOk result (λ n. n ≤ length into.old) }
         ensures given { IfOk result (λ n. Gives (left self.old) (take n into.new) (left self.new)) }
@@ -36,7 +36,7 @@ pub trait Source {
         ensures counts { faults self.old ≤ faults self.new };
 }
 
-/// A source that is lent.
+/// A borrowed source.
 impl<S: Source> Source for &mut S {
     ghost left = { λ s. S.left s.now };
 
@@ -47,15 +47,15 @@ impl<S: Source> Source for &mut S {
     }
 }
 
-/// A place for bytes.
+/// What takes bytes that are written.
 pub trait Sink {
-    /// All that was written, where the sink tells it.
+    /// All that was written, if the sink tells it.
     ghost written: { Self → Option (List ℕ) };
 
     /// How often it has failed.
     ghost faults: { Self → ℕ };
 
-    /// The name under which a world made it, where it tells it. No write changes it.
+    /// The name under which a world made it, if it tells it. No write changes it.
     ghost made_as: { Self → Option (List ℕ) };
 
     /// Appends bytes from the front of the piece, and says how many: at least one, unless the piece is empty.
@@ -75,7 +75,7 @@ pub trait Sink {
 /// Why nothing was opened.
 #[derive(Clone, Copy, Debug, PartialEq, Eq, Error)]
 pub enum WorldError {
-    /// There is nothing of that name, or the world failed.
+    /// Nothing has that name, or the world failed.
     #[error("the outside failed")]
     Failed,
     /// No memory was left.
@@ -107,16 +107,16 @@ impl<T: Drop> From<AllocFailed<T>> for WorldError {
 
 /// Bytes under names.
 pub trait World {
-    /// What `open` answers. It may move to another thread, which may let it go.
+    /// What `open` answers. It may move to another thread, which may drop it.
     type Input: Source + Send + Drop;
 
-    /// What `create` answers. It may move to another thread, which may let it go.
+    /// What `create` answers. It may move to another thread, which may drop it.
     type Output: Sink + Send + Drop;
 
-    /// The bytes under each name, where the world tells it.
+    /// The bytes under each name, if the world tells them.
     ghost holds: { Self → Option Holdings };
 
-    /// The names that were asked for, in order, where the world tells it.
+    /// The names that were asked for, in order, if the world tells them.
     ghost asked: { Self → Option (List (List ℕ)) };
 
     /// How often reading has failed.
@@ -125,7 +125,7 @@ pub trait World {
     /// How often writing has failed.
     ghost write_faults: { Self → ℕ };
 
-    /// Opens what is held under the name. `Failed` is answered where nothing is, and where the world fails.
+    /// Opens what is held under the name. `Failed` means that nothing is, or that the world failed.
     fn open(&mut self, name: &str) -> Result<Self::Input, WorldError>
         ensures content { IfOk result
             (λ input. Opens (holds self.old) name.now (Self.Input.left input)) }
@@ -142,7 +142,7 @@ pub trait World {
         ensures keeps { holds self.new ≡ holds self.old }
         ensures writes { write_faults self.new ≡ write_faults self.old };
 
-    /// Makes an output of this name, to which nothing is written. It is held under the name once it is closed.
+    /// Makes an empty output of this name. It is held under the name once it is closed.
     fn create(&mut self, name: &str) -> Result<Self::Output, WorldError>
         ensures empty { IfOk result
             (λ output. IfSome (holds self.old) (λ _. Self.Output.written output ≡ Some [])) }
@@ -160,7 +160,7 @@ pub trait World {
         ensures keeps { holds self.new ≡ holds self.old }
         ensures reads { read_faults self.new ≡ read_faults self.old };
 
-    /// Closes an input. Where it has failed, the world's count rises.
+    /// Closes an input. If it has failed, the world's count rises.
     fn close_input(&mut self, input: Self::Input)
         ensures risen { 0 < Self.Input.faults input →
             Rose (read_faults self.old) (read_faults self.new) }
@@ -170,8 +170,8 @@ pub trait World {
         ensures keeps { holds self.new ≡ holds self.old }
         ensures writes { write_faults self.new ≡ write_faults self.old };
 
-    /// Closes an output under the name that it was created with: from now on all that was written is held under
-    /// it. Where the output has failed, the world's count rises.
+    /// Closes an output under the name with which it was created: from now on the world holds all that was
+    /// written under it. If the output has failed, the world's count rises.
     fn close_output(&mut self, name: &str, output: Self::Output)
         requires { IsMadeAs (Self.Output.made_as output) name.now }
         ensures sets { Keeps (holds self.old) name.now (Self.Output.written output) (holds self.new) }

@@ -6,7 +6,7 @@ ghost use Rattle.bp_base.specs.inner.Shelf.{entries_of};
 use std::alloc::{AllocError, Global};
 use std::mem;
 
-/// Entries, the last one first.
+/// Entries, the newest first.
 #[derive(Drop)]
 #[cycle(shelf)]
 pub enum Shelf<T> {
@@ -37,7 +37,7 @@ impl<T> Entry<T> {
     }
 }
 
-/// What was last put under the name. None exactly where nothing was.
+/// What was last put under the name, or `None` if nothing was.
 pub fn find<'a, T>(shelf: &'a Shelf<T>, name: &str) -> Option<&'a [T]>
     ensures { option_copied result ≡ under (entries_of shelf.now) name.now }
 {
@@ -53,7 +53,7 @@ pub fn find<'a, T>(shelf: &'a Shelf<T>, name: &str) -> Option<&'a [T]>
     }
 }
 
-/// Puts the entry in front, and lets go what was linked to it.
+/// Puts the entry in front, and drops what was linked to it.
 pub fn put<T: Drop>(shelf: &mut Shelf<T>, entry: Box<Entry<T>>)
     ensures { entries_of shelf.new
         ≡ (string_bytes entry.value.name, entry.value.list.items) ∷ entries_of shelf.old }

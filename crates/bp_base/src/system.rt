@@ -9,7 +9,7 @@ use std::rt::Files;
 /// How often an interrupted call is tried again, which is for as long as the machine runs.
 const MOST_TRIES: u64 = u64::MAX;
 
-/// Reads once, and again where a signal interrupted it. None where it failed.
+/// Reads once, and again if a signal interrupted it. `None` if it failed.
 fn read_once<R: Read>(reader: &mut R, into: &mut [u8]) -> Option<usize>
     ensures within { IfSome result (λ n. n ≤ length into.old) }
 {
@@ -23,7 +23,7 @@ fn read_once<R: Read>(reader: &mut R, into: &mut [u8]) -> Option<usize>
     None
 }
 
-/// Writes once, and again where a signal interrupted it. None where it failed or took nothing.
+/// Writes once, and again if a signal interrupted it. `None` if it failed or took nothing.
 fn write_once<W: Write>(writer: &mut W, bytes: &[u8]) -> Option<usize>
     ensures within { IfSome result (λ n. n ≤ length bytes.now) }
     ensures some { IfSome result (λ n. 0 < n) }
@@ -63,7 +63,7 @@ impl Source for FileSource {
     }
 }
 
-/// A stream that is written, as standard output. A write that takes nothing of a piece is a fault.
+/// A stream that is written, as standard output is. A write that takes nothing of it is a fault.
 #[derive(Drop)]
 pub struct StreamSink<W: Write + Drop> {
     writer: W,
@@ -131,7 +131,7 @@ pub struct FileWorld<R: Files<File = File> + Drop> {
 }
 
 impl<R: Files<File = File> + Drop> FileWorld<R> {
-    /// The files that the runtime reaches. None has failed.
+    /// The files that the runtime reaches, none of which has failed.
     pub fn new(rt: R) -> FileWorld<R>
         ensures read { ⟦<FileWorld<R> as World>⟧.read_faults result ≡ 0 }
         ensures written { ⟦<FileWorld<R> as World>⟧.write_faults result ≡ 0 }

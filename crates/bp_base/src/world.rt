@@ -1,4 +1,4 @@
-//! A world in memory. It tells all, and fails at the calls that its lists name.
+//! A world in memory, which tells all, and fails at the calls that its lists name.
 ghost use Rattle.std.specs.Prelude.{◌≡◌, ◌<◌, ◌≤◌, true, false, [], OnOk, OnErr, IfOk, IsErrOf, IsSomeAnd, string_bytes, option_copied, option_map};
 ghost use Rattle.bp_base.specs.Counts.{Rose, raised};
 ghost use Rattle.bp_base.specs.Worlds.{Opens, Asks, Sets, Keeps};
@@ -114,8 +114,8 @@ impl Model for MemoryWorld {
 }
 
 impl MemoryWorld {
-    /// A world that holds nothing, whose calls with these numbers fail, and whose outputs have room for so many
-    /// bytes each. A call that can't fail isn't counted.
+    /// A world that holds nothing, whose calls with these numbers fail, and whose outputs have room for this
+    /// many bytes each. A call that can't fail isn't counted.
     pub fn new(alloc: Global, room: u64, fails: Vec<u64>) -> MemoryWorld
         ensures { result ≡ empty_files room fails.items }
     {
@@ -131,7 +131,7 @@ impl MemoryWorld {
         }
     }
 
-    /// Holds these bytes under the name, in place of what was there.
+    /// Holds these bytes under the name, in place of those that were there.
     pub fn hold(&mut self, name: String, bytes: Vec<u8>) -> Result<(), Memory>
         ensures sets { OnOk result
             (Sets (under self.old.held) (string_bytes name) bytes.items (under self.new.held)) }
@@ -143,8 +143,8 @@ impl MemoryWorld {
         Ok(())
     }
 
-    /// Lets the calls with these numbers fail, of each input and each output of that name that is made from now
-    /// on.
+    /// Makes the calls with these numbers fail, of each input and each output of that name that is made from
+    /// now on.
     pub fn fail(&mut self, name: String, calls: Vec<u64>) -> Result<(), Memory>
         ensures sets { OnOk result
             (Sets (under self.old.failing) (string_bytes name) calls.items (under self.new.failing)) }
@@ -156,14 +156,14 @@ impl MemoryWorld {
         Ok(())
     }
 
-    /// The bytes under the name. None exactly where nothing is held under it.
+    /// The bytes under the name, or `None` if nothing is held under it.
     pub fn held(&self, name: &str) -> Option<&[u8]>
         ensures { option_copied result ≡ under self.now.held name.now }
     {
         find(&self.held, name)
     }
 
-    /// Counts one more call with that name, and says whether it is to fail.
+    /// Counts one more call with that name, and says whether it fails.
     fn ask(&mut self, name: &str) -> Result<bool, Memory>
         ensures fails { IfOk result (λ fails. fails ≡ is_to_fail self.old.calls) }
         ensures asked { OnOk result (self.new ≡ asked_for self.old name.now) }
@@ -174,7 +174,7 @@ impl MemoryWorld {
         Ok(self.calls.count())
     }
 
-    /// The calls that are to fail under the name.
+    /// The calls that fail under the name.
     fn failing(&self, name: &str) -> Result<Vec<u64>, Memory>
         ensures { IfOk result (λ calls. calls.items ≡ failing_under self.now name.now) }
     {

@@ -240,8 +240,7 @@ fn write_stuck(alloc: Global, rest: &Rest<'_>, text: &mut String) -> Result<(), 
 }
 
 /// Writes where a run rests: a paragraph for each b-thread that stands, the events that wait, the
-/// injectors that are read, and why nothing can be selected, where that is so. Its only error is want
-/// of memory.
+/// injectors that are read, and why nothing can be selected, where that is so.
 pub fn write_rest(alloc: Global, rest: &Rest<'_>, text: &mut String) -> Result<(), Memory>
     ensures { let base = plain_ground rest.now.ground.now in OnOk result (string_bytes text.new
         ≡ string_bytes text.old ++ rest_lines (spelling_of base.program) (member base rest.now.budget)

@@ -60,8 +60,7 @@ fn has(
     }
 }
 
-/// The names of all who block the event, in the order of registration. Its only error is want of
-/// memory.
+/// The names of all who block the event, in the order of registration.
 pub fn blockers<'a>(
     alloc: Global,
     ground: &Ground,
@@ -92,8 +91,7 @@ fn is_requester(stop: &Stop<'_>, event: &Event) -> bool
         .any(|wanted| event.same(wanted))
 }
 
-/// The names of all who request the event, in the order of registration. Its only error is want of
-/// memory.
+/// The names of all who request the event, in the order of registration.
 pub fn requesters<'a>(
     alloc: Global,
     stops: &[Stop<'a>],
@@ -147,8 +145,7 @@ fn note_all(events: &mut Vec<Event>, stop: &Stop<'_>) -> Result<(), Memory>
     Ok(())
 }
 
-/// The events that are requested, each once, in the order in which they first appear. Its only error
-/// is out of memory.
+/// The events that are requested, each once, in the order in which they first appear.
 pub fn candidates(alloc: Global, stops: &[Stop<'_>]) -> Result<Vec<Event>, Memory>
     ensures { IfOk result (λ l. l.items ≡ candidates (map live_of stops.now)) }
 {

@@ -83,8 +83,7 @@ fn with_set(known: Known, number: u32, answer: Result<bool, SetFault>) -> Result
     }
 }
 
-/// What is known of the event once this is the set of this number. Its only error is want of
-/// memory.
+/// What is known of the event once this is the set of this number.
 fn again(
     alloc: Global,
     ground: &Ground,

@@ -71,7 +71,7 @@ impl Drop for Verdict {
     }
 }
 
-/// The text is UTF-8.
+/// That the text is UTF-8, as a fact for its callers. Does nothing.
 fn text_keeps(text: &Text)
     ensures { is_utf8 text.now ≡ true }
 {
@@ -79,7 +79,7 @@ fn text_keeps(text: &Text)
 }
 
 impl Place {
-    /// The name in it is UTF-8. It does nothing else.
+    /// That the name in it is UTF-8, as a fact for its callers. Does nothing.
     fn keeps(&self)
         ensures { IsPlace self.now }
     {
@@ -139,7 +139,8 @@ fn same_verdict(left: &Verdict, right: &Verdict) -> bool
 }
 
 impl Verdict {
-    /// The verdict's numbers are in their ranges, and its texts are UTF-8. It does nothing else.
+    /// That the verdict's numbers are in their ranges and its texts UTF-8, as a fact for its callers. Does
+    /// nothing.
     pub fn keeps(&self)
         ensures { IsVerdict self.now }
     {

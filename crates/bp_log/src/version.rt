@@ -22,8 +22,7 @@ impl Version {
         }
     }
 
-    /// The version of the log with this first line, or `None` exactly where no version has it. Takes
-    /// no memory.
+    /// The version of the log with this first line, or `None` exactly where no version has it.
     pub fn of_line(line: &[u8]) -> Option<Version>
         ensures { result ≡ version_of line.now }
     {

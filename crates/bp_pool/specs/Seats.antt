@@ -14,7 +14,7 @@ pub record Turned (base : Ground) (old new : Seat) : Type 0 where
   pub of_program : IsOf base.program new.job
   pub carried : new.lost ≡ false → (old.lost ≡ false) × IsCarriedOn base old.job new.job
 
--- a slice of the seat's job can be made, and memory was not wanting
+-- a slice of the seat's job can be made, and memory did not run out
 pub record IsOpen (base : Ground) (s : Seat) : Type 0 where
   pub of_program : IsOf base.program s.job
   pub still : (plain_job s.job).outcome ≡ None

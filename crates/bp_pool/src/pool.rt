@@ -21,7 +21,7 @@ fn are_several_open(jobs: &[Job]) -> bool {
     jobs.iter().filter(|job| !has_outcome(job)).nth(1).is_some()
 }
 
-/// Carries each job to its outcome, by slices of so many nodes and by so many workers at most, from
+/// Carries each job to its outcome, by slices of this many nodes and by this many workers at most, from
 /// 1 to 64: the same jobs in the same order, whatever the workers, the slice and the order in which
 /// threads come to run.
 ///
@@ -29,7 +29,7 @@ fn are_several_open(jobs: &[Job]) -> bool {
 /// job is left without outcome, or one worker is allowed, it carries them on itself. Else those that
 /// are left go into one shared queue, from which each worker takes a job, makes a slice of it or
 /// several, and puts it back, until none is there. So a job may go on with another worker between
-/// two slices. Where a thread can't be started, the calling thread does its work. After want of
+/// two slices. Where a thread can't be started, the calling thread does its work. When out of
 /// memory, which is its only error, the jobs are dropped.
 pub fn superstep<G: Gate + Sync, R: Threads + Wait + Sync>(
     rt: &R,

@@ -11,8 +11,7 @@ use js_data::Memory;
 use js_frames::Ground;
 use std::alloc::{AllocError, Global};
 
-/// Takes the jobs without outcome out of their list: what is left of it, and their seats. Its only
-/// error is out of memory.
+/// Takes the jobs without outcome out of their list: what is left of it, and their seats.
 pub(crate) fn take_out(
     alloc: Global,
     ground: &Ground,

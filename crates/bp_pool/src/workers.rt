@@ -16,8 +16,7 @@ use std::alloc::Global;
 use std::sync::Wait;
 use std::thread::Threads;
 
-/// Carries each job to its outcome, by workers over one shared queue. Its only error is want of
-/// memory.
+/// Carries each job to its outcome, by workers over one shared queue.
 pub(crate) fn by_workers<G: Gate + Sync, R: Threads + Wait + Sync>(
     rt: &R,
     alloc: Global,

@@ -8,13 +8,13 @@ use thiserror::Error;
 /// Why a log is refused.
 #[derive(Clone, Copy, Debug, PartialEq, Eq, Error)]
 pub enum LogFault {
-    /// A first line of no version.
+    /// The first line is not that of a version.
     #[error("version")]
     Version,
-    /// A line of the header, or the byte after the program.
+    /// A line of the header is wrong, or the byte after the program.
     #[error("header")]
     Header,
-    /// The line of a record, by its number from 1; or bytes after the last.
+    /// The line of a record is wrong, by its number from 1; or there are bytes after the last.
     #[error("line {0}")]
     Line(u32),
     /// The log ended too early.
@@ -23,7 +23,7 @@ pub enum LogFault {
     /// The source failed.
     #[error("the source failed")]
     Read,
-    /// No memory was left.
+    /// Out of memory.
     #[error("no memory was left")]
     Memory,
 }

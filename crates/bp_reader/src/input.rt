@@ -1,4 +1,4 @@
-//! A source that is read by bytes and lines, whatever the blocks in which it comes.
+//! A source that is read by bytes and lines, whatever blocks it comes in.
 ghost use Rattle.std.specs.Prelude.{◌≡◌, ◌≤◌, Some, IfOk, OnErr, IfSome, IsErrOf};
 ghost use Rattle.bp_base.specs.Counts.{Rose};
 ghost use Rattle.bp_base.specs.Pieces.{GivesSome};
@@ -9,7 +9,7 @@ use bp_base::{Failed, Source};
 use std::alloc::{AllocError, AllocFailed, Global};
 use std::marker::Model;
 
-/// Why nothing is answered.
+/// Why reading failed.
 #[derive(Clone, Copy)]
 pub enum Fault {
     /// The source failed.
@@ -57,7 +57,7 @@ pub enum Taken {
     Line(Vec<u8>),
     /// The input ended before the LF.
     Partial,
-    /// More bytes than a line may have came without LF.
+    /// More bytes came without LF than a line may have.
     Excess,
 }
 
@@ -71,7 +71,7 @@ impl Drop for Taken {
     }
 }
 
-/// A source, and the part of its last block that isn't taken yet.
+/// A source, and the part of its last block that wasn't taken yet.
 #[derive(Drop)]
 pub struct Input<S: Source> {
     source: S,
@@ -96,7 +96,7 @@ impl<S: Source> Model for Input<S> {
 }
 
 impl<S: Source> Input<S> {
-    /// The source, of which nothing is taken yet.
+    /// The source, of which nothing was taken yet.
     pub fn new(source: S) -> Input<S>
         ensures { result ≡ record {
           left = S.left source;
@@ -112,7 +112,7 @@ impl<S: Source> Input<S> {
         }
     }
 
-    /// The source, as far as its blocks were taken.
+    /// The source, from which whole blocks were taken.
     pub fn back(self) -> S
         ensures faults { S.faults result ≡ self.faults }
         ensures left { GivesSome self.left (S.left result) }
@@ -142,7 +142,7 @@ impl<S: Source> Input<S> {
         Ok(Some(byte))
     }
 
-    /// The next line, of at most `room` bytes. Where the source failed, a part of a line was taken,
+    /// The next line, of at most `room` bytes. If the source failed, a part of a line was taken,
     /// and all that is still to come is the source's.
     pub fn line(&mut self, alloc: Global, room: u32) -> Result<Taken, Fault>
         ensures line { IfOk result (λ t. IfSome self.old.left

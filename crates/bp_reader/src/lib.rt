@@ -1,4 +1,4 @@
-//! A log that is read line by line: its header, and then record by record.
+//! Reading a log line by line: its header, and then its records.
 #![tactic(auto)]
 
 mod fault;

@@ -1,4 +1,4 @@
-//! What is known of the records that were read.
+//! What is known of a log after the records that were read.
 ghost use Rattle.std.specs.Prelude.{◌≡◌, ◌<◌, ◌+◌, IfOk, OnErr, nat_le};
 ghost use Rattle.bp_reading.specs.Heads.{line_room};
 ghost use Rattle.bp_reading.specs.Reading.{is_live as live, is_known as known, can_stand as stands, after, next_record, first_stage};
@@ -9,7 +9,7 @@ use bp_reading::limits::{MOST_LINE_BYTES, MOST_RECORDS};
 use std::alloc::Global;
 use std::marker::Model;
 
-/// What is known of the log and of the records before.
+/// What is known of a log after the records that were read.
 #[derive(Drop)]
 pub struct Progress {
     version: Version,
@@ -38,7 +38,7 @@ impl Model for Progress {
 }
 
 impl Progress {
-    /// Nothing is read yet of a log of this version with this many injectors.
+    /// Of a log of this version with this many injectors, before its first record.
     pub fn new(alloc: Global, version: Version, injectors: u32) -> Progress
         ensures { result ≡ first_stage version injectors }
     {
@@ -61,7 +61,7 @@ impl Progress {
         }
     }
 
-    /// Whether the injector is there and hasn't ended.
+    /// Whether there is such an injector, and it hasn't ended.
     fn is_live(&self, injector: u32) -> bool
         ensures { result ≡ live self.now injector }
     {
@@ -92,7 +92,7 @@ impl Progress {
         }
     }
 
-    /// Counts one more record. An `Err` changes nothing.
+    /// Counts one more record. After an error nothing has changed.
     pub fn count(&mut self, entry: &Record) -> Result<(), Memory>
         requires { self.old.lines < MOST_RECORDS }
         ensures counted { IfOk result (λ _. self.new ≡ after self.old entry.now) }
@@ -109,7 +109,7 @@ impl Progress {
         Ok(())
     }
 
-    /// The record that the line says, where it can stand next.
+    /// The record that the line says, if it can stand next.
     pub fn record_of(&self, alloc: Global, line: &[u8]) -> Result<Option<Record>, Memory>
         ensures { IfOk result (λ r. r ≡ next_record self.now line.now) }
     {

@@ -1,4 +1,4 @@
-//! A log that is read record by record.
+//! The reader of a log, record by record.
 ghost use Rattle.std.specs.Prelude.{◌≡◌, ◌≤◌, ◌<◌, Some, None, IfOk, IfErr, IsSomeAnd, IfSome, IsErrOf, OnErr};
 ghost use Rattle.bp_base.specs.Counts.{Rose};
 ghost use Rattle.bp_base.specs.Pieces.{GivesSome};
@@ -18,7 +18,7 @@ use bp_reading::limits::MOST_RECORDS;
 use std::alloc::Global;
 use std::marker::Model;
 
-/// A log that is read record by record.
+/// The reader of a log, which gives its records one by one.
 #[derive(Drop)]
 pub struct Reader<S: Source> {
     input: Input<S>,
@@ -45,7 +45,7 @@ impl<S: Source> Model for Reader<S> {
 pub struct Refused<S: Source> {
     /// Why.
     pub fault: LogFault,
-    /// The source, as far as its blocks were taken.
+    /// The source, from which whole blocks were taken.
     pub source: S,
 }
 
@@ -148,7 +148,7 @@ fn step<S: Source>(
 }
 
 impl<S: Source> Reader<S> {
-    /// A reader of the log, and its header; a refusal hands the source back.
+    /// The reader of a log, and its header. A refusal returns the source.
     pub fn open(alloc: Global, source: S) -> Result<(Reader<S>, Header), Refused<S>>
         ensures header { IfOk result (λ p. IfSome (S.left source)
             (λ bytes. IsSomeAnd p.0.left
@@ -183,8 +183,8 @@ impl<S: Source> Reader<S> {
         }
     }
 
-    /// The source, as far as its blocks were taken: a block may hold bytes of lines that weren't
-    /// read.
+    /// The source, from which whole blocks were taken: the last one may hold bytes of lines that
+    /// weren't read.
     pub fn back(self) -> S
         ensures faults { S.faults result ≡ self.faults }
         ensures left { GivesSome self.left (S.left result) }
@@ -193,9 +193,9 @@ impl<S: Source> Reader<S> {
         self.input.back()
     }
 
-    /// The next record, or `None` after the end. After a refusal it answers the same one. Where the
-    /// source failed, what was taken says no more than nothing would, and all that is still to come
-    /// is the source's.
+    /// The next record, or `None` after the end. After a refusal it answers the same one again. If
+    /// the source failed, what was taken of it says no more than nothing would, and all that is
+    /// still to come is the source's.
     pub fn next(&mut self, alloc: Global) -> Result<Option<Record>, LogFault>
         ensures tells { self.old.refusal ≡ None
             → IfSome self.old.left

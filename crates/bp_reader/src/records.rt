@@ -72,8 +72,7 @@ fn end_of(alloc: Global, line: &[u8]) -> Result<Option<Record>, Memory>
     }
 }
 
-/// The record that a line, without its LF, says, or `None` exactly where it says none. Its only
-/// error is out of memory.
+/// The record that a line, without its LF, says, or `None` if it says none.
 #[tactic(auto, unfolding(bp_reading::specs::Lines::record_at))]
 pub fn record_of(alloc: Global, line: &[u8]) -> Result<Option<Record>, Memory>
     ensures { IfOk result (λ r. r ≡ record_at line.now) }

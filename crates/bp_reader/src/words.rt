@@ -20,8 +20,8 @@ fn is_front_zero(bytes: &[u8]) -> bool
     }
 }
 
-/// The number, at most `most`, that the bytes are in decimal, without a leading zero. Takes no
-/// memory.
+/// The number, at most `most`, that the bytes are in decimal without a leading zero, or `None` if
+/// they are not one.
 pub fn number_of(bytes: &[u8], most: u64) -> Option<u64>
     ensures { result ≡ number_at most bytes.now }
 {
@@ -43,7 +43,7 @@ pub fn number_of(bytes: &[u8], most: u64) -> Option<u64>
     Some(number)
 }
 
-/// The number of 32 bits that the bytes are.
+/// The number of 32 bits that the bytes are, if they are one.
 pub(crate) fn small_number_of(bytes: &[u8]) -> Option<u32>
     ensures { result ≡ number_at most_32 bytes.now }
 {
@@ -51,7 +51,7 @@ pub(crate) fn small_number_of(bytes: &[u8]) -> Option<u32>
     Some(number as u32)
 }
 
-/// What stands after the word, or `None` exactly where the bytes don't begin with it.
+/// What comes after the word, or `None` if the bytes don't begin with it.
 pub fn behind_word<'a>(word: &[u8], bytes: &'a [u8]) -> Option<&'a [u8]>
     ensures { option_map (λ rest. rest.now) result ≡ behind word.now bytes.now }
 {
@@ -63,7 +63,7 @@ pub fn behind_word<'a>(word: &[u8], bytes: &'a [u8]) -> Option<&'a [u8]>
     Some(&bytes[word.len()..])
 }
 
-/// What stands before the first such byte, and after it.
+/// What comes before the first such byte, and what comes after it.
 pub(crate) fn around_byte(byte: u8, bytes: &[u8]) -> Option<(&[u8], &[u8])>
     ensures { option_map (λ p. (p.0.now, p.1.now)) result ≡ around byte bytes.now }
 {

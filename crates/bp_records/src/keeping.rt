@@ -4,7 +4,8 @@ ghost use Rattle.bp_reading.specs.Laws.{IsHeader, IsRecord, AreRecords};
 
 use bp_log::{Header, Record, Records};
 
-/// The header's numbers are in their ranges, and its program is no longer than a program may be.
+/// That the header's numbers are in their ranges and its program is no longer than a program may be,
+/// as a fact for its callers. Does nothing.
 pub fn header_keeps(header: &Header)
     ensures { IsHeader header.now }
 {
@@ -14,7 +15,8 @@ pub fn header_keeps(header: &Header)
     let _program = header.program();
 }
 
-/// The record's numbers are in their ranges, its events are events, and its texts are UTF-8.
+/// That the record's numbers are in their ranges, its events are events and its texts UTF-8, as a fact
+/// for its callers. Does nothing.
 fn record_keeps(entry: &Record)
     ensures { IsRecord entry.now }
 {

@@ -14,22 +14,22 @@ pub record Live (Set : Type 0) : Type 0 where
 abbrev pub at_stop : {Set : Type 0} → ℕ → Outcome Set → Option (Live Set)
 at_stop n (Stopped s) = Some (record { number = n; statement = s })
 at_stop n Ended = None
-at_stop n (Broken f l) = None
+at_stop n (Broken f line) = None
 at_stop n (Violated t) = None
 at_stop n Spent = None
 
 -- what the b-thread of this number states now
 abbrev pub stated : {Origin Set : Type 0} → Code Origin Set → ℕ → Thread Origin → Option (Live Set)
-stated l n t = if t.ended then None else at_stop n (l.after t.origin t.replies).outcome
+stated code n t = if t.ended then None else at_stop n (code.after t.origin t.replies).outcome
 
 abbrev pub live_from : {Origin Set : Type 0} → Code Origin Set → ℕ → List (Thread Origin) →
     List (Live Set)
-live_from l n [] = []
-live_from l n (t ∷ ts) = cons_option (stated l n t) (live_from l (suc n) ts)
+live_from code n [] = []
+live_from code n (t ∷ ts) = cons_option (stated code n t) (live_from code (suc n) ts)
 
 -- the live b-threads, in registration order
 abbrev pub live : {Origin Set : Type 0} → Code Origin Set → Stand Origin → List (Live Set)
-live l s = live_from l 0 s.threads
+live code s = live_from code 0 s.threads
 
 -- whether a set has an event, or why it can't tell
 abbrev pub Has : Type 0 → Type 0

@@ -37,14 +37,14 @@ own_body (Some t) = Some (record { origin = t.origin; replies = t.replies })
 -- the body of an entry; an interrupted b-thread without a handler has none
 abbrev pub body_of : {Origin Set : Type 0} → Code Origin Set → Stand Origin → Entry Origin →
     Option (Body Origin)
-body_of l s The_top = Some (record { origin = l.top; replies = [] })
-body_of l s (Runs i) = own_body (slice_get s.threads i)
-body_of l s (Stops i b) = b
+body_of code s The_top = Some (record { origin = code.top; replies = [] })
+body_of code s (Runs i) = own_body (slice_get s.threads i)
+body_of code s (Stops i b) = b
 
 -- what a body does; without one, nothing, and it ends
 abbrev pub part_of : {Origin Set : Type 0} → Code Origin Set → Option (Body Origin) → Part Origin Set
-part_of l None = record { effects = []; outcome = Ended }
-part_of l (Some b) = l.after b.origin b.replies
+part_of code None = record { effects = []; outcome = Ended }
+part_of code (Some b) = code.after b.origin b.replies
 
 abbrev pub place_of : {Origin : Type 0} → Stand Origin → Entry Origin → Place
 place_of s The_top = Top
@@ -106,7 +106,7 @@ with_end (Stops i b) p = said (Interrupted (name_in (slice_get p.stand.threads i
 abbrev pub with_outcome : {Origin Set : Type 0} → Entry Origin → Outcome Set → Pair Origin → Pair Origin
 with_outcome n (Stopped s) p = p
 with_outcome n Ended p = with_end n p
-with_outcome n (Broken f l) p = stopped (verdict.Fault (place_of p.stand n) l f) p
+with_outcome n (Broken f line) p = stopped (verdict.Fault (place_of p.stand n) line f) p
 with_outcome n (Violated t) p = stopped (verdict.Violated (place_of p.stand n) t) p
 with_outcome n Spent p = stopped (verdict.Spent (place_of p.stand n)) p
 
@@ -122,7 +122,7 @@ pub record Ran (Origin Set : Type 0) : Type 0 where
   pub part : Part Origin Set
 
 abbrev pub ran : {Origin Set : Type 0} → Code Origin Set → Stand Origin → Entry Origin → Ran Origin Set
-ran l s n = record { entry = n; part = part_of l (body_of l s n) }
+ran code s n = record { entry = n; part = part_of code (body_of code s n) }
 
 abbrev pub merged : {Origin Set : Type 0} → List (Ran Origin Set) → Pair Origin → Pair Origin
 merged [] p = p
@@ -131,7 +131,7 @@ merged (r ∷ rs) p = merged rs (unless_over (with_part r.entry r.part) p)
 -- the entries run from where they stand, and are merged in order; the newly registered are the entries
 -- of the next turn
 unfoldable pub turn : {Origin Set : Type 0} → Code Origin Set → Pair Origin → Pair Origin
-turn l p = merged (map (ran l p.stand) p.entries) (record { stand = p.stand; entries = [] })
+turn code p = merged (map (ran code p.stand) p.entries) (record { stand = p.stand; entries = [] })
 
 -- there is a verdict, or nothing is left to run
 abbrev pub at_rest : {Origin : Type 0} → Pair Origin → Bool
@@ -139,21 +139,22 @@ at_rest p =
     elim p.stand.verdict [ None ↦ elim p.entries [ [] ↦ true | n ∷ ns ↦ false ] | Some v ↦ true ]
 
 unfoldable pub settle_in : {Origin Set : Type 0} → Code Origin Set → ℕ → Pair Origin → Stand Origin
-settle_in l zero p = p.stand
-settle_in l (suc turns) p = elim (at_rest p) [ true ↦ p.stand | false ↦ settle_in l turns (turn l p) ]
+settle_in code zero p = p.stand
+settle_in code (suc turns) p =
+    elim (at_rest p) [ true ↦ p.stand | false ↦ settle_in code turns (turn code p) ]
 
 -- turn after turn, until the pair is at rest: each turn after the first has a b-thread that the one
 -- before it registered
 unfoldable pub settle : {Origin Set : Type 0} → Code Origin Set → Pair Origin → Stand Origin
-settle l p = settle_in l (MOST_THREADS + 1) p
+settle code p = settle_in code (MOST_THREADS + 1) p
 
 -- before anything ran
 abbrev pub opening : {Origin : Type 0} → Pair Origin
 opening = record { stand = empty; entries = The_top ∷ [] }
 
 unfoldable pub initial : {Origin Set : Type 0} → Code Origin Set → ℕ → Configuration Origin
-initial l injectors =
-    record { stand = settle l opening; drawn = 0; reading = below injectors; bad = None }
+initial code injectors =
+    record { stand = settle code opening; drawn = 0; reading = below injectors; bad = None }
 
 -- the same pair, with lines before its own
 abbrev pub before : {Origin : Type 0} → List Line → Pair Origin → Pair Origin

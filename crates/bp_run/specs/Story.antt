@@ -64,26 +64,29 @@ step s e place reached =
 -- the run of its handler at e, if it set one by then
 abbrev pub handler_body : {Origin Set : Type 0} → Code Origin Set → PlainEvent →
     Option (Thread Origin) → Option (Body Origin)
-handler_body l e None = None
-handler_body l e (Some t) =
-    option_map (λ o. record { origin = o; replies = [] }) (l.handling t.origin t.replies e)
+handler_body code e None = None
+handler_body code e (Some t) =
+    option_map (λ o. record { origin = o; replies = [] }) (code.handling t.origin t.replies e)
 
 abbrev pub entry_of : {Origin Set : Type 0} → Code Origin Set → Stand Origin → PlainEvent → Touched →
     Entry Origin
-entry_of l s e (Moves i) = Runs i
-entry_of l s e (Interrupts i) = Stops i (handler_body l e (slice_get s.threads i))
+entry_of code s e (Moves i) = Runs i
+entry_of code s e (Interrupts i) = Stops i (handler_body code e (slice_get s.threads i))
 
 -- the transition, and what is to be run after it
 abbrev pub stepped : {Origin Set : Type 0} → Code Origin Set → Stand Origin → PlainEvent → Option ℕ →
     List Touched → Pair Origin
-stepped l s e place reached =
-    record { stand = step s e place reached; entries = map (entry_of l s e) reached }
+stepped code s e place reached =
+    record { stand = step s e place reached; entries = map (entry_of code s e) reached }
 
 -- the transition, and all that runs after it
 abbrev pub move : {Origin Set : Type 0} → Code Origin Set → Configuration Origin → Choice →
     List Touched → Configuration Origin
-move l c ch reached =
-    record c { stand = settle l (stepped l c.stand ch.event ch.place reached); drawn = ch.drawn }
+move code c ch reached =
+    record c {
+      stand = settle code (stepped code c.stand ch.event ch.place reached);
+      drawn = ch.drawn;
+    }
 
 -- what comes next
 pub data Next : Type 0 where
@@ -122,21 +125,22 @@ next_idle o c None =
 
 abbrev pub next_choice : {Origin Set : Type 0} → Code Origin Set → PlainOptions → Configuration Origin →
     Asked (Option Choice) → Next
-next_choice l o c (Err x) = Ends (fault_verdict c.stand x)
-next_choice l o c (Ok None) = next_idle o c c.bad
-next_choice l o c (Ok (Some ch)) =
+next_choice code o c (Err x) = Ends (fault_verdict c.stand x)
+next_choice code o c (Ok None) = next_idle o c c.bad
+next_choice code o c (Ok (Some ch)) =
     if c.stand.transitions == o.steps then Ends (verdict.Steps o.steps)
-    else next_chosen c.stand ch (reach l.has ch.event (live l c.stand))
+    else next_chosen c.stand ch (reach code.has ch.event (live code c.stand))
 
 abbrev pub next_unless : {Origin Set : Type 0} → Code Origin Set → PlainOptions → Configuration Origin →
     Option Verdict → Next
-next_unless l o c (Some v) = Ends v
-next_unless l o c None =
-    next_choice l o c (choice l.has l.word o.strategy (live l c.stand) c.stand.queue c.drawn)
+next_unless code o c (Some v) = Ends v
+next_unless code o c None =
+    next_choice code o c
+    (choice code.has code.word o.strategy (live code c.stand) c.stand.queue c.drawn)
 
 unfoldable pub next : {Origin Set : Type 0} → Code Origin Set → PlainOptions →
     Configuration Origin → Next
-next l o c = next_unless l o c c.stand.verdict
+next code o c = next_unless code o c c.stand.verdict
 
 abbrev pub is_over : {Origin : Type 0} → Configuration Origin → Bool
 is_over c = elim c.stand.verdict [ None ↦ false | Some v ↦ true ]
@@ -158,10 +162,10 @@ first_bad (Some b) j n = Some b
 
 abbrev pub if_selected : {Origin Set : Type 0} → Code Origin Set → Configuration Origin → PlainEvent →
     Next → Option (Configuration Origin)
-if_selected l c e (Ends v) = None
-if_selected l c e Waits = None
-if_selected l c e (Selects ch reached) =
-    if same_event e ch.event then Some (move l c ch reached) else None
+if_selected code c e (Ends v) = None
+if_selected code c e Waits = None
+if_selected code c e (Selects ch reached) =
+    if same_event e ch.event then Some (move code c ch reached) else None
 
 abbrev pub over : {Origin : Type 0} → Stand Origin → Verdict → Stand Origin
 over s v = record s { verdict = Some v; lines = s.lines ++ trace.Verdict v ∷ [] }
@@ -178,38 +182,38 @@ if_ended c v (Selects ch reached) = None
 -- the configuration after one record
 unfoldable pub after_record : {Origin Set : Type 0} → Code Origin Set → PlainOptions →
     Configuration Origin → Record → Option (Configuration Origin)
-after_record l o c (In j e) =
+after_record code o c (In j e) =
     if may_come c j && has_room c.stand then Some (record c { stand = queued e c.stand }) else None
-after_record l o c (Bad j n) =
+after_record code o c (Bad j n) =
     if may_come c j then Some (record (read_out c j) { bad = first_bad c.bad j n }) else None
-after_record l o c (Eof j) = if may_come c j then Some (read_out c j) else None
-after_record l o c (Sel e) = if_selected l c e (next l o c)
-after_record l o c (End v) = if_ended c v (next l o c)
+after_record code o c (Eof j) = if may_come c j then Some (read_out c j) else None
+after_record code o c (Sel e) = if_selected code c e (next code o c)
+after_record code o c (End v) = if_ended c v (next code o c)
 
 -- the records lead from a configuration to this one, or to nothing where they don't; nothing follows an end
 unfoldable pub story_from : {Origin Set : Type 0} → Code Origin Set → PlainOptions → List Record →
     Configuration Origin → Option (Configuration Origin)
-story_from l o [] c = Some c
-story_from l o (End v ∷ r ∷ rs) c = None
-story_from l o (r ∷ rs) c = option_and_then (story_from l o rs) (after_record l o c r)
+story_from code o [] c = Some c
+story_from code o (End v ∷ r ∷ rs) c = None
+story_from code o (r ∷ rs) c = option_and_then (story_from code o rs) (after_record code o c r)
 
 unfoldable pub story : {Origin Set : Type 0} → Code Origin Set → PlainOptions → List Record →
     Option (Configuration Origin)
-story l o records = story_from l o records (initial l o.injectors)
+story code o records = story_from code o records (initial code o.injectors)
 
 -- the run without injectors: at most the options' number of steps, then the end
 unfoldable pub alone_from : {Origin Set : Type 0} → Code Origin Set → PlainOptions → ℕ →
     Configuration Origin → List Record
-alone_from l o zero c = []
-alone_from l o (suc steps) c =
-    elim (next l o c) [
+alone_from code o zero c = []
+alone_from code o (suc steps) c =
+    elim (next code o c) [
       | Ends v ↦ End v ∷ []
-      | Selects ch reached ↦ Sel ch.event ∷ alone_from l o steps (move l c ch reached)
+      | Selects ch reached ↦ Sel ch.event ∷ alone_from code o steps (move code c ch reached)
       | Waits ↦ []
     ]
 
 unfoldable pub alone : {Origin Set : Type 0} → Code Origin Set → PlainOptions → List Record
-alone l o = alone_from l o (o.steps + 1) (initial l o.injectors)
+alone code o = alone_from code o (o.steps + 1) (initial code o.injectors)
 
 -- what is recorded of what comes next, and what it leads to
 abbrev pub record_of : Next → Option Record
@@ -219,6 +223,6 @@ record_of Waits = None
 
 abbrev pub after_next : {Origin Set : Type 0} → Code Origin Set → Configuration Origin → Next →
     Configuration Origin
-after_next l c (Ends v) = over_with c v
-after_next l c (Selects ch reached) = move l c ch reached
-after_next l c Waits = c
+after_next code c (Ends v) = over_with c v
+after_next code c (Selects ch reached) = move code c ch reached
+after_next code c Waits = c

@@ -9,4 +9,4 @@ use Rattle.bp_run.specs.Story.{story}
 -- what is printed for the records, where they are a story
 unfoldable pub text : {Origin Set : Type 0} → Code Origin Set → PlainOptions → List Record →
     Option (List ℕ)
-text l o records = option_map (λ c. lines_text c.stand.lines) (story l o records)
+text code o records = option_map (λ c. lines_text c.stand.lines) (story code o records)

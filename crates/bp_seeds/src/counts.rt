@@ -84,7 +84,7 @@ impl Counts {
         None
     }
 
-    /// As many more of a kind. Its only error is out of memory.
+    /// As many more of a kind.
     #[tactic(auto, using(crate::proofs::Places::not_counted))]
     pub fn add(&mut self, more: Counted) -> Result<(), Memory>
         requires { total self.old + more.count < 2 ^ 64 }
@@ -97,7 +97,7 @@ impl Counts {
         Ok(())
     }
 
-    /// Adds the counts of later seeds. Its only error is out of memory.
+    /// Adds the counts of later seeds.
     pub fn merge(&mut self, later: Counts) -> Result<(), Memory>
         requires { total self.old + total later < 2 ^ 64 }
         ensures { OnOk result (self.new ≡ merged self.old later) }
@@ -108,7 +108,7 @@ impl Counts {
         Ok(())
     }
 
-    /// A line for each kind. Its only error is out of memory.
+    /// A line for each kind.
     pub fn text(&self, alloc: Global) -> Result<String, Memory>
         ensures { IfOk result (λ s. string_bytes s ≡ flat_map counted_text self.now) }
     {

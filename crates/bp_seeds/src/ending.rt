@@ -20,14 +20,14 @@ pub struct End {
     pub alive: bool,
 }
 
-/// The text of these words. Its only error is want of memory.
+/// The text of these words.
 fn text_of(alloc: Global, words: &str) -> Result<Text, Memory>
     ensures { IfOk result (λ t. t ≡ words.now) }
 {
     Ok(Text::new(words.to_string(alloc)?))
 }
 
-/// The text of a place. Its only error is want of memory.
+/// The text of a place.
 fn place_text_of(alloc: Global, place: &Place) -> Result<Text, Memory>
     ensures { IfOk result (λ t. t ≡ place_text place.now) }
 {
@@ -49,7 +49,7 @@ fn verdict_text_of(alloc: Global, verdict: &Verdict) -> Result<Text, Memory>
 }
 
 impl End {
-    /// Its kind, in words. Its only error is want of memory.
+    /// Its kind, in words.
     pub fn kind(&self, alloc: Global) -> Result<Text, Memory>
         ensures { IfOk result (λ t. t ≡ kind_text self.now.alive self.now.verdict) }
     {

@@ -13,7 +13,7 @@ use js_data::Text;
 use js_program::Program;
 use std::alloc::{AllocError, Global};
 
-/// Runs the program to its end. Its only error is out of memory.
+/// Runs the program to its end.
 fn run_out(
     alloc: Global,
     program: Program,
@@ -26,14 +26,17 @@ fn run_out(
     // Without injectors it is nothing whether a run waits for them; one that doesn't never waits.
     let carrier = Alone(parallelism);
     let mut arbiter = Arbiter::open(alloc, program, options.with_wait(false))?;
+    // For the proof: what the arbiter keeps.
     arbiter.keeps();
     settle(alloc, &mut arbiter, &carrier)?;
     'steps: while arbiter.phase() == Phase::Rest {
         let _picked = arbiter.pick(alloc)?;
+        // For the proof: what the arbiter keeps.
         arbiter.keeps();
         settle(alloc, &mut arbiter, &carrier)?;
         let _lines = arbiter.take_lines();
     }
+    // For the proof: what the arbiter keeps.
     arbiter.keeps();
     let alive = arbiter.floor().live() > 0;
     let Some(verdict) = arbiter.verdict() else {
@@ -43,7 +46,7 @@ fn run_out(
     Ok(End { verdict, alive })
 }
 
-/// Runs the program that these bytes are to its end. Its only error is out of memory.
+/// Runs the program that these bytes are to its end.
 fn run_bytes(
     alloc: Global,
     bytes: &[u8],
@@ -75,8 +78,7 @@ fn seeded(options: Options, seed: u64) -> Options
     }
 }
 
-/// How the run under this seed ends of the program that these bytes are, in words. Its only error is
-/// out of memory.
+/// How the run under this seed ends of the program that these bytes are, in words.
 pub(crate) fn kind_under(
     alloc: Global,
     bytes: &[u8],

@@ -30,8 +30,7 @@ pub struct Sweep {
     pub parallelism: Parallelism,
 }
 
-/// Counts the ends of runs under this many seeds, after this many of the sweep. Its only error is
-/// out of memory.
+/// Counts the ends of runs under this many seeds, after this many of the sweep.
 fn counted(
     alloc: Global,
     bytes: &[u8],
@@ -54,7 +53,7 @@ fn counted(
     Ok(counts)
 }
 
-/// Counts the ends of one part, of parts of this size. Its only error is out of memory.
+/// Counts the ends of one part, of parts of this size.
 fn part(
     alloc: Global,
     bytes: &[u8],
@@ -107,8 +106,7 @@ fn parts_for<R: Threads>(rt: &R) -> usize
     }
 }
 
-/// Runs the program under each of the seeds, on all processors, and counts how they end. Its only
-/// error is out of memory.
+/// Runs the program under each of the seeds, on all processors, and counts how they end.
 fn sweep_counts<R: Threads + Sync>(
     rt: &R,
     alloc: Global,
@@ -137,8 +135,7 @@ fn sweep_counts<R: Threads + Sync>(
     gather(alloc, bytes, sweep, size, parts)
 }
 
-/// How the runs of the program that the bytes are end under each of the seeds, in words. Its only
-/// error is out of memory.
+/// How the runs of the program that the bytes are end under each of the seeds, in words.
 pub fn sweep_text<R: Threads + Sync>(
     rt: &R,
     alloc: Global,

@@ -245,7 +245,7 @@ found_at p live r key places noted there i d low = by (each_at (λ t. (is_noted 
     by (inl a) = inl (there i d low a)
     by (inr a) = inr a
 
--- where memory is not wanting
+-- where memory does not run out
 pub found_when : {E : Type 0} (r : Result (Vec ℕ Global) E) (live : List Stated) (roll : PlainRoll) (e : PlainEvent) (some more : List ℕ) → Each (λ t. IsNoted roll t) (map live_of live) →
     ((i : ℕ) (d : Stated) → i < length live → is_in (get_or live i d).number (numbers_at roll (event_key e)) ≡ true → is_in i some ≡ true) →
     ((i : ℕ) → is_in i some ≡ true → is_in i more ≡ true) →

@@ -10,7 +10,7 @@ pub enum SelectFault {
     /// The first set that can't tell whether it has an event, by the number of its b-thread.
     #[error("a set of b-thread {0} can't tell")]
     Set(u32, SetFault),
-    /// Memory was wanting.
+    /// Memory ran out.
     #[error("memory was wanting")]
     Memory,
 }

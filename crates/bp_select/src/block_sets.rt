@@ -102,9 +102,8 @@ impl Blocks {
         }
     }
 
-    /// A question about so many candidates begins. All is forgotten where it is of many more events
-    /// than this question and the last are about, so that it takes no more memory than these. Takes
-    /// no memory.
+    /// A question about this many candidates begins. All is forgotten where it is of many more events
+    /// than this question and the last are about, so that it takes no more memory than these.
     pub fn begin_question(&mut self, candidates: usize)
         ensures sets { self.new.sets ≡ self.old.sets }
         ensures known { (base : Base) (budget : ℕ) (sets : Sets) →
@@ -223,8 +222,7 @@ impl Blocks {
         }
     }
 
-    /// Those of the candidates that nobody blocks, in order, if that is known of each. Its only error
-    /// is out of memory.
+    /// Those of the candidates that nobody blocks, in order, if that is known of each.
     pub fn known_free<'a>(
         &self,
         alloc: Global,

@@ -45,8 +45,7 @@ pub(crate) struct Heeds {
     pub whole: bool,
 }
 
-/// The keys of the b-thread of this number, or none where it is not live. Its only error is want of
-/// memory.
+/// The keys of the b-thread of this number, or none where it is not live.
 fn keys_at(alloc: Global, live: &[Stated], number: u32) -> Result<Vec<u64>, Memory>
     requires { AreInOrder (map live_of live.now) }
     ensures { IfOk result (λ ks.
@@ -229,8 +228,7 @@ impl Heeds {
         count > most
     }
 
-    /// All are noted anew, or are among the changed, if they were not. Its only error is want of
-    /// memory.
+    /// All are noted anew, or are among the changed, if they were not.
     fn begin(&mut self, alloc: Global, live: &[Stated]) -> Result<(), Memory>
         requires { WhereWhole self.old.whole (map live_of live.now) self.old.roll
             self.old.changed.items }
@@ -270,8 +268,7 @@ impl Heeds {
         self.changed.clear();
     }
 
-    /// Whether many b-threads request or block something; then all are noted as they are now. Its
-    /// only error is out of memory.
+    /// Whether many b-threads request or block something; then all are noted as they are now.
     pub fn are_many(&mut self, alloc: Global, live: &[Stated]) -> Result<bool, Memory>
         requires order { AreInOrder (map live_of live.now) }
         requires noted { WhereWhole self.old.whole (map live_of live.now) self.old.roll
@@ -291,8 +288,7 @@ impl Heeds {
         Ok(askers.saturating_add(blockers) > FEW_ASKERS)
     }
 
-    /// Those that request something. All are noted as they are now, if any count as noted. Its only
-    /// error is out of memory.
+    /// Those that request something. All are noted as they are now, if any count as noted.
     pub fn asking<'a>(
         &mut self,
         alloc: Global,

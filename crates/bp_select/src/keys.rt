@@ -28,8 +28,7 @@ pub(crate) const ASKS: u64 = 1;
 /// The key of those that block something.
 pub(crate) const BLOCKS: u64 = 2;
 
-/// Adds the keys of the events of a set, and tells whether it is made of single events alone. Its
-/// only error is out of memory.
+/// Adds the keys of the events of a set, and tells whether it is made of single events alone.
 #[cycle(add)]
 fn add_set(keys: &mut Vec<u64>, set: &EventSet) -> Result<bool, Memory>
     ensures set { IfOk result (λ b. b ≡ true → HaveKeysOf set.now keys.new.items) }
@@ -102,8 +101,7 @@ fn any_alone(alloc: Global) -> Result<Vec<u64>, Memory>
     Ok(keys)
 }
 
-/// The keys under which the b-thread is found by each event that touches it. Its only error is want
-/// of memory.
+/// The keys under which the b-thread is found by each event that touches it.
 fn touch_keys(alloc: Global, stated: &Stated) -> Result<Vec<u64>, Memory>
     ensures { IfOk result (λ ks. TouchedAt (λ k. is_in k ks.items) (live_of stated.now)) }
 {

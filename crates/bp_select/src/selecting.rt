@@ -192,8 +192,7 @@ fn told<'a>(
     Ok(Free::Inner(inner))
 }
 
-/// The candidates that nobody blocks, if that is known of each and there are some. Its only error is
-/// out of memory.
+/// The candidates that nobody blocks, if that is known of each and there are some.
 fn known<'a>(
     alloc: Global,
     blocks: &Blocks,

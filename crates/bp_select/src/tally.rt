@@ -96,8 +96,7 @@ fn is_requested_among(live: &[Stated], places: &[usize], number: u32, event: &Ev
     false
 }
 
-/// Whether nobody but the b-thread of this number requests the event. Its only error is out of
-/// memory.
+/// Whether nobody but the b-thread of this number requests the event.
 fn is_own(
     alloc: Global,
     live: &[Stated],
@@ -114,7 +113,7 @@ fn is_own(
     Ok(!is_requested_among(live, places.as_slice(), number, event))
 }
 
-/// Whether nobody else requests an event of the b-thread's. Its only error is out of memory.
+/// Whether nobody else requests an event of the b-thread's.
 fn is_alone(alloc: Global, live: &[Stated], roll: &Roll, stated: &Stated) -> Result<bool, Memory>
     requires order { AreInOrder (map live_of live.now) }
     requires noted { Each (λ t. IsNoted roll.now t) (map live_of live.now) }
@@ -129,8 +128,7 @@ fn is_alone(alloc: Global, live: &[Stated], roll: &Roll, stated: &Stated) -> Res
     Ok(true)
 }
 
-/// The free events of the b-thread, if that is known of all that it requests. Its only error is
-/// out of memory.
+/// The free events of the b-thread, if that is known of all that it requests.
 fn known_free<'a>(
     alloc: Global,
     blocks: &Blocks,
@@ -146,7 +144,7 @@ fn known_free<'a>(
 }
 
 /// The events that the b-thread requests are asked about, so that it is known whether they are free;
-/// of those that a set is at fault about, nothing is. Its only error is out of memory.
+/// of those that a set is at fault about, nothing is.
 fn learn(
     alloc: Global,
     ground: &Ground,
@@ -173,7 +171,7 @@ fn learn(
 }
 
 /// The free events of the b-thread, where what is not known is asked first. None, if that can't be
-/// known of all that it requests. Its only error is out of memory.
+/// known of all that it requests.
 fn free_of<'a>(
     alloc: Global,
     ground: &Ground,
@@ -204,7 +202,7 @@ fn free_of<'a>(
 }
 
 /// How many free events the b-thread of this number requests, if that can be known and nobody else
-/// requests one of them. Its only error is out of memory.
+/// requests one of them.
 fn count_of(
     alloc: Global,
     ground: &Ground,
@@ -241,8 +239,7 @@ fn count_of(
     Ok(Some(free.as_slice().len()))
 }
 
-/// The b-thread of this number is counted as it is now, and tells whether that can be. Its only
-/// error is out of memory.
+/// The b-thread of this number is counted as it is now, and tells whether that can be.
 fn settle_one(
     alloc: Global,
     ground: &Ground,
@@ -274,7 +271,6 @@ fn settle_one(
 }
 
 /// The changed are counted as they are now, up to one that can't be, and tells whether all were.
-/// Its only error is out of memory.
 fn settle_all(
     alloc: Global,
     ground: &Ground,
@@ -310,7 +306,7 @@ fn settle_all(
     Ok(true)
 }
 
-/// The event at this place of these. Its only error is out of memory.
+/// The event at this place of these.
 fn copy_at(free: &[Candidate<'_>], place: usize) -> Result<Option<Event>, Memory>
     ensures { IfOk result (λ o. IfSome o (λ e. slice_get (events_in free.now) place ≡ Some e)) }
 {
@@ -330,8 +326,7 @@ fn number_of(number: usize) -> Option<u32>
     Some(number as u32)
 }
 
-/// The free event of the b-thread of this number at this place of its own, if it is found. Its only
-/// error is out of memory.
+/// The free event of the b-thread of this number at this place of its own, if it is found.
 fn event_of(
     alloc: Global,
     ground: &Ground,
@@ -366,7 +361,7 @@ fn event_of(
     copy_at(free.as_slice(), place)
 }
 
-/// The free event at this place of all, if it is found. Its only error is out of memory.
+/// The free event at this place of all, if it is found.
 fn event_at(
     alloc: Global,
     ground: &Ground,
@@ -435,8 +430,7 @@ fn drawn_place(draw: &Draw, total: usize) -> usize
     draw.word() as usize % total
 }
 
-/// The free event that is drawn of all, if there is one and it is found. Its only error is out of
-/// memory.
+/// The free event that is drawn of all, if there is one and it is found.
 fn pick_of(
     alloc: Global,
     ground: &Ground,
@@ -509,7 +503,7 @@ impl Tally {
         }
     }
 
-    /// The statement of the b-thread of this number may change. Its only error is out of memory.
+    /// The statement of the b-thread of this number may change.
     pub fn mark(&mut self, number: u32) -> Result<(), Memory>
         ensures noted { OnOk result
             (self.new.whole ≡ true → is_in number self.new.changed.items ≡ true) }
@@ -537,7 +531,7 @@ impl Tally {
     }
 
     /// All are among the changed, if they were not counted and block sets have been calm, and tells
-    /// whether they are counted or changed now. Its only error is out of memory.
+    /// whether they are counted or changed now.
     fn begin(&mut self, alloc: Global, live: &[Stated]) -> Result<bool, Memory>
         ensures whole { IfOk result (λ b. b ≡ true → self.new.whole ≡ true) }
         ensures tallied { (base : Base) (budget : ℕ) (sets : Sets) →
@@ -560,8 +554,7 @@ impl Tally {
         Ok(true)
     }
 
-    /// The free event that is drawn of all, if all are counted and it is found. Its only error is
-    /// out of memory.
+    /// The free event that is drawn of all, if all are counted and it is found.
     pub fn pick(
         &mut self,
         alloc: Global,
@@ -616,7 +609,7 @@ impl Tally {
 }
 
 /// Where b-threads are many and one of all free events is drawn: that event, if it is found without
-/// a look at each. Its only error is out of memory.
+/// a look at each.
 pub(crate) fn quick(
     alloc: Global,
     ground: &Ground,

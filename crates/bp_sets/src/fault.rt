@@ -14,7 +14,7 @@ pub enum SetFault {
     /// A predicate of the set answered no truth value; its function begins on this line.
     #[error("a predicate answers no truth value")]
     NotTruth(u32),
-    /// Memory was wanting.
+    /// Memory ran out.
     #[error("memory was wanting")]
     Memory,
 }

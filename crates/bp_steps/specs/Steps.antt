@@ -31,7 +31,7 @@ pair_at m = record { stand = m.told.stand; entries = m.entries }
 
 -- the bodies of what is to be run, in order
 abbrev pub bodies : {O S : Type 0} → Code O S → Pair O → List (Body O)
-bodies l p = filter_map (body_of l p.stand) p.entries
+bodies code p = filter_map (body_of code p.stand) p.entries
 
 -- nothing has begun
 abbrev pub fresh : {O : Type 0} → List (Body O) → List (Option ℕ)
@@ -39,25 +39,25 @@ fresh bs = map (λ b. Some 0) bs
 
 -- the bodies whose jobs are lent: none, where the pair is at rest
 abbrev pub lent_bodies : {O S : Type 0} → Code O S → Pair O → List (Body O)
-lent_bodies l p = if at_rest p then [] else bodies l p
+lent_bodies code p = if at_rest p then [] else bodies code p
 
 -- their jobs, of which nothing has begun
 abbrev pub lends : {O S : Type 0} → Code O S → Pair O → List (Option ℕ)
-lends l p = fresh (lent_bodies l p)
+lends code p = fresh (lent_bodies code p)
 
 abbrev pub opened : {O S : Type 0} → Code O S → PlainOptions → Moment O
-opened l o =
+opened code o =
     record {
       told = record { stand = opening.stand; drawn = 0; reading = below o.injectors; bad = None };
       entries = opening.entries;
       records = [];
-      lent = lends l opening;
+      lent = lends code opening;
     }
 
 -- the moment at this pair
 abbrev pub at_pair : {O S : Type 0} → Code O S → Moment O → Pair O → Moment O
-at_pair l m p =
-    record m { told = record m.told { stand = p.stand }; entries = p.entries; lent = lends l p }
+at_pair code m p =
+    record m { told = record m.told { stand = p.stand }; entries = p.entries; lent = lends code p }
 
 abbrev pub ends_at : {O : Type 0} → Moment O → Verdict → Moment O
 ends_at m v = record m { told = over_with m.told v; records = m.records ++ End v ∷ []; lent = [] }
@@ -68,25 +68,25 @@ is_lent m = not (at_rest (pair_at m))
 
 -- where the records have led: what is to be run there is settled
 abbrev pub settled : {O S : Type 0} → Code O S → Moment O → Configuration O
-settled l m = record m.told { stand = settle l (pair_at m) }
+settled code m = record m.told { stand = settle code (pair_at m) }
 
 -- nothing is to be run, and there is no verdict
 abbrev pub is_resting : {O : Type 0} → Moment O → Bool
 is_resting m = at_rest (pair_at m) && is_none m.told.stand.verdict
 
 abbrev pub picked : {O S : Type 0} → Code O S → Moment O → Next → Moment O
-picked l m (Ends v) = ends_at m v
-picked l m (Selects ch reached) =
-    at_pair l
+picked code m (Ends v) = ends_at m v
+picked code m (Selects ch reached) =
+    at_pair code
     (record m { told = record m.told { drawn = ch.drawn }; records = m.records ++ Sel ch.event ∷ [] })
-    (stepped l m.told.stand ch.event ch.place reached)
-picked l m Waits = m
+    (stepped code m.told.stand ch.event ch.place reached)
+picked code m Waits = m
 
 abbrev pub absorbed : {O S : Type 0} → Code O S → PlainOptions → Moment O → Record →
     Option (Moment O)
-absorbed l o m r =
+absorbed code o m r =
     option_map (λ c. record m { told = c; records = m.records ++ r ∷ [] })
-    (after_record l o m.told r)
+    (after_record code o m.told r)
 
 -- this many nodes more of a body that begins this many in all
 abbrev pub sliced : ℕ → ℕ → ℕ → Option ℕ
@@ -101,40 +101,44 @@ slice_of nodes n None j = None
 
 -- the moment after a turn to this pair, which may have come to a verdict
 abbrev pub turned_with : {O S : Type 0} → Code O S → Moment O → Pair O → Option Verdict → Moment O
-turned_with l m p None = at_pair l m p
-turned_with l m p (Some v) =
+turned_with code m p None = at_pair code m p
+turned_with code m p (Some v) =
     ends_at (record m { told = record m.told { stand = p.stand }; entries = p.entries }) v
 
 abbrev pub sealed : {O S : Type 0} → Code O S → Moment O → Pair O → Moment O
-sealed l m p = turned_with l m p p.stand.verdict
+sealed code m p = turned_with code m p p.stand.verdict
 
 -- where one step leads, or nothing where it isn't legal
 unfoldable pub after_step : {O S : Type 0} → Code O S → PlainOptions → Nodes O → Moment O →
     CoreStep → Option (Moment O)
-after_step l o nodes m (Absorb j i) =
-    if is_resting m then option_and_then (absorbed l o m) (record_by j i) else None
-after_step l o nodes m Pick = if is_resting m then Some (picked l m (next l o m.told)) else None
-after_step l o nodes m (Slice i n) =
+after_step code o nodes m (Absorb j i) =
+    if is_resting m then option_and_then (absorbed code o m) (record_by j i) else None
+after_step code o nodes m Pick =
+    if is_resting m then Some (picked code m (next code o m.told)) else None
+after_step code o nodes m (Slice i n) =
     if is_lent m && nat_lt 0 n
     then option_map (λ x. record m { lent = change (λ y. x) i m.lent })
-    (slice_of nodes n (slice_get (bodies l (pair_at m)) i) (slice_get m.lent i))
+    (slice_of nodes n (slice_get (bodies code (pair_at m)) i) (slice_get m.lent i))
     else None
-after_step l o nodes m Seal =
-    if is_lent m && list_all is_none m.lent then Some (sealed l m (turn l (pair_at m))) else None
+after_step code o nodes m Seal =
+    if is_lent m && list_all is_none m.lent
+    then Some (sealed code m (turn code (pair_at m)))
+    else None
 
 -- where the steps lead, or nothing where one of them isn't legal
 unfoldable pub played : {O S : Type 0} → Code O S → PlainOptions → Nodes O → List CoreStep →
     Moment O → Option (Moment O)
-played l o nodes [] m = Some m
-played l o nodes (s ∷ steps) m = option_and_then (played l o nodes steps) (after_step l o nodes m s)
+played code o nodes [] m = Some m
+played code o nodes (s ∷ steps) m =
+    option_and_then (played code o nodes steps) (after_step code o nodes m s)
 
 -- each of the steps is legal where it stands
 abbrev pub Legal : {O S : Type 0} → Code O S → PlainOptions → Nodes O → List CoreStep → Moment O →
     Type 0
-Legal l o nodes steps m = IsSome (played l o nodes steps m)
+Legal code o nodes steps m = IsSome (played code o nodes steps m)
 
 -- the records that the steps make from the opening on, or nothing where one of them isn't legal
 abbrev pub made_by : {O S : Type 0} → Code O S → PlainOptions → Nodes O → List CoreStep →
     Option (List Record)
-made_by {O = O} l o nodes steps =
-    option_map (λ (m : Moment O). m.records) (played l o nodes steps (opened l o))
+made_by {O = O} code o nodes steps =
+    option_map (λ (m : Moment O). m.records) (played code o nodes steps (opened code o))

@@ -122,8 +122,7 @@ impl Job {
         Ok(Job::on(alloc, number, name, origin, machine))
     }
 
-    /// A job that stands at the start of the top level. Its number is 0, and its name is empty. Its
-    /// only error is out of memory.
+    /// A job that stands at the start of the top level. Its number is 0, and its name is empty.
     pub fn top(alloc: Global, ground: &Ground, budget: u64) -> Result<Job, Memory>
         ensures program { IfOk result (λ j. IsOf (plain_ground ground.now).program j) }
         ensures made { IfOk result (λ j. plain_job j ≡ record {
@@ -287,7 +286,7 @@ impl Job {
         Ok(done)
     }
 
-    /// Carries the body on by at most so many nodes: true where the outcome is there now, and false
+    /// Carries the body on by at most this many nodes: true where the outcome is there now, and false
     /// where this many nodes began, another must begin and budget is left. After memory ran out it
     /// answers nothing else.
     pub fn slice(&mut self, ground: &Ground, nodes: u64) -> Result<bool, Memory>
@@ -313,8 +312,7 @@ impl Job {
         Ok(there)
     }
 
-    /// The effects since the start or the last `give` that were not taken yet, in order. Takes no
-    /// memory.
+    /// The effects since the start or the last `give` that were not taken yet, in order.
     pub fn take_effects(&mut self) -> Effects
         ensures program { (program : PlainProgram) → IsOf program self.old → IsOf program self.new }
         ensures given { plain_effects result ≡ (plain_job self.old).effects }

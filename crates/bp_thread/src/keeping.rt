@@ -8,8 +8,7 @@ use js_data::Memory;
 use js_frames::{Effect, Effects};
 use js_value::{Value, copy};
 
-/// The handler becomes the one that was set last among these effects, if one was. Its only error is
-/// out of memory.
+/// The handler becomes the one that was set last among these effects, if one was.
 pub fn set_handler(handler: &mut Option<Value>, effects: &[Effect]) -> Result<(), Memory>
     ensures { OnOk result (option_map plain_value handler.new
         ≡ fold handler_after (option_map plain_value handler.old) (map plain_effect effects.now)) }

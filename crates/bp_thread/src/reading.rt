@@ -21,7 +21,7 @@ pub enum StatementFault {
     /// The values are no statement and its priority.
     #[error("the values are no statement")]
     Shape,
-    /// Memory was wanting.
+    /// Memory ran out.
     #[error("memory was wanting")]
     Memory,
 }

@@ -43,8 +43,7 @@ fn copy_set(set: &Option<EventSet>) -> Result<Option<EventSet>, Memory>
 }
 
 impl Statement {
-    /// An equal statement, which shares the requested events and the sets. Its only error is want
-    /// of memory.
+    /// An equal statement, which shares the requested events and the sets.
     pub fn copy(&self) -> Result<Statement, Memory>
         ensures { IfOk result (λ s. plain_statement s ≡ plain_statement self.now) }
     {

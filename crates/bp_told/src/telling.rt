@@ -49,8 +49,7 @@ fn head_of<L: Sink>(alloc: Global, header: &Header, log: &Option<L>) -> Result<P
 }
 
 impl Telling {
-    /// The head of the log waits, where one is kept, and nothing was told. Its only error is want of
-    /// memory.
+    /// The head of the log waits, where one is kept, and nothing was told.
     pub fn begin<L: Sink>(
         alloc: Global,
         header: &Header,

@@ -95,7 +95,7 @@ answer_by m = answer_at m.pending
 unfoldable pub constants_by : Machine → List (Option PlainValue)
 constants_by m = unwrap_or m.engine.constants []
 
--- So many nodes began as the slice allows, there is budget, and another must begin: the body leaves
+-- As many nodes began as the slice allows, there is budget, and another must begin: the body leaves
 -- less of the budget than is left now.
 pub record Waits (o : Outcome) (begun more nodes budget : ℕ) : Type 0 where
   pub whole : more ≡ nodes

@@ -48,6 +48,7 @@ fn statements_of(base: &Ground, sequence: Sequence) -> &[u32]
     ensures statements { result.now ≡ statements_of base.now.program sequence }
     ensures nodes { AreNodes base.now.program (statements_of base.now.program sequence) }
 {
+    // For the proof: what the ground keeps.
     base.keeps();
     match sequence {
         Sequence::Block(number) => block_in(&node_of(base, number).form),

@@ -97,6 +97,7 @@ impl Engine {
             return Ok(Step::Fail(Fault::Depth, line));
         }
         let active = self.calls + 1;
+        // For the proof: what the ground keeps.
         base.keeps();
         match function_of(base, code) {
             None => Ok(leave()),
@@ -174,6 +175,7 @@ impl Engine {
         ensures effects { OnOk result
             (plain_effects self.new.effects ≡ plain_effects self.old.effects) }
     {
+        // For the proof: what the ground keeps.
         base.keeps();
         let captured = Items::new(self.alloc, Vec::new(self.alloc))?;
         let args = Values::new(self.alloc);

@@ -83,7 +83,7 @@ impl Engine {
         }
     }
 
-    /// Values that are done with: their room is spare, if memory for that is not wanting.
+    /// Values that are done with: their room is spare, if there is memory for that.
     pub fn done_with(&mut self, values: Values)
         ensures { place_of self.new ≡ place_of self.old }
     {

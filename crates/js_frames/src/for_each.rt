@@ -118,6 +118,7 @@ impl Engine {
         };
         let none = self.no_values();
         let args = element_args(none, body.parameters, item, walk.index, &walk.items)?;
+        // For the proof: what the ground keeps.
         base.keeps();
         self.walk_on(base, body, walk, args)
     }

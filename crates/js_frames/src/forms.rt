@@ -89,6 +89,7 @@ fn log_text(alloc: Global, value: &Value) -> Result<Option<Text>, Memory>
 fn json_text(alloc: Global, value: &Value) -> Result<Option<Text>, Memory>
     ensures { IfOk result (λ o. o ≡ option_map data_text (value_data (plain_value value.now))) }
 {
+    // For the proof: what the value keeps.
     value.keeps();
     match data_of_value(alloc, value)? {
         None => Ok(None),

@@ -52,10 +52,11 @@ impl Ground {
         &self.program
     }
 
-    /// What its program keeps, as a fact for callers. Does nothing.
+    /// What its program keeps, as a fact for its callers. Does nothing.
     pub fn keeps(&self)
         ensures { IsSound self.now.program }
     {
+        // For the proof: what the program keeps.
         self.program.keeps();
     }
 

@@ -141,7 +141,7 @@ impl Machine {
         })
     }
 
-    /// Begins at most so many nodes, and says why it stops. After want of memory it answers nothing
+    /// Begins at most this many nodes, and says why it stops. After memory ran out it answers nothing
     /// else.
     pub fn run(&mut self, base: &Ground, nodes: u64) -> Result<Pause, Memory>
         requires { IsOfProgram (plain_ground base.now).program self.old }

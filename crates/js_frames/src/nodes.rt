@@ -14,6 +14,7 @@ pub fn node_of(base: &Ground, number: u32) -> &Node
     ensures node { slice_get base.now.program.nodes number ≡ Some (plain_node result.now) }
     ensures parts { AreNodes base.now.program (parts_of (plain_node_form result.now.form)) }
 {
+    // For the proof: what the ground keeps.
     base.keeps();
     base.program().node(number)
 }

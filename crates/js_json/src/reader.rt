@@ -57,6 +57,7 @@ pub fn event_of(alloc: Global, bytes: &[u8]) -> Result<Event, EventError>
         None => Err(EventError::NotEvent),
         Some((name, extra)) => match Event::new(name, extra) {
             Ok(event) => {
+                // For the proof: what the event keeps.
                 event.keeps();
                 Ok(event)
             }

@@ -77,6 +77,7 @@ pub fn event_text(alloc: Global, event: &Event) -> Result<Text, Memory>
     ensures text { IfOk result (λ t. t ≡ text_of_event event.now) }
     ensures reads_back { IfOk result (λ t. event_at t ≡ Some event.now) }
 {
+    // For the proof: what the event keeps.
     event.keeps();
     let made = json_of_event(alloc, event)?;
     Ok(Text::new(made.to_string(alloc)?))

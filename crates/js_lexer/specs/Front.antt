@@ -13,7 +13,7 @@ use Rattle.js_lexer.specs.Spellings.{all_keywords, all_marks}
 use Rattle.js_lexer.specs.Numbers.{base_of, number_size, number_value, is_unsupported_end}
 use Rattle.js_lexer.specs.Literals.{Literal, closed, unclosed, wrong, literal}
 
--- nothing; white space, a line end or a comment of so many bytes; a token of so many bytes; or a refusal
+-- nothing; white space, a line end or a comment of this many bytes; a token of this many bytes; or a refusal
 -- this many bytes on
 pub data Piece : Type 0 where
   nothing : Piece

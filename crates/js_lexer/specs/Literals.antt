@@ -137,7 +137,7 @@ if_escape [] e f = unclosed
 if_escape (b ∷ bs) None f = wrong 0
 if_escape (b ∷ bs) (Some e) f = f e
 
--- the literal with this quote, whose first bytes belong to an escape that was read, so many of them
+-- the literal with this quote, whose first bytes belong to an escape that was read, this many of them
 abbrev pub literal : ℕ → ℕ → List ℕ → Literal
 literal quote skip [] = unclosed
 literal quote zero (b ∷ bs) =

@@ -8,5 +8,6 @@ use js_names::blocks_keep_enough;
 pub fn spelled_trees_keep_enough()
     ensures { SpelledTreesKeepEnough }
 {
+    // For the proof: a law.
     blocks_keep_enough();
 }

@@ -69,6 +69,7 @@ pub fn data_of_value(alloc: Global, v: &Value) -> Result<Option<Data>, Memory>
     ensures data { IfOk result (λ o. option_map plain_data o ≡ value_data (plain_value v.now)) }
     ensures sorted { IfOk result (λ o. IsSortedExtra (option_map plain_data o)) }
 {
+    // For the proof: what the value keeps.
     v.keeps();
     data_of(alloc, v)
 }

@@ -84,8 +84,7 @@ pub fn text_in<'a>(v: &'a Value, buffer: &'a mut Buffer) -> Option<&'a str>
     }
 }
 
-/// The text that `+` joins; `None` exactly where the kind of the value has none. Its only error is want
-/// of memory.
+/// The text that `+` joins; `None` exactly where the kind of the value has none.
 pub fn text_of(alloc: Global, v: &Value) -> Result<Option<Text>, Memory>
     ensures { IfOk result (λ o. o ≡ value_text (plain_value v.now)) }
 {

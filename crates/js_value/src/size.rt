@@ -48,6 +48,7 @@ pub(crate) fn items_weight(items: &[Value]) -> u64
 {
     let mut sum = 0u64;
     for item in items {
+        // For the proof: what the value keeps.
         item.keeps();
         sum = sum.saturating_add(weight(item));
     }
@@ -71,6 +72,7 @@ pub(crate) fn fields_weight(fields: &[(Arc<Text>, Value)]) -> u64
 {
     let mut sum = 0u64;
     for field in fields {
+        // For the proof: what the value keeps.
         field.1.keeps();
         sum = sum.saturating_add(text_weight(&field.0));
         sum = sum.saturating_add(weight(&field.1));
@@ -94,6 +96,7 @@ fn sets_weight(sets: &[EventSet]) -> u64
 {
     let mut sum = 0u64;
     for set in sets {
+        // For the proof: what the set keeps.
         set.keeps();
         sum = sum.saturating_add(set.weight());
     }
@@ -116,21 +119,25 @@ pub(crate) fn tree_weight(tree: &SetTree) -> u64
 {
     match tree {
         SetTree::Only(event) => {
+            // For the proof: what the event keeps.
             event.keeps();
             event.weight()
         }
         SetTree::Any(sets) => sets_weight(sets).saturating_add(1),
         SetTree::All | SetTree::Nothing => 1,
         SetTree::Or(a, b) | SetTree::And(a, b) | SetTree::Xor(a, b) => {
+            // For the proof: what the set keeps.
             a.keeps();
             b.keeps();
             a.weight().saturating_add(b.weight()).saturating_add(1)
         }
         SetTree::Negate(a) => {
+            // For the proof: what the set keeps.
             a.keeps();
             a.weight().saturating_add(1)
         }
         SetTree::Predicate { name, captured, .. } => {
+            // For the proof: what the value keeps.
             captured.keeps();
             text_weight(name)
                 .saturating_add(captured.weight())

@@ -6,7 +6,7 @@ use Rattle.bp_run.specs.Settling.{Pair, settle, opening}
 use Rattle.bp_floor.specs.Floors.{PlainFloor, StandsFor, code_on}
 use Rattle.bp_arbiter.specs.Calls.{RunCalls}
 
--- memory was never wanting, and the floor stands for a pair that settles to where the program's start does
+-- memory never ran out, and the floor stands for a pair that settles to where the program's start does
 pub record Goes (f : PlainFloor) : Type 0 where
   pub whole : f.broken ≡ false
   pub taken : List Line

@@ -12,7 +12,7 @@ pub const LOOKS: u64 = 20_000_000;
 /// As much as a log holds.
 const ROOM: u64 = 100_000;
 
-/// Gives its first bytes at the first read, and what is further there once so many lines were printed.
+/// Gives its first bytes at the first read, and what is further there once this many lines were printed.
 #[derive(Drop)]
 pub struct Looking<'a> {
     printed: &'a AtomicU64,

@@ -108,7 +108,7 @@ impl Gate for Counting {
     }
 }
 
-/// Opens only when so many jobs are inside: the first slice of each that it is told of goes on once those of all have
+/// Opens only when this many jobs are inside: the first slice of each that it is told of goes on once those of all have
 /// begun.
 #[derive(Drop)]
 pub struct Meeting {
@@ -153,7 +153,7 @@ impl Gate for Meeting {
     }
 }
 
-/// Holds one job before its second slice, which is the first that a gate is told of, until so many others have their
+/// Holds one job before its second slice, which is the first that a gate is told of, until this many others have their
 /// outcomes.
 #[derive(Drop)]
 pub struct Holding {
@@ -165,7 +165,7 @@ pub struct Holding {
 }
 
 impl Holding {
-    /// A gate for so many jobs that holds the job of this number until all others have their outcomes.
+    /// A gate for this many jobs that holds the job of this number until all others have their outcomes.
     pub fn new(alloc: Global, jobs: u32, held: u32) -> Result<Holding, AllocError> {
         Ok(Holding {
             counts: Counting::new(alloc, jobs)?,

@@ -7,7 +7,7 @@ use std::sync::Wait;
 use std::test::Fail;
 use std::thread::Threads;
 
-/// So many b-threads, of which each has up to fifteen times so many rounds, and tells its number.
+/// This many b-threads, of which each has up to fifteen times this many rounds, and tells its number.
 fn script_of_many(alloc: Global, jobs: u32, rounds: u32) -> Result<String, AllocError> {
     let mut script = String::new(alloc);
     script.push_str("const make = i => () => { for (let r = 0; r < i % 16 * ")?;

@@ -87,7 +87,7 @@ fn push_pause(
     }
 }
 
-/// Slices of so many nodes, up to a pause that is not `More`; the effects of each are taken behind it.
+/// Slices of this many nodes, up to a pause that is not `More`; the effects of each are taken after it.
 fn run_slices(
     out: &mut String,
     alloc: Global,

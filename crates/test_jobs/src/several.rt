@@ -85,7 +85,7 @@ fn push_told(out: &mut String, jobs: Vec<Job>) -> Result<(), AllocError> {
     Ok(())
 }
 
-/// What is told of the super-step of what the script registers, by so many workers in slices of so many nodes.
+/// What is told of the super-step of what the script registers, by this many workers in slices of this many nodes.
 pub fn told_of<R: Threads + Wait + Sync, G: Gate + Sync>(
     rt: &R,
     alloc: Global,

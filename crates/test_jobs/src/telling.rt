@@ -158,7 +158,7 @@ fn has_replies(lines: Lines) -> bool {
     !matches!(lines, Lines::Sets | Lines::Statements)
 }
 
-/// What the job does, in slices of so many nodes: up to its first stop, or to its end or its last event.
+/// What the job does, in slices of this many nodes: up to its first stop, or to its end or its last event.
 pub fn told_by(
     alloc: Global,
     job: &mut Job,

@@ -8,7 +8,7 @@ use bp_lanes::{Ear, Mouth, lane};
 use bp_log::Item;
 use std::test::Fail;
 
-/// Offers so many bad lines, by functions that have no leave to wait, and says how many found a place.
+/// Offers this many bad lines, by functions that have no leave to wait, and says how many found a place.
 fn offered(mouth: &mut Mouth, from: u32, count: u32) -> u32
     ensures { IsSameMouth mouth.old mouth.new }
 {

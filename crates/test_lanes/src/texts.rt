@@ -23,7 +23,7 @@ fn are(alloc: Global, bytes: &[u8], step: usize, fails: u64, want: &str) -> Resu
     Ok(told(alloc, Drip::new(alloc, bytes, step, fails)?)?.as_str() == want)
 }
 
-/// Whether these are the items of the bytes, read at once and by at most so many, whatever of these.
+/// Whether these are the items of the bytes, read at once and by at most this many, whatever of these.
 fn are_by(alloc: Global, bytes: &[u8], steps: &[usize], want: &str) -> Result<bool, Fail> {
     for step in steps {
         if !are(alloc, bytes, *step, 0, want)? {

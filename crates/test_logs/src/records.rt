@@ -161,7 +161,7 @@ fn head(alloc: Global) -> Result<String, Fail> {
     Ok(String::from_utf8(log_of(alloc, b"", cell)?)?)
 }
 
-/// Whether this is answered where so many letters stand between these two on the first line of a record.
+/// Whether this is answered where this many letters stand between these two on the first line of a record.
 fn answers(alloc: Global, line: (&str, u32, &str), want: &str) -> Result<bool, Fail> {
     let (start, count, end) = line;
     let head = head(alloc)?;
@@ -183,7 +183,7 @@ fn lines_and_events_have_limits(rt: HostRuntime) -> Result<(), Fail> {
     Ok(())
 }
 
-/// How the reading of a log ends that has so many equal lines and then this, behind the number of its records.
+/// How the reading of a log ends that has this many equal lines and then this, after the number of its records.
 fn counted(alloc: Global, count: u32, end: &str) -> Result<String, Fail> {
     let lines = "sel [\"x\"]\n".repeat(alloc, count as usize)?;
     let head = head(alloc)?;

@@ -61,7 +61,7 @@ pub fn ending(alloc: Global, report: Report) -> Result<String, Fail> {
     Ok(text)
 }
 
-/// A session of the script with these inputs, by so many workers and slices, over this output and this
+/// A session of the script with these inputs, by this many workers and slices, over this output and this
 /// log, which waits for its injectors.
 pub fn ends_as<S: Source + Send + Drop, K: Sink, R: Threads + Wait + Sync>(
     rt: &R,

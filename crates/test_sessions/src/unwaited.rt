@@ -19,7 +19,7 @@ const REQUESTS: &str = r#"bp.registerBThread("A", () => { bp.sync({request: bp.E
 
 // ---- asleep
 
-/// A session of the script, so many injectors of which give an event only once so many lines are printed.
+/// A session of the script, this many injectors of which give an event only once this many lines are printed.
 /// Each looks so often at most, and fails then.
 fn asleep<R: Threads + Wait + Sync>(
     rt: &R,

@@ -19,7 +19,7 @@ fn nested(alloc: Global, shape: &str, times: usize) -> Result<String, Fail> {
     )?)
 }
 
-/// How many times, a text and its tree: so many nest, and with one more there is no tree. First each form that nests,
+/// How many times, a text and its tree: this many nest, and with one more there is no tree. First each form that nests,
 /// then what a form's head or list may hold, and then what is no level of its own: `bp`, `Math` and `bp.log` before a
 /// dot, and a member that is called; parentheses round them are levels.
 const NESTINGS: &str = "

@@ -95,7 +95,7 @@ pub fn agrees(alloc: Global, cell: &str, want: &str) -> Result<bool, Fail> {
     )
 }
 
-/// The text of an event whose data are so many lists, one in another, or whose name has so many letters.
+/// The text of an event whose data are this many lists, one in another, or whose name has this many letters.
 fn sized(alloc: Global, cell: &str) -> Result<String, Fail> {
     let (count, name) = cell.split_once(" ").ok_or("no count")?;
     let count = count.parse::<usize>()?;

@@ -20,7 +20,7 @@ IsFound piece (Ok (Token kind sort n)) = record {
 IsFound piece (Err (Refused flaw n)) = piece ≡ refused flaw n
 IsFound piece (Err Memory) = ⊤
 
--- so many bytes of a literal are read: what they stand for is behind the content, and what is left is the
+-- this many bytes of a literal are read: what they stand for is after the content, and what is left is the
 -- rest of it
 pub record Read (quote : ℕ) (rest before after : List ℕ) (n : ℕ) : Type 0 where
   pub same : (size : ℕ) → behind before size (literal quote 0 rest) ≡
