@@ -1,5 +1,5 @@
 -- What is asked of some is asked of all.
-use Rattle.std.proofs.Common.{◌≡◌, inl, inr, ℕ, suc, ◌<◌, Bool, true, false, ◌||◌, nat_eq, List, [], ◌∷◌, ◌++◌, map, refl, ap, sym, ◌∙◌, subst, Option, Some, None, Ok, Err, find, if◌then◌else◌}
+use Rattle.std.proofs.Common.{◌≡◌, inl, inr, ℕ, suc, ◌<◌, Bool, true, false, ◌||◌, nat_eq, List, [], ◌∷◌, ◌++◌, refl, ap, sym, ◌∙◌, subst, Option, Some, None, Ok, Err, find, if◌then◌else◌}
 use Rattle.std.specs.List.{list_all, list_any}
 use Rattle.std.specs.Prelude.{ℤ}
 use Rattle.std.proofs.lemmas.Bool.{eqb-true}
@@ -164,7 +164,3 @@ block_part n (s ∷ ss) (t ∷ ts) (inr w) k =
 
 pub of_part : (ss ts : List (Live PlainSet)) (sets : Sets) → IsPart blocks_nothing ss ts → AreInOrder ts → AreOf ts sets → AreOf ss sets
 of_part ss ts sets h k of = record { each = λ n. of.each n ∙ sym (block_part n ss ts h k) }
-
--- lists that are the same
-pub part_here : {A : Type 0} (p : Live PlainSet → Bool) (f : A → Live PlainSet) (xs ys : List A) (ts us : List (Live PlainSet)) → xs ≡ ys → ts ≡ us → IsPart p (map f ys) ts → IsPart p (map f xs) us
-part_here p f xs ys ts us q r h = subst (λ zs. IsPart p (map f zs) us) (sym q) (subst (λ (vs : List (Live PlainSet)). IsPart p (map f ys) vs) r h)

@@ -51,10 +51,6 @@ unfolding selectable
 select_inner has ts queue es [] h k n = absurd (n refl)
 select_inner has ts queue es (e ∷ inner) h k n = ap (λ (x : Asked (List PlainEvent)). or_queued has ts queue x) (ap (λ (xs : List PlainEvent). unblocked has ts xs) (sym h) ∙ k)
 
--- the same under the same b-threads
-pub fault_here : (has : Has PlainSet) (queue : List PlainEvent) (us ts : List (Live PlainSet)) (f : SelectFault) → us ≡ ts → FaultAs (selectable has us queue) f → FaultAs (selectable has ts queue) f
-fault_here has queue us ts f e h = subst (λ (vs : List (Live PlainSet)). FaultAs (selectable has vs queue) f) e h
-
 -- ---- asking those that block alone
 
 module _ (base : Ground) (budget : ℕ) (ts us : List (Live PlainSet)) (queue es : List PlainEvent) (found : es ≡ candidates ts) (part : IsPart blocks_nothing us ts) where

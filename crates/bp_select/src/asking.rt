@@ -4,6 +4,7 @@ ghost use Rattle.js_frames.specs.Places.{plain_ground};
 ghost use Rattle.bp_meaning.specs.Membership.{Membership, member};
 ghost use Rattle.js_value.specs.Value.{PlainSet};
 ghost use Rattle.bp_sets.specs.Answers.{TellsAs};
+ghost use Rattle.bp_sets.specs.Asked.{IsAbout};
 ghost use Rattle.bp_thread.specs.Views.{stated_set};
 ghost use Rattle.bp_run.specs.Selecting.{Live, by_number, blocked, unblocked, first_unblocked, blocker};
 ghost use Rattle.bp_select.specs.Lives.{live_of, lent};
@@ -19,7 +20,7 @@ use crate::SelectFault;
 use crate::bench::Stated;
 use crate::candidate::{Candidate, keep_if};
 use bp_log::Memory;
-use bp_sets::{SetFault, contains};
+use bp_sets::{Asked, SetFault, contains_as};
 use js_data::Event;
 use js_frames::Ground;
 use js_value::{EventSet, SetTree};
@@ -40,8 +41,32 @@ fn named(number: u32, answer: Result<bool, SetFault>) -> Result<bool, SelectFaul
     }
 }
 
+/// Whether the set that the b-thread of this number states has the event, about which this is kept.
+pub(crate) fn ask_as(
+    alloc: Global,
+    ground: &Ground,
+    budget: u64,
+    number: u32,
+    set: &Option<EventSet>,
+    event: &Event,
+    asked: &mut Asked,
+) -> Result<bool, SelectFault>
+    requires { IsAbout (plain_ground ground.now) budget event.now asked.old }
+    ensures answer { let has = member (plain_ground ground.now) budget in
+        AnswersAs (λ b. b) (by_number number (has (stated_set set.now) event.now)) result }
+    ensures about { IsAbout (plain_ground ground.now) budget event.now asked.new }
+{
+    match set {
+        None => Ok(false),
+        Some(set) => named(
+            number,
+            contains_as(alloc, ground, set, event, budget, asked),
+        ),
+    }
+}
+
 /// Whether the set that the b-thread of this number states has the event.
-pub(crate) fn ask(
+fn ask(
     alloc: Global,
     ground: &Ground,
     budget: u64,
@@ -52,10 +77,7 @@ pub(crate) fn ask(
     ensures { let has = member (plain_ground ground.now) budget in
         AnswersAs (λ b. b) (by_number number (has (stated_set set.now) event.now)) result }
 {
-    match set {
-        None => Ok(false),
-        Some(set) => named(number, contains(alloc, ground, set, event, budget)),
-    }
+    ask_as(alloc, ground, budget, number, set, event, &mut Asked::new())
 }
 
 /// Whether no event is in the set, without a look at an event.
@@ -132,10 +154,12 @@ pub(crate) fn blocked_by(
         IfOk result (λ o. IsKnown base budget sets event.now (known_of o)) }
 {
     let mut by = None;
+    let mut asked = Asked::new();
     for stated in blocking {
         let block = &stated.statement.block;
-        let here = ask(alloc, ground, budget, stated.number, block, event)?;
-        by = first_by(by, here, stated.number);
+        let number = stated.number;
+        let here = ask_as(alloc, ground, budget, number, block, event, &mut asked)?;
+        by = first_by(by, here, number);
     }
     Ok(by)
 }

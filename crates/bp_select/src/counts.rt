@@ -1,6 +1,6 @@
 //! Counts by number, and of each block of them together, so that one is found without a look at
 //! each.
-ghost use Rattle.std.specs.Prelude.{◌≡◌, ◌<◌, ◌≤◌, ◌+◌, ◌++◌, ◌∷◌, ℕ, List, [], false, length, nat_eq, sum, take, true, IfOk, IfSome, OnOk};
+ghost use Rattle.std.specs.Prelude.{◌≡◌, ◌<◌, ◌+◌, ◌++◌, ◌∷◌, ℕ, List, [], false, length, nat_eq, sum, take, true, IfOk, IfSome, OnOk};
 ghost use Rattle.bp_select.specs.Counting.{AreSums, count_at};
 
 use bp_log::Memory;

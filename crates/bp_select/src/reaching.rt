@@ -3,6 +3,7 @@ ghost use Rattle.std.specs.Prelude.{◌≡◌, ◌<◌, ◌≤◌, ◌⊎◌, �
 ghost use Rattle.std.specs.List.Sorted.{IsNonDecreasing};
 ghost use Rattle.js_frames.specs.Places.{plain_ground};
 ghost use Rattle.bp_meaning.specs.Membership.{member};
+ghost use Rattle.bp_sets.specs.Asked.{IsAbout};
 ghost use Rattle.bp_run.specs.Choosing.{touched, reach};
 ghost use Rattle.bp_select.specs.Lives.{live_of};
 ghost use Rattle.bp_roll.specs.Rolls.{is_in};
@@ -11,10 +12,11 @@ ghost use Rattle.bp_select.specs.Answers.{AddsTouch, AnswersAs, AnswersReach, mo
 ghost use Rattle.bp_select.specs.Heeding.{Stays};
 ghost use Rattle.bp_select.specs.Touches.{touch_as};
 
-use crate::asking::ask;
+use crate::asking::ask_as;
 use crate::bench::{Stated, requests};
 use crate::{Reach, SelectFault};
 use bp_log::Memory;
+use bp_sets::Asked;
 use js_data::Event;
 use js_frames::Ground;
 use std::alloc::Global;
@@ -38,20 +40,39 @@ fn touch_of(
     budget: u64,
     stated: &Stated,
     event: &Event,
+    asked: &mut Asked,
 ) -> Result<Touch, SelectFault>
-    ensures { AnswersAs (touch_as (live_of stated.now).number)
+    requires { IsAbout (plain_ground ground.now) budget event.now asked.old }
+    ensures touches { AnswersAs (touch_as (live_of stated.now).number)
         (touched (member (plain_ground ground.now) budget) event.now (live_of stated.now)) result }
+    ensures about { IsAbout (plain_ground ground.now) budget event.now asked.new }
 {
     let number = stated.number;
     let states = &stated.statement;
-    let interrupted = ask(alloc, ground, budget, number, &states.interrupt, event)?;
+    let interrupted = ask_as(
+        alloc,
+        ground,
+        budget,
+        number,
+        &states.interrupt,
+        event,
+        asked,
+    )?;
     if interrupted {
         return Ok(Touch::Interrupts);
     }
     if requests(event, stated) {
         return Ok(Touch::Moves);
     }
-    let waited = ask(alloc, ground, budget, number, &states.wait_for, event)?;
+    let waited = ask_as(
+        alloc,
+        ground,
+        budget,
+        number,
+        &states.wait_for,
+        event,
+        asked,
+    )?;
     if waited {
         Ok(Touch::Moves)
     } else {
@@ -83,15 +104,18 @@ fn ask_at(
     live: &[Stated],
     place: usize,
     event: &Event,
+    asked: &mut Asked,
     reach: &mut Reach,
 ) -> Result<(), SelectFault>
-    requires { place < length live.now }
-    ensures { (d : Stated) → let t = live_of (get_or live.now place d) in
+    requires place { place < length live.now }
+    requires about { IsAbout (plain_ground ground.now) budget event.now asked.old }
+    ensures adds { (d : Stated) → let t = live_of (get_or live.now place d) in
         AddsTouch (touched (member (plain_ground ground.now) budget) event.now t) reach.old
         reach.new result }
+    ensures about { IsAbout (plain_ground ground.now) budget event.now asked.new }
 {
     let stated = &live[place];
-    let touch = touch_of(alloc, ground, budget, stated, event)?;
+    let touch = touch_of(alloc, ground, budget, stated, event, asked)?;
     note(reach, stated.number, touch)?;
     Ok(())
 }
@@ -111,8 +135,9 @@ pub(crate) fn reach(
         moved: Vec::new(alloc),
         interrupted: Vec::new(alloc),
     };
+    let mut asked = Asked::new();
     for stated in live {
-        let touch = touch_of(alloc, ground, budget, stated, event)?;
+        let touch = touch_of(alloc, ground, budget, stated, event, &mut asked)?;
         note(&mut reached, stated.number, touch)?;
     }
     Ok(reached)
@@ -145,11 +170,22 @@ pub(crate) fn reach_at(
         moved: Vec::new(alloc),
         interrupted: Vec::new(alloc),
     };
+    let mut asked = Asked::new();
     let mut done = 0;
     for place in places {
         if is_between(*place, done, live.len()) {
-            ask_at(alloc, ground, budget, live, *place, event, &mut reached)?;
-            done = *place + 1;
+            let place = *place;
+            ask_at(
+                alloc,
+                ground,
+                budget,
+                live,
+                place,
+                event,
+                &mut asked,
+                &mut reached,
+            )?;
+            done = place + 1;
         }
     }
     Ok(reached)

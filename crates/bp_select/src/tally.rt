@@ -1,5 +1,5 @@
 //! How many free events each b-thread requests, so that one of all is drawn without a look at each.
-ghost use Rattle.std.specs.Prelude.{◌≡◌, ◌<◌, ◌≤◌, ◌+◌, ◌%◌, ◌⊎◌, ◌^◌, ℕ, [], false, get_or, length, map, nat_eq, slice_get, sum, take, true, List, if◌then◌else◌, None, Ok, Some, IfOk, IfSome, OnOk, OnErr};
+ghost use Rattle.std.specs.Prelude.{◌≡◌, ◌<◌, ◌+◌, ◌%◌, ◌⊎◌, ◌^◌, ℕ, [], false, get_or, length, map, nat_eq, slice_get, sum, take, true, List, if◌then◌else◌, None, Ok, Some, IfOk, IfSome, OnOk};
 ghost use Rattle.js_data.specs.Event.{PlainEvent};
 ghost use Rattle.js_frames.specs.Places.{plain_ground};
 ghost use Rattle.js_meaning.specs.State.{Ground as Base};

@@ -11,6 +11,7 @@ pub loop-stated-init : goal.loop-stated-init
 loop-stated-init c = record {
   asked = blocked_first lent (member (plain_ground c.args.ground.now) c.args.budget) c.args.blocking.now c.args.event.now;
   witness = λ n h. nobody (plain_ground c.args.ground.now) c.args.budget c.args.event.now (map lent c.args.blocking.now) n h;
+  about = c.new-asked.ensures (plain_ground c.args.ground.now) c.args.budget c.args.event.now;
 }
 
 pub loop-stated-preserved : goal.loop-stated-preserved
@@ -20,11 +21,12 @@ loop-stated-preserved c =
     record {
       asked =
           blocked_step lent has c.args.blocking.now c.loop-stated.stated-index x c.args.event.now (is_some c.loop-stated.by) c.in_ok-here.here (is_some c.first_by-by.result)
-          c.loop-stated-test.true c.stated-item.is (ap is_some c.first_by-by.ensures ∙ first_by_some c.loop-stated.by c.in_ok-here.here (lent x).number) c.in_ok-here.ensures c.loop-stated.invariant.asked;
+          c.loop-stated-test.true c.stated-item.is (ap is_some c.first_by-by.ensures ∙ first_by_some c.loop-stated.by c.in_ok-here.here (lent x).number) c.in_ok-here.ensures.answer c.loop-stated.invariant.asked;
       witness = λ n h.
           witness_next (plain_ground c.args.ground.now) c.args.budget c.args.event.now (map lent c.args.blocking.now) c.loop-stated.by c.in_ok-here.here (lent x).number c.loop-stated.invariant.witness
-          (λ yes. has_it (plain_ground c.args.ground.now) c.args.budget c.args.event.now lent c.args.blocking.now c.loop-stated.stated-index x c.requires c.loop-stated-test.true c.stated-item.is (c.in_ok-here.ensures ∙ ap (λ (b : Bool). Ok b) yes))
+          (λ yes. has_it (plain_ground c.args.ground.now) c.args.budget c.args.event.now lent c.args.blocking.now c.loop-stated.stated-index x c.requires c.loop-stated-test.true c.stated-item.is (c.in_ok-here.ensures.answer ∙ ap (λ (b : Bool). Ok b) yes))
           n (sym c.first_by-by.ensures ∙ h);
+      about = c.in_ok-here.ensures.about;
     }
 
 pub returns-clause-blocked : goal.returns-clause-blocked
@@ -42,4 +44,4 @@ returns-in_err-here-clause-blocked c =
     let p = err_from_is_err_and c.from_residual.result c.from_residual.ensures.1 in
     rw (p.1, p.2)
     (blocked_fault lent (member (plain_ground c.args.ground.now) c.args.budget) c.args.blocking.now c.loop-stated.stated-index _ c.args.event.now (is_some c.loop-stated.by) _
-    c.loop-stated-test.true c.stated-item.is c.loop-stated.invariant.asked c.in_err-here.ensures)
+    c.loop-stated-test.true c.stated-item.is c.loop-stated.invariant.asked c.in_err-here.ensures.answer)

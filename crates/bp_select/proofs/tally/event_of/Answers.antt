@@ -1,4 +1,4 @@
-use Rattle.std.proofs.Common.{◌∙◌, List, Option, Vec, ap, map, refl, subst, sym}
+use Rattle.std.proofs.Common.{◌∙◌, List, Option, Vec, refl, subst, sym}
 use Rattle.std.specs.Prelude.{IfSome}
 use Rattle.std.specs.declared.alloc.Global.{Global}
 use Rattle.js_frames.specs.Places.{plain_ground}

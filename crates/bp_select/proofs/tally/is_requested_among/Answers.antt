@@ -1,4 +1,4 @@
-use Rattle.std.proofs.Common.{◌≡◌, ◌∙◌, ◌<◌, ℕ, List, ap, get_or, length}
+use Rattle.std.proofs.Common.{◌∙◌, ◌<◌, ℕ, List, ap, get_or, length}
 use Rattle.std.proofs.lemmas.List.{take_all}
 use Rattle.bp_roll.specs.Rolls.{is_in}
 use Rattle.bp_select.specs.declared.bench.Stated.{Stated}
