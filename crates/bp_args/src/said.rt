@@ -14,11 +14,11 @@ use js_data::Text;
 use std::alloc::Global;
 
 /// The most digits of a number.
-pub const MOST_DIGITS: usize = 20;
+pub(crate) const MOST_DIGITS: usize = 20;
 
 /// What the next word may be.
 #[derive(Clone, Copy)]
-pub enum Waiting {
+pub(crate) enum Waiting {
     /// A name, an option or `--`.
     Any,
     /// The value of this option.
@@ -28,27 +28,27 @@ pub enum Waiting {
 }
 
 /// What the words said so far.
-pub struct Said {
+pub(crate) struct Said {
     /// What the next word may be.
-    pub waiting: Waiting,
+    pub(crate) waiting: Waiting,
     /// The names: words that are not options.
-    pub names: Words,
+    pub(crate) names: Words,
     /// The name of the log.
-    pub log: Option<Text>,
+    pub(crate) log: Option<Text>,
     /// The strategy.
-    pub strategy: Option<Strategy>,
+    pub(crate) strategy: Option<Strategy>,
     /// The seed.
-    pub seed: Option<u64>,
+    pub(crate) seed: Option<u64>,
     /// The budget.
-    pub budget: Option<u64>,
+    pub(crate) budget: Option<u64>,
     /// The limit of steps.
-    pub steps: Option<u32>,
+    pub(crate) steps: Option<u32>,
     /// The number of workers.
-    pub workers: Option<u32>,
+    pub(crate) workers: Option<u32>,
     /// The nodes of a slice.
-    pub slice: Option<u64>,
+    pub(crate) slice: Option<u64>,
     /// Whether the run waits for its injectors.
-    pub wait: Option<bool>,
+    pub(crate) wait: Option<bool>,
 }
 
 impl Drop for Said {
@@ -154,7 +154,7 @@ fn once<T: Drop>(said: &mut Option<T>, value: Option<T>) -> Result<(), Usage>
 
 impl Said {
     /// Nothing is said.
-    pub fn new(alloc: Global) -> Said
+    pub(crate) fn new(alloc: Global) -> Said
         ensures { result ≡ nothing_said }
     {
         Said {
@@ -172,7 +172,7 @@ impl Said {
     }
 
     /// Whether no option waits for its value.
-    pub fn is_whole(&self) -> bool
+    pub(crate) fn is_whole(&self) -> bool
         ensures { result ≡ whole self.now.waiting }
     {
         match self.waiting {
@@ -198,7 +198,7 @@ impl Said {
     }
 
     /// Whether no option is said but those that the first word allows.
-    pub fn only(&self, verb: Verb) -> bool
+    pub(crate) fn only(&self, verb: Verb) -> bool
         ensures { result ≡ only (allows verb) self.now }
     {
         for key in Key::all() {
@@ -210,7 +210,7 @@ impl Said {
     }
 
     /// The names and the name of the log.
-    pub fn into_names(self) -> (Words, Option<Text>)
+    pub(crate) fn into_names(self) -> (Words, Option<Text>)
         ensures { result ≡ (self.names, self.log) }
     {
         let Said {
@@ -229,7 +229,7 @@ impl Said {
     }
 
     /// The same, with these names.
-    pub fn with_names(mut self, names: Words) -> Said
+    pub(crate) fn with_names(mut self, names: Words) -> Said
         ensures { result ≡ record self { names = names } }
     {
         self.names = names;
@@ -244,7 +244,7 @@ impl Said {
     }
 
     /// The option gets the value.
-    pub fn set(&mut self, alloc: Global, key: Key, value: &str) -> Result<(), Usage>
+    pub(crate) fn set(&mut self, alloc: Global, key: Key, value: &str) -> Result<(), Usage>
         ensures set { IfOk result (λ _. with_value self.old key value.now ≡ Some self.new) }
         ensures wrong { IsErrOf result Usage.Wrong → with_value self.old key value.now ≡ None }
     {
@@ -299,7 +299,7 @@ impl Said {
     }
 
     /// What is said with one more word. After a refusal nothing is known of what is said.
-    pub fn step(&mut self, alloc: Global, word: &str) -> Result<(), Usage>
+    pub(crate) fn step(&mut self, alloc: Global, word: &str) -> Result<(), Usage>
         ensures said { IfOk result (λ _. step self.old word.now ≡ Some self.new) }
         ensures wrong { IsErrOf result Usage.Wrong → step self.old word.now ≡ None }
     {

@@ -7,7 +7,7 @@ use bp_matches::Key;
 
 /// The first word of a command.
 #[derive(Clone, Copy)]
-pub enum Verb {
+pub(crate) enum Verb {
     /// A program is run.
     Run,
     /// A log is replayed.
@@ -35,7 +35,7 @@ impl Verb {
     }
 
     /// The word.
-    pub fn name(self) -> &'static str
+    pub(crate) fn name(self) -> &'static str
         ensures { result.now ≡ verb_name self }
     {
         match self {
@@ -48,7 +48,7 @@ impl Verb {
     }
 
     /// The first word that this word is, or `None` exactly where it is none.
-    pub fn of_name(word: &str) -> Option<Verb>
+    pub(crate) fn of_name(word: &str) -> Option<Verb>
         ensures { result ≡ verb_at word.now }
     {
         for verb in Verb::all() {
@@ -60,7 +60,7 @@ impl Verb {
     }
 
     /// Whether the option may be said after the word.
-    pub fn allows(self, key: Key) -> bool
+    pub(crate) fn allows(self, key: Key) -> bool
         ensures { result ≡ allowed self key }
     {
         match (self, key) {
@@ -80,7 +80,7 @@ impl Verb {
     }
 
     /// Whether this many names may stand after the word.
-    pub fn takes(self, names: usize) -> bool
+    pub(crate) fn takes(self, names: usize) -> bool
         ensures { result ≡ taken_by self names }
     {
         1 <= names && names <= self.most_names()

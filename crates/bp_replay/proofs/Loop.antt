@@ -13,7 +13,7 @@ use Rattle.bp_log.specs.declared.verdict.Verdict.{Verdict}
 use Rattle.bp_reading.specs.Reading.{Stage, BeginsWith, BreaksOff, found, finished, refused, next_at, first_stage, after}
 use Rattle.bp_reading.proofs.Fronts.{begins_on, begins_front, none_going, none_over}
 use Rattle.bp_reader.specs.Fed.{Between}
-use Rattle.bp_reader.specs.Reads.{Standing, MeansNext, Tells as ReaderTells}
+use Rattle.bp_reader.specs.Reads.{IsStageAfter, Standing, MeansNext, Tells as ReaderTells}
 use Rattle.bp_reader.specs.declared.fault.LogFault.{LogFault}
 use Rattle.bp_reader.specs.declared.fault.LogFault.TheVariants as log
 use Rattle.bp_run.specs.Configuration.{Configuration}
@@ -246,22 +246,28 @@ told_end c v d t g h = (
 )
 
 -- what a record that was not followed answers is neither of the reader nor of the output
-pub followed_log : (c : Course) (r : Record) (n : ℕ) (a : PlainArbiter) (e : ReplayFault) (f : LogFault) → Followed c r n a (Err e) → e ≡ fault.Log f → ⊥
+followed_log : (c : Course) (r : Record) (n : ℕ) (a : PlainArbiter) (e : ReplayFault) (f : LogFault) → Followed c r n a (Err e) → e ≡ fault.Log f → ⊥
 followed_log c r n a (fault.Log x) f h k = h
 followed_log c r n a (fault.Differs number expected other) f h k = cc
 followed_log c r n a fault.Program f h k = h
 followed_log c r n a fault.Write f h k = h
 followed_log c r n a fault.Memory f h k = cc
 
-pub followed_write : (c : Course) (r : Record) (n : ℕ) (a : PlainArbiter) (e : ReplayFault) → Followed c r n a (Err e) → e ≡ fault.Write → ⊥
+followed_write : (c : Course) (r : Record) (n : ℕ) (a : PlainArbiter) (e : ReplayFault) → Followed c r n a (Err e) → e ≡ fault.Write → ⊥
 followed_write c r n a (fault.Log x) h k = h
 followed_write c r n a (fault.Differs number expected other) h k = cc
 followed_write c r n a fault.Program h k = h
 followed_write c r n a fault.Write h k = h
 followed_write c r n a fault.Memory h k = cc
 
-pub same_error : (r : Result Verdict ReplayFault) (a b : ReplayFault) → r ≡ Err a → r ≡ Err b → a ≡ b
+same_error : (r : Result Verdict ReplayFault) (a b : ReplayFault) → r ≡ Err a → r ≡ Err b → a ≡ b
 same_error r a b h k = cc
+
+pub never_log : {result : Result Verdict ReplayFault} {d e : ReplayFault} (c : Course) (r : Record) (n : ℕ) (a : PlainArbiter) (f : LogFault) → Followed c r n a (Err e) → result ≡ Err d → d ≡ e → result ≡ Err (fault.Log f) → ⊥
+never_log {result} {d} {e} c r n a f h k l m = followed_log c r n a e f h (sym l ∙ same_error result d (fault.Log f) k m)
+
+pub never_write : {result : Result Verdict ReplayFault} {d e : ReplayFault} (c : Course) (r : Record) (n : ℕ) (a : PlainArbiter) → Followed c r n a (Err e) → result ≡ Err d → d ≡ e → result ≡ Err fault.Write → ⊥
+never_write {result} {d} {e} c r n a h k l m = followed_write c r n a e h (sym l ∙ same_error result d fault.Write k m)
 
 -- one line more was shown
 pub shown_on : (result : Result Verdict ReplayFault) (a b later : Option (List ℕ)) (text page more next whole : List ℕ) → whole ≡ text ++ more → Shows a text page b → Shown result b (page ++ more) next later → Shown result a whole next later
@@ -337,3 +343,89 @@ along_on first rest before old new a b number next page now_page now later r w s
       reached = reached_on c rest old.left new.left old.stage new.stage r m.0 w.reached tells stage;
       shows = shows_course c w.taken (w.way).more before now later page now_page (w.way).lines w.shows s;
     }
+
+-- an error is told as what it is
+pub tells_error : (first : Course) (rest before : Option (List ℕ)) (page : List ℕ) (later : Option (List ℕ)) {result : Result Verdict ReplayFault} {e f : ReplayFault} → result ≡ Err e → e ≡ f →
+    IfSome rest (λ bytes. Tells first bytes before page later (Err f)) → IfSome rest (λ bytes. Tells first bytes before page later result)
+tells_error first rest before page later h k t =
+    subst (λ (r : Result Verdict ReplayFault). IfSome rest (λ bytes. Tells first bytes before page later r)) (sym (h ∙ ap (λ (x : ReplayFault). Err x) k)) t
+
+-- the reader told a record
+pub found_told : (left after_left : Option (List ℕ)) (s : Stage) {o : Option Record} {r : Record} → o ≡ Some r → IfSome left (λ bytes. ReaderTells (Ok o) (next_at s bytes) after_left) → IfSome left (λ bytes. ReaderTells (Ok (Some r)) (next_at s bytes) after_left)
+found_told left after_left s e h = subst (λ (x : Option Record). IfSome left (λ bytes. ReaderTells (Ok x) (next_at s bytes) after_left)) e h
+
+pub stage_told : (s : Stage) {t : Stage} {o : Option Record} {r : Record} → o ≡ Some r → IsStageAfter s (Ok o) t → t ≡ after s r
+stage_told s {t} e h = subst (λ (x : Option Record). IsStageAfter s (Ok x) t) e h
+
+-- ---- from a moment of the loop
+
+module _ {first : Course} {rest before : Option (List ℕ)} {reader : Standing} {a : PlainArbiter} {number : ℕ} {page : List ℕ} {now : Option (List ℕ)} (w : Along first rest before reader a number page now) where
+  -- all lines so far were put on the page
+  along_shown : {next : List ℕ} {later : Option (List ℕ)} → Shows now (page ++ lines_text (w.way).more) next later → Shows before (text_in w.course) next later
+  along_shown s = shows_course w.course w.taken (w.way).more before now _ page _ (w.way).lines w.shows s
+
+  -- the output failed there, or memory ran out
+  pub along_unwritten : {next : List ℕ} {later : Option (List ℕ)} (f : PrintError) → ShowsFront now (page ++ lines_text (w.way).more) next later → IfSome rest (λ bytes. Tells first bytes before next later (Err (fault_of_print f)))
+  along_unwritten f s =
+      tells_unwritten first w.course w.program w.options w.version ((w.way).runs).told rest before _ _ reader.stage reader.left f w.reached
+      (front_course w.course w.taken (w.way).more before now _ page _ (w.way).lines w.shows s)
+
+  pub along_memory : {next : List ℕ} {later : Option (List ℕ)} → Shows now (page ++ lines_text (w.way).more) next later → IfSome rest (λ bytes. Tells first bytes before next later (Err fault.Memory))
+  along_memory s = tells_memory first w.course w.program w.options w.version ((w.way).runs).told rest before _ _ reader.stage reader.left w.reached (along_shown s)
+
+  -- the reader refused what stands next
+  pub along_refused : {next : List ℕ} {later : Option (List ℕ)} (f : LogFault) → IfSome reader.left (λ bytes. MeansNext f (next_at reader.stage bytes)) → Shows now (page ++ lines_text (w.way).more) next later →
+      IfSome rest (λ bytes. Tells first bytes before next later (Err (fault_of_log f)))
+  along_refused f h s = tells_refused first w.course w.program w.options w.version ((w.way).runs).told rest before _ _ reader.stage reader.left f w.reached h (along_shown s)
+
+  -- a read failed
+  pub along_cut : {next : List ℕ} {later : Option (List ℕ)} (after_left : Option (List ℕ)) → Shows now (page ++ lines_text (w.way).more) next later → Between reader.left after_left (BreaksOff reader.stage) →
+      Between rest after_left (λ bytes more. TellsTaken first bytes more before next later)
+  along_cut after_left s b = taken_cut first w.course w.program w.options w.version ((w.way).runs).told before _ _ reader.stage rest reader.left after_left w.going (along_shown s) w.reached b
+
+  -- the record is not what the run makes
+  pub along_parted : {next : List ℕ} {later : Option (List ℕ)} (after_left : Option (List ℕ)) (r : Record) (n : ℕ) (b : PlainArbiter) (e : ReplayFault) → IfSome reader.left (λ bytes. ReaderTells (Ok (Some r)) (next_at reader.stage bytes) after_left) →
+      n ≡ number + 1 → Followed w.course r n b (Err e) → Shows now (page ++ lines_text (w.way).more) next later → IfSome rest (λ bytes. Tells first bytes before next later (Err e))
+  along_parted after_left r n b e h k f s =
+      tells_parted first w.course w.program w.options w.version ((w.way).runs).told rest before _ _ reader.stage reader.left after_left r n b e w.reached h
+      (k ∙ ap (λ (m : ℕ). m + 1) w.number_is) f (along_shown s)
+
+  -- the record said the verdict: the story with its end
+  pub record Said (v : Verdict) (new : Standing) : Type 0 where
+    pub moment : Configuration Origin
+    pub told : IsTold (onto w.course (End v) moment)
+    pub text : text_in (onto w.course (End v) moment) ≡ text_in w.course ++ lines_text (trace.Verdict v ∷ [])
+    pub reached : Reached (onto w.course (End v) moment) rest new.stage new.left
+    pub ended : new.stage.ended ≡ true
+
+  end_said : (b : PlainArbiter) (new : Standing) (v : Verdict) → Makes w.course (End v) b → IfSome reader.left (λ bytes. ReaderTells (Ok (Some (End v))) (next_at reader.stage bytes) new.left) → new.stage ≡ after reader.stage (End v) → Said v new
+  end_said b new v m tells stage =
+      let t = told_end w.course v m.0 ((w.way).runs).told ((w.way).runs).going m.1 in
+      record {
+        moment = m.0;
+        told = t.0;
+        text = t.1;
+        reached = reached_on w.course rest reader.left new.left reader.stage new.stage (End v) m.0 w.reached tells stage;
+        ended = ap (λ (x : Stage). x.ended) stage;
+      }
+
+  pub along_said : (r : Record) (b : PlainArbiter) (new : Standing) (v : Verdict) → Makes w.course r b → verdict_of b.records ≡ Some v → IfSome reader.left (λ bytes. ReaderTells (Ok (Some r)) (next_at reader.stage bytes) new.left) →
+      new.stage ≡ after reader.stage r → Said v new
+  along_said r b new v m said tells stage =
+      let e = said_end w.course r b v m said in
+      end_said b new v (subst (λ (x : Record). Makes w.course x b) e m) (subst (λ (x : Record). IfSome reader.left (λ bytes. ReaderTells (Ok (Some x)) (next_at reader.stage bytes) new.left)) e tells)
+      (stage ∙ ap (λ (x : Record). after reader.stage x) e)
+
+  -- and then the log ended, or did not
+  pub along_finished : {next : List ℕ} {mid : Option (List ℕ)} (last : List ℕ) (later : Option (List ℕ)) {v : Verdict} {new : Standing} (result : Result Verdict ReplayFault) → Said v new → IfSome new.left (λ bytes. Finishes v (next_at new.stage bytes) result) →
+      Shows now (page ++ lines_text (w.way).more) next mid → Shown result mid (next ++ lines_text (trace.Verdict v ∷ [])) last later → IfSome rest (λ bytes. Tells first bytes before last later result)
+  along_finished {next} {mid} last later {v} {new} result s h shows shown =
+      tells_finished first (onto w.course (End v) s.moment) w.program w.options w.version s.told rest before last later new.stage new.left v result s.reached (verdict_by_last w.course.records (End v)) h
+      (shown_on result before mid later (text_in w.course) next (lines_text (trace.Verdict v ∷ [])) last (text_in (onto w.course (End v) s.moment)) s.text (along_shown shows) shown)
+
+  -- or a read failed
+  pub along_whole : {next last : List ℕ} {mid later : Option (List ℕ)} (after_left : Option (List ℕ)) {v : Verdict} {new : Standing} → Said v new → Shows now (page ++ lines_text (w.way).more) next mid →
+      Shown (Err (fault.Log log.Read)) mid (next ++ lines_text (trace.Verdict v ∷ [])) last later → Between new.left after_left (BreaksOff new.stage) → Between rest after_left (λ bytes more. TellsTaken first bytes more before last later)
+  along_whole {next} {last} {mid} {later} after_left {v} {new} s shows shown b =
+      taken_whole first (onto w.course (End v) s.moment) w.program w.options w.version s.told before last later new.stage rest new.left after_left v s.ended (verdict_by_last w.course.records (End v))
+      (shown_on (Err (fault.Log log.Read)) before mid later (text_in w.course) next (lines_text (trace.Verdict v ∷ [])) last (text_in (onto w.course (End v) s.moment)) s.text (along_shown shows) shown) s.reached b

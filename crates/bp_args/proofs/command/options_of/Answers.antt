@@ -1,7 +1,7 @@
-use Rattle.std.proofs.Common.{◌≡◌, ◌∙◌, Bool, Some, option_map, ap, sym, if◌then◌else◌}
-use Rattle.std.specs.Prelude.{unwrap_or, None}
+use Rattle.std.proofs.Common.{◌≡◌, ◌∙◌, Bool, Some, option_map, ap, sym}
+use Rattle.std.specs.Prelude.{unwrap_or}
 use Rattle.bp_log.specs.Options.{PlainOptions, default_options}
-use Rattle.bp_args.specs.Command.{options_of, in_range}
+use Rattle.bp_args.specs.Command.{options_of}
 use Rattle.bp_args.proofs.Ranges.{told_waiting}
 use Rattle.bp_args.proofs.command.options_of.Goals as goal
 
