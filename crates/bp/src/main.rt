@@ -2,14 +2,11 @@
 #![tactic(auto)]
 
 use bp_base::{FileWorld, StreamSink};
-use bp_cli::command;
+use bp_cli::{NO_MEMORY, command};
 use std::process::ExitCode;
 use std::{env, io};
 
-/// The status that says that memory runs out.
-const NO_MEMORY: u8 = 10;
-
-/// The arguments after the program's name. An argument that is no UTF-8 is no word of a command, so then there are none.
+/// The arguments after the program's name. An argument that is not UTF-8 is not a word of a command, so then there are none.
 fn words_of(rt: &HostRuntime) -> io::Result<Vec<String>> {
     let alloc = rt.alloc();
     let mut words = Vec::new(alloc);

@@ -4,10 +4,10 @@ use Rattle.bp_base.specs.declared.outside.WorldError.{WorldError}
 use Rattle.bp_log.specs.Verdicts.{kind_of}
 use Rattle.bp_log.specs.declared.verdict.VerdictKind.{VerdictKind}
 use Rattle.bp_log.specs.declared.verdict.VerdictKind.TheVariants as kind
+use Rattle.bp_notes.specs.Notes.{bad_log_note}
 use Rattle.bp_script.specs.Refusals as refusals
 use Rattle.bp_script.specs.declared.reading.ScriptFault.{ScriptFault}
 use Rattle.bp_session.specs.declared.report.Ending.{Ending}
-use Rattle.bp_cli.specs.Replaying.{bad_log_note}
 use Rattle.bp_cli.specs.declared.conclusion.Conclusion.{Conclusion}
 use Rattle.bp_cli.specs.declared.conclusion.Conclusion.TheVariants.{NoCommand, Refused, Accepted, Ran, NotRead, NotWritten, NoMemory, BadLog, Migrated}
 

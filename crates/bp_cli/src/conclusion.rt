@@ -1,19 +1,22 @@
 //! How a command ends.
-ghost use Rattle.std.specs.Prelude.{◌≡◌, true, IfOk, OnErr, string_bytes, unwrap_or};
+ghost use Rattle.std.specs.Prelude.{◌≡◌, true, IfOk, OnErr, unwrap_or};
 ghost use Rattle.bp_cli.specs.Conclusions.{code_of, note_of, has_note, verdict_code, conclusion_of, ended_of, unopened_of, unmade_of};
-ghost use Rattle.bp_cli.specs.Replaying.{trouble_of as trouble_in, replayed_of, log_detail as log_fault_text, detail_of, bad_log_note as bad_log_text};
+ghost use Rattle.bp_cli.specs.Replaying.{trouble_of as trouble_in, replayed_of};
 ghost use Rattle.bp_cli.specs.Migrating.{as_replayed, migrated_of};
 
 use bp_base::WorldError;
 use bp_log::{Memory, Verdict, VerdictKind};
 use bp_migrate::MigrateFault;
-use bp_notes::differing;
+use bp_notes::bad_log_note;
 use bp_reader::LogFault;
 use bp_replay::ReplayFault;
 use bp_script::{Refusal, ScriptFault};
 use bp_session::Ending;
 use js_data::Text;
 use std::alloc::Global;
+
+/// The code of a command that ran out of memory.
+pub const NO_MEMORY: u8 = 10;
 
 /// The note for words that are not a command.
 const USAGE: &str =
@@ -120,46 +123,6 @@ fn as_replayed(fault: MigrateFault) -> ReplayFault
     }
 }
 
-/// Why bytes are not a log.
-fn log_detail(alloc: Global, fault: LogFault) -> Result<String, Memory>
-    ensures { IfOk result (λ s. string_bytes s ≡ log_fault_text fault) }
-{
-    match fault {
-        LogFault::Version => "version".to_string(alloc),
-        LogFault::Header => "header".to_string(alloc),
-        LogFault::Line(number) => format!(in alloc; "line {number}"),
-        LogFault::Cut => "cut".to_string(alloc),
-        LogFault::Read => "read fault".to_string(alloc),
-        LogFault::Memory => "memory".to_string(alloc),
-    }
-}
-
-/// Why a log is bad.
-fn detail(alloc: Global, fault: &ReplayFault) -> Result<String, Memory>
-    ensures { IfOk result (λ s. string_bytes s ≡ detail_of fault.now) }
-{
-    match fault {
-        ReplayFault::Log(fault) => log_detail(alloc, *fault),
-        ReplayFault::Differs {
-            number,
-            expected,
-            found,
-        } => differing(alloc, *number, expected, found),
-        ReplayFault::Program => "program".to_string(alloc),
-        ReplayFault::Write => "write fault".to_string(alloc),
-        ReplayFault::Memory => "memory".to_string(alloc),
-    }
-}
-
-/// The note of a bad log.
-fn bad_log_note(alloc: Global, fault: &ReplayFault) -> Result<Text, Memory>
-    ensures { IfOk result (λ t. t ≡ bad_log_text fault.now) }
-{
-    let detail = detail(alloc, fault)?;
-    let detail = detail.as_str();
-    Ok(Text::new(format!(in alloc; "bad log: {detail}")?))
-}
-
 impl Conclusion {
     /// What comes of a session.
     pub(crate) fn of(end: Ending) -> Conclusion
@@ -234,7 +197,7 @@ impl Conclusion {
             Conclusion::Ran(verdict) => verdict_code(verdict.kind()),
             Conclusion::NotRead => 8,
             Conclusion::NotWritten => 9,
-            Conclusion::NoMemory => 10,
+            Conclusion::NoMemory => NO_MEMORY,
             Conclusion::BadLog(_) => 11,
         }
     }

@@ -14,4 +14,5 @@ mod running;
 mod status;
 
 pub use commands::command;
+pub use conclusion::NO_MEMORY;
 pub use status::Status;

@@ -1,4 +1,4 @@
-//! The texts of records.
+//! The texts of records and verdicts.
 ghost use Rattle.std.specs.Prelude.{◌≡◌, IfOk, string_bytes};
 ghost use Rattle.bp_log.specs.Logs.{record_text};
 ghost use Rattle.bp_log.specs.Texts.{verdict_text};
@@ -13,7 +13,7 @@ use std::alloc::Global;
 const VERDICT: &str = "verdict ";
 
 /// The text of a verdict, which is that of its line after the first word.
-fn verdict_text_of(alloc: Global, verdict: &Verdict) -> Result<Text, Memory>
+pub fn verdict_text_of(alloc: Global, verdict: &Verdict) -> Result<Text, Memory>
     ensures { IfOk result (λ t. t ≡ verdict_text verdict.now) }
 {
     let line = line_of(alloc, &Line::Verdict(verdict.copy()?))?;
@@ -61,7 +61,7 @@ fn expected_text_of(alloc: Global, expected: &Option<Record>) -> Result<Text, Me
 }
 
 /// That the record of this number is not the one that is expected.
-pub fn differing(
+pub(crate) fn differing(
     alloc: Global,
     number: u32,
     expected: &Option<Record>,

@@ -1,4 +1,3 @@
-pub mod Behind
 pub mod Merging
 pub mod Places
 pub mod Runs

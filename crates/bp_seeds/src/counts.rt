@@ -11,7 +11,7 @@ use std::marker::Model;
 /// A kind of end, how many seeds end so, and the first of them. Contracts see it as the record of
 /// the three.
 #[derive(Drop)]
-pub struct Counted {
+pub(crate) struct Counted {
     kind: Text,
     count: u64,
     first: u64,
@@ -27,7 +27,7 @@ impl Model for Counted {
 
 impl Counted {
     /// One end of this kind, of this seed.
-    pub fn one(kind: Text, seed: u64) -> Counted
+    pub(crate) fn one(kind: Text, seed: u64) -> Counted
         ensures { result ≡ record { kind = kind; count = 1; first = seed } }
     {
         Counted {
@@ -48,7 +48,7 @@ impl Counted {
 
 /// Ends by kind, in the order of their first seeds. Contracts see them as the list.
 #[derive(Drop)]
-pub struct Counts {
+pub(crate) struct Counts {
     items: Vec<Counted>,
 }
 
@@ -63,7 +63,7 @@ impl Model for Counts {
 
 impl Counts {
     /// No ends.
-    pub fn new(alloc: Global) -> Counts
+    pub(crate) fn new(alloc: Global) -> Counts
         ensures { result ≡ [] }
     {
         Counts {
@@ -86,7 +86,7 @@ impl Counts {
 
     /// As many more of a kind.
     #[tactic(auto, using(crate::proofs::Places::not_counted))]
-    pub fn add(&mut self, more: Counted) -> Result<(), Memory>
+    pub(crate) fn add(&mut self, more: Counted) -> Result<(), Memory>
         requires { total self.old + more.count < 2 ^ 64 }
         ensures { OnOk result (self.new ≡ count_more more self.old) }
     {
@@ -98,7 +98,7 @@ impl Counts {
     }
 
     /// Adds the counts of later seeds.
-    pub fn merge(&mut self, later: Counts) -> Result<(), Memory>
+    pub(crate) fn merge(&mut self, later: Counts) -> Result<(), Memory>
         requires { total self.old + total later < 2 ^ 64 }
         ensures { OnOk result (self.new ≡ merged self.old later) }
     {
@@ -109,7 +109,7 @@ impl Counts {
     }
 
     /// A line for each kind.
-    pub fn text(&self, alloc: Global) -> Result<String, Memory>
+    pub(crate) fn text(&self, alloc: Global) -> Result<String, Memory>
         ensures { IfOk result (λ s. string_bytes s ≡ flat_map counted_text self.now) }
     {
         let mut text = String::new(alloc);

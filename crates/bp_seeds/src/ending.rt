@@ -1,23 +1,21 @@
 //! How a run ends, in words.
 ghost use Rattle.std.specs.Prelude.{◌≡◌, IfOk};
-ghost use Rattle.bp_log.specs.Texts.{place_text, verdict_text};
+ghost use Rattle.bp_log.specs.Texts.{place_text};
 ghost use Rattle.bp_explain.specs.Seeds.{kind_text};
 
-use bp_log::{Line, Memory, Place, Verdict, line_of};
+use bp_log::{Memory, Place, Verdict};
+use bp_notes::verdict_text_of;
 use js_data::Text;
 use js_json::quoted;
 use std::alloc::Global;
 
-/// What stands before a verdict in the line that tells it.
-const VERDICT: &str = "verdict ";
-
 /// How a run ends.
 #[derive(Drop)]
-pub struct End {
+pub(crate) struct End {
     /// Its verdict.
-    pub verdict: Verdict,
+    pub(crate) verdict: Verdict,
     /// Whether some b-thread still stands.
-    pub alive: bool,
+    pub(crate) alive: bool,
 }
 
 /// The text of these words.
@@ -37,20 +35,9 @@ fn place_text_of(alloc: Global, place: &Place) -> Result<Text, Memory>
     }
 }
 
-/// The text of a verdict, which is that of its line behind the first word.
-fn verdict_text_of(alloc: Global, verdict: &Verdict) -> Result<Text, Memory>
-    ensures { IfOk result (λ t. t ≡ verdict_text verdict.now) }
-{
-    let line = line_of(alloc, &Line::Verdict(verdict.copy()?))?;
-    match line.as_str().strip_prefix(VERDICT) {
-        Some(said) => Ok(Text::new(said.to_string(alloc)?)),
-        None => unreachable!(),
-    }
-}
-
 impl End {
     /// Its kind, in words.
-    pub fn kind(&self, alloc: Global) -> Result<Text, Memory>
+    pub(crate) fn kind(&self, alloc: Global) -> Result<Text, Memory>
         ensures { IfOk result (λ t. t ≡ kind_text self.now.alive self.now.verdict) }
     {
         match &self.verdict {
