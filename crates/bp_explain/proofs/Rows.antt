@@ -6,13 +6,12 @@ use Rattle.js_data.specs.Event.{PlainEvent}
 use Rattle.js_data.specs.JsonText.{event_text}
 use Rattle.js_data.specs.declared.fault.Fault.TheVariants.{Zero}
 use Rattle.js_value.specs.Value as v
-use Rattle.js_value.specs.Value.{PlainSet, SetList}
+use Rattle.js_value.specs.Value.{PlainSet}
 use Rattle.bp_log.specs.Logs.{record_text}
 use Rattle.bp_log.specs.Options.{PlainOptions, default_options}
 use Rattle.bp_log.specs.Texts.{line_text}
-use Rattle.bp_log.specs.declared.options.Strategy.TheVariants.{Ordered}
 use Rattle.bp_log.specs.declared.record.Record.{Record}
-use Rattle.bp_log.specs.declared.record.Record.TheVariants.{In, Eof, Sel, End}
+use Rattle.bp_log.specs.declared.record.Record.TheVariants.{In, Sel, End}
 use Rattle.bp_log.specs.declared.verdict.Place.TheVariants.{Top, Thread as Named}
 use Rattle.bp_log.specs.declared.verdict.Verdict.TheVariants as verdict
 use Rattle.bp_run.specs.Bodies.{Part}
@@ -22,13 +21,12 @@ use Rattle.bp_run.specs.Settling.{turn, settle_in, settle, initial}
 use Rattle.bp_run.specs.Selecting.{selectable}
 use Rattle.bp_run.specs.Choosing.{choice, reach}
 use Rattle.bp_run.specs.Story.{step, next, after_record, story_from, story, alone_from, alone}
-use Rattle.bp_run.proofs.Rows.{Small, All, Nothing, Only, Untrue, Fails, Body, Main, A, B, C, D, x, y, go, at_point, asking, doing, code, with_injectors, nothing_at_all, one_blocked, one_overtaken, interrupted_by_x, outcome_of_A}
+use Rattle.bp_run.proofs.Rows.{Small, All, Nothing, Only, Untrue, Fails, Body, Main, A, B, C, D, x, y, go, at_point, asking, doing, code, with_injectors, nothing_at_all, one_blocked, one_overtaken, outcome_of_A}
 use Rattle.bp_explain.specs.Words.{Words}
 use Rattle.bp_explain.specs.Sets.{set_words, is_no_set}
 use Rattle.bp_explain.specs.Standing.{standing_text}
 use Rattle.bp_explain.specs.States.{rest_text}
 use Rattle.bp_explain.specs.Explained.{state_after}
-use Rattle.bp_explain.specs.Whys.{why_text, why}
 use Rattle.bp_explain.specs.Seeds.{kind_text, kind_alone, seeds_text}
 
 -- ---- sets
@@ -143,49 +141,6 @@ a_fault_within_a_turn_tells_the_state_before = refl
 pub records_that_are_no_story_have_no_state : told one_blocked default_options (Sel x ∷ []) ≡ None
 unfolding turn settle_in settle initial selectable choice reach step next after_record story_from story line_text record_text digits standing_text rest_text state_after
 records_that_are_no_story_have_no_state = refl
-
--- ---- why an event was selected
-
--- x and y are requested by A, y and go by B, and C blocks x and waits for all; the first word is 5
-abbrev many_ask : Body → List PlainEvent → Part Body Small
-many_ask Main replies = doing (Register (codes "A") A ∷ Register (codes "B") B ∷ Register (codes "C") C ∷ [])
-many_ask A [] = at_point (x ∷ y ∷ []) Nothing Nothing Nothing
-many_ask B [] = asking (pos 2) (y ∷ go ∷ []) Nothing Nothing Nothing
-many_ask C [] = at_point [] All (Only x) Nothing
-many_ask _ replies = doing []
-
-abbrev reason : (Body → List PlainEvent → Part Body Small) → PlainOptions → ℕ → List Record → Option (List ℕ)
-reason body o n records = why (code body) o n records
-
-pub a_word_is_drawn : reason many_ask default_options 0 (Sel go ∷ [])
-    ≡ Some (codes "selection 1, record 1\ncandidate [\"x\"], requested by \"A\", blocked by \"C\"\ncandidate [\"y\"], requested by \"A\", \"B\"\ncandidate [\"go\"], requested by \"B\"\nstrategy simple leaves [\"y\"], [\"go\"]\nword 5 mod 2 is 1\nselected [\"go\"]\nmoved \"B\", \"C\"\n")
-unfolding turn settle_in settle initial selectable choice reach step next after_record story_from story record_text digits why_text why
-a_word_is_drawn = refl
-
-pub one_event_is_left : reason many_ask (record default_options { strategy = Ordered }) 0 (Sel y ∷ [])
-    ≡ Some (codes "selection 1, record 1\ncandidate [\"x\"], requested by \"A\", blocked by \"C\"\ncandidate [\"y\"], requested by \"A\", \"B\"\ncandidate [\"go\"], requested by \"B\"\nstrategy ordered leaves [\"y\"]\nselected [\"y\"]\nmoved \"A\", \"B\", \"C\"\n")
-unfolding turn settle_in settle initial selectable choice reach step next after_record story_from story record_text digits why_text why
-one_event_is_left = refl
-
-pub one_that_waits_is_overtaken : reason one_overtaken (with_injectors 1) 0 (In 0 x ∷ In 0 go ∷ Sel go ∷ [])
-    ≡ Some (codes "selection 1, record 3\nwaiting [\"x\"], blocked by \"B\"\nselected [\"go\"], from the queue\nmoved \"B\"\n")
-unfolding turn settle_in settle initial selectable choice reach step next after_record story_from story record_text digits why_text why
-one_that_waits_is_overtaken = refl
-
--- B no longer blocks x then, and C hears it
-pub later_selections_are_counted : reason one_overtaken (with_injectors 1) 1 (In 0 x ∷ In 0 go ∷ Sel go ∷ Eof 0 ∷ Sel x ∷ [])
-    ≡ Some (codes "selection 2, record 5\nselected [\"x\"], from the queue\nmoved \"C\"\n")
-unfolding turn settle_in settle initial selectable choice reach step next after_record story_from story record_text digits why_text why
-later_selections_are_counted = refl
-
-pub who_is_interrupted_is_named : reason interrupted_by_x default_options 0 (Sel x ∷ [])
-    ≡ Some (codes "selection 1, record 1\ncandidate [\"x\"], requested by \"B\"\nstrategy simple leaves [\"x\"]\nselected [\"x\"]\nmoved \"B\"\ninterrupted \"A\"\n")
-unfolding turn settle_in settle initial selectable choice reach step next after_record story_from story record_text digits why_text why
-who_is_interrupted_is_named = refl
-
-pub there_is_no_such_selection : reason many_ask default_options 1 (Sel go ∷ []) ≡ None
-unfolding turn settle_in settle initial selectable choice reach step next after_record story_from story record_text digits why_text why
-there_is_no_such_selection = refl
 
 -- ---- seeds
 

@@ -17,7 +17,7 @@ use Rattle.bp_explain.specs.Stops.{live_of, standing_of, name_of, blocker_names,
 
 -- ---- lists
 
-listed_from_map : {A : Type 0} (b : Bool) (f : A → List ℕ) (xs : List A) → listed_from b f xs ≡ listed_from b (λ (x : List ℕ). x) (map f xs)
+pub listed_from_map : {A : Type 0} (b : Bool) (f : A → List ℕ) (xs : List A) → listed_from b f xs ≡ listed_from b (λ (x : List ℕ). x) (map f xs)
 listed_from_map b f [] = refl
 listed_from_map b f (x ∷ xs) = ap (λ (rest : List ℕ). comma b ++ (f x ++ rest)) (listed_from_map true f xs)
 
@@ -25,7 +25,7 @@ flat_map_map : {A B : Type 0} (f : B → List ℕ) (g : A → B) (xs : List A) �
 flat_map_map f g [] = refl
 flat_map_map f g (x ∷ xs) = ap (λ (rest : List ℕ). f (g x) ++ rest) (flat_map_map f g xs)
 
-flat_map_same : {A : Type 0} (f g : A → List ℕ) (xs : List A) → ((x : A) → f x ≡ g x) → flat_map f xs ≡ flat_map g xs
+pub flat_map_same : {A : Type 0} (f g : A → List ℕ) (xs : List A) → ((x : A) → f x ≡ g x) → flat_map f xs ≡ flat_map g xs
 flat_map_same f g [] h = refl
 flat_map_same f g (x ∷ xs) h = rw (h x, flat_map_same f g xs h) refl
 
@@ -42,7 +42,7 @@ pub record AreStopsOf {O : Type 0} (l : Code O PlainSet) (w : Words O PlainSet) 
   pub lives : live l s ≡ map live_of ss
   pub named : AreNamed s ss
 
-abbrev words_at : {O : Type 0} → Stand O → ℕ → List ℕ
+abbrev pub words_at : {O : Type 0} → Stand O → ℕ → List ℕ
 words_at s n = quoted_text (name_in (slice_get s.threads n))
 
 named_at : {O : Type 0} (s : Stand O) (p : Live PlainSet → Bool) (x : Stop) (xs : List Stop) (b : Bool) → p (live_of x) ≡ b → name_in (slice_get s.threads x.number) ≡ name_of x →
@@ -51,7 +51,7 @@ named_at : {O : Type 0} (s : Stand O) (p : Live PlainSet → Bool) (x : Stop) (x
 named_at s p x xs false h e ih = ih
 named_at s p x xs true h e ih = rw (e, ih) refl
 
-names_filtered : {O : Type 0} (s : Stand O) (p : Live PlainSet → Bool) (ss : List Stop) → AreNamed s ss → map (words_at s) (map (λ t. t.number) (filter p (map live_of ss))) ≡ map quoted_text (map name_of (filter (λ x. p (live_of x)) ss))
+pub names_filtered : {O : Type 0} (s : Stand O) (p : Live PlainSet → Bool) (ss : List Stop) → AreNamed s ss → map (words_at s) (map (λ t. t.number) (filter p (map live_of ss))) ≡ map quoted_text (map name_of (filter (λ x. p (live_of x)) ss))
 names_filtered s p [] n = refl
 names_filtered s p (x ∷ xs) n = named_at s p x xs (p (live_of x)) refl n.0 (names_filtered s p xs n.1)
 

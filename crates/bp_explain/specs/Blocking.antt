@@ -8,7 +8,8 @@ abbrev pub says_yes : Result Bool SetFault → Bool
 says_yes (Ok b) = b
 says_yes (Err f) = false
 
--- the numbers of the live b-threads whose block sets have e: of all of them, and not of the first alone
+-- the numbers of the live b-threads whose block sets have e: of all of them, and not of the first
+-- alone
 abbrev pub blockers : {Set : Type 0} → Has Set → List (Live Set) → PlainEvent → List ℕ
 blockers has ts e = map (λ t. t.number) (filter (λ t. says_yes (has t.statement.block e)) ts)
 

@@ -38,28 +38,30 @@ abbrev pub verdict_line : Option Verdict → List ℕ
 verdict_line None = []
 verdict_line (Some v) = whole_line (Ended_by v)
 
--- Where a b-thread's own doing is the verdict, the others are in the middle of their turn, and nothing is said of
--- them but after which record they stood last.
+-- Where a b-thread's own doing is the verdict, the others are in the middle of their turn, and
+-- nothing is said of them but after which record they stood last.
 abbrev pub within_turn : ℕ → List ℕ
 within_turn zero = codes "the run ended before its b-threads stood\n"
 within_turn (suc n) =
-    codes "the run ended within a turn: its b-threads stood last after record " ++ (decimal n ++ codes "\n")
+    codes "the run ended within a turn: its b-threads stood last after record "
+    ++ (decimal n ++ codes "\n")
 
 -- after this many records
 abbrev pub if_at_rest : {Origin Set : Type 0} → Code Origin Set → Words Origin Set → ℕ →
     Configuration Origin → List ℕ
-if_at_rest l w n c = if is_over c then within_turn n else rest_text l w c
+if_at_rest code w n c = if is_over c then within_turn n else rest_text code w c
 
--- where the records are a story: the state in which its end, if it has one, finds it, and the verdict
-unfoldable pub state_after : {Origin Set : Type 0} → Code Origin Set → Words Origin Set → PlainOptions →
-    List Record → Option (List ℕ)
-state_after l w o records =
+-- where the records are a story: the state in which its end, if it has one, finds it, and the
+-- verdict
+unfoldable pub state_after : {Origin Set : Type 0} → Code Origin Set → Words Origin Set →
+    PlainOptions → List Record → Option (List ℕ)
+state_after code w o records =
     option_and_then
     (λ found. option_map
     (λ c. heading records
-    ++ (if_at_rest l w (length (before_end records)) found ++ verdict_line c.stand.verdict))
-    (story l o records))
-    (story l o (before_end records))
+    ++ (if_at_rest code w (length (before_end records)) found ++ verdict_line c.stand.verdict))
+    (story code o records))
+    (story code o (before_end records))
 
 abbrev pub words_of : PlainProgram → PlainOptions → Words Origin PlainSet
 words_of program options = record {

@@ -2,9 +2,11 @@ pub mod Words
 pub mod Listed
 pub mod Sets
 pub mod Blocking
+pub mod Reaching
 pub mod Standing
 pub mod States
 pub mod Stops
 pub mod Explained
 pub mod Whys
+pub mod Reasons
 pub mod Seeds

@@ -1,4 +1,5 @@
--- A run for each of some seeds: how they end, by kind, with how many end so and the first seed of each kind.
+-- A run for each of some seeds: how they end, by kind, with how many end so and the first seed of
+-- each kind.
 use Rattle.std.specs.Prelude.{ℕ, zero, suc, ◌+◌, Bool, true, false, nat_lt, List, [], ◌∷◌, ◌++◌, flat_map, Option, Some, None, option_map, option_and_then, decimal, codes, if◌then◌else◌}
 use Rattle.std.specs.Str.{bytes_eq}
 use Rattle.bp_log.specs.Options.{PlainOptions}
@@ -11,8 +12,8 @@ use Rattle.bp_run.specs.Story.{story, alone}
 use Rattle.js_program.specs.PlainProgram.{PlainProgram}
 use Rattle.bp_code.specs.Code.{code_of}
 
--- A quiet run whose b-threads have all ended is told from one in which some still stand. Of the others neither
--- the text of a violation nor a number of transitions counts.
+-- A quiet run whose b-threads have all ended is told from one in which some still stand. Of the
+-- others neither the text of a violation nor a number of transitions counts.
 abbrev pub kind_text : Bool → Verdict → List ℕ
 kind_text false (Quiet n) = codes "quiet, all ended"
 kind_text true (Quiet n) = codes "quiet, some stand"
@@ -25,7 +26,7 @@ kind_in c = option_map (kind_text (nat_lt 0 (not_ended c.stand))) c.stand.verdic
 
 -- how the run without injectors ends
 unfoldable pub kind_alone : {Origin Set : Type 0} → Code Origin Set → PlainOptions → Option (List ℕ)
-kind_alone l o = option_and_then kind_in (story l o (alone l o))
+kind_alone code o = option_and_then kind_in (story code o (alone code o))
 
 -- this many seeds from this one on, each with how its run ends
 abbrev pub ends_from : (ℕ → Option (List ℕ)) → ℕ → ℕ → List (ℕ × List ℕ)
@@ -53,7 +54,8 @@ count_all (e ∷ es) counted = count_all es (count_one e counted)
 
 abbrev pub counted_text : Counted → List ℕ
 counted_text x =
-    decimal x.count ++ (codes " " ++ (x.kind ++ (codes ", first seed " ++ (decimal x.first ++ codes "\n"))))
+    decimal x.count
+    ++ (codes " " ++ (x.kind ++ (codes ", first seed " ++ (decimal x.first ++ codes "\n"))))
 
 -- of the seeds from one on, this many
 unfoldable pub seeds_text : (ℕ → Option (List ℕ)) → ℕ → ℕ → List ℕ

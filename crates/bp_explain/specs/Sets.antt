@@ -1,5 +1,5 @@
--- Sets of events in words: an event as its text, a list in brackets, a predicate by its name and the line of
--- its function.
+-- Sets of events in words: an event as its text, a list in brackets, a predicate by its name and
+-- the line of its function.
 use Rattle.std.specs.Prelude.{ℕ, Bool, true, false, List, ◌++◌, decimal, codes}
 use Rattle.js_data.specs.JsonText.{quoted_text, event_text}
 use Rattle.js_value.specs.Value as v
@@ -27,9 +27,12 @@ abbrev mutual
   set_words line_of (v.any ss) = codes "[" ++ list_words line_of false ss
   set_words line_of v.all = codes "all"
   set_words line_of v.nothing = codes "none"
-  set_words line_of (v.or a b) = two_words (codes " or ") (set_words line_of a) (set_words line_of b)
-  set_words line_of (v.and a b) = two_words (codes " and ") (set_words line_of a) (set_words line_of b)
-  set_words line_of (v.xor a b) = two_words (codes " xor ") (set_words line_of a) (set_words line_of b)
+  set_words line_of (v.or a b) =
+      two_words (codes " or ") (set_words line_of a) (set_words line_of b)
+  set_words line_of (v.and a b) =
+      two_words (codes " and ") (set_words line_of a) (set_words line_of b)
+  set_words line_of (v.xor a b) =
+      two_words (codes " xor ") (set_words line_of a) (set_words line_of b)
   set_words line_of (v.negate a) = codes "not " ++ set_words line_of a
   set_words line_of (v.predicate name code captured) = predicate_words name (line_of code)
 

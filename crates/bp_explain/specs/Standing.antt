@@ -25,14 +25,14 @@ standing_at name _ _ = None
 -- after the events that it received
 abbrev pub standing : {Origin Set : Type 0} → Code Origin Set → Words Origin Set → Thread Origin →
     Option (Standing Set)
-standing l w t =
+standing code w t =
     if t.ended then None
-    else standing_at t.name (w.line t.origin t.replies) (l.after t.origin t.replies).outcome
+    else standing_at t.name (w.line t.origin t.replies) (code.after t.origin t.replies).outcome
 
 -- in registration order
-abbrev pub all_standing : {Origin Set : Type 0} → Code Origin Set → Words Origin Set → Stand Origin →
-    List (Standing Set)
-all_standing l w s = filter_map (standing l w) s.threads
+abbrev pub all_standing : {Origin Set : Type 0} → Code Origin Set → Words Origin Set →
+    Stand Origin → List (Standing Set)
+all_standing code w s = filter_map (standing code w) s.threads
 
 -- a line of its own for what stands at a `bp.sync` under this key
 abbrev pub key_text : List ℕ → List ℕ → List ℕ

@@ -1,5 +1,5 @@
--- The state of a run at rest, in words: where its b-threads stand, what waits in the queue, which injectors are
--- read still, and why nothing can be selected, where that is so.
+-- The state of a run at rest, in words: where its b-threads stand, what waits in the queue, which
+-- injectors are read still, and why nothing can be selected, where that is so.
 use Rattle.std.specs.Prelude.{ℕ, List, [], ◌++◌, flat_map, slice_get, decimal, codes, if◌then◌else◌}
 use Rattle.js_data.specs.Event.{PlainEvent}
 use Rattle.js_data.specs.JsonText.{quoted_text, event_text}
@@ -21,35 +21,40 @@ abbrev pub names_text : {Origin : Type 0} → Stand Origin → List ℕ → List
 names_text s ns = listed (λ n. quoted_text (name_in (slice_get s.threads n))) ns
 
 -- e, in words who asks for it, and everyone who blocks it
-abbrev pub blocked_text : {Origin Set : Type 0} → Code Origin Set → Stand Origin → List ℕ → PlainEvent →
-    List ℕ
-blocked_text l s asked e =
+abbrev pub blocked_text : {Origin Set : Type 0} → Code Origin Set → Stand Origin → List ℕ →
+    PlainEvent → List ℕ
+blocked_text code s asked e =
     codes "  " ++ (event_text e ++ (asked
-    ++ (codes ", is blocked by " ++ (names_text s (blockers l.has (live l s) e) ++ codes "\n"))))
+    ++ (codes ", is blocked by "
+    ++ (names_text s (blockers code.has (live code s) e) ++ codes "\n"))))
 
-abbrev pub request_blocked : {Origin Set : Type 0} → Code Origin Set → Stand Origin → PlainEvent → List ℕ
-request_blocked l s e =
-    blocked_text l s (codes ", requested by " ++ names_text s (requesters (live l s) e)) e
+abbrev pub request_blocked : {Origin Set : Type 0} → Code Origin Set → Stand Origin →
+    PlainEvent → List ℕ
+request_blocked code s e =
+    blocked_text code s (codes ", requested by " ++ names_text s (requesters (live code s) e)) e
 
-abbrev pub waiting_blocked : {Origin Set : Type 0} → Code Origin Set → Stand Origin → PlainEvent → List ℕ
-waiting_blocked l s e = blocked_text l s (codes ", which waits") e
+abbrev pub waiting_blocked : {Origin Set : Type 0} → Code Origin Set → Stand Origin →
+    PlainEvent → List ℕ
+waiting_blocked code s e = blocked_text code s (codes ", which waits") e
 
 -- each requested or waiting event
 abbrev pub each_blocked : {Origin Set : Type 0} → Code Origin Set → Stand Origin → List PlainEvent →
     List PlainEvent → List ℕ
-each_blocked l s [] [] = codes ": nothing is requested, and nothing waits\n"
-each_blocked l s asked queue =
-    codes ":\n" ++ (flat_map (request_blocked l s) asked ++ flat_map (waiting_blocked l s) queue)
+each_blocked code s [] [] = codes ": nothing is requested, and nothing waits\n"
+each_blocked code s asked queue =
+    codes ":\n"
+    ++ (flat_map (request_blocked code s) asked ++ flat_map (waiting_blocked code s) queue)
 
 abbrev pub stuck_text : {Origin Set : Type 0} → Code Origin Set → Stand Origin → List ℕ
-stuck_text l s =
-    if is_nothing (selectable l.has (live l s) s.queue)
-    then codes "nothing can be selected" ++ each_blocked l s (candidates (live l s)) s.queue
+stuck_text code s =
+    if is_nothing (selectable code.has (live code s) s.queue)
+    then codes "nothing can be selected" ++ each_blocked code s (candidates (live code s)) s.queue
     else []
 
 -- at rest: no b-thread has to run, and there is no verdict
 unfoldable pub rest_text : {Origin Set : Type 0} → Code Origin Set → Words Origin Set →
     Configuration Origin → List ℕ
-rest_text l w c =
-    flat_map (standing_text w.spelling) (all_standing l w c.stand)
-    ++ (flat_map waiting_text c.stand.queue ++ (flat_map reading_text c.reading ++ stuck_text l c.stand))
+rest_text code w c =
+    flat_map (standing_text w.spelling) (all_standing code w c.stand)
+    ++ (flat_map waiting_text c.stand.queue
+    ++ (flat_map reading_text c.reading ++ stuck_text code c.stand))

@@ -1,12 +1,20 @@
-//! Runs in words: where the b-threads of a run stand, and why nothing can be selected there.
+//! Runs in words: where the b-threads of a run stand, and why an event was selected, or
+//! none can be.
 #![tactic(auto)]
 
+mod leaving;
+mod reaching;
 mod rest;
 mod sets;
 mod standing;
 mod stops;
+mod subject;
+mod whys;
 
+pub use reaching::Scene;
 pub use rest::{Rest, write_rest};
 pub use sets::write_set;
 pub use standing::write_standing;
 pub use stops::{Stop, blockers, candidates, requesters};
+pub use subject::Subject;
+pub use whys::{Draws, write_asked, write_selection};

@@ -35,7 +35,7 @@ pub struct Rest<'a> {
 }
 
 /// Writes names with commas between.
-fn write_names(alloc: Global, names: &[&Text], text: &mut String) -> Result<(), Memory>
+pub(crate) fn write_names(alloc: Global, names: &[&Text], text: &mut String) -> Result<(), Memory>
     ensures { OnOk result (string_bytes text.new
         ≡ string_bytes text.old ++ listed quoted_text (texts_in names.now)) }
 {

@@ -1,5 +1,5 @@
 //! Sets of events in words.
-ghost use Rattle.std.specs.Prelude.{◌≡◌, ◌++◌, false, OnOk, codes, string_bytes};
+ghost use Rattle.std.specs.Prelude.{◌≡◌, ◌++◌, false, OnOk, string_bytes};
 ghost use Rattle.js_data.specs.JsonText.{event_text as text_of_event};
 ghost use Rattle.js_value.specs.Views.{set_list_of};
 ghost use Rattle.bp_explain.specs.Sets.{line_in, set_words, list_words, predicate_words, two_words};

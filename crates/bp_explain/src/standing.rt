@@ -25,7 +25,7 @@ fn write_key(key: &str, text: &mut String) -> Result<(), Memory>
 }
 
 /// Writes events with commas between.
-fn write_events(alloc: Global, events: &[Event], text: &mut String) -> Result<(), Memory>
+pub(crate) fn write_events(alloc: Global, events: &[Event], text: &mut String) -> Result<(), Memory>
     ensures { OnOk result (string_bytes text.new
         ≡ string_bytes text.old ++ listed text_of_event events.now) }
 {

@@ -6,7 +6,7 @@ ghost use Rattle.js_frames.specs.Places.{plain_ground};
 ghost use Rattle.bp_meaning.specs.Membership.{Membership, member};
 ghost use Rattle.bp_run.specs.Selecting.{candidates, requests};
 ghost use Rattle.bp_sets.specs.Answers.{TellsAs};
-ghost use Rattle.bp_thread.specs.Views.{plain_statement, stated_set};
+ghost use Rattle.bp_thread.specs.Views.{stated_set};
 ghost use Rattle.bp_explain.specs.Blocking.{says_yes};
 ghost use Rattle.bp_explain.specs.Stops.{blocker_names, live_of, requester_names, texts_in, with_all, with_new};
 
@@ -44,7 +44,7 @@ fn yes_of(answer: Result<bool, SetFault>) -> Result<bool, Memory>
 }
 
 /// Whether the set, if there is one, has the event.
-fn has(
+pub(crate) fn has(
     alloc: Global,
     ground: &Ground,
     budget: u64,
@@ -81,7 +81,7 @@ pub fn blockers<'a>(
 }
 
 /// Whether the b-thread requests the event.
-fn is_requester(stop: &Stop<'_>, event: &Event) -> bool
+pub(crate) fn is_requester(stop: &Stop<'_>, event: &Event) -> bool
     ensures { result ≡ requests event.now (live_of stop.now) }
 {
     stop.statement
@@ -109,14 +109,14 @@ pub fn requesters<'a>(
 }
 
 /// Whether the event is among these.
-fn is_among(events: &[Event], event: &Event) -> bool
+pub(crate) fn is_among(events: &[Event], event: &Event) -> bool
     ensures { result ≡ list_any (same_event event.now) events.now }
 {
     events.iter().any(|known| event.same(known))
 }
 
 /// The event comes to those before.
-fn put(events: &mut Vec<Event>, event: &Event) -> Result<(), Memory>
+pub(crate) fn put(events: &mut Vec<Event>, event: &Event) -> Result<(), Memory>
     ensures { OnOk result (events.new.items ≡ events.old.items ++ event.now ∷ []) }
 {
     let event = event.copy()?;
