@@ -23,7 +23,7 @@ use Rattle.bp_answers.specs.Reading.{ReadsAs, ReadsFault}
 use Rattle.bp_answers.specs.Walking.{PartsAs}
 
 -- what holds of the records holds of each rest, where the source tells it
-told : (P Q : List ℕ → Type 0) (rest : Option (List ℕ)) → IfSome rest P → ((bytes : List ℕ) → P bytes → Q bytes) → IfSome rest Q
+pub told : (P Q : List ℕ → Type 0) (rest : Option (List ℕ)) → IfSome rest P → ((bytes : List ℕ) → P bytes → Q bytes) → IfSome rest Q
 told P Q None h k = tt
 told P Q (Some bytes) h k = k bytes h
 
@@ -44,19 +44,20 @@ module _ (version : Version) (header : PlainHeader) (number : Option ℕ) (s : S
   unread rest f h =
       told (λ bytes. ReadsAs s bytes number (Err f)) (λ bytes. AnswersBehind version header bytes number (Err f)) rest h (λ bytes k. fault_behind bytes f (at_first bytes (Err f) k))
 
-  no_program : (bytes : List ℕ) (f : ReplayFault) → HasNoProgram header f → RefusesBehind version header bytes number f
-  no_program bytes (fault.Log f) h = absurd h
-  no_program bytes (fault.Differs n expected other) h = absurd h
-  no_program bytes fault.Program h = h
-  no_program bytes fault.Write h = absurd h
-  no_program bytes fault.Memory h = tt
+  no_program : (bytes : List ℕ) (v : Vec Record Global) (f : ReplayFault) → ReadsAs (first_stage version header.options.injectors) bytes number (Ok v) → HasNoProgram header f → RefusesBehind version header bytes number f
+  no_program bytes v (fault.Log f) r h = absurd h
+  no_program bytes v (fault.Differs n expected other) r h = absurd h
+  no_program bytes v fault.Program r h = ((v.items, r.0, r.1, r.2, r.3), h)
+  no_program bytes v fault.Write r h = absurd h
+  no_program bytes v fault.Memory r h = tt
 
   -- the program was refused
-  pub unaccepted : (rest : Option (List ℕ)) (f : ReplayFault) → HasNoProgram header f → IfSome rest (λ bytes. AnswersBehind version header bytes number (Err (Refused f)))
-  unaccepted None f h = tt
-  unaccepted (Some bytes) f h = no_program bytes f h
+  pub unaccepted : (rest : Option (List ℕ)) (v : Vec Record Global) (f : ReplayFault) → IfSome rest (λ bytes. ReadsAs s bytes number (Ok v)) → HasNoProgram header f →
+      IfSome rest (λ bytes. AnswersBehind version header bytes number (Err (Refused f)))
+  unaccepted rest v f r h =
+      told (λ bytes. ReadsAs s bytes number (Ok v)) (λ bytes. AnswersBehind version header bytes number (Err (Refused f))) rest r (λ bytes k. no_program bytes v f (at_first bytes (Ok v) k) h)
 
-  abbrev asked_in : (bytes : List ℕ) (v : Vec Record Global) (program : PlainProgram) → IsProgram header.program program → ReadsAs (first_stage version header.options.injectors) bytes number (Ok v) → Asked version header bytes number
+  abbrev pub asked_in : (bytes : List ℕ) (v : Vec Record Global) (program : PlainProgram) → IsProgram header.program program → ReadsAs (first_stage version header.options.injectors) bytes number (Ok v) → Asked version header bytes number
   asked_in bytes v program is h = record {
     records = v.items;
     stage = h.0;
@@ -89,7 +90,7 @@ module _ (version : Version) (header : PlainHeader) (number : Option ℕ) (s : S
 
 -- ---- the header
 
-unheaded : (bytes : List ℕ) (f : LogFault) → MeansRead f (header_at bytes) → HasNoHeader bytes (Err (refused_log f))
+pub unheaded : (bytes : List ℕ) (f : LogFault) → MeansRead f (header_at bytes) → HasNoHeader bytes (Err (refused_log f))
 unheaded bytes log.Version h = h
 unheaded bytes log.Header h = h
 unheaded bytes (log.Line n) h = h

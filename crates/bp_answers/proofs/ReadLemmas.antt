@@ -17,7 +17,7 @@ use Rattle.bp_answers.specs.declared.answer.NoAnswer.TheVariants.{Refused, Absen
 use Rattle.bp_explain.specs.Explained.{before_end}
 use Rattle.bp_answers.specs.Faults.{refused_log}
 use Rattle.bp_answers.specs.Walking.{EndsLast}
-use Rattle.bp_answers.specs.Reading.{IsEnd, AreAsked, AreFewer, ReadsFault, ReadsAs, EndsAs}
+use Rattle.bp_answers.specs.Reading.{IsEnd, AreAsked, AreFewer, IsSpoiled, ReadsFault, ReadsAs, EndsAs}
 
 -- what a source tells of the bytes was read so far
 abbrev pub Reached : Stage → Option (List ℕ) → List Record → Stage → Option (List ℕ) → Type 0
@@ -112,7 +112,13 @@ reads_enough s (Some bytes) None number v t w e = absurd w
 reads_enough s (Some bytes) (Some more) number v t w e = (t, more, w, enough number v.items (next_at t more) e)
 
 -- what stands next is refused
-refused_as : (s : Stage) (bytes more : List ℕ) (number : Option ℕ) (rs : List Record) (t : Stage) (f : LogFault) → BeginsWith s bytes rs t more → MeansNext f (next_at t more) → ReadsFault s bytes number (refused_log f)
+more_wanted : (number : Option ℕ) (rs : List Record) → AreFew number (length rs) → (number ≡ Some (length rs) → ⊥) → IfSome number (λ n. length rs < n)
+more_wanted None rs h k = tt
+more_wanted (Some n) rs h k =
+    let ne : n ≡ length rs → ⊥ = λ q. k (ap (λ (x : ℕ). Some x) q) in
+    omega (arith, h, ne)
+
+refused_as : (s : Stage) (bytes more : List ℕ) (number : Option ℕ) (rs : List Record) (t : Stage) (f : LogFault) → BeginsWith s bytes rs t more → IsSpoiled number f rs (next_at t more) → ReadsFault s bytes number (refused_log f)
 refused_as s bytes more number rs t log.Version b m = (rs, t, more, b, m)
 refused_as s bytes more number rs t log.Header b m = (rs, t, more, b, m)
 refused_as s bytes more number rs t (log.Line n) b m = (rs, t, more, b, m)
@@ -120,10 +126,10 @@ refused_as s bytes more number rs t log.Cut b m = (rs, t, more, b, m)
 refused_as s bytes more number rs t log.Read b m = (rs, t, more, b, m)
 refused_as s bytes more number rs t log.Memory b m = tt
 
-pub reads_refused : (s : Stage) (rest left : Option (List ℕ)) (number : Option ℕ) (rs : List Record) (t : Stage) (f : LogFault) → Reached s rest rs t left → IfSome left (λ bytes. MeansNext f (next_at t bytes)) →
-    IfSome rest (λ bytes. ReadsAs s bytes number (Err (refused_log f)))
-reads_refused s rest left number rs t f w h =
-    with_left s rest left rs t (MeansNext f) (λ bytes. ReadsFault s bytes number (refused_log f)) w h (λ bytes more b m. refused_as s bytes more number rs t f b m)
+pub reads_refused : (s : Stage) (rest left : Option (List ℕ)) (number : Option ℕ) (rs : List Record) (t : Stage) (f : LogFault) → Reached s rest rs t left → AreFew number (length rs) → (number ≡ Some (length rs) → ⊥) → (f ≡ log.Cut → ⊥) →
+    IfSome left (λ bytes. MeansNext f (next_at t bytes)) → IfSome rest (λ bytes. ReadsAs s bytes number (Err (refused_log f)))
+reads_refused s rest left number rs t f w few more uncut h =
+    with_left s rest left rs t (MeansNext f) (λ bytes. ReadsFault s bytes number (refused_log f)) w h (λ bytes rest b m. refused_as s bytes rest number rs t f b (uncut, more_wanted number rs few more, m))
 
 -- ---- no record but the last is an end
 

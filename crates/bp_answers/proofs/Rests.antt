@@ -221,7 +221,7 @@ module _ (p : PlainProgram) (o : PlainOptions) where
 
 -- ---- an arbiter
 
-rest_going : (v : Option Verdict) (ns : List (Entry Origin)) → Rest ≡ phase_at v ns → v ≡ None
+pub rest_going : (v : Option Verdict) (ns : List (Entry Origin)) → Rest ≡ phase_at v ns → v ≡ None
 rest_going None ns h = refl
 rest_going (Some v) ns h = absurd (cc)
 
@@ -231,14 +231,14 @@ rest_nobody None (n ∷ ns) h = absurd (cc)
 rest_nobody (Some v) ns h = absurd (cc)
 
 -- at rest the sets are asked on what the top level left
-has_is : (f : PlainFloor) (budget : ℕ) → IsPhased f → f.phase ≡ Rest → budget ≡ f.options.budget → member f.base budget ≡ (code_of f.base.program f.options).has
+pub has_is : (f : PlainFloor) (budget : ℕ) → IsPhased f → f.phase ≡ Rest → budget ≡ f.options.budget → member f.base budget ≡ (code_of f.base.program f.options).has
 has_is f budget s rest e =
     let at : Rest ≡ phase_at f.pair.stand.verdict f.pair.entries = sym (ap not_lent rest) ∙ s.at_phase in
     let nobody = rest_nobody f.pair.stand.verdict f.pair.entries at in
     let base : f.base ≡ ground_of f.base.program f.options.budget = s.grounded ∙ ap (λ (ns : List (Entry Origin)). ground_at f.base.program f.options.budget ns) nobody in
     ap (λ (n : ℕ). member f.base n) e ∙ ap (λ (g : Ground). member g f.options.budget) base
 
-told_is : (a : PlainArbiter) (c d : Configuration Origin) → Recounts a c → Recounts a d → c ≡ d
+pub told_is : (a : PlainArbiter) (c d : Configuration Origin) → Recounts a c → Recounts a d → c ≡ d
 told_is a c d h k = one_answer (story (code_in a) (options_in a) a.records) c d h k
 
 reading_is : (a : PlainArbiter) (c : Configuration Origin) → StandsSomewhere a → Recounts a c → a.reading ≡ c.reading

@@ -100,7 +100,7 @@ parts_end program options records v a b n e last some number followed w =
 
 -- ---- the text
 
-over_of : (v : Option Verdict) → v ≡ None → (elim v [ None ↦ false | Some w ↦ true ]) ≡ false
+pub over_of : (v : Option Verdict) → v ≡ None → (elim v [ None ↦ false | Some w ↦ true ]) ≡ false
 over_of None h = refl
 over_of (Some w) h = absurd (cc)
 
@@ -108,7 +108,7 @@ rests : (c : Course) → c.told.stand.verdict ≡ None → rest_in c ≡ rest_te
 rests c h =
     ap (λ (b : Bool). if b then within_turn (length c.records) else rest_text (code_of c.program c.options) (words_of c.program c.options) c.told) (over_of c.told.stand.verdict h)
 
-over_some : (v : Option Verdict) (w : Verdict) → v ≡ Some w → (elim v [ None ↦ false | Some u ↦ true ]) ≡ true
+pub over_some : (v : Option Verdict) (w : Verdict) → v ≡ Some w → (elim v [ None ↦ false | Some u ↦ true ]) ≡ true
 over_some None w h = absurd (cc)
 over_some (Some u) w h = refl
 

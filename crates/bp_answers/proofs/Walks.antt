@@ -85,7 +85,7 @@ story_at c program options p o t =
 abbrev pub IsNoEnd : Record → Type 0
 IsNoEnd r = verdict_in r ≡ None
 
-end_on : (r : Record) (rs : List Record) → IsNoEnd r → before_end (r ∷ rs) ≡ r ∷ before_end rs
+pub end_on : (r : Record) (rs : List Record) → IsNoEnd r → before_end (r ∷ rs) ≡ r ∷ before_end rs
 end_on (In j e) rs h = refl
 end_on (Bad j n) rs h = refl
 end_on (Eof j) rs h = refl
@@ -133,10 +133,15 @@ along_first program options records a b e t k = record {
   split = refl;
 }
 
+pub taken_more : (rs : List Record) (i : ℕ) (r : Record) → i < length rs → r ≡ get_or rs i r → take (i + 1) rs ≡ take i rs ++ r ∷ []
+taken_more rs i r h e =
+    let n : i + 1 ≡ suc i = omega arith in
+    ap (λ (k : ℕ). take k rs) n ∙ take-suc rs i r h ∙ ap (λ (x : Record). take i rs ++ x ∷ []) (sym e)
+
 pub along_on : (program : PlainProgram) (options : PlainOptions) (records : List Record) (i : ℕ) (r : Record) (a b later : PlainArbiter) (w : Along program options records i a) → i < length records → r ≡ get_or records i r → IsNoEnd r → (m : Makes w.course r b) →
     IsThere (onto w.course r m.0) later → b.floor.base.program ≡ a.floor.base.program → later.floor.base.program ≡ b.floor.base.program → Along program options records (i + 1) later
 along_on program options records i r a b later w less is none m t same kept =
-    let next : take (i + 1) records ≡ take i records ++ r ∷ [] = more_taken records i r less is in
+    let next : take (i + 1) records ≡ take i records ++ r ∷ [] = taken_more records i r less is in
     record {
       course = onto w.course r m.0;
       program_is = w.program_is;
@@ -151,11 +156,6 @@ along_on program options records i r a b later w less is none m t same kept =
           ∙ sym (append_assoc (take i records) (r ∷ []) (before_end (drop (i + 1) records)))
           ∙ ap (λ (rs : List Record). rs ++ before_end (drop (i + 1) records)) (sym next);
     }
-  where
-    more_taken : (rs : List Record) (i : ℕ) (r : Record) → i < length rs → r ≡ get_or rs i r → take (i + 1) rs ≡ take i rs ++ r ∷ []
-    more_taken rs i r h e =
-        let n : i + 1 ≡ suc i = omega arith in
-        ap (λ (k : ℕ). take k rs) n ∙ take-suc rs i r h ∙ ap (λ (x : Record). take i rs ++ x ∷ []) (sym e)
 
 leads : (program : PlainProgram) (options : PlainOptions) (records : List Record) (i : ℕ) (a : PlainArbiter) → Along program options records i a → before_end (drop i records) ≡ [] → LeadsTo program options (before_end records) a
 leads program options records i a w e = record {

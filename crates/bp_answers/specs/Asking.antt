@@ -8,7 +8,6 @@ use Rattle.bp_log.specs.declared.record.Record.{Record}
 use Rattle.bp_reading.specs.Heads.{header_at}
 use Rattle.bp_reading.specs.Reading.{Stage, first_stage, next_at, BeginsWith}
 use Rattle.bp_reader.specs.Gets.{MeansRead}
-use Rattle.bp_reader.specs.Reads.{MeansNext}
 use Rattle.bp_script.specs.declared.refusal.Refusal.{Refusal}
 use Rattle.bp_script.specs.Programs.{IsProgram, IsRefused}
 use Rattle.bp_explain.specs.Explained.{state_of}
@@ -16,7 +15,7 @@ use Rattle.bp_replay.specs.declared.fault.ReplayFault.{ReplayFault}
 use Rattle.bp_replay.specs.declared.fault.ReplayFault.TheVariants.{Log, Differs, Program, Write, Memory}
 use Rattle.bp_answers.specs.declared.answer.NoAnswer.{NoAnswer}
 use Rattle.bp_answers.specs.declared.answer.NoAnswer.TheVariants.{Refused, Absent}
-use Rattle.bp_answers.specs.Reading.{AreAsked, AreFewer, ReadsSome}
+use Rattle.bp_answers.specs.Reading.{AreAsked, AreFewer, IsSpoiled, ReadsSome}
 use Rattle.bp_answers.specs.Walking.{Parts}
 
 -- the records of a log that are asked for, and its program
@@ -38,14 +37,17 @@ HasNoProgram header Program = (refusal : Refusal) × IsRefused header.program re
 HasNoProgram header Write = ⊥
 HasNoProgram header Memory = Unit {0}
 
--- a log is refused after its header; out of memory says nothing
+-- a log is refused after its header: first where its records are no records, then where its program is refused, then
+-- where the run does not make a record; out of memory says nothing
 abbrev pub RefusesBehind : Version → PlainHeader → List ℕ → Option ℕ → ReplayFault → Type 0
 RefusesBehind version header rest number (Log f) =
-    ReadsSome (first_stage version header.options.injectors) rest (λ rs x. MeansNext f x)
+    ReadsSome (first_stage version header.options.injectors) rest (IsSpoiled number f)
 RefusesBehind version header rest number (Differs n expected other) =
     (a : Asked version header rest number)
     × Parts a.program header.options a.records n expected other
-RefusesBehind version header rest number Program = HasNoProgram header Program
+RefusesBehind version header rest number Program =
+    ReadsSome (first_stage version header.options.injectors) rest (AreAsked number)
+    × HasNoProgram header Program
 RefusesBehind version header rest number Write = ⊥
 RefusesBehind version header rest number Memory = Unit {0}
 

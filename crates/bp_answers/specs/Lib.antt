@@ -3,3 +3,5 @@ pub mod Reading
 pub mod Walking
 pub mod Resting
 pub mod Asking
+pub mod Reasons
+pub mod Whys

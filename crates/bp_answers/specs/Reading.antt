@@ -1,10 +1,12 @@
 -- The records of a log, as far as they are asked for.
-use Rattle.std.specs.Prelude.{◌≡◌, ◌⊎◌, ◌<◌, ℕ, List, length, Option, Some, None, Result, Ok, Err, Vec}
+use Rattle.std.specs.Prelude.{◌≡◌, ◌⊎◌, ◌<◌, ℕ, List, length, Option, Some, None, Result, Ok, Err, IfSome, Vec}
 use Rattle.std.specs.declared.alloc.Global.{Global}
 use Rattle.bp_log.specs.declared.record.Record.{Record}
 use Rattle.bp_reading.specs.Heads.{cut}
 use Rattle.bp_reading.specs.Reading.{Stage, Next, finished, refused, next_at, BeginsWith}
 use Rattle.bp_reader.specs.Reads.{MeansNext}
+use Rattle.bp_reader.specs.declared.fault.LogFault.{LogFault}
+use Rattle.bp_reader.specs.declared.fault.LogFault.TheVariants as log_fault
 use Rattle.bp_replay.specs.declared.fault.ReplayFault.TheVariants.{Log, Differs, Program, Write, Memory}
 use Rattle.bp_answers.specs.declared.answer.NoAnswer.{NoAnswer}
 use Rattle.bp_answers.specs.declared.answer.NoAnswer.TheVariants.{Refused, Absent}
@@ -23,13 +25,19 @@ abbrev pub AreFewer : Option ℕ → List Record → Next → Type 0
 AreFewer None rs x = ⊥
 AreFewer (Some n) rs x = (length rs < n) × IsEnd x
 
+-- what stands next is refused, as the fault tells, where fewer records were read than were asked for; a log that is
+-- cut is not refused
+abbrev pub IsSpoiled : Option ℕ → LogFault → List Record → Next → Type 0
+IsSpoiled number f rs x =
+    (f ≡ log_fault.Cut → ⊥) × IfSome number (λ n. length rs < n) × MeansNext f x
+
 -- the bytes begin with records, after which this holds of them and of what stands next
 abbrev pub ReadsSome : Stage → List ℕ → (List Record → Next → Type 0) → Type 0
 ReadsSome s bytes holds =
     (rs : List Record) × (t : Stage) × (left : List ℕ) × BeginsWith s bytes rs t left × holds rs (next_at t left)
 
 abbrev pub ReadsFault : Stage → List ℕ → Option ℕ → NoAnswer → Type 0
-ReadsFault s bytes number (Refused (Log f)) = ReadsSome s bytes (λ rs x. MeansNext f x)
+ReadsFault s bytes number (Refused (Log f)) = ReadsSome s bytes (IsSpoiled number f)
 ReadsFault s bytes number (Refused (Differs n expected other)) = ⊥
 ReadsFault s bytes number (Refused Program) = ⊥
 ReadsFault s bytes number (Refused Write) = ⊥

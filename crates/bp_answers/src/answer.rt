@@ -8,7 +8,8 @@ use thiserror::Error;
 /// Why nothing is said of a log.
 #[derive(Debug, Drop, Error)]
 pub enum NoAnswer {
-    /// It is refused, as its replay would be.
+    /// It is refused: it is no log as far as it is read, its program is refused, or the run does not
+    /// make a record that is asked for.
     #[error("{0}")]
     Refused(ReplayFault),
     /// It has no record, or no selection, of this number.

@@ -18,7 +18,7 @@ use js_program::Program;
 use std::alloc::Global;
 
 /// The program of the header.
-fn program_of(alloc: Global, header: &Header) -> Result<Program, ReplayFault>
+pub(crate) fn program_of(alloc: Global, header: &Header) -> Result<Program, ReplayFault>
     ensures program { IfOk result (IsProgram header.now.program) }
     ensures refused { IfErr result (HasNoProgram header.now) }
 {
@@ -57,9 +57,9 @@ fn state_behind<S: Source>(
 ///
 /// # Errors
 ///
-/// `Log` exactly where the bytes are no log so far, `Program` exactly where its program is refused,
-/// `Absent` exactly where the log has fewer records, and `Differs` exactly at the first record that
-/// the run does not make.
+/// `Log` exactly where the bytes are no log so far, and `Absent` exactly where the log has fewer
+/// records; else `Program` exactly where its program is refused; and else `Differs` exactly at the
+/// first record that the run does not make.
 pub fn state<S: Source>(alloc: Global, log: S, number: Option<u32>) -> Answer<S>
     ensures answers { IfSome (S.left log) (λ bytes. IsState bytes number result.text) }
     ensures read { IsErrOf result.text (NoAnswer.Refused (ReplayFault.Log log_fault.Read))

@@ -1,12 +1,17 @@
-//! What is said of the run that a log tells: the state after its records.
+//! What is said of the run that a log tells: the state after its records, why an event was selected, and
+//! who asks for one where it ends.
 #![tactic(auto)]
 
 mod answer;
 mod asking;
 mod reading;
+mod reasons;
 mod resting;
 mod saying;
+mod selecting;
 mod walking;
+mod whys;
 
 pub use answer::{Answer, NoAnswer};
 pub use asking::state;
+pub use whys::why;

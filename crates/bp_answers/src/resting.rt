@@ -1,6 +1,5 @@
 //! Where the b-threads of a run at rest stand.
 ghost use Rattle.std.specs.Prelude.{◌≡◌, ◌≤◌, length, map, false, IfOk, OnOk, string_bytes};
-ghost use Rattle.js_frames.specs.Places.{plain_ground};
 ghost use Rattle.bp_log.specs.declared.limits.TheConstants.{MOST_THREADS};
 ghost use Rattle.bp_run.specs.Selecting.{Asked, Enabled as Plain};
 ghost use Rattle.bp_select.specs.Answers.{AnswersAs, enabled_of};
@@ -27,7 +26,7 @@ fn is_nothing(enabled: Result<Enabled, SelectFault>) -> Result<bool, Memory>
 }
 
 /// The b-threads that stand at a `bp.sync`, in the order of registration.
-fn stops(alloc: Global, floor: &Floor) -> Result<Vec<Stop<'_>>, Memory>
+pub(crate) fn stops(alloc: Global, floor: &Floor) -> Result<Vec<Stop<'_>>, Memory>
     requires sound { floor.now.broken ≡ false }
     requires rest { floor.now.phase ≡ phase.Rest }
     requires few { length floor.now.pair.stand.threads ≤ MOST_THREADS }

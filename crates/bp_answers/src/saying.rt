@@ -20,7 +20,11 @@ use js_program::Program;
 use std::alloc::Global;
 
 /// Writes the last of the records, by its number.
-fn write_heading(alloc: Global, records: &[Record], text: &mut String) -> Result<(), Memory>
+pub(crate) fn write_heading(
+    alloc: Global,
+    records: &[Record],
+    text: &mut String,
+) -> Result<(), Memory>
     ensures { OnOk result (string_bytes text.new
         ≡ string_bytes text.old ++ heading records.now) }
 {
@@ -73,7 +77,11 @@ fn write_last_stand(alloc: Global, number: usize, text: &mut String) -> Result<(
 
 /// Writes of a run that ended within a turn, after this many records, after which of them its
 /// b-threads stood last.
-fn write_within_turn(alloc: Global, count: usize, text: &mut String) -> Result<(), Memory>
+pub(crate) fn write_within_turn(
+    alloc: Global,
+    count: usize,
+    text: &mut String,
+) -> Result<(), Memory>
     ensures { OnOk result (string_bytes text.new
         ≡ string_bytes text.old ++ within_turn count) }
 {
@@ -101,7 +109,7 @@ fn write_if_at_rest(alloc: Global, arbiter: &mut Arbiter, text: &mut String) -> 
 }
 
 /// Makes the end of the records, if they have one, and writes the verdict to which they lead.
-fn write_end(
+pub(crate) fn write_end(
     alloc: Global,
     arbiter: &mut Arbiter,
     records: &[Record],

@@ -2,12 +2,9 @@
 #![tactic(auto)]
 
 use bp_base::{FileWorld, StreamSink};
-use bpx_cli::answer;
+use bpx_cli::{NO_MEMORY, answer};
 use std::process::ExitCode;
 use std::{env, io};
-
-/// The status that says that memory runs out.
-const NO_MEMORY: u8 = 10;
 
 /// The arguments after the program's name. An argument that is no UTF-8 is no word of a command, so then there are none.
 fn words_of(rt: &HostRuntime) -> io::Result<Vec<String>> {

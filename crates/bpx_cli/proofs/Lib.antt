@@ -1,3 +1,3 @@
 pub mod Loads
 pub mod Tells
-pub mod Stated
+pub mod Said

@@ -13,6 +13,7 @@ use Rattle.bpx_words.specs.Seeds.{PlainSeeds}
 use Rattle.bpx_words.specs.declared.request.Request.{Request}
 use Rattle.bpx_words.specs.declared.request.Request.TheVariants as request
 use Rattle.bpx_cli.specs.States.{IsStateOf, IsUnstated}
+use Rattle.bpx_cli.specs.Whys.{IsWhyOf, IsUnexplained}
 use Rattle.bpx_cli.specs.declared.ended.Ended.{Ended}
 use Rattle.bpx_cli.specs.declared.ended.Ended.TheVariants.{Answered, Found, NoCommand, Refused, Absent, NotRead, NotWritten, NoMemory, BadLog}
 use Rattle.bpx_words.specs.declared.help.TheConstants.{HELP}
@@ -87,13 +88,15 @@ abbrev pub Answers : Option Holdings → Request → List ℕ → Ended → Type
 Answers holds request.Help text end = (text ≡ HELP.now) × (end ≡ Answered)
 Answers holds (request.Check name) text end = IsCheckOf holds name text end
 Answers holds (request.State s) text end = IsStateOf holds s text × (end ≡ Answered)
+Answers holds (request.Why w) text end = IsWhyOf holds w text × (end ≡ Answered)
 Answers holds (request.Seeds s) text end = AreSeedsOf holds s text × (end ≡ Answered)
 
--- nothing answers it: its program is refused, its log has no state, or it was not read, or memory ran out
+-- nothing answers it: its program is refused, its log has not what is asked about, or it was not read, or memory ran out
 abbrev pub IsUnanswered : Option Holdings → Request → Ended → Type 0
 IsUnanswered holds request.Help end = end ≡ NoMemory
 IsUnanswered holds (request.Check name) end = IsUnloaded holds name end
 IsUnanswered holds (request.State s) end = IsUnstated holds s end
+IsUnanswered holds (request.Why w) end = IsUnexplained holds w end
 IsUnanswered holds (request.Seeds s) end = IsUnloaded holds s.program end
 
 -- this was printed after what was, and answers what is asked

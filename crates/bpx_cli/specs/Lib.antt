@@ -1,3 +1,5 @@
+pub mod Logs
 pub mod States
+pub mod Whys
 pub mod Answers
 pub mod Codes

@@ -6,6 +6,7 @@ ghost use Rattle.bpx_cli.specs.Answers.{ended_by, Answers, IsUnanswered, IsUnloa
 
 use crate::ended::{Ended, Reply};
 use crate::loading::load;
+use crate::reasoning::why_of;
 use crate::seeding::seeds_of;
 use crate::stating::state_of;
 use bp_base::{Sink, World, write_all};
@@ -86,6 +87,7 @@ fn answer_to<R: Threads + Sync, W: World>(
         },
         Request::Check(name) => check_of(alloc, name, world),
         Request::State(asked) => state_of(alloc, asked, world),
+        Request::Why(asked) => why_of(alloc, asked, world),
         Request::Seeds(asked) => seeds_of(rt, alloc, asked, world),
     }
 }
@@ -126,9 +128,11 @@ pub fn answer<R: Threads + Sync, W: World, K: Sink>(
     out: &mut K,
 ) -> Ended
     // Words that ask for nothing print nothing. Where the end is `Answered` or `Found`, what was
-    // printed is the text that answers the request of the program that the world holds under the
-    // name; where printing failed, it is a front of this text; and else nothing was printed. It is
-    // `Refused` only where the program that the world holds is refused so.
+    // printed is the text that answers the request of the program or of the log that the world holds
+    // under the name; where printing failed, it is a front of this text; and else nothing was
+    // printed. It is `Refused` only where the program that the world holds is refused so, `BadLog`
+    // only where the bytes are no log, or its program is refused, or the run does not make what it
+    // tells, and `Absent` only where the log has no such record or selection.
     ensures ends { Ends (W.holds world.old) (request_of (map string_bytes words.now))
         (K.written out.old) (K.written out.new) result }
     ensures read { result ≡ Ended.NotRead

@@ -1,17 +1,20 @@
 //! How a command ends.
-ghost use Rattle.std.specs.Prelude.{◌≡◌, IfOk, string_bytes};
-ghost use Rattle.bpx_cli.specs.Codes.{bad_log_note, code_of, detail_of, log_detail, note_of};
-ghost use Rattle.bpx_cli.specs.States.{ended_of_log, trouble_of};
+ghost use Rattle.std.specs.Prelude.{◌≡◌, IfOk};
+ghost use Rattle.bpx_cli.specs.Codes.{code_of, note_of};
+ghost use Rattle.bpx_cli.specs.Logs.{ended_of_log, trouble_of};
 
 use bp_answers::NoAnswer;
 use bp_log::Memory;
-use bp_notes::differing;
+use bp_notes::bad_log_note;
 use bp_reader::LogFault;
 use bp_replay::ReplayFault;
 use bp_script::Refusal;
 use bpx_words::USAGE;
 use js_data::Text;
 use std::alloc::Global;
+
+/// The code of a command that ran out of memory.
+pub const NO_MEMORY: u8 = 10;
 
 /// A text, and how the command ends that prints it.
 #[derive(Drop)]
@@ -31,7 +34,7 @@ pub enum Ended {
     NoCommand,
     /// The program is refused.
     Refused(Refusal),
-    /// The log has no record of this number.
+    /// The log has no record, or no selection, of this number.
     Absent,
     /// Reading failed.
     NotRead,
@@ -61,46 +64,6 @@ fn trouble_of(fault: &ReplayFault) -> Option<Ended>
     }
 }
 
-/// Why bytes are no log.
-fn log_detail(alloc: Global, fault: LogFault) -> Result<String, Memory>
-    ensures { IfOk result (λ s. string_bytes s ≡ log_detail fault) }
-{
-    match fault {
-        LogFault::Version => "version".to_string(alloc),
-        LogFault::Header => "header".to_string(alloc),
-        LogFault::Line(number) => format!(in alloc; "line {number}"),
-        LogFault::Cut => "cut".to_string(alloc),
-        LogFault::Read => "read fault".to_string(alloc),
-        LogFault::Memory => "memory".to_string(alloc),
-    }
-}
-
-/// Why a log is bad.
-fn detail(alloc: Global, fault: &ReplayFault) -> Result<String, Memory>
-    ensures { IfOk result (λ s. string_bytes s ≡ detail_of fault.now) }
-{
-    match fault {
-        ReplayFault::Log(fault) => log_detail(alloc, *fault),
-        ReplayFault::Differs {
-            number,
-            expected,
-            found,
-        } => differing(alloc, *number, expected, found),
-        ReplayFault::Program => "program".to_string(alloc),
-        ReplayFault::Write => "write fault".to_string(alloc),
-        ReplayFault::Memory => "memory".to_string(alloc),
-    }
-}
-
-/// The note of a bad log.
-fn bad_log_note(alloc: Global, fault: &ReplayFault) -> Result<Text, Memory>
-    ensures { IfOk result (λ t. t ≡ bad_log_note fault.now) }
-{
-    let detail = detail(alloc, fault)?;
-    let detail = detail.as_str();
-    Ok(Text::new(format!(in alloc; "bad log: {detail}")?))
-}
-
 impl Ended {
     /// What comes of a log of which nothing is said.
     pub(crate) fn of_log(fault: NoAnswer) -> Ended
@@ -126,7 +89,7 @@ impl Ended {
             Ended::Absent => 13,
             Ended::NotRead => 8,
             Ended::NotWritten => 9,
-            Ended::NoMemory => 10,
+            Ended::NoMemory => NO_MEMORY,
             Ended::BadLog(_) => 11,
             Ended::NoCommand => 12,
         }
@@ -139,7 +102,7 @@ impl Ended {
         let words = match self {
             Ended::Refused(refusal) => return refusal.note(alloc),
             Ended::BadLog(fault) => return bad_log_note(alloc, fault),
-            Ended::Absent => "no such record",
+            Ended::Absent => "no such record or selection",
             Ended::NoCommand => USAGE,
             Ended::NotRead => "read fault",
             Ended::NotWritten => "write fault",

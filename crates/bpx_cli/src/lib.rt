@@ -2,10 +2,12 @@
 #![tactic(auto)]
 
 mod answering;
+mod asking;
 mod ended;
 mod loading;
+mod reasoning;
 mod seeding;
 mod stating;
 
 pub use answering::answer;
-pub use ended::Ended;
+pub use ended::{Ended, NO_MEMORY};

@@ -3,9 +3,10 @@ ghost use Rattle.std.specs.Prelude.{◌≡◌, ◌≤◌, IsErrOf, IfOk, IfErr, 
 ghost use Rattle.bp_base.specs.Counts.{Rose};
 ghost use Rattle.bpx_cli.specs.States.{IsStateOf, IsUnstated};
 
+use crate::asking::{open_log, reply_of};
 use crate::ended::{Ended, Reply};
 use bp_answers::{Answer, state};
-use bp_base::{World, WorldError};
+use bp_base::World;
 use bpx_words::State;
 use std::alloc::Global;
 
@@ -23,18 +24,8 @@ pub(crate) fn state_of<W: World>(
     ensures holds { W.holds world.new ≡ W.holds world.old }
     ensures counts { W.read_faults world.old ≤ W.read_faults world.new }
 {
-    let input = match world.open(asked.log.as_str()) {
-        Ok(input) => input,
-        Err(WorldError::Failed) => return Err(Ended::NotRead),
-        Err(WorldError::Memory) => return Err(Ended::NoMemory),
-    };
+    let input = open_log(world, &asked.log)?;
     let Answer { text, log } = state(alloc, input, asked.number);
     world.close_input(log);
-    match text {
-        Ok(text) => Ok(Reply {
-            text,
-            end: Ended::Answered,
-        }),
-        Err(fault) => Err(Ended::of_log(fault)),
-    }
+    reply_of(text)
 }

@@ -1,2 +1,3 @@
 mod Rows
+mod WhyRows
 pub mod Splits

@@ -1,3 +1,4 @@
 pub mod Requests
 pub mod States
 pub mod Seeds
+pub mod Whys

@@ -8,6 +8,7 @@ use Rattle.bpx_words.specs.declared.request.Request.{Request}
 use Rattle.bpx_words.specs.declared.request.Request.TheVariants as request
 use Rattle.bpx_words.specs.States.{state_of}
 use Rattle.bpx_words.specs.Seeds.{seeds_of}
+use Rattle.bpx_words.specs.Whys.{why_of}
 
 abbrev pub check_of : Option Command → Option Request
 check_of (Some (command.Accept program)) = Some (request.Check program)
@@ -21,8 +22,9 @@ abbrev pub request_behind : List ℕ → List (List ℕ) → Option Request
 request_behind first words =
     if bytes_eq first (codes "check") then check_of (command_of (codes "accept" ∷ words)) else
     (if bytes_eq first (codes "state") then option_map request.State (state_of words) else
+    (if bytes_eq first (codes "why") then option_map request.Why (why_of words) else
     (if bytes_eq first (codes "seeds") then option_map request.Seeds (seeds_of words) else
-    (if bytes_eq first (codes "--help") then help_of words else None)))
+    (if bytes_eq first (codes "--help") then help_of words else None))))
 
 -- what the words ask for, if they are a command of `bpx`
 abbrev pub request_of : List (List ℕ) → Option Request

@@ -5,6 +5,7 @@ ghost use Rattle.bpx_words.specs.Requests.{check_of, help_of, request_behind, re
 use crate::behind::command_behind;
 use crate::seeds::{Seeds, seeds_of};
 use crate::state::{State, state_of};
+use crate::why::{Why, why_of};
 use bp_args::{Command, Usage};
 use js_data::Text;
 use std::alloc::Global;
@@ -18,6 +19,8 @@ pub enum Request {
     Check(Text),
     /// Where the b-threads of a run stand.
     State(State),
+    /// Why an event was selected, or who requests and who blocks one where a run ends.
+    Why(Why),
     /// How the runs of a program end.
     Seeds(Seeds),
 }
@@ -54,6 +57,7 @@ fn read_behind(alloc: Global, first: &str, words: &[String]) -> Result<Request, 
     match first {
         "check" => check_in(command_behind(alloc, "accept", words)?),
         "state" => Ok(Request::State(state_of(alloc, words)?)),
+        "why" => Ok(Request::Why(why_of(alloc, words)?)),
         "seeds" => Ok(Request::Seeds(seeds_of(alloc, words)?)),
         "--help" => help_in(words),
         _ => Err(Usage::Wrong),

@@ -30,7 +30,7 @@ fn log_in(command: Command) -> Result<Text, Usage>
 }
 
 /// The name of a log, which is all that the words say.
-fn log_of(alloc: Global, words: &[String]) -> Result<Text, Usage>
+pub(crate) fn log_of(alloc: Global, words: &[String]) -> Result<Text, Usage>
     ensures log { IfOk result (λ log. log_of (map string_bytes words.now) ≡ Some log) }
     ensures wrong { IsErrOf result Usage.Wrong → log_of (map string_bytes words.now) ≡ None }
 {
@@ -38,7 +38,7 @@ fn log_of(alloc: Global, words: &[String]) -> Result<Text, Usage>
 }
 
 /// The words before the last, and the last.
-fn last_apart(words: &[String]) -> Option<(&[String], &str)>
+pub(crate) fn last_apart(words: &[String]) -> Option<(&[String], &str)>
     ensures { option_map (λ p. (map string_bytes p.0.now, p.1.now)) result
         ≡ last_apart (map string_bytes words.now) }
 {

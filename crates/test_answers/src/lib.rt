@@ -7,3 +7,5 @@ mod logs;
 mod programs;
 #[cfg(test)]
 mod states;
+#[cfg(test)]
+mod whys;

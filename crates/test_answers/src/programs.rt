@@ -51,6 +51,21 @@ pub const MANY: &str = "for (let i = 0; i < 300; i++) {
 }
 ";
 
+/// Three ways to go on, of which one b-thread asks for two, with the greater priority.
+pub const WAYS: &str =
+    "bp.registerBThread(\"A\", () => { bp.sync({request: bp.Event(\"x\")}, 1); });
+bp.registerBThread(\"B\", () => { bp.sync({request: [bp.Event(\"y\"), bp.Event(\"go\")]}, 2); });
+bp.registerBThread(\"C\", () => { bp.sync({waitFor: bp.Event(\"x\")}); });
+";
+
+/// One that is blocked by two, and two that an event interrupts, of which one waits for it too.
+pub const INTERRUPTS: &str =
+    "bp.registerBThread(\"Work\", () => { bp.sync({request: bp.Event(\"step\"), interrupt: bp.Event(\"stop\")}); });
+bp.registerBThread(\"Stop\", () => { bp.sync({request: bp.Event(\"stop\"), block: bp.Event(\"step\")}); });
+bp.registerBThread(\"Hold\", () => { bp.sync({block: bp.Event(\"step\")}); });
+bp.registerBThread(\"Idle\", () => { bp.sync({waitFor: bp.Event(\"stop\"), interrupt: bp.Event(\"stop\")}); });
+";
+
 /// A set that is at fault where it is asked.
 pub const ASKS: &str = "const odd = bp.EventSet(\"odd\", e => e.data % 2 === 1);
 bp.registerBThread(\"A\", () => { bp.sync({request: bp.Event(\"x\")}); });

@@ -10,4 +10,6 @@ mod states;
 #[cfg(test)]
 mod tables;
 #[cfg(test)]
+mod whys;
+#[cfg(test)]
 mod world;

@@ -6,7 +6,7 @@ use std::test::Fail;
 use std::thread::Threads;
 
 /// The log of two taps that take turns, and of a b-thread that blocks them both at last.
-const LOG: &str = "bp-log 2
+pub const LOG: &str = "bp-log 2
 strategy simple
 seed 0
 budget 1000000
@@ -47,23 +47,29 @@ nothing can be selected:
 verdict quiet 1
 ";
 
-/// Whether this is printed of the log, and nothing else is said.
-fn prints<R: Threads + Sync>(rt: &R, alloc: Global, words: &str, text: &str) -> Result<bool, Fail> {
-    let said = said_of(rt, alloc, words, &[("run.log", LOG)], &[], &[])?;
+/// Whether this is printed of such a log, and nothing else is said.
+pub fn prints<R: Threads + Sync>(
+    rt: &R,
+    alloc: Global,
+    words: &str,
+    log: &str,
+    text: &str,
+) -> Result<bool, Fail> {
+    let said = said_of(rt, alloc, words, &[("run.log", log)], &[], &[])?;
     Ok(said.code == 0 && said.note.is_empty() && said.printed.as_str() == text)
 }
 
 #[test]
 fn states_are_told(rt: HostRuntime) -> Result<(), Fail> {
     let alloc = rt.alloc();
-    assert!(rt; prints(&rt, alloc, "state run.log 0", FIRST)?);
-    assert!(rt; prints(&rt, alloc, "state run.log 2", LAST)?);
-    assert!(rt; prints(&rt, alloc, "state run.log", LAST)?);
+    assert!(rt; prints(&rt, alloc, "state run.log 0", LOG, FIRST)?);
+    assert!(rt; prints(&rt, alloc, "state run.log 2", LOG, LAST)?);
+    assert!(rt; prints(&rt, alloc, "state run.log", LOG, LAST)?);
     Ok(())
 }
 
 /// Whether of such a log nothing is printed, and the end has this code and this note.
-fn ends_with<R: Threads + Sync>(
+pub fn ends_with<R: Threads + Sync>(
     rt: &R,
     alloc: Global,
     words: &str,
@@ -78,7 +84,16 @@ fn ends_with<R: Threads + Sync>(
 #[test]
 fn logs_without_a_state_are_refused(rt: HostRuntime) -> Result<(), Fail> {
     let alloc = rt.alloc();
-    assert!(rt; ends_with(&rt, alloc, "state run.log 3", LOG, 13, "no such record")?);
+    assert!(rt;
+        ends_with(
+            &rt,
+            alloc,
+            "state run.log 3",
+            LOG,
+            13,
+            "no such record or selection"
+        )?
+    );
     assert!(rt;
         ends_with(
             &rt,

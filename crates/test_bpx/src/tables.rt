@@ -7,6 +7,10 @@ use std::process::Abort;
 use std::test::Fail;
 use std::thread::Threads;
 
+/// The note of words that are no command.
+pub const USAGE: &str = "usage: bpx check PROGRAM | bpx state LOG [N] | bpx why LOG N | \
+bpx why LOG EVENT | bpx seeds PROGRAM FROM TO [OPTIONS] | bpx --help";
+
 /// What a row of the table has.
 #[derive(Clone, Copy)]
 struct Row<'a> {
@@ -63,13 +67,11 @@ fn ends_with<R: Threads + Sync>(
 #[test]
 fn what_is_no_check_is_refused(rt: HostRuntime) -> Result<(), Fail> {
     let alloc = rt.alloc();
-    let usage =
-        "usage: bpx check PROGRAM | bpx state LOG [N] | bpx seeds PROGRAM FROM TO [OPTIONS] | bpx --help";
-    assert!(rt; ends_with(&rt, alloc, "check", "", 12, usage)?);
-    assert!(rt; ends_with(&rt, alloc, "check script.js script.js", "", 12, usage)?);
-    assert!(rt; ends_with(&rt, alloc, "check --seed 1 script.js", "", 12, usage)?);
-    assert!(rt; ends_with(&rt, alloc, "accept script.js", "", 12, usage)?);
-    assert!(rt; ends_with(&rt, alloc, "--help script.js", "", 12, usage)?);
+    assert!(rt; ends_with(&rt, alloc, "check", "", 12, USAGE)?);
+    assert!(rt; ends_with(&rt, alloc, "check script.js script.js", "", 12, USAGE)?);
+    assert!(rt; ends_with(&rt, alloc, "check --seed 1 script.js", "", 12, USAGE)?);
+    assert!(rt; ends_with(&rt, alloc, "accept script.js", "", 12, USAGE)?);
+    assert!(rt; ends_with(&rt, alloc, "--help script.js", "", 12, USAGE)?);
     assert!(rt; ends_with(&rt, alloc, "check -- script.js", "", 0, "")?);
     assert!(rt; ends_with(&rt, alloc, "check other.js", "", 8, "read fault")?);
     assert!(rt;

@@ -1,26 +1,21 @@
-use Rattle.std.proofs.Common.{ℕ, List, refl, subst, sym}
-use Rattle.std.specs.Prelude.{Result, String}
-use Rattle.std.specs.declared.alloc.Global.{Global}
-use Rattle.bp_base.specs.Worlds.{Opens}
-use Rattle.bp_answers.specs.declared.answer.NoAnswer.{NoAnswer}
-use Rattle.bpx_cli.specs.States.{IsStateUnder, IsUnstated}
-use Rattle.bpx_cli.specs.declared.ended.Ended.{Ended}
-use Rattle.bpx_cli.proofs.Stated.{state_under, unstated}
+use Rattle.bpx_cli.specs.States.{states}
+use Rattle.bpx_cli.proofs.Said.{said_under, reply_said, reply_unsaid}
 use Rattle.bpx_cli.proofs.stating.state_of.Goals as goal
 
-pub returns-in-Ok-text-clause-answers : goal.returns-in-Ok-text-clause-answers
-returns-in-Ok-text-clause-answers g c =
+pub returns-clause-answers : goal.returns-clause-answers
+returns-clause-answers g c =
     let holds = g.W.World.holds c.args.world.now in
-    let left = g.W.Input.Source.left c.in-Ok.input in
-    let opens = subst (λ (n : List ℕ). Opens holds n left) c.as_str.ensures c.in-Ok.ensures.content in
-    let under = state_under holds c.args.asked.now left c.state-text.result.text opens c.state-text.ensures.answers in
-    (record { says = c.in-Ok-text.text; is_text = refl; is_state = subst (λ (r : Result (String Global) NoAnswer). IsStateUnder holds c.args.asked.now r) c.in-Ok-text.is under }, refl)
+    let about = states c.args.asked.now in
+    let says = c.state-text.result.text in
+    reply_said holds c.args.asked.now.log about says c.reply_of.result
+    (said_under holds c.args.asked.now.log about (g.W.Input.Source.left c.in_ok-input.input) says c.in_ok-input.ensures.opens c.state-text.ensures.answers)
+    c.reply_of.ensures.answers
 
-pub returns-in-Err-clause-unanswered : goal.returns-in-Err-clause-unanswered
-returns-in-Err-clause-unanswered g c =
+pub returns-clause-unanswered : goal.returns-clause-unanswered
+returns-clause-unanswered g c =
     let holds = g.W.World.holds c.args.world.now in
-    let left = g.W.Input.Source.left c.in-Ok.input in
-    let opens = subst (λ (n : List ℕ). Opens holds n left) c.as_str.ensures c.in-Ok.ensures.content in
-    let under = state_under holds c.args.asked.now left c.state-text.result.text opens c.state-text.ensures.answers in
-    subst (λ (e : Ended). IsUnstated holds c.args.asked.now e) (sym c.of_log.ensures)
-    (unstated holds c.args.asked.now c.in-Err.fault (subst (λ (r : Result (String Global) NoAnswer). IsStateUnder holds c.args.asked.now r) c.in-Err.is under))
+    let about = states c.args.asked.now in
+    let says = c.state-text.result.text in
+    reply_unsaid holds c.args.asked.now.log about says c.reply_of.result
+    (said_under holds c.args.asked.now.log about (g.W.Input.Source.left c.in_ok-input.input) says c.in_ok-input.ensures.opens c.state-text.ensures.answers)
+    c.reply_of.ensures.unanswered

@@ -1,0 +1,27 @@
+//! Why an event of a log was selected, and who asks for one.
+ghost use Rattle.std.specs.Prelude.{◌≡◌, ◌≤◌, IsErrOf, IfOk, IfErr, string_bytes};
+ghost use Rattle.bp_base.specs.Counts.{Rose};
+ghost use Rattle.bpx_cli.specs.Whys.{IsWhyOf, IsUnexplained};
+
+use crate::asking::{open_log, reply_of};
+use crate::ended::{Ended, Reply};
+use bp_answers::{Answer, why};
+use bp_base::World;
+use bpx_words::Why;
+use std::alloc::Global;
+
+/// What the log of that name answers, or how a command ends that tells nothing.
+pub(crate) fn why_of<W: World>(alloc: Global, asked: &Why, world: &mut W) -> Result<Reply, Ended>
+    ensures answers { IfOk result (λ a.
+        IsWhyOf (W.holds world.old) asked.now (string_bytes a.text) × (a.end ≡ Ended.Answered)) }
+    ensures unanswered { IfErr result (IsUnexplained (W.holds world.old) asked.now) }
+    ensures cause { IsErrOf result Ended.NotRead
+        → Rose (W.read_faults world.old) (W.read_faults world.new) }
+    ensures holds { W.holds world.new ≡ W.holds world.old }
+    ensures counts { W.read_faults world.old ≤ W.read_faults world.new }
+{
+    let input = open_log(world, &asked.log)?;
+    let Answer { text, log } = why(alloc, input, &asked.subject);
+    world.close_input(log);
+    reply_of(text)
+}
