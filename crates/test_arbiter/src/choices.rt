@@ -1,5 +1,5 @@
 //! Tables of what benches answer.
-use crate::lines::{Lines, agree};
+use crate::lines::benches_agree;
 use std::test::Fail;
 
 /// The first word of seed 7 draws the second of two and the third of three, that of seed 0 the
@@ -85,7 +85,7 @@ const OTHERS: &str = "
 #[test]
 fn benches_answer(rt: HostRuntime) -> Result<(), Fail> {
     for table in [CHOICES, REACHES, OTHERS] {
-        agree(&rt, rt.alloc(), Lines::Benches, table)?;
+        benches_agree(&rt, rt.alloc(), table)?;
     }
     Ok(())
 }

@@ -3,7 +3,7 @@ ghost use Rattle.std.specs.Prelude.{◌≡◌, OnOk};
 ghost use Rattle.bp_floor.specs.declared.phase.Phase.TheVariants as phase;
 ghost use Rattle.test_arbiter.specs.Floors.{Goes};
 
-use crate::lines::{Lines, agree, event};
+use crate::lines::{Rows, agree, event};
 use bp_floor::{Floor, Phase};
 use bp_log::{Line, Options, Strategy, Verdict, line_of};
 use bp_script::accept;
@@ -12,9 +12,20 @@ use std::alloc::Global;
 use std::test::Fail;
 
 const ANSWERS: &str = r#"
-bp.registerBThread("A", () => { bp.sync({request: bp.Event("x")}) })\nbp.registerBThread("B", () => { bp.sync({block: bp.Event("x")}) }) --> - 1 -
-bp.registerBThread("A", () => { bp.sync({request: [bp.Event("x"), bp.Event("y")]}) })\nbp.registerBThread("B", () => { bp.sync({block: bp.Event("x")}) }) --> y 1 -
-bp.registerBThread("A", () => { bp.sync({request: bp.Event("y")}) })\nbp.registerBThread("B", () => { bp.sync({waitFor: bp.EventSet("z", e => 1 / 0)}) }) --> y - verdict fault "B" 2 zero
+bp.registerBThread("A", () => { bp.sync({request: bp.Event("x")}) })
+bp.registerBThread("B", () => { bp.sync({block: bp.Event("x")}) })
+--
+- 1 -
+
+bp.registerBThread("A", () => { bp.sync({request: [bp.Event("x"), bp.Event("y")]}) })
+bp.registerBThread("B", () => { bp.sync({block: bp.Event("x")}) })
+--
+y 1 -
+
+bp.registerBThread("A", () => { bp.sync({request: bp.Event("y")}) })
+bp.registerBThread("B", () => { bp.sync({waitFor: bp.EventSet("z", e => 1 / 0)}) })
+--
+y - verdict fault "B" 2 zero
 "#;
 
 /// How many nodes a slice has.
@@ -83,12 +94,11 @@ fn told(alloc: Global, script: &str) -> Result<String, Fail> {
 }
 
 /// Whether what is told of the program is what is wanted.
-pub fn floor_holds(alloc: Global, cell: &str, want: &str) -> Result<bool, Fail> {
-    let script = cell.replace(alloc, "\\n", "\n")?;
-    Ok(told(alloc, script.as_str())?.as_str() == want)
+pub fn floor_holds(alloc: Global, script: &str, want: &str) -> Result<bool, Fail> {
+    Ok(told(alloc, script)?.as_str() == want)
 }
 
 #[test]
 fn answers(rt: HostRuntime) -> Result<(), Fail> {
-    agree(&rt, rt.alloc(), Lines::Floors, ANSWERS)
+    agree(&rt, rt.alloc(), Rows::Floors, ANSWERS)
 }

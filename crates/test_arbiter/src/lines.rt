@@ -1,4 +1,4 @@
-//! Tables, as texts of lines with ` --> ` between what is done or asked and what is told.
+//! Tables, as texts: lines of what is asked of benches, and programs with what is done with them or asked of them.
 use crate::bench::bench_holds;
 use crate::floors::floor_holds;
 use crate::runs::run_holds;
@@ -7,17 +7,13 @@ use std::alloc::Global;
 use std::process::Abort;
 use std::test::Fail;
 
-/// What the lines of a table have.
+/// What the rows of a program have.
 #[derive(Clone, Copy)]
-pub enum Lines {
-    /// What is asked of a bench, and its answer.
-    Benches,
-    /// A program, in which `\n` stands for a line end, and after the mark the first requested event that can be selected,
-    /// the number of the first b-thread that blocks `x`, and the verdict with which that event would stop the run; `-` where
-    /// there is none.
+pub enum Rows {
+    /// The first requested event that can be selected, the number of the first b-thread that blocks `x`, and the verdict with
+    /// which that event would stop the run; `-` where there is none.
     Floors,
-    /// A program, in which `\n` stands for a line end, the mark, the steps, the mark, the lines that were taken, and the
-    /// kinds of the records.
+    /// The steps, the mark ` --> `, the lines that were taken, and the kinds of the records.
     Runs,
 }
 
@@ -27,19 +23,34 @@ pub fn event(alloc: Global, name: &str) -> Result<Event, Fail> {
     Ok(Event::new(text, None)?)
 }
 
-fn holds(alloc: Global, lines: Lines, line: &str) -> Result<bool, Fail> {
+/// Whether the bench answers what stands after the mark.
+fn line_holds(alloc: Global, line: &str) -> Result<bool, Fail> {
     let (cell, want) = line.split_once(" --> ").ok_or("no answer")?;
-    match lines {
-        Lines::Benches => bench_holds(alloc, cell, want),
-        Lines::Floors => floor_holds(alloc, cell, want),
-        Lines::Runs => run_holds(alloc, cell, want),
+    bench_holds(alloc, cell, want)
+}
+
+/// Each line of the table holds: what is asked of a bench, the mark ` --> `, and its answer.
+pub fn benches_agree(rt: &impl Abort, alloc: Global, table: &str) -> Result<(), Fail> {
+    for line in table.trim().lines() {
+        assert!(rt; line_holds(alloc, line)?, "{line}");
+    }
+    Ok(())
+}
+
+fn row_holds(alloc: Global, rows: Rows, script: &str, row: &str) -> Result<bool, Fail> {
+    match rows {
+        Rows::Floors => floor_holds(alloc, script, row),
+        Rows::Runs => run_holds(alloc, script, row),
     }
 }
 
-/// Each line of the table holds.
-pub fn agree(rt: &impl Abort, alloc: Global, lines: Lines, table: &str) -> Result<(), Fail> {
-    for line in table.trim().lines() {
-        assert!(rt; holds(alloc, lines, line)?, "{line}");
+/// Each row of the table holds: a program, a line `--`, and its rows. Between programs stands an empty line.
+pub fn agree(rt: &impl Abort, alloc: Global, rows: Rows, table: &str) -> Result<(), Fail> {
+    for part in table.trim().split("\n\n") {
+        let (script, told) = part.split_once("\n--\n").ok_or("no rows")?;
+        for row in told.split("\n") {
+            assert!(rt; row_holds(alloc, rows, script, row)?, "{script}\n{row}");
+        }
     }
     Ok(())
 }

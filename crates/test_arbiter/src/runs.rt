@@ -106,8 +106,7 @@ fn told(alloc: Global, script: &str, steps: &str) -> Result<String, Fail> {
 }
 
 /// Whether the run of the program does what is wanted, where after the steps and the mark stands what is told.
-pub fn run_holds(alloc: Global, cell: &str, rest: &str) -> Result<bool, Fail> {
-    let (steps, want) = rest.split_once(" --> ").ok_or("no answer")?;
-    let script = cell.replace(alloc, "\\n", "\n")?;
-    Ok(told(alloc, script.as_str(), steps)?.as_str() == want)
+pub fn run_holds(alloc: Global, script: &str, row: &str) -> Result<bool, Fail> {
+    let (steps, want) = row.split_once(" --> ").ok_or("no answer")?;
+    Ok(told(alloc, script, steps)?.as_str() == want)
 }

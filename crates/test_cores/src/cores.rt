@@ -217,19 +217,20 @@ fn told(alloc: Global, script: &str, words: &str) -> Result<String, Fail> {
     Ok(out)
 }
 
-/// Whether the core of the program does what is wanted.
-fn holds(alloc: Global, line: &str) -> Result<bool, Fail> {
-    let (script, rest) = line.split_once(" --> ").ok_or("no answer")?;
-    let (words, want) = rest.split_once(" --> ").ok_or("no answer")?;
-    let script = script.replace(alloc, "\\n", "\n")?;
-    Ok(told(alloc, script.as_str(), words)?.as_str() == want)
+/// Whether the core of the program does what is wanted: after the steps and the mark stands what is told.
+fn holds(alloc: Global, script: &str, row: &str) -> Result<bool, Fail> {
+    let (words, want) = row.split_once(" --> ").ok_or("no answer")?;
+    Ok(told(alloc, script, words)?.as_str() == want)
 }
 
-/// Each line of the table holds: a program, in which `\n` stands for a line end, the mark ` --> `, the
-/// steps, the mark, and what is told of them.
+/// Each row of the table holds: a program, a line `--`, and its rows, of which each has steps, the mark ` --> `, and what is told
+/// of them. Between programs stands an empty line.
 pub fn agree(rt: &impl Abort, alloc: Global, table: &str) -> Result<(), Fail> {
-    for line in table.trim().lines() {
-        assert!(rt; holds(alloc, line)?, "{line}");
+    for part in table.trim().split("\n\n") {
+        let (script, rows) = part.split_once("\n--\n").ok_or("no rows")?;
+        for row in rows.split("\n") {
+            assert!(rt; holds(alloc, script, row)?, "{script}\n{row}");
+        }
     }
     Ok(())
 }

@@ -1,14 +1,11 @@
 //! Tables, as texts of lines with ` --> ` between a part of a program and what is told of it.
 use crate::programs::{call, first_started, script_of};
 use crate::runs::{answer_agrees, pauses_agree, run_agrees};
-use crate::supersteps::superstep_agrees;
 use crate::telling::told_by;
 use js_program::Mode;
 use std::alloc::Global;
 use std::process::Abort;
-use std::sync::Wait;
 use std::test::Fail;
-use std::thread::Threads;
 
 /// What the lines of a table have.
 #[derive(Clone, Copy)]
@@ -30,9 +27,6 @@ pub enum Lines {
     Threads(u64),
     /// The body of a handler, and what it does.
     Handlers,
-    /// A budget, numbers of workers and of the nodes of a slice, and a script, and what is told of the jobs of the b-threads
-    /// that it registers, under each of these numbers.
-    Supersteps,
 }
 
 /// The most nodes of a slice: few, and then the whole budget of most lines.
@@ -54,12 +48,7 @@ fn job_agrees(alloc: Global, lines: Lines, script: &str, want: &str) -> Result<b
     Ok(true)
 }
 
-fn holds<R: Threads + Wait + Sync>(
-    rt: &R,
-    alloc: Global,
-    lines: Lines,
-    line: &str,
-) -> Result<bool, Fail> {
+fn holds(alloc: Global, lines: Lines, line: &str) -> Result<bool, Fail> {
     let (cell, want) = line.split_once(" --> ").ok_or("no answer")?;
     let script = script_of(alloc, lines, cell)?;
     match lines {
@@ -67,20 +56,14 @@ fn holds<R: Threads + Wait + Sync>(
         Lines::Body(mode) => run_agrees(alloc, Some(mode), script.as_str(), want),
         Lines::Pauses => pauses_agree(alloc, cell, want),
         Lines::Answers => answer_agrees(alloc, script.as_str(), want),
-        Lines::Supersteps => superstep_agrees(rt, alloc, cell, want),
         _ => job_agrees(alloc, lines, script.as_str(), want),
     }
 }
 
 /// Each line of the table holds.
-pub fn agree<R: Threads + Wait + Sync + Abort>(
-    rt: &R,
-    alloc: Global,
-    lines: Lines,
-    table: &str,
-) -> Result<(), Fail> {
+pub fn agree(rt: &impl Abort, alloc: Global, lines: Lines, table: &str) -> Result<(), Fail> {
     for line in table.lines().skip(1) {
-        assert!(rt; holds(rt, alloc, lines, line)?, "{line}");
+        assert!(rt; holds(alloc, lines, line)?, "{line}");
     }
     Ok(())
 }
